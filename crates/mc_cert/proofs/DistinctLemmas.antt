@@ -15,69 +15,69 @@ use Rattle.std.proofs.lemmas.Option.{slice_get-get_or}
 use Rattle.mc_theory.specs.Nets.{Interface}
 use Rattle.mc_theory.specs.Certificates.{Entry}
 use Rattle.mc_cert.specs.Certificate.{Tree, tree_at}
-use Rattle.mc_cert.specs.Distinct.{same_interface, same_entry, same_tree, place_in, with_tree}
+use Rattle.mc_cert.specs.Distinct.{same_interface, same_entry, same_tree, find_tree, with_tree}
 use Rattle.mc_cert.specs.Distinct.{distinct_trees}
 
 -- ---- the first place
 
 module _ {X : Type 0} (p : X → Bool) where
-  later : (b : Bool) (n m : ℕ) → nat_lt n m ≡ b → cond (nat_lt (1 + n) (suc m)) (Some (1 + n)) None
+  cond_lt-suc : (b : Bool) (n m : ℕ) → nat_lt n m ≡ b → cond (nat_lt (1 + n) (suc m)) (Some (1 + n)) None
       ≡ option_map suc (cond b (Some n) None)
-  later true n m e = grind (arith, nat_tests)
-  later false n m e = grind (arith, nat_tests)
+  cond_lt-suc true n m e = grind (arith, nat_tests)
+  cond_lt-suc false n m e = grind (arith, nat_tests)
 
-  first : (b : Bool) (n m : ℕ) → cond (nat_lt (cond (not b) (1 + n) 0) (suc m))
+  position_or_len-cons : (b : Bool) (n m : ℕ) → cond (nat_lt (cond (not b) (1 + n) 0) (suc m))
       (Some (cond (not b) (1 + n) 0)) None ≡ cond b (Some 0)
       (option_map suc (cond (nat_lt n m) (Some n) None))
-  first true n m = grind (arith, nat_tests)
-  first false n m = later (nat_lt n m) n m refl
+  position_or_len-cons true n m = grind (arith, nat_tests)
+  position_or_len-cons false n m = cond_lt-suc (nat_lt n m) n m refl
 
   pub position-cons : (x : X) (xs : List X) → position p (x ∷ xs)
       ≡ cond (p x) (Some 0) (option_map suc (position p xs))
-  position-cons x xs = first (p x) (position_or_len p xs) (length xs)
+  position-cons x xs = position_or_len-cons (p x) (position_or_len p xs) (length xs)
 
-  neither : (b : Bool) (o : Option ℕ) → cond b (Some 0) (option_map suc o) ≡ None
+  None-from_cond : (b : Bool) (o : Option ℕ) → cond b (Some 0) (option_map suc o) ≡ None
       → (b ≡ false) × (o ≡ None)
-  neither true o e = absurd cc
-  neither false None e = (refl, refl)
-  neither false (Some n) e = absurd cc
+  None-from_cond true o e = absurd cc
+  None-from_cond false None e = (refl, refl)
+  None-from_cond false (Some n) e = absurd cc
 
   -- one more behind them that passes is the first, where none of them does
-  pub position_pushed : (xs : List X) (y : X) → position p xs ≡ None → p y ≡ true
+  pub position-push_new : (xs : List X) (y : X) → position p xs ≡ None → p y ≡ true
       → position p (xs ++ y ∷ []) ≡ Some (length xs)
-  position_pushed [] y none passes = position-cons y [] ∙ rw passes refl
-  position_pushed (x ∷ xs) y none passes =
-      let parts = neither (p x) (position p xs) (sym (position-cons x xs) ∙ none) in
-      position-cons x (xs ++ y ∷ []) ∙ rw (parts.0, position_pushed xs y parts.1 passes) refl
+  position-push_new [] y none passes = position-cons y [] ∙ rw passes refl
+  position-push_new (x ∷ xs) y none passes =
+      let parts = None-from_cond (p x) (position p xs) (sym (position-cons x xs) ∙ none) in
+      position-cons x (xs ++ y ∷ []) ∙ rw (parts.0, position-push_new xs y parts.1 passes) refl
 
   -- one more behind them that fails changes nothing
-  pub position_past : (xs : List X) (y : X) → p y ≡ false
+  pub position-push_failing : (xs : List X) (y : X) → p y ≡ false
       → position p (xs ++ y ∷ []) ≡ position p xs
-  position_past [] y fails = position-cons y [] ∙ rw fails refl
-  position_past (x ∷ xs) y fails =
+  position-push_failing [] y fails = position-cons y [] ∙ rw fails refl
+  position-push_failing (x ∷ xs) y fails =
       position-cons x (xs ++ y ∷ []) ∙ ap (λ o. cond (p x) (Some 0) (option_map suc o))
-      (position_past xs y fails) ∙ sym (position-cons x xs)
+      (position-push_failing xs y fails) ∙ sym (position-cons x xs)
 
-  kept_at : (b : Bool) (o : Option ℕ) (k : ℕ) (more : Option ℕ)
+  position-append_by_cases : (b : Bool) (o : Option ℕ) (k : ℕ) (more : Option ℕ)
       → cond b (Some 0) (option_map suc o) ≡ Some k → ((n : ℕ) → o ≡ Some n → more ≡ Some n)
       → cond b (Some 0) (option_map suc more) ≡ Some k
-  kept_at true o k more e same = e
-  kept_at false None k more e same = absurd cc
-  kept_at false (Some n) k more e same = ap (option_map suc) (same n refl) ∙ e
+  position-append_by_cases true o k more e same = e
+  position-append_by_cases false None k more e same = absurd cc
+  position-append_by_cases false (Some n) k more e same = ap (option_map suc) (same n refl) ∙ e
 
   -- what stands behind them doesn't change the first
-  pub position_kept : (xs ys : List X) (k : ℕ) → position p xs ≡ Some k
+  pub position-append : (xs ys : List X) (k : ℕ) → position p xs ≡ Some k
       → position p (xs ++ ys) ≡ Some k
-  position_kept [] ys k e = absurd cc
-  position_kept (x ∷ xs) ys k e =
-      position-cons x (xs ++ ys) ∙ kept_at (p x) (position p xs) k (position p (xs ++ ys))
-      (sym (position-cons x xs) ∙ e) (λ n here. position_kept xs ys n here)
+  position-append [] ys k e = absurd cc
+  position-append (x ∷ xs) ys k e =
+      position-cons x (xs ++ ys) ∙ position-append_by_cases (p x) (position p xs) k (position p (xs ++ ys))
+      (sym (position-cons x xs) ∙ e) (λ n here. position-append xs ys n here)
 
 -- ---- which trees are the same
 
-interface_decides : (i j : Interface) → (same_interface i j ≡ true → i ≡ j)
+same_interface-Decides : (i j : Interface) → (same_interface i j ≡ true → i ≡ j)
     × (i ≡ j → same_interface i j ≡ true)
-interface_decides (r, v) (s, w) = (
+same_interface-Decides (r, v) (s, w) = (
   λ e.
       let parts = and_parts (r == s) (v == w) e in
       let routers : r ≡ s = eqb-true r s parts.0 in
@@ -89,27 +89,27 @@ interface_decides (r, v) (s, w) = (
       rw (eq-eqb r s routers, eq-eqb v w vifs) refl,
 )
 
-forwarder_decides : (a b : Option Interface) → (option_eq same_interface a b ≡ true → a ≡ b)
+same_forwarder-Decides : (a b : Option Interface) → (option_eq same_interface a b ≡ true → a ≡ b)
     × (a ≡ b → option_eq same_interface a b ≡ true)
-forwarder_decides None None = (λ _. refl, λ _. refl)
-forwarder_decides None (Some j) = (λ e. absurd cc, λ e. absurd cc)
-forwarder_decides (Some i) None = (λ e. absurd cc, λ e. absurd cc)
-forwarder_decides (Some i) (Some j) = (
-  λ e. ap Some ((interface_decides i j).0 e),
-  λ e. (interface_decides i j).1 cc,
+same_forwarder-Decides None None = (λ _. refl, λ _. refl)
+same_forwarder-Decides None (Some j) = (λ e. absurd cc, λ e. absurd cc)
+same_forwarder-Decides (Some i) None = (λ e. absurd cc, λ e. absurd cc)
+same_forwarder-Decides (Some i) (Some j) = (
+  λ e. ap Some ((same_interface-Decides i j).0 e),
+  λ e. (same_interface-Decides i j).1 cc,
 )
 
-entry_decides : (a b : Entry) → (same_entry a b ≡ true → a ≡ b) × (a ≡ b → same_entry a b ≡ true)
-entry_decides a b = (
+same_entry-Decides : (a b : Entry) → (same_entry a b ≡ true → a ≡ b) × (a ≡ b → same_entry a b ≡ true)
+same_entry-Decides a b = (
   λ e.
-      let first = and_parts (a.lan == b.lan) _ e in
-      let second = and_parts (a.rank == b.rank) _ first.1 in
+      let position_or_len-cons = and_parts (a.lan == b.lan) _ e in
+      let second = and_parts (a.rank == b.rank) _ position_or_len-cons.1 in
       let third = and_parts (a.need == b.need) _ second.1 in
-      let lan : a.lan ≡ b.lan = eqb-true a.lan b.lan first.0 in
+      let lan : a.lan ≡ b.lan = eqb-true a.lan b.lan position_or_len-cons.0 in
       let rank : a.rank ≡ b.rank = eqb-true a.rank b.rank second.0 in
       let need : a.need ≡ b.need = eqb-true a.need b.need third.0 in
       let forwarder : a.forwarder ≡ b.forwarder =
-      (forwarder_decides a.forwarder b.forwarder).0 third.1 in
+      (same_forwarder-Decides a.forwarder b.forwarder).0 third.1 in
       λ i. record { lan = lan i; rank = rank i; need = need i; forwarder = forwarder i },
   λ e.
       rw (
@@ -117,104 +117,104 @@ entry_decides a b = (
         eq-eqb a.rank b.rank (ap (λ (x : Entry). x.rank) e),
         eq-eqb a.need b.need (ap (λ (x : Entry). x.need) e),
       )
-      ((forwarder_decides a.forwarder b.forwarder).1 (ap (λ (x : Entry). x.forwarder) e)),
+      ((same_forwarder-Decides a.forwarder b.forwarder).1 (ap (λ (x : Entry). x.forwarder) e)),
 )
 
-pub tree_decides : (a b : Tree) → (same_tree a b ≡ true → a ≡ b) × (a ≡ b → same_tree a b ≡ true)
-tree_decides = pointwise_decides entry_decides
+pub same_tree-Decides : (a b : Tree) → (same_tree a b ≡ true → a ≡ b) × (a ≡ b → same_tree a b ≡ true)
+same_tree-Decides = pointwise_decides same_entry-Decides
 
-pub unlike_trees : (a b : Tree) → same_tree a b ≡ false → same_tree b a ≡ false
-unlike_trees a b e = other (same_tree b a) refl where
+pub same_tree-flip_false : (a b : Tree) → same_tree a b ≡ false → same_tree b a ≡ false
+same_tree-flip_false a b e = other (same_tree b a) refl where
   other : (c : Bool) → same_tree b a ≡ c → same_tree b a ≡ false
   other false is = is
   other true is =
-      let back = (tree_decides a b).1 (sym ((tree_decides b a).0 is)) in
+      let back = (same_tree-Decides a b).1 (sym ((same_tree-Decides b a).0 is)) in
       absurd cc
 
 -- ---- places
 
 -- one more tree
 
-pub place_of_new : (trees : List Tree) (es : Tree) → place_in trees es ≡ None
-    → place_in (trees ++ es ∷ []) es ≡ Some (length trees)
-place_of_new trees es none = position_pushed (same_tree es) trees es none
-    ((tree_decides es es).1 refl)
+pub find_tree-push_new : (trees : List Tree) (es : Tree) → find_tree trees es ≡ None
+    → find_tree (trees ++ es ∷ []) es ≡ Some (length trees)
+find_tree-push_new trees es none = position-push_new (same_tree es) trees es none
+    ((same_tree-Decides es es).1 refl)
 
-pub with_known : (trees : List Tree) (es : Tree) (place : ℕ) → place_in trees es ≡ Some place
+pub with_tree-known : (trees : List Tree) (es : Tree) (place : ℕ) → find_tree trees es ≡ Some place
     → with_tree trees es ≡ trees
-with_known trees es place e = rw e refl
+with_tree-known trees es place e = rw e refl
 
-pub with_new : (trees : List Tree) (es : Tree) → place_in trees es ≡ None
+pub with_tree-new : (trees : List Tree) (es : Tree) → find_tree trees es ≡ None
     → with_tree trees es ≡ trees ++ es ∷ []
-with_new trees es e = rw e refl
+with_tree-new trees es e = rw e refl
 
 -- a tree stays where it is
-pub place_with : (trees : List Tree) (es more : Tree) (place : ℕ) → place_in trees es ≡ Some place
-    → place_in (with_tree trees more) es ≡ Some place
-place_with trees es more place e = by (is_some (place_in trees more)) where
-  by : (b : Bool) → place_in (cond b trees (trees ++ more ∷ [])) es ≡ Some place
+pub find_tree-with_tree : (trees : List Tree) (es more : Tree) (place : ℕ) → find_tree trees es ≡ Some place
+    → find_tree (with_tree trees more) es ≡ Some place
+find_tree-with_tree trees es more place e = by (is_some (find_tree trees more)) where
+  by : (b : Bool) → find_tree (cond b trees (trees ++ more ∷ [])) es ≡ Some place
   by true = e
-  by false = position_kept (same_tree es) trees (more ∷ []) place e
+  by false = position-append (same_tree es) trees (more ∷ []) place e
 
-pub place_stays : (trees : List Tree) (es : Tree) (place : ℕ) (flows : List Tree)
-    → place_in trees es ≡ Some place → place_in (fold with_tree trees flows) es ≡ Some place
-place_stays trees es place [] e = e
-place_stays trees es place (f ∷ flows) e = place_stays (with_tree trees f) es place flows
-    (place_with trees es f place e)
+pub find_tree-fold_with_tree : (trees : List Tree) (es : Tree) (place : ℕ) (flows : List Tree)
+    → find_tree trees es ≡ Some place → find_tree (fold with_tree trees flows) es ≡ Some place
+find_tree-fold_with_tree trees es place [] e = e
+find_tree-fold_with_tree trees es place (f ∷ flows) e = find_tree-fold_with_tree (with_tree trees f) es place flows
+    (find_tree-with_tree trees es f place e)
 
 -- ---- one tree more
 
-tree_past : (trees more : List Tree) (n : ℕ) → n < length trees
+tree_at-append : (trees more : List Tree) (n : ℕ) → n < length trees
     → tree_at (trees ++ more) n ≡ tree_at trees n
-tree_past [] more n lt = absurd (omega (arith, lt))
-tree_past (t ∷ trees) more zero lt = refl
-tree_past (t ∷ trees) more (suc n) lt = tree_past trees more n (omega (arith, lt))
+tree_at-append [] more n lt = absurd (omega (arith, lt))
+tree_at-append (t ∷ trees) more zero lt = refl
+tree_at-append (t ∷ trees) more (suc n) lt = tree_at-append trees more n (omega (arith, lt))
 
 -- a tree stays at its place
-pub tree_with : (trees : List Tree) (es : Tree) (n : ℕ) → n < length trees
+pub tree_at-with_tree : (trees : List Tree) (es : Tree) (n : ℕ) → n < length trees
     → tree_at (with_tree trees es) n ≡ tree_at trees n
-tree_with trees es n lt = by (is_some (place_in trees es)) where
+tree_at-with_tree trees es n lt = by (is_some (find_tree trees es)) where
   by : (b : Bool) → tree_at (cond b trees (trees ++ es ∷ [])) n ≡ tree_at trees n
   by true = refl
-  by false = tree_past trees (es ∷ []) n lt
+  by false = tree_at-append trees (es ∷ []) n lt
 
-pub with_one : (trees : List Tree) (es : Tree) → length (with_tree trees es) ≤ length trees + 1
-with_one trees es = by (is_some (place_in trees es)) where
+pub length-with_tree : (trees : List Tree) (es : Tree) → length (with_tree trees es) ≤ length trees + 1
+length-with_tree trees es = by (is_some (find_tree trees es)) where
   by : (b : Bool) → length (cond b trees (trees ++ es ∷ [])) ≤ length trees + 1
   by true = omega arith
   by false = omega (arith, length-append trees (es ∷ []))
 
 -- there are no more different trees than flows
-pub few_from : (trees flows : List Tree)
+pub length-fold_with_tree : (trees flows : List Tree)
     → length (fold with_tree trees flows) ≤ length trees + length flows
-few_from trees [] = omega arith
-few_from trees (f ∷ flows) = omega (arith, few_from (with_tree trees f) flows, with_one trees f)
+length-fold_with_tree trees [] = omega arith
+length-fold_with_tree trees (f ∷ flows) = omega (arith, length-fold_with_tree (with_tree trees f) flows, length-with_tree trees f)
 
 -- a tree stands at its place
-pub at_place : (trees : List Tree) (es : Tree) (n : ℕ) → place_in trees es ≡ Some n
+pub slice_get-find_tree : (trees : List Tree) (es : Tree) (n : ℕ) → find_tree trees es ≡ Some n
     → (n < length trees) × (slice_get trees n ≡ Some es)
-at_place trees es n e =
+slice_get-find_tree trees es n e =
     let at = position-Some (same_tree es) trees n es e in
-    let same : es ≡ get_or trees n es = (tree_decides es (get_or trees n es)).0 at.1 in
+    let same : es ≡ get_or trees n es = (same_tree-Decides es (get_or trees n es)).0 at.1 in
     (at.0, slice_get-get_or trees n es at.0 ∙ ap Some (sym same))
 
 -- what holds of all flows holds of the different trees
 module _ (P : Tree → Type 0) where
-  pub all_with : (trees : List Tree) (es : Tree) → All P trees → P es → All P (with_tree trees es)
-  all_with trees es all here = by (is_some (place_in trees es)) where
+  pub All-with_tree : (trees : List Tree) (es : Tree) → All P trees → P es → All P (with_tree trees es)
+  All-with_tree trees es all here = by (is_some (find_tree trees es)) where
     by : (b : Bool) → All P (cond b trees (trees ++ es ∷ []))
     by true = all
     by false = All-push P trees es all here
 
-  all_distinct : (trees flows : List Tree) → All P trees → All P flows
+  All-fold_with_tree : (trees flows : List Tree) → All P trees → All P flows
       → All P (fold with_tree trees flows)
-  all_distinct trees [] all each = all
-  all_distinct trees (f ∷ flows) all each =
-      all_distinct (with_tree trees f) flows (all_with trees f all (each zero [] (omega arith))) (λ k d lt. each (suc k) d (omega (arith, lt)))
+  All-fold_with_tree trees [] all each = all
+  All-fold_with_tree trees (f ∷ flows) all each =
+      All-fold_with_tree (with_tree trees f) flows (All-with_tree trees f all (each zero [] (omega arith))) (λ k d lt. each (suc k) d (omega (arith, lt)))
 
-  pub distinct_belong : (flows viewed trees : List Tree) → viewed ≡ flows → All P flows
+  pub All-distinct_trees : (flows viewed trees : List Tree) → viewed ≡ flows → All P flows
       → trees ≡ distinct_trees viewed → All P trees
-  distinct_belong flows viewed trees same all made =
-      let distinct : All P (distinct_trees flows) = all_distinct []
+  All-distinct_trees flows viewed trees same all made =
+      let distinct : All P (distinct_trees flows) = All-fold_with_tree []
       flows (λ k d lt. absurd (omega (arith, lt))) all in
       subst (λ (ts : List Tree). All P ts) (ap distinct_trees (sym same) ∙ sym made) distinct

@@ -10,84 +10,84 @@ use Rattle.mc_topology.proofs.Steps.{bind_ok, test_ok, ok_or_ok, ok_is}
 use Rattle.mc_cert.specs.declared.fault.CertFaultKind.TheVariants.{MissingKey, BadKind, BadNumber}
 use Rattle.mc_cert.specs.declared.fault.CertFaultKind.TheVariants.{UnknownKey, TooMany}
 use Rattle.mc_cert.specs.Object.{has_only, rows_in, text_of, number_of, list_of, object_of, at_key}
-use Rattle.mc_cert.specs.Object.{text_at, number_at, list_at, within, whole_at, at_most}
-use Rattle.mc_cert.specs.Stands.{IsObject, AreRows, HasRows, HasText, HasNumber}
+use Rattle.mc_cert.specs.Object.{text_at, number_at, list_at, in_range, whole_at, at_most}
+use Rattle.mc_cert.specs.Denotation.{IsObject, AreRows, HasRows, HasText, HasNumber}
 
-as_str-is : (d : Data) (s : List ℕ) → as_str d ≡ Some s → d ≡ string s
-as_str-is null s e = absurd cc
-as_str-is (boolean b) s e = absurd cc
-as_str-is (number n) s e = absurd cc
-as_str-is (string t) s e = cc
-as_str-is (array ds) s e = absurd cc
-as_str-is (object ms) s e = absurd cc
+string-from_as_str : (d : Data) (s : List ℕ) → as_str d ≡ Some s → d ≡ string s
+string-from_as_str null s e = absurd cc
+string-from_as_str (boolean b) s e = absurd cc
+string-from_as_str (number n) s e = absurd cc
+string-from_as_str (string t) s e = cc
+string-from_as_str (array ds) s e = absurd cc
+string-from_as_str (object ms) s e = absurd cc
 
-as_number-is : (d : Data) (n : Num) → as_number d ≡ Some n → d ≡ number n
-as_number-is null n e = absurd cc
-as_number-is (boolean b) n e = absurd cc
-as_number-is (number m) n e = cc
-as_number-is (string t) n e = absurd cc
-as_number-is (array ds) n e = absurd cc
-as_number-is (object ms) n e = absurd cc
+number-from_as_number : (d : Data) (n : Num) → as_number d ≡ Some n → d ≡ number n
+number-from_as_number null n e = absurd cc
+number-from_as_number (boolean b) n e = absurd cc
+number-from_as_number (number m) n e = cc
+number-from_as_number (string t) n e = absurd cc
+number-from_as_number (array ds) n e = absurd cc
+number-from_as_number (object ms) n e = absurd cc
 
-as_array-is : (d : Data) (ds : Items) → as_array d ≡ Some ds → d ≡ array ds
-as_array-is null ds e = absurd cc
-as_array-is (boolean b) ds e = absurd cc
-as_array-is (number n) ds e = absurd cc
-as_array-is (string t) ds e = absurd cc
-as_array-is (array es) ds e = cc
-as_array-is (object ms) ds e = absurd cc
+array-from_as_array : (d : Data) (ds : Items) → as_array d ≡ Some ds → d ≡ array ds
+array-from_as_array null ds e = absurd cc
+array-from_as_array (boolean b) ds e = absurd cc
+array-from_as_array (number n) ds e = absurd cc
+array-from_as_array (string t) ds e = absurd cc
+array-from_as_array (array es) ds e = cc
+array-from_as_array (object ms) ds e = absurd cc
 
-pub as_object-is : (d : Data) (ms : Members) → as_object d ≡ Some ms → d ≡ object ms
-as_object-is null ms e = absurd cc
-as_object-is (boolean b) ms e = absurd cc
-as_object-is (number n) ms e = absurd cc
-as_object-is (string t) ms e = absurd cc
-as_object-is (array es) ms e = absurd cc
-as_object-is (object ns) ms e = cc
+pub object-from_as_object : (d : Data) (ms : Members) → as_object d ≡ Some ms → d ≡ object ms
+object-from_as_object null ms e = absurd cc
+object-from_as_object (boolean b) ms e = absurd cc
+object-from_as_object (number n) ms e = absurd cc
+object-from_as_object (string t) ms e = absurd cc
+object-from_as_object (array es) ms e = absurd cc
+object-from_as_object (object ns) ms e = cc
 
-pub as_u64-is : (n : Num) (m : ℕ) → as_u64 n ≡ Some m → n ≡ unsigned m
-as_u64-is (unsigned k) m e = cc
-as_u64-is (negative z) m e = absurd cc
-as_u64-is (float x) m e = absurd cc
+pub unsigned-from_as_u64 : (n : Num) (m : ℕ) → as_u64 n ≡ Some m → n ≡ unsigned m
+unsigned-from_as_u64 (unsigned k) m e = cc
+unsigned-from_as_u64 (negative z) m e = absurd cc
+unsigned-from_as_u64 (float x) m e = absurd cc
 
 -- ---- texts and numbers
 
-pub text_of-takes : (d : Data) (text : List ℕ) → text_of d ≡ Ok text → d ≡ string text
-text_of-takes d text e = as_str-is d text (ok_or_ok (as_str d) BadKind text e)
+pub string-from_text_of : (d : Data) (text : List ℕ) → text_of d ≡ Ok text → d ≡ string text
+string-from_text_of d text e = string-from_as_str d text (ok_or_ok (as_str d) BadKind text e)
 
-pub number_of-takes : (d : Data) (n : Num) → number_of d ≡ Ok n → d ≡ number n
-number_of-takes d n e = as_number-is d n (ok_or_ok (as_number d) BadKind n e)
+pub number-from_number_of : (d : Data) (n : Num) → number_of d ≡ Ok n → d ≡ number n
+number-from_number_of d n e = number-from_as_number d n (ok_or_ok (as_number d) BadKind n e)
 
-pub text_at-takes : (key : List ℕ) (ms : Members) (text : List ℕ) → text_at key ms ≡ Ok text
+pub HasText-from_text_at : (key : List ℕ) (ms : Members) (text : List ℕ) → text_at key ms ≡ Ok text
     → HasText key ms text
 unfolding text_at
-text_at-takes key ms text e =
+HasText-from_text_at key ms text e =
     let a = bind_ok (at_key key ms) text_of text e in
-    ok_or_ok (get_member key ms) MissingKey a.0 a.1 ∙ ap Some (text_of-takes a.0 text a.2)
+    ok_or_ok (get_member key ms) MissingKey a.0 a.1 ∙ ap Some (string-from_text_of a.0 text a.2)
 
-pub text_at-again : (key : List ℕ) (ms : Members) (text : List ℕ) → HasText key ms text
+pub text_at-from_HasText : (key : List ℕ) (ms : Members) (text : List ℕ) → HasText key ms text
     → text_at key ms ≡ Ok text
 unfolding text_at
-text_at-again key ms text e = rw e refl
+text_at-from_HasText key ms text e = rw e refl
 
-pub number_at-takes : (key : List ℕ) (ms : Members) (n : Num) → number_at key ms ≡ Ok n
+pub HasNumber-from_number_at : (key : List ℕ) (ms : Members) (n : Num) → number_at key ms ≡ Ok n
     → get_member key ms ≡ Some (number n)
 unfolding number_at
-number_at-takes key ms n e =
+HasNumber-from_number_at key ms n e =
     let a = bind_ok (at_key key ms) number_of n e in
-    ok_or_ok (get_member key ms) MissingKey a.0 a.1 ∙ ap Some (number_of-takes a.0 n a.2)
+    ok_or_ok (get_member key ms) MissingKey a.0 a.1 ∙ ap Some (number-from_number_of a.0 n a.2)
 
-pub number_at-again : (key : List ℕ) (ms : Members) (n : Num) → get_member key ms ≡ Some (number n)
+pub number_at-from_HasNumber : (key : List ℕ) (ms : Members) (n : Num) → get_member key ms ≡ Some (number n)
     → number_at key ms ≡ Ok n
 unfolding number_at
-number_at-again key ms n e = rw e refl
+number_at-from_HasNumber key ms n e = rw e refl
 
 -- ---- whole numbers
 
-pub within-takes : (low high : ℕ) (o : Option ℕ) (n : ℕ) → within low high o ≡ Ok n
+pub in_range-sound : (low high : ℕ) (o : Option ℕ) (n : ℕ) → in_range low high o ≡ Ok n
     → (o ≡ Some n) × (low ≤ n) × (n ≤ high)
-within-takes low high None n e = absurd cc
-within-takes low high (Some m) n e =
+in_range-sound low high None n e = absurd cc
+in_range-sound low high (Some m) n e =
     let t = test_ok (nat_le low m && nat_le m high) BadNumber (Ok m) n e in
     let same : m ≡ n = ok_is m n t.1 in
     let (from, to) = and_parts _ _ t.0 in (
@@ -96,76 +96,76 @@ within-takes low high (Some m) n e =
       subst (λ k. k ≤ high) same (leb-true _ _ to),
     )
 
-pub within-again : (low high n : ℕ) → low ≤ n → n ≤ high → within low high (Some n) ≡ Ok n
-within-again low high n from to = rw (le-leb low n from, le-leb n high to) refl
+pub in_range-complete : (low high n : ℕ) → low ≤ n → n ≤ high → in_range low high (Some n) ≡ Ok n
+in_range-complete low high n from to = rw (le-leb low n from, le-leb n high to) refl
 
-pub whole_at-takes : (key : List ℕ) (low high : ℕ) (ms : Members) (n : ℕ)
+pub HasNumber-from_whole_at : (key : List ℕ) (low high : ℕ) (ms : Members) (n : ℕ)
     → whole_at key low high ms ≡ Ok n → HasNumber key ms n × (low ≤ n) × (n ≤ high)
 unfolding whole_at
-whole_at-takes key low high ms n e =
-    let a = bind_ok (number_at key ms) (λ m. within low high (as_u64 m)) n e in
-    let w = within-takes low high (as_u64 a.0) n a.2 in
-    (number_at-takes key ms a.0 a.1 ∙ ap (λ m. Some (number m)) (as_u64-is a.0 n w.0), w.1, w.2)
+HasNumber-from_whole_at key low high ms n e =
+    let a = bind_ok (number_at key ms) (λ m. in_range low high (as_u64 m)) n e in
+    let w = in_range-sound low high (as_u64 a.0) n a.2 in
+    (HasNumber-from_number_at key ms a.0 a.1 ∙ ap (λ m. Some (number m)) (unsigned-from_as_u64 a.0 n w.0), w.1, w.2)
 
-pub whole_at-again : (key : List ℕ) (low high : ℕ) (ms : Members) (n : ℕ) → HasNumber key ms n
+pub whole_at-from_HasNumber : (key : List ℕ) (low high : ℕ) (ms : Members) (n : ℕ) → HasNumber key ms n
     → low ≤ n → n ≤ high → whole_at key low high ms ≡ Ok n
 unfolding whole_at
-whole_at-again key low high ms n has from to = rw (number_at-again key ms (unsigned n) has)
-    (within-again low high n from to)
+whole_at-from_HasNumber key low high ms n has from to = rw (number_at-from_HasNumber key ms (unsigned n) has)
+    (in_range-complete low high n from to)
 
 -- ---- objects
 
-pub object_of-takes : (known : List (List ℕ)) (d : Data) (ms : Members) → object_of known d ≡ Ok ms
+pub IsObject-from_object_of : (known : List (List ℕ)) (d : Data) (ms : Members) → object_of known d ≡ Ok ms
     → IsObject known d ms
 unfolding object_of
-object_of-takes known d ms e =
+IsObject-from_object_of known d ms e =
     let a = bind_ok (ok_or (as_object d) BadKind)
     (λ ns. cond (has_only known ns) (Ok ns) (Err UnknownKey)) ms e in
     let t = test_ok (has_only known a.0) UnknownKey (Ok a.0) ms a.2 in
     let same : a.0 ≡ ms = ok_is a.0 ms t.1 in
     record {
-      members = as_object-is d ms (ok_or_ok (as_object d) BadKind a.0 a.1 ∙ ap Some same);
+      members = object-from_as_object d ms (ok_or_ok (as_object d) BadKind a.0 a.1 ∙ ap Some same);
       keys = ap (has_only known) (sym same) ∙ t.0;
     }
 
-pub object_of-again : (known : List (List ℕ)) (d : Data) (ms : Members) → IsObject known d ms
+pub object_of-from_IsObject : (known : List (List ℕ)) (d : Data) (ms : Members) → IsObject known d ms
     → object_of known d ≡ Ok ms
 unfolding object_of
-object_of-again known d ms is = rw (is.members, is.keys) refl
+object_of-from_IsObject known d ms is = rw (is.members, is.keys) refl
 
 -- ---- lists
 
-pub list_of-takes : (d : Data) (rows : List Data) → list_of d ≡ Ok rows → AreRows d rows
-list_of-takes d rows e =
+pub AreRows-from_list_of : (d : Data) (rows : List Data) → list_of d ≡ Ok rows → AreRows d rows
+AreRows-from_list_of d rows e =
     let a = bind_ok (ok_or (as_array d) BadKind) (λ items. Ok (rows_in items)) rows e in (
       a.0,
-      as_array-is d a.0 (ok_or_ok (as_array d) BadKind a.0 a.1),
+      array-from_as_array d a.0 (ok_or_ok (as_array d) BadKind a.0 a.1),
       sym (ok_is (rows_in a.0) rows a.2),
     )
 
-pub list_of-again : (d : Data) (rows : List Data) → AreRows d rows → list_of d ≡ Ok rows
-list_of-again d rows are = rw (are.1, are.2) refl
+pub list_of-from_AreRows : (d : Data) (rows : List Data) → AreRows d rows → list_of d ≡ Ok rows
+list_of-from_AreRows d rows are = rw (are.1, are.2) refl
 
-pub list_at-takes : (key : List ℕ) (ms : Members) (rows : List Data) → list_at key ms ≡ Ok rows
+pub HasRows-from_list_at : (key : List ℕ) (ms : Members) (rows : List Data) → list_at key ms ≡ Ok rows
     → HasRows key ms rows
 unfolding list_at
-list_at-takes key ms rows e =
+HasRows-from_list_at key ms rows e =
     let a = bind_ok (at_key key ms) list_of rows e in
-    (a.0, ok_or_ok (get_member key ms) MissingKey a.0 a.1, list_of-takes a.0 rows a.2)
+    (a.0, ok_or_ok (get_member key ms) MissingKey a.0 a.1, AreRows-from_list_of a.0 rows a.2)
 
-pub list_at-again : (key : List ℕ) (ms : Members) (rows : List Data) → HasRows key ms rows
+pub list_at-from_HasRows : (key : List ℕ) (ms : Members) (rows : List Data) → HasRows key ms rows
     → list_at key ms ≡ Ok rows
 unfolding list_at
-list_at-again key ms rows has = rw has.1 (list_of-again has.0 rows has.2)
+list_at-from_HasRows key ms rows has = rw has.1 (list_of-from_AreRows has.0 rows has.2)
 
-pub at_most-takes : (most : ℕ) (rows taken : List Data) → at_most most rows ≡ Ok taken
+pub at_most-sound : (most : ℕ) (rows taken : List Data) → at_most most rows ≡ Ok taken
     → (rows ≡ taken) × (length taken ≤ most)
 unfolding at_most
-at_most-takes most rows taken e =
+at_most-sound most rows taken e =
     let t = test_ok (nat_le (length rows) most) TooMany (Ok rows) taken e in
     let same : rows ≡ taken = ok_is rows taken t.1 in
     (same, subst (λ (rs : List Data). length rs ≤ most) same (leb-true (length rows) most t.0))
 
-pub at_most-again : (most : ℕ) (rows : List Data) → length rows ≤ most → at_most most rows ≡ Ok rows
+pub at_most-complete : (most : ℕ) (rows : List Data) → length rows ≤ most → at_most most rows ≡ Ok rows
 unfolding at_most
-at_most-again most rows few = rw (le-leb (length rows) most few) refl
+at_most-complete most rows few = rw (le-leb (length rows) most few) refl

@@ -28,7 +28,7 @@ use Rattle.serde_json.specs.Written.{items_text, members_text, comma_if}
 use Rattle.serde_json.proofs.Numbers.{number_of-decimal}
 use Rattle.serde_json.proofs.Texts.{print-outline}
 use Rattle.mc_text.specs.Addr.{octets_of, dotted}
-use Rattle.mc_text.proofs.AddrLemmas.{octets_fit}
+use Rattle.mc_text.proofs.AddrLemmas.{octets_of-below_256}
 use Rattle.mc_topology.specs.Names.{is_name, is_name_byte}
 
 -- ---- texts that JSON writes as they are
@@ -40,21 +40,21 @@ pub record IsPlain (b : ℕ) : Type 0 where
   pub no_quote : b ≡ 34 → ⊥
   pub no_backslash : b ≡ 92 → ⊥
 
-pub escape_plain : (s : List ℕ) → All IsPlain s → escape s ≡ s
-escape_plain [] all = refl
-escape_plain (x ∷ s) all =
+pub escape-plain : (s : List ℕ) → All IsPlain s → escape s ≡ s
+escape-plain [] all = refl
+escape-plain (x ∷ s) all =
     let here = all zero 0 (omega arith) in
     ap₂ (λ a b. a ++ b) (escape_byte_plain x here.no_quote here.no_backslash here.from)
-    (escape_plain s (λ k d lt. all (suc k) d (omega (arith, lt))))
+    (escape-plain s (λ k d lt. all (suc k) d (omega (arith, lt))))
 
-pub plain_utf8 : (s : List ℕ) → All IsPlain s → IsUtf8 s
-plain_utf8 s all = IsUtf8-from_ascii s (λ i. small i (cases_lt i (length s))) where
+pub IsUtf8-from_IsPlain : (s : List ℕ) → All IsPlain s → IsUtf8 s
+IsUtf8-from_IsPlain s all = IsUtf8-from_ascii s (λ i. small i (cases_lt i (length s))) where
   small : (i : ℕ) → (i < length s) ⊎ (length s ≤ i) → get_or s i 0 < 128
   small i (inl lt) = (all i 0 lt).to
   small i (inr past) = rw (get_or_past s i 0 past) (omega arith)
 
-name_byte_plain : (b : ℕ) → is_name_byte b ≡ true → IsPlain b
-name_byte_plain b e =
+IsPlain-from_is_name_byte : (b : ℕ) → is_name_byte b ≡ true → IsPlain b
+IsPlain-from_is_name_byte b e =
     record {
       from = grind (arith, nat_tests);
       to = grind (arith, nat_tests);
@@ -64,26 +64,26 @@ name_byte_plain b e =
           subst (λ (x : ℕ). is_name_byte x ≡ true) q e in absurd cc;
     }
 
-name_bytes_plain : (s : List ℕ) → list_all is_name_byte s ≡ true → All IsPlain s
-name_bytes_plain [] e k d lt = absurd (omega (arith, lt))
-name_bytes_plain (x ∷ s) e zero d lt = name_byte_plain x
+IsPlain-from_name_bytes : (s : List ℕ) → list_all is_name_byte s ≡ true → All IsPlain s
+IsPlain-from_name_bytes [] e k d lt = absurd (omega (arith, lt))
+IsPlain-from_name_bytes (x ∷ s) e zero d lt = IsPlain-from_is_name_byte x
     (and_parts (is_name_byte x) (list_all is_name_byte s) e).0
-name_bytes_plain (x ∷ s) e (suc k) d lt = name_bytes_plain s
+IsPlain-from_name_bytes (x ∷ s) e (suc k) d lt = IsPlain-from_name_bytes s
     (and_parts (is_name_byte x) (list_all is_name_byte s) e).1 k d (omega (arith, lt))
 
 -- the name of a LAN or a router
-pub name_plain : (s : List ℕ) → is_name s ≡ true → All IsPlain s
+pub IsPlain-from_is_name : (s : List ℕ) → is_name s ≡ true → All IsPlain s
 unfolding is_name
-name_plain s e = name_bytes_plain s (and_parts _ (list_all is_name_byte s) e).1
+IsPlain-from_is_name s e = IsPlain-from_name_bytes s (and_parts _ (list_all is_name_byte s) e).1
 
-digit_or_dot_plain : (b : ℕ) → IsDigitOrDot b → IsPlain b
-digit_or_dot_plain b (inl range) = record {
+IsPlain-from_IsDigitOrDot : (b : ℕ) → IsDigitOrDot b → IsPlain b
+IsPlain-from_IsDigitOrDot b (inl range) = record {
   from = omega (arith, range);
   to = omega (arith, range);
   no_quote = λ q. omega (arith, range);
   no_backslash = λ q. omega (arith, range);
 }
-digit_or_dot_plain b (inr dot) = record {
+IsPlain-from_IsDigitOrDot b (inr dot) = record {
   from = omega (arith, dot);
   to = omega (arith, dot);
   no_quote = λ q. omega (arith, dot);
@@ -91,29 +91,29 @@ digit_or_dot_plain b (inr dot) = record {
 }
 
 -- an address
-pub dotted_plain : (a : ℕ) → All IsPlain (dotted a)
-dotted_plain a k d lt = digit_or_dot_plain _ (All-ipv4_text (octets_of a) (octets_fit a) k d lt)
+pub IsPlain-dotted : (a : ℕ) → All IsPlain (dotted a)
+IsPlain-dotted a k d lt = IsPlain-from_IsDigitOrDot _ (All-ipv4_text (octets_of a) (octets_of-below_256 a) k d lt)
 
 -- ---- values
 
 -- the value is what its text is read as, and nests at most so deep
-pub record IsGood (n : ℕ) (d : Data) : Type 0 where
+pub record IsReadBack (n : ℕ) (d : Data) : Type 0 where
   pub reads : of_json (outline d) ≡ Some d
   pub numbers : tree.HasNumbers (outline d)
   pub shallow : tree.depth (outline d) ≤ n
   pub utf8 : IsUtf8 (compact_text d)
 
-pub good_string : (n : ℕ) (s : List ℕ) → All IsPlain s → IsGood n (string s)
-good_string n s plain = record {
+pub IsReadBack-string : (n : ℕ) (s : List ℕ) → All IsPlain s → IsReadBack n (string s)
+IsReadBack-string n s plain = record {
   reads = refl;
   numbers = tt;
   shallow = omega arith;
   utf8 =
-      IsUtf8-quoted s (plain_utf8 s plain);
+      IsUtf8-quoted s (IsUtf8-from_IsPlain s plain);
 }
 
-pub good_number : (n k : ℕ) → k < 2 ^ 64 → IsGood n (number (unsigned k))
-good_number n k small =
+pub IsReadBack-number : (n k : ℕ) → k < 2 ^ 64 → IsReadBack n (number (unsigned k))
+IsReadBack-number n k small =
     record {
       reads = ap (option_map number) (number_of-decimal k small);
       numbers = IsNumber-decimal k small;
@@ -121,20 +121,20 @@ good_number n k small =
       utf8 = IsUtf8-from_ascii (decimal k) (IsAscii-decimal k small);
     }
 
-comma_utf8 : (later : Bool) → IsUtf8 (comma_if later)
-comma_utf8 true = IsUtf8-are_ascii (44 ∷ []) refl
-comma_utf8 false = IsUtf8-are_ascii [] refl
+IsUtf8-comma_if : (later : Bool) → IsUtf8 (comma_if later)
+IsUtf8-comma_if true = IsUtf8-are_ascii (44 ∷ []) refl
+IsUtf8-comma_if false = IsUtf8-are_ascii [] refl
 
 -- ---- lists
 
-pub record AreGood (n : ℕ) (ds : Items) : Type 0 where
+pub record AreReadBack (n : ℕ) (ds : Items) : Type 0 where
   pub reads : of_items (items_outline ds) ≡ Some ds
   pub numbers : tree.ItemsHaveNumbers (items_outline ds)
   pub shallow : tree.items_depth (items_outline ds) ≤ n
   pub utf8 : (later : Bool) → IsUtf8 (items_text later ds)
 
-pub good_array : (n : ℕ) (ds : Items) → AreGood n ds → IsGood (suc n) (array ds)
-good_array n ds good =
+pub IsReadBack-array : (n : ℕ) (ds : Items) → AreReadBack n ds → IsReadBack (suc n) (array ds)
+IsReadBack-array n ds good =
     record {
       reads = ap (option_map array) good.reads;
       numbers = good.numbers;
@@ -149,56 +149,56 @@ module _ {A : Type 0} (f : A → Data) where
   items_from [] = no_items
   items_from (x ∷ xs) = item (f x) (items_from xs)
 
-  pub good_items : (n : ℕ) (xs : List A) → AllByRecursion (λ x. IsGood n (f x)) xs
-      → AreGood n (items_from xs)
-  good_items n [] all = record {
+  pub AreReadBack-items_from : (n : ℕ) (xs : List A) → AllByRecursion (λ x. IsReadBack n (f x)) xs
+      → AreReadBack n (items_from xs)
+  AreReadBack-items_from n [] all = record {
     reads = refl;
     numbers = tt;
     shallow = omega arith;
     utf8 =
         λ later. IsUtf8-are_ascii (93 ∷ []) refl;
   }
-  good_items n (x ∷ xs) (here, all) =
-      let rest = good_items n xs all in
+  AreReadBack-items_from n (x ∷ xs) (here, all) =
+      let rest = AreReadBack-items_from n xs all in
       record {
         reads = rw (here.reads, rest.reads) refl;
         numbers = (here.numbers, rest.numbers);
         shallow = omega (arith, here.shallow, rest.shallow);
-        utf8 = λ later. IsUtf8-append (comma_if later) _ (comma_utf8 later)
+        utf8 = λ later. IsUtf8-append (comma_if later) _ (IsUtf8-comma_if later)
             (IsUtf8-append (compact_text (f x)) _ here.utf8 (rest.utf8 true));
       }
 
 -- ---- objects
 
-pub record HasGood (n : ℕ) (ms : Members) : Type 0 where
+pub record HasReadBack (n : ℕ) (ms : Members) : Type 0 where
   pub numbers : tree.MembersHaveNumbers (members_outline ms)
   pub shallow : tree.members_depth (members_outline ms) ≤ n
   pub utf8 : (later : Bool) → IsUtf8 (members_text later ms)
 
-pub good_none : (n : ℕ) → HasGood n no_members
-good_none n = record {
+pub HasReadBack-none : (n : ℕ) → HasReadBack n no_members
+HasReadBack-none n = record {
   numbers = tt;
   shallow = omega arith;
   utf8 =
       λ later. IsUtf8-are_ascii (125 ∷ []) refl;
 }
 
-pub good_member : (n : ℕ) (k : List ℕ) (d : Data) (ms : Members) → IsUtf8 k → IsGood n d
-    → HasGood n ms → HasGood n (member k d ms)
-good_member n k d ms key here rest =
+pub HasReadBack-member : (n : ℕ) (k : List ℕ) (d : Data) (ms : Members) → IsUtf8 k → IsReadBack n d
+    → HasReadBack n ms → HasReadBack n (member k d ms)
+HasReadBack-member n k d ms key here rest =
     record {
       numbers = (here.numbers, rest.numbers);
       shallow = omega (arith, here.shallow, rest.shallow);
       utf8 = λ later.
-          IsUtf8-append (comma_if later) _ (comma_utf8 later)
+          IsUtf8-append (comma_if later) _ (IsUtf8-comma_if later)
           (IsUtf8-append (quoted k) _ (IsUtf8-quoted k key)
           (IsUtf8-append (58 ∷ []) _ (IsUtf8-are_ascii (58 ∷ []) refl)
           (IsUtf8-append (compact_text d) _ here.utf8 (rest.utf8 true))));
     }
 
-pub good_object : (n : ℕ) (ms : Members) → of_members (members_outline ms) no_members ≡ Some ms
-    → HasGood n ms → IsGood (suc n) (object ms)
-good_object n ms reads good =
+pub IsReadBack-object : (n : ℕ) (ms : Members) → of_members (members_outline ms) no_members ≡ Some ms
+    → HasReadBack n ms → IsReadBack (suc n) (object ms)
+IsReadBack-object n ms reads good =
     record {
       reads = ap (option_map object) reads;
       numbers = good.numbers;
@@ -209,13 +209,13 @@ good_object n ms reads good =
 
 -- ---- the text as a whole
 
-abbrev whole : Option (json.Json × List Token) → Option Data
-whole o = option_and_then of_json (option_and_then (λ p. json.if_last p.0 p.1) o)
+abbrev data_of_tokens : Option (json.Json × List Token) → Option Data
+data_of_tokens o = option_and_then of_json (option_and_then (λ p. json.if_last p.0 p.1) o)
 
-pub good_reads : (d : Data) → IsGood 127 d → read (compact_text d) ≡ Some d
-good_reads d good =
+pub read-compact_text : (d : Data) → IsReadBack 127 d → read (compact_text d) ≡ Some d
+read-compact_text d good =
     let same = ap tokens (sym (print-outline d))
     ∙ tokens-print (tree.json_tokens (outline d))
     (ArePrintable-json_tokens (outline d) good.numbers) in
-    ap whole (ap (json.value max_depth) (same ∙ sym (append-nil (tree.json_tokens (outline d))))
+    ap data_of_tokens (ap (json.value max_depth) (same ∙ sym (append-nil (tree.json_tokens (outline d))))
     ∙ value-json_tokens (outline d) max_depth [] good.shallow) ∙ good.reads

@@ -24,8 +24,8 @@ pub list_any-now : (p : List ℕ → Bool) (texts : List (Bor (List ℕ)))
 list_any-now p [] = refl
 list_any-now p (t ∷ texts) = ap (λ (b : Bool). p t.now || b) (list_any-now p texts)
 
-abbrev known_in : List (List ℕ) → List ℕ → Bool
-known_in known key = list_any (λ k. bytes_eq k key) known
+abbrev is_known_key : List (List ℕ) → List ℕ → Bool
+is_known_key known key = list_any (λ k. bytes_eq k key) known
 
 -- a test of each key of an object, with the known keys behind references
 pub has_only-now : (known : List (Bor (List ℕ))) (es : List (String Global × Value))
@@ -34,11 +34,11 @@ pub has_only-now : (known : List (Bor (List ℕ))) (es : List (String Global × 
 has_only-now known [] = refl
 has_only-now known (e ∷ es) =
     rw (list_any-now (λ k. bytes_eq k (string_bytes e.0)) known)
-    (ap (λ (b : Bool). known_in (map (λ k. k.now) known) (string_bytes e.0) && b)
+    (ap (λ (b : Bool). is_known_key (map (λ k. k.now) known) (string_bytes e.0) && b)
     (has_only-now known es))
 
 -- what the map of an object finds at a key
-pub object_get : (r : Option (Bor Value)) (k : List ℕ) (es : List (String Global × Value))
+pub get_member-object : (r : Option (Bor Value)) (k : List ℕ) (es : List (String Global × Value))
     → option_map (λ x. x.now) r ≡ lookup (is_at (λ x. slice_cmp nat_cmp k (string_bytes x))) es
     → option_map (λ x. view x.now) r ≡ get_member k (members_view es)
-object_get r k es found = view_of_ref r ∙ ap (option_map view) found ∙ view-lookup k es
+get_member-object r k es found = view_of_ref r ∙ ap (option_map view) found ∙ view-lookup k es

@@ -21,14 +21,14 @@ separator_of [] = []
 separator_of (x ∷ xs) = codes ","
 
 -- behind an item a comma comes next
-separator_pushed : {A : Type 0} (xs : List A) (x : A) → separator_of (xs ++ x ∷ []) ≡ codes ","
-separator_pushed [] x = refl
-separator_pushed (y ∷ xs) x = refl
+separator_of-push : {A : Type 0} (xs : List A) (x : A) → separator_of (xs ++ x ∷ []) ≡ codes ","
+separator_of-push [] x = refl
+separator_of-push (y ∷ xs) x = refl
 
 -- where a comma stands before the first item, one stands before each
-comma_after : {A : Type 0} (xs : List A) → separator_after (codes ",") xs ≡ codes ","
-comma_after [] = refl
-comma_after (x ∷ xs) = refl
+separator_after-comma : {A : Type 0} (xs : List A) → separator_after (codes ",") xs ≡ codes ","
+separator_after-comma [] = refl
+separator_after-comma (x ∷ xs) = refl
 
 -- the separator goes by whether there are items, and not by what their texts are
 separator_of-map : {A : Type 0} (f : A → List ℕ) (xs : List A)
@@ -44,15 +44,15 @@ listed_after-push : (first : List ℕ) (xs : List (List ℕ)) (x : List ℕ)
 listed_after-push first [] x = append-nil (first ++ x)
 listed_after-push first (y ∷ ys) x =
     ap (λ later. (first ++ y) ++ later) (listed_after-push (codes ",") ys x
-    ∙ ap (λ c. listed_after (codes ",") ys ++ (c ++ x)) (comma_after ys))
+    ∙ ap (λ c. listed_after (codes ",") ys ++ (c ++ x)) (separator_after-comma ys))
     ∙ sym (append_assoc (first ++ y) (listed_after (codes ",") ys) (codes "," ++ x))
 
 module _ {A : Type 0} (f : A → List ℕ) where
   -- one more item of a list is read
-  pub items_read : (s before after later separator : List ℕ) (xs new : List A) (x : A)
+  pub listed-push : (s before after later separator : List ℕ) (xs new : List A) (x : A)
       → new ≡ xs ++ x ∷ [] → s ≡ listed (map f xs) ++ before → before ≡ separator ++ after
       → after ≡ f x ++ later → separator ≡ separator_of xs → s ≡ listed (map f new) ++ later
-  items_read s before after later separator xs new x made e cut piece is =
+  listed-push s before after later separator xs new x made e cut piece is =
       let all = listed (map f xs) in
       e ∙ ap (λ r. all ++ r) (cut ∙ ap₂ (λ c r. c ++ r) is piece
       ∙ sym (append_assoc (separator_of xs) (f x) later))
@@ -63,21 +63,21 @@ module _ {A : Type 0} (f : A → List ℕ) where
       ∙ ap listed (sym (map_push f xs x) ∙ ap (map f) (sym made)))
 
 -- a comma comes next
-pub comma_next : {A : Type 0} (xs new : List A) (x : A) → new ≡ xs ++ x ∷ []
+pub separator_of-comma_next : {A : Type 0} (xs new : List A) (x : A) → new ≡ xs ++ x ∷ []
     → codes "," ≡ separator_of new
-comma_next {A} xs new x made =
-    sym (separator_pushed xs x) ∙ ap (λ (l : List A). separator_of l) (sym made)
+separator_of-comma_next {A} xs new x made =
+    sym (separator_of-push xs x) ∙ ap (λ (l : List A). separator_of l) (sym made)
 
 -- what holds of the items and of one more holds of all
-pub all_next : {A : Type 0} (P : A → Type 0) (xs new : List A) (x : A) → new ≡ xs ++ x ∷ []
+pub All-next : {A : Type 0} (P : A → Type 0) (xs new : List A) (x : A) → new ≡ xs ++ x ∷ []
     → All P xs → P x → All P new
-all_next {A} P xs new x made all here =
+All-next {A} P xs new x made all here =
     subst (λ (l : List A). All P l) (sym made) (All-push P xs x all here)
 
 -- what is kept of the items and of one more
-pub map_next : {A B : Type 0} (g : A → B) (xs new : List A) (x : A) → new ≡ xs ++ x ∷ []
+pub map-next : {A B : Type 0} (g : A → B) (xs new : List A) (x : A) → new ≡ xs ++ x ∷ []
     → map g new ≡ map g xs ++ g x ∷ []
-map_next g xs new x made = ap (map g) made ∙ map_push g xs x
+map-next g xs new x made = ap (map g) made ∙ map_push g xs x
 
 -- ---- flows, each with its place
 
@@ -96,28 +96,28 @@ zip-push (z ∷ xs) [] x y e =
 zip-push (z ∷ xs) (w ∷ ys) x y e = ap (λ l. (z, w) ∷ l) (zip-push xs ys x y e)
 
 -- no flow is read, and nothing stands before the first one
-pub no_flow : (flows : List Flow) (s : List ℕ) → s ≡ listed (flow_texts flows []) ++ s
-no_flow [] s = refl
-no_flow (f ∷ flows) s = refl
+pub flow_texts-none : (flows : List Flow) (s : List ℕ) → s ≡ listed (flow_texts flows []) ++ s
+flow_texts-none [] s = refl
+flow_texts-none (f ∷ flows) s = refl
 
-pub no_flow_separator : (flows : List Flow) → let none : List ℕ = [] in
+pub separator_of-none : (flows : List Flow) → let none : List ℕ = [] in
     [] ≡ separator_of (zip flows none)
-no_flow_separator [] = refl
-no_flow_separator (f ∷ flows) = refl
+separator_of-none [] = refl
+separator_of-none (f ∷ flows) = refl
 
 -- one more flow is read, with its place, and a comma comes next
-pub flows_read : (s before after later separator : List ℕ) (flows : List Flow)
+pub flow_texts-push : (s before after later separator : List ℕ) (flows : List Flow)
     (places new : List ℕ) (f : Flow) (place n : ℕ) → n ≡ length places
     → slice_get flows n ≡ Some f → new ≡ places ++ place ∷ []
     → s ≡ listed (flow_texts flows places) ++ before → before ≡ separator ++ after
     → after ≡ flow_text f place ++ later → separator ≡ separator_of (zip flows places)
     → (s ≡ listed (flow_texts flows new) ++ later) × (codes "," ≡ separator_of (zip flows new))
-flows_read s before after later separator flows places new f place n long here made e cut piece is =
+flow_texts-push s before after later separator flows places new f place n long here made e cut piece is =
     let there : slice_get flows (length places) ≡ Some f =
     ap (slice_get flows) (sym long) ∙ here in
     let grown : zip flows new ≡ zip flows places ++ (f, place) ∷ [] =
     ap (λ (l : List ℕ). zip flows l) made ∙ zip-push flows places f place there in (
-      items_read (λ (p : Flow × ℕ). flow_text p.0 p.1) s before after later separator
+      listed-push (λ (p : Flow × ℕ). flow_text p.0 p.1) s before after later separator
           (zip flows places) (zip flows new) (f, place) grown e cut piece is,
-      comma_next (zip flows places) (zip flows new) (f, place) grown,
+      separator_of-comma_next (zip flows places) (zip flows new) (f, place) grown,
     )

@@ -8,10 +8,10 @@ use Rattle.mc_topology.specs.declared.flow.Flow.{Flow}
 use Rattle.mc_cert.specs.CertificateText.{listed_after, flow_text, flow_texts}
 
 -- one more text is written behind its separator
-text_more : (separator before written now s : List ℕ) (rest : List (List ℕ))
+listed_after-text_more : (separator before written now s : List ℕ) (rest : List (List ℕ))
     → now ≡ (before ++ separator) ++ s → before ++ listed_after separator (s ∷ rest) ≡ written
     → now ++ listed_after (codes ",") rest ≡ written
-text_more separator before written now s rest e so_far =
+listed_after-text_more separator before written now s rest e so_far =
     let later = listed_after (codes ",") rest in
     ap (λ t. t ++ later) e ∙ append_assoc (before ++ separator) s later
     ∙ append_assoc before separator (s ++ later)
@@ -19,26 +19,26 @@ text_more separator before written now s rest e so_far =
 
 module _ {A : Type 0} (text_of : A → List ℕ) where
   -- one more item of a list
-  pub listed_more : (separator before written now : List ℕ) (items : List A) (i : ℕ) (item : A)
+  pub listed_after-more : (separator before written now : List ℕ) (items : List A) (i : ℕ) (item : A)
       → i < length items → item ≡ get_or items i item
       → now ≡ (before ++ separator) ++ text_of item
       → before ++ listed_after separator (map text_of (drop i items)) ≡ written
       → now ++ listed_after (codes ",") (map text_of (drop (i + 1) items)) ≡ written
-  listed_more separator before written now items i item lt is e so_far =
-      text_more separator before written now (text_of item) (map text_of (drop (i + 1) items)) e
+  listed_after-more separator before written now items i item lt is e so_far =
+      listed_after-text_more separator before written now (text_of item) (map text_of (drop (i + 1) items)) e
       (rw (drop_more items i item lt, ← is) at so_far)
 
 -- one more flow, with its place
-pub flow_more : (separator before written now : List ℕ) (flows : List Flow) (places : List ℕ)
+pub flow_texts-more : (separator before written now : List ℕ) (flows : List Flow) (places : List ℕ)
     (i : ℕ) (f : Flow) → slice_get flows i ≡ Some f → i < length places
     → now ≡ (before ++ separator) ++ flow_text f (get_or places i 0)
     → before ++ listed_after separator (flow_texts (drop i flows) (drop i places)) ≡ written
     → now ++ listed_after (codes ",") (flow_texts (drop (i + 1) flows) (drop (i + 1) places))
     ≡ written
-flow_more separator before written now flows places i f here lt e so_far =
+flow_texts-more separator before written now flows places i f here lt e so_far =
     let flows_left : drop i flows ≡ f ∷ drop (i + 1) flows =
     drop_more flows i f (slice_get_within flows i f here)
     ∙ ap (λ g. g ∷ drop (i + 1) flows) (get_or_from_slice_get flows i f f here) in
-    text_more separator before written now (flow_text f (get_or places i 0))
+    listed_after-text_more separator before written now (flow_text f (get_or places i 0))
     (flow_texts (drop (i + 1) flows) (drop (i + 1) places)) e
     (rw (flows_left, drop_more places i 0 lt) at so_far)

@@ -5,91 +5,91 @@ use Rattle.std.proofs.Common.{unwrap_or, inl, refl, sym, ap, ap₂, subst, ◌�
 use Rattle.std.proofs.Common.{append-nil}
 use Rattle.std.specs.List.{AllByRecursion}
 use Rattle.std.proofs.lemmas.List.{length-map}
-use Rattle.mc_topology.specs.Topology.{TopologyValue, IsTopology}
-use Rattle.mc_cert.specs.Certificate.{Tree, tree_at, IsList, IsOfBytes, IsEntryOf, BelongsTo}
+use Rattle.mc_topology.specs.Topology.{TopologyValue, IsValidTopology}
+use Rattle.mc_cert.specs.Certificate.{Tree, tree_at, IsWritableTree, HasByteNumbers, IsEntryOf, BelongsTo}
 use Rattle.mc_cert.specs.CertificateText.{certificate_text}
-use Rattle.mc_cert.specs.Distinct.{place_in, with_tree, distinct_trees, place_of}
-use Rattle.mc_cert.specs.Stands.{CertificateStands}
+use Rattle.mc_cert.specs.Distinct.{find_tree, with_tree, distinct_trees, tree_number_of}
+use Rattle.mc_cert.specs.Denotation.{DenotesCertificate}
 use Rattle.mc_cert.specs.Writable.{IsWritableTreeFor}
-use Rattle.mc_cert.proofs.DistinctLemmas.{with_known, with_new, place_of_new, place_stays}
-use Rattle.mc_cert.proofs.DistinctLemmas.{few_from, at_place, distinct_belong}
-use Rattle.mc_cert.proofs.Documents.{each_follows, each_map}
-use Rattle.mc_cert.proofs.TreesStand.{end_of, trees_stand}
+use Rattle.mc_cert.proofs.DistinctLemmas.{with_tree-known, with_tree-new, find_tree-push_new, find_tree-fold_with_tree}
+use Rattle.mc_cert.proofs.DistinctLemmas.{length-fold_with_tree, slice_get-find_tree, All-distinct_trees}
+use Rattle.mc_cert.proofs.Documents.{AllByRecursion-implies, AllByRecursion-map}
+use Rattle.mc_cert.proofs.TextDenotation.{IsTextEnd-from_rest, version_two_text-denotes}
 
 -- ---- the different trees
 
 -- each flow's tree is one of them
-found_all : (trees flows : List Tree) → AllByRecursion
-    (λ es. (k : ℕ) × (place_in (fold with_tree trees flows) es ≡ Some k)) flows
-found_all trees [] = tt
-found_all trees (es ∷ flows) = (
-  first (place_in trees es) refl,
-  found_all (with_tree trees es) flows,
+find_tree-each_flow : (trees flows : List Tree) → AllByRecursion
+    (λ es. (k : ℕ) × (find_tree (fold with_tree trees flows) es ≡ Some k)) flows
+find_tree-each_flow trees [] = tt
+find_tree-each_flow trees (es ∷ flows) = (
+  first (find_tree trees es) refl,
+  find_tree-each_flow (with_tree trees es) flows,
 ) where
-  first : (o : Option ℕ) → place_in trees es ≡ o
-      → (k : ℕ) × (place_in (fold with_tree (with_tree trees es) flows) es ≡ Some k)
+  first : (o : Option ℕ) → find_tree trees es ≡ o
+      → (k : ℕ) × (find_tree (fold with_tree (with_tree trees es) flows) es ≡ Some k)
   first (Some k) e = (
     k,
-    place_stays (with_tree trees es) es k flows
-        (ap (λ (ts : List Tree). place_in ts es) (with_known trees es k e) ∙ e),
+    find_tree-fold_with_tree (with_tree trees es) es k flows
+        (ap (λ (ts : List Tree). find_tree ts es) (with_tree-known trees es k e) ∙ e),
   )
   first None e = (
     length trees,
-    place_stays (with_tree trees es) es (length trees) flows
-        (ap (λ (ts : List Tree). place_in ts es) (with_new trees es e) ∙ place_of_new trees es e),
+    find_tree-fold_with_tree (with_tree trees es) es (length trees) flows
+        (ap (λ (ts : List Tree). find_tree ts es) (with_tree-new trees es e) ∙ find_tree-push_new trees es e),
   )
 
 -- the trees at the flows' places are the flows' own
-trees_placed : (trees flows : List Tree)
-    → AllByRecursion (λ es. (k : ℕ) × (place_in trees es ≡ Some k)) flows
-    → map (tree_at trees) (map (place_of trees) flows) ≡ flows
-trees_placed trees [] all = refl
-trees_placed trees (es ∷ flows) ((k, e), all) =
+tree_at-tree_number_of : (trees flows : List Tree)
+    → AllByRecursion (λ es. (k : ℕ) × (find_tree trees es ≡ Some k)) flows
+    → map (tree_at trees) (map (tree_number_of trees) flows) ≡ flows
+tree_at-tree_number_of trees [] all = refl
+tree_at-tree_number_of trees (es ∷ flows) ((k, e), all) =
     ap₂ (λ t ts. t ∷ ts)
     (ap (λ o. tree_at trees (unwrap_or o 0)) e
-    ∙ ap (λ o. unwrap_or o []) (at_place trees es k e).1)
-    (trees_placed trees flows all)
+    ∙ ap (λ o. unwrap_or o []) (slice_get-find_tree trees es k e).1)
+    (tree_at-tree_number_of trees flows all)
 
 -- a flow's place is one of them
-place_within : (trees : List Tree) (es : Tree) → (k : ℕ) × (place_in trees es ≡ Some k)
-    → place_of trees es < length trees
-place_within trees es (k, e) = omega (
+tree_number_of-below_length : (trees : List Tree) (es : Tree) → (k : ℕ) × (find_tree trees es ≡ Some k)
+    → tree_number_of trees es < length trees
+tree_number_of-below_length trees es (k, e) = omega (
   arith,
   ap (λ o. unwrap_or o 0) e,
-  (at_place trees es k e).0,
+  (slice_get-find_tree trees es k e).0,
 )
 
 -- ---- the text
 
 -- what is written stands for the certificate
-written_stands : (t : TopologyValue) (flows : List Tree) → IsTopology t
+certificate_text-denotes_by_trees : (t : TopologyValue) (flows : List Tree) → IsValidTopology t
     → length flows ≡ length t.flows → All (IsWritableTreeFor t) (distinct_trees flows)
     → length (certificate_text t flows) ≤ 16777216
-    → CertificateStands t (certificate_text t flows) flows
-written_stands t flows rules count all few =
+    → DenotesCertificate t (certificate_text t flows) flows
+certificate_text-denotes_by_trees t flows rules count all few =
     let trees = distinct_trees flows in
-    let places = map (place_of trees) flows in
+    let places = map (tree_number_of trees) flows in
     let few_trees : length trees ≤ 4096 = omega (
       arith,
-      few_from [] flows,
+      length-fold_with_tree [] flows,
       count,
       rules.few_flows,
     ) in
-    let at = found_all [] flows in
+    let at = find_tree-each_flow [] flows in
     let named : AllByRecursion (λ n. n < length trees) places =
-    each_map (λ n. n < length trees) (place_of trees) flows
-    (each_follows (λ es. (k : ℕ) × (place_in trees es ≡ Some k))
-    (λ es. place_of trees es < length trees) (place_within trees) flows at) in
-    subst (λ (own : List Tree). CertificateStands t (certificate_text t flows) own)
-    (trees_placed trees flows at)
-    (trees_stand t places trees (certificate_text t flows) [] rules
-    (omega (arith, length-map flows (place_of trees), count)) named few_trees all few
-    (sym (append-nil (certificate_text t flows))) (end_of [] (inl refl)))
+    AllByRecursion-map (λ n. n < length trees) (tree_number_of trees) flows
+    (AllByRecursion-implies (λ es. (k : ℕ) × (find_tree trees es ≡ Some k))
+    (λ es. tree_number_of trees es < length trees) (tree_number_of-below_length trees) flows at) in
+    subst (λ (own : List Tree). DenotesCertificate t (certificate_text t flows) own)
+    (tree_at-tree_number_of trees flows at)
+    (version_two_text-denotes t places trees (certificate_text t flows) [] rules
+    (omega (arith, length-map flows (tree_number_of trees), count)) named few_trees all few
+    (sym (append-nil (certificate_text t flows))) (IsTextEnd-from_rest [] (inl refl)))
 
 -- a list that a certificate can have, of bytes and of the topology, can be written
-writable_is : (t : TopologyValue) (es : Tree) → IsList es → All IsOfBytes es
+IsWritableTreeFor-from_parts : (t : TopologyValue) (es : Tree) → IsWritableTree es → All HasByteNumbers es
     → All (IsEntryOf t) es → IsWritableTreeFor t es
-writable_is t es list bytes among =
+IsWritableTreeFor-from_parts t es list bytes among =
     record {
       few = list.few;
       each = λ k d lt. record {
@@ -100,27 +100,27 @@ writable_is t es list bytes among =
     }
 
 -- the same by the different trees
-pub text_stands : (t : TopologyValue) (flows trees : List Tree) (text : List ℕ) → IsTopology t
-    → BelongsTo t flows → trees ≡ distinct_trees flows → All IsList trees
-    → All (All IsOfBytes) trees
-    → text ≡ certificate_text t flows → length text ≤ 16777216 → CertificateStands t text flows
-text_stands t flows trees text rules belongs made lists bytes is few =
-    let among : All (All (IsEntryOf t)) trees = distinct_belong
+pub certificate_text-denotes_as_written : (t : TopologyValue) (flows trees : List Tree) (text : List ℕ) → IsValidTopology t
+    → BelongsTo t flows → trees ≡ distinct_trees flows → All IsWritableTree trees
+    → All (All HasByteNumbers) trees
+    → text ≡ certificate_text t flows → length text ≤ 16777216 → DenotesCertificate t text flows
+certificate_text-denotes_as_written t flows trees text rules belongs made lists bytes is few =
+    let among : All (All (IsEntryOf t)) trees = All-distinct_trees
     (All (IsEntryOf t)) flows flows trees refl belongs.entries made in
-    let writable : All (IsWritableTreeFor t) trees = λ k d lt. writable_is t (get_or trees k d)
+    let writable : All (IsWritableTreeFor t) trees = λ k d lt. IsWritableTreeFor-from_parts t (get_or trees k d)
     (lists k d lt) (bytes k d lt) (among k d lt) in
     let short : length (certificate_text t flows) ≤ 16777216 =
     subst (λ (s : List ℕ). length s ≤ 16777216) is few in
-    subst (λ (s : List ℕ). CertificateStands t s flows) (sym is)
-    (written_stands t flows rules belongs.count
+    subst (λ (s : List ℕ). DenotesCertificate t s flows) (sym is)
+    (certificate_text-denotes_by_trees t flows rules belongs.count
     (subst (λ (ts : List Tree). All (IsWritableTreeFor t) ts) made writable) short)
 
 -- the text of a certificate that belongs to the topology
-pub texts_stand : (t : TopologyValue) (flows : List Tree) → IsTopology t → BelongsTo t flows
-    → All IsList flows → All (All IsOfBytes) flows → length (certificate_text t flows) ≤ 16777216
-    → CertificateStands t (certificate_text t flows) flows
-texts_stand t flows rules belongs lists bytes few =
+pub certificate_text-denotes : (t : TopologyValue) (flows : List Tree) → IsValidTopology t → BelongsTo t flows
+    → All IsWritableTree flows → All (All HasByteNumbers) flows → length (certificate_text t flows) ≤ 16777216
+    → DenotesCertificate t (certificate_text t flows) flows
+certificate_text-denotes t flows rules belongs lists bytes few =
     let trees = distinct_trees flows in
-    text_stands t flows trees (certificate_text t flows) rules belongs refl
-    (distinct_belong IsList flows flows trees refl lists refl)
-    (distinct_belong (All IsOfBytes) flows flows trees refl bytes refl) refl few
+    certificate_text-denotes_as_written t flows trees (certificate_text t flows) rules belongs refl
+    (All-distinct_trees IsWritableTree flows flows trees refl lists refl)
+    (All-distinct_trees (All HasByteNumbers) flows flows trees refl bytes refl) refl few

@@ -28,12 +28,12 @@ abbrev pub out_of_memory : CertFault
 out_of_memory = record { place = Top; kind = Memory }
 
 -- that memory ran out says nothing of a certificate
-abbrev pub IsMemory : CertFault → Type 0
-IsMemory fault = fault ≡ out_of_memory
+abbrev pub IsOutOfMemory : CertFault → Type 0
+IsOutOfMemory fault = fault ≡ out_of_memory
 
 -- what a call answers, seen by view, unless memory runs out
 abbrev pub Gives : {X Y : Type 0} → (X → Y) → Result X CertFault → Result Y CertFault → Type 0
-Gives = Steps.Gives IsMemory
+Gives = Steps.Gives IsOutOfMemory
 
 -- The values of rows, each read by its number, counted from 0, or the first fault.
 unfoldable pub each : {D X : Type 0} → (ℕ → D → Result X CertFault) → List X → List D

@@ -14,30 +14,30 @@ abbrev pub tree_at : List Tree → ℕ → Tree
 tree_at trees n = unwrap_or (slice_get trees n) []
 
 -- the tree of each flow: the trees in order, or those with these numbers
-abbrev pub flows_of : List Tree → Option (List ℕ) → List Tree
-flows_of trees None = trees
-flows_of trees (Some numbers) = map (tree_at trees) numbers
+abbrev pub trees_by_flow : List Tree → Option (List ℕ) → List Tree
+trees_by_flow trees None = trees
+trees_by_flow trees (Some numbers) = map (tree_at trees) numbers
 
 -- an entry that a certificate can name
-pub record IsWritable (e : Entry) : Type 0 where
+pub record IsWritableEntry (e : Entry) : Type 0 where
   pub need : 1 ≤ e.need
   pub vif : IfSome e.forwarder (λ i. i.1 ≤ 31)
 
 -- at most 1,024 of them
-pub record IsList (es : Tree) : Type 0 where
+pub record IsWritableTree (es : Tree) : Type 0 where
   pub few : length es ≤ 1024
-  pub each : All IsWritable es
+  pub each : All IsWritableEntry es
 
 -- an entry whose numbers are bytes, as those of every certificate in memory are
-pub record IsOfBytes (e : Entry) : Type 0 where
+pub record HasByteNumbers (e : Entry) : Type 0 where
   pub rank : e.rank ≤ 255
   pub need : e.need ≤ 255
 
 -- what every certificate keeps, by its trees and the numbers of the flows' trees
-pub record IsStored (trees : List Tree) (numbers : Option (List ℕ)) : Type 0 where
-  pub lists : All IsList trees
+pub record IsValidCertificate (trees : List Tree) (numbers : Option (List ℕ)) : Type 0 where
+  pub lists : All IsWritableTree trees
   pub named : (ns : List ℕ) → numbers ≡ Some ns → All (λ n. n < length trees) ns
-  pub few_flows : length (flows_of trees numbers) ≤ 4096
+  pub few_flows : length (trees_by_flow trees numbers) ≤ 4096
 
 -- the LAN of an entry and the router of its forwarder are the topology's
 pub record IsEntryOf (t : TopologyValue) (e : Entry) : Type 0 where

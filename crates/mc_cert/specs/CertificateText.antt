@@ -8,7 +8,7 @@ use Rattle.mc_theory.specs.Certificates.{Entry}
 use Rattle.mc_topology.specs.declared.flow.Flow.{Flow}
 use Rattle.mc_topology.specs.Topology.{TopologyValue, lan_name, router_name}
 use Rattle.mc_cert.specs.Certificate.{Tree}
-use Rattle.mc_cert.specs.Distinct.{distinct_trees, place_of}
+use Rattle.mc_cert.specs.Distinct.{distinct_trees, tree_number_of}
 
 -- texts one after the other, the first one behind this separator and each other one behind a comma
 abbrev pub listed_after : List ℕ → List (List ℕ) → List ℕ
@@ -45,13 +45,13 @@ abbrev pub flow_texts : List Flow → List ℕ → List (List ℕ)
 flow_texts flows places = map (λ p. flow_text p.0 p.1) (zip flows places)
 
 -- the flows of the topology with these places, and the trees
-abbrev pub text_of : TopologyValue → List ℕ → List Tree → List ℕ
-text_of t places trees =
+abbrev pub version_two_text : TopologyValue → List ℕ → List Tree → List ℕ
+version_two_text t places trees =
     codes "{\"flows\":[" ++ listed (flow_texts t.flows places) ++ codes "],\"trees\":["
     ++ listed (map (tree_text t) trees)
     ++ codes "],\"version\":2}"
 
 -- the text of a certificate: each different tree once, in the order of first use
 abbrev pub certificate_text : TopologyValue → List Tree → List ℕ
-certificate_text t flows = text_of t (map (place_of (distinct_trees flows)) flows)
+certificate_text t flows = version_two_text t (map (tree_number_of (distinct_trees flows)) flows)
     (distinct_trees flows)

@@ -20,17 +20,17 @@ abbrev pub same_tree : Tree → Tree → Bool
 same_tree = pointwise same_entry
 
 -- the place of a tree among trees, counted from 0
-abbrev pub place_in : List Tree → Tree → Option ℕ
-place_in trees es = position (same_tree es) trees
+abbrev pub find_tree : List Tree → Tree → Option ℕ
+find_tree trees es = position (same_tree es) trees
 
 -- the trees, and one more behind them if it is none of them
 abbrev pub with_tree : List Tree → Tree → List Tree
-with_tree trees es = if is_some (place_in trees es) then trees else trees ++ es ∷ []
+with_tree trees es = if is_some (find_tree trees es) then trees else trees ++ es ∷ []
 
 -- the different trees of flows, in the order of first use
 abbrev pub distinct_trees : List Tree → List Tree
 distinct_trees = fold with_tree []
 
 -- the place of a tree that stands among trees
-abbrev pub place_of : List Tree → Tree → ℕ
-place_of trees es = unwrap_or (place_in trees es) 0
+abbrev pub tree_number_of : List Tree → Tree → ℕ
+tree_number_of trees es = unwrap_or (find_tree trees es) 0

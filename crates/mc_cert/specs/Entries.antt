@@ -7,7 +7,7 @@ use Rattle.mc_theory.specs.Nets.{Interface}
 use Rattle.mc_theory.specs.Certificates.{Entry}
 use Rattle.mc_topology.specs.Answer.{◌>>=◌}
 use Rattle.mc_topology.specs.Names.{index_of}
-use Rattle.mc_topology.specs.Rows.{RouterRow}
+use Rattle.mc_topology.specs.SectionRows.{RouterRow}
 use Rattle.mc_topology.specs.Lookup.{router_no_of}
 use Rattle.mc_topology.specs.Topology.{TopologyValue}
 use Rattle.mc_cert.specs.declared.fault.At.{At}
@@ -15,7 +15,7 @@ use Rattle.mc_cert.specs.declared.fault.CertFaultKind.{CertFaultKind}
 use Rattle.mc_cert.specs.declared.fault.CertFaultKind.TheVariants.{MissingKey, UnknownName}
 use Rattle.mc_cert.specs.declared.fault.CertFault.{CertFault}
 use Rattle.mc_cert.specs.Answer.{place, entry_place, each}
-use Rattle.mc_cert.specs.Object.{text_of, number_of, text_at, whole_at, within, object_of}
+use Rattle.mc_cert.specs.Object.{text_of, number_of, text_at, whole_at, in_range, object_of}
 
 -- the keys of an entry
 abbrev pub entry_keys : List (List ℕ)
@@ -31,7 +31,7 @@ router_of routers d = text_of d >>= λ name. ok_or (router_no_of name routers) U
 
 -- a vif is 0 to 31
 unfoldable pub vif_of : Data → Result ℕ CertFaultKind
-vif_of d = number_of d >>= λ n. within 0 31 (as_u64 n)
+vif_of d = number_of d >>= λ n. in_range 0 31 (as_u64 n)
 
 -- the interface of a router and its vif, which stand there together or are both missing
 unfoldable pub forwarder_of : List RouterRow → Option Data → Option Data

@@ -53,13 +53,13 @@ unfoldable pub list_at : List ℕ → Members → Result (List Data) CertFaultKi
 list_at key ms = at_key key ms >>= list_of
 
 -- a whole number from low to high, of which there may be none
-abbrev pub within : ℕ → ℕ → Option ℕ → Result ℕ CertFaultKind
-within low high None = Err BadNumber
-within low high (Some n) = if nat_le low n && nat_le n high then Ok n else Err BadNumber
+abbrev pub in_range : ℕ → ℕ → Option ℕ → Result ℕ CertFaultKind
+in_range low high None = Err BadNumber
+in_range low high (Some n) = if nat_le low n && nat_le n high then Ok n else Err BadNumber
 
 -- a whole number from low to high, under a key that has to be there
 unfoldable pub whole_at : List ℕ → ℕ → ℕ → Members → Result ℕ CertFaultKind
-whole_at key low high ms = number_at key ms >>= λ n. within low high (as_u64 n)
+whole_at key low high ms = number_at key ms >>= λ n. in_range low high (as_u64 n)
 
 -- a list of at most so many
 unfoldable pub at_most : ℕ → List Data → Result (List Data) CertFaultKind

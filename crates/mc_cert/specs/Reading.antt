@@ -22,12 +22,12 @@ use Rattle.mc_cert.specs.VersionOne.{flows_in}
 use Rattle.mc_cert.specs.VersionTwo.{shared_flows_in}
 
 -- the value of a text, which is UTF-8 and JSON (else NotJson)
-unfoldable pub json_of : List ℕ → Result Data CertFaultKind
-json_of text = if is_utf8 text then ok_or (read text) NotJson else Err NotJson
+unfoldable pub parse_json : List ℕ → Result Data CertFaultKind
+parse_json text = if is_utf8 text then ok_or (read text) NotJson else Err NotJson
 
 -- a text has to have at most 16,777,216 bytes (else TooMany), and then to be JSON
-unfoldable pub value_of : List ℕ → Result Data CertFaultKind
-value_of text = if nat_le (length text) 16777216 then json_of text else Err TooMany
+unfoldable pub parse_bounded_json : List ℕ → Result Data CertFaultKind
+parse_bounded_json text = if nat_le (length text) 16777216 then parse_json text else Err TooMany
 
 -- the value of a text is an object (else BadKind)
 abbrev pub members_of : Data → Result Members CertFaultKind
@@ -52,14 +52,14 @@ version_in ms = do
   if has_only (top_keys version) ms then Ok version else Err UnknownKey
 
 -- the flows of a certificate of this version
-unfoldable pub flows_by : Version → TopologyValue → Members → Result (List Tree) CertFault
-flows_by One t ms = flows_in t ms
-flows_by Two t ms = shared_flows_in t ms
+unfoldable pub flows_of_version : Version → TopologyValue → Members → Result (List Tree) CertFault
+flows_of_version One t ms = flows_in t ms
+flows_of_version Two t ms = shared_flows_in t ms
 
 -- the certificate of a text: first the text as a whole, at `top`, and then its flows
-unfoldable pub reading_of : TopologyValue → List ℕ → Result (List Tree) CertFault
-reading_of t text = do
-  value ← place Top (value_of text)
+unfoldable pub parse_certificate : TopologyValue → List ℕ → Result (List Tree) CertFault
+parse_certificate t text = do
+  value ← place Top (parse_bounded_json text)
   members ← place Top (members_of value)
   version ← place Top (version_in members)
-  flows_by version t members
+  flows_of_version version t members

@@ -17,8 +17,8 @@ use Rattle.mc_cert.specs.Entries.{entries_of}
 use Rattle.mc_cert.specs.Object.{object_of, text_at, list_at, at_most}
 
 -- the texts are the flow's group and its source
-abbrev pub is_flow : Flow → List ℕ → List ℕ → Bool
-is_flow f group source = bytes_eq group (dotted f.group) && bytes_eq source (dotted f.source)
+abbrev pub are_texts_of_flow : Flow → List ℕ → List ℕ → Bool
+are_texts_of_flow f group source = bytes_eq group (dotted f.group) && bytes_eq source (dotted f.source)
 
 -- the flow of the topology with this number
 abbrev pub flow_at : TopologyValue → ℕ → Result Flow CertFaultKind
@@ -39,19 +39,19 @@ flow_keys = codes "group" ∷ codes "reached" ∷ codes "source" ∷ []
 -- `reached` and `source`, in this order, each have to be there (MissingKey), and to be a text, a
 -- list and a text (BadKind). The group and the source are those of the topology's flow
 -- (WrongFlows), and there are at most 1,024 entries (TooMany).
-unfoldable pub reached_of : Flow → Data → Result (List Data) CertFaultKind
-reached_of f d = do
+unfoldable pub reached_rows : Flow → Data → Result (List Data) CertFaultKind
+reached_rows f d = do
   members ← object_of flow_keys d
   group ← text_at (codes "group") members
   rows ← list_at (codes "reached") members
   source ← text_at (codes "source") members
-  if is_flow f group source then at_most 1024 rows else Err WrongFlows
+  if are_texts_of_flow f group source then at_most 1024 rows else Err WrongFlows
 
 -- the flow with this number, counted from 0, and then its entries
 unfoldable pub flow_of : TopologyValue → ℕ → Data → Result Tree CertFault
 flow_of t n d = do
   flow ← place (at.Flow (n + 1)) (flow_at t n)
-  rows ← place (at.Flow (n + 1)) (reached_of flow d)
+  rows ← place (at.Flow (n + 1)) (reached_rows flow d)
   entries_of t (at.Flow (n + 1)) rows
 
 -- the flows from the front

@@ -14,7 +14,7 @@ use Rattle.mc_cert.specs.Answer.{place, each}
 use Rattle.mc_cert.specs.Certificate.{Tree, tree_at}
 use Rattle.mc_cert.specs.Entries.{entries_of}
 use Rattle.mc_cert.specs.Object.{object_of, list_of, text_at, number_at, list_at, at_most}
-use Rattle.mc_cert.specs.VersionOne.{is_flow, flow_at, flow_rows}
+use Rattle.mc_cert.specs.VersionOne.{are_texts_of_flow, flow_at, flow_rows}
 
 -- The list of trees has to be there (else MissingKey), to be a list (BadKind), and to have at most
 -- 4,096 of them (TooMany).
@@ -22,23 +22,23 @@ unfoldable pub tree_rows : Members → Result (List Data) CertFaultKind
 tree_rows ms = list_at (codes "trees") ms >>= at_most 4096
 
 -- a tree has to be a list (else BadKind) of at most 1,024 entries (TooMany)
-unfoldable pub listed_of : Data → Result (List Data) CertFaultKind
-listed_of d = list_of d >>= at_most 1024
+unfoldable pub tree_entry_rows : Data → Result (List Data) CertFaultKind
+tree_entry_rows d = list_of d >>= at_most 1024
 
 -- a tree, whose entries are judged before the next tree
 unfoldable pub tree_of : TopologyValue → ℕ → Data → Result Tree CertFault
 tree_of t n d = do
-  rows ← place (at.Tree (n + 1)) (listed_of d)
+  rows ← place (at.Tree (n + 1)) (tree_entry_rows d)
   entries_of t (at.Tree (n + 1)) rows
 
 -- a whole number below a count, of which there may be none
-abbrev pub below : ℕ → Option ℕ → Result ℕ CertFaultKind
-below count None = Err BadNumber
-below count (Some n) = if nat_lt n count then Ok n else Err BadNumber
+abbrev pub below_count : ℕ → Option ℕ → Result ℕ CertFaultKind
+below_count count None = Err BadNumber
+below_count count (Some n) = if nat_lt n count then Ok n else Err BadNumber
 
 -- the keys of a flow
-abbrev pub shared_keys : List (List ℕ)
-shared_keys = codes "group" ∷ codes "source" ∷ codes "tree" ∷ []
+abbrev pub shared_flow_keys : List (List ℕ)
+shared_flow_keys = codes "group" ∷ codes "source" ∷ codes "tree" ∷ []
 
 -- A flow, which has to be an object (else BadKind) of no other keys (UnknownKey). Then `group`,
 -- `source` and `tree`, in this order, each have to be there (MissingKey), and to be a text, a text
@@ -46,12 +46,12 @@ shared_keys = codes "group" ∷ codes "source" ∷ codes "tree" ∷ []
 -- group and the source are those of the topology's flow (WrongFlows).
 unfoldable pub tree_no_of : Flow → ℕ → Data → Result ℕ CertFaultKind
 tree_no_of f trees d = do
-  members ← object_of shared_keys d
+  members ← object_of shared_flow_keys d
   group ← text_at (codes "group") members
   source ← text_at (codes "source") members
   number ← number_at (codes "tree") members
-  tree ← below trees (as_u64 number)
-  if is_flow f group source then Ok tree else Err WrongFlows
+  tree ← below_count trees (as_u64 number)
+  if are_texts_of_flow f group source then Ok tree else Err WrongFlows
 
 -- the flow with this number, counted from 0
 unfoldable pub shared_flow_of : TopologyValue → ℕ → ℕ → Data → Result ℕ CertFault

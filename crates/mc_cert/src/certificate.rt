@@ -2,12 +2,12 @@
 
 ghost use Rattle.std.specs.Prelude.{◌≡◌, ◌<◌, ◌≤◌, All, length, map, Some, None, slice_get};
 ghost use Rattle.std.specs.Prelude.{option_map, string_bytes};
-ghost use Rattle.mc_cert.specs.Certificate.{IsList, flows_of, tree_at};
+ghost use Rattle.mc_cert.specs.Certificate.{IsWritableTree, trees_by_flow, tree_at};
 
 use crate::compact::compact_certificate;
 use crate::fault::CertFault;
 use crate::reached::{FlowCert, Reached};
-use crate::read::reading_of;
+use crate::read::parse_certificate;
 use crate::trees::Trees;
 use mc_text::Memory;
 use mc_topology::Topology;
@@ -34,14 +34,14 @@ impl Drop for Certificate {
 
 impl Model for Certificate {
     ghost use Rattle.std.specs.Prelude.{List, option_map, map};
-    ghost use Rattle.mc_cert.specs.Certificate.{Tree, flows_of, IsStored};
+    ghost use Rattle.mc_cert.specs.Certificate.{Tree, trees_by_flow, IsValidCertificate};
 
     ghost Value = { List Tree };
 
-    ghost view = { λ c. flows_of (map (λ t. t.items) c.trees.items)
+    ghost view = { λ c. trees_by_flow (map (λ t. t.items) c.trees.items)
         (option_map (λ n. n.items) c.tree_of_flow) };
 
-    ghost invariant = { λ c. IsStored (map (λ t. t.items) c.trees.items)
+    ghost invariant = { λ c. IsValidCertificate (map (λ t. t.items) c.trees.items)
         (option_map (λ n. n.items) c.tree_of_flow) };
 }
 
@@ -50,8 +50,8 @@ impl Certificate {
     ghost use Rattle.mc_cert.specs.Answer.{Gives};
     ghost use Rattle.mc_cert.specs.Certificate.{Tree, BelongsTo};
     ghost use Rattle.mc_cert.specs.CertificateText.{certificate_text};
-    ghost use Rattle.mc_cert.specs.Reading.{reading_of};
-    ghost use Rattle.mc_cert.specs.Stands.{CertificateStands};
+    ghost use Rattle.mc_cert.specs.Reading.{parse_certificate};
+    ghost use Rattle.mc_cert.specs.Denotation.{DenotesCertificate};
 
     /// Reads a certificate of version 1 or 2 of this topology: at most 16,777,216 bytes of JSON,
     /// and lists of at most 1,024 entries, of which version 2 has at most 4,096. Each part is
@@ -59,18 +59,18 @@ impl Certificate {
     /// place. `Memory`, at `top`, where a growth was refused.
     pub fn read(alloc: Global, text: &[u8], topology: &Topology) -> Result<Certificate, CertFault>
         // What is read is what the text stands for.
-        ensures found { IfOk result (CertificateStands topology.now text.now) }
+        ensures found { IfOk result (DenotesCertificate topology.now text.now) }
         // A text that stands for a certificate is read as that, unless memory runs out.
-        ensures only { (flows : List Tree) → CertificateStands topology.now text.now flows →
+        ensures only { (flows : List Tree) → DenotesCertificate topology.now text.now flows →
             Gives (λ c. c) result (Ok flows) }
         // Which fault it is.
-        ensures fault { Gives (λ c. c) result (reading_of topology.now text.now) }
+        ensures fault { Gives (λ c. c) result (parse_certificate topology.now text.now) }
     {
         // What `to_json` writes is read with no tree of values, and every other text with one.
         if let Ok(certificate) = compact_certificate(alloc, topology, text) {
             return Ok(certificate);
         }
-        reading_of(alloc, topology, text)
+        parse_certificate(alloc, topology, text)
     }
 
     /// The certificate of these lists, one a flow, in the order of the topology's flows: at most
@@ -78,7 +78,7 @@ impl Certificate {
     /// 31.
     pub fn from_flows(flows: Vec<Vec<Reached>>) -> Certificate
         requires few { length flows.items ≤ 4096 }
-        requires lists { All IsList (map (λ t. t.items) flows.items) }
+        requires lists { All IsWritableTree (map (λ t. t.items) flows.items) }
         ensures { result ≡ map (λ t. t.items) flows.items }
     {
         Certificate {
@@ -92,7 +92,7 @@ impl Certificate {
     /// vif of at most 31.
     pub fn from_trees(trees: Vec<Vec<Reached>>, tree_of_flow: Vec<u32>) -> Certificate
         requires few { length tree_of_flow.items ≤ 4096 }
-        requires lists { All IsList (map (λ t. t.items) trees.items) }
+        requires lists { All IsWritableTree (map (λ t. t.items) trees.items) }
         requires named { All (λ n. n < length trees.items) tree_of_flow.items }
         ensures { result ≡ map (tree_at (map (λ t. t.items) trees.items)) tree_of_flow.items }
     {
@@ -126,10 +126,10 @@ impl Certificate {
     }
 
     /// The same, and what it keeps.
-    fn listed_tree(&self, flow: u32) -> &[Reached]
+    fn writable_tree(&self, flow: u32) -> &[Reached]
         requires { flow < length self.now }
         ensures tree { slice_get self.now flow ≡ Some result.now }
-        ensures list { IsList result.now }
+        ensures list { IsWritableTree result.now }
     {
         let _trees = &self.trees;
         self.tree(flow)
@@ -145,13 +145,13 @@ impl Certificate {
         ensures group { option_map (λ f. f.group) (slice_get topology.now.flows flow) ≡
             Some result.group }
         ensures reached { slice_get self.now flow ≡ Some result.reached.now }
-        ensures list { IsList result.reached.now }
+        ensures list { IsWritableTree result.reached.now }
     {
         let listed = topology.flow(flow);
         FlowCert {
             source: listed.source,
             group: listed.group,
-            reached: self.listed_tree(flow),
+            reached: self.writable_tree(flow),
         }
     }
 
@@ -161,7 +161,7 @@ impl Certificate {
     {
         let mut trees = Trees::new(alloc);
         for flow in 0..self.flows() {
-            let tree = Vec::from_slice(alloc, self.listed_tree(flow))?;
+            let tree = Vec::from_slice(alloc, self.writable_tree(flow))?;
             trees.push(tree)?;
         }
         Ok(trees)
@@ -174,8 +174,8 @@ impl Certificate {
         requires { BelongsTo topology.now self.now }
         ensures text { IfOk result (λ text. string_bytes text
             ≡ certificate_text topology.now self.now) }
-        ensures stands { IfOk result (λ text. length (string_bytes text) ≤ 16777216 →
-            CertificateStands topology.now (string_bytes text) self.now) }
+        ensures denotes { IfOk result (λ text. length (string_bytes text) ≤ 16777216 →
+            DenotesCertificate topology.now (string_bytes text) self.now) }
     {
         self.to_trees(alloc)?.to_json(alloc, topology)
     }

@@ -7,12 +7,12 @@ ghost use Rattle.mc_text.specs.Addr.{dotted};
 ghost use Rattle.mc_topology.specs.Topology.{lan_name, router_name};
 ghost use Rattle.mc_cert.specs.CertificateText.{listed, forwarder_text};
 ghost use Rattle.mc_cert.specs.CertificateText.{entry_text, tree_text, flow_text, flow_texts};
-ghost use Rattle.mc_cert.specs.Stands.{CertificateStands};
-ghost use Rattle.mc_cert.specs.Writable.{IsWritableFor, IsWritableTreeFor};
+ghost use Rattle.mc_cert.specs.Denotation.{DenotesCertificate};
+ghost use Rattle.mc_cert.specs.Writable.{IsWritableEntryFor, IsWritableTreeFor};
 
 use crate::certificate::Certificate;
 use crate::entry::MAX_ENTRIES;
-use crate::pieces::{behind, number, quoted};
+use crate::pieces::{after_prefix, number, read_until_quote};
 use crate::reached::Reached;
 use crate::version_two::MAX_TREES;
 use mc_text::{Addr, MAX_TEXT};
@@ -21,17 +21,17 @@ use std::alloc::{AllocError, AllocFailed, Global};
 
 /// The text isn't in that form, or memory ran out.
 #[derive(Drop)]
-pub(crate) struct Unread;
+pub(crate) struct NotCompact;
 
-impl From<AllocError> for Unread {
-    fn from(_refused: AllocError) -> Unread {
-        Unread
+impl From<AllocError> for NotCompact {
+    fn from(_refused: AllocError) -> NotCompact {
+        NotCompact
     }
 }
 
-impl<T: Drop> From<AllocFailed<T>> for Unread {
-    fn from(_refused: AllocFailed<T>) -> Unread {
-        Unread
+impl<T: Drop> From<AllocFailed<T>> for NotCompact {
+    fn from(_refused: AllocFailed<T>) -> NotCompact {
+        NotCompact
     }
 }
 
@@ -40,7 +40,7 @@ fn read_lan<'a>(topology: &Topology, text: &'a [u8]) -> Option<(LanNo, &'a [u8])
     ensures text { IfSome result (λ r. text.now ≡ lan_name topology.now r.0 ++ r.1.now) }
     ensures listed { IfSome result (λ r. r.0 < length topology.now.lans) }
 {
-    let (name, rest) = quoted(text)?;
+    let (name, rest) = read_until_quote(text)?;
     let lan = topology.lan_no(name)?;
     Some((lan, rest))
 }
@@ -50,16 +50,16 @@ fn read_router<'a>(topology: &Topology, text: &'a [u8]) -> Option<(RouterNo, &'a
     ensures text { IfSome result (λ r. text.now ≡ router_name topology.now r.0 ++ r.1.now) }
     ensures listed { IfSome result (λ r. r.0 < length topology.now.routers) }
 {
-    let (name, rest) = quoted(text)?;
+    let (name, rest) = read_until_quote(text)?;
     let router = topology.router_no(name)?;
     Some((router, rest))
 }
 
 /// What stands behind the address at the front of the text.
-fn behind_address<'a>(text: &'a [u8], address: Addr) -> Option<&'a [u8]>
+fn after_address<'a>(text: &'a [u8], address: Addr) -> Option<&'a [u8]>
     ensures { IfSome result (λ rest. text.now ≡ dotted address ++ rest.now) }
 {
-    let (word, rest) = quoted(text)?;
+    let (word, rest) = read_until_quote(text)?;
     let found = Addr::parse_dotted(word.as_bytes())?;
     if found != address {
         return None;
@@ -73,9 +73,9 @@ fn read_numbers(text: &[u8]) -> Option<(u8, u8, &[u8])>
         (codes "\",\"need\":" ++ decimal r.0 ++ codes ",\"rank\":" ++ decimal r.1) ++ r.2.now) }
     ensures need { IfSome result (λ r. 1 ≤ r.0) }
 {
-    let rest = behind(text, b"\",\"need\":")?;
+    let rest = after_prefix(text, b"\",\"need\":")?;
     let (need, rest) = number(rest)?;
-    let rest = behind(rest, b",\"rank\":")?;
+    let rest = after_prefix(rest, b",\"rank\":")?;
     let (rank, rest) = number(rest)?;
     if need == 0 || need > 255 || rank > 255 {
         return None;
@@ -94,13 +94,13 @@ fn read_forwarder<'a>(
         IfSome r.0 (λ i. i.0 < length topology.now.routers)) }
     ensures vif { IfSome result (λ r. IfSome r.0 (λ i. i.1 ≤ 31)) }
 {
-    let Some(named) = behind(text, b",\"router\":\"") else {
+    let Some(named) = after_prefix(text, b",\"router\":\"") else {
         return Some((None, text));
     };
     let Some((router, rest)) = read_router(topology, named) else {
         return None;
     };
-    let rest = behind(rest, b"\",\"vif\":")?;
+    let rest = after_prefix(rest, b"\",\"vif\":")?;
     let (vif, rest) = number(rest)?;
     if vif > 31 {
         return None;
@@ -111,9 +111,9 @@ fn read_forwarder<'a>(
 /// The entry at the front of the text, and what stands behind it.
 fn read_entry<'a>(topology: &Topology, text: &'a [u8]) -> Option<(Reached, &'a [u8])>
     ensures text { IfSome result (λ r. text.now ≡ entry_text topology.now r.0 ++ r.1.now) }
-    ensures writable { IfSome result (λ r. IsWritableFor topology.now r.0) }
+    ensures writable { IfSome result (λ r. IsWritableEntryFor topology.now r.0) }
 {
-    let rest = behind(text, b"{\"lan\":\"")?;
+    let rest = after_prefix(text, b"{\"lan\":\"")?;
     let Some((lan, rest)) = read_lan(topology, rest) else {
         return None;
     };
@@ -121,7 +121,7 @@ fn read_entry<'a>(topology: &Topology, text: &'a [u8]) -> Option<(Reached, &'a [
     let Some((forwarder, rest)) = read_forwarder(topology, rest) else {
         return None;
     };
-    let rest = behind(rest, b"}")?;
+    let rest = after_prefix(rest, b"}")?;
     let entry = Reached {
         lan,
         rank,
@@ -136,13 +136,13 @@ fn read_tree<'a>(
     alloc: Global,
     topology: &Topology,
     text: &'a [u8],
-) -> Result<(Vec<Reached>, &'a [u8]), Unread>
+) -> Result<(Vec<Reached>, &'a [u8]), NotCompact>
     ensures text { IfOk result (λ r.
         text.now ≡ tree_text topology.now r.0.items ++ r.1.now) }
     ensures writable { IfOk result (λ r. IsWritableTreeFor topology.now r.0.items) }
 {
-    let Some(mut rest) = behind(text, b"[") else {
-        return Err(Unread);
+    let Some(mut rest) = after_prefix(text, b"[") else {
+        return Err(NotCompact);
     };
     let mut entries = Vec::new(alloc);
     let mut separator: &[u8] = b"";
@@ -150,18 +150,18 @@ fn read_tree<'a>(
         if rest.starts_with(b"]") {
             break;
         }
-        let Some(after) = behind(rest, separator) else {
-            return Err(Unread);
+        let Some(after) = after_prefix(rest, separator) else {
+            return Err(NotCompact);
         };
         let Some((entry, after)) = read_entry(topology, after) else {
-            return Err(Unread);
+            return Err(NotCompact);
         };
         entries.push(entry)?;
         rest = after;
         separator = b",";
     }
-    let Some(rest) = behind(rest, b"]") else {
-        return Err(Unread);
+    let Some(rest) = after_prefix(rest, b"]") else {
+        return Err(NotCompact);
     };
     Ok((entries, rest))
 }
@@ -171,7 +171,7 @@ fn read_trees<'a>(
     alloc: Global,
     topology: &Topology,
     text: &'a [u8],
-) -> Result<(Vec<Vec<Reached>>, &'a [u8]), Unread>
+) -> Result<(Vec<Vec<Reached>>, &'a [u8]), NotCompact>
     ensures text { IfOk result (λ r. text.now ≡
         listed (map (tree_text topology.now) (map (λ t. t.items) r.0.items)) ++ r.1.now) }
     ensures writable { IfOk result (λ r.
@@ -185,11 +185,11 @@ fn read_trees<'a>(
         if rest.starts_with(b"]") {
             break;
         }
-        let Some(after) = behind(rest, separator) else {
-            return Err(Unread);
+        let Some(after) = after_prefix(rest, separator) else {
+            return Err(NotCompact);
         };
         let Ok((tree, after)) = read_tree(alloc, topology, after) else {
-            return Err(Unread);
+            return Err(NotCompact);
         };
         trees.push(tree)?;
         rest = after;
@@ -203,13 +203,13 @@ fn read_trees<'a>(
 fn read_flow<'a>(flow: &Flow, text: &'a [u8]) -> Option<(u32, &'a [u8])>
     ensures { IfSome result (λ r. text.now ≡ flow_text flow.now r.0 ++ r.1.now) }
 {
-    let rest = behind(text, b"{\"group\":\"")?;
-    let rest = behind_address(rest, flow.group)?;
-    let rest = behind(rest, b"\",\"source\":\"")?;
-    let rest = behind_address(rest, flow.source)?;
-    let rest = behind(rest, b"\",\"tree\":")?;
+    let rest = after_prefix(text, b"{\"group\":\"")?;
+    let rest = after_address(rest, flow.group)?;
+    let rest = after_prefix(rest, b"\",\"source\":\"")?;
+    let rest = after_address(rest, flow.source)?;
+    let rest = after_prefix(rest, b"\",\"tree\":")?;
     let (place, rest) = number(rest)?;
-    let rest = behind(rest, b"}")?;
+    let rest = after_prefix(rest, b"}")?;
     Some((place, rest))
 }
 
@@ -219,7 +219,7 @@ fn read_flows<'a>(
     alloc: Global,
     topology: &Topology,
     text: &'a [u8],
-) -> Result<(Vec<u32>, &'a [u8]), Unread>
+) -> Result<(Vec<u32>, &'a [u8]), NotCompact>
     ensures text { IfOk result (λ r. text.now ≡
         listed (flow_texts topology.now.flows r.0.items) ++ r.1.now) }
     ensures count { IfOk result (λ r. vec_len r.0 ≡ length topology.now.flows) }
@@ -228,11 +228,11 @@ fn read_flows<'a>(
     let mut places = Vec::new(alloc);
     let mut separator: &[u8] = b"";
     for number in 0..topology.flows() {
-        let Some(after) = behind(rest, separator) else {
-            return Err(Unread);
+        let Some(after) = after_prefix(rest, separator) else {
+            return Err(NotCompact);
         };
         let Some((place, after)) = read_flow(topology.flow(number), after) else {
-            return Err(Unread);
+            return Err(NotCompact);
         };
         places.push(place)?;
         rest = after;
@@ -263,30 +263,30 @@ pub(crate) fn compact_certificate(
     alloc: Global,
     topology: &Topology,
     text: &[u8],
-) -> Result<Certificate, Unread>
-    ensures { IfOk result (CertificateStands topology.now text.now) }
+) -> Result<Certificate, NotCompact>
+    ensures { IfOk result (DenotesCertificate topology.now text.now) }
 {
     if text.len() > MAX_TEXT {
-        return Err(Unread);
+        return Err(NotCompact);
     }
     let _rules = topology.flows();
-    let Some(rest) = behind(text, b"{\"flows\":[") else {
-        return Err(Unread);
+    let Some(rest) = after_prefix(text, b"{\"flows\":[") else {
+        return Err(NotCompact);
     };
     let Ok((places, rest)) = read_flows(alloc, topology, rest) else {
-        return Err(Unread);
+        return Err(NotCompact);
     };
-    let Some(rest) = behind(rest, b"],\"trees\":[") else {
-        return Err(Unread);
+    let Some(rest) = after_prefix(rest, b"],\"trees\":[") else {
+        return Err(NotCompact);
     };
     let Ok((trees, rest)) = read_trees(alloc, topology, rest) else {
-        return Err(Unread);
+        return Err(NotCompact);
     };
-    let Some(rest) = behind(rest, b"],\"version\":2}") else {
-        return Err(Unread);
+    let Some(rest) = after_prefix(rest, b"],\"version\":2}") else {
+        return Err(NotCompact);
     };
     if !is_end(rest) || !are_below(&places, trees.len()) {
-        return Err(Unread);
+        return Err(NotCompact);
     }
     Ok(Certificate::from_trees(trees, places))
 }

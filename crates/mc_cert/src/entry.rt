@@ -2,15 +2,15 @@
 
 ghost use Rattle.std.specs.Prelude.{◌≡◌, ◌+◌, ◌<◌, ◌≤◌, map, length, option_map};
 ghost use Rattle.serde_json.specs.View.{view, members_view};
-ghost use Rattle.mc_topology.specs.Answer.{Answers};
+ghost use Rattle.mc_topology.specs.Answer.{ResultsAgree};
 ghost use Rattle.mc_cert.specs.Answer.{Gives, place, entry_place};
 ghost use Rattle.mc_cert.specs.Entries.{lan_in, router_of, vif_of, forwarder_of, entry_of};
 ghost use Rattle.mc_cert.specs.Entries.{entries_of};
 
 use crate::fault::{At, CertFault, CertFaultKind};
-use crate::object::{number_of, object_of, text_at, text_of, value_at, whole_at, within};
+use crate::object::{number_of, object_of, text_at, text_of, value_at, whole_at, in_range};
 use crate::reached::Reached;
-use crate::rows::{Rows, each};
+use crate::rows::{RowReader, each};
 use mc_topology::{LanNo, RouterNo, Topology};
 use serde_json::{Map, Value};
 use std::alloc::Global;
@@ -21,7 +21,7 @@ pub(crate) const MAX_ENTRIES: usize = 1024;
 /// The LAN whose name stands under `lan`.
 #[tactic(auto, unfolding(crate::specs::Entries::lan_in))]
 fn lan_in(topology: &Topology, object: &Map<String, Value>) -> Result<LanNo, CertFaultKind>
-    ensures { Answers (λ lan. lan) result
+    ensures { ResultsAgree (λ lan. lan) result
         (lan_in topology.now.lans (members_view object.now.entries)) }
 {
     let name = text_at(object, "lan")?;
@@ -31,7 +31,7 @@ fn lan_in(topology: &Topology, object: &Map<String, Value>) -> Result<LanNo, Cer
 /// The router whose name a value is.
 #[tactic(auto, unfolding(crate::specs::Entries::router_of))]
 fn router_of(topology: &Topology, value: &Value) -> Result<RouterNo, CertFaultKind>
-    ensures { Answers (λ router. router) result
+    ensures { ResultsAgree (λ router. router) result
         (router_of topology.now.routers (view value.now)) }
 {
     let name = text_of(value)?;
@@ -41,10 +41,10 @@ fn router_of(topology: &Topology, value: &Value) -> Result<RouterNo, CertFaultKi
 /// The vif that a value is.
 #[tactic(auto, unfolding(crate::specs::Entries::vif_of))]
 fn vif_of(value: &Value) -> Result<u8, CertFaultKind>
-    ensures { Answers (λ vif. vif) result (vif_of (view value.now)) }
+    ensures { ResultsAgree (λ vif. vif) result (vif_of (view value.now)) }
 {
     let number = number_of(value)?;
-    within(0, 31, number)
+    in_range(0, 31, number)
 }
 
 /// The interface that sends, by the values of its router and its vif.
@@ -54,7 +54,7 @@ fn forwarder_of(
     router: Option<&Value>,
     vif: Option<&Value>,
 ) -> Result<Option<(RouterNo, u8)>, CertFaultKind>
-    ensures { Answers (λ forwarder. forwarder) result
+    ensures { ResultsAgree (λ forwarder. forwarder) result
         (forwarder_of topology.now.routers (option_map (λ v. view v.now) router.entry)
         (option_map (λ v. view v.now) vif.entry)) }
 {
@@ -72,7 +72,7 @@ fn forwarder_of(
 /// Reads one entry.
 #[tactic(auto, unfolding(crate::specs::Entries::entry_of))]
 fn entry_of(topology: &Topology, value: &Value) -> Result<Reached, CertFaultKind>
-    ensures { Answers (λ entry. entry) result (entry_of topology.now (view value.now)) }
+    ensures { ResultsAgree (λ entry. entry) result (entry_of topology.now (view value.now)) }
 {
     let object = object_of(value, &["lan", "need", "rank", "router", "vif"])?;
     let lan = lan_in(topology, object)?;
@@ -98,7 +98,7 @@ struct Entries<'t> {
     list: At,
 }
 
-impl<'t> Rows for Entries<'t> {
+impl<'t> RowReader for Entries<'t> {
     ghost use Rattle.mc_cert.specs.declared.entry.TheConstants.{MAX_ENTRIES};
     ghost use Rattle.mc_theory.specs.Certificates.{Entry};
 
@@ -106,11 +106,11 @@ impl<'t> Rows for Entries<'t> {
 
     ghost Row = { Entry };
 
-    ghost seen = { λ entry. entry };
+    ghost item_view = { λ entry. entry };
 
-    ghost may = { λ _ n. n < MAX_ENTRIES };
+    ghost is_row_number = { λ _ n. n < MAX_ENTRIES };
 
-    ghost one = { λ entries n d.
+    ghost row_value = { λ entries n d.
         place (entry_place entries.list (n + 1)) (entry_of entries.topology.now d) };
 
     /// Reads an entry, and adds to a fault its place.

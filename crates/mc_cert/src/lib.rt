@@ -4,7 +4,7 @@
 
 mod certificate;
 mod compact;
-mod different;
+mod distinct;
 mod entry;
 mod fault;
 mod laws;
@@ -17,14 +17,14 @@ mod trees;
 mod version;
 mod version_one;
 mod version_two;
-mod written;
+mod json_text;
 
 pub use certificate::Certificate;
-pub use different::DifferentTrees;
+pub use distinct::DistinctTrees;
 pub use fault::{At, CertFault, CertFaultKind};
 pub use laws::{
-    a_line_feed_changes_nothing, certificates_are_read_as_they_stand,
-    texts_of_certificates_stand_for_them, texts_stand_for_certificates,
+    trailing_line_feed_changes_nothing, read_gives_the_denoted_certificate,
+    certificate_text_denotes_certificate, denoted_certificate_belongs_to_topology,
 };
 pub use reached::{FlowCert, Reached};
 pub use trees::Trees;

@@ -6,15 +6,15 @@ ghost use Rattle.std.specs.List.{list_all, list_any};
 ghost use Rattle.std.specs.Str.{bytes_eq};
 ghost use Rattle.serde_json.specs.Find.{get_member, as_u64};
 ghost use Rattle.serde_json.specs.View.{view, number_view, members_view};
-ghost use Rattle.mc_topology.specs.Answer.{Answers};
+ghost use Rattle.mc_topology.specs.Answer.{ResultsAgree};
 ghost use Rattle.mc_cert.specs.Object.{has_only, text_of, number_of, list_of, object_of, text_at};
-ghost use Rattle.mc_cert.specs.Object.{number_at, list_at, within, whole_at, at_most};
+ghost use Rattle.mc_cert.specs.Object.{number_at, list_at, in_range, whole_at, at_most};
 
 use crate::fault::CertFaultKind;
 use serde_json::{Map, Number, Value};
 
 /// Whether each key of the object is one of these.
-fn each_key_is_known(object: &Map<String, Value>, known: &[&str]) -> bool
+fn has_known_keys(object: &Map<String, Value>, known: &[&str]) -> bool
     ensures { result ≡
         list_all (λ key. list_any (λ k. bytes_eq k.now (string_bytes key)) known.now)
         (keys object.now) }
@@ -26,12 +26,12 @@ fn each_key_is_known(object: &Map<String, Value>, known: &[&str]) -> bool
 pub(crate) fn has_only(object: &Map<String, Value>, known: &[&str]) -> bool
     ensures { result ≡ has_only (map (λ k. k.now) known.now) (members_view object.now.entries) }
 {
-    each_key_is_known(object, known)
+    has_known_keys(object, known)
 }
 
 /// The text that a value is.
 pub(crate) fn text_of(value: &Value) -> Result<&str, CertFaultKind>
-    ensures { Answers (λ text. text.now) result (text_of (view value.now)) }
+    ensures { ResultsAgree (λ text. text.now) result (text_of (view value.now)) }
 {
     match value.as_str() {
         Some(text) => Ok(text),
@@ -41,7 +41,7 @@ pub(crate) fn text_of(value: &Value) -> Result<&str, CertFaultKind>
 
 /// The number that a value is.
 pub(crate) fn number_of(value: &Value) -> Result<&Number, CertFaultKind>
-    ensures { Answers (λ number. number_view number.now) result (number_of (view value.now)) }
+    ensures { ResultsAgree (λ number. number_view number.now) result (number_of (view value.now)) }
 {
     match value.as_number() {
         Some(number) => Ok(number),
@@ -51,7 +51,7 @@ pub(crate) fn number_of(value: &Value) -> Result<&Number, CertFaultKind>
 
 /// The values of the list that a value is.
 pub(crate) fn list_of(value: &Value) -> Result<&[Value], CertFaultKind>
-    ensures { Answers (λ values. map view values.now) result (list_of (view value.now)) }
+    ensures { ResultsAgree (λ values. map view values.now) result (list_of (view value.now)) }
 {
     match value.as_array() {
         Some(values) => Ok(values.as_slice()),
@@ -65,7 +65,7 @@ pub(crate) fn object_of<'a>(
     value: &'a Value,
     known: &[&str],
 ) -> Result<&'a Map<String, Value>, CertFaultKind>
-    ensures { Answers (λ object. members_view object.now.entries) result
+    ensures { ResultsAgree (λ object. members_view object.now.entries) result
         (object_of (map (λ k. k.now) known.now) (view value.now)) }
 {
     match value.as_object() {
@@ -89,7 +89,7 @@ pub(crate) fn text_at<'a>(
     object: &'a Map<String, Value>,
     key: &str,
 ) -> Result<&'a str, CertFaultKind>
-    ensures { Answers (λ text. text.now) result
+    ensures { ResultsAgree (λ text. text.now) result
         (text_at key.now (members_view object.now.entries)) }
 {
     match value_at(object, key) {
@@ -104,7 +104,7 @@ pub(crate) fn number_at<'a>(
     object: &'a Map<String, Value>,
     key: &str,
 ) -> Result<&'a Number, CertFaultKind>
-    ensures { Answers (λ number. number_view number.now) result
+    ensures { ResultsAgree (λ number. number_view number.now) result
         (number_at key.now (members_view object.now.entries)) }
 {
     match value_at(object, key) {
@@ -119,7 +119,7 @@ pub(crate) fn list_at<'a>(
     object: &'a Map<String, Value>,
     key: &str,
 ) -> Result<&'a [Value], CertFaultKind>
-    ensures { Answers (λ values. map view values.now) result
+    ensures { ResultsAgree (λ values. map view values.now) result
         (list_at key.now (members_view object.now.entries)) }
 {
     match value_at(object, key) {
@@ -129,8 +129,8 @@ pub(crate) fn list_at<'a>(
 }
 
 /// The whole number from low to high that a number is.
-pub(crate) fn within(low: u8, high: u8, number: &Number) -> Result<u8, CertFaultKind>
-    ensures { Answers (λ n. n) result (within low high (as_u64 (number_view number.now))) }
+pub(crate) fn in_range(low: u8, high: u8, number: &Number) -> Result<u8, CertFaultKind>
+    ensures { ResultsAgree (λ n. n) result (in_range low high (as_u64 (number_view number.now))) }
 {
     match number.as_u64() {
         Some(n) if low as u64 <= n && n <= high as u64 => Ok(n as u8),
@@ -146,17 +146,17 @@ pub(crate) fn whole_at(
     low: u8,
     high: u8,
 ) -> Result<u8, CertFaultKind>
-    ensures { Answers (λ n. n) result
+    ensures { ResultsAgree (λ n. n) result
         (whole_at key.now low high (members_view object.now.entries)) }
 {
     let number = number_at(object, key)?;
-    within(low, high, number)
+    in_range(low, high, number)
 }
 
 /// The rows of a list, if they are at most so many.
 #[tactic(auto, unfolding(crate::specs::Object::at_most))]
 pub(crate) fn at_most(most: usize, rows: &[Value]) -> Result<&[Value], CertFaultKind>
-    ensures rows { Answers (λ rows. map view rows.now) result (at_most most (map view rows.now)) }
+    ensures rows { ResultsAgree (λ rows. map view rows.now) result (at_most most (map view rows.now)) }
     ensures few { IfOk result (λ rows. length rows.now ≤ most) }
 {
     if rows.len() > most {

@@ -2,10 +2,10 @@
 
 ghost use Rattle.std.specs.Prelude.{◌≡◌, ◌+◌, ◌*◌, ◌++◌, ◌∷◌, ◌<◌, ◌≤◌, IfSome, decimal};
 
-use mc_text::first_place_of;
+use mc_text::find_byte;
 
 /// What stands behind this front of the text.
-pub(crate) fn behind<'a>(text: &'a [u8], front: &[u8]) -> Option<&'a [u8]>
+pub(crate) fn after_prefix<'a>(text: &'a [u8], front: &[u8]) -> Option<&'a [u8]>
     ensures { IfSome result (λ rest. text.now ≡ front.now ++ rest.now) }
 {
     text.strip_prefix(front)
@@ -53,10 +53,10 @@ pub(crate) fn number(text: &[u8]) -> Option<(u32, &[u8])>
 }
 
 /// The text up to the next quotation mark, and what is left from there.
-pub(crate) fn quoted(text: &[u8]) -> Option<(&str, &[u8])>
+pub(crate) fn read_until_quote(text: &[u8]) -> Option<(&str, &[u8])>
     ensures { IfSome result (λ r. text.now ≡ r.0.now ++ r.1.now) }
 {
-    let end = first_place_of(b'"', text)?;
+    let end = find_byte(b'"', text)?;
     let (name, rest) = text.split_at(end);
     let name = str::from_utf8(name).ok()?;
     Some((name, rest))

@@ -3,12 +3,12 @@
 ghost use Rattle.std.specs.Prelude.{◌≡◌};
 ghost use Rattle.serde_json.specs.View.{view, number_view, members_view};
 ghost use Rattle.serde_json.specs.Find.{as_u64};
-ghost use Rattle.mc_topology.specs.Answer.{Answers};
+ghost use Rattle.mc_topology.specs.Answer.{ResultsAgree};
 ghost use Rattle.mc_cert.specs.declared.fault.At.TheVariants.{Top};
 ghost use Rattle.mc_cert.specs.Answer.{Gives, place};
 ghost use Rattle.mc_cert.specs.Object.{has_only};
-ghost use Rattle.mc_cert.specs.Reading.{json_of, value_of, members_of, version_of, top_keys};
-ghost use Rattle.mc_cert.specs.Reading.{version_in, flows_by, reading_of};
+ghost use Rattle.mc_cert.specs.Reading.{parse_json, parse_bounded_json, members_of, version_of, top_keys};
+ghost use Rattle.mc_cert.specs.Reading.{version_in, flows_of_version, parse_certificate};
 
 use crate::certificate::Certificate;
 use crate::fault::{At, CertFault, CertFaultKind};
@@ -22,9 +22,9 @@ use serde_json::{Map, Number, Value};
 use std::alloc::Global;
 
 /// The value that a text is.
-#[tactic(auto, unfolding(crate::specs::Reading::json_of))]
-fn json_of(alloc: Global, text: &[u8]) -> Result<Value, CertFault>
-    ensures { Gives view result (place Top (json_of text.now)) }
+#[tactic(auto, unfolding(crate::specs::Reading::parse_json))]
+fn parse_json(alloc: Global, text: &[u8]) -> Result<Value, CertFault>
+    ensures { Gives view result (place Top (parse_json text.now)) }
 {
     match Value::from_slice(alloc, text) {
         Ok(value) => Ok(value),
@@ -35,7 +35,7 @@ fn json_of(alloc: Global, text: &[u8]) -> Result<Value, CertFault>
 
 /// The version with this number.
 fn version_of(number: &Number) -> Result<Version, CertFaultKind>
-    ensures { Answers (λ v. v) result (version_of (as_u64 (number_view number.now))) }
+    ensures { ResultsAgree (λ v. v) result (version_of (as_u64 (number_view number.now))) }
 {
     match number.as_u64() {
         Some(1) => Ok(Version::One),
@@ -45,7 +45,7 @@ fn version_of(number: &Number) -> Result<Version, CertFaultKind>
 }
 
 /// The keys of a certificate of this version.
-fn has_keys_of(version: Version, object: &Map<String, Value>) -> bool
+fn has_only_keys_of(version: Version, object: &Map<String, Value>) -> bool
     ensures { result ≡ has_only (top_keys version) (members_view object.now.entries) }
 {
     match version {
@@ -57,26 +57,26 @@ fn has_keys_of(version: Version, object: &Map<String, Value>) -> bool
 /// Looks at the version and the keys.
 #[tactic(auto, unfolding(crate::specs::Reading::version_in))]
 fn version_in(object: &Map<String, Value>) -> Result<Version, CertFaultKind>
-    ensures { Answers (λ v. v) result (version_in (members_view object.now.entries)) }
+    ensures { ResultsAgree (λ v. v) result (version_in (members_view object.now.entries)) }
 {
     let number = number_at(object, "version")?;
     let version = version_of(number)?;
-    if !has_keys_of(version, object) {
+    if !has_only_keys_of(version, object) {
         return Err(CertFaultKind::UnknownKey);
     }
     Ok(version)
 }
 
 /// The certificate of an object of this version.
-#[tactic(auto, unfolding(crate::specs::Reading::flows_by))]
-fn flows_by(
+#[tactic(auto, unfolding(crate::specs::Reading::flows_of_version))]
+fn flows_of_version(
     alloc: Global,
     version: Version,
     topology: &Topology,
     object: &Map<String, Value>,
 ) -> Result<Certificate, CertFault>
     ensures { Gives (λ c. c) result
-        (flows_by version topology.now (members_view object.now.entries)) }
+        (flows_of_version version topology.now (members_view object.now.entries)) }
 {
     match version {
         Version::One => flows_in(alloc, topology, object),
@@ -85,19 +85,19 @@ fn flows_by(
 }
 
 /// The value of a text that isn't too long.
-#[tactic(auto, unfolding(crate::specs::Reading::value_of))]
-fn value_of(alloc: Global, text: &[u8]) -> Result<Value, CertFault>
-    ensures { Gives view result (place Top (value_of text.now)) }
+#[tactic(auto, unfolding(crate::specs::Reading::parse_bounded_json))]
+fn parse_bounded_json(alloc: Global, text: &[u8]) -> Result<Value, CertFault>
+    ensures { Gives view result (place Top (parse_bounded_json text.now)) }
 {
     if text.len() > MAX_TEXT {
         return Err(CertFaultKind::TooMany.at(At::Top));
     }
-    json_of(alloc, text)
+    parse_json(alloc, text)
 }
 
 /// The object that a value is.
 fn members_of(value: &Value) -> Result<&Map<String, Value>, CertFaultKind>
-    ensures { Answers (λ object. members_view object.now.entries) result
+    ensures { ResultsAgree (λ object. members_view object.now.entries) result
         (members_of (view value.now)) }
 {
     match value.as_object() {
@@ -107,16 +107,16 @@ fn members_of(value: &Value) -> Result<&Map<String, Value>, CertFaultKind>
 }
 
 /// The certificate of a text.
-#[tactic(auto, unfolding(crate::specs::Reading::reading_of))]
-pub(crate) fn reading_of(
+#[tactic(auto, unfolding(crate::specs::Reading::parse_certificate))]
+pub(crate) fn parse_certificate(
     alloc: Global,
     topology: &Topology,
     text: &[u8],
 ) -> Result<Certificate, CertFault>
-    ensures { Gives (λ c. c) result (reading_of topology.now text.now) }
+    ensures { Gives (λ c. c) result (parse_certificate topology.now text.now) }
 {
-    let value = value_of(alloc, text)?;
+    let value = parse_bounded_json(alloc, text)?;
     let object = members_of(&value).map_err(|kind| kind.at(At::Top))?;
     let version = version_in(object).map_err(|kind| kind.at(At::Top))?;
-    flows_by(alloc, version, topology, object)
+    flows_of_version(alloc, version, topology, object)
 }

@@ -11,36 +11,36 @@ use serde_json::Value;
 use std::alloc::Global;
 
 /// What each row of a list is read as.
-pub(crate) trait Rows {
+pub(crate) trait RowReader {
     /// What a row is read as.
     type Item: Drop;
 
     // what it stands for
     ghost Row: { Type 0 };
 
-    ghost seen: { Self.Item → Row };
+    ghost item_view: { Self.Item → Row };
 
     // whether a row may have this number
-    ghost may: { Self → ℕ → Type 0 };
+    ghost is_row_number: { Self → ℕ → Type 0 };
 
     // the row with this number
-    ghost one: { Self → ℕ → Data → Result Row CertFault };
+    ghost row_value: { Self → ℕ → Data → Result Row CertFault };
 
     /// Reads the row with this number, counted from 0.
     fn read_row(&self, number: usize, value: &Value) -> Result<Self::Item, CertFault>
-        requires { may self.now number }
-        ensures { Gives seen result (one self.now number (view value.now)) };
+        requires { is_row_number self.now number }
+        ensures { Gives item_view result (row_value self.now number (view value.now)) };
 }
 
 /// The rows, one after the other.
-pub(crate) fn each<R: Rows>(
+pub(crate) fn each<R: RowReader>(
     alloc: Global,
     rows: &R,
     values: &[Value],
 ) -> Result<Vec<R::Item>, CertFault>
-    requires { (n : ℕ) → n < length values.now → R.may rows.now n }
-    ensures rows { Gives (λ items. map R.seen items.items) result
-        (each (R.one rows.now) [] (map view values.now)) }
+    requires { (n : ℕ) → n < length values.now → R.is_row_number rows.now n }
+    ensures rows { Gives (λ items. map R.item_view items.items) result
+        (each (R.row_value rows.now) [] (map view values.now)) }
     ensures count { IfOk result (λ items. vec_len items ≡ length values.now) }
 {
     let mut items = Vec::with_capacity(alloc, values.len())?;

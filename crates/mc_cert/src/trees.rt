@@ -2,13 +2,13 @@
 
 ghost use Rattle.std.specs.Prelude.{◌≡◌, ◌<◌, ◌≤◌, [], ◌∷◌, ◌++◌, length, IfOk, OnOk, OnErr};
 ghost use Rattle.std.specs.Prelude.{string_bytes};
-ghost use Rattle.mc_cert.specs.Certificate.{BelongsTo, IsList};
+ghost use Rattle.mc_cert.specs.Certificate.{BelongsTo, IsWritableTree};
 ghost use Rattle.mc_cert.specs.CertificateText.{certificate_text};
-ghost use Rattle.mc_cert.specs.Stands.{CertificateStands};
+ghost use Rattle.mc_cert.specs.Denotation.{DenotesCertificate};
 
-use crate::different::DifferentTrees;
+use crate::distinct::DistinctTrees;
 use crate::reached::Reached;
-use crate::written::{push_flows, push_trees, room_for};
+use crate::json_text::{push_flows, push_trees, room_for};
 use mc_text::Memory;
 use mc_topology::Topology;
 use std::alloc::Global;
@@ -18,7 +18,7 @@ use std::marker::Model;
 /// A tree that many flows share is kept once.
 #[derive(Debug, Drop)]
 pub struct Trees {
-    different: DifferentTrees,
+    distinct: DistinctTrees,
     /// For each flow the number of its tree among these.
     numbers: Vec<u32>,
 }
@@ -26,13 +26,13 @@ pub struct Trees {
 impl Model for Trees {
     ghost use Rattle.std.specs.Prelude.{List};
     ghost use Rattle.mc_cert.specs.Certificate.{Tree};
-    ghost use Rattle.mc_cert.specs.Trees.{trees_of, AreShared};
+    ghost use Rattle.mc_cert.specs.Trees.{trees_of, AreSharedTrees};
 
     ghost Value = { List Tree };
 
-    ghost view = { λ t. trees_of t.different t.numbers.items };
+    ghost view = { λ t. trees_of t.distinct t.numbers.items };
 
-    ghost invariant = { λ t. AreShared t.different t.numbers.items };
+    ghost invariant = { λ t. AreSharedTrees t.distinct t.numbers.items };
 }
 
 impl Trees {
@@ -41,7 +41,7 @@ impl Trees {
         ensures { result ≡ [] }
     {
         Trees {
-            different: DifferentTrees::new(alloc),
+            distinct: DistinctTrees::new(alloc),
             numbers: Vec::new(alloc),
         }
     }
@@ -54,12 +54,12 @@ impl Trees {
     /// `Memory` where a growth was refused. The trees are then as they were.
     pub fn push(&mut self, tree: Vec<Reached>) -> Result<(), Memory>
         requires few { length self.old < 4096 }
-        requires list { IsList tree.items }
+        requires list { IsWritableTree tree.items }
         ensures pushed { OnOk result (self.new ≡ self.old ++ tree.items ∷ []) }
         ensures unchanged { OnErr result (self.new ≡ self.old) }
     {
         self.numbers.reserve(1)?;
-        let number = self.different.number_of(tree)?;
+        let number = self.distinct.number_of(tree)?;
         self.numbers.push(number)?;
         Ok(())
     }
@@ -75,14 +75,14 @@ impl Trees {
         requires { BelongsTo topology.now self.now }
         ensures text { IfOk result (λ text. string_bytes text
             ≡ certificate_text topology.now self.now) }
-        ensures stands { IfOk result (λ text. length (string_bytes text) ≤ 16777216 →
-            CertificateStands topology.now (string_bytes text) self.now) }
+        ensures denotes { IfOk result (λ text. length (string_bytes text) ≤ 16777216 →
+            DenotesCertificate topology.now (string_bytes text) self.now) }
     {
         let _rules = topology.flows();
         let mut text = String::from_str(alloc, r#"{"flows":["#)?;
         push_flows(&mut text, topology, &self.numbers)?;
         text.push_str(r#"],"trees":["#)?;
-        let trees = self.different.trees();
+        let trees = self.distinct.trees();
         text.reserve(room_for(trees))?;
         push_trees(&mut text, topology, trees)?;
         text.push_str(r#"],"version":2}"#)?;

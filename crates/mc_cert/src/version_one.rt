@@ -4,17 +4,17 @@ ghost use Rattle.std.specs.Prelude.{◌≡◌, ◌<◌, ◌≤◌, map, length, 
 ghost use Rattle.std.specs.Str.{bytes_eq};
 ghost use Rattle.serde_json.specs.View.{view, members_view};
 ghost use Rattle.mc_text.specs.Addr.{IsAddr, dotted};
-ghost use Rattle.mc_topology.specs.Answer.{Answers};
-ghost use Rattle.mc_topology.specs.Topology.{IsFlowAmong};
+ghost use Rattle.mc_topology.specs.Answer.{ResultsAgree};
+ghost use Rattle.mc_topology.specs.Topology.{IsValidFlow};
 ghost use Rattle.mc_cert.specs.Answer.{Gives};
-ghost use Rattle.mc_cert.specs.VersionOne.{is_flow, flow_rows, reached_of, flow_of, flows_in};
+ghost use Rattle.mc_cert.specs.VersionOne.{are_texts_of_flow, flow_rows, reached_rows, flow_of, flows_in};
 
 use crate::certificate::Certificate;
 use crate::entry::{MAX_ENTRIES, entries_of};
 use crate::fault::{At, CertFault, CertFaultKind};
 use crate::object::{at_most, list_at, object_of, text_at};
 use crate::reached::Reached;
-use crate::rows::{Rows, each};
+use crate::rows::{RowReader, each};
 use mc_text::Addr;
 use mc_topology::{Flow, Topology};
 use serde_json::{Map, Value};
@@ -24,7 +24,7 @@ use std::alloc::Global;
 pub(crate) const MAX_FLOWS: usize = 4096;
 
 /// Whether the text is the address's.
-fn spells(text: &str, address: Addr) -> bool
+fn is_address_text(text: &str, address: Addr) -> bool
     requires { IsAddr address }
     ensures { result ≡ bytes_eq text.now (dotted address) }
 {
@@ -32,12 +32,12 @@ fn spells(text: &str, address: Addr) -> bool
 }
 
 /// Whether the texts are the flow's group and its source.
-pub(crate) fn is_flow(flow: &Flow, group: &str, source: &str) -> bool
+pub(crate) fn are_texts_of_flow(flow: &Flow, group: &str, source: &str) -> bool
     requires group { IsAddr flow.now.group }
     requires source { IsAddr flow.now.source }
-    ensures { result ≡ is_flow flow.now group.now source.now }
+    ensures { result ≡ are_texts_of_flow flow.now group.now source.now }
 {
-    spells(group, flow.group) && spells(source, flow.source)
+    is_address_text(group, flow.group) && is_address_text(source, flow.source)
 }
 
 /// The list of flows, which are as many as the topology's.
@@ -46,7 +46,7 @@ pub(crate) fn flow_rows<'a>(
     topology: &Topology,
     object: &'a Map<String, Value>,
 ) -> Result<&'a [Value], CertFaultKind>
-    ensures rows { Answers (λ rows. map view rows.now) result
+    ensures rows { ResultsAgree (λ rows. map view rows.now) result
         (flow_rows topology.now (members_view object.now.entries)) }
     ensures count { IfOk result (λ rows. length rows.now ≡ length topology.now.flows) }
     ensures few { IfOk result (λ rows. length rows.now ≤ MAX_FLOWS) }
@@ -59,19 +59,19 @@ pub(crate) fn flow_rows<'a>(
 }
 
 /// The entries of a flow, still unread.
-#[tactic(auto, unfolding(crate::specs::VersionOne::reached_of))]
-fn reached_of<'a>(flow: &Flow, value: &'a Value) -> Result<&'a [Value], CertFaultKind>
+#[tactic(auto, unfolding(crate::specs::VersionOne::reached_rows))]
+fn reached_rows<'a>(flow: &Flow, value: &'a Value) -> Result<&'a [Value], CertFaultKind>
     requires group { IsAddr flow.now.group }
     requires source { IsAddr flow.now.source }
-    ensures rows { Answers (λ rows. map view rows.now) result
-        (reached_of flow.now (view value.now)) }
+    ensures rows { ResultsAgree (λ rows. map view rows.now) result
+        (reached_rows flow.now (view value.now)) }
     ensures few { IfOk result (λ rows. length rows.now ≤ MAX_ENTRIES) }
 {
     let object = object_of(value, &["group", "reached", "source"])?;
     let group = text_at(object, "group")?;
     let rows = list_at(object, "reached")?;
     let source = text_at(object, "source")?;
-    if !is_flow(flow, group, source) {
+    if !are_texts_of_flow(flow, group, source) {
         return Err(CertFaultKind::WrongFlows);
     }
     at_most(MAX_ENTRIES, rows)
@@ -79,12 +79,12 @@ fn reached_of<'a>(flow: &Flow, value: &'a Value) -> Result<&'a [Value], CertFaul
 
 /// The flows, each with its list of entries.
 #[derive(Drop)]
-struct FlowLists<'t> {
+struct FlowReader<'t> {
     alloc: Global,
     topology: &'t Topology,
 }
 
-impl<'t> Rows for FlowLists<'t> {
+impl<'t> RowReader for FlowReader<'t> {
     ghost use Rattle.mc_cert.specs.declared.version_one.TheConstants.{MAX_FLOWS};
     ghost use Rattle.mc_cert.specs.Certificate.{Tree};
 
@@ -92,17 +92,17 @@ impl<'t> Rows for FlowLists<'t> {
 
     ghost Row = { Tree };
 
-    ghost seen = { λ entries. entries.items };
+    ghost item_view = { λ entries. entries.items };
 
-    ghost may = { λ lists n. (n < MAX_FLOWS) × (n < length lists.topology.now.flows) };
+    ghost is_row_number = { λ lists n. (n < MAX_FLOWS) × (n < length lists.topology.now.flows) };
 
-    ghost one = { λ lists. flow_of lists.topology.now };
+    ghost row_value = { λ lists. flow_of lists.topology.now };
 
     #[tactic(auto, unfolding(crate::specs::VersionOne::flow_of))]
     fn read_row(&self, number: usize, value: &Value) -> Result<Vec<Reached>, CertFault> {
         let place = At::Flow(number as u32 + 1);
         let flow = self.topology.flow(number as u32);
-        let rows = reached_of(flow, value).map_err(|kind| kind.at(place))?;
+        let rows = reached_rows(flow, value).map_err(|kind| kind.at(place))?;
         entries_of(self.alloc, self.topology, place, rows)
     }
 }
@@ -117,6 +117,6 @@ pub(crate) fn flows_in(
     ensures { Gives (λ c. c) result (flows_in topology.now (members_view object.now.entries)) }
 {
     let rows = flow_rows(topology, object).map_err(|kind| kind.at(At::Top))?;
-    let flows = each(alloc, &FlowLists { alloc, topology }, rows)?;
+    let flows = each(alloc, &FlowReader { alloc, topology }, rows)?;
     Ok(Certificate::from_flows(flows))
 }

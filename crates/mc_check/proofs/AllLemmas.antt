@@ -5,62 +5,62 @@ use Rattle.std.proofs.Common.{arith, length-append}
 use Rattle.mc_theory.specs.Certificates.{Entry}
 use Rattle.mc_theory.specs.Reasons.{first_reason}
 use Rattle.mc_forward.specs.Domains.{DomainValue, IsDomain, net_of}
-use Rattle.mc_check.specs.Reasons.{reason_seen}
-use Rattle.mc_check.proofs.VerdictLemmas.{judge, exact, copies, first, yes-safe, yes-delivers}
-use Rattle.mc_check.proofs.VerdictLemmas.{yes-right, yes-headline}
-use Rattle.mc_check.specs.Verdicts.{verdict_by, OfEachFlow, Says}
+use Rattle.mc_check.specs.Reasons.{optional_reason_value}
+use Rattle.mc_check.proofs.VerdictLemmas.{is_first_reason-of_domain, yes_iff_accepted, copy_count, reason_is_first, yes_is_safe, yes_delivers}
+use Rattle.mc_check.proofs.VerdictLemmas.{yes_is_right, yes_keeps_headline}
+use Rattle.mc_check.specs.Verdicts.{verdict_by, HoldsForEachFlow, IsCorrectVerdict}
 use Rattle.mc_check.specs.declared.verdict.Reason.{Reason}
 use Rattle.mc_check.specs.declared.verdict.Verdict.{Verdict}
 
 -- the verdicts on the first k flows
-pub record Judged (d : DomainValue) (lists : List (List Entry)) (k : ℕ)
+pub record AreVerdictsSoFar (d : DomainValue) (lists : List (List Entry)) (k : ℕ)
     (vs : List Verdict) : Type 0 where
   pub number : length vs ≡ k
-  pub each : OfEachFlow d lists vs (Says (length d.topology.lans))
+  pub each : HoldsForEachFlow d lists vs (IsCorrectVerdict (length d.topology.lans))
 
-pub says : (d : DomainValue) (flow : ℕ) (es : List Entry) (o : Option Reason) (v : Verdict)
+pub correct_verdict-verdict_by : (d : DomainValue) (flow : ℕ) (es : List Entry) (o : Option Reason) (v : Verdict)
     → IsDomain d → flow < length d.topology.flows
-    → reason_seen o ≡ first_reason (net_of d flow) (length d.topology.lans) es
-    → v ≡ verdict_by o (length es) → Says (length d.topology.lans) (net_of d flow) es v
-says d flow es o v ok lt e by =
+    → optional_reason_value o ≡ first_reason (net_of d flow) (length d.topology.lans) es
+    → v ≡ verdict_by o (length es) → IsCorrectVerdict (length d.topology.lans) (net_of d flow) es v
+correct_verdict-verdict_by d flow es o v ok lt e by =
     let n = net_of d flow in
     let count = length d.topology.lans in
-    let j = judge d flow es o ok lt e in
-    subst (Says count n es) (sym by) (record {
-      accepted = exact n count es o j;
-      copies = copies n es o;
-      reason = first n count es o j;
-      safe = yes-safe n count es o j;
-      delivered = yes-delivers n count es o j;
-      right = yes-right n count es o j;
-      headline = yes-headline n count es o j;
+    let j = is_first_reason-of_domain d flow es o ok lt e in
+    subst (IsCorrectVerdict count n es) (sym by) (record {
+      accepted = yes_iff_accepted n count es o j;
+      copy_count = copy_count n es o;
+      reason = reason_is_first n count es o j;
+      safe = yes_is_safe n count es o j;
+      delivered = yes_delivers n count es o j;
+      right = yes_is_right n count es o j;
+      headline = yes_keeps_headline n count es o j;
     })
 
-pushed : {A : Type 0} (xs : List A) (x : A) (i : ℕ) (y : A) → slice_get (xs ++ x ∷ []) i ≡ Some y
+slice_get-push_cases : {A : Type 0} (xs : List A) (x : A) (i : ℕ) (y : A) → slice_get (xs ++ x ∷ []) i ≡ Some y
     → (slice_get xs i ≡ Some y) ⊎ ((i ≡ length xs) × (x ≡ y))
-pushed [] x zero y e = inr (refl, cc)
-pushed [] x (suc i) y e = absurd cc
-pushed (z ∷ xs) x zero y e = inl e
-pushed (z ∷ xs) x (suc i) y e = elim (pushed xs x i y e) [
+slice_get-push_cases [] x zero y e = inr (refl, cc)
+slice_get-push_cases [] x (suc i) y e = absurd cc
+slice_get-push_cases (z ∷ xs) x zero y e = inl e
+slice_get-push_cases (z ∷ xs) x (suc i) y e = elim (slice_get-push_cases xs x i y e) [
   | inl h ↦ inl h
   | inr h ↦ inr (ap suc h.0, h.1)
 ]
 
-pub judged-next : (d : DomainValue) (lists : List (List Entry)) (k : ℕ) (vs : List Verdict)
+pub verdicts_so_far-more : (d : DomainValue) (lists : List (List Entry)) (k : ℕ) (vs : List Verdict)
     (es : List Entry) (v : Verdict)
-    → Judged d lists k vs → slice_get lists k ≡ Some es
-    → Says (length d.topology.lans) (net_of d k) es v → Judged d lists (k + 1) (vs ++ v ∷ [])
-judged-next d lists k vs es v j here says = record {
+    → AreVerdictsSoFar d lists k vs → slice_get lists k ≡ Some es
+    → IsCorrectVerdict (length d.topology.lans) (net_of d k) es v → AreVerdictsSoFar d lists (k + 1) (vs ++ v ∷ [])
+verdicts_so_far-more d lists k vs es v j here correct_verdict-verdict_by = record {
   number = length-append vs (v ∷ []) ∙ (let h = j.number in omega arith);
-  each = λ flow fs w at got. elim (pushed vs v flow w got) [
+  each = λ flow fs w at got. elim (slice_get-push_cases vs v flow w got) [
     | inl h ↦ j.each flow fs w at h
     | inr h ↦ (
         let number : flow ≡ k = h.0 ∙ j.number in
         let list : es ≡ fs = same_list (slice_get lists k) (ap (slice_get lists) (sym number) ∙ at)
         here in
-        subst (λ x. Says (length d.topology.lans) (net_of d flow) fs x) h.1
-        (subst (λ (xs : List Entry). Says (length d.topology.lans) (net_of d flow) xs v) list
-        (subst (λ (i : ℕ). Says (length d.topology.lans) (net_of d i) es v) (sym number) says)))
+        subst (λ x. IsCorrectVerdict (length d.topology.lans) (net_of d flow) fs x) h.1
+        (subst (λ (xs : List Entry). IsCorrectVerdict (length d.topology.lans) (net_of d flow) xs v) list
+        (subst (λ (i : ℕ). IsCorrectVerdict (length d.topology.lans) (net_of d i) es v) (sym number) correct_verdict-verdict_by)))
   ];
 }
   where

@@ -5,56 +5,56 @@ use Rattle.std.proofs.Common.{Bool, true, false, ◌&&◌, None, refl, ap, ◌�
 use Rattle.mc_theory.specs.Lists.{below}
 use Rattle.mc_theory.specs.Reasons.{Reason, ◌then◌, first_of}
 
-first-push : (f : ℕ → Option Reason) (xs : List ℕ) (x : ℕ)
+first_of-push : (f : ℕ → Option Reason) (xs : List ℕ) (x : ℕ)
     → first_of f (xs ++ x ∷ []) ≡ (first_of f xs then f x)
-first-push f [] x = by (f x)
+first_of-push f [] x = by (f x)
   where
     by : (o : Option Reason) → (o then None) ≡ o
     by None = refl
     by (Some y) = refl
-first-push f (y ∷ xs) x = ap (λ o. f y then o) (first-push f xs x)
+first_of-push f (y ∷ xs) x = ap (λ o. f y then o) (first_of-push f xs x)
     ∙ assoc (f y) (first_of f xs) (f x)
   where
     assoc : (a b c : Option Reason) → (a then (b then c)) ≡ ((a then b) then c)
     assoc None b c = refl
     assoc (Some x) b c = refl
 
-first-next : (f : ℕ → Option Reason) (k : ℕ) → first_of f (below k) ≡ None
+first_of-below_more : (f : ℕ → Option Reason) (k : ℕ) → first_of f (below k) ≡ None
     → first_of f (below (k + 1)) ≡ f k
 unfolding below
-first-next f k h = ap (λ n. first_of f (below n)) (add-one k)
-    ∙ (first-push f (below k) k ∙ ap (λ o. o then f k) h)
+first_of-below_more f k h = ap (λ n. first_of f (below n)) (add-one k)
+    ∙ (first_of-push f (below k) k ∙ ap (λ o. o then f k) h)
 
-pub none-start : (f : ℕ → Option Reason) → first_of f (below 0) ≡ None
+pub first_of-below_none : (f : ℕ → Option Reason) → first_of f (below 0) ≡ None
 unfolding below
-none-start f = refl
+first_of-below_none f = refl
 
-pub none-more : (f : ℕ → Option Reason) (k : ℕ) → first_of f (below k) ≡ None → f k ≡ None
+pub none_found-more : (f : ℕ → Option Reason) (k : ℕ) → first_of f (below k) ≡ None → f k ≡ None
     → first_of f (below (k + 1)) ≡ None
-none-more f k h e = first-next f k h ∙ e
+none_found-more f k h e = first_of-below_more f k h ∙ e
 
 -- what was found at k stays the first
-some-stays : (f : ℕ → Option Reason) (k d : ℕ) (x : Reason) → first_of f (below (k + 1)) ≡ Some x
+first_of-kept_by_more : (f : ℕ → Option Reason) (k d : ℕ) (x : Reason) → first_of f (below (k + 1)) ≡ Some x
     → first_of f (below (k + 1 + d)) ≡ Some x
 unfolding below
-some-stays f k zero x h = let e : k + 1 ≡ k + 1 + zero =
+first_of-kept_by_more f k zero x h = let e : k + 1 ≡ k + 1 + zero =
     omega arith in subst (λ n. first_of f (below n) ≡ Some x) e h
-some-stays f k (suc d) x h =
+first_of-kept_by_more f k (suc d) x h =
     let e : suc (k + 1 + d) ≡ k + 1 + suc d = omega arith in
-    subst (λ n. first_of f (below n) ≡ Some x) e (first-push f (below (k + 1 + d)) (k + 1 + d)
-    ∙ ap (λ o. o then f (k + 1 + d)) (some-stays f k d x h))
+    subst (λ n. first_of f (below n) ≡ Some x) e (first_of-push f (below (k + 1 + d)) (k + 1 + d)
+    ∙ ap (λ o. o then f (k + 1 + d)) (first_of-kept_by_more f k d x h))
 
-pub some-found : (f : ℕ → Option Reason) (k n : ℕ) (x : Reason) → first_of f (below k) ≡ None
+pub first_of-found_at : (f : ℕ → Option Reason) (k n : ℕ) (x : Reason) → first_of f (below k) ≡ None
     → f k ≡ Some x → k < n → first_of f (below n) ≡ Some x
-some-found f k n x h e lt =
+first_of-found_at f k n x h e lt =
     let q : k + 1 + (n - (k + 1)) ≡ n = omega arith in
     subst (λ m. first_of f (below m) ≡ Some x) q
-    (some-stays f k (n - (k + 1)) x (first-next f k h ∙ e))
+    (first_of-kept_by_more f k (n - (k + 1)) x (first_of-below_more f k h ∙ e))
 
 -- the same, told by two answers
-pub none-more-of : (f : ℕ → Option Reason) (k : ℕ) (all one : Bool)
+pub none_found-more_by_bools : (f : ℕ → Option Reason) (k : ℕ) (all one : Bool)
     → (all ≡ true → first_of f (below k) ≡ None) → (IsTrue one → f k ≡ None)
     → (all && one) ≡ true → first_of f (below (k + 1)) ≡ None
-none-more-of f k true true before here e = none-more f k (before refl) (here refl)
-none-more-of f k true false before here e = absurd cc
-none-more-of f k false one before here e = absurd cc
+none_found-more_by_bools f k true true before here e = none_found-more f k (before refl) (here refl)
+none_found-more_by_bools f k true false before here e = absurd cc
+none_found-more_by_bools f k false one before here e = absurd cc

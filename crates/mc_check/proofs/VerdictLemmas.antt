@@ -6,102 +6,102 @@ use Rattle.mc_theory.specs.Lists.{In}
 use Rattle.mc_theory.specs.Nets.{Net, IsNet, WantsBelow}
 use Rattle.mc_theory.specs.Certificates.{Entry, IsAccepted}
 use Rattle.mc_theory.specs.Reasons.{first_reason}
-use Rattle.mc_theory.proofs.Judged.{judged}
-use Rattle.mc_theory.proofs.Delivery.{safe, delivered_all, right}
-use Rattle.mc_theory.proofs.Headline.{headline}
+use Rattle.mc_theory.proofs.FirstReason.{first_reason-none_iff_accepted}
+use Rattle.mc_theory.proofs.ReachedLans.{is_safe-from_tree, is_delivered-from_lossless_run, is_right-from_accepted}
+use Rattle.mc_theory.proofs.Headline.{headline_holds-from_accepted}
 use Rattle.mc_forward.specs.Domains.{DomainValue, IsDomain, net_of}
-use Rattle.mc_forward.proofs.BelowLemmas.{few-different}
-use Rattle.mc_forward.proofs.DomainLemmas.{net-of_domain, wanting-within, ttl-from}
-use Rattle.mc_check.specs.Reasons.{reason_seen}
-use Rattle.mc_check.specs.Verdicts.{verdict_by, IsExact, HasCopies, HasFirstReason, YesIsSafe}
+use Rattle.mc_forward.proofs.BelowLemmas.{length-of_distinct_below}
+use Rattle.mc_forward.proofs.DomainLemmas.{is_net-net_of, wants-below_lan_count, ttl-at_least_1}
+use Rattle.mc_check.specs.Reasons.{optional_reason_value}
+use Rattle.mc_check.specs.Verdicts.{verdict_by, YesIffAccepted, YesCountsEntries, NoGivesFirstReason, YesIsSafe}
 use Rattle.mc_check.specs.Verdicts.{YesDelivers, YesIsRight, YesKeepsHeadline}
 use Rattle.mc_check.specs.declared.verdict.Reason.{Reason}
 
 -- the reason that was found is the first, and the net's tables are in order
-pub record IsJudged (n : Net) (count : ℕ) (es : List Entry) (o : Option Reason) : Type 0 where
+pub record IsFirstReason (n : Net) (count : ℕ) (es : List Entry) (o : Option Reason) : Type 0 where
   pub net : IsNet n
   pub wants : WantsBelow n count
   pub ttl : 1 ≤ n.ttl
-  pub first : reason_seen o ≡ first_reason n count es
+  pub reason_is_first : optional_reason_value o ≡ first_reason n count es
 
-pub accepted-none : (n : Net) (count : ℕ) (es : List Entry) → IsJudged n count es None
+pub is_accepted-no_reason : (n : Net) (count : ℕ) (es : List Entry) → IsFirstReason n count es None
     → IsAccepted n es
-accepted-none n count es j = (judged n count es j.net j.wants).0 (sym j.first)
+is_accepted-no_reason n count es j = (first_reason-none_iff_accepted n count es j.net j.wants).0 (sym j.reason_is_first)
 
-pub exact : (n : Net) (count : ℕ) (es : List Entry) (o : Option Reason) → IsJudged n count es o
-    → IsExact n es (verdict_by o (length es))
-exact n count es None j = ((λ _. accepted-none n count es j), (λ _. refl))
-exact n count es (Some r) j = (
+pub yes_iff_accepted : (n : Net) (count : ℕ) (es : List Entry) (o : Option Reason) → IsFirstReason n count es o
+    → YesIffAccepted n es (verdict_by o (length es))
+yes_iff_accepted n count es None j = ((λ _. is_accepted-no_reason n count es j), (λ _. refl))
+yes_iff_accepted n count es (Some r) j = (
   (λ q. absurd cc),
-  (λ acc. let none = j.first
-      ∙ (judged n count es j.net j.wants).1 acc in absurd cc),
+  (λ acc. let none = j.reason_is_first
+      ∙ (first_reason-none_iff_accepted n count es j.net j.wants).1 acc in absurd cc),
 )
 
-pub copies : (n : Net) (es : List Entry) (o : Option Reason)
-    → HasCopies n es (verdict_by o (length es))
-copies n es None = refl
-copies n es (Some r) = tt
+pub copy_count : (n : Net) (es : List Entry) (o : Option Reason)
+    → YesCountsEntries n es (verdict_by o (length es))
+copy_count n es None = refl
+copy_count n es (Some r) = tt
 
-pub first : (n : Net) (count : ℕ) (es : List Entry) (o : Option Reason) → IsJudged n count es o
-    → HasFirstReason count n es (verdict_by o (length es))
-first n count es None j = tt
-first n count es (Some r) j = sym j.first
+pub reason_is_first : (n : Net) (count : ℕ) (es : List Entry) (o : Option Reason) → IsFirstReason n count es o
+    → NoGivesFirstReason count n es (verdict_by o (length es))
+reason_is_first n count es None j = tt
+reason_is_first n count es (Some r) j = sym j.reason_is_first
 
-pub yes-safe : (n : Net) (count : ℕ) (es : List Entry) (o : Option Reason) → IsJudged n count es o
+pub yes_is_safe : (n : Net) (count : ℕ) (es : List Entry) (o : Option Reason) → IsFirstReason n count es o
     → YesIsSafe n es (verdict_by o (length es))
-yes-safe n count es None j = λ t ps low high range. safe n es t ps j.net
-    (accepted-none n count es j).is_tree low high range
-yes-safe n count es (Some r) j = tt
+yes_is_safe n count es None j = λ t ps low high range. is_safe-from_tree n es t ps j.net
+    (is_accepted-no_reason n count es j).is_tree low high range
+yes_is_safe n count es (Some r) j = tt
 
-pub yes-delivers : (n : Net) (count : ℕ) (es : List Entry) (o : Option Reason)
-    → IsJudged n count es o → YesDelivers n es (verdict_by o (length es))
-yes-delivers n count es None j = λ t ps low high range whole done. delivered_all n es t ps j.net
-    (accepted-none n count es j).is_tree low high range whole done
-yes-delivers n count es (Some r) j = tt
+pub yes_delivers : (n : Net) (count : ℕ) (es : List Entry) (o : Option Reason)
+    → IsFirstReason n count es o → YesDelivers n es (verdict_by o (length es))
+yes_delivers n count es None j = λ t ps low high range whole done. is_delivered-from_lossless_run n es t ps j.net
+    (is_accepted-no_reason n count es j).is_tree low high range whole done
+yes_delivers n count es (Some r) j = tt
 
-pub yes-right : (n : Net) (count : ℕ) (es : List Entry) (o : Option Reason) → IsJudged n count es o
+pub yes_is_right : (n : Net) (count : ℕ) (es : List Entry) (o : Option Reason) → IsFirstReason n count es o
     → YesIsRight n es (verdict_by o (length es))
-yes-right n count es None j = right n es j.net j.ttl (accepted-none n count es j)
-yes-right n count es (Some r) j = tt
+yes_is_right n count es None j = is_right-from_accepted n es j.net j.ttl (is_accepted-no_reason n count es j)
+yes_is_right n count es (Some r) j = tt
 
-pub yes-headline : (n : Net) (count : ℕ) (es : List Entry) (o : Option Reason)
-    → IsJudged n count es o → YesKeepsHeadline n es (verdict_by o (length es))
-yes-headline n count es None j = headline n es j.net j.ttl (accepted-none n count es j)
-yes-headline n count es (Some r) j = tt
+pub yes_keeps_headline : (n : Net) (count : ℕ) (es : List Entry) (o : Option Reason)
+    → IsFirstReason n count es o → YesKeepsHeadline n es (verdict_by o (length es))
+yes_keeps_headline n count es None j = headline_holds-from_accepted n es j.net j.ttl (is_accepted-no_reason n count es j)
+yes_keeps_headline n count es (Some r) j = tt
 
 -- a LAN that is named is below the count
-named-below : (es : List Entry) (count l : ℕ) → All (λ e. e.lan < count) es
+entry_lan-below_count : (es : List Entry) (count l : ℕ) → All (λ e. e.lan < count) es
     → In l (map (λ (e : Entry). e.lan) es) → l < count
-named-below [] count l all h = absurd h
-named-below (e ∷ es) count l all (inl q) = subst (λ (k : ℕ). k < count) q (all 0 e (omega arith))
-named-below (e ∷ es) count l all (inr h) = named-below es count l
+entry_lan-below_count [] count l all h = absurd h
+entry_lan-below_count (e ∷ es) count l all (inl q) = subst (λ (k : ℕ). k < count) q (all 0 e (omega arith))
+entry_lan-below_count (e ∷ es) count l all (inr h) = entry_lan-below_count es count l
     (λ k d lt. all (suc k) d (omega (arith, lt))) h
 
 -- so an accepted list has at most as many entries as there are LANs
-pub few-entries : (n : Net) (es : List Entry) (count : ℕ) → IsAccepted n es
+pub length-accepted_entries : (n : Net) (es : List Entry) (count : ℕ) → IsAccepted n es
     → All (λ e. e.lan < count) es → length es ≤ count
-few-entries n es count acc all =
-    let few = few-different (map (λ (e : Entry). e.lan) es) count acc.is_tree.one_entry
-    (λ l h. named-below es count l all h) in
-    omega (arith, few, length-map es (λ (e : Entry). e.lan))
+length-accepted_entries n es count acc all =
+    let entry_count_fits = length-of_distinct_below (map (λ (e : Entry). e.lan) es) count acc.is_tree.one_entry
+    (λ l h. entry_lan-below_count es count l all h) in
+    omega (arith, entry_count_fits, length-map es (λ (e : Entry). e.lan))
 
-pub judge : (d : DomainValue) (flow : ℕ) (es : List Entry) (o : Option Reason) → IsDomain d
+pub is_first_reason-of_domain : (d : DomainValue) (flow : ℕ) (es : List Entry) (o : Option Reason) → IsDomain d
     → flow < length d.topology.flows
-    → reason_seen o ≡ first_reason (net_of d flow) (length d.topology.lans) es
-    → IsJudged (net_of d flow) (length d.topology.lans) es o
-judge d flow es o ok lt e = record {
-  net = net-of_domain d flow ok;
-  wants = λ l w. wanting-within d flow l ok w;
-  ttl = ttl-from d flow ok lt;
-  first = e;
+    → optional_reason_value o ≡ first_reason (net_of d flow) (length d.topology.lans) es
+    → IsFirstReason (net_of d flow) (length d.topology.lans) es o
+is_first_reason-of_domain d flow es o ok lt e = record {
+  net = is_net-net_of d flow ok;
+  wants = λ l w. wants-below_lan_count d flow l ok w;
+  ttl = ttl-at_least_1 d flow ok lt;
+  reason_is_first = e;
 }
 
 -- with no reason the entries are few
-pub few : (d : DomainValue) (flow : ℕ) (es : List Entry) (o : Option Reason) → IsDomain d
-    → IsJudged (net_of d flow) (length d.topology.lans) es o
+pub entry_count_fits : (d : DomainValue) (flow : ℕ) (es : List Entry) (o : Option Reason) → IsDomain d
+    → IsFirstReason (net_of d flow) (length d.topology.lans) es o
     → All (λ e. e.lan < length d.topology.lans) es → o ≡ None → length es < 2 ^ 32
-few d flow es None ok j all e =
-    let bound = few-entries (net_of d flow) es (length d.topology.lans)
-    (accepted-none (net_of d flow) (length d.topology.lans) es j) all in
+entry_count_fits d flow es None ok j all e =
+    let bound = length-accepted_entries (net_of d flow) es (length d.topology.lans)
+    (is_accepted-no_reason (net_of d flow) (length d.topology.lans) es j) all in
     omega (arith, bound, ok.topology.few_lans)
-few d flow es (Some r) ok j all e = absurd cc
+entry_count_fits d flow es (Some r) ok j all e = absurd cc

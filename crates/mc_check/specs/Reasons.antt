@@ -19,6 +19,6 @@ reason_value (Missed lan) = ReasonValue.Missed lan
 reason_value (Low lan) = ReasonValue.Low lan
 
 -- the reason that was found, if one was
-abbrev pub reason_seen : Option Reason → Option ReasonValue
-reason_seen None = None
-reason_seen (Some reason) = Some (reason_value reason)
+abbrev pub optional_reason_value : Option Reason → Option ReasonValue
+optional_reason_value None = None
+optional_reason_value (Some reason) = Some (reason_value reason)

@@ -16,34 +16,34 @@ use Rattle.mc_check.specs.declared.verdict.Verdict.TheVariants.{Yes, No}
 
 -- a fact of the number of copies, where the verdict is yes
 abbrev pub IfYes : Verdict → (ℕ → Type 0) → Type 0
-IfYes (Yes copies) P = P copies
+IfYes (Yes copy_count) P = P copy_count
 IfYes (No reason) P = ⊤
 
 -- a fact of the reason, where the verdict is no
 abbrev pub IfNo : Verdict → (Reason → Type 0) → Type 0
-IfNo (Yes copies) P = ⊤
+IfNo (Yes copy_count) P = ⊤
 IfNo (No reason) P = P reason
 
 abbrev pub is_yes : Verdict → Bool
-is_yes (Yes copies) = true
+is_yes (Yes copy_count) = true
 is_yes (No reason) = false
 
 -- the verdict by the first reason, if there is one, on a list of this length
 abbrev pub verdict_by : Option Reason → ℕ → Verdict
-verdict_by None copies = Yes copies
-verdict_by (Some reason) copies = No reason
+verdict_by None copy_count = Yes copy_count
+verdict_by (Some reason) copy_count = No reason
 
 -- yes exactly where the list is accepted
-abbrev pub IsExact : Net → List Entry → Verdict → Type 0
-IsExact n es v = IsTrue (is_yes v) ↔ IsAccepted n es
+abbrev pub YesIffAccepted : Net → List Entry → Verdict → Type 0
+YesIffAccepted n es v = IsTrue (is_yes v) ↔ IsAccepted n es
 
 -- a yes has the number of the list's entries
-abbrev pub HasCopies : Net → List Entry → Verdict → Type 0
-HasCopies n es v = IfYes v (λ copies. copies ≡ length es)
+abbrev pub YesCountsEntries : Net → List Entry → Verdict → Type 0
+YesCountsEntries n es v = IfYes v (λ copy_count. copy_count ≡ length es)
 
 -- a no has the first reason, where the LANs are numbered below `count`
-abbrev pub HasFirstReason : ℕ → Net → List Entry → Verdict → Type 0
-HasFirstReason count n es v = IfNo v (λ reason. first_reason n count es
+abbrev pub NoGivesFirstReason : ℕ → Net → List Entry → Verdict → Type 0
+NoGivesFirstReason count n es v = IfNo v (λ reason. first_reason n count es
     ≡ Some (reason_value reason))
 
 -- ---- what a yes is worth, for every packet of the flow and every order in which its copies are
@@ -51,25 +51,25 @@ HasFirstReason count n es v = IfNo v (λ reason. first_reason n count es
 
 -- every run of a packet with any TTL, complete or not, is safe
 abbrev pub YesIsSafe : Net → List Entry → Verdict → Type 0
-YesIsSafe n es v = IfYes v (λ copies. EveryRun n 1 (IsSafe n es))
+YesIsSafe n es v = IfYes v (λ copy_count. EveryRun n 1 (IsSafe n es))
 
 -- every complete run without loss carries exactly the named LANs whose need the TTL meets
 abbrev pub YesDelivers : Net → List Entry → Verdict → Type 0
-YesDelivers n es v = IfYes v (λ copies. EveryRun n 1 (IsDeliveredWhole es))
+YesDelivers n es v = IfYes v (λ copy_count. EveryRun n 1 (IsDeliveredWhole es))
 
 -- the flow is right
 abbrev pub YesIsRight : Net → List Entry → Verdict → Type 0
-YesIsRight n es v = IfYes v (λ copies. IsRight n)
+YesIsRight n es v = IfYes v (λ copy_count. IsRight n)
 
 -- the headline's promise is kept for the flow, with this many copies
 abbrev pub YesKeepsHeadline : Net → List Entry → Verdict → Type 0
-YesKeepsHeadline n es v = IfYes v (λ copies. HeadlineHolds n copies)
+YesKeepsHeadline n es v = IfYes v (λ copy_count. HeadlineHolds n copy_count)
 
 -- all of this
-pub record Says (count : ℕ) (n : Net) (es : List Entry) (v : Verdict) : Type 0 where
-  pub accepted : IsExact n es v
-  pub copies : HasCopies n es v
-  pub reason : HasFirstReason count n es v
+pub record IsCorrectVerdict (count : ℕ) (n : Net) (es : List Entry) (v : Verdict) : Type 0 where
+  pub accepted : YesIffAccepted n es v
+  pub copy_count : YesCountsEntries n es v
+  pub reason : NoGivesFirstReason count n es v
   pub safe : YesIsSafe n es v
   pub delivered : YesDelivers n es v
   pub right : YesIsRight n es v
@@ -78,7 +78,7 @@ pub record Says (count : ℕ) (n : Net) (es : List Entry) (v : Verdict) : Type 0
 -- ---- of each flow
 
 -- the fact of each flow's net, list and verdict
-abbrev pub OfEachFlow : DomainValue → List (List Entry) → List Verdict
+abbrev pub HoldsForEachFlow : DomainValue → List (List Entry) → List Verdict
     → (Net → List Entry → Verdict → Type 0) → Type 0
-OfEachFlow d lists verdicts P = (flow : ℕ) (es : List Entry) (v : Verdict)
+HoldsForEachFlow d lists verdicts P = (flow : ℕ) (es : List Entry) (v : Verdict)
     → slice_get lists flow ≡ Some es → slice_get verdicts flow ≡ Some v → P (net_of d flow) es v

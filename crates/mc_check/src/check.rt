@@ -3,14 +3,14 @@
 ghost use Rattle.std.specs.Prelude.{◌≡◌, ◌<◌, ◌^◌, All, IfOk, None, [], length};
 ghost use Rattle.mc_theory.specs.Reasons.{first_reason, twice};
 ghost use Rattle.mc_forward.specs.Domains.{net_of};
-ghost use Rattle.mc_forward.specs.Journeys.{net_in};
-ghost use Rattle.mc_check.specs.Reasons.{reason_seen};
-ghost use Rattle.mc_check.specs.Verdicts.{HasCopies, HasFirstReason, IsExact, OfEachFlow, Says};
+ghost use Rattle.mc_forward.specs.FlightsInDomain.{net_in};
+ghost use Rattle.mc_check.specs.Reasons.{optional_reason_value};
+ghost use Rattle.mc_check.specs.Verdicts.{YesCountsEntries, NoGivesFirstReason, YesIffAccepted, HoldsForEachFlow, IsCorrectVerdict};
 ghost use Rattle.mc_check.specs.Verdicts.{verdict_by};
 ghost use Rattle.mc_check.specs.Verdicts.{YesDelivers, YesIsRight, YesIsSafe, YesKeepsHeadline};
 
-use crate::fed::fed_reason;
-use crate::firsts::{Named, put_firsts};
+use crate::fed::unfed_reason;
+use crate::entries_by_lan::{EntriesByLan, put_first_entries};
 use crate::routers::routers_reason;
 use crate::served::{has_source, lans_reason};
 use crate::verdict::{Reason, Verdict};
@@ -20,21 +20,21 @@ use mc_text::Memory;
 use std::alloc::Global;
 
 /// The first reason to refuse a flow's entries, no two of which name one LAN.
-fn reason_of(view: &FlowView<'_>, named: &Named<'_>) -> Option<Reason>
-    requires once { twice [] named.now ≡ None }
-    ensures { reason_seen result ≡ first_reason (net_in view.now)
-        (length view.now.domain.topology.lans) named.now }
+fn reason_for_distinct_lans(view: &FlowView<'_>, by_lan: &EntriesByLan<'_>) -> Option<Reason>
+    requires once { twice [] by_lan.now ≡ None }
+    ensures { optional_reason_value result ≡ first_reason (net_in view.now)
+        (length view.now.domain.topology.lans) by_lan.now }
 {
-    if !has_source(view, named) {
+    if !has_source(view, by_lan) {
         return Some(Reason::BadSource);
     }
-    if let Some(reason) = routers_reason(view, named) {
+    if let Some(reason) = routers_reason(view, by_lan) {
         return Some(reason);
     }
-    if let Some(reason) = fed_reason(view, named) {
+    if let Some(reason) = unfed_reason(view, by_lan) {
         return Some(reason);
     }
-    lans_reason(view, named)
+    lans_reason(view, by_lan)
 }
 
 /// The first reason to refuse a list of entries for a flow.
@@ -46,15 +46,15 @@ fn first_reason_of(
 ) -> Result<Option<Reason>, Memory>
     requires flow { flow < length domain.now.topology.flows }
     requires lans { All (λ e. e.lan < length domain.now.topology.lans) entries.now }
-    ensures { IfOk result (λ reason. reason_seen reason ≡
+    ensures { IfOk result (λ reason. optional_reason_value reason ≡
         first_reason (net_of domain.now flow) (length domain.now.topology.lans) entries.now) }
 {
     let mut firsts = PerLan::new(alloc, domain.topology().lans())?;
-    if let Some(reason) = put_firsts(&mut firsts, entries) {
+    if let Some(reason) = put_first_entries(&mut firsts, entries) {
         return Ok(Some(reason));
     }
-    let named = Named::new(entries, firsts);
-    Ok(reason_of(&FlowView::new(domain, flow), &named))
+    let by_lan = EntriesByLan::new(entries, firsts);
+    Ok(reason_for_distinct_lans(&FlowView::new(domain, flow), &by_lan))
 }
 
 /// The verdict by the first reason, if there is one.
@@ -80,7 +80,7 @@ fn verdict_on(
     requires flow { flow < length domain.now.topology.flows }
     requires lans { All (λ e. e.lan < length domain.now.topology.lans) entries.now }
     ensures { IfOk result
-        (Says (length domain.now.topology.lans) (net_of domain.now flow) entries.now) }
+        (IsCorrectVerdict (length domain.now.topology.lans) (net_of domain.now flow) entries.now) }
 {
     let _rules = domain.topology();
     let reason = first_reason_of(alloc, domain, flow, entries)?;
@@ -97,11 +97,11 @@ pub fn check_flow(
     requires flow { flow < length domain.now.topology.flows }
     requires lans { All (λ e. e.lan < length domain.now.topology.lans) entries.now }
     // Yes exactly where the list is accepted,
-    ensures accepted { IfOk result (IsExact (net_of domain.now flow) entries.now) }
+    ensures accepted { IfOk result (YesIffAccepted (net_of domain.now flow) entries.now) }
     // with the number of its entries,
-    ensures copies { IfOk result (HasCopies (net_of domain.now flow) entries.now) }
+    ensures copies { IfOk result (YesCountsEntries (net_of domain.now flow) entries.now) }
     // and else no with the first reason.
-    ensures reason { IfOk result (HasFirstReason (length domain.now.topology.lans)
+    ensures reason { IfOk result (NoGivesFirstReason (length domain.now.topology.lans)
         (net_of domain.now flow) entries.now) }
     // After a yes every run of every packet is safe, whatever the order and whatever is lost,
     ensures safe { IfOk result (YesIsSafe (net_of domain.now flow) entries.now) }
@@ -128,20 +128,20 @@ pub fn check_all(
     // accepted,
     ensures count { IfOk result (λ vs. length vs.items ≡ length certificate.now) }
     ensures accepted { IfOk result (λ vs.
-        OfEachFlow domain.now certificate.now vs.items IsExact) }
+        HoldsForEachFlow domain.now certificate.now vs.items YesIffAccepted) }
     ensures copies { IfOk result (λ vs.
-        OfEachFlow domain.now certificate.now vs.items HasCopies) }
-    ensures reason { IfOk result (λ vs. OfEachFlow domain.now certificate.now vs.items
-        (HasFirstReason (length domain.now.topology.lans))) }
+        HoldsForEachFlow domain.now certificate.now vs.items YesCountsEntries) }
+    ensures reason { IfOk result (λ vs. HoldsForEachFlow domain.now certificate.now vs.items
+        (NoGivesFirstReason (length domain.now.topology.lans))) }
     // and a yes is worth the same.
     ensures safe { IfOk result (λ vs.
-        OfEachFlow domain.now certificate.now vs.items YesIsSafe) }
+        HoldsForEachFlow domain.now certificate.now vs.items YesIsSafe) }
     ensures delivered { IfOk result (λ vs.
-        OfEachFlow domain.now certificate.now vs.items YesDelivers) }
+        HoldsForEachFlow domain.now certificate.now vs.items YesDelivers) }
     ensures right { IfOk result (λ vs.
-        OfEachFlow domain.now certificate.now vs.items YesIsRight) }
+        HoldsForEachFlow domain.now certificate.now vs.items YesIsRight) }
     ensures headline { IfOk result (λ vs.
-        OfEachFlow domain.now certificate.now vs.items YesKeepsHeadline) }
+        HoldsForEachFlow domain.now certificate.now vs.items YesKeepsHeadline) }
 {
     let topology = domain.topology();
     let mut verdicts = Vec::with_capacity(alloc, certificate.flows() as usize)?;

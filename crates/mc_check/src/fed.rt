@@ -3,12 +3,12 @@
 ghost use Rattle.std.specs.Prelude.{◌≡◌, Some};
 ghost use Rattle.mc_theory.specs.Reasons.{feeds_from, first_of, is_fed, row_feeds, unless};
 ghost use Rattle.mc_theory.specs.Reasons.Reason.{Unfed};
-ghost use Rattle.mc_tables.specs.CacheTable.{IsEntry};
-ghost use Rattle.mc_forward.specs.Domains.{pairs_of};
-ghost use Rattle.mc_forward.specs.Journeys.{net_in};
-ghost use Rattle.mc_check.specs.Reasons.{reason_seen};
+ghost use Rattle.mc_tables.specs.CacheTable.{IsValidEntry};
+ghost use Rattle.mc_forward.specs.Domains.{oif_pairs};
+ghost use Rattle.mc_forward.specs.FlightsInDomain.{net_in};
+ghost use Rattle.mc_check.specs.Reasons.{optional_reason_value};
 
-use crate::firsts::Named;
+use crate::entries_by_lan::EntriesByLan;
 use crate::verdict::Reason;
 use mc_cert::Reached;
 use mc_forward::{FlowView, RowFor, outgoing_from};
@@ -17,8 +17,8 @@ use mc_topology::RouterNo;
 
 /// Whether one of an entry's pairs sends by a vif what comes from `base`'s LAN.
 fn feeds(base: &Reached, vif: u8, entry: &Entry<'_>) -> bool
-    requires { IsEntry entry.now }
-    ensures { result ≡ feeds_from vif (pairs_of entry.now.oifs) (Some base.now) }
+    requires { IsValidEntry entry.now }
+    ensures { result ≡ feeds_from vif (oif_pairs entry.now.oifs) (Some base.now) }
 {
     for oif in outgoing_from(entry, vif) {
         if oif.vif == vif && u16::from(base.rank) + u16::from(oif.threshold) < 255 {
@@ -29,12 +29,12 @@ fn feeds(base: &Reached, vif: u8, entry: &Entry<'_>) -> bool
 }
 
 /// Whether a router's row sends by a vif what comes from a named LAN.
-fn row_feeds(view: &FlowView<'_>, named: &Named<'_>, router: RouterNo, vif: u8) -> bool
-    ensures { result ≡ row_feeds (net_in view.now) named.now router vif
+fn row_feeds(view: &FlowView<'_>, by_lan: &EntriesByLan<'_>, router: RouterNo, vif: u8) -> bool
+    ensures { result ≡ row_feeds (net_in view.now) by_lan.now router vif
         ((net_in view.now).row router) }
 {
     match view.row(router) {
-        RowFor::Exact(entry) => match named.at(view.placed(router, entry.iif)) {
+        RowFor::Exact(entry) => match by_lan.at(view.placed(router, entry.iif)) {
             Some(base) => feeds(&base, vif, &entry),
             None => false,
         },
@@ -43,8 +43,8 @@ fn row_feeds(view: &FlowView<'_>, named: &Named<'_>, router: RouterNo, vif: u8) 
 }
 
 /// Whether an entry's forwarder, if it has one, sends on its LAN.
-fn is_fed(view: &FlowView<'_>, named: &Named<'_>, entry: &Reached) -> bool
-    ensures { result ≡ is_fed (net_in view.now) named.now entry.now.lan entry.now.forwarder }
+fn is_fed(view: &FlowView<'_>, by_lan: &EntriesByLan<'_>, entry: &Reached) -> bool
+    ensures { result ≡ is_fed (net_in view.now) by_lan.now entry.now.lan entry.now.forwarder }
 {
     match entry.forwarder {
         Some((router, vif)) => {
@@ -52,20 +52,20 @@ fn is_fed(view: &FlowView<'_>, named: &Named<'_>, entry: &Reached) -> bool
                 Some(lan) => lan.0 == entry.lan.0,
                 None => false,
             };
-            row_feeds(view, named, router, vif) && placed
+            row_feeds(view, by_lan, router, vif) && placed
         }
         None => true,
     }
 }
 
 /// The first entry that isn't fed.
-pub(crate) fn fed_reason(view: &FlowView<'_>, named: &Named<'_>) -> Option<Reason>
-    ensures { reason_seen result ≡ first_of (λ entry.
-        unless (is_fed (net_in view.now) named.now entry.lan entry.forwarder) (Unfed entry.lan))
-        named.now }
+pub(crate) fn unfed_reason(view: &FlowView<'_>, by_lan: &EntriesByLan<'_>) -> Option<Reason>
+    ensures { optional_reason_value result ≡ first_of (λ entry.
+        unless (is_fed (net_in view.now) by_lan.now entry.lan entry.forwarder) (Unfed entry.lan))
+        by_lan.now }
 {
-    for entry in named.entries() {
-        if !is_fed(view, named, entry) {
+    for entry in by_lan.entries() {
+        if !is_fed(view, by_lan, entry) {
             return Some(Reason::Unfed(entry.lan));
         }
     }

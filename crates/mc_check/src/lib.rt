@@ -5,7 +5,7 @@
 
 mod check;
 mod fed;
-mod firsts;
+mod entries_by_lan;
 mod routers;
 mod served;
 mod shown;

@@ -3,12 +3,12 @@
 ghost use Rattle.std.specs.Prelude.{◌≡◌, ◌+◌, ◌<◌};
 ghost use Rattle.mc_theory.specs.Lists.{below};
 ghost use Rattle.mc_theory.specs.Reasons.{child_reason, entry_on, first_of, pair_reason};
-ghost use Rattle.mc_theory.specs.Reasons.{row_reason, wild_at};
-ghost use Rattle.mc_forward.specs.Domains.{pairs_of};
-ghost use Rattle.mc_forward.specs.Journeys.{net_in};
-ghost use Rattle.mc_check.specs.Reasons.{reason_seen};
+ghost use Rattle.mc_theory.specs.Reasons.{row_reason, open_row_reason};
+ghost use Rattle.mc_forward.specs.Domains.{oif_pairs};
+ghost use Rattle.mc_forward.specs.FlightsInDomain.{net_in};
+ghost use Rattle.mc_check.specs.Reasons.{optional_reason_value};
 
-use crate::firsts::Named;
+use crate::entries_by_lan::EntriesByLan;
 use crate::verdict::Reason;
 use mc_cert::Reached;
 use mc_forward::{FlowView, RowFor};
@@ -18,18 +18,18 @@ use mc_topology::{LanNo, RouterNo};
 /// What keeps a LAN's entry from being the one that a router's pair gives, where the router takes
 /// from `base`'s LAN.
 fn child_reason(
-    named: &Named<'_>,
+    by_lan: &EntriesByLan<'_>,
     base: &Reached,
     router: RouterNo,
     oif: &Oif,
     lan: LanNo,
 ) -> Option<Reason>
     requires live { base.now.rank + oif.now.threshold < 255 }
-    ensures { reason_seen result ≡ child_reason base.now router (oif.now.vif, oif.now.threshold)
-        lan (entry_on named.now lan) }
+    ensures { optional_reason_value result ≡ child_reason base.now router (oif.now.vif, oif.now.threshold)
+        lan (entry_on by_lan.now lan) }
 {
     let extra = Some(Reason::Extra(router, oif.vif, lan));
-    let Some(entry) = named.on(lan) else {
+    let Some(entry) = by_lan.on(lan) else {
         return extra;
     };
     let Some((sender, vif)) = entry.forwarder else {
@@ -50,19 +50,19 @@ fn child_reason(
 /// What is wrong with a pair of a router that takes from `base`'s LAN.
 fn pair_reason(
     view: &FlowView<'_>,
-    named: &Named<'_>,
+    by_lan: &EntriesByLan<'_>,
     base: &Reached,
     router: RouterNo,
     oif: &Oif,
 ) -> Option<Reason>
-    ensures { reason_seen result ≡ pair_reason (net_in view.now) named.now base.now router
+    ensures { optional_reason_value result ≡ pair_reason (net_in view.now) by_lan.now base.now router
         (oif.now.vif, oif.now.threshold) }
 {
     if u16::from(base.rank) + u16::from(oif.threshold) >= 255 {
         return None;
     }
     match view.placed(router, oif.vif) {
-        Some(lan) => child_reason(named, base, router, oif, lan),
+        Some(lan) => child_reason(by_lan, base, router, oif, lan),
         None => Some(Reason::Stray(router, oif.vif)),
     }
 }
@@ -70,17 +70,17 @@ fn pair_reason(
 /// What is wrong with the pairs of a router that takes from `base`'s LAN, the first.
 fn pairs_reason(
     view: &FlowView<'_>,
-    named: &Named<'_>,
+    by_lan: &EntriesByLan<'_>,
     base: &Reached,
     router: RouterNo,
     oifs: &[Oif],
 ) -> Option<Reason>
-    ensures { reason_seen result
-        ≡ first_of (pair_reason (net_in view.now) named.now base.now router)
-        (pairs_of oifs.now) }
+    ensures { optional_reason_value result
+        ≡ first_of (pair_reason (net_in view.now) by_lan.now base.now router)
+        (oif_pairs oifs.now) }
 {
     for oif in oifs {
-        if let Some(reason) = pair_reason(view, named, base, router, oif) {
+        if let Some(reason) = pair_reason(view, by_lan, base, router, oif) {
             return Some(reason);
         }
     }
@@ -88,12 +88,12 @@ fn pairs_reason(
 }
 
 /// The lowest vif on a named LAN of a router whose row is open.
-fn wildcard_reason(view: &FlowView<'_>, named: &Named<'_>, router: RouterNo) -> Option<Reason>
-    ensures { reason_seen result ≡ first_of (wild_at (net_in view.now) named.now router)
+fn wildcard_reason(view: &FlowView<'_>, by_lan: &EntriesByLan<'_>, router: RouterNo) -> Option<Reason>
+    ensures { optional_reason_value result ≡ first_of (open_row_reason (net_in view.now) by_lan.now router)
         (below 32) }
 {
     for vif in 0..32u8 {
-        if named.at(view.placed(router, vif)).is_some() {
+        if by_lan.at(view.placed(router, vif)).is_some() {
             return Some(Reason::Wildcard(router, vif));
         }
     }
@@ -101,28 +101,28 @@ fn wildcard_reason(view: &FlowView<'_>, named: &Named<'_>, router: RouterNo) -> 
 }
 
 /// What is wrong with a router.
-fn router_reason(view: &FlowView<'_>, named: &Named<'_>, router: RouterNo) -> Option<Reason>
-    ensures { reason_seen result ≡ row_reason (net_in view.now) named.now router
+fn router_reason(view: &FlowView<'_>, by_lan: &EntriesByLan<'_>, router: RouterNo) -> Option<Reason>
+    ensures { optional_reason_value result ≡ row_reason (net_in view.now) by_lan.now router
         ((net_in view.now).row router) }
 {
     match view.row(router) {
-        RowFor::Exact(entry) => match named.at(view.placed(router, entry.iif)) {
-            Some(base) => pairs_reason(view, named, &base, router, entry.oifs),
+        RowFor::Exact(entry) => match by_lan.at(view.placed(router, entry.iif)) {
+            Some(base) => pairs_reason(view, by_lan, &base, router, entry.oifs),
             None => None,
         },
-        RowFor::Open => wildcard_reason(view, named, router),
+        RowFor::Open => wildcard_reason(view, by_lan, router),
         RowFor::NoRow => None,
     }
 }
 
 /// What is wrong with the routers, the first.
-pub(crate) fn routers_reason(view: &FlowView<'_>, named: &Named<'_>) -> Option<Reason>
-    ensures { reason_seen result ≡ first_of (λ router.
-        row_reason (net_in view.now) named.now router ((net_in view.now).row router))
+pub(crate) fn routers_reason(view: &FlowView<'_>, by_lan: &EntriesByLan<'_>) -> Option<Reason>
+    ensures { optional_reason_value result ≡ first_of (λ router.
+        row_reason (net_in view.now) by_lan.now router ((net_in view.now).row router))
         (below (net_in view.now).routers) }
 {
     for number in 0..view.routers() {
-        if let Some(reason) = router_reason(view, named, RouterNo(number)) {
+        if let Some(reason) = router_reason(view, by_lan, RouterNo(number)) {
             return Some(reason);
         }
     }

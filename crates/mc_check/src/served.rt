@@ -5,20 +5,20 @@ ghost use Rattle.std.specs.List.{list_all};
 ghost use Rattle.mc_theory.specs.Lists.{below};
 ghost use Rattle.mc_theory.specs.Reasons.{entry_on, first_of, has_source};
 ghost use Rattle.mc_theory.specs.Reasons.{is_source_entry, lan_reason};
-ghost use Rattle.mc_forward.specs.Journeys.{net_in};
-ghost use Rattle.mc_check.specs.Reasons.{reason_seen};
+ghost use Rattle.mc_forward.specs.FlightsInDomain.{net_in};
+ghost use Rattle.mc_check.specs.Reasons.{optional_reason_value};
 
-use crate::firsts::Named;
+use crate::entries_by_lan::EntriesByLan;
 use crate::verdict::Reason;
 use mc_cert::Reached;
 use mc_forward::FlowView;
 use mc_topology::LanNo;
 
 /// Whether a LAN has the source's entry: rank 0, need 1, no forwarder.
-fn is_source_entry(named: &Named<'_>, lan: LanNo) -> bool
-    ensures { result ≡ is_source_entry (entry_on named.now lan) }
+fn is_source_entry(by_lan: &EntriesByLan<'_>, lan: LanNo) -> bool
+    ensures { result ≡ is_source_entry (entry_on by_lan.now lan) }
 {
-    match named.on(lan) {
+    match by_lan.on(lan) {
         Some(entry) => entry.rank == 0 && entry.need == 1 && entry.forwarder.is_none(),
         None => false,
     }
@@ -38,22 +38,22 @@ fn others_are_forwarded(entries: &[Reached], lan: LanNo) -> bool
 }
 
 /// Whether the source's LAN has the source's entry, and every other entry a forwarder.
-pub(crate) fn has_source(view: &FlowView<'_>, named: &Named<'_>) -> bool
-    ensures { result ≡ has_source (net_in view.now) named.now }
+pub(crate) fn has_source(view: &FlowView<'_>, by_lan: &EntriesByLan<'_>) -> bool
+    ensures { result ≡ has_source (net_in view.now) by_lan.now }
 {
     let source = view.source();
-    is_source_entry(named, source) && others_are_forwarded(named.entries(), source)
+    is_source_entry(by_lan, source) && others_are_forwarded(by_lan.entries(), source)
 }
 
 /// Whether a LAN that wants the flow goes without it.
-fn lan_reason(view: &FlowView<'_>, named: &Named<'_>, lan: LanNo) -> Option<Reason>
+fn lan_reason(view: &FlowView<'_>, by_lan: &EntriesByLan<'_>, lan: LanNo) -> Option<Reason>
     requires { lan < length view.now.domain.topology.lans }
-    ensures { reason_seen result ≡ lan_reason (net_in view.now) named.now lan }
+    ensures { optional_reason_value result ≡ lan_reason (net_in view.now) by_lan.now lan }
 {
     if !view.wants(lan) {
         return None;
     }
-    match named.on(lan) {
+    match by_lan.on(lan) {
         Some(entry) if entry.need > view.ttl() => Some(Reason::Low(lan)),
         Some(_) => None,
         None => Some(Reason::Missed(lan)),
@@ -61,11 +61,11 @@ fn lan_reason(view: &FlowView<'_>, named: &Named<'_>, lan: LanNo) -> Option<Reas
 }
 
 /// Whether a LAN that wants the flow has it.
-fn is_served(view: &FlowView<'_>, named: &Named<'_>, lan: LanNo) -> bool
+fn is_served(view: &FlowView<'_>, by_lan: &EntriesByLan<'_>, lan: LanNo) -> bool
     requires { lan < length view.now.domain.topology.lans }
-    ensures { IsTrue result → lan_reason (net_in view.now) named.now lan ≡ None }
+    ensures { IsTrue result → lan_reason (net_in view.now) by_lan.now lan ≡ None }
 {
-    let reaches = match named.on(lan) {
+    let reaches = match by_lan.on(lan) {
         Some(entry) => entry.need <= view.ttl(),
         None => false,
     };
@@ -74,27 +74,27 @@ fn is_served(view: &FlowView<'_>, named: &Named<'_>, lan: LanNo) -> bool
 
 /// Whether all LANs that want the flow have it. All LANs are asked, without a branch for each,
 /// since a processor doesn't foresee which of them want a flow.
-fn all_are_served(view: &FlowView<'_>, named: &Named<'_>) -> bool
-    ensures { IsTrue result → first_of (lan_reason (net_in view.now) named.now)
+fn all_are_served(view: &FlowView<'_>, by_lan: &EntriesByLan<'_>) -> bool
+    ensures { IsTrue result → first_of (lan_reason (net_in view.now) by_lan.now)
         (below (length view.now.domain.topology.lans)) ≡ None }
 {
     let mut all = true;
     for number in 0..view.lans() {
-        all &= is_served(view, named, LanNo(number));
+        all &= is_served(view, by_lan, LanNo(number));
     }
     all
 }
 
 /// The first LAN that wants the flow and goes without it.
-pub(crate) fn lans_reason(view: &FlowView<'_>, named: &Named<'_>) -> Option<Reason>
-    ensures { reason_seen result ≡ first_of (lan_reason (net_in view.now) named.now)
+pub(crate) fn lans_reason(view: &FlowView<'_>, by_lan: &EntriesByLan<'_>) -> Option<Reason>
+    ensures { optional_reason_value result ≡ first_of (lan_reason (net_in view.now) by_lan.now)
         (below (length view.now.domain.topology.lans)) }
 {
-    if all_are_served(view, named) {
+    if all_are_served(view, by_lan) {
         return None;
     }
     for number in 0..view.lans() {
-        if let Some(reason) = lan_reason(view, named, LanNo(number)) {
+        if let Some(reason) = lan_reason(view, by_lan, LanNo(number)) {
             return Some(reason);
         }
     }

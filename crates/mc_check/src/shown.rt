@@ -4,7 +4,7 @@ ghost use Rattle.std.specs.Prelude.{◌≡◌, Some};
 ghost use Rattle.mc_check.specs.ReasonText.{reason_text, verdict_text};
 
 use crate::verdict::{Reason, Verdict};
-use mc_topology::{AtLan, AtVif, Topology};
+use mc_topology::{WordAtLan, WordAtVif, Topology};
 use std::fmt;
 
 /// A reason, to be written by the names of a topology, as `Extra r3 1 l2`.
@@ -22,19 +22,19 @@ impl<'t> fmt::Display for ShownReason<'t> {
     fn fmt<W: fmt::Write>(&self, f: &mut fmt::Formatter<W>) -> fmt::Result {
         let topology = self.topology;
         match self.reason {
-            Reason::TwoEntries(lan) => AtLan::new("TwoEntries", topology, lan).fmt(f),
+            Reason::TwoEntries(lan) => WordAtLan::new("TwoEntries", topology, lan).fmt(f),
             Reason::BadSource => f.write_str("BadSource"),
-            Reason::Wildcard(router, vif) => AtVif::new("Wildcard", topology, router, vif).fmt(f),
-            Reason::Stray(router, vif) => AtVif::new("Stray", topology, router, vif).fmt(f),
+            Reason::Wildcard(router, vif) => WordAtVif::new("Wildcard", topology, router, vif).fmt(f),
+            Reason::Stray(router, vif) => WordAtVif::new("Stray", topology, router, vif).fmt(f),
             Reason::Extra(router, vif, lan) => {
-                let place = AtVif::new("Extra", topology, router, vif);
+                let place = WordAtVif::new("Extra", topology, router, vif);
                 write!(f, "{place} {}", topology.lan_name_or_empty(lan))
             }
-            Reason::WrongRank(lan) => AtLan::new("WrongRank", topology, lan).fmt(f),
-            Reason::WrongNeed(lan) => AtLan::new("WrongNeed", topology, lan).fmt(f),
-            Reason::Unfed(lan) => AtLan::new("Unfed", topology, lan).fmt(f),
-            Reason::Missed(lan) => AtLan::new("Missed", topology, lan).fmt(f),
-            Reason::Low(lan) => AtLan::new("Low", topology, lan).fmt(f),
+            Reason::WrongRank(lan) => WordAtLan::new("WrongRank", topology, lan).fmt(f),
+            Reason::WrongNeed(lan) => WordAtLan::new("WrongNeed", topology, lan).fmt(f),
+            Reason::Unfed(lan) => WordAtLan::new("Unfed", topology, lan).fmt(f),
+            Reason::Missed(lan) => WordAtLan::new("Missed", topology, lan).fmt(f),
+            Reason::Low(lan) => WordAtLan::new("Low", topology, lan).fmt(f),
         }
     }
 }

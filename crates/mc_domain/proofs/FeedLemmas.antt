@@ -8,44 +8,44 @@ use Rattle.mc_tables.specs.Steps.{out_of_memory, unless_fault}
 use Rattle.mc_tables.specs.declared.fault.TableFault.{TableFault}
 
 -- what was to come of the text goes on behind a piece of it
-pub fed_on : {E : Type 0} (before old new : List ℕ → E) (done piece more : List ℕ)
+pub result_after-append_piece : {E : Type 0} (before old new : List ℕ → E) (done piece more : List ℕ)
     → before (done ++ (piece ++ more)) ≡ old (piece ++ more)
     → new more ≡ old (piece ++ more) → before ((done ++ piece) ++ more) ≡ new more
-fed_on before old new done piece more first goes =
+result_after-append_piece before old new done piece more first goes =
     ap before (append_assoc done piece more) ∙ first ∙ sym goes
 
 -- what goes with a piece that was taken is so
-pub taken_with : {E P : Type 0} (r : Result (Unit {0}) E) → is_ok r ≡ true → OnOk r P → P
-taken_with (Ok u) ok holds = holds
-taken_with (Err fault) ok holds = absurd cc
+pub fact-from_OnOk : {E P : Type 0} (r : Result (Unit {0}) E) → is_ok r ≡ true → OnOk r P → P
+fact-from_OnOk (Ok u) ok holds = holds
+fact-from_OnOk (Err fault) ok holds = absurd cc
 
 -- ---- a reader of a table, which keeps its fault
 
 -- how many bytes count towards the limit: after a fault none
-abbrev pub counts : Option TableFault → ℕ → ℕ
-counts fault size = if is_some fault then 0 else size
+abbrev pub counted_size : Option TableFault → ℕ → ℕ
+counted_size fault size = if is_some fault then 0 else size
 
-no_more : (fault : Option TableFault) (size : ℕ) → counts fault size ≤ size
-no_more None size = omega arith
-no_more (Some fault) size = omega arith
+counted_size-at_most : (fault : Option TableFault) (size : ℕ) → counted_size fault size ≤ size
+counted_size-at_most None size = omega arith
+counted_size-at_most (Some fault) size = omega arith
 
 module _ {S T : Type 0} (fault : S → Option TableFault) (size : S → ℕ)
     (read : S → List ℕ → Result T TableFault) (old new : S) (fed : Result (Unit {0}) TableFault)
     (again : IfSome (fault old) (λ own. (fed ≡ Err own) × (new ≡ old))) where
   -- whatever bytes come, it ends as it would have
-  pub kept_on : (piece more : List ℕ) (r : Result (Unit {0}) Memory)
+  pub result_after-kept_fault : (piece more : List ℕ) (r : Result (Unit {0}) Memory)
       → OnOk r (fed ≢ Err out_of_memory)
       → (fed ≢ Err out_of_memory → size old + length (piece ++ more) ≤ max_text
       → unless_fault (fault new) (read new more) ≡ unless_fault (fault old) (read old (piece ++ more)))
-      → counts (fault old) (size old) + length (piece ++ more) ≤ max_text
+      → counted_size (fault old) (size old) + length (piece ++ more) ≤ max_text
       → OnOk r
       (unless_fault (fault new) (read new more) ≡ unless_fault (fault old) (read old (piece ++ more)))
-  kept_on piece more r loud goes within = by r loud (fault old) refl again within
+  result_after-kept_fault piece more r loud goes within = by r loud (fault old) refl again within
     where
       by : (r : Result (Unit {0}) Memory) → OnOk r (fed ≢ Err out_of_memory)
           → (known : Option TableFault) → fault old ≡ known
           → IfSome known (λ own. (fed ≡ Err own) × (new ≡ old))
-          → counts known (size old) + length (piece ++ more) ≤ max_text
+          → counted_size known (size old) + length (piece ++ more) ≤ max_text
           → OnOk r
           (unless_fault (fault new) (read new more) ≡ unless_fault (fault old) (read old (piece ++ more)))
       by (Ok u) loud None is again within = goes loud within
@@ -56,18 +56,18 @@ module _ {S T : Type 0} (fault : S → Option TableFault) (size : S → ℕ)
       by (Err own) loud known is again within = tt
 
   -- and no byte counts twice
-  pub counts_on : (n : ℕ) → OnOk fed (size new ≡ size old + n)
+  pub counted_size-more : (n : ℕ) → OnOk fed (size new ≡ size old + n)
       → IfErr fed (λ own. fault new ≡ Some own)
-      → counts (fault new) (size new) ≤ counts (fault old) (size old) + n
-  counts_on n grown kept = by fed (fault old) again grown kept
+      → counted_size (fault new) (size new) ≤ counted_size (fault old) (size old) + n
+  counted_size-more n grown kept = by fed (fault old) again grown kept
     where
       by : (fed : Result (Unit {0}) TableFault) (known : Option TableFault)
           → IfSome known (λ own. (fed ≡ Err own) × (new ≡ old)) → OnOk fed (size new ≡ size old + n)
           → IfErr fed (λ own. fault new ≡ Some own)
-          → counts (fault new) (size new) ≤ counts known (size old) + n
-      by (Ok u) None again grown kept = omega (arith, grown, no_more (fault new) (size new))
+          → counted_size (fault new) (size new) ≤ counted_size known (size old) + n
+      by (Ok u) None again grown kept = omega (arith, grown, counted_size-at_most (fault new) (size new))
       by (Ok u) (Some own) again grown kept = absurd (let e = again.0 in cc)
       by (Err own) known again grown kept =
-          let none : counts (fault new) (size new) ≡ 0 =
-          ap (λ (f : Option TableFault). counts f (size new)) kept in
+          let none : counted_size (fault new) (size new) ≡ 0 =
+          ap (λ (f : Option TableFault). counted_size f (size new)) kept in
           omega (arith, none)

@@ -2,52 +2,52 @@
 use Rattle.std.specs.Prelude.{◌≡◌, ℕ, List, Option, Some, None, Result, Ok, Err, IfErr, IfOk, IfSome}
 use Rattle.std.specs.Prelude.{MatchResult, refl}
 use Rattle.std.proofs.Common.{◌∙◌, ap, sym, subst}
-use Rattle.mc_text.specs.Steps.{refused_as}
+use Rattle.mc_text.specs.Steps.{map_fault}
 use Rattle.mc_topology.specs.Topology.{TopologyValue}
 use Rattle.mc_layout.specs.Files.{FileText}
 use Rattle.mc_forward.specs.Domains.{DomainValue, IsDomain}
-use Rattle.mc_forward.specs.ListedTables.{SaysTheSame}
-use Rattle.mc_domain.specs.FilesInput.{FilesStand}
-use Rattle.mc_domain.specs.FilesReading.{files_of, part_filed}
+use Rattle.mc_forward.specs.ListedTables.{HaveSameFacts}
+use Rattle.mc_domain.specs.FilesInput.{FilesDenoteInput}
+use Rattle.mc_domain.specs.FilesReading.{input_of_files, part_from_file}
 use Rattle.mc_domain.specs.Input.{InputValue}
 use Rattle.mc_domain.specs.Kept.{IsDomainOf}
-use Rattle.mc_domain.specs.LeftOut.{AreRouters, IsSilentWithout, files_without, left_out_files}
-use Rattle.mc_domain.specs.Meaning.{FilesMeanListed, MeansFiles}
+use Rattle.mc_domain.specs.ExcludedRouters.{AreRouterNames, IsReadOrMemoryWithout, input_of_files_without, files_with_exclusions}
+use Rattle.mc_domain.specs.Meaning.{FilesMeanDomainAsListed, FilesMeanDomain}
 use Rattle.mc_domain.specs.declared.without_fault.WithoutFault.{WithoutFault}
 use Rattle.mc_domain.specs.declared.without_fault.WithoutFault.TheVariants.{Source, NoSuchRouter}
-use Rattle.mc_domain.proofs.FilesStand.{files_again, files_take}
-use Rattle.mc_domain.proofs.LeftOutLemmas.{rest_is, routers_pass, same_topology, topology_file}
-use Rattle.mc_domain.proofs.NothingLemmas.{read_topology}
-use Rattle.mc_domain.proofs.MeansLemmas.{kept_means, silent_of}
-use Rattle.mc_domain.proofs.OneDomain.{one_of_files}
+use Rattle.mc_domain.proofs.FilesDenoteInputLemmas.{input_of_files-Ok, FilesDenoteInput-from_input_of_files}
+use Rattle.mc_domain.proofs.ExcludedLemmas.{input_of_files_without-names_Ok, check_router_names-Ok, read_part-same_topology_file, IsSameFile-topology_slot}
+use Rattle.mc_domain.proofs.HasNoVifOrRowLemmas.{read_input-topology}
+use Rattle.mc_domain.proofs.MeansLemmas.{MeansSamePerFlow-from_denotes, IsReadOrMemory-by_contradiction}
+use Rattle.mc_domain.proofs.UniqueDomain.{FilesMeanDomain-unique}
 
 -- what was kept of the files is of a domain that they mean
-files_mean : (files : List FileText) (v : InputValue) (d : DomainValue) → files_of files ≡ Ok v
-    → IsDomainOf d v → IsDomain d → FilesMeanListed files d
-files_mean files v d read kept rules =
-    let stands = files_take files v read in
-    kept_means FilesStand files stands.parts None v d stands stands.stand kept rules
+FilesMeanDomainAsListed-from_input : (files : List FileText) (v : InputValue) (d : DomainValue) → input_of_files files ≡ Ok v
+    → IsDomainOf d v → IsDomain d → FilesMeanDomainAsListed files d
+FilesMeanDomainAsListed-from_input files v d read kept rules =
+    let denotes = FilesDenoteInput-from_input_of_files files v read in
+    MeansSamePerFlow-from_denotes FilesDenoteInput files denotes.parts None v d denotes denotes.parts_denote kept rules
 
 -- files that mean a domain with routers left out, of which each is one of its topology, are read
-read_without : (names : List (List ℕ)) (files : List FileText) (d : DomainValue)
-    → MeansFiles (left_out_files names files) d → AreRouters d.topology names
-    → (v : InputValue) × (files_without names files ≡ Ok v)
-read_without names files d means are =
+input_of_files_without-Ok : (names : List (List ℕ)) (files : List FileText) (d : DomainValue)
+    → FilesMeanDomain (files_with_exclusions names files) d → AreRouterNames d.topology names
+    → (v : InputValue) × (input_of_files_without names files ≡ Ok v)
+input_of_files_without-Ok names files d means are =
     let v = means.input in
-    let whole = left_out_files names files in
-    let read : files_of whole ≡ Ok v = files_again whole v means.stands in
-    let topology = sym (same_topology whole files 0 (topology_file names files))
-    ∙ read_topology (part_filed whole) v read in
-    let named = routers_pass v.topology 1 names
-    (subst (λ (t : TopologyValue). AreRouters t names) means.assembled.topology are) in
-    (v, rest_is names files v.topology tt topology named ∙ ap (refused_as Source) read)
+    let whole = files_with_exclusions names files in
+    let read : input_of_files whole ≡ Ok v = input_of_files-Ok whole v means.denotes in
+    let topology = sym (read_part-same_topology_file whole files 0 (IsSameFile-topology_slot names files))
+    ∙ read_input-topology (part_from_file whole) v read in
+    let named = check_router_names-Ok v.topology 1 names
+    (subst (λ (t : TopologyValue). AreRouterNames t names) means.assembled.topology are) in
+    (v, input_of_files_without-names_Ok names files v.topology tt topology named ∙ ap (map_fault Source) read)
 
 -- so they are not refused
-never_refused : (names : List (List ℕ)) (files : List FileText) (d : DomainValue)
-    (fault : WithoutFault) → MeansFiles (left_out_files names files) d → AreRouters d.topology names
-    → files_without names files ≡ Err fault → ⊥
-never_refused names files d fault means are refused =
-    let read = read_without names files d means are in
+input_of_files_without-not_Err : (names : List (List ℕ)) (files : List FileText) (d : DomainValue)
+    (fault : WithoutFault) → FilesMeanDomain (files_with_exclusions names files) d → AreRouterNames d.topology names
+    → input_of_files_without names files ≡ Err fault → ⊥
+input_of_files_without-not_Err names files d fault means are refused =
+    let read = input_of_files_without-Ok names files d means are in
     absurd_of {v = read.0} (sym read.1 ∙ refused)
   where
     absurd_of : {v : InputValue} {fault : WithoutFault}
@@ -55,54 +55,54 @@ never_refused names files d fault means are refused =
     absurd_of e = cc
 
 -- a fault that is not told of files that are read is silent
-silent_without : (own : WithoutFault) (P : Type 0) → (¬ IsSilentWithout own → P) → (P → ⊥)
-    → IsSilentWithout own
-silent_without (Source fault) P loud none = silent_of fault P loud none
-silent_without (NoSuchRouter n) P loud none = none (loud (λ silent. silent))
+IsReadOrMemoryWithout-by_contradiction : (own : WithoutFault) (P : Type 0) → (¬ IsReadOrMemoryWithout own → P) → (P → ⊥)
+    → IsReadOrMemoryWithout own
+IsReadOrMemoryWithout-by_contradiction (Source fault) P loud none = IsReadOrMemory-by_contradiction fault P loud none
+IsReadOrMemoryWithout-by_contradiction (NoSuchRouter n) P loud none = none (loud (λ silent. silent))
 
 module _ {X : Type 0} (d : X → DomainValue) (names : List (List ℕ)) where
-  pub means_of_files : (o : Option (List FileText)) (r : Result X WithoutFault)
+  pub FilesMeanDomainAsListed-from_result : (o : Option (List FileText)) (r : Result X WithoutFault)
       → ((files : List FileText) → o ≡ Some files → IfOk r (λ x. (v : InputValue)
-      × IsDomainOf (d x) v × (files_of (left_out_files names files) ≡ Ok v)))
+      × IsDomainOf (d x) v × (input_of_files (files_with_exclusions names files) ≡ Ok v)))
       → IfOk r (λ x. IsDomain (d x))
-      → IfOk r (λ x. IfSome o (λ files. FilesMeanListed (left_out_files names files) (d x)))
-  means_of_files None (Ok x) keeps rules = tt
-  means_of_files (Some files) (Ok x) keeps rules =
+      → IfOk r (λ x. IfSome o (λ files. FilesMeanDomainAsListed (files_with_exclusions names files) (d x)))
+  FilesMeanDomainAsListed-from_result None (Ok x) keeps rules = tt
+  FilesMeanDomainAsListed-from_result (Some files) (Ok x) keeps rules =
       let read = keeps files refl in
-      files_mean (left_out_files names files) read.0 (d x) read.2 read.1 rules
-  means_of_files o (Err fault) keeps rules = tt
+      FilesMeanDomainAsListed-from_input (files_with_exclusions names files) read.0 (d x) read.2 read.1 rules
+  FilesMeanDomainAsListed-from_result o (Err fault) keeps rules = tt
 
-  pub only_of_files : (o : Option (List FileText)) (r : Result X WithoutFault)
+  pub SaysTheSame-from_files : (o : Option (List FileText)) (r : Result X WithoutFault)
       → ((files : List FileText) → o ≡ Some files → IfOk r (λ x. (v : InputValue)
-      × IsDomainOf (d x) v × (files_of (left_out_files names files) ≡ Ok v)))
+      × IsDomainOf (d x) v × (input_of_files (files_with_exclusions names files) ≡ Ok v)))
       → IfOk r (λ x. IsDomain (d x))
-      → ((files : List FileText) → o ≡ Some files → IfErr r (λ fault. ¬ IsSilentWithout fault
-      → files_without names files ≡ Err fault))
+      → ((files : List FileText) → o ≡ Some files → IfErr r (λ fault. ¬ IsReadOrMemoryWithout fault
+      → input_of_files_without names files ≡ Err fault))
       → (files : List FileText) (domain : DomainValue) → o ≡ Some files
-      → MeansFiles (left_out_files names files) domain → AreRouters domain.topology names
-      → MatchResult r (λ x. SaysTheSame domain (d x)) IsSilentWithout
-  only_of_files o (Ok x) keeps rules refused files domain told means are =
-      let whole = left_out_files names files in
-      let read = keeps files told in
-      let listed = files_mean whole read.0 (d x) read.2 read.1 rules in
-      subst (λ e. SaysTheSame e (d x))
-      (one_of_files whole listed.whole domain listed.means means) listed.same
-  only_of_files o (Err fault) keeps rules refused files domain told means are =
-      silent_without fault (files_without names files ≡ Err fault) (refused files told)
-      (never_refused names files domain fault means are)
+      → FilesMeanDomain (files_with_exclusions names files) domain → AreRouterNames domain.topology names
+      → MatchResult r (λ x. HaveSameFacts domain (d x)) IsReadOrMemoryWithout
+  SaysTheSame-from_files o (Ok x) keeps rules refused files domain contents means are =
+      let whole = files_with_exclusions names files in
+      let read = keeps files contents in
+      let listed = FilesMeanDomainAsListed-from_input whole read.0 (d x) read.2 read.1 rules in
+      subst (λ e. HaveSameFacts e (d x))
+      (FilesMeanDomain-unique whole listed.whole domain listed.means means) listed.same
+  SaysTheSame-from_files o (Err fault) keeps rules refused files domain contents means are =
+      IsReadOrMemoryWithout-by_contradiction fault (input_of_files_without names files ≡ Err fault) (refused files contents)
+      (input_of_files_without-not_Err names files domain fault means are)
 
 -- what holds of an answer where these are the files, holds where files are told,
-pub told_of : {X E : Type 0} (P : List FileText → X → Type 0) (o : Option (List FileText))
+pub IfOk-from_known_contents : {X E : Type 0} (P : List FileText → X → Type 0) (o : Option (List FileText))
     (r : Result X E) → ((files : List FileText) → o ≡ Some files → IfOk r (P files))
     → IfOk r (λ x. IfSome o (λ files. P files x))
-told_of P None (Ok x) holds = tt
-told_of P (Some files) (Ok x) holds = holds files refl
-told_of P o (Err fault) holds = tt
+IfOk-from_known_contents P None (Ok x) holds = tt
+IfOk-from_known_contents P (Some files) (Ok x) holds = holds files refl
+IfOk-from_known_contents P o (Err fault) holds = tt
 
 -- and of a fault as well
-pub fault_of : {X E : Type 0} (P : List FileText → E → Type 0) (o : Option (List FileText))
+pub IfErr-from_known_contents : {X E : Type 0} (P : List FileText → E → Type 0) (o : Option (List FileText))
     (r : Result X E) → ((files : List FileText) → o ≡ Some files → IfErr r (P files))
     → IfErr r (λ fault. IfSome o (λ files. P files fault))
-fault_of P o (Ok x) holds = tt
-fault_of P None (Err fault) holds = tt
-fault_of P (Some files) (Err fault) holds = holds files refl
+IfErr-from_known_contents P o (Ok x) holds = tt
+IfErr-from_known_contents P None (Err fault) holds = tt
+IfErr-from_known_contents P (Some files) (Err fault) holds = holds files refl

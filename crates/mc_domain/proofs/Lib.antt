@@ -1,25 +1,25 @@
-mod BundleStand
-mod ComingLemmas
-mod Counted
+mod BundleDenotesInputLemmas
+mod ReadRestLemmas
+mod InputCounts
 mod FaultLemmas
 mod FeedLemmas
 mod FilesFeedLemmas
 mod FilesLemmas
 mod FilesMeansLemmas
-mod FilesStand
-pub mod OneDomain
-mod InTurnLemmas
-mod KeptLemmas
-mod LeftOutLemmas
+mod FilesDenoteInputLemmas
+pub mod UniqueDomain
+mod OneByOneLemmas
+mod PartResultLemmas
+mod ExcludedLemmas
 mod MeansLemmas
-mod NotesLemmas
-mod NothingLemmas
-mod OneInput
-pub mod PartLemmas
+mod SummaryLemmas
+mod HasNoVifOrRowLemmas
+mod UniqueInput
+pub mod ExcludedPerFlowLemmas
 mod ReadLemmas
 mod ReadingLemmas
 mod RefusedLemmas
-mod ServedLemmas
-mod TakenLemmas
-mod TurnLemmas
+mod SourceOfPartsLemmas
+mod CollectedPartLemmas
+mod FinishLemmas
 pub mod WithCertificate

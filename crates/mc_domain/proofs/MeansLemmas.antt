@@ -5,217 +5,217 @@ use Rattle.std.specs.Prelude.{None, Vec, is_some, Result, Ok, Err, IfErr, IfOk, 
 use Rattle.std.proofs.Common.{ap, ◌∙◌, sym, subst, inl, inr, arith}
 use Rattle.std.proofs.lemmas.Slice.Eq.{bytes_eq-Decides}
 use Rattle.mc_text.specs.Bundle.{PartText, max_input}
-use Rattle.mc_text.specs.PartsReading.{PartsState, before}
-use Rattle.mc_text.specs.PartsSpending.{Spends}
-use Rattle.mc_text.specs.PartsToCome.{others_if}
+use Rattle.mc_text.specs.PartsReading.{PartsState, prepend_parts}
+use Rattle.mc_text.specs.PartsLimits.{ConsumesWithin}
+use Rattle.mc_text.specs.RestOfBundle.{rest_of_bundle}
 use Rattle.mc_text.specs.ReadFault.{ConsumesUpTo}
-use Rattle.mc_text.specs.Steps.{refused_as}
+use Rattle.mc_text.specs.Steps.{map_fault}
 use Rattle.mc_text.specs.declared.bundle.stage.Stage.TheVariants as stages
-use Rattle.mc_tables.proofs.LawLemmas.{vif_table_is}
-use Rattle.mc_tables.proofs.RuleLemmas.{cache_is}
-use Rattle.mc_topology.specs.Rows.{RouterRow}
+use Rattle.mc_tables.proofs.LawLemmas.{vif_table-is_valid}
+use Rattle.mc_tables.proofs.TableRuleLemmas.{cache-is_valid}
+use Rattle.mc_topology.specs.SectionRows.{RouterRow}
 use Rattle.mc_topology.specs.Topology.{TopologyValue}
 use Rattle.mc_layout.specs.Layout.{part_name, topology_slot}
 use Rattle.mc_forward.specs.Assembling.{AreAnswers, AreWanted, IsAssembled}
 use Rattle.mc_forward.specs.Domains.{AreTables, DomainValue, IsDomain, TablesValue}
 use Rattle.mc_forward.specs.DomainParts.{domain_with}
-use Rattle.mc_forward.specs.ListedTables.{AreListedTables, SaysTheSame}
-use Rattle.mc_forward.proofs.SameLemmas.{listed-same, pairwise-count, pairwise-each}
-use Rattle.mc_forward.proofs.WantsLemmas.{assembled-of, domain-of}
-use Rattle.mc_domain.specs.Input.{InputValue, InputStands, PartsStand, TellTables}
-use Rattle.mc_domain.specs.InputReading.{input_of}
-use Rattle.mc_domain.specs.InputView.{text_seen}
-use Rattle.mc_domain.specs.Meaning.{Means, MeansDomain, MeansListed, MeansSame}
-use Rattle.mc_domain.specs.PartsInTurn.{IsReadOf, Refuses, coming, once_named, tables_then, told_in}
+use Rattle.mc_forward.specs.ListedTables.{IsListedPartOfTables, HaveSameFacts}
+use Rattle.mc_forward.proofs.ListedTableLemmas.{have_same_facts-of_listed_parts, pairwise-count, pairwise-each}
+use Rattle.mc_forward.proofs.WantsLemmas.{is_assembled-from_reports, is_domain-from_parts}
+use Rattle.mc_domain.specs.Input.{InputValue, DenotesInput, PartsDenoteInput, PartsDenoteTables}
+use Rattle.mc_domain.specs.InputReading.{input_of_bundle}
+use Rattle.mc_domain.specs.InputView.{certificate_text}
+use Rattle.mc_domain.specs.Meaning.{Means, MeansDomain, MeansDomainAsListed, MeansSamePerFlow}
+use Rattle.mc_domain.specs.PartsOneByOne.{ReadsDomain, IsFaultOf, read_rest, check_names_then, finish_with_tables, read_all_parts}
 use Rattle.mc_domain.specs.Kept.{IsDomainOf}
-use Rattle.mc_domain.specs.PartsInTurn.{topology_first}
+use Rattle.mc_domain.specs.PartsOneByOne.{read_first_topology}
 use Rattle.mc_domain.specs.PartsReading.{topology_of}
-use Rattle.mc_domain.specs.SourceFault.{IsSilent}
+use Rattle.mc_domain.specs.SourceFault.{IsReadOrMemory}
 use Rattle.mc_domain.specs.declared.fault.InputFault.TheVariants as input
 use Rattle.mc_domain.specs.declared.source_fault.SourceFault.{SourceFault}
 use Rattle.mc_domain.specs.declared.source_fault.SourceFault.TheVariants.{Input, Read}
-use Rattle.mc_domain.proofs.ComingLemmas.{as_ours, coming_alike, coming_passed, coming_refused}
-use Rattle.mc_domain.proofs.OneDomain.{one_of_bundle}
-use Rattle.mc_domain.proofs.ReadLemmas.{stands_read, told_of, told_refused, told_stands}
+use Rattle.mc_domain.proofs.ReadRestLemmas.{Err-from_refused_as, read_rest-same, read_rest-part_passed, read_rest-both_Err}
+use Rattle.mc_domain.proofs.UniqueDomain.{MeansDomain-unique}
+use Rattle.mc_domain.proofs.ReadLemmas.{input_of_bundle-Ok, read_bundle, input_of_bundle-Err_from_read_bundle, DenotesInput-from_read_bundle}
 
 -- ---- the topology first
 
 -- where the topology is refused, so is all
-pub refused_first : (certified : Bool) (s : PartsState) (own : SourceFault)
-    → Refuses s topology_first own → Refuses s (told_in certified) own
-refused_first certified s own refused = λ text told loud.
-    coming_refused s text topology_first (told_in certified) own
-    (λ parts fault e. rw e refl) (refused text told loud)
+pub IsFaultOf-read_all_parts : (certified : Bool) (s : PartsState) (own : SourceFault)
+    → IsFaultOf s read_first_topology own → IsFaultOf s (read_all_parts certified) own
+IsFaultOf-read_all_parts certified s own refused = λ text remaining loud.
+    read_rest-both_Err s text read_first_topology (read_all_parts certified) own
+    (λ parts fault e. rw e refl) (refused text remaining loud)
 
 -- what is told after a topology
-told_after : (certified : Bool) (part : PartText) (t : TopologyValue) (parts : List PartText)
+read_all_parts-after_topology : (certified : Bool) (part : PartText) (t : TopologyValue) (parts : List PartText)
     → part.name ≡ part_name topology_slot → topology_of part ≡ Ok t
-    → told_in certified (part ∷ parts)
-    ≡ once_named certified t 1 (tables_then certified t [] t.routers) parts
-told_after certified part t parts name told =
-    rw ((bytes_eq-Decides part.name (part_name topology_slot)).1 name, told) refl
+    → read_all_parts certified (part ∷ parts)
+    ≡ check_names_then certified t 1 (finish_with_tables certified t [] t.routers) parts
+read_all_parts-after_topology certified part t parts name remaining =
+    rw ((bytes_eq-Decides part.name (part_name topology_slot)).1 name, remaining) refl
 
-pub told_on : (certified : Bool) (s new : PartsState) (text later : List ℕ) (part : PartText)
-    (t : TopologyValue) → others_if s text ≡ before (part ∷ []) (others_if new later)
+pub read_rest-after_topology : (certified : Bool) (s new : PartsState) (text later : List ℕ) (part : PartText)
+    (t : TopologyValue) → rest_of_bundle s text ≡ prepend_parts (part ∷ []) (rest_of_bundle new later)
     → part.name ≡ part_name topology_slot → topology_of part ≡ Ok t
-    → coming s text (told_in certified)
-    ≡ coming new later (once_named certified t 1 (tables_then certified t [] t.routers))
-told_on certified s new text later part t e name told =
-    coming_passed s new text later part (told_in certified) e
-    ∙ coming_alike new later (λ parts. told_in certified (part ∷ parts))
-    (once_named certified t 1 (tables_then certified t [] t.routers))
-    (λ parts. told_after certified part t parts name told)
+    → read_rest s text (read_all_parts certified)
+    ≡ read_rest new later (check_names_then certified t 1 (finish_with_tables certified t [] t.routers))
+read_rest-after_topology certified s new text later part t e name remaining =
+    read_rest-part_passed s new text later part (read_all_parts certified) e
+    ∙ read_rest-same new later (λ parts. read_all_parts certified (part ∷ parts))
+    (check_names_then certified t 1 (finish_with_tables certified t [] t.routers))
+    (λ parts. read_all_parts-after_topology certified part t parts name remaining)
 
 -- ---- from the start
 
-at_start : (certified : Bool) (s : PartsState) (text : List ℕ) → s.stage ≡ stages.Start
-    → coming s text (told_in certified) ≡ told_of certified text
-at_start certified s text is = rw is refl
+read_rest-at_start : (certified : Bool) (s : PartsState) (text : List ℕ) → s.stage ≡ stages.Start
+    → read_rest s text (read_all_parts certified) ≡ read_bundle certified text
+read_rest-at_start certified s text is = rw is refl
 
 -- no more is read than the greatest bundle and a line
-pub spent : (most after : ℕ) (old new : Option (List ℕ)) → most ≡ max_input
-    → Spends most after old new → ConsumesUpTo max_input old new
-spent most after old new is spends = (spends.0, omega (arith, spends.1, is), spends.2)
+pub ConsumesUpTo-from_Spends : (most after : ℕ) (old new : Option (List ℕ)) → most ≡ max_input
+    → ConsumesWithin most after old new → ConsumesUpTo max_input old new
+ConsumesUpTo-from_Spends most after old new is spends = (spends.0, omega (arith, spends.1, is), spends.2)
 
 -- ---- what it means
 
-tables_told : (rs : List RouterRow) (here : List PartText) (ts : List TablesValue)
-    (rest : List PartText) → TellTables rs here ts rest
+AreTables-from_PartsDenoteTables : (rs : List RouterRow) (here : List PartText) (ts : List TablesValue)
+    (rest : List PartText) → PartsDenoteTables rs here ts rest
     → (router : ℕ) (own : TablesValue) → slice_get ts router ≡ Some own → AreTables own
-tables_told [] here [] rest h router own at = absurd cc
-tables_told [] here (t ∷ ts) rest h router own at = absurd h
-tables_told (r ∷ rs) [] ts rest h router own at = absurd h
-tables_told (r ∷ rs) (vif ∷ []) ts rest h router own at = absurd h
-tables_told (r ∷ rs) (vif ∷ cache ∷ here) [] rest h router own at = absurd h
-tables_told (r ∷ rs) (vif ∷ cache ∷ here) (t ∷ ts) rest h zero own at =
+AreTables-from_PartsDenoteTables [] here [] rest h router own at = absurd cc
+AreTables-from_PartsDenoteTables [] here (t ∷ ts) rest h router own at = absurd h
+AreTables-from_PartsDenoteTables (r ∷ rs) [] ts rest h router own at = absurd h
+AreTables-from_PartsDenoteTables (r ∷ rs) (vif ∷ []) ts rest h router own at = absurd h
+AreTables-from_PartsDenoteTables (r ∷ rs) (vif ∷ cache ∷ here) [] rest h router own at = absurd h
+AreTables-from_PartsDenoteTables (r ∷ rs) (vif ∷ cache ∷ here) (t ∷ ts) rest h zero own at =
     let same : t ≡ own = cc in
     subst AreTables same (record {
-      vifs = vif_table_is vif.bytes t.vifs h.0.vifs;
-      cache = cache_is r.order cache.bytes t.cache h.0.entries;
+      vifs = vif_table-is_valid vif.bytes t.vifs h.0.vifs;
+      cache = cache-is_valid r.order cache.bytes t.cache h.0.entries;
     })
-tables_told (r ∷ rs) (vif ∷ cache ∷ here) (t ∷ ts) rest h (suc router) own at =
-    tables_told rs here ts rest h.1 router own at
+AreTables-from_PartsDenoteTables (r ∷ rs) (vif ∷ cache ∷ here) (t ∷ ts) rest h (suc router) own at =
+    AreTables-from_PartsDenoteTables rs here ts rest h.1 router own at
 
 -- the input means a domain of which this one says what it says
-pub kept_means : {X : Type 0} (Stands : X → InputValue → Type 0) (x : X) (parts : List PartText)
-    (certificate : Option (List ℕ)) (v : InputValue) (d : DomainValue) → Stands x v
-    → PartsStand parts v certificate → IsDomainOf d v → IsDomain d → MeansSame (Means Stands) x d
-kept_means Stands x parts certificate v d stands stand kept rules =
+pub MeansSamePerFlow-from_denotes : {X : Type 0} (Denotes : X → InputValue → Type 0) (x : X) (parts : List PartText)
+    (certificate : Option (List ℕ)) (v : InputValue) (d : DomainValue) → Denotes x v
+    → PartsDenoteInput parts v certificate → IsDomainOf d v → IsDomain d → MeansSamePerFlow (Means Denotes) x d
+MeansSamePerFlow-from_denotes Denotes x parts certificate v d denotes parts_denote kept rules =
     let t = d.topology in
     let whole = domain_with t v.tables d.wants in
-    let count = pairwise-count (AreListedTables t.flows) d.tables v.tables kept.listed in
+    let count = pairwise-count (IsListedPartOfTables t.flows) d.tables v.tables kept.listed in
     let each = pairwise-each (AreWanted t.flows) v.reports d.wants kept.wanted in
     let size = pairwise-count (AreWanted t.flows) v.reports d.wants kept.wanted in
-    let assembled = assembled-of t v.tables v.reports d.wants (sym size) each in
+    let assembled = is_assembled-from_reports t v.tables v.reports d.wants (sym size) each in
     let answers : AreAnswers t d.wants = record { lans = rules.lans; flows = rules.flows } in
-    let told = tables_told v.topology.routers stand.of_routers v.tables stand.of_lans stand.tables in
-    let is = domain-of t v.tables d.wants rules.topology (sym count ∙ rules.routers) told answers in
+    let remaining = AreTables-from_PartsDenoteTables v.topology.routers parts_denote.of_routers v.tables parts_denote.of_lans parts_denote.tables in
+    let is = is_domain-from_parts t v.tables d.wants rules.topology (sym count ∙ rules.routers) remaining answers in
     record {
       whole = whole;
       means = record {
         input = v;
-        stands = stands;
+        denotes = denotes;
         assembled = subst (λ u. IsAssembled u v.tables v.reports whole) (sym kept.topology) assembled;
         rules = is;
       };
-      same = listed-same t d.tables v.tables d.wants kept.listed;
+      same = have_same_facts-of_listed_parts t d.tables v.tables d.wants kept.listed;
     }
 
-pub read_means : (certified : Bool) (s : PartsState) (text : List ℕ) (d : DomainValue)
+pub MeansDomainAsListed-from_ReadsDomain : (certified : Bool) (s : PartsState) (text : List ℕ) (d : DomainValue)
     (certificate : Option (List ℕ)) → s.stage ≡ stages.Start → IsDomain d
-    → IsReadOf s text certified d certificate → MeansListed text certificate d
-read_means certified s text d certificate start rules read =
-    let stands = told_stands certified text read.0 certificate
-    (sym (at_start certified s text start) ∙ read.2) in
-    kept_means (λ t input. InputStands t input certificate) text stands.parts certificate read.0 d
-    stands stands.stand read.1 rules
+    → ReadsDomain s text certified d certificate → MeansDomainAsListed text certificate d
+MeansDomainAsListed-from_ReadsDomain certified s text d certificate start rules read =
+    let denotes = DenotesInput-from_read_bundle certified text read.0 certificate
+    (sym (read_rest-at_start certified s text start) ∙ read.2) in
+    MeansSamePerFlow-from_denotes (λ t input. DenotesInput t input certificate) text denotes.parts certificate read.0 d
+    denotes denotes.parts_denote read.1 rules
 
 -- ---- and why it is refused
 
-pub read_refused : (certified : Bool) (s : PartsState) (text : List ℕ) (own : SourceFault)
-    → s.stage ≡ stages.Start → s.told ≡ Some text → Refuses s (told_in certified) own
-    → ¬ IsSilent own → refused_as Input (input_of certified text) ≡ Err own
-read_refused certified s text own start told refused loud =
-    let found = as_ours (coming s text (told_in certified)) own (refused text told loud) in
-    ap (refused_as Input) (told_refused certified text found.0
-    (sym (at_start certified s text start) ∙ found.1)) ∙ ap Err (sym found.2)
+pub input_of_bundle-Err : (certified : Bool) (s : PartsState) (text : List ℕ) (own : SourceFault)
+    → s.stage ≡ stages.Start → s.remaining ≡ Some text → IsFaultOf s (read_all_parts certified) own
+    → ¬ IsReadOrMemory own → map_fault Input (input_of_bundle certified text) ≡ Err own
+input_of_bundle-Err certified s text own start remaining refused loud =
+    let found = Err-from_refused_as (read_rest s text (read_all_parts certified)) own (refused text remaining loud) in
+    ap (map_fault Input) (input_of_bundle-Err_from_read_bundle certified text found.0
+    (sym (read_rest-at_start certified s text start) ∙ found.1)) ∙ ap Err (sym found.2)
 
 -- a fault that isn't silent is of what means nothing
-pub silent_of : (own : SourceFault) (P : Type 0) → (¬ IsSilent own → P) → (P → ⊥) → IsSilent own
-silent_of Read P loud none = inl refl
-silent_of (Input input.Memory) P loud none = inr refl
-silent_of (Input fault) P loud none =
+pub IsReadOrMemory-by_contradiction : (own : SourceFault) (P : Type 0) → (¬ IsReadOrMemory own → P) → (P → ⊥) → IsReadOrMemory own
+IsReadOrMemory-by_contradiction Read P loud none = inl refl
+IsReadOrMemory-by_contradiction (Input input.Memory) P loud none = inr refl
+IsReadOrMemory-by_contradiction (Input fault) P loud none =
     absurd (none (loud (λ silent. elim silent [ inl e ↦ absurd cc | inr e ↦ absurd cc ])))
 
-pub only_silent : (certified : Bool) (text : List ℕ) (certificate : Option (List ℕ))
+pub IsReadOrMemory-from_MeansDomain : (certified : Bool) (text : List ℕ) (certificate : Option (List ℕ))
     (d : DomainValue) (own : SourceFault) → is_some certificate ≡ certified
     → MeansDomain text certificate d
-    → (¬ IsSilent own → refused_as Input (input_of certified text) ≡ Err own) → IsSilent own
-only_silent certified text certificate d own is means refused =
-    silent_of own (refused_as Input (input_of certified text) ≡ Err own) refused (λ e.
-    let read = stands_read certified text means.input certificate is means.stands in
-    never (sym (ap (refused_as Input) read) ∙ e))
+    → (¬ IsReadOrMemory own → map_fault Input (input_of_bundle certified text) ≡ Err own) → IsReadOrMemory own
+IsReadOrMemory-from_MeansDomain certified text certificate d own is means refused =
+    IsReadOrMemory-by_contradiction own (map_fault Input (input_of_bundle certified text) ≡ Err own) refused (λ e.
+    let read = input_of_bundle-Ok certified text means.input certificate is means.denotes in
+    never (sym (ap (map_fault Input) read) ∙ e))
   where
     never : {v : InputValue} → (let r : Result InputValue SourceFault = Ok v in r) ≡ Err own → ⊥
     never e = cc
 
 -- what was read is the one that it means
-pub only_read : (certified : Bool) (text : List ℕ) (certificate own : Option (List ℕ))
+pub SaysTheSame-from_MeansDomain : (certified : Bool) (text : List ℕ) (certificate own : Option (List ℕ))
     (d read : DomainValue) → is_some certificate ≡ certified → is_some own ≡ certified
-    → MeansDomain text certificate d → MeansListed text own read
-    → SaysTheSame d read × (own ≡ certificate)
-only_read certified text certificate own d read is own_is means listed =
-    let one = one_of_bundle text own certificate listed.whole d (is ∙ sym own_is) listed.means means in
-    (subst (λ e. SaysTheSame e read) one.0 listed.same, one.1)
+    → MeansDomain text certificate d → MeansDomainAsListed text own read
+    → HaveSameFacts d read × (own ≡ certificate)
+SaysTheSame-from_MeansDomain certified text certificate own d read is own_is means listed =
+    let one = MeansDomain-unique text own certificate listed.whole d (is ∙ sym own_is) listed.means means in
+    (subst (λ e. HaveSameFacts e read) one.0 listed.same, one.1)
 
 -- ---- the answer
 
 module _ {X : Type 0} (d : X → DomainValue) (cert : X → Option (List ℕ)) (certified : Bool)
     (s : PartsState) (start : s.stage ≡ stages.Start) where
-  pub means_of : (o : Option (List ℕ)) (r : Result X SourceFault) → s.told ≡ o
+  pub MeansDomainAsListed-from_result : (o : Option (List ℕ)) (r : Result X SourceFault) → s.remaining ≡ o
       → IfOk r (λ x. IsDomain (d x))
-      → IfOk r (λ x. (text : List ℕ) → s.told ≡ Some text → IsReadOf s text certified (d x) (cert x))
-      → IfOk r (λ x. IfSome o (λ text. MeansListed text (cert x) (d x)))
-  means_of None (Ok x) told rules read = tt
-  means_of (Some text) (Ok x) told rules read =
-      read_means certified s text (d x) (cert x) start rules (read text told)
-  means_of o (Err fault) told rules read = tt
+      → IfOk r (λ x. (text : List ℕ) → s.remaining ≡ Some text → ReadsDomain s text certified (d x) (cert x))
+      → IfOk r (λ x. IfSome o (λ text. MeansDomainAsListed text (cert x) (d x)))
+  MeansDomainAsListed-from_result None (Ok x) remaining rules read = tt
+  MeansDomainAsListed-from_result (Some text) (Ok x) remaining rules read =
+      MeansDomainAsListed-from_ReadsDomain certified s text (d x) (cert x) start rules (read text remaining)
+  MeansDomainAsListed-from_result o (Err fault) remaining rules read = tt
 
-  pub only_of : (r : Result X SourceFault) (text : List ℕ) (certificate : Option (List ℕ))
-      (domain : DomainValue) → s.told ≡ Some text → is_some certificate ≡ certified
+  pub SaysTheSame-from_result : (r : Result X SourceFault) (text : List ℕ) (certificate : Option (List ℕ))
+      (domain : DomainValue) → s.remaining ≡ Some text → is_some certificate ≡ certified
       → MeansDomain text certificate domain → IfOk r (λ x. IsDomain (d x))
       → IfOk r (λ x. is_some (cert x) ≡ certified)
-      → IfOk r (λ x. (text : List ℕ) → s.told ≡ Some text → IsReadOf s text certified (d x) (cert x))
-      → IfErr r (Refuses s (told_in certified))
-      → MatchResult r (λ x. SaysTheSame domain (d x) × (cert x ≡ certificate)) IsSilent
-  only_of (Ok x) text certificate domain told is means rules own read refused =
-      only_read certified text certificate (cert x) domain (d x) is own means
-      (read_means certified s text (d x) (cert x) start rules (read text told))
-  only_of (Err fault) text certificate domain told is means rules own read refused =
-      only_silent certified text certificate domain fault is means
-      (read_refused certified s text fault start told refused)
+      → IfOk r (λ x. (text : List ℕ) → s.remaining ≡ Some text → ReadsDomain s text certified (d x) (cert x))
+      → IfErr r (IsFaultOf s (read_all_parts certified))
+      → MatchResult r (λ x. HaveSameFacts domain (d x) × (cert x ≡ certificate)) IsReadOrMemory
+  SaysTheSame-from_result (Ok x) text certificate domain remaining is means rules own read refused =
+      SaysTheSame-from_MeansDomain certified text certificate (cert x) domain (d x) is own means
+      (MeansDomainAsListed-from_ReadsDomain certified s text (d x) (cert x) start rules (read text remaining))
+  SaysTheSame-from_result (Err fault) text certificate domain remaining is means rules own read refused =
+      IsReadOrMemory-from_MeansDomain certified text certificate domain fault is means
+      (input_of_bundle-Err certified s text fault start remaining refused)
 
-  pub refused_of : (r : Result X SourceFault) (text : List ℕ) → s.told ≡ Some text
-      → IfErr r (Refuses s (told_in certified))
-      → IfErr r (λ fault. ¬ IsSilent fault → refused_as Input (input_of certified text) ≡ Err fault)
-  refused_of (Ok x) text told refused = tt
-  refused_of (Err fault) text told refused =
-      read_refused certified s text fault start told refused
+  pub input_of_bundle-Err_of_result : (r : Result X SourceFault) (text : List ℕ) → s.remaining ≡ Some text
+      → IfErr r (IsFaultOf s (read_all_parts certified))
+      → IfErr r (λ fault. ¬ IsReadOrMemory fault → map_fault Input (input_of_bundle certified text) ≡ Err fault)
+  input_of_bundle-Err_of_result (Ok x) text remaining refused = tt
+  input_of_bundle-Err_of_result (Err fault) text remaining refused =
+      input_of_bundle-Err certified s text fault start remaining refused
 
 -- the same of equal inputs
-pub spent_of : {a b old new : Option (List ℕ)} → ConsumesUpTo max_input a b → a ≡ old → b ≡ new
+pub ConsumesUpTo-same : {a b old new : Option (List ℕ)} → ConsumesUpTo max_input a b → a ≡ old → b ≡ new
     → ConsumesUpTo max_input old new
-spent_of {b = b} {old = old} all first last =
+ConsumesUpTo-same {b = b} {old = old} all first last =
     subst (λ o. ConsumesUpTo max_input old o) last
     (subst (λ o. ConsumesUpTo max_input o b) first all)
 
 -- a text is seen where there is one
-some_seen : (o : Option (Vec ℕ Global)) → is_some (text_seen o) ≡ is_some o
-some_seen None = refl
-some_seen (Some bytes) = refl
+is_some-certificate_text : (o : Option (Vec ℕ Global)) → is_some (certificate_text o) ≡ is_some o
+is_some-certificate_text None = refl
+is_some-certificate_text (Some bytes) = refl
 
-pub seen_certified : {X : Type 0} (raw : X → Option (Vec ℕ Global)) (certified : Bool)
+pub certificate_text-expected : {X : Type 0} (raw : X → Option (Vec ℕ Global)) (certified : Bool)
     (r : Result X SourceFault) → IfOk r (λ x. is_some (raw x) ≡ certified)
-    → IfOk r (λ x. is_some (text_seen (raw x)) ≡ certified)
-seen_certified raw certified (Ok x) is = some_seen (raw x) ∙ is
-seen_certified raw certified (Err fault) is = tt
+    → IfOk r (λ x. is_some (certificate_text (raw x)) ≡ certified)
+certificate_text-expected raw certified (Ok x) is = is_some-certificate_text (raw x) ∙ is
+certificate_text-expected raw certified (Err fault) is = tt

@@ -5,108 +5,108 @@ use Rattle.std.specs.Str.{bytes_eq}
 use Rattle.std.proofs.Common.{◌+◌, ◌∙◌, sym, subst}
 use Rattle.mc_text.specs.Bundle.{PartText}
 use Rattle.mc_text.specs.BundleReading.{bundle_of}
-use Rattle.mc_text.specs.Steps.{◌>>=◌, refused_as}
-use Rattle.mc_text.proofs.BundleLaws.{bundle_takes, bundle_again}
+use Rattle.mc_text.specs.Steps.{◌>>=◌, map_fault}
+use Rattle.mc_text.proofs.BundleLaws.{bundle_of-sound, bundle_of-complete}
 use Rattle.mc_text.proofs.StepLemmas.{bind_ok}
 use Rattle.mc_topology.specs.Topology.{TopologyValue}
-use Rattle.mc_layout.specs.Layout.{part_name, topology_slot, other_slots}
+use Rattle.mc_layout.specs.Layout.{part_name, topology_slot, slots_after_topology}
 use Rattle.mc_domain.specs.declared.fault.InputFault.{InputFault}
 use Rattle.mc_domain.specs.declared.fault.InputFault.TheVariants.{Bundle, Parts}
-use Rattle.mc_domain.specs.Input.{InputValue, InputStands, PartsStand}
-use Rattle.mc_domain.specs.InputReading.{certificate_in, input_in, input_of, names_in, part_named}
-use Rattle.mc_domain.specs.PartsInTurn.{ToldValue, names_from, tables_then, told_in}
-use Rattle.mc_domain.specs.PartsReading.{contents, reading, topology_of}
-use Rattle.mc_layout.proofs.PartLemmas.{refused_ok}
-use Rattle.mc_domain.proofs.BundleStand.{parts_take, parts_again}
-use Rattle.mc_domain.proofs.InTurnLemmas.{judged_are, names_are}
+use Rattle.mc_domain.specs.Input.{InputValue, DenotesInput, PartsDenoteInput}
+use Rattle.mc_domain.specs.InputReading.{certificate_in, input_of_parts, input_of_bundle, check_part_names, part_with_slot_name}
+use Rattle.mc_domain.specs.PartsOneByOne.{InputAndCertificate, check_names_from, finish_with_tables, read_all_parts}
+use Rattle.mc_domain.specs.PartsReading.{read_tables_and_reports, read_input, topology_of}
+use Rattle.mc_layout.proofs.PartLemmas.{Ok-from_refused_as}
+use Rattle.mc_domain.proofs.BundleDenotesInputLemmas.{PartsDenoteInput-from_input_of_parts, input_of_parts-Ok}
+use Rattle.mc_domain.proofs.OneByOneLemmas.{check_names_from-then_tables, check_names_from-zero}
 
-pub one_value : {A E : Type 0} {x y : A} → (let r : Result A E = Ok x in r) ≡ Ok y → x ≡ y
-one_value e = cc
+pub Ok-injective : {A E : Type 0} {x y : A} → (let r : Result A E = Ok x in r) ≡ Ok y → x ≡ y
+Ok-injective e = cc
 
 -- ---- the parts in turn
 
 -- an input with its certificate
-abbrev certify : (certified : Bool) → List PartText → InputValue → Result ToldValue InputFault
-certify certified parts v = Ok (v, certificate_in certified parts v.topology)
+abbrev with_certificate_text : (certified : Bool) → List PartText → InputValue → Result InputAndCertificate InputFault
+with_certificate_text certified parts v = Ok (v, certificate_in certified parts v.topology)
 
 module _ (certified : Bool) (part : PartText) (here : List PartText)
     (name : bytes_eq part.name (part_name topology_slot) ≡ true) where
-  names_here : (t : TopologyValue)
-      → names_in certified (part ∷ here) t ≡ names_from 1 (other_slots certified t) here
-  names_here t = sym (names_are certified t (part ∷ here)) ∙ rw name refl
+  check_part_names-first_passed : (t : TopologyValue)
+      → check_part_names certified (part ∷ here) t ≡ check_names_from 1 (slots_after_topology certified t) here
+  check_part_names-first_passed t = sym (check_names_from-zero certified t (part ∷ here)) ∙ rw name refl
 
-  read_case : (topology : Result TopologyValue InputFault)
-      → ((refused_as (λ fault. fault) topology >>= λ t. names_in certified (part ∷ here) t
-      >>= λ _. contents (λ fault. fault) (part_named (part ∷ here)) t)
-      >>= certify certified (part ∷ here))
-      ≡ (topology >>= λ t. names_from 1 (other_slots certified t) here
-      >>= λ _. tables_then certified t [] t.routers here)
-  read_case (Err fault) = refl
-  read_case (Ok t) = rw (names_here t) (judged_are certified t part here _ refl)
+  read_input-by_case : (topology : Result TopologyValue InputFault)
+      → ((map_fault (λ fault. fault) topology >>= λ t. check_part_names certified (part ∷ here) t
+      >>= λ _. read_tables_and_reports (λ fault. fault) (part_with_slot_name (part ∷ here)) t)
+      >>= with_certificate_text certified (part ∷ here))
+      ≡ (topology >>= λ t. check_names_from 1 (slots_after_topology certified t) here
+      >>= λ _. finish_with_tables certified t [] t.routers here)
+  read_input-by_case (Err fault) = refl
+  read_input-by_case (Ok t) = rw (check_part_names-first_passed t) (check_names_from-then_tables certified t part here _ refl)
 
 -- what is told is the input, and its certificate
-told_is : (certified : Bool) (parts : List PartText)
-    → (input_in certified parts >>= certify certified parts) ≡ told_in certified parts
-unfolding reading
-told_is certified [] = refl
-told_is certified (part ∷ here) = by (bytes_eq part.name (part_name topology_slot)) refl
+input_of_parts-read_all_parts : (certified : Bool) (parts : List PartText)
+    → (input_of_parts certified parts >>= with_certificate_text certified parts) ≡ read_all_parts certified parts
+unfolding read_input
+input_of_parts-read_all_parts certified [] = refl
+input_of_parts-read_all_parts certified (part ∷ here) = by (bytes_eq part.name (part_name topology_slot)) refl
   where
     by : (b : Bool) → bytes_eq part.name (part_name topology_slot) ≡ b
         → ((((if b then Ok part else Err (Parts (0 + 1)))
-        >>= λ p. refused_as (λ fault. fault) (topology_of p))
-        >>= λ t. names_in certified (part ∷ here) t
-        >>= λ _. contents (λ fault. fault) (part_named (part ∷ here)) t)
-        >>= certify certified (part ∷ here))
+        >>= λ p. map_fault (λ fault. fault) (topology_of p))
+        >>= λ t. check_part_names certified (part ∷ here) t
+        >>= λ _. read_tables_and_reports (λ fault. fault) (part_with_slot_name (part ∷ here)) t)
+        >>= with_certificate_text certified (part ∷ here))
         ≡ (((if b then Ok part else Err (Parts (0 + 1))) >>= topology_of)
-        >>= λ t. names_from 1 (other_slots certified t) here
-        >>= λ _. tables_then certified t [] t.routers here)
-    by true is = read_case certified part here is (topology_of part)
+        >>= λ t. check_names_from 1 (slots_after_topology certified t) here
+        >>= λ _. finish_with_tables certified t [] t.routers here)
+    by true is = read_input-by_case certified part here is (topology_of part)
     by false is = refl
 
 -- ---- a bundle
 
 -- what a text tells
-abbrev pub told_of : (certified : Bool) → List ℕ → Result ToldValue InputFault
-told_of certified text = refused_as Bundle (bundle_of text) >>= told_in certified
+abbrev pub read_bundle : (certified : Bool) → List ℕ → Result InputAndCertificate InputFault
+read_bundle certified text = map_fault Bundle (bundle_of text) >>= read_all_parts certified
 
 -- a bundle stands for what it is read as
-pub told_stands : (certified : Bool) (text : List ℕ) (v : InputValue) (c : Option (List ℕ))
-    → told_of certified text ≡ Ok (v, c) → InputStands text v c
-told_stands certified text v c e =
-    let parts = bind_ok (refused_as Bundle (bundle_of text)) (told_in certified) (v, c) e in
-    let bundle = bundle_takes text parts.0 (refused_ok Bundle (bundle_of text) parts.0 parts.1) in
-    let input = bind_ok (input_in certified parts.0) (certify certified parts.0) (v, c)
-    (told_is certified parts.0 ∙ parts.2) in
-    let both : (let p : ToldValue = (input.0, certificate_in certified parts.0 input.0.topology) in p)
-    ≡ (v, c) = one_value input.2 in
-    let stands = parts_take certified parts.0 input.0 input.1 in
-    let P : ToldValue → Type 0 = λ p. PartsStand parts.0 p.0 p.1 in
+pub DenotesInput-from_read_bundle : (certified : Bool) (text : List ℕ) (v : InputValue) (c : Option (List ℕ))
+    → read_bundle certified text ≡ Ok (v, c) → DenotesInput text v c
+DenotesInput-from_read_bundle certified text v c e =
+    let parts = bind_ok (map_fault Bundle (bundle_of text)) (read_all_parts certified) (v, c) e in
+    let bundle = bundle_of-sound text parts.0 (Ok-from_refused_as Bundle (bundle_of text) parts.0 parts.1) in
+    let input = bind_ok (input_of_parts certified parts.0) (with_certificate_text certified parts.0) (v, c)
+    (input_of_parts-read_all_parts certified parts.0 ∙ parts.2) in
+    let both : (let p : InputAndCertificate = (input.0, certificate_in certified parts.0 input.0.topology) in p)
+    ≡ (v, c) = Ok-injective input.2 in
+    let denotes = PartsDenoteInput-from_input_of_parts certified parts.0 input.0 input.1 in
+    let P : InputAndCertificate → Type 0 = λ p. PartsDenoteInput parts.0 p.0 p.1 in
     record {
       parts = parts.0;
       bundle = bundle;
-      stand = subst P both stands;
+      parts_denote = subst P both denotes;
     }
 
 -- and is refused where what it tells is
-refused_in : (certified : Bool) (parts : List PartText) (r : Result InputValue InputFault)
-    (fault : InputFault) → (r >>= certify certified parts) ≡ Err fault → r ≡ Err fault
-refused_in certified parts (Ok v) fault e = absurd cc
-refused_in certified parts (Err other) fault e = cc
+Err-from_with_certificate_text : (certified : Bool) (parts : List PartText) (r : Result InputValue InputFault)
+    (fault : InputFault) → (r >>= with_certificate_text certified parts) ≡ Err fault → r ≡ Err fault
+Err-from_with_certificate_text certified parts (Ok v) fault e = absurd cc
+Err-from_with_certificate_text certified parts (Err other) fault e = cc
 
-pub told_refused : (certified : Bool) (text : List ℕ) (fault : InputFault)
-    → told_of certified text ≡ Err fault → input_of certified text ≡ Err fault
-unfolding input_of
-told_refused certified text fault e = by (refused_as Bundle (bundle_of text)) e
+pub input_of_bundle-Err_from_read_bundle : (certified : Bool) (text : List ℕ) (fault : InputFault)
+    → read_bundle certified text ≡ Err fault → input_of_bundle certified text ≡ Err fault
+unfolding input_of_bundle
+input_of_bundle-Err_from_read_bundle certified text fault e = by (map_fault Bundle (bundle_of text)) e
   where
-    by : (r : Result (List PartText) InputFault) → (r >>= told_in certified) ≡ Err fault
-        → (r >>= input_in certified) ≡ Err fault
-    by (Ok parts) e = refused_in certified parts (input_in certified parts) fault
-        (told_is certified parts ∙ e)
+    by : (r : Result (List PartText) InputFault) → (r >>= read_all_parts certified) ≡ Err fault
+        → (r >>= input_of_parts certified) ≡ Err fault
+    by (Ok parts) e = Err-from_with_certificate_text certified parts (input_of_parts certified parts) fault
+        (input_of_parts-read_all_parts certified parts ∙ e)
     by (Err other) e = cc
 
 -- a bundle that stands for an input is read as that
-pub stands_read : (certified : Bool) (text : List ℕ) (v : InputValue) (c : Option (List ℕ))
-    → is_some c ≡ certified → InputStands text v c → input_of certified text ≡ Ok v
-unfolding input_of
-stands_read certified text v c is h =
-    rw (bundle_again text h.parts h.bundle) (parts_again certified h.parts v c is h.stand).0
+pub input_of_bundle-Ok : (certified : Bool) (text : List ℕ) (v : InputValue) (c : Option (List ℕ))
+    → is_some c ≡ certified → DenotesInput text v c → input_of_bundle certified text ≡ Ok v
+unfolding input_of_bundle
+input_of_bundle-Ok certified text v c is h =
+    rw (bundle_of-complete text h.parts h.bundle) (input_of_parts-Ok certified h.parts v c is h.parts_denote).0

@@ -5,12 +5,12 @@ use Rattle.mc_text.specs.Bundle.{PartText, max_part}
 use Rattle.mc_layout.specs.Files.{FileText}
 use Rattle.mc_layout.specs.Layout.{slots}
 use Rattle.mc_layout.specs.Packing.{ArePacked}
-use Rattle.mc_domain.specs.Input.{InputValue, PartsStand}
+use Rattle.mc_domain.specs.Input.{InputValue, PartsDenoteInput}
 
 -- The parts that are packed of the files without a certificate, none past the limit of a part,
 -- stand for the input.
-pub record FilesStand (files : List FileText) (input : InputValue) : Type 0 where
+pub record FilesDenoteInput (files : List FileText) (input : InputValue) : Type 0 where
   pub parts : List PartText
   pub packed : ArePacked files (slots false input.topology) parts
   pub sizes : AllByRecursion (λ part. length part.bytes ≤ max_part) parts
-  pub stand : PartsStand parts input None
+  pub parts_denote : PartsDenoteInput parts input None

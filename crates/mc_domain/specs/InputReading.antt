@@ -5,14 +5,14 @@ use Rattle.std.specs.Prelude.{◌≡◌, ℕ, ◌+◌, Bool, true, false, List, 
 use Rattle.std.specs.Prelude.{Option, Some, None, Result, Ok, Err, if◌then◌else◌}
 use Rattle.std.specs.Str.{bytes_eq}
 use Rattle.mc_text.specs.Steps as Steps
-use Rattle.mc_text.specs.Steps.{◌>>=◌, refused_as}
+use Rattle.mc_text.specs.Steps.{◌>>=◌, map_fault}
 use Rattle.mc_text.specs.Bundle.{PartText}
 use Rattle.mc_text.specs.BundleReading.{bundle_of}
 use Rattle.mc_topology.specs.Topology.{TopologyValue}
-use Rattle.mc_layout.specs.Belongs.{belongs}
+use Rattle.mc_layout.specs.PartMismatch.{first_part_mismatch}
 use Rattle.mc_layout.specs.Layout.{Slot, part_name, slots}
 use Rattle.mc_domain.specs.Input.{InputValue}
-use Rattle.mc_domain.specs.PartsReading.{reading}
+use Rattle.mc_domain.specs.PartsReading.{read_input}
 use Rattle.mc_domain.specs.declared.fault.InputFault.{InputFault}
 use Rattle.mc_domain.specs.declared.fault.InputFault.TheVariants.{Bundle, Parts, Memory}
 
@@ -30,22 +30,22 @@ named None name n = Err (Parts (n + 1))
 named (Some part) name n = if bytes_eq part.name name then Ok part else Err (Parts (n + 1))
 
 -- the part with a number, counted from 0, if it has the name of the slot
-abbrev pub part_named : List PartText → ℕ → Slot → Result PartText InputFault
-part_named parts n slot = named (slice_get parts n) (part_name slot) n
+abbrev pub part_with_slot_name : List PartText → ℕ → Slot → Result PartText InputFault
+part_with_slot_name parts n slot = named (slice_get parts n) (part_name slot) n
 
 -- the number of a part that does not belong to the domain is told, counted from 1
-abbrev pub refused_part : Option ℕ → Result (Unit {0}) InputFault
-refused_part None = Ok tt
-refused_part (Some n) = Err (Parts (n + 1))
+abbrev pub part_name_fault : Option ℕ → Result (Unit {0}) InputFault
+part_name_fault None = Ok tt
+part_name_fault (Some n) = Err (Parts (n + 1))
 
 -- the names and the number of all parts
-abbrev pub names_in : (certified : Bool) → List PartText → TopologyValue
+abbrev pub check_part_names : (certified : Bool) → List PartText → TopologyValue
     → Result (Unit {0}) InputFault
-names_in certified parts t = refused_part (belongs certified t parts)
+check_part_names certified parts t = part_name_fault (first_part_mismatch certified t parts)
 
 -- the input of the parts
-abbrev pub input_in : Bool → List PartText → Result InputValue InputFault
-input_in certified parts = reading (λ fault. fault) (part_named parts) (names_in certified parts)
+abbrev pub input_of_parts : Bool → List PartText → Result InputValue InputFault
+input_of_parts certified parts = read_input (λ fault. fault) (part_with_slot_name parts) (check_part_names certified parts)
 
 -- The part with a number. Past the last one stands a part without a name.
 abbrev pub part_at : List PartText → ℕ → PartText
@@ -57,5 +57,5 @@ certificate_in true parts t = Some (part_at parts (length (slots false t))).byte
 certificate_in false parts t = None
 
 -- the input of a bundle
-unfoldable pub input_of : Bool → List ℕ → Result InputValue InputFault
-input_of certified text = refused_as Bundle (bundle_of text) >>= input_in certified
+unfoldable pub input_of_bundle : Bool → List ℕ → Result InputValue InputFault
+input_of_bundle certified text = map_fault Bundle (bundle_of text) >>= input_of_parts certified

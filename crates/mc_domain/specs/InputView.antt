@@ -11,5 +11,5 @@ abbrev pub input_with : TopologyValue → List TablesValue → List (List Record
 input_with t tables reports = record { topology = t; tables = tables; reports = reports }
 
 -- the text of the certificate
-abbrev pub text_seen : Option (Vec ℕ Global) → Option (List ℕ)
-text_seen text = option_map (λ bytes. bytes.items) text
+abbrev pub certificate_text : Option (Vec ℕ Global) → Option (List ℕ)
+certificate_text text = option_map (λ bytes. bytes.items) text

@@ -7,9 +7,9 @@ use Rattle.mc_topology.specs.Topology.{TopologyValue}
 use Rattle.mc_topology.specs.declared.flow.Flow.{Flow}
 use Rattle.mc_forward.specs.Assembling.{AreWanted}
 use Rattle.mc_forward.specs.Domains.{DomainValue, TablesValue}
-use Rattle.mc_forward.specs.ListedTables.{AreListed, Pairwise, flow_pairs}
+use Rattle.mc_forward.specs.ListedTables.{AreListedPartsOfTables, Pairwise, flow_pairs}
 use Rattle.mc_domain.specs.Input.{InputValue}
-use Rattle.mc_domain.specs.SourceFault.{IsSilent}
+use Rattle.mc_domain.specs.SourceFault.{IsReadOrMemory}
 use Rattle.mc_domain.specs.declared.source_fault.SourceFault.{SourceFault}
 
 -- these are the sources and groups of the other list, in any order
@@ -25,25 +25,25 @@ abbrev pub AreWantedBy : TopologyValue → List (List Record) → List (List Boo
 AreWantedBy t reports wants = Pairwise (AreWanted t.flows) reports wants
 
 -- This is kept of an input: of its tables what they say of the flows, and which LAN wants which.
-pub record IsListedOf (input : InputValue) (t : TopologyValue) (tables : List TablesValue)
+pub record AreListedContents (input : InputValue) (t : TopologyValue) (tables : List TablesValue)
     (wants : List (List Bool)) : Type 0 where
   pub topology : input.topology ≡ t
-  pub listed : AreListed t.flows tables input.tables
+  pub listed : AreListedPartsOfTables t.flows tables input.tables
   pub wanted : AreWantedBy t input.reports wants
 
 -- the domain is what is kept of the input
 abbrev pub IsDomainOf : DomainValue → InputValue → Type 0
-IsDomainOf d input = IsListedOf input d.topology d.tables d.wants
+IsDomainOf d input = AreListedContents input d.topology d.tables d.wants
 
 -- What a call answers is kept of what the step gives, or is the step's fault. That the source failed
 -- or memory ran out says nothing of the step.
 abbrev pub GivesKept : {X Y : Type 0} → (X → Y → Type 0) → Result X SourceFault → Result Y SourceFault
     → Type 0
 GivesKept {Y = Y} Keeps (Ok kept) step = (whole : Y) × (step ≡ Ok whole) × Keeps kept whole
-GivesKept Keeps (Err fault) step = (¬ IsSilent fault) → step ≡ Err fault
+GivesKept Keeps (Err fault) step = (¬ IsReadOrMemory fault) → step ≡ Err fault
 
 -- the same of what the files give that a source tells
-abbrev pub GivesKeptOf : {X Y : Type 0} → Option (List FileText) → (X → Y → Type 0)
+abbrev pub GivesKeptFromContents : {X Y : Type 0} → Option (List FileText) → (X → Y → Type 0)
     → Result X SourceFault → (List FileText → Result Y SourceFault) → Type 0
-GivesKeptOf told Keeps result step =
-    (files : List FileText) → told ≡ Some files → GivesKept Keeps result (step files)
+GivesKeptFromContents contents Keeps result step =
+    (files : List FileText) → contents ≡ Some files → GivesKept Keeps result (step files)

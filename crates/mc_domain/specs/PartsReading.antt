@@ -4,19 +4,19 @@
 use Rattle.std.specs.Prelude.{Bool, ℕ, ◌+◌, ◌*◌, List, [], ◌∷◌, length, Result, Ok}
 use Rattle.std.specs.FinMap.{FinMap}
 use Rattle.std.specs.Ordering.{nat_cmp}
-use Rattle.mc_text.specs.Steps.{◌>>=◌, refused_as}
+use Rattle.mc_text.specs.Steps.{◌>>=◌, map_fault}
 use Rattle.mc_text.specs.Bundle.{PartText}
 use Rattle.mc_text.specs.declared.text.addr.Order.{Order}
-use Rattle.mc_tables.specs.VifTable.{VifText}
-use Rattle.mc_tables.specs.CacheTable.{CacheText}
+use Rattle.mc_tables.specs.VifTable.{VifValue}
+use Rattle.mc_tables.specs.CacheTable.{CacheValue}
 use Rattle.mc_tables.specs.VifReading.{vifs_in}
 use Rattle.mc_tables.specs.CacheReading.{cache_in}
-use Rattle.mc_tables.specs.NotedReading.{noted_in}
-use Rattle.mc_tables.specs.declared.noted_cache.NotedCache.{NotedCache}
+use Rattle.mc_tables.specs.SummaryReading.{summary_in}
+use Rattle.mc_tables.specs.declared.summarized_cache.SummarizedCache.{SummarizedCache}
 use Rattle.mc_igmp.specs.declared.record.Record.{Record}
 use Rattle.mc_igmp.specs.ReadingList.{read_list}
-use Rattle.mc_topology.specs.Rows.{RouterRow}
-use Rattle.mc_topology.specs.Reading.{reading_of}
+use Rattle.mc_topology.specs.SectionRows.{RouterRow}
+use Rattle.mc_topology.specs.Reading.{parse_topology}
 use Rattle.mc_topology.specs.Topology.{TopologyValue}
 use Rattle.mc_layout.specs.Layout.{Slot, topology_slot, vif_slot, cache_slot, reports_slot}
 use Rattle.mc_forward.specs.Domains.{TablesValue}
@@ -28,28 +28,28 @@ use Rattle.mc_domain.specs.declared.fault.InputFault.TheVariants.{Topology, Vif,
 
 -- the topology, in a part
 abbrev pub topology_of : PartText → Result TopologyValue InputFault
-topology_of part = refused_as Topology (reading_of part.bytes)
+topology_of part = map_fault Topology (parse_topology part.bytes)
 
 -- the vifs of a router
-abbrev pub vifs_of : PartText → Result (FinMap nat_cmp VifText) InputFault
-vifs_of part = refused_as (Vif part.name) (vifs_in part.bytes)
+abbrev pub vifs_of : PartText → Result (FinMap nat_cmp VifValue) InputFault
+vifs_of part = map_fault (Vif part.name) (vifs_in part.bytes)
 
 -- the forwarding cache of a router
-abbrev pub cache_of : Order → PartText → Result CacheText InputFault
-cache_of order part = refused_as (Cache part.name) (cache_in order part.bytes)
+abbrev pub cache_of : Order → PartText → Result CacheValue InputFault
+cache_of order part = map_fault (Cache part.name) (cache_in order part.bytes)
 
 -- the entries of these sources and groups, and what is noted of all rows for them
-abbrev pub noted_of : (all : Bool) → Order → List (ℕ × ℕ) → PartText → Result NotedCache InputFault
-noted_of all order pairs part = refused_as (Cache part.name) (noted_in all order pairs part.bytes)
+abbrev pub summary_of_part : (all : Bool) → Order → List (ℕ × ℕ) → PartText → Result SummarizedCache InputFault
+summary_of_part all order pairs part = map_fault (Cache part.name) (summary_in all order pairs part.bytes)
 
 -- the records of a LAN's reports
 abbrev pub reports_of : PartText → Result (List Record) InputFault
-reports_of part = refused_as (Reports part.name) (read_list part.bytes)
+reports_of part = map_fault (Reports part.name) (read_list part.bytes)
 
 -- what is read of the part that is given, with its fault as the caller's
-abbrev pub told_by : {X F : Type 0} → (InputFault → F) → Result PartText F
+abbrev pub read_part : {X F : Type 0} → (InputFault → F) → Result PartText F
     → (PartText → Result X InputFault) → Result X F
-told_by as_ours given read = given >>= λ part. refused_as as_ours (read part)
+read_part as_ours given read = given >>= λ part. map_fault as_ours (read part)
 
 -- ---- all parts, each as a source gives it by the number and the names of its slot
 
@@ -57,8 +57,8 @@ told_by as_ours given read = given >>= λ part. refused_as as_ours (read part)
 unfoldable pub router_tables : {F : Type 0} → (InputFault → F) → (ℕ → Slot → Result PartText F)
     → ℕ → (name : List ℕ) → Order → Result TablesValue F
 router_tables as_ours source n name order =
-    told_by as_ours (source n (vif_slot name)) vifs_of
-    >>= λ vifs. told_by as_ours (source (n + 1) (cache_slot name)) (cache_of order)
+    read_part as_ours (source n (vif_slot name)) vifs_of
+    >>= λ vifs. read_part as_ours (source (n + 1) (cache_slot name)) (cache_of order)
     >>= λ entries. Ok (record { vifs = vifs; cache = entries })
 
 -- the tables of routers, whose slots have the numbers from one on
@@ -75,27 +75,27 @@ unfoldable pub all_reports : {F : Type 0} → (InputFault → F) → (ℕ → Sl
     → ℕ → List (List ℕ) → Result (List (List Record)) F
 all_reports as_ours source n [] = Ok []
 all_reports as_ours source n (lan ∷ lans) =
-    told_by as_ours (source n (reports_slot lan)) reports_of
+    read_part as_ours (source n (reports_slot lan)) reports_of
     >>= λ records. all_reports as_ours source (n + 1) lans
     >>= λ others. Ok (records ∷ others)
 
 -- the number of the first LAN's slot: behind the topology's and two for each router
-abbrev pub lans_number : TopologyValue → ℕ
-lans_number t = 1 + 2 * length t.routers
+abbrev pub first_lan_number : TopologyValue → ℕ
+first_lan_number t = 1 + 2 * length t.routers
 
 -- what is told beside the topology
-unfoldable pub contents : {F : Type 0} → (InputFault → F) → (ℕ → Slot → Result PartText F)
+unfoldable pub read_tables_and_reports : {F : Type 0} → (InputFault → F) → (ℕ → Slot → Result PartText F)
     → TopologyValue → Result InputValue F
-contents as_ours source t =
+read_tables_and_reports as_ours source t =
     all_tables as_ours source 1 t.routers
-    >>= λ tables. all_reports as_ours source (lans_number t) t.lans
+    >>= λ tables. all_reports as_ours source (first_lan_number t) t.lans
     >>= λ reports. Ok (record { topology = t; tables = tables; reports = reports })
 
 -- The input: with a part's fault as the caller's, what gives the part of a slot, and what judges,
 -- once the topology is known, which parts there are.
-unfoldable pub reading : {F : Type 0} → (InputFault → F) → (ℕ → Slot → Result PartText F)
+unfoldable pub read_input : {F : Type 0} → (InputFault → F) → (ℕ → Slot → Result PartText F)
     → (TopologyValue → Result (Unit {0}) F) → Result InputValue F
-reading as_ours source judge =
-    told_by as_ours (source 0 topology_slot) topology_of
+read_input as_ours source judge =
+    read_part as_ours (source 0 topology_slot) topology_of
     >>= λ t. judge t
-    >>= λ _. contents as_ours source t
+    >>= λ _. read_tables_and_reports as_ours source t

@@ -6,13 +6,13 @@ use Rattle.std.specs.List.{AllByRecursion, list_any}
 use Rattle.std.specs.Result.{result_err}
 use Rattle.std.specs.Str.{bytes_eq}
 use Rattle.mc_text.specs.Bundle.{PartText}
-use Rattle.mc_topology.specs.Rows.{RouterRow}
+use Rattle.mc_topology.specs.SectionRows.{RouterRow}
 use Rattle.mc_topology.specs.Topology.{TopologyValue}
 use Rattle.mc_layout.specs.Files.{FileText, file_named}
 use Rattle.mc_layout.specs.Layout.{Slot, cache_slot, file_name, reports_slot, topology_slot, vif_slot}
 use Rattle.mc_forward.specs.ListedTables.{Pairwise}
-use Rattle.mc_domain.specs.FilesReading.{part_filed}
-use Rattle.mc_domain.specs.PartsReading.{cache_of, reports_of, told_by, topology_of, vifs_of}
+use Rattle.mc_domain.specs.FilesReading.{part_from_file}
+use Rattle.mc_domain.specs.PartsReading.{cache_of, reports_of, read_part, topology_of, vifs_of}
 use Rattle.mc_domain.specs.SourceFault.{is_read}
 use Rattle.mc_domain.specs.declared.each_file.RefusedFile.{RefusedFile}
 use Rattle.mc_domain.specs.declared.each_file.Refusal.{Refusal}
@@ -30,13 +30,13 @@ pub record JudgedFile : Type 0 where
 -- ---- what each file has by itself
 
 -- the first fault of the file of a slot
-abbrev pub fault_of : {X : Type 0} → List FileText → Slot → (PartText → Result X InputFault)
+abbrev pub file_fault : {X : Type 0} → List FileText → Slot → (PartText → Result X InputFault)
     → Option SourceFault
-fault_of files slot read = result_err (told_by Input (part_filed files 0 slot) read)
+file_fault files slot read = result_err (read_part Input (part_from_file files 0 slot) read)
 
 abbrev pub judged_file : {X : Type 0} → List FileText → Slot → (PartText → Result X InputFault)
     → JudgedFile
-judged_file files slot read = record { name = file_name slot; fault = fault_of files slot read }
+judged_file files slot read = record { name = file_name slot; fault = file_fault files slot read }
 
 -- a router's two tables; of one that is left out none
 abbrev pub judged_tables : (names : List (List ℕ)) → List FileText → RouterRow → List JudgedFile
@@ -50,70 +50,70 @@ abbrev pub judged_reports : List FileText → (lan : List ℕ) → JudgedFile
 judged_reports files lan = judged_file files (reports_slot lan) reports_of
 
 -- all files that a topology names, or of one that is refused it alone
-abbrev pub judged_by : (names : List (List ℕ)) → List FileText → Result TopologyValue SourceFault
+abbrev pub judged_with_topology : (names : List (List ℕ)) → List FileText → Result TopologyValue SourceFault
     → List JudgedFile
-judged_by names files (Err fault) =
+judged_with_topology names files (Err fault) =
     (record { name = file_name topology_slot; fault = Some fault }) ∷ []
-judged_by names files (Ok t) =
+judged_with_topology names files (Ok t) =
     flat_map (judged_tables names files) t.routers ++ map (judged_reports files) t.lans
 
 -- the files of a folder, in the order of a domain's slots
 abbrev pub judged_files : (names : List (List ℕ)) → List FileText → List JudgedFile
 judged_files names files =
-    judged_by names files (told_by Input (part_filed files 0 topology_slot) topology_of)
+    judged_with_topology names files (read_part Input (part_from_file files 0 topology_slot) topology_of)
 
 -- those that have a fault
-abbrev pub refused_in : List JudgedFile → List JudgedFile
-refused_in files = filter (λ file. is_some file.fault) files
+abbrev pub files_with_fault : List JudgedFile → List JudgedFile
+files_with_fault files = filter (λ file. is_some file.fault) files
 
 -- The files of a folder that are refused, where the routers of these names are left out. A name that
 -- no router has leaves nothing out.
-abbrev pub refused_of : (names : List (List ℕ)) → List FileText → List JudgedFile
-refused_of names files = refused_in (judged_files names files)
+abbrev pub refused_files_of : (names : List (List ℕ)) → List FileText → List JudgedFile
+refused_files_of names files = files_with_fault (judged_files names files)
 
 -- ---- what a source gives of them
 
 -- A file's fault as a source gives the file: its own, or that the source can't read it.
-abbrev pub IsGivenFault : (given own : Option SourceFault) → Type 0
-IsGivenFault (Some Read) own = ⊤
-IsGivenFault (Some (Input fault)) own = own ≡ Some (Input fault)
-IsGivenFault None own = own ≡ None
+abbrev pub IsOwnFaultOrRead : (given own : Option SourceFault) → Type 0
+IsOwnFaultOrRead (Some Read) own = ⊤
+IsOwnFaultOrRead (Some (Input fault)) own = own ≡ Some (Input fault)
+IsOwnFaultOrRead None own = own ≡ None
 
 -- the same, unless memory ran out
-abbrev pub GivesFault : (given own : Option SourceFault) → Type 0
-GivesFault given own = given ≢ Some (Input Memory) → IsGivenFault given own
+abbrev pub IsOwnFaultUnlessMemory : (given own : Option SourceFault) → Type 0
+IsOwnFaultUnlessMemory given own = given ≢ Some (Input Memory) → IsOwnFaultOrRead given own
 
-pub record IsGiven (own given : JudgedFile) : Type 0 where
+pub record IsSameFileOrUnread (own given : JudgedFile) : Type 0 where
   pub name : given.name ≡ own.name
-  pub fault : IsGivenFault given.fault own.fault
+  pub fault : IsOwnFaultOrRead given.fault own.fault
 
 abbrev pub unread_topology : JudgedFile
 unread_topology = record { name = file_name topology_slot; fault = Some Read }
 
 -- The files as a source gives them, each for itself. A topology that it can't read names no other.
-abbrev pub AreGiven : (names : List (List ℕ)) → List FileText → (given : List JudgedFile) → Type 0
-AreGiven names files given =
-    (given ≡ unread_topology ∷ []) ⊎ Pairwise IsGiven (judged_files names files) given
+abbrev pub AreSameFilesOrUnread : (names : List (List ℕ)) → List FileText → (given : List JudgedFile) → Type 0
+AreSameFilesOrUnread names files given =
+    (given ≡ unread_topology ∷ []) ⊎ Pairwise IsSameFileOrUnread (judged_files names files) given
 
 -- these are listed: of the files as a source gives them those that have a fault
-abbrev pub AreRefused : (names : List (List ℕ)) → List FileText → (listed : List JudgedFile) → Type 0
-AreRefused names files listed =
-    (given : List JudgedFile) × AreGiven names files given × (listed ≡ refused_in given)
+abbrev pub AreRefusedFiles : (names : List (List ℕ)) → List FileText → (listed : List JudgedFile) → Type 0
+AreRefusedFiles names files listed =
+    (given : List JudgedFile) × AreSameFilesOrUnread names files given × (listed ≡ files_with_fault given)
 
 -- the files that are listed as those that can't be read aren't there
-abbrev pub AreMissing : List FileText → (listed : List JudgedFile) → Type 0
-AreMissing files listed =
+abbrev pub AreUnreadFilesMissing : List FileText → (listed : List JudgedFile) → Type 0
+AreUnreadFilesMissing files listed =
     AllByRecursion (λ file. file.fault ≡ Some Read → file_named files file.name ≡ None) listed
 
 -- ---- what is listed
 
-abbrev pub fault_in : Refusal → SourceFault
-fault_in (Unread unread) = Read
-fault_in (Fault fault) = Input fault
+abbrev pub fault_of_refusal : Refusal → SourceFault
+fault_of_refusal (Unread unread) = Read
+fault_of_refusal (Fault fault) = Input fault
 
 -- a file that is listed, by its name and its fault
-abbrev pub seen : RefusedFile → JudgedFile
-seen file = record { name = string_bytes file.name; fault = Some (fault_in file.refusal) }
+abbrev pub as_judged_file : RefusedFile → JudgedFile
+as_judged_file file = record { name = string_bytes file.name; fault = Some (fault_of_refusal file.refusal) }
 
 -- whether a file can't be read
 abbrev pub is_unread : Option SourceFault → Bool
@@ -121,23 +121,23 @@ is_unread None = false
 is_unread (Some fault) = is_read fault
 
 -- how many calls of a source failed, once these more did: it counts up to the greatest u64
-abbrev pub failures_with : (more before : ℕ) → ℕ
-failures_with more before = max before (min (before + more) 18446744073709551615)
+abbrev pub saturating_failures : (more before : ℕ) → ℕ
+saturating_failures more before = max before (min (before + more) 18446744073709551615)
 
 -- how many calls of a source fail at a file that is found so
-abbrev pub fault_count : Option SourceFault → ℕ
-fault_count fault = if is_unread fault then 1 else 0
+abbrev pub failure_count : Option SourceFault → ℕ
+failure_count fault = if is_unread fault then 1 else 0
 
 -- how many of the files can't be read
 abbrev pub unread_count : List JudgedFile → ℕ
 unread_count [] = 0
-unread_count (file ∷ files) = fault_count file.fault + unread_count files
+unread_count (file ∷ files) = failure_count file.fault + unread_count files
 
 -- What was judged of files, with what a source gives of them: the list has become longer by those
 -- that have a fault, and the source failed at those that can't be read.
-pub record Judges (told : Option (List FileText)) (files : List FileText → List JudgedFile)
+pub record JudgesFiles (contents : Option (List FileText)) (files : List FileText → List JudgedFile)
     (old new : List JudgedFile) (before after : ℕ) : Type 0 where
   pub given : List JudgedFile
-  pub listed : new ≡ old ++ refused_in given
-  pub failures : after ≡ failures_with (unread_count given) before
-  pub each : (known : List FileText) → told ≡ Some known → Pairwise IsGiven (files known) given
+  pub listed : new ≡ old ++ files_with_fault given
+  pub failures : after ≡ saturating_failures (unread_count given) before
+  pub each : (known : List FileText) → contents ≡ Some known → Pairwise IsSameFileOrUnread (files known) given

@@ -13,29 +13,29 @@ use Rattle.mc_domain.specs.declared.source_fault.SourceFault.{SourceFault}
 use Rattle.mc_domain.specs.declared.source_fault.SourceFault.TheVariants.{Input, Read}
 
 -- the fault of a source of files, of which one that is too large is told of the bundle,
-abbrev pub of_file : FileFault → SourceFault
-of_file file.Failed = Read
-of_file file.TooLarge = Input (Bundle bundle.TooLarge)
-of_file file.Memory = Input Memory
+abbrev pub from_file_fault : FileFault → SourceFault
+from_file_fault file.Failed = Read
+from_file_fault file.TooLarge = Input (Bundle bundle.TooLarge)
+from_file_fault file.Memory = Input Memory
 
 -- and that of a bundle's parts
-abbrev pub of_bundle : BundleFault → SourceFault
-of_bundle bundle.Read = Read
-of_bundle bundle.Memory = Input Memory
-of_bundle fault = Input (Bundle fault)
+abbrev pub from_bundle_fault : BundleFault → SourceFault
+from_bundle_fault bundle.Read = Read
+from_bundle_fault bundle.Memory = Input Memory
+from_bundle_fault fault = Input (Bundle fault)
 
 -- that the source failed or memory ran out says nothing of what it gives
-abbrev pub IsSilent : SourceFault → Type 0
-IsSilent fault = (fault ≡ Read) ⊎ (fault ≡ Input Memory)
+abbrev pub IsReadOrMemory : SourceFault → Type 0
+IsReadOrMemory fault = (fault ≡ Read) ⊎ (fault ≡ Input Memory)
 
 -- what a call answers, seen by view, unless the source fails or memory runs out
 abbrev pub Gives : {X Y : Type 0} → (X → Y) → Result X SourceFault → Result Y SourceFault → Type 0
-Gives = Steps.Gives IsSilent
+Gives = Steps.Gives IsReadOrMemory
 
 -- the same of what the files give that a source tells
-abbrev pub GivesOf : {X Y : Type 0} → Option (List FileText) → (X → Y) → Result X SourceFault
+abbrev pub GivesFromContents : {X Y : Type 0} → Option (List FileText) → (X → Y) → Result X SourceFault
     → (List FileText → Result Y SourceFault) → Type 0
-GivesOf = Files.GivesOf IsSilent
+GivesFromContents = Files.GivesFromContents IsReadOrMemory
 
 -- the fault of a source that failed, which it counts
 abbrev pub is_read : SourceFault → Bool
@@ -44,8 +44,8 @@ is_read fault = false
 
 -- A folder's files can have it: it is no fault of a bundle's framing, but that something is too large
 -- for a part, and none of the parts' names.
-abbrev pub is_of_files : SourceFault → Bool
-is_of_files (Input (Bundle bundle.TooLarge)) = true
-is_of_files (Input (Bundle fault)) = false
-is_of_files (Input (Parts place)) = false
-is_of_files fault = true
+abbrev pub is_possible_for_files : SourceFault → Bool
+is_possible_for_files (Input (Bundle bundle.TooLarge)) = true
+is_possible_for_files (Input (Bundle fault)) = false
+is_possible_for_files (Input (Parts place)) = false
+is_possible_for_files fault = true

@@ -2,23 +2,23 @@
 
 ghost use Rattle.std.specs.Prelude.{◌≡◌, ◌<◌, ◌+◌, ◌*◌, ℕ, List, [], Some, Ok, IfOk, IfErr, drop, length};
 ghost use Rattle.std.specs.Prelude.{is_some};
-ghost use Rattle.mc_text.specs.Device.{counted};
-ghost use Rattle.mc_text.specs.PartsToCome.{GoesOn};
+ghost use Rattle.mc_text.specs.Device.{failures_after};
+ghost use Rattle.mc_text.specs.RestOfBundle.{Advances};
 ghost use Rattle.mc_forward.specs.Assembling.{AreAnswers};
 ghost use Rattle.mc_forward.specs.Domains.{TablesValue};
 ghost use Rattle.mc_domain.specs.Input.{InputValue};
-ghost use Rattle.mc_domain.specs.InputView.{text_seen};
-ghost use Rattle.mc_domain.specs.Kept.{AreFlowPairs, IsListedOf};
-ghost use Rattle.mc_domain.specs.PartsInTurn.{Refuses, TakesAllTables, TakesReports, TakesTables};
-ghost use Rattle.mc_domain.specs.PartsInTurn.{coming, once_named, last_number, last_then, reports_then};
-ghost use Rattle.mc_domain.specs.PartsInTurn.{tables_then};
-ghost use Rattle.mc_domain.specs.PartsReading.{lans_number};
+ghost use Rattle.mc_domain.specs.InputView.{certificate_text};
+ghost use Rattle.mc_domain.specs.Kept.{AreFlowPairs, AreListedContents};
+ghost use Rattle.mc_domain.specs.PartsOneByOne.{IsFaultOf, ReadsAllTables, ReadsReports, ReadsTables};
+ghost use Rattle.mc_domain.specs.PartsOneByOne.{read_rest, check_names_then, certificate_number, finish_with_certificate, finish_with_reports};
+ghost use Rattle.mc_domain.specs.PartsOneByOne.{finish_with_tables};
+ghost use Rattle.mc_domain.specs.PartsReading.{first_lan_number};
 ghost use Rattle.mc_domain.specs.SourceFault.{is_read};
 
 use crate::bundle_part::{cache_in, certificate_in, vifs_in, wanted_in};
-use crate::slot_part::read_on;
+use crate::slot_part::check_names_to_end;
 use crate::source_fault::SourceFault;
-use crate::told::listed_flows;
+use crate::part_result::listed_pairs;
 use mc_forward::{FlowChannels, Items, Tables};
 use mc_layout::slot_count;
 use mc_tables::{CacheReader, ListedPairs};
@@ -28,7 +28,7 @@ use std::alloc::Global;
 
 /// What is kept of the parts after the topology.
 #[derive(Drop)]
-pub(crate) struct Listed {
+pub(crate) struct BundleContents {
     /// Of each router the vifs, and of its cache what it says of the flows.
     pub(crate) tables: Vec<Tables>,
     /// For each LAN, which flows it wants.
@@ -53,12 +53,12 @@ fn tables_of<R: Input>(
     requires room { 0 < length buffer.old }
     requires failures { parts.old.failed < u64.MAX }
     ensures tables { IfOk result
-        (TakesTables parts.old parts.new certified topology.now router) }
-    ensures fault { (before : List TablesValue) → IfErr result (Refuses parts.old
-        (once_named certified topology.now (1 + 2 * router)
-        (tables_then certified topology.now before (drop router topology.now.routers)))) }
-    ensures goes_on { GoesOn parts.old parts.new }
-    ensures failures { parts.new.failed ≡ counted is_read result parts.old.failed }
+        (ReadsTables parts.old parts.new certified topology.now router) }
+    ensures fault { (before : List TablesValue) → IfErr result (IsFaultOf parts.old
+        (check_names_then certified topology.now (1 + 2 * router)
+        (finish_with_tables certified topology.now before (drop router topology.now.routers)))) }
+    ensures advances { Advances parts.old parts.new }
+    ensures failures { parts.new.failed ≡ failures_after is_read result parts.old.failed }
 {
     let number = 1 + 2 * router;
     let order = topology.order(RouterNo(router));
@@ -69,7 +69,7 @@ fn tables_of<R: Input>(
 }
 
 /// The tables of each router.
-fn tables_in<R: Input>(
+fn read_tables<R: Input>(
     alloc: Global,
     parts: &mut Parts<R>,
     buffer: &mut [u8],
@@ -78,15 +78,15 @@ fn tables_in<R: Input>(
 ) -> Result<Vec<Tables>, SourceFault>
     requires room { 0 < length buffer.old }
     requires failures { parts.old.failed < u64.MAX }
-    ensures tables { IfOk result (λ tables. (text : List ℕ) → parts.old.told ≡ Some text →
-        TakesAllTables parts.old text parts.new certified topology.now tables.items) }
+    ensures tables { IfOk result (λ tables. (text : List ℕ) → parts.old.remaining ≡ Some text →
+        ReadsAllTables parts.old text parts.new certified topology.now tables.items) }
     ensures count { IfOk result (λ tables. length tables.items ≡ length topology.now.routers) }
-    ensures fault { IfErr result (Refuses parts.old
-        (once_named certified topology.now 1 (tables_then certified topology.now [] topology.now.routers))) }
-    ensures goes_on { GoesOn parts.old parts.new }
-    ensures failures { parts.new.failed ≡ counted is_read result parts.old.failed }
+    ensures fault { IfErr result (IsFaultOf parts.old
+        (check_names_then certified topology.now 1 (finish_with_tables certified topology.now [] topology.now.routers))) }
+    ensures advances { Advances parts.old parts.new }
+    ensures failures { parts.new.failed ≡ failures_after is_read result parts.old.failed }
 {
-    let listed = listed_flows(alloc, topology)?;
+    let listed = listed_pairs(alloc, topology)?;
     let mut tables = Vec::new(alloc);
     for router in 0..topology.routers() {
         tables.push(tables_of(alloc, parts, buffer, topology, certified, &listed, router)?)?;
@@ -95,7 +95,7 @@ fn tables_in<R: Input>(
 }
 
 /// Which flows each LAN wants.
-fn wants_in<R: Input>(
+fn read_wants<R: Input>(
     alloc: Global,
     parts: &mut Parts<R>,
     buffer: &mut [u8],
@@ -105,14 +105,14 @@ fn wants_in<R: Input>(
     requires room { 0 < length buffer.old }
     requires failures { parts.old.failed < u64.MAX }
     ensures wants { IfOk result (λ wants. (text : List ℕ) (tables : List TablesValue) →
-        parts.old.told ≡ Some text →
-        TakesReports parts.old text parts.new certified topology.now tables wants.items) }
+        parts.old.remaining ≡ Some text →
+        ReadsReports parts.old text parts.new certified topology.now tables wants.items) }
     ensures answers { IfOk result (λ wants. AreAnswers topology.now wants.items) }
-    ensures fault { (tables : List TablesValue) → IfErr result (Refuses parts.old
-        (once_named certified topology.now (lans_number topology.now)
-        (reports_then certified topology.now tables [] topology.now.lans))) }
-    ensures goes_on { GoesOn parts.old parts.new }
-    ensures failures { parts.new.failed ≡ counted is_read result parts.old.failed }
+    ensures fault { (tables : List TablesValue) → IfErr result (IsFaultOf parts.old
+        (check_names_then certified topology.now (first_lan_number topology.now)
+        (finish_with_reports certified topology.now tables [] topology.now.lans))) }
+    ensures advances { Advances parts.old parts.new }
+    ensures failures { parts.new.failed ≡ failures_after is_read result parts.old.failed }
 {
     let channels = FlowChannels::of(alloc, topology)?;
     let first = 1 + 2 * topology.routers();
@@ -132,7 +132,7 @@ fn wants_in<R: Input>(
 }
 
 /// The text of the certificate where one is to be there, after which no part may come.
-fn last_in<R: Input>(
+fn read_certificate_and_end<R: Input>(
     alloc: Global,
     parts: &mut Parts<R>,
     buffer: &mut [u8],
@@ -142,54 +142,54 @@ fn last_in<R: Input>(
     requires room { 0 < length buffer.old }
     requires failures { parts.old.failed < u64.MAX }
     ensures last { IfOk result (λ text. (before : List ℕ) (input : InputValue) →
-        parts.old.told ≡ Some before →
-        coming parts.old before (once_named certified topology.now (last_number topology.now)
-        (last_then certified input)) ≡ Ok (input, text_seen text)) }
+        parts.old.remaining ≡ Some before →
+        read_rest parts.old before (check_names_then certified topology.now (certificate_number topology.now)
+        (finish_with_certificate certified input)) ≡ Ok (input, certificate_text text)) }
     ensures certified { IfOk result (λ text. is_some text ≡ certified) }
-    ensures fault { (input : InputValue) → IfErr result (Refuses parts.old
-        (once_named certified topology.now (last_number topology.now)
-        (last_then certified input))) }
-    ensures goes_on { GoesOn parts.old parts.new }
-    ensures failures { parts.new.failed ≡ counted is_read result parts.old.failed }
+    ensures fault { (input : InputValue) → IfErr result (IsFaultOf parts.old
+        (check_names_then certified topology.now (certificate_number topology.now)
+        (finish_with_certificate certified input))) }
+    ensures advances { Advances parts.old parts.new }
+    ensures failures { parts.new.failed ≡ failures_after is_read result parts.old.failed }
 {
     let number = slot_count(topology, false);
     if !certified {
-        read_on(parts, topology, certified, number)?;
+        check_names_to_end(parts, topology, certified, number)?;
         return Ok(None);
     }
     let text = certificate_in(alloc, parts, buffer, topology, certified, number)?;
-    read_on(parts, topology, certified, number + 1)?;
+    check_names_to_end(parts, topology, certified, number + 1)?;
     Ok(Some(text))
 }
 
 /// What the parts after the topology tell, of which the rows of listed flows are kept, and which
 /// LAN wants which flow.
-pub(crate) fn contents_in<R: Input>(
+pub(crate) fn read_contents<R: Input>(
     alloc: Global,
     parts: &mut Parts<R>,
     buffer: &mut [u8],
     topology: &Topology,
     certified: bool,
-) -> Result<Listed, SourceFault>
+) -> Result<BundleContents, SourceFault>
     requires room { 0 < length buffer.old }
     requires failures { parts.old.failed < u64.MAX }
-    ensures told { IfOk result (λ listed. (text : List ℕ) → parts.old.told ≡ Some text →
-        (input : InputValue) × IsListedOf input topology.now listed.tables.items listed.wants.items
-        × (coming parts.old text (once_named certified topology.now 1
-        (tables_then certified topology.now [] topology.now.routers))
-        ≡ Ok (input, text_seen listed.certificate))) }
+    ensures read { IfOk result (λ listed. (text : List ℕ) → parts.old.remaining ≡ Some text →
+        (input : InputValue) × AreListedContents input topology.now listed.tables.items listed.wants.items
+        × (read_rest parts.old text (check_names_then certified topology.now 1
+        (finish_with_tables certified topology.now [] topology.now.routers))
+        ≡ Ok (input, certificate_text listed.certificate))) }
     ensures count { IfOk result (λ listed. length listed.tables.items ≡ length topology.now.routers) }
     ensures answers { IfOk result (λ listed. AreAnswers topology.now listed.wants.items) }
     ensures certified { IfOk result (λ listed. is_some listed.certificate ≡ certified) }
-    ensures fault { IfErr result (Refuses parts.old
-        (once_named certified topology.now 1 (tables_then certified topology.now [] topology.now.routers))) }
-    ensures goes_on { GoesOn parts.old parts.new }
-    ensures failures { parts.new.failed ≡ counted is_read result parts.old.failed }
+    ensures fault { IfErr result (IsFaultOf parts.old
+        (check_names_then certified topology.now 1 (finish_with_tables certified topology.now [] topology.now.routers))) }
+    ensures advances { Advances parts.old parts.new }
+    ensures failures { parts.new.failed ≡ failures_after is_read result parts.old.failed }
 {
-    let tables = tables_in(alloc, parts, buffer, topology, certified)?;
-    let wants = wants_in(alloc, parts, buffer, topology, certified)?;
-    let certificate = last_in(alloc, parts, buffer, topology, certified)?;
-    Ok(Listed {
+    let tables = read_tables(alloc, parts, buffer, topology, certified)?;
+    let wants = read_wants(alloc, parts, buffer, topology, certified)?;
+    let certificate = read_certificate_and_end(alloc, parts, buffer, topology, certified)?;
+    Ok(BundleContents {
         tables,
         wants,
         certificate,

@@ -3,37 +3,37 @@
 ghost use Rattle.std.specs.Prelude.{◌≡◌, ◌<◌, ℕ, Err, IfErr, IfOk, IfSome, List, MatchResult, Option};
 ghost use Rattle.std.specs.Prelude.{Ok, Some, is_some, length, map, true};
 ghost use Rattle.mc_text.specs.Bundle.{max_input};
-ghost use Rattle.mc_text.specs.Device.{counted};
-ghost use Rattle.mc_text.specs.PartsToCome.{GoesOn};
+ghost use Rattle.mc_text.specs.Device.{failures_after};
+ghost use Rattle.mc_text.specs.RestOfBundle.{Advances};
 ghost use Rattle.mc_text.specs.ReadFault.{ConsumesUpTo};
-ghost use Rattle.mc_text.specs.Steps.{refused_as};
+ghost use Rattle.mc_text.specs.Steps.{map_fault};
 ghost use Rattle.mc_forward.specs.Domains.{DomainValue, IsDomain};
-ghost use Rattle.mc_forward.specs.ListedTables.{SaysTheSame};
+ghost use Rattle.mc_forward.specs.ListedTables.{HaveSameFacts};
 ghost use Rattle.mc_layout.specs.Files.{FileText};
-ghost use Rattle.mc_domain.specs.FilesReading.{files_of, part_filed};
+ghost use Rattle.mc_domain.specs.FilesReading.{input_of_files, part_from_file};
 ghost use Rattle.mc_domain.specs.Input.{InputValue};
-ghost use Rattle.mc_domain.specs.InputReading.{input_of};
-ghost use Rattle.mc_domain.specs.InputView.{text_seen};
-ghost use Rattle.mc_domain.specs.Kept.{IsDomainOf, GivesKeptOf};
-ghost use Rattle.mc_domain.specs.LeftOut.{AreRouters, IsSilentWithout, files_without, is_read_without};
-ghost use Rattle.mc_domain.specs.LeftOut.{is_of_files_without, left_out_files};
-ghost use Rattle.mc_domain.specs.Meaning.{FilesMeanListed, MeansDomain, MeansFiles, MeansListed};
-ghost use Rattle.mc_domain.specs.NotesOfFiles.{AreNotesOf};
-ghost use Rattle.mc_domain.specs.PartsInTurn.{IsReadOf, Refuses, told_in};
-ghost use Rattle.mc_domain.specs.PartsReading.{contents};
-ghost use Rattle.mc_domain.specs.SourceFault.{IsSilent, is_of_files, is_read};
+ghost use Rattle.mc_domain.specs.InputReading.{input_of_bundle};
+ghost use Rattle.mc_domain.specs.InputView.{certificate_text};
+ghost use Rattle.mc_domain.specs.Kept.{IsDomainOf, GivesKeptFromContents};
+ghost use Rattle.mc_domain.specs.ExcludedRouters.{AreRouterNames, IsReadOrMemoryWithout, input_of_files_without, is_read_without};
+ghost use Rattle.mc_domain.specs.ExcludedRouters.{is_possible_for_files_without, files_with_exclusions};
+ghost use Rattle.mc_domain.specs.Meaning.{FilesMeanDomainAsListed, MeansDomain, FilesMeanDomain, MeansDomainAsListed};
+ghost use Rattle.mc_domain.specs.SummariesOfFiles.{AreSummariesOf};
+ghost use Rattle.mc_domain.specs.PartsOneByOne.{ReadsDomain, IsFaultOf, read_all_parts};
+ghost use Rattle.mc_domain.specs.PartsReading.{read_tables_and_reports};
+ghost use Rattle.mc_domain.specs.SourceFault.{IsReadOrMemory, is_possible_for_files, is_read};
 ghost use Rattle.mc_domain.specs.declared.source_fault.SourceFault.TheVariants.{Input as refused};
 
-use crate::bundle::contents_in;
+use crate::bundle::read_contents;
 use crate::bundle_part::topology_in;
 use crate::file_part::topology_in as topology_of_files;
-use crate::files::contents_in as contents_of_files;
-use crate::left_out::check_names;
+use crate::files::read_contents as contents_of_files;
+use crate::excluded::check_names;
 use crate::source_fault::SourceFault;
 use crate::without_fault::WithoutFault;
 use mc_forward::Domain;
 use mc_layout::PieceSource;
-use mc_tables::CacheNotes;
+use mc_tables::CacheSummary;
 use mc_text::{Input, Parts};
 use mc_topology::Topology;
 use std::alloc::Global;
@@ -43,7 +43,7 @@ pub const PIECE: usize = 65_536;
 
 /// A domain, and the text of the certificate where one was asked for.
 #[derive(Drop)]
-pub struct DomainRead {
+pub struct BundleDomain {
     /// The domain.
     pub domain: Domain,
     /// The text of the certificate.
@@ -56,50 +56,50 @@ fn read_parts<R: Input>(
     parts: &mut Parts<R>,
     buffer: &mut [u8],
     certified: bool,
-) -> Result<DomainRead, SourceFault>
+) -> Result<BundleDomain, SourceFault>
     requires room { 0 < length buffer.old }
     requires failures { parts.old.failed < u64.MAX }
-    ensures told { IfOk result (λ read. (text : List ℕ) → parts.old.told ≡ Some text →
-        IsReadOf parts.old text certified read.domain (text_seen read.certificate)) }
+    ensures read { IfOk result (λ read. (text : List ℕ) → parts.old.remaining ≡ Some text →
+        ReadsDomain parts.old text certified read.domain (certificate_text read.certificate)) }
     ensures certified { IfOk result (λ read. is_some read.certificate ≡ certified) }
     ensures rules { IfOk result (λ read. IsDomain read.domain) }
-    ensures fault { IfErr result (Refuses parts.old (told_in certified)) }
-    ensures goes_on { GoesOn parts.old parts.new }
-    ensures failures { parts.new.failed ≡ counted is_read result parts.old.failed }
+    ensures fault { IfErr result (IsFaultOf parts.old (read_all_parts certified)) }
+    ensures advances { Advances parts.old parts.new }
+    ensures failures { parts.new.failed ≡ failures_after is_read result parts.old.failed }
 {
     let topology = topology_in(alloc, parts, buffer)?;
-    let listed = contents_in(alloc, parts, buffer, &topology, certified)?;
+    let listed = read_contents(alloc, parts, buffer, &topology, certified)?;
     let certificate = listed.certificate;
-    let domain = Domain::of_wants(alloc, topology, listed.tables, listed.wants)?;
-    Ok(DomainRead {
+    let domain = Domain::from_wants(alloc, topology, listed.tables, listed.wants)?;
+    Ok(BundleDomain {
         domain,
         certificate,
     })
 }
 
 /// The domain that an input's bundle means, whose parts are read in pieces through the buffer.
-fn read_through<R: Input>(
+fn read_with_buffer<R: Input>(
     alloc: Global,
     input: &mut R,
     buffer: &mut [u8],
     certified: bool,
-) -> Result<DomainRead, SourceFault>
+) -> Result<BundleDomain, SourceFault>
     requires room { 0 < length buffer.old }
     requires failures { R.failed input.old < u64.MAX }
-    ensures same { R.names input.new ≡ R.names input.old }
-    ensures means { IfOk result (λ read. IfSome (R.told input.old) (λ text.
-        MeansListed text (text_seen read.certificate) read.domain)) }
+    ensures same { R.borrows input.new ≡ R.borrows input.old }
+    ensures means { IfOk result (λ read. IfSome (R.remaining input.old) (λ text.
+        MeansDomainAsListed text (certificate_text read.certificate) read.domain)) }
     ensures certified { IfOk result (λ read. is_some read.certificate ≡ certified) }
     ensures rules { IfOk result (λ read. IsDomain read.domain) }
     ensures only { (text : List ℕ) (certificate : Option (List ℕ)) (domain : DomainValue) →
-        R.told input.old ≡ Some text → is_some certificate ≡ certified →
+        R.remaining input.old ≡ Some text → is_some certificate ≡ certified →
         MeansDomain text certificate domain → MatchResult result
-        (λ read. SaysTheSame domain read.domain × (text_seen read.certificate ≡ certificate))
-        IsSilent }
-    ensures fault { (text : List ℕ) → R.told input.old ≡ Some text → IfErr result (λ fault.
-        ¬ IsSilent fault → refused_as refused (input_of certified text) ≡ Err fault) }
-    ensures consumed { ConsumesUpTo max_input (R.told input.old) (R.told input.new) }
-    ensures failures { R.failed input.new ≡ counted is_read result (R.failed input.old) }
+        (λ read. HaveSameFacts domain read.domain × (certificate_text read.certificate ≡ certificate))
+        IsReadOrMemory }
+    ensures fault { (text : List ℕ) → R.remaining input.old ≡ Some text → IfErr result (λ fault.
+        ¬ IsReadOrMemory fault → map_fault refused (input_of_bundle certified text) ≡ Err fault) }
+    ensures consumed { ConsumesUpTo max_input (R.remaining input.old) (R.remaining input.new) }
+    ensures failures { R.failed input.new ≡ failures_after is_read result (R.failed input.old) }
 {
     let mut parts = Parts::new(input);
     let read = read_parts(alloc, &mut parts, buffer, certified);
@@ -119,106 +119,106 @@ fn read_through<R: Input>(
 /// the names and the number of all parts, and then their contents in their order: reading goes on
 /// to the bundle's end, and the first fault in this order is answered. `Read` where the input
 /// failed, and `Input` with `Memory` where memory ran out, each at once.
-pub fn domain_in<R: Input>(
+pub fn read_bundle_domain<R: Input>(
     alloc: Global,
     input: &mut R,
     certified: bool,
-) -> Result<DomainRead, SourceFault>
+) -> Result<BundleDomain, SourceFault>
     requires { R.failed input.old < u64.MAX }
-    ensures same { R.names input.new ≡ R.names input.old }
+    ensures same { R.borrows input.new ≡ R.borrows input.old }
     // The bundle means a domain with the certificate, and what was read says the same of each flow.
-    ensures means { IfOk result (λ read. IfSome (R.told input.old) (λ text.
-        MeansListed text (text_seen read.certificate) read.domain)) }
+    ensures means { IfOk result (λ read. IfSome (R.remaining input.old) (λ text.
+        MeansDomainAsListed text (certificate_text read.certificate) read.domain)) }
     // It has the text of a certificate exactly where one was asked for.
     ensures certified { IfOk result (λ read. is_some read.certificate ≡ certified) }
     ensures rules { IfOk result (λ read. IsDomain read.domain) }
     // A bundle that means a domain is read, and as that, unless the input fails or memory runs out.
     ensures only { (text : List ℕ) (certificate : Option (List ℕ)) (domain : DomainValue) →
-        R.told input.old ≡ Some text → is_some certificate ≡ certified →
+        R.remaining input.old ≡ Some text → is_some certificate ≡ certified →
         MeansDomain text certificate domain → MatchResult result
-        (λ read. SaysTheSame domain read.domain × (text_seen read.certificate ≡ certificate))
-        IsSilent }
+        (λ read. HaveSameFacts domain read.domain × (certificate_text read.certificate ≡ certificate))
+        IsReadOrMemory }
     // Which fault it is.
-    ensures fault { (text : List ℕ) → R.told input.old ≡ Some text → IfErr result (λ fault.
-        ¬ IsSilent fault → refused_as refused (input_of certified text) ≡ Err fault) }
+    ensures fault { (text : List ℕ) → R.remaining input.old ≡ Some text → IfErr result (λ fault.
+        ¬ IsReadOrMemory fault → map_fault refused (input_of_bundle certified text) ≡ Err fault) }
     // No more is read than the greatest bundle and a line, whatever the answer.
-    ensures consumed { ConsumesUpTo max_input (R.told input.old) (R.told input.new) }
+    ensures consumed { ConsumesUpTo max_input (R.remaining input.old) (R.remaining input.new) }
     // Read comes only where the input's failures rose in the call.
-    ensures failures { R.failed input.new ≡ counted is_read result (R.failed input.old) }
+    ensures failures { R.failed input.new ≡ failures_after is_read result (R.failed input.old) }
 {
     let mut buffer = Vec::from_elem(alloc, 0u8, PIECE)?;
-    read_through(alloc, input, &mut buffer, certified)
+    read_with_buffer(alloc, input, &mut buffer, certified)
 }
 
 /// A domain, and what is noted of each router's cache, the first router's first.
 #[derive(Drop)]
-pub struct NotedDomain {
+pub struct FolderDomain {
     /// The domain.
     pub domain: Domain,
     /// The notes of each router's cache.
-    pub notes: Vec<CacheNotes>,
+    pub summary: Vec<CacheSummary>,
 }
 
 /// The domain of this topology that the other files tell, which are read in pieces through the buffer,
 /// with some routers left out, and what is noted of the caches.
-fn rest_through<F: PieceSource>(
+fn read_rest_with_buffer<F: PieceSource>(
     alloc: Global,
     files: &mut F,
     buffer: &mut [u8],
     topology: Topology,
     without: &[&str],
     all: bool,
-) -> Result<NotedDomain, SourceFault>
+) -> Result<FolderDomain, SourceFault>
     requires room { 0 < length buffer.old }
     requires reads { F.failed files.old < u64.MAX }
-    ensures same { F.names files.new ≡ F.names files.old }
-    ensures kept { F.told files.new ≡ F.told files.old }
-    ensures domain { GivesKeptOf (F.told files.old) (λ read. IsDomainOf read.domain) result
-        (λ told. contents refused
-        (part_filed (left_out_files (map (λ n. n.now) without.now) told)) topology) }
+    ensures same { F.borrows files.new ≡ F.borrows files.old }
+    ensures kept { F.contents files.new ≡ F.contents files.old }
+    ensures domain { GivesKeptFromContents (F.contents files.old) (λ read. IsDomainOf read.domain) result
+        (λ contents. read_tables_and_reports refused
+        (part_from_file (files_with_exclusions (map (λ n. n.now) without.now) contents)) topology) }
     ensures topology { IfOk result (λ read. read.domain.topology ≡ topology) }
     ensures rules { IfOk result (λ read. IsDomain read.domain) }
-    ensures notes { (told : List FileText) → F.told files.old ≡ Some told → IfOk result (λ read.
-        AreNotesOf all (left_out_files (map (λ n. n.now) without.now) told)
-        read.domain.topology read.notes.items) }
-    ensures faults { IfErr result (λ fault. is_of_files fault ≡ true) }
-    ensures failures { F.failed files.new ≡ counted is_read result (F.failed files.old) }
+    ensures summary { (contents : List FileText) → F.contents files.old ≡ Some contents → IfOk result (λ read.
+        AreSummariesOf all (files_with_exclusions (map (λ n. n.now) without.now) contents)
+        read.domain.topology read.summary.items) }
+    ensures faults { IfErr result (λ fault. is_possible_for_files fault ≡ true) }
+    ensures failures { F.failed files.new ≡ failures_after is_read result (F.failed files.old) }
 {
     let listed = contents_of_files(alloc, files, buffer, &topology, without, all)?;
-    let notes = listed.notes;
-    let domain = Domain::of_wants(alloc, topology, listed.tables, listed.wants)?;
-    Ok(NotedDomain { domain, notes })
+    let summary = listed.summary;
+    let domain = Domain::from_wants(alloc, topology, listed.tables, listed.wants)?;
+    Ok(FolderDomain { domain, summary })
 }
 
 /// The domain that files tell with some routers left out, and what is noted of the caches.
-fn files_through<F: PieceSource>(
+fn read_files_with_buffer<F: PieceSource>(
     alloc: Global,
     files: &mut F,
     buffer: &mut [u8],
     without: &[&str],
     all: bool,
-) -> Result<NotedDomain, WithoutFault>
+) -> Result<FolderDomain, WithoutFault>
     requires room { 0 < length buffer.old }
     requires reads { F.failed files.old < u64.MAX }
-    ensures same { F.names files.new ≡ F.names files.old }
-    ensures kept { F.told files.new ≡ F.told files.old }
-    ensures domain { (told : List FileText) → F.told files.old ≡ Some told → IfOk result (λ read.
+    ensures same { F.borrows files.new ≡ F.borrows files.old }
+    ensures kept { F.contents files.new ≡ F.contents files.old }
+    ensures domain { (contents : List FileText) → F.contents files.old ≡ Some contents → IfOk result (λ read.
         (input : InputValue) × IsDomainOf read.domain input
-        × (files_of (left_out_files (map (λ n. n.now) without.now) told) ≡ Ok input)) }
+        × (input_of_files (files_with_exclusions (map (λ n. n.now) without.now) contents) ≡ Ok input)) }
     ensures routers { IfOk result (λ read.
-        AreRouters read.domain.topology (map (λ n. n.now) without.now)) }
+        AreRouterNames read.domain.topology (map (λ n. n.now) without.now)) }
     ensures rules { IfOk result (λ read. IsDomain read.domain) }
-    ensures notes { (told : List FileText) → F.told files.old ≡ Some told → IfOk result (λ read.
-        AreNotesOf all (left_out_files (map (λ n. n.now) without.now) told)
-        read.domain.topology read.notes.items) }
-    ensures fault { (told : List FileText) → F.told files.old ≡ Some told → IfErr result (λ fault.
-        ¬ IsSilentWithout fault → files_without (map (λ n. n.now) without.now) told ≡ Err fault) }
-    ensures faults { IfErr result (λ fault. is_of_files_without fault ≡ true) }
-    ensures failures { F.failed files.new ≡ counted is_read_without result (F.failed files.old) }
+    ensures summary { (contents : List FileText) → F.contents files.old ≡ Some contents → IfOk result (λ read.
+        AreSummariesOf all (files_with_exclusions (map (λ n. n.now) without.now) contents)
+        read.domain.topology read.summary.items) }
+    ensures fault { (contents : List FileText) → F.contents files.old ≡ Some contents → IfErr result (λ fault.
+        ¬ IsReadOrMemoryWithout fault → input_of_files_without (map (λ n. n.now) without.now) contents ≡ Err fault) }
+    ensures faults { IfErr result (λ fault. is_possible_for_files_without fault ≡ true) }
+    ensures failures { F.failed files.new ≡ failures_after is_read_without result (F.failed files.old) }
 {
     let topology = topology_of_files(alloc, files)?;
     check_names(&topology, without)?;
-    Ok(rest_through(alloc, files, buffer, topology, without, all)?)
+    Ok(read_rest_with_buffer(alloc, files, buffer, topology, without, all)?)
 }
 
 /// Reads the domain that a folder's files mean with the routers of these names left out: `topology`,
@@ -235,42 +235,42 @@ fn files_through<F: PieceSource>(
 /// that no router has, `NoSuchRouter`, and then those of the other files: `Read` where a file isn't
 /// there or can't be read, `Input` with `TooLarge` where it has too many bytes, and `Input` with what
 /// is wrong in it. Or `Input` with `Memory` where memory ran out.
-pub fn noted_domain_without<F: PieceSource>(
+pub fn read_folder_domain<F: PieceSource>(
     alloc: Global,
     files: &mut F,
     without: &[&str],
     all: bool,
-) -> Result<NotedDomain, WithoutFault>
+) -> Result<FolderDomain, WithoutFault>
     requires { F.failed files.old < u64.MAX }
-    ensures same { F.names files.new ≡ F.names files.old }
-    ensures kept { F.told files.new ≡ F.told files.old }
+    ensures same { F.borrows files.new ≡ F.borrows files.old }
+    ensures kept { F.contents files.new ≡ F.contents files.old }
     // With the routers left out the files mean a domain, and what was read says the same of each
     // flow.
-    ensures means { IfOk result (λ read. IfSome (F.told files.old) (λ told.
-        FilesMeanListed (left_out_files (map (λ n. n.now) without.now) told) read.domain)) }
+    ensures means { IfOk result (λ read. IfSome (F.contents files.old) (λ contents.
+        FilesMeanDomainAsListed (files_with_exclusions (map (λ n. n.now) without.now) contents) read.domain)) }
     // Each name is that of a router.
     ensures routers { IfOk result (λ read.
-        AreRouters read.domain.topology (map (λ n. n.now) without.now)) }
+        AreRouterNames read.domain.topology (map (λ n. n.now) without.now)) }
     ensures rules { IfOk result (λ read. IsDomain read.domain) }
     // Files that mean a domain with the routers left out, of which each is one of its topology, are
     // read, and as that, unless the source fails or memory runs out.
-    ensures only { (told : List FileText) (domain : DomainValue) → F.told files.old ≡ Some told →
-        MeansFiles (left_out_files (map (λ n. n.now) without.now) told) domain →
-        AreRouters domain.topology (map (λ n. n.now) without.now) → MatchResult result
-        (λ read. SaysTheSame domain read.domain) IsSilentWithout }
+    ensures only { (contents : List FileText) (domain : DomainValue) → F.contents files.old ≡ Some contents →
+        FilesMeanDomain (files_with_exclusions (map (λ n. n.now) without.now) contents) domain →
+        AreRouterNames domain.topology (map (λ n. n.now) without.now) → MatchResult result
+        (λ read. HaveSameFacts domain read.domain) IsReadOrMemoryWithout }
     // Each router's notes are of the rows in its own file, or of none where it is left out, for the
     // flows of the topology.
-    ensures notes { IfOk result (λ read. IfSome (F.told files.old) (λ told.
-        AreNotesOf all (left_out_files (map (λ n. n.now) without.now) told)
-        read.domain.topology read.notes.items)) }
+    ensures summary { IfOk result (λ read. IfSome (F.contents files.old) (λ contents.
+        AreSummariesOf all (files_with_exclusions (map (λ n. n.now) without.now) contents)
+        read.domain.topology read.summary.items)) }
     // Which fault it is, unless the source fails or memory runs out.
-    ensures fault { IfErr result (λ fault. IfSome (F.told files.old) (λ told.
-        ¬ IsSilentWithout fault → files_without (map (λ n. n.now) without.now) told ≡ Err fault)) }
+    ensures fault { IfErr result (λ fault. IfSome (F.contents files.old) (λ contents.
+        ¬ IsReadOrMemoryWithout fault → input_of_files_without (map (λ n. n.now) without.now) contents ≡ Err fault)) }
     // It is none of a bundle's, but that something is too large for one.
-    ensures faults { IfErr result (λ fault. is_of_files_without fault ≡ true) }
+    ensures faults { IfErr result (λ fault. is_possible_for_files_without fault ≡ true) }
     // A file is unread only where the source's failures rose in the call.
-    ensures failures { F.failed files.new ≡ counted is_read_without result (F.failed files.old) }
+    ensures failures { F.failed files.new ≡ failures_after is_read_without result (F.failed files.old) }
 {
     let mut buffer = Vec::from_elem(alloc, 0u8, PIECE)?;
-    files_through(alloc, files, &mut buffer, without, all)
+    read_files_with_buffer(alloc, files, &mut buffer, without, all)
 }

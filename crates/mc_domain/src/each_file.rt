@@ -8,25 +8,25 @@ ghost use Rattle.mc_topology.specs.Names.{is_name};
 ghost use Rattle.mc_topology.specs.declared.flow.Flow.{Flow};
 ghost use Rattle.mc_layout.specs.Files.{FileText};
 ghost use Rattle.mc_layout.specs.Layout.{cache_slot, file_name, reports_slot, topology_slot, vif_slot};
-ghost use Rattle.mc_domain.specs.FilesReading.{part_filed};
+ghost use Rattle.mc_domain.specs.FilesReading.{part_from_file};
 ghost use Rattle.mc_domain.specs.Kept.{AreFlowPairs};
-ghost use Rattle.mc_domain.specs.PartsReading.{cache_of, reports_of, told_by, topology_of, vifs_of};
-ghost use Rattle.mc_domain.specs.RefusedFiles.{AreMissing, AreRefused, GivesFault, Judges};
-ghost use Rattle.mc_domain.specs.RefusedFiles.{failures_with, fault_count, fault_in, fault_of};
-ghost use Rattle.mc_domain.specs.RefusedFiles.{judged_by, judged_reports, judged_tables, refused_in};
-ghost use Rattle.mc_domain.specs.RefusedFiles.{refused_of, seen, unread_count};
-ghost use Rattle.mc_domain.specs.SourceFault.{GivesOf};
+ghost use Rattle.mc_domain.specs.PartsReading.{cache_of, reports_of, read_part, topology_of, vifs_of};
+ghost use Rattle.mc_domain.specs.RefusedFiles.{AreUnreadFilesMissing, AreRefusedFiles, IsOwnFaultUnlessMemory, JudgesFiles};
+ghost use Rattle.mc_domain.specs.RefusedFiles.{saturating_failures, failure_count, fault_of_refusal, file_fault};
+ghost use Rattle.mc_domain.specs.RefusedFiles.{judged_with_topology, judged_reports, judged_tables, files_with_fault};
+ghost use Rattle.mc_domain.specs.RefusedFiles.{refused_files_of, as_judged_file, unread_count};
+ghost use Rattle.mc_domain.specs.SourceFault.{GivesFromContents};
 ghost use Rattle.mc_domain.specs.declared.source_fault.SourceFault.TheVariants.{Input};
 
 use crate::domain::PIECE;
 use crate::fault::InputFault;
 use crate::file_part::{cache_in, topology_in, vifs_in, wanted_in};
-use crate::left_out::is_left_out;
+use crate::excluded::is_excluded;
 use crate::source_fault::SourceFault;
-use crate::told::noted_flows;
+use crate::part_result::summary_pairs;
 use mc_forward::FlowChannels;
 use mc_layout::{PieceSource, Slot, Unread};
-use mc_tables::NotedPairs;
+use mc_tables::SummaryPairs;
 use mc_text::{Memory, Order};
 use mc_topology::{LanNo, RouterNo, Topology};
 use std::alloc::Global;
@@ -50,13 +50,13 @@ pub struct RefusedFile {
 }
 
 /// The topology, unless the source counts no more failures.
-fn topology_given<F: PieceSource>(alloc: Global, files: &mut F) -> Result<Topology, SourceFault>
-    ensures same { F.names files.new ≡ F.names files.old }
-    ensures kept { F.told files.new ≡ F.told files.old }
-    ensures topology { GivesOf (F.told files.old) (λ topology. topology) result
-        (λ told. told_by Input (part_filed told 0 topology_slot) topology_of) }
+fn topology_unless_u64_max<F: PieceSource>(alloc: Global, files: &mut F) -> Result<Topology, SourceFault>
+    ensures same { F.borrows files.new ≡ F.borrows files.old }
+    ensures kept { F.contents files.new ≡ F.contents files.old }
+    ensures topology { GivesFromContents (F.contents files.old) (λ topology. topology) result
+        (λ contents. read_part Input (part_from_file contents 0 topology_slot) topology_of) }
     ensures failures { F.failed files.new
-        ≡ failures_with (fault_count (result_err result)) (F.failed files.old) }
+        ≡ saturating_failures (failure_count (result_err result)) (F.failed files.old) }
 {
     if files.failures() == u64::MAX {
         return Err(SourceFault::Read);
@@ -73,12 +73,12 @@ fn vifs_fault<F: PieceSource>(
 ) -> Option<SourceFault>
     requires name { IsTrue (is_name router.now) }
     requires room { 0 < length buffer.old }
-    ensures same { F.names files.new ≡ F.names files.old }
-    ensures kept { F.told files.new ≡ F.told files.old }
-    ensures fault { (told : List FileText) → F.told files.old ≡ Some told →
-        GivesFault result (fault_of told (vif_slot router.now) vifs_of) }
+    ensures same { F.borrows files.new ≡ F.borrows files.old }
+    ensures kept { F.contents files.new ≡ F.contents files.old }
+    ensures fault { (contents : List FileText) → F.contents files.old ≡ Some contents →
+        IsOwnFaultUnlessMemory result (file_fault contents (vif_slot router.now) vifs_of) }
     ensures failures { F.failed files.new
-        ≡ failures_with (fault_count result) (F.failed files.old) }
+        ≡ saturating_failures (failure_count result) (F.failed files.old) }
 {
     if files.failures() == u64::MAX {
         return Some(SourceFault::Read);
@@ -91,19 +91,19 @@ fn cache_fault<F: PieceSource>(
     alloc: Global,
     files: &mut F,
     buffer: &mut [u8],
-    listed: &NotedPairs,
+    listed: &SummaryPairs,
     router: &str,
     order: Order,
 ) -> Option<SourceFault>
     requires name { IsTrue (is_name router.now) }
     requires room { 0 < length buffer.old }
-    ensures same { F.names files.new ≡ F.names files.old }
-    ensures kept { F.told files.new ≡ F.told files.old }
-    ensures fault { (flows : List Flow) (told : List FileText) → AreFlowPairs flows listed.now →
-        F.told files.old ≡ Some told →
-        GivesFault result (fault_of told (cache_slot router.now) (cache_of order)) }
+    ensures same { F.borrows files.new ≡ F.borrows files.old }
+    ensures kept { F.contents files.new ≡ F.contents files.old }
+    ensures fault { (flows : List Flow) (contents : List FileText) → AreFlowPairs flows listed.now →
+        F.contents files.old ≡ Some contents →
+        IsOwnFaultUnlessMemory result (file_fault contents (cache_slot router.now) (cache_of order)) }
     ensures failures { F.failed files.new
-        ≡ failures_with (fault_count result) (F.failed files.old) }
+        ≡ saturating_failures (failure_count result) (F.failed files.old) }
 {
     if files.failures() == u64::MAX {
         return Some(SourceFault::Read);
@@ -121,12 +121,12 @@ fn reports_fault<F: PieceSource>(
 ) -> Option<SourceFault>
     requires name { IsTrue (is_name lan.now) }
     requires room { 0 < length buffer.old }
-    ensures same { F.names files.new ≡ F.names files.old }
-    ensures kept { F.told files.new ≡ F.told files.old }
-    ensures fault { (told : List FileText) → F.told files.old ≡ Some told →
-        GivesFault result (fault_of told (reports_slot lan.now) reports_of) }
+    ensures same { F.borrows files.new ≡ F.borrows files.old }
+    ensures kept { F.contents files.new ≡ F.contents files.old }
+    ensures fault { (contents : List FileText) → F.contents files.old ≡ Some contents →
+        IsOwnFaultUnlessMemory result (file_fault contents (reports_slot lan.now) reports_of) }
     ensures failures { F.failed files.new
-        ≡ failures_with (fault_count result) (F.failed files.old) }
+        ≡ saturating_failures (failure_count result) (F.failed files.old) }
 {
     if files.failures() == u64::MAX {
         return Some(SourceFault::Read);
@@ -136,7 +136,7 @@ fn reports_fault<F: PieceSource>(
 
 /// Why a file is refused that was judged so just now, unless memory ran out.
 fn refusal_of<F: PieceSource>(files: &F, fault: SourceFault) -> Result<Refusal, Memory>
-    ensures { IfOk result (λ refusal. (fault_in refusal ≡ fault) × (fault ≢ Input InputFault.Memory)) }
+    ensures { IfOk result (λ refusal. (fault_of_refusal refusal ≡ fault) × (fault ≢ Input InputFault.Memory)) }
 {
     match fault {
         SourceFault::Input(InputFault::Memory) => Err(Memory),
@@ -146,16 +146,16 @@ fn refusal_of<F: PieceSource>(files: &F, fault: SourceFault) -> Result<Refusal, 
 }
 
 /// Puts the file of a slot behind those that are refused, if it has a fault.
-fn put<F: PieceSource>(
+fn push_if_fault<F: PieceSource>(
     alloc: Global,
     files: &F,
     slot: &Slot<'_>,
     fault: Option<SourceFault>,
     refused: &mut Vec<RefusedFile>,
 ) -> Result<(), Memory>
-    ensures listed { OnOk result (map seen refused.new.items ≡ map seen refused.old.items
-        ++ refused_in (record { name = file_name slot.now; fault = fault } ∷ [])) }
-    ensures loud { OnOk result (fault ≢ Some (Input InputFault.Memory)) }
+    ensures listed { OnOk result (map as_judged_file refused.new.items ≡ map as_judged_file refused.old.items
+        ++ files_with_fault (record { name = file_name slot.now; fault = fault } ∷ [])) }
+    ensures not_out_of_memory { OnOk result (fault ≢ Some (Input InputFault.Memory)) }
 {
     let Some(fault) = fault else {
         return Ok(());
@@ -171,7 +171,7 @@ fn judge_tables<F: PieceSource>(
     alloc: Global,
     files: &mut F,
     buffer: &mut [u8],
-    listed: &NotedPairs,
+    listed: &SummaryPairs,
     without: &[&str],
     router: &str,
     order: Order,
@@ -179,21 +179,21 @@ fn judge_tables<F: PieceSource>(
 ) -> Result<(), Memory>
     requires name { IsTrue (is_name router.now) }
     requires room { 0 < length buffer.old }
-    ensures same { F.names files.new ≡ F.names files.old }
-    ensures kept { F.told files.new ≡ F.told files.old }
+    ensures same { F.borrows files.new ≡ F.borrows files.old }
+    ensures kept { F.contents files.new ≡ F.contents files.old }
     ensures judged { (flows : List Flow) → AreFlowPairs flows listed.now →
-        OnOk result (Judges (F.told files.old) (λ told.
-        judged_tables (map (λ n. n.now) without.now) told (record { name = router.now; order = order }))
-        (map seen refused.old.items) (map seen refused.new.items)
+        OnOk result (JudgesFiles (F.contents files.old) (λ contents.
+        judged_tables (map (λ n. n.now) without.now) contents (record { name = router.now; order = order }))
+        (map as_judged_file refused.old.items) (map as_judged_file refused.new.items)
         (F.failed files.old) (F.failed files.new)) }
 {
-    if is_left_out(without, router) {
+    if is_excluded(without, router) {
         return Ok(());
     }
     let vifs = vifs_fault(alloc, files, buffer, router);
-    put(alloc, files, &Slot::vifs(router), vifs, refused)?;
+    push_if_fault(alloc, files, &Slot::vifs(router), vifs, refused)?;
     let cache = cache_fault(alloc, files, buffer, listed, router, order);
-    put(alloc, files, &Slot::cache(router), cache, refused)
+    push_if_fault(alloc, files, &Slot::cache(router), cache, refused)
 }
 
 /// Judges the reports of a LAN.
@@ -207,15 +207,15 @@ fn judge_reports<F: PieceSource>(
 ) -> Result<(), Memory>
     requires name { IsTrue (is_name lan.now) }
     requires room { 0 < length buffer.old }
-    ensures same { F.names files.new ≡ F.names files.old }
-    ensures kept { F.told files.new ≡ F.told files.old }
-    ensures judged { OnOk result (Judges (F.told files.old) (λ told.
-        judged_reports told lan.now ∷ [])
-        (map seen refused.old.items) (map seen refused.new.items)
+    ensures same { F.borrows files.new ≡ F.borrows files.old }
+    ensures kept { F.contents files.new ≡ F.contents files.old }
+    ensures judged { OnOk result (JudgesFiles (F.contents files.old) (λ contents.
+        judged_reports contents lan.now ∷ [])
+        (map as_judged_file refused.old.items) (map as_judged_file refused.new.items)
         (F.failed files.old) (F.failed files.new)) }
 {
     let fault = reports_fault(alloc, files, buffer, channels, lan);
-    put(alloc, files, &Slot::reports(lan), fault, refused)
+    push_if_fault(alloc, files, &Slot::reports(lan), fault, refused)
 }
 
 /// Judges the tables of all routers but those that are left out.
@@ -228,14 +228,14 @@ fn judge_routers<F: PieceSource>(
     refused: &mut Vec<RefusedFile>,
 ) -> Result<(), Memory>
     requires room { 0 < length buffer.old }
-    ensures same { F.names files.new ≡ F.names files.old }
-    ensures kept { F.told files.new ≡ F.told files.old }
-    ensures judged { OnOk result (Judges (F.told files.old) (λ told.
-        flat_map (judged_tables (map (λ n. n.now) without.now) told) topology.now.routers)
-        (map seen refused.old.items) (map seen refused.new.items)
+    ensures same { F.borrows files.new ≡ F.borrows files.old }
+    ensures kept { F.contents files.new ≡ F.contents files.old }
+    ensures judged { OnOk result (JudgesFiles (F.contents files.old) (λ contents.
+        flat_map (judged_tables (map (λ n. n.now) without.now) contents) topology.now.routers)
+        (map as_judged_file refused.old.items) (map as_judged_file refused.new.items)
         (F.failed files.old) (F.failed files.new)) }
 {
-    let Ok(listed) = noted_flows(alloc, topology) else {
+    let Ok(listed) = summary_pairs(alloc, topology) else {
         return Err(Memory);
     };
     for router in 0..topology.routers() {
@@ -255,11 +255,11 @@ fn judge_lans<F: PieceSource>(
     refused: &mut Vec<RefusedFile>,
 ) -> Result<(), Memory>
     requires room { 0 < length buffer.old }
-    ensures same { F.names files.new ≡ F.names files.old }
-    ensures kept { F.told files.new ≡ F.told files.old }
-    ensures judged { OnOk result (Judges (F.told files.old) (λ told.
-        map (judged_reports told) topology.now.lans)
-        (map seen refused.old.items) (map seen refused.new.items)
+    ensures same { F.borrows files.new ≡ F.borrows files.old }
+    ensures kept { F.contents files.new ≡ F.contents files.old }
+    ensures judged { OnOk result (JudgesFiles (F.contents files.old) (λ contents.
+        map (judged_reports contents) topology.now.lans)
+        (map as_judged_file refused.old.items) (map as_judged_file refused.new.items)
         (F.failed files.old) (F.failed files.new)) }
 {
     let channels = FlowChannels::of(alloc, topology)?;
@@ -271,18 +271,18 @@ fn judge_lans<F: PieceSource>(
 }
 
 /// Judges all files that a topology names.
-fn judge_named<F: PieceSource>(
+fn judge_topologys_files<F: PieceSource>(
     alloc: Global,
     files: &mut F,
     topology: &Topology,
     without: &[&str],
     refused: &mut Vec<RefusedFile>,
 ) -> Result<(), Memory>
-    ensures same { F.names files.new ≡ F.names files.old }
-    ensures kept { F.told files.new ≡ F.told files.old }
-    ensures judged { OnOk result (Judges (F.told files.old) (λ told.
-        judged_by (map (λ n. n.now) without.now) told (Ok topology.now))
-        (map seen refused.old.items) (map seen refused.new.items)
+    ensures same { F.borrows files.new ≡ F.borrows files.old }
+    ensures kept { F.contents files.new ≡ F.contents files.old }
+    ensures judged { OnOk result (JudgesFiles (F.contents files.old) (λ contents.
+        judged_with_topology (map (λ n. n.now) without.now) contents (Ok topology.now))
+        (map as_judged_file refused.old.items) (map as_judged_file refused.new.items)
         (F.failed files.old) (F.failed files.new)) }
 {
     let mut buffer = Vec::from_elem(alloc, 0u8, PIECE)?;
@@ -291,23 +291,23 @@ fn judge_named<F: PieceSource>(
 }
 
 /// Judges all files of a folder.
-fn judge_all<F: PieceSource>(
+fn judge_all_files<F: PieceSource>(
     alloc: Global,
     files: &mut F,
     without: &[&str],
     refused: &mut Vec<RefusedFile>,
 ) -> Result<(), Memory>
     requires { refused.old.items ≡ [] }
-    ensures same { F.names files.new ≡ F.names files.old }
-    ensures kept { F.told files.new ≡ F.told files.old }
-    ensures refused { (told : List FileText) → F.told files.old ≡ Some told →
-        OnOk result (AreRefused (map (λ n. n.now) without.now) told (map seen refused.new.items)) }
+    ensures same { F.borrows files.new ≡ F.borrows files.old }
+    ensures kept { F.contents files.new ≡ F.contents files.old }
+    ensures refused { (contents : List FileText) → F.contents files.old ≡ Some contents →
+        OnOk result (AreRefusedFiles (map (λ n. n.now) without.now) contents (map as_judged_file refused.new.items)) }
     ensures failures { OnOk result (F.failed files.new
-        ≡ failures_with (unread_count (map seen refused.new.items)) (F.failed files.old)) }
+        ≡ saturating_failures (unread_count (map as_judged_file refused.new.items)) (F.failed files.old)) }
 {
-    match topology_given(alloc, files) {
-        Ok(topology) => judge_named(alloc, files, &topology, without, refused),
-        Err(fault) => put(alloc, files, &Slot::topology(), Some(fault), refused),
+    match topology_unless_u64_max(alloc, files) {
+        Ok(topology) => judge_topologys_files(alloc, files, &topology, without, refused),
+        Err(fault) => push_if_fault(alloc, files, &Slot::topology(), Some(fault), refused),
     }
 }
 
@@ -323,21 +323,21 @@ pub fn refused_files<F: PieceSource>(
     files: &mut F,
     without: &[&str],
 ) -> Result<Vec<RefusedFile>, Memory>
-    ensures same { F.names files.new ≡ F.names files.old }
-    ensures kept { F.told files.new ≡ F.told files.old }
+    ensures same { F.borrows files.new ≡ F.borrows files.old }
+    ensures kept { F.contents files.new ≡ F.contents files.old }
     // Each file that has a fault is listed by it, as the source gives the files, and no other file.
-    ensures refused { (told : List FileText) → F.told files.old ≡ Some told →
+    ensures refused { (contents : List FileText) → F.contents files.old ≡ Some contents →
         IfOk result (λ refused.
-        AreRefused (map (λ n. n.now) without.now) told (map seen refused.items)) }
+        AreRefusedFiles (map (λ n. n.now) without.now) contents (map as_judged_file refused.items)) }
     // Where the source fails at no file that is there, these are the refused files.
-    ensures exact { (told : List FileText) → F.told files.old ≡ Some told →
-        IfOk result (λ refused. AreMissing told (map seen refused.items) →
-        map seen refused.items ≡ refused_of (map (λ n. n.now) without.now) told) }
+    ensures exact { (contents : List FileText) → F.contents files.old ≡ Some contents →
+        IfOk result (λ refused. AreUnreadFilesMissing contents (map as_judged_file refused.items) →
+        map as_judged_file refused.items ≡ refused_files_of (map (λ n. n.now) without.now) contents) }
     // Each file that is listed as one that can't be read is one at which the source failed.
     ensures failures { IfOk result (λ refused. F.failed files.new
-        ≡ failures_with (unread_count (map seen refused.items)) (F.failed files.old)) }
+        ≡ saturating_failures (unread_count (map as_judged_file refused.items)) (F.failed files.old)) }
 {
     let mut refused = Vec::new(alloc);
-    judge_all(alloc, files, without, &mut refused)?;
+    judge_all_files(alloc, files, without, &mut refused)?;
     Ok(refused)
 }

@@ -3,9 +3,9 @@
 ghost use Rattle.std.specs.Prelude.{◌≡◌, ◌<◌, ◌≤◌, ℕ, List, [], Some, Ok, Err};
 ghost use Rattle.std.specs.Prelude.{IfErr, IfOk, OnOk, length};
 ghost use Rattle.mc_text.specs.Bundle.{PartText, max_part};
-ghost use Rattle.mc_text.specs.Device.{counted};
+ghost use Rattle.mc_text.specs.Device.{failures_after};
 ghost use Rattle.mc_text.specs.Lines.{max_text};
-ghost use Rattle.mc_layout.specs.FilePart.{IsOfSource, file_part, part_bytes};
+ghost use Rattle.mc_layout.specs.FilePart.{IsFailedOrMemory, file_part, bytes_within_max_part};
 ghost use Rattle.mc_layout.specs.Files.{FileText, file_named, is_failure};
 ghost use Rattle.mc_layout.specs.Layout.{part_name};
 
@@ -24,14 +24,14 @@ fn feed_open<F: PieceSource, P: PieceReader>(
     requires room { 0 < length buffer.old }
     requires start { P.size reader.old ≡ 0 }
     requires reads { F.failed files.old < u64.MAX }
-    ensures same { F.names files.new ≡ F.names files.old }
-    ensures kept { F.told files.new ≡ F.told files.old }
+    ensures same { F.borrows files.new ≡ F.borrows files.old }
+    ensures kept { F.contents files.new ≡ F.contents files.old }
     // The reader's end is that of the whole file.
     ensures within { (bytes : List ℕ) → F.left files.old ≡ Some bytes → OnOk result
-        ((length bytes ≤ max_part) × (P.ends reader.old bytes ≡ P.ends reader.new [])) }
+        ((length bytes ≤ max_part) × (P.result_after reader.old bytes ≡ P.result_after reader.new [])) }
     ensures past { (bytes : List ℕ) → F.left files.old ≡ Some bytes → IfErr result (λ fault.
         fault ≡ FileFault.TooLarge → max_part < length bytes) }
-    ensures failures { F.failed files.new ≡ counted is_failure result (F.failed files.old) }
+    ensures failures { F.failed files.new ≡ failures_after is_failure result (F.failed files.old) }
 {
     let mut left = MAX_PART;
     'pieces: loop {
@@ -60,14 +60,14 @@ fn feed_file<F: PieceSource, P: PieceReader>(
     requires room { 0 < length buffer.old }
     requires start { P.size reader.old ≡ 0 }
     requires reads { F.failed files.old < u64.MAX }
-    ensures same { F.names files.new ≡ F.names files.old }
-    ensures kept { F.told files.new ≡ F.told files.old }
-    ensures bytes { (told : List FileText) → F.told files.old ≡ Some told → OnOk result
-        ((bytes : List ℕ) × (part_bytes (file_named told name.now) ≡ Ok bytes)
-        × (length bytes ≤ max_text) × (P.ends reader.old bytes ≡ P.ends reader.new [])) }
-    ensures fault { (told : List FileText) → F.told files.old ≡ Some told → IfErr result (λ fault.
-        (¬ IsOfSource fault) → part_bytes (file_named told name.now) ≡ Err fault) }
-    ensures failures { F.failed files.new ≡ counted is_failure result (F.failed files.old) }
+    ensures same { F.borrows files.new ≡ F.borrows files.old }
+    ensures kept { F.contents files.new ≡ F.contents files.old }
+    ensures bytes { (contents : List FileText) → F.contents files.old ≡ Some contents → OnOk result
+        ((bytes : List ℕ) × (bytes_within_max_part (file_named contents name.now) ≡ Ok bytes)
+        × (length bytes ≤ max_text) × (P.result_after reader.old bytes ≡ P.result_after reader.new [])) }
+    ensures fault { (contents : List FileText) → F.contents files.old ≡ Some contents → IfErr result (λ fault.
+        (¬ IsFailedOrMemory fault) → bytes_within_max_part (file_named contents name.now) ≡ Err fault) }
+    ensures failures { F.failed files.new ≡ failures_after is_failure result (F.failed files.old) }
 {
     files.open(alloc, name)?;
     let fed = feed_open(files, buffer, reader);
@@ -86,15 +86,15 @@ pub(crate) fn feed_slot<F: PieceSource, P: PieceReader>(
     requires room { 0 < length buffer.old }
     requires start { P.size reader.old ≡ 0 }
     requires reads { F.failed files.old < u64.MAX }
-    ensures same { F.names files.new ≡ F.names files.old }
-    ensures kept { F.told files.new ≡ F.told files.old }
-    ensures part { (told : List FileText) → F.told files.old ≡ Some told → IfOk result (λ name.
-        (part : PartText) × (file_part told slot.now ≡ Ok part) × (part.name ≡ name)
+    ensures same { F.borrows files.new ≡ F.borrows files.old }
+    ensures kept { F.contents files.new ≡ F.contents files.old }
+    ensures part { (contents : List FileText) → F.contents files.old ≡ Some contents → IfOk result (λ name.
+        (part : PartText) × (file_part contents slot.now ≡ Ok part) × (part.name ≡ name)
         × (length part.bytes ≤ max_text)
-        × (P.ends reader.old part.bytes ≡ P.ends reader.new [])) }
-    ensures fault { (told : List FileText) → F.told files.old ≡ Some told → IfErr result (λ fault.
-        (¬ IsOfSource fault) → file_part told slot.now ≡ Err fault) }
-    ensures failures { F.failed files.new ≡ counted is_failure result (F.failed files.old) }
+        × (P.result_after reader.old part.bytes ≡ P.result_after reader.new [])) }
+    ensures fault { (contents : List FileText) → F.contents files.old ≡ Some contents → IfErr result (λ fault.
+        (¬ IsFailedOrMemory fault) → file_part contents slot.now ≡ Err fault) }
+    ensures failures { F.failed files.new ≡ failures_after is_failure result (F.failed files.old) }
 {
     let name = slot.part_name(alloc)?;
     let file = slot.file_name(alloc)?;

@@ -3,12 +3,12 @@
 ghost use Rattle.std.specs.Prelude.{◌≡◌, ◌≢◌, ◌<◌, ◌≤◌, ℕ, List, [], ◌∷◌, Some, Err};
 ghost use Rattle.std.specs.Prelude.{IfErr, IfOk, OnOk, drop, length};
 ghost use Rattle.mc_text.specs.Bundle.{PartText};
-ghost use Rattle.mc_text.specs.Device.{counted};
+ghost use Rattle.mc_text.specs.Device.{failures_after};
 ghost use Rattle.mc_text.specs.Lines.{max_text};
-ghost use Rattle.mc_text.specs.PartsReading.{before, is_read as is_failed, parts_if};
-ghost use Rattle.mc_text.specs.PartsToCome.{GoesOn, Passes, others_if};
+ghost use Rattle.mc_text.specs.PartsReading.{prepend_parts, is_read as is_failed, parts_from_current};
+ghost use Rattle.mc_text.specs.RestOfBundle.{Advances, ReadsPart, rest_of_bundle};
 ghost use Rattle.mc_layout.specs.Layout.{slots};
-ghost use Rattle.mc_domain.specs.PartsInTurn.{IsAt, IsOpened, Refuses, names_from};
+ghost use Rattle.mc_domain.specs.PartsOneByOne.{HasNameOfSlot, IsOpened, IsFaultOf, check_names_from};
 ghost use Rattle.mc_domain.specs.SourceFault.{is_read};
 
 use crate::piece_reader::PieceReader;
@@ -28,19 +28,19 @@ fn feed_part<R: Input, P: PieceReader>(
     requires start { P.size reader.old ≡ 0 }
     requires failures { parts.old.failed < u64.MAX }
     // The part has bytes, and the reader's end is that of them all.
-    ensures part { (text : List ℕ) → parts.old.told ≡ Some text → OnOk result
-        ((later : List ℕ) × (part : PartText) × (parts.new.told ≡ Some later)
-        × (parts_if parts.old [] text ≡ before (part ∷ []) (others_if parts.new later))
+    ensures part { (text : List ℕ) → parts.old.remaining ≡ Some text → OnOk result
+        ((later : List ℕ) × (part : PartText) × (parts.new.remaining ≡ Some later)
+        × (parts_from_current parts.old [] text ≡ prepend_parts (part ∷ []) (rest_of_bundle parts.new later))
         × (parts.old.name ≡ Some part.name) × (length part.bytes ≤ max_text)
-        × (P.ends reader.old part.bytes ≡ P.ends reader.new [])) }
+        × (P.result_after reader.old part.bytes ≡ P.result_after reader.new [])) }
     ensures named { OnOk result (parts.new.name ≡ parts.old.name) }
     ensures open { OnOk result (parts.new.stage ≡ parts.old.stage) }
     // Which fault it is, unless the input failed or memory ran out.
-    ensures fault { (text : List ℕ) → parts.old.told ≡ Some text → IfErr result (λ fault.
+    ensures fault { (text : List ℕ) → parts.old.remaining ≡ Some text → IfErr result (λ fault.
         fault ≢ BundleFault.Read → fault ≢ BundleFault.Memory →
-        parts_if parts.old [] text ≡ Err fault) }
-    ensures goes_on { GoesOn parts.old parts.new }
-    ensures failures { parts.new.failed ≡ counted is_failed result parts.old.failed }
+        parts_from_current parts.old [] text ≡ Err fault) }
+    ensures advances { Advances parts.old parts.new }
+    ensures failures { parts.new.failed ≡ failures_after is_failed result parts.old.failed }
 {
     'pieces: loop {
         let count = parts.read(buffer)?;
@@ -68,14 +68,14 @@ pub(crate) fn feed_slot<R: Input, P: PieceReader>(
     requires room { 0 < length buffer.old }
     requires start { P.size reader.old ≡ 0 }
     requires failures { parts.old.failed < u64.MAX }
-    ensures part { IfOk result (λ name. Passes parts.old parts.new (λ part.
-        IsAt certified topology.now number part.name × (part.name ≡ name)
+    ensures part { IfOk result (λ name. ReadsPart parts.old parts.new (λ part.
+        HasNameOfSlot certified topology.now number part.name × (part.name ≡ name)
         × (length part.bytes ≤ max_text)
-        × (P.ends reader.old part.bytes ≡ P.ends reader.new []))) }
-    ensures fault { IfErr result (Refuses parts.old
-        (names_from number (drop number (slots certified topology.now)))) }
-    ensures goes_on { GoesOn parts.old parts.new }
-    ensures failures { parts.new.failed ≡ counted is_read result parts.old.failed }
+        × (P.result_after reader.old part.bytes ≡ P.result_after reader.new []))) }
+    ensures fault { IfErr result (IsFaultOf parts.old
+        (check_names_from number (drop number (slots certified topology.now)))) }
+    ensures advances { Advances parts.old parts.new }
+    ensures failures { parts.new.failed ≡ failures_after is_read result parts.old.failed }
 {
     open_slot(parts, topology, certified, number)?;
     feed_part(parts, buffer, reader)?;

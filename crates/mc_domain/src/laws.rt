@@ -3,62 +3,62 @@
 ghost use Rattle.std.specs.Prelude.{◌≡◌, ℕ, Bool, Contains, false, is_some, List, None, Option, Some};
 ghost use Rattle.std.specs.Prelude.{option_map, slice_get};
 ghost use Rattle.mc_text.specs.Bundle.{PartText, IsBundle};
-ghost use Rattle.mc_tables.specs.Notes.{NotesText};
+ghost use Rattle.mc_tables.specs.Summary.{SummaryValue};
 ghost use Rattle.mc_topology.specs.Topology.{TopologyValue};
 ghost use Rattle.mc_layout.specs.Files.{FileText};
 ghost use Rattle.mc_layout.specs.Packing.{IsPacked};
-ghost use Rattle.mc_theory.specs.LeftOut.{LeavesOut};
+ghost use Rattle.mc_theory.specs.ExcludedRouters.{ExcludesRouters};
 ghost use Rattle.mc_forward.specs.Domains.{DomainValue, net_of};
-ghost use Rattle.mc_domain.specs.FilesInput.{FilesStand};
-ghost use Rattle.mc_domain.specs.Input.{InputValue, InputStands};
-ghost use Rattle.mc_domain.specs.LeftOut.{HasNothing, is_left_out, left_out_files};
-ghost use Rattle.mc_domain.specs.Meaning.{FilesMeanListed, MeansFiles};
-ghost use Rattle.mc_domain.specs.NotesOfFiles.{AreNotesOf};
+ghost use Rattle.mc_domain.specs.FilesInput.{FilesDenoteInput};
+ghost use Rattle.mc_domain.specs.Input.{InputValue, DenotesInput};
+ghost use Rattle.mc_domain.specs.ExcludedRouters.{HasNoVifOrRow, is_excluded, files_with_exclusions};
+ghost use Rattle.mc_domain.specs.Meaning.{FilesMeanDomainAsListed, FilesMeanDomain};
+ghost use Rattle.mc_domain.specs.SummariesOfFiles.{AreSummariesOf};
 
 /// The text of a bundle stands for one input at most, and one text of a certificate, where each has
 /// one or neither has.
-pub fn texts_stand_for_one_input()
+pub fn bundle_denotes_one_input()
     ensures input { (text : List ℕ) (a b : InputValue) (c d : Option (List ℕ))
         → is_some d ≡ is_some c
-        → InputStands text a c → InputStands text b d → a ≡ b }
+        → DenotesInput text a c → DenotesInput text b d → a ≡ b }
     ensures certificate { (text : List ℕ) (a b : InputValue) (c d : Option (List ℕ))
         → is_some d ≡ is_some c
-        → InputStands text a c → InputStands text b d → c ≡ d }
+        → DenotesInput text a c → DenotesInput text b d → c ≡ d }
 {}
 
 /// The files of a folder stand for one input at most.
-pub fn files_stand_for_one_input()
-    ensures { (files : List FileText) (a b : InputValue) → FilesStand files a → FilesStand files b
+pub fn files_denote_one_input()
+    ensures { (files : List FileText) (a b : InputValue) → FilesDenoteInput files a → FilesDenoteInput files b
         → a ≡ b }
 {}
 
 /// Of one folder's files and one topology one list of notes is told at most.
-pub fn notes_are_determined()
-    ensures { (all : Bool) (files : List FileText) (t : TopologyValue) (a b : List NotesText) →
-        AreNotesOf all files t a → AreNotesOf all files t b → a ≡ b }
+pub fn summaries_are_unique()
+    ensures { (all : Bool) (files : List FileText) (t : TopologyValue) (a b : List SummaryValue) →
+        AreSummariesOf all files t a → AreSummariesOf all files t b → a ≡ b }
 {}
 
 /// The bundle that is packed of files without a certificate stands for the input that the files
 /// stand for.
-pub fn packed_files_stand_for_their_input()
+pub fn packed_bundle_denotes_input_of_files()
     ensures { (files : List FileText) (parts : List PartText) (text : List ℕ) (v : InputValue)
-        → FilesStand files v → IsPacked files false parts → IsBundle text parts
-        → InputStands text v None }
+        → FilesDenoteInput files v → IsPacked files false parts → IsBundle text parts
+        → DenotesInput text v None }
 {}
 
 /// Of a domain that is read with routers left out, such a router has nothing: no vif, so that none is
 /// placed, and no row.
-pub fn left_out_routers_have_nothing()
+pub fn excluded_routers_have_no_vif_or_row()
     ensures { (names : List (List ℕ)) (files : List FileText) (d : DomainValue) (router : ℕ)
-        (name : List ℕ) → FilesMeanListed (left_out_files names files) d → Contains names name
+        (name : List ℕ) → FilesMeanDomainAsListed (files_with_exclusions names files) d → Contains names name
         → option_map (λ r. r.name) (slice_get d.topology.routers router) ≡ Some name
-        → HasNothing d router }
+        → HasNoVifOrRow d router }
 {}
 
 /// The domain that files mean with routers left out is, flow by flow, the one that they mean without
 /// leaving any out, but for those routers: what the others and the hosts have is the same.
-pub fn routers_left_out_are_left_out_of_each_flow()
+pub fn excluded_routers_are_excluded_in_each_flow()
     ensures { (names : List (List ℕ)) (files : List FileText) (part whole : DomainValue)
-        → MeansFiles (left_out_files names files) part → MeansFiles files whole → (flow : ℕ)
-        → LeavesOut (is_left_out whole.topology names) (net_of part flow) (net_of whole flow) }
+        → FilesMeanDomain (files_with_exclusions names files) part → FilesMeanDomain files whole → (flow : ℕ)
+        → ExcludesRouters (is_excluded whole.topology names) (net_of part flow) (net_of whole flow) }
 {}

@@ -13,21 +13,21 @@ mod fed_part;
 mod file_part;
 mod files;
 mod laws;
-mod left_out;
+mod excluded;
 mod piece_reader;
 mod slot_part;
 mod source_fault;
-mod told;
+mod part_result;
 mod without_fault;
 
-pub use domain::{DomainRead, NotedDomain, PIECE, domain_in, noted_domain_without};
+pub use domain::{BundleDomain, FolderDomain, PIECE, read_bundle_domain, read_folder_domain};
 pub use each_file::{Refusal, RefusedFile, refused_files};
 pub use fault::InputFault;
 pub use laws::{
-    files_stand_for_one_input, left_out_routers_have_nothing, notes_are_determined,
-    packed_files_stand_for_their_input, routers_left_out_are_left_out_of_each_flow,
-    texts_stand_for_one_input,
+    files_denote_one_input, excluded_routers_have_no_vif_or_row, summaries_are_unique,
+    packed_bundle_denotes_input_of_files, excluded_routers_are_excluded_in_each_flow,
+    bundle_denotes_one_input,
 };
-pub use left_out::is_left_out;
+pub use excluded::is_excluded;
 pub use source_fault::SourceFault;
 pub use without_fault::WithoutFault;

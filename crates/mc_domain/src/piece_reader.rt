@@ -6,16 +6,16 @@ ghost use Rattle.mc_text.specs.Lines.{max_text};
 ghost use Rattle.mc_tables.specs.Steps.{out_of_memory};
 
 use mc_igmp::ListReader;
-use mc_tables::{CacheReader, NotedReader, TableFault, TableFaultKind, VifReader};
+use mc_tables::{CacheReader, SummaryReader, TableFault, TableFaultKind, VifReader};
 use mc_text::Memory;
 
 /// A reader that is fed its text in pieces.
 pub(crate) trait PieceReader {
     // what reading ends with
-    ghost End: { Type 0 };
+    ghost ReadResult: { Type 0 };
 
     // what it ends with if these bytes come
-    ghost ends: { Self → List ℕ → End };
+    ghost result_after: { Self → List ℕ → ReadResult };
 
     // how many of the bytes that have come count towards the limit of a text
     ghost size: { Self → ℕ };
@@ -28,12 +28,12 @@ pub(crate) trait PieceReader {
     fn take(&mut self, piece: &[u8]) -> Result<(), Memory>
         // Whatever bytes come then, reading ends as it would have with this piece before them.
         ensures goes_on { (more : List ℕ) → size self.old + length (piece.now ++ more) ≤ max_text →
-            OnOk result (ends self.new more ≡ ends self.old (piece.now ++ more)) }
+            OnOk result (result_after self.new more ≡ result_after self.old (piece.now ++ more)) }
         ensures size { size self.new ≤ size self.old + length piece.now };
 }
 
 /// Whether memory ran out. Any other fault is kept by the reader of the table that was fed.
-fn want_of_memory(fed: Result<(), TableFault>) -> Result<(), Memory>
+fn memory_fault_only(fed: Result<(), TableFault>) -> Result<(), Memory>
     ensures { OnOk result (fed ≢ Err out_of_memory) }
 {
     match fed {
@@ -51,53 +51,53 @@ fn want_of_memory(fed: Result<(), TableFault>) -> Result<(), Memory>
 impl PieceReader for VifReader {
     ghost use Rattle.std.specs.FinMap.{FinMap};
     ghost use Rattle.std.specs.Ordering.{nat_cmp};
-    ghost use Rattle.mc_tables.specs.VifTable.{VifText};
+    ghost use Rattle.mc_tables.specs.VifTable.{VifValue};
     ghost use Rattle.mc_tables.specs.VifsSoFar.{vifs_if};
     ghost use Rattle.mc_tables.specs.declared.fault.TableFault.{TableFault as FaultOfTable};
 
-    ghost End = { Result (FinMap nat_cmp VifText) FaultOfTable };
+    ghost ReadResult = { Result (FinMap nat_cmp VifValue) FaultOfTable };
 
-    ghost ends = { vifs_if };
+    ghost result_after = { vifs_if };
 
     // after a fault none
     ghost size = { λ s. if is_some s.fault then 0 else s.lines.size };
 
     fn take(&mut self, piece: &[u8]) -> Result<(), Memory> {
-        want_of_memory(self.feed(piece))
+        memory_fault_only(self.feed(piece))
     }
 }
 
 impl PieceReader for CacheReader {
-    ghost use Rattle.mc_tables.specs.CacheTable.{CacheText};
+    ghost use Rattle.mc_tables.specs.CacheTable.{CacheValue};
     ghost use Rattle.mc_tables.specs.RowsSoFar.{cache_if};
     ghost use Rattle.mc_tables.specs.declared.fault.TableFault.{TableFault as FaultOfTable};
 
-    ghost End = { Result CacheText FaultOfTable };
+    ghost ReadResult = { Result CacheValue FaultOfTable };
 
-    ghost ends = { cache_if };
+    ghost result_after = { cache_if };
 
     // after a fault none
     ghost size = { λ s. if is_some s.fault then 0 else s.lines.size };
 
     fn take(&mut self, piece: &[u8]) -> Result<(), Memory> {
-        want_of_memory(self.feed(piece))
+        memory_fault_only(self.feed(piece))
     }
 }
 
-impl PieceReader for NotedReader {
-    ghost use Rattle.mc_tables.specs.NotedReading.{noted_if};
+impl PieceReader for SummaryReader {
+    ghost use Rattle.mc_tables.specs.SummaryReading.{summary_if};
     ghost use Rattle.mc_tables.specs.declared.fault.TableFault.{TableFault as FaultOfTable};
-    ghost use Rattle.mc_tables.specs.declared.noted_cache.NotedCache.{NotedCache};
+    ghost use Rattle.mc_tables.specs.declared.summarized_cache.SummarizedCache.{SummarizedCache};
 
-    ghost End = { Result NotedCache FaultOfTable };
+    ghost ReadResult = { Result SummarizedCache FaultOfTable };
 
-    ghost ends = { noted_if };
+    ghost result_after = { summary_if };
 
     // after a fault none
     ghost size = { λ s. if is_some s.fault then 0 else s.lines.size };
 
     fn take(&mut self, piece: &[u8]) -> Result<(), Memory> {
-        want_of_memory(self.feed(piece))
+        memory_fault_only(self.feed(piece))
     }
 }
 
@@ -106,9 +106,9 @@ impl PieceReader for ListReader {
     ghost use Rattle.mc_igmp.specs.declared.fault.ListFault.{ListFault};
     ghost use Rattle.mc_igmp.specs.declared.record.Record.{Record};
 
-    ghost End = { Result (List Record) ListFault };
+    ghost ReadResult = { Result (List Record) ListFault };
 
-    ghost ends = { list_if };
+    ghost result_after = { list_if };
 
     ghost size = { λ s. s.size };
 

@@ -2,13 +2,13 @@
 
 ghost use Rattle.std.specs.Prelude.{◌≡◌, ◌<◌, ◌≤◌, ℕ, List, [], Some, Ok, OnOk, IfErr, drop, length};
 ghost use Rattle.std.specs.Prelude.{slice_get};
-ghost use Rattle.mc_text.specs.Device.{counted};
-ghost use Rattle.mc_text.specs.PartsReading.{parts_if};
-ghost use Rattle.mc_text.specs.PartsToCome.{GoesOn, others_if};
-ghost use Rattle.mc_text.specs.Steps.{refused_as};
+ghost use Rattle.mc_text.specs.Device.{failures_after};
+ghost use Rattle.mc_text.specs.PartsReading.{parts_from_current};
+ghost use Rattle.mc_text.specs.RestOfBundle.{Advances, rest_of_bundle};
+ghost use Rattle.mc_text.specs.Steps.{map_fault};
 ghost use Rattle.mc_layout.specs.Layout.{part_name, slots};
 ghost use Rattle.mc_domain.specs.InputReading.{named};
-ghost use Rattle.mc_domain.specs.PartsInTurn.{IsAt, IsOpened, Refuses, coming, names_from};
+ghost use Rattle.mc_domain.specs.PartsOneByOne.{HasNameOfSlot, IsOpened, IsFaultOf, read_rest, check_names_from};
 ghost use Rattle.mc_domain.specs.SourceFault.{Gives, is_read};
 ghost use Rattle.mc_domain.specs.declared.source_fault.SourceFault.TheVariants.{Input as refused};
 
@@ -19,12 +19,12 @@ use mc_text::{Input, Parts};
 use mc_topology::Topology;
 
 /// Reads to the end of the bundle, whose framing has to be right.
-pub(crate) fn read_to_end<R: Input>(parts: &mut Parts<R>) -> Result<(), SourceFault>
+pub(crate) fn drain<R: Input>(parts: &mut Parts<R>) -> Result<(), SourceFault>
     requires { parts.old.failed < u64.MAX }
-    ensures framing { (text : List ℕ) → parts.old.told ≡ Some text →
-        Gives (λ done. done) result (refused_as refused (coming parts.old text (λ _. Ok tt))) }
-    ensures goes_on { GoesOn parts.old parts.new }
-    ensures failures { parts.new.failed ≡ counted is_read result parts.old.failed }
+    ensures framing { (text : List ℕ) → parts.old.remaining ≡ Some text →
+        Gives (λ done. done) result (map_fault refused (read_rest parts.old text (λ _. Ok tt))) }
+    ensures advances { Advances parts.old parts.new }
+    ensures failures { parts.new.failed ≡ failures_after is_read result parts.old.failed }
 {
     'parts: while parts.next()? {}
     Ok(())
@@ -39,19 +39,19 @@ pub(crate) fn open_named<R: Input>(
     requires few { number < u32.MAX }
     requires failures { parts.old.failed < u64.MAX }
     ensures opened { OnOk result (IsOpened parts.new (part_name slot.now)) }
-    ensures part { (text : List ℕ) → parts.old.told ≡ Some text → OnOk result
-        ((later : List ℕ) × (parts.new.told ≡ Some later)
-        × (others_if parts.old text ≡ parts_if parts.new [] later)) }
-    ensures fault { IfErr result (Refuses parts.old
+    ensures part { (text : List ℕ) → parts.old.remaining ≡ Some text → OnOk result
+        ((later : List ℕ) × (parts.new.remaining ≡ Some later)
+        × (rest_of_bundle parts.old text ≡ parts_from_current parts.new [] later)) }
+    ensures fault { IfErr result (IsFaultOf parts.old
         (λ others. named (slice_get others 0) (part_name slot.now) number)) }
-    ensures goes_on { GoesOn parts.old parts.new }
-    ensures failures { parts.new.failed ≡ counted is_read result parts.old.failed }
+    ensures advances { Advances parts.old parts.new }
+    ensures failures { parts.new.failed ≡ failures_after is_read result parts.old.failed }
 {
     if !parts.next()? {
         return Err(SourceFault::Input(InputFault::Parts(number + 1)));
     }
     if !slot.is_named(parts.name().as_bytes()) {
-        read_to_end(parts)?;
+        drain(parts)?;
         return Err(SourceFault::Input(InputFault::Parts(number + 1)));
     }
     Ok(())
@@ -68,14 +68,14 @@ pub(crate) fn open_slot<R: Input>(
     requires few { number < u32.MAX }
     requires failures { parts.old.failed < u64.MAX }
     ensures opened { OnOk result
-        ((name : List ℕ) × IsOpened parts.new name × IsAt certified topology.now number name) }
-    ensures part { (text : List ℕ) → parts.old.told ≡ Some text → OnOk result
-        ((later : List ℕ) × (parts.new.told ≡ Some later)
-        × (others_if parts.old text ≡ parts_if parts.new [] later)) }
-    ensures fault { IfErr result (Refuses parts.old
-        (names_from number (drop number (slots certified topology.now)))) }
-    ensures goes_on { GoesOn parts.old parts.new }
-    ensures failures { parts.new.failed ≡ counted is_read result parts.old.failed }
+        ((name : List ℕ) × IsOpened parts.new name × HasNameOfSlot certified topology.now number name) }
+    ensures part { (text : List ℕ) → parts.old.remaining ≡ Some text → OnOk result
+        ((later : List ℕ) × (parts.new.remaining ≡ Some later)
+        × (rest_of_bundle parts.old text ≡ parts_from_current parts.new [] later)) }
+    ensures fault { IfErr result (IsFaultOf parts.old
+        (check_names_from number (drop number (slots certified topology.now)))) }
+    ensures advances { Advances parts.old parts.new }
+    ensures failures { parts.new.failed ≡ failures_after is_read result parts.old.failed }
 {
     let Some(slot) = slot_at(topology, certified, number) else {
         unreachable!()
@@ -84,7 +84,7 @@ pub(crate) fn open_slot<R: Input>(
 }
 
 /// Reads to the end of the bundle, whose parts have to have the names of the slots from a number on.
-pub(crate) fn read_on<R: Input>(
+pub(crate) fn check_names_to_end<R: Input>(
     parts: &mut Parts<R>,
     topology: &Topology,
     certified: bool,
@@ -92,18 +92,18 @@ pub(crate) fn read_on<R: Input>(
 ) -> Result<(), SourceFault>
     requires within { number ≤ length (slots certified topology.now) }
     requires failures { parts.old.failed < u64.MAX }
-    ensures names { (text : List ℕ) → parts.old.told ≡ Some text →
-        Gives (λ done. done) result (refused_as refused (coming parts.old text
-        (names_from number (drop number (slots certified topology.now))))) }
-    ensures goes_on { GoesOn parts.old parts.new }
-    ensures failures { parts.new.failed ≡ counted is_read result parts.old.failed }
+    ensures names { (text : List ℕ) → parts.old.remaining ≡ Some text →
+        Gives (λ done. done) result (map_fault refused (read_rest parts.old text
+        (check_names_from number (drop number (slots certified topology.now))))) }
+    ensures advances { Advances parts.old parts.new }
+    ensures failures { parts.new.failed ≡ failures_after is_read result parts.old.failed }
 {
     let count = slot_count(topology, certified);
     for next in number..count {
         open_slot(parts, topology, certified, next)?;
     }
     if parts.next()? {
-        read_to_end(parts)?;
+        drain(parts)?;
         return Err(SourceFault::Input(InputFault::Parts(count + 1)));
     }
     Ok(())

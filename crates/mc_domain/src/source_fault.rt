@@ -1,7 +1,7 @@
 //! Why the parts of a bundle, or a folder's files, tell no domain.
 
 ghost use Rattle.std.specs.Prelude.{◌≡◌};
-ghost use Rattle.mc_domain.specs.SourceFault.{of_bundle, of_file};
+ghost use Rattle.mc_domain.specs.SourceFault.{from_bundle_fault, from_file_fault};
 ghost use Rattle.mc_domain.specs.declared.fault.InputFault.TheVariants.{Memory};
 ghost use Rattle.mc_domain.specs.declared.source_fault.SourceFault.TheVariants.{Input};
 
@@ -30,7 +30,7 @@ impl From<InputFault> for SourceFault {
 }
 
 impl From<BundleFault> for SourceFault {
-    ghost from_gives = { λ bundle fault. fault ≡ of_bundle bundle };
+    ghost from_gives = { λ bundle fault. fault ≡ from_bundle_fault bundle };
 
     fn from(fault: BundleFault) -> SourceFault {
         match fault {
@@ -42,7 +42,7 @@ impl From<BundleFault> for SourceFault {
 }
 
 impl From<FileFault> for SourceFault {
-    ghost from_gives = { λ file fault. fault ≡ of_file file };
+    ghost from_gives = { λ file fault. fault ≡ from_file_fault file };
 
     fn from(fault: FileFault) -> SourceFault {
         match fault {

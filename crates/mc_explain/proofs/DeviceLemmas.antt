@@ -6,8 +6,8 @@ use Rattle.std.proofs.lemmas.Fmt.{hex_byte}
 use Rattle.mc_explain.specs.RowText.{hex_digit_of}
 
 -- std's digit is the same one
-glyph : (d : ℕ) → digit_glyph false d ≡ hex_digit_of d
-glyph d = ap (λ (b : Bool). cond b (48 + d) (87 + d)) (same d)
+digit_glyph-hex : (d : ℕ) → digit_glyph false d ≡ hex_digit_of d
+digit_glyph-hex d = ap (λ (b : Bool). cond b (48 + d) (87 + d)) (same d)
   where
     same : (d : ℕ) → nat_lt d 10 ≡ nat_le d 9
     same d = grind arith
@@ -17,4 +17,4 @@ pub hex_text : (b : ℕ) → b < 256
     → padded_integral (format_spec 32 0 4 2 (2 ^ 64 - 1)) false [] (digits 16 false b)
     ≡ hex_digit_of (b / 16) ∷ hex_digit_of (b % 16) ∷ []
 hex_text b small = hex_byte false b small
-    ∙ ap₂ (λ x y. x ∷ y ∷ []) (glyph (b / 16)) (glyph (b % 16))
+    ∙ ap₂ (λ x y. x ∷ y ∷ []) (digit_glyph-hex (b / 16)) (digit_glyph-hex (b % 16))

@@ -3,183 +3,183 @@ use Rattle.std.proofs.Common.{◌==◌, ◌-◌, ℕ, List, [], ◌∷◌, ◌++
 use Rattle.std.proofs.Common.{Option, Some, None, refl}
 use Rattle.std.specs.Prelude.{nat_le, codes, decimal}
 use Rattle.std.specs.Str.{bytes_eq}
-use Rattle.mc_text.proofs.BundleWords.{Without}
-use Rattle.mc_tables.specs.Notes.{NotesText}
-use Rattle.mc_tables.specs.VifTable.{VifText, no_device}
+use Rattle.mc_text.proofs.BundleWords.{HasNoByte}
+use Rattle.mc_tables.specs.Summary.{SummaryValue}
+use Rattle.mc_tables.specs.VifTable.{VifValue, no_device}
 use Rattle.mc_topology.specs.declared.flow.Flow.{Flow}
-use Rattle.mc_topology.specs.Topology.{TopologyValue, IsTopology, lan_name, router_name}
+use Rattle.mc_topology.specs.Topology.{TopologyValue, IsValidTopology, lan_name, router_name}
 use Rattle.mc_theory.specs.Flights.{Copy}
 use Rattle.mc_forward.specs.ListedTables.{DomainFacts}
-use Rattle.mc_explain.specs.declared.told.Told.{Told}
-use Rattle.mc_explain.specs.declared.told.Told.TheVariants.{SentOnto, Circle, TakeOut, Unplaced}
-use Rattle.mc_explain.specs.declared.told.Told.TheVariants.{LeastTtl, OnlyEverySource, StoppedAt}
+use Rattle.mc_explain.specs.declared.causes.Cause.{Cause}
+use Rattle.mc_explain.specs.declared.causes.Cause.TheVariants.{SentOnto, Circle, TakeOut, Unplaced}
+use Rattle.mc_explain.specs.declared.causes.Cause.TheVariants.{LeastTtl, OnlyEverySource, StoppedAt}
 use Rattle.mc_explain.specs.EverySourceText.{every_source_text}
-use Rattle.mc_explain.specs.ExplanationText.{cost_text, dear_text, reason_text, told_lines}
-use Rattle.mc_explain.specs.ExplanationText.{told_text, unplaced_text}
+use Rattle.mc_explain.specs.ExplanationText.{cost_text, low_ttl_cost_text, unplaced_reason_text, causes_text}
+use Rattle.mc_explain.specs.ExplanationText.{cause_text, unplaced_text}
 use Rattle.mc_explain.specs.Indented.{AreIndented}
 use Rattle.mc_explain.specs.RowText.{device_text, incoming_text}
 use Rattle.mc_explain.specs.RowText.{row_text}
-use Rattle.mc_explain.specs.WantedText.{behind_space, lans_text, missed_too, missed_too_line}
-use Rattle.mc_explain.specs.WantedText.{missed_too_text, more_text, wanted_line, wanted_text, wanting}
-use Rattle.mc_explain.proofs.FeedLemmas.{device-plain, each-plain, either, every-source_plain}
-use Rattle.mc_explain.proofs.FeedLemmas.{incoming-plain, lan-plain, number, plain, router-plain}
-use Rattle.mc_explain.proofs.FeedLemmas.{row-plain, said, words}
-use Rattle.mc_explain.proofs.IndentedLemmas.{line-begins, line-ends, line-last, line-more, line-says}
-use Rattle.mc_explain.proofs.IndentedLemmas.{lines-each, no-lines}
+use Rattle.mc_explain.specs.WantedText.{lan_after_space, lans_text, also_missed, also_missed_line}
+use Rattle.mc_explain.specs.WantedText.{also_missed_text, more_text, wanted_line, wanted_text, lans_wanting}
+use Rattle.mc_explain.proofs.LineFeedLemmas.{no_feed-device_text, no_feed-flat_map, no_feed-cond, no_feed-every_source_text}
+use Rattle.mc_explain.proofs.LineFeedLemmas.{no_feed-incoming_text, no_feed-lan_name, number, no_feed-from_list_all, no_feed-router_name}
+use Rattle.mc_explain.proofs.LineFeedLemmas.{no_feed-row_text, no_feed-append_front, no_feed-append}
+use Rattle.mc_explain.proofs.IndentedLemmas.{are_indented-from_line_rest, is_line_rest-feed_then_lines, is_line_rest-feed, is_line_rest-append, is_line_rest-append_front}
+use Rattle.mc_explain.proofs.IndentedLemmas.{are_indented-flat_map, are_indented-none}
 
 -- ---- what is told
 
-reason-plain : (v : VifText) → Without 10 (reason_text v)
-reason-plain v =
-    either v.register _ _
-    (said (codes "is PIM's register vif: copies go to the rendezvous point until its Register-Stop ")
+no_feed-unplaced_reason : (v : VifValue) → HasNoByte 10 (unplaced_reason_text v)
+no_feed-unplaced_reason v =
+    no_feed-cond v.register _ _
+    (no_feed-append_front (codes "is PIM's register vif: copies go to the rendezvous point until its Register-Stop ")
     (codes "comes; if this stays, look why it does not") refl
-    (plain (codes "comes; if this stays, look why it does not") refl))
-    (either v.tunnel _ _ (plain (codes "is a tunnel") refl)
-    (either (bytes_eq v.device no_device) _ _ (plain (codes "has lost its device") refl)
-    (plain (codes "is on no listed LAN") refl)))
+    (no_feed-from_list_all (codes "comes; if this stays, look why it does not") refl))
+    (no_feed-cond v.tunnel _ _ (no_feed-from_list_all (codes "is a tunnel") refl)
+    (no_feed-cond (bytes_eq v.device no_device) _ _ (no_feed-from_list_all (codes "has lost its device") refl)
+    (no_feed-from_list_all (codes "is on no listed LAN") refl)))
 
-unplaced-plain : (d : DomainFacts) (router : ℕ) (o : Option VifText) → IsTopology d.topology
-    → Without 10 (unplaced_text d router o)
-unplaced-plain d router None ok =
-    said (codes "has no line in vif-") _ refl (router-plain d.topology router ok)
-unplaced-plain d router (Some v) ok = reason-plain v
+no_feed-unplaced_text : (d : DomainFacts) (router : ℕ) (o : Option VifValue) → IsValidTopology d.topology
+    → HasNoByte 10 (unplaced_text d router o)
+no_feed-unplaced_text d router None ok =
+    no_feed-append_front (codes "has no line in vif-") _ refl (no_feed-router_name d.topology router ok)
+no_feed-unplaced_text d router (Some v) ok = no_feed-unplaced_reason v
 
-cost-plain : (d : DomainFacts) (f : Flow) (lan least : ℕ) → IsTopology d.topology
-    → Without 10 (cost_text d f lan least)
-cost-plain d f lan least ok =
-    either (nat_le least f.ttl) _ (dear_text (lan_name d.topology lan) least f.ttl)
-    (plain (codes "each LAN that this flow's packets reach is reached without it") refl)
-    (said (codes "packets sent with less than ttl ") _ refl
-    (words (decimal least) _ (number least)
-    (said (codes " may then not reach ") _ refl
-    (words (lan_name d.topology lan) _ (lan-plain d.topology lan ok)
-    (said (codes " and LANs behind it, and this flow is listed with ttl ") _ refl
+no_feed-cost_text : (d : DomainFacts) (f : Flow) (lan least : ℕ) → IsValidTopology d.topology
+    → HasNoByte 10 (cost_text d f lan least)
+no_feed-cost_text d f lan least ok =
+    no_feed-cond (nat_le least f.ttl) _ (low_ttl_cost_text (lan_name d.topology lan) least f.ttl)
+    (no_feed-from_list_all (codes "each LAN that this flow's packets reach is reached without it") refl)
+    (no_feed-append_front (codes "packets sent with less than ttl ") _ refl
+    (no_feed-append (decimal least) _ (number least)
+    (no_feed-append_front (codes " may then not reach ") _ refl
+    (no_feed-append (lan_name d.topology lan) _ (no_feed-lan_name d.topology lan ok)
+    (no_feed-append_front (codes " and LANs behind it, and this flow is listed with ttl ") _ refl
     (number f.ttl))))))
 
-told-indented : (d : DomainFacts) (notes : List NotesText) (number_of : ℕ) (f : Flow) (t : Told)
-    → IsTopology d.topology → AreIndented (told_text d notes number_of f t)
-told-indented d notes k f (SentOnto lan router vif) ok =
+are_indented-cause_text : (d : DomainFacts) (summary : List SummaryValue) (number_of : ℕ) (f : Flow) (t : Cause)
+    → IsValidTopology d.topology → AreIndented (cause_text d summary number_of f t)
+are_indented-cause_text d summary k f (SentOnto lan router vif) ok =
     let row = (d.nets k).row router in
-    line-begins _
-    (line-says (codes "sent onto ") _ refl
-    (line-more (lan_name d.topology lan) _ (lan-plain d.topology lan ok)
-    (line-says (codes " by ") _ refl
-    (line-more (router_name d.topology router) _ (router-plain d.topology router ok)
-    (line-says (codes " at ") _ refl
-    (line-more (device_text d router vif) _ (device-plain d router vif)
-    (line-says (codes ": ") _ refl
-    (line-more (row_text d f router row) _ (row-plain d f router row ok) line-last))))))))
-told-indented d notes k f (Circle from onto router vif) ok =
+    are_indented-from_line_rest _
+    (is_line_rest-append_front (codes "sent onto ") _ refl
+    (is_line_rest-append (lan_name d.topology lan) _ (no_feed-lan_name d.topology lan ok)
+    (is_line_rest-append_front (codes " by ") _ refl
+    (is_line_rest-append (router_name d.topology router) _ (no_feed-router_name d.topology router ok)
+    (is_line_rest-append_front (codes " at ") _ refl
+    (is_line_rest-append (device_text d router vif) _ (no_feed-device_text d router vif)
+    (is_line_rest-append_front (codes ": ") _ refl
+    (is_line_rest-append (row_text d f router row) _ (no_feed-row_text d f router row ok) is_line_rest-feed))))))))
+are_indented-cause_text d summary k f (Circle from onto router vif) ok =
     let row = (d.nets k).row router in
-    line-begins _
-    (line-more (lan_name d.topology from) _ (lan-plain d.topology from ok)
-    (line-says (codes " to ") _ refl
-    (line-more (lan_name d.topology onto) _ (lan-plain d.topology onto ok)
-    (line-says (codes " by ") _ refl
-    (line-more (router_name d.topology router) _ (router-plain d.topology router ok)
-    (line-says (codes " from ") _ refl
-    (line-more (incoming_text d router row) _ (incoming-plain d router row)
-    (line-says (codes " to ") _ refl
-    (line-more (device_text d router vif) _ (device-plain d router vif)
-    (line-says (codes ": ") _ refl
-    (line-more (row_text d f router row) _ (row-plain d f router row ok) line-last)))))))))))
-told-indented d notes k f (TakeOut lan router vif least) ok =
-    line-begins _
-    (line-says (codes "one way to end it: take ") _ refl
-    (line-more (device_text d router vif) _ (device-plain d router vif)
-    (line-says (codes " out of this row of ") _ refl
-    (line-more (router_name d.topology router) _ (router-plain d.topology router ok)
-    (line-says (codes "; ") _ refl
-    (line-more (cost_text d f lan least) _ (cost-plain d f lan least ok)
-    (line-ends (codes "  audit again after each change\n")
-    (line-begins _ (line-says (codes "audit again after each change") _ refl line-last)))))))))
-told-indented d notes k f (Unplaced router vif) ok =
+    are_indented-from_line_rest _
+    (is_line_rest-append (lan_name d.topology from) _ (no_feed-lan_name d.topology from ok)
+    (is_line_rest-append_front (codes " to ") _ refl
+    (is_line_rest-append (lan_name d.topology onto) _ (no_feed-lan_name d.topology onto ok)
+    (is_line_rest-append_front (codes " by ") _ refl
+    (is_line_rest-append (router_name d.topology router) _ (no_feed-router_name d.topology router ok)
+    (is_line_rest-append_front (codes " from ") _ refl
+    (is_line_rest-append (incoming_text d router row) _ (no_feed-incoming_text d router row)
+    (is_line_rest-append_front (codes " to ") _ refl
+    (is_line_rest-append (device_text d router vif) _ (no_feed-device_text d router vif)
+    (is_line_rest-append_front (codes ": ") _ refl
+    (is_line_rest-append (row_text d f router row) _ (no_feed-row_text d f router row ok) is_line_rest-feed)))))))))))
+are_indented-cause_text d summary k f (TakeOut lan router vif least) ok =
+    are_indented-from_line_rest _
+    (is_line_rest-append_front (codes "one way to end it: take ") _ refl
+    (is_line_rest-append (device_text d router vif) _ (no_feed-device_text d router vif)
+    (is_line_rest-append_front (codes " out of this row of ") _ refl
+    (is_line_rest-append (router_name d.topology router) _ (no_feed-router_name d.topology router ok)
+    (is_line_rest-append_front (codes "; ") _ refl
+    (is_line_rest-append (cost_text d f lan least) _ (no_feed-cost_text d f lan least ok)
+    (is_line_rest-feed_then_lines (codes "  audit again after each change\n")
+    (are_indented-from_line_rest _ (is_line_rest-append_front (codes "audit again after each change") _ refl is_line_rest-feed)))))))))
+are_indented-cause_text d summary k f (Unplaced router vif) ok =
     let row = (d.nets k).row router in
-    line-begins _
-    (line-more (device_text d router vif) _ (device-plain d router vif)
-    (line-says (codes " of ") _ refl
-    (line-more (router_name d.topology router) _ (router-plain d.topology router ok)
-    (line-says (codes " ") _ refl
-    (line-more (unplaced_text d router (d.vifs router vif)) _
-    (unplaced-plain d router (d.vifs router vif) ok)
-    (line-ends _ (line-begins _
-    (line-more (row_text d f router row) _ (row-plain d f router row ok) line-last))))))))
-told-indented d notes k f (OnlyEverySource router vif) ok =
-    line-begins _
-    (line-says (codes "a copy comes in at ") _ refl
-    (line-more (device_text d router vif) _ (device-plain d router vif)
-    (line-says (codes " of ") _ refl
-    (line-more (router_name d.topology router) _ (router-plain d.topology router ok)
-    (line-says
+    are_indented-from_line_rest _
+    (is_line_rest-append (device_text d router vif) _ (no_feed-device_text d router vif)
+    (is_line_rest-append_front (codes " of ") _ refl
+    (is_line_rest-append (router_name d.topology router) _ (no_feed-router_name d.topology router ok)
+    (is_line_rest-append_front (codes " ") _ refl
+    (is_line_rest-append (unplaced_text d router (d.vifs router vif)) _
+    (no_feed-unplaced_text d router (d.vifs router vif) ok)
+    (is_line_rest-feed_then_lines _ (are_indented-from_line_rest _
+    (is_line_rest-append (row_text d f router row) _ (no_feed-row_text d f router row ok) is_line_rest-feed))))))))
+are_indented-cause_text d summary k f (OnlyEverySource router vif) ok =
+    are_indented-from_line_rest _
+    (is_line_rest-append_front (codes "a copy comes in at ") _ refl
+    (is_line_rest-append (device_text d router vif) _ (no_feed-device_text d router vif)
+    (is_line_rest-append_front (codes " of ") _ refl
+    (is_line_rest-append (router_name d.topology router) _ (no_feed-router_name d.topology router ok)
+    (is_line_rest-append_front
     (codes ", which has no resolved row of this source and group, only one for every source: ") _ refl
-    (line-more (every_source_text d notes f.group router) _
-    (every-source_plain d notes f.group router ok)
-    (line-ends (codes "  this may be healthy: mcaudit judges source trees alone\n")
-    (line-begins _
-    (line-says (codes "this may be healthy: mcaudit judges source trees alone") _ refl
-    line-last)))))))))
-told-indented d notes k f (LeastTtl lan least) ok =
-    line-begins _
-    (line-more (lan_name d.topology lan) _ (lan-plain d.topology lan ok)
-    (line-says (codes " is reached by packets sent with ttl ") _ refl
-    (line-more (decimal least) _ (number least)
-    (line-says (codes " or more; this flow is listed with ttl ") _ refl
-    (line-more (decimal f.ttl) _ (number f.ttl) line-last)))))
-told-indented d notes k f (StoppedAt router vif threshold ttl) ok =
-    line-begins _
-    (line-says (codes "stopped at ") _ refl
-    (line-more (router_name d.topology router) _ (router-plain d.topology router ok)
-    (line-says (codes " ") _ refl
-    (line-more (device_text d router vif) _ (device-plain d router vif)
-    (line-says (codes ": the copy has ttl ") _ refl
-    (line-more (decimal ttl) _ (number ttl)
-    (line-says (codes ", and is sent only above threshold ") _ refl
-    (line-more (decimal threshold) _ (number threshold) line-last))))))))
+    (is_line_rest-append (every_source_text d summary f.group router) _
+    (no_feed-every_source_text d summary f.group router ok)
+    (is_line_rest-feed_then_lines (codes "  this may be healthy: mcaudit judges source trees alone\n")
+    (are_indented-from_line_rest _
+    (is_line_rest-append_front (codes "this may be healthy: mcaudit judges source trees alone") _ refl
+    is_line_rest-feed)))))))))
+are_indented-cause_text d summary k f (LeastTtl lan least) ok =
+    are_indented-from_line_rest _
+    (is_line_rest-append (lan_name d.topology lan) _ (no_feed-lan_name d.topology lan ok)
+    (is_line_rest-append_front (codes " is reached by packets sent with ttl ") _ refl
+    (is_line_rest-append (decimal least) _ (number least)
+    (is_line_rest-append_front (codes " or more; this flow is listed with ttl ") _ refl
+    (is_line_rest-append (decimal f.ttl) _ (number f.ttl) is_line_rest-feed)))))
+are_indented-cause_text d summary k f (StoppedAt router vif threshold ttl) ok =
+    are_indented-from_line_rest _
+    (is_line_rest-append_front (codes "stopped at ") _ refl
+    (is_line_rest-append (router_name d.topology router) _ (no_feed-router_name d.topology router ok)
+    (is_line_rest-append_front (codes " ") _ refl
+    (is_line_rest-append (device_text d router vif) _ (no_feed-device_text d router vif)
+    (is_line_rest-append_front (codes ": the copy has ttl ") _ refl
+    (is_line_rest-append (decimal ttl) _ (number ttl)
+    (is_line_rest-append_front (codes ", and is sent only above threshold ") _ refl
+    (is_line_rest-append (decimal threshold) _ (number threshold) is_line_rest-feed))))))))
 
 -- all of it
-pub told-lines : (d : DomainFacts) (notes : List NotesText) (number_of : ℕ) (f : Flow)
-    (told : List Told) → IsTopology d.topology → AreIndented (told_lines d notes number_of f told)
-told-lines d notes k f told ok =
-    lines-each (told_text d notes k f) told (λ t. told-indented d notes k f t ok)
+pub are_indented-causes_text : (d : DomainFacts) (summary : List SummaryValue) (number_of : ℕ) (f : Flow)
+    (causes : List Cause) → IsValidTopology d.topology → AreIndented (causes_text d summary number_of f causes)
+are_indented-causes_text d summary k f causes ok =
+    are_indented-flat_map (cause_text d summary k f) causes (λ t. are_indented-cause_text d summary k f t ok)
 
 -- ---- lists of LANs
 
-pub more-plain : (more : ℕ) → Without 10 (more_text more)
-more-plain more =
-    either (more == 0) [] (codes " and " ++ (decimal more ++ codes " more")) tt
-    (said (codes " and ") _ refl
-    (words (decimal more) _ (number more) (plain (codes " more") refl)))
+pub no_feed-more_text : (more : ℕ) → HasNoByte 10 (more_text more)
+no_feed-more_text more =
+    no_feed-cond (more == 0) [] (codes " and " ++ (decimal more ++ codes " more")) tt
+    (no_feed-append_front (codes " and ") _ refl
+    (no_feed-append (decimal more) _ (number more) (no_feed-from_list_all (codes " more") refl)))
 
 -- the first of a list, and how many more there are
-pub lans-plain : (t : TopologyValue) (lans : List ℕ) → IsTopology t → Without 10 (lans_text t lans)
-lans-plain t lans ok =
-    words _ (more_text (length lans - 8))
-    (each-plain (behind_space t) (take 8 lans) (λ l. said (codes " ") _ refl (lan-plain t l ok)))
-    (more-plain (length lans - 8))
+pub no_feed-lans_text : (t : TopologyValue) (lans : List ℕ) → IsValidTopology t → HasNoByte 10 (lans_text t lans)
+no_feed-lans_text t lans ok =
+    no_feed-append _ (more_text (length lans - 8))
+    (no_feed-flat_map (lan_after_space t) (take 8 lans) (λ l. no_feed-append_front (codes " ") _ refl (no_feed-lan_name t l ok)))
+    (no_feed-more_text (length lans - 8))
 
-pub wanted-by : (t : TopologyValue) (lans : List ℕ) → IsTopology t → AreIndented (wanted_text t lans)
-wanted-by t [] ok =
-    line-begins _ (line-says (codes "wanted 0: no report asks for it") _ refl line-last)
-wanted-by t (lan ∷ lans) ok =
-    line-begins _
-    (line-says (codes "wanted ") _ refl
-    (line-more (decimal (length (lan ∷ lans))) _ (number (length (lan ∷ lans)))
-    (line-says (codes ":") _ refl
-    (line-more (lans_text t (lan ∷ lans)) _ (lans-plain t (lan ∷ lans) ok) line-last))))
+pub are_indented-wanted_text : (t : TopologyValue) (lans : List ℕ) → IsValidTopology t → AreIndented (wanted_text t lans)
+are_indented-wanted_text t [] ok =
+    are_indented-from_line_rest _ (is_line_rest-append_front (codes "wanted 0: no report asks for it") _ refl is_line_rest-feed)
+are_indented-wanted_text t (lan ∷ lans) ok =
+    are_indented-from_line_rest _
+    (is_line_rest-append_front (codes "wanted ") _ refl
+    (is_line_rest-append (decimal (length (lan ∷ lans))) _ (number (length (lan ∷ lans)))
+    (is_line_rest-append_front (codes ":") _ refl
+    (is_line_rest-append (lans_text t (lan ∷ lans)) _ (no_feed-lans_text t (lan ∷ lans) ok) is_line_rest-feed))))
 
-pub missed-by : (t : TopologyValue) (lans : List ℕ) → IsTopology t
-    → AreIndented (missed_too_text t lans)
-missed-by t [] ok = no-lines
-missed-by t (lan ∷ lans) ok =
-    line-begins _
-    (line-says (codes "also missed:") _ refl
-    (line-more (lans_text t (lan ∷ lans)) _ (lans-plain t (lan ∷ lans) ok) line-last))
+pub are_indented-also_missed_text : (t : TopologyValue) (lans : List ℕ) → IsValidTopology t
+    → AreIndented (also_missed_text t lans)
+are_indented-also_missed_text t [] ok = are_indented-none
+are_indented-also_missed_text t (lan ∷ lans) ok =
+    are_indented-from_line_rest _
+    (is_line_rest-append_front (codes "also missed:") _ refl
+    (is_line_rest-append (lans_text t (lan ∷ lans)) _ (no_feed-lans_text t (lan ∷ lans) ok) is_line_rest-feed))
 
-pub wanted-lines : (d : DomainFacts) (flow : ℕ) → IsTopology d.topology
+pub are_indented-wanted_line : (d : DomainFacts) (flow : ℕ) → IsValidTopology d.topology
     → AreIndented (wanted_line d flow)
-wanted-lines d flow ok = wanted-by d.topology (wanting d flow) ok
+are_indented-wanted_line d flow ok = are_indented-wanted_text d.topology (lans_wanting d flow) ok
 
-pub missed-lines : (d : DomainFacts) (flow : ℕ) (copies : List Copy) (missed : ℕ)
-    → IsTopology d.topology → AreIndented (missed_too_line d flow copies missed)
-missed-lines d flow copies missed ok = missed-by d.topology (missed_too d flow copies missed) ok
+pub are_indented-also_missed_line : (d : DomainFacts) (flow : ℕ) (copies : List Copy) (missed : ℕ)
+    → IsValidTopology d.topology → AreIndented (also_missed_line d flow copies missed)
+are_indented-also_missed_line d flow copies missed ok = are_indented-also_missed_text d.topology (also_missed d flow copies missed) ok

@@ -5,18 +5,18 @@ use Rattle.std.proofs.Common.{refl, ap, ap₂, sym, subst, ◌∙◌, append_ass
 use Rattle.std.specs.Prelude.{not, codes}
 use Rattle.std.specs.List.{list_all}
 use Rattle.std.proofs.lemmas.Grind.{flat_map-append}
-use Rattle.mc_text.proofs.BundleWords.{Without}
-use Rattle.mc_theory.proofs.InLists.{in-append_cases}
-use Rattle.mc_explain.specs.Indented.{AreIndented, IsFeedless, indented}
-use Rattle.mc_explain.proofs.FeedLemmas.{plain, words}
+use Rattle.mc_text.proofs.BundleWords.{HasNoByte}
+use Rattle.mc_theory.proofs.ListLemmas.{in-append_cases}
+use Rattle.mc_explain.specs.Indented.{AreIndented, HasNoLineFeed, indented}
+use Rattle.mc_explain.proofs.LineFeedLemmas.{no_feed-from_list_all, no_feed-append}
 
 -- ---- lines one after the other
 
-pub no-lines : AreIndented []
-no-lines = record { lines = []; feedless = λ line h. absurd h; spelled = refl }
+pub are_indented-none : AreIndented []
+are_indented-none = record { lines = []; feedless = λ line h. absurd h; spelled = refl }
 
-pub lines-both : (xs ys : List ℕ) → AreIndented xs → AreIndented ys → AreIndented (xs ++ ys)
-lines-both xs ys p q = record {
+pub are_indented-append : (xs ys : List ℕ) → AreIndented xs → AreIndented ys → AreIndented (xs ++ ys)
+are_indented-append xs ys p q = record {
   lines = p.lines ++ q.lines;
   feedless = λ line h. elim (in-append_cases line p.lines q.lines h) [
     | inl left ↦ p.feedless line left
@@ -26,24 +26,24 @@ lines-both xs ys p q = record {
       ∙ sym (flat_map-append indented p.lines q.lines);
 }
 
-pub lines-each : {A : Type 0} (f : A → List ℕ) (xs : List A) → ((x : A) → AreIndented (f x))
+pub are_indented-flat_map : {A : Type 0} (f : A → List ℕ) (xs : List A) → ((x : A) → AreIndented (f x))
     → AreIndented (flat_map f xs)
-lines-each f [] each = no-lines
-lines-each f (x ∷ xs) each =
-    lines-both (f x) (flat_map f xs) (each x) (lines-each f xs each)
+are_indented-flat_map f [] each = are_indented-none
+are_indented-flat_map f (x ∷ xs) each =
+    are_indented-append (f x) (flat_map f xs) (each x) (are_indented-flat_map f xs each)
 
 -- ---- a line piece by piece
 
 -- A line that was begun goes on with this text, which ends with other such lines.
-pub record GoesOn (text : List ℕ) : Type 0 where
+pub record IsLineRest (text : List ℕ) : Type 0 where
   pub line : List ℕ
   pub after : List ℕ
-  pub feedless : Without 10 line
+  pub feedless : HasNoByte 10 line
   pub lines : AreIndented after
   pub is : text ≡ line ++ (10 ∷ after)
 
-pub line-ends : (after : List ℕ) → AreIndented after → GoesOn (10 ∷ after)
-line-ends after lines = record {
+pub is_line_rest-feed_then_lines : (after : List ℕ) → AreIndented after → IsLineRest (10 ∷ after)
+is_line_rest-feed_then_lines after lines = record {
   line = [];
   after = after;
   feedless = tt;
@@ -51,32 +51,32 @@ line-ends after lines = record {
   is = refl;
 }
 
-pub line-last : GoesOn (codes "\n")
-line-last = line-ends [] no-lines
+pub is_line_rest-feed : IsLineRest (codes "\n")
+is_line_rest-feed = is_line_rest-feed_then_lines [] are_indented-none
 
-pub line-more : (xs ys : List ℕ) → Without 10 xs → GoesOn ys → GoesOn (xs ++ ys)
-line-more xs ys none g = record {
+pub is_line_rest-append : (xs ys : List ℕ) → HasNoByte 10 xs → IsLineRest ys → IsLineRest (xs ++ ys)
+is_line_rest-append xs ys none g = record {
   line = xs ++ g.line;
   after = g.after;
-  feedless = words xs g.line none g.feedless;
+  feedless = no_feed-append xs g.line none g.feedless;
   lines = g.lines;
   is = ap (λ (zs : List ℕ). xs ++ zs) g.is ∙ sym (append_assoc xs g.line (10 ∷ g.after));
 }
 
 -- words that it goes on with
-pub line-says : (front ys : List ℕ) → list_all (λ b. not (b == 10)) front ≡ true → GoesOn ys
-    → GoesOn (front ++ ys)
-line-says front ys none g = line-more front ys (plain front none) g
+pub is_line_rest-append_front : (front ys : List ℕ) → list_all (λ b. not (b == 10)) front ≡ true → IsLineRest ys
+    → IsLineRest (front ++ ys)
+is_line_rest-append_front front ys none g = is_line_rest-append front ys (no_feed-from_list_all front none) g
 
-pub feedless-from : (xs : List ℕ) → Without 10 xs → IsFeedless xs
-feedless-from [] none = refl
-feedless-from (x ∷ xs) none = rw (none.0, feedless-from xs none.1) refl
+pub has_no_line_feed-from_no_byte : (xs : List ℕ) → HasNoByte 10 xs → HasNoLineFeed xs
+has_no_line_feed-from_no_byte [] none = refl
+has_no_line_feed-from_no_byte (x ∷ xs) none = rw (none.0, has_no_line_feed-from_no_byte xs none.1) refl
 
-pub line-begins : (ys : List ℕ) → GoesOn ys → AreIndented (codes "  " ++ ys)
-line-begins ys g = record {
+pub are_indented-from_line_rest : (ys : List ℕ) → IsLineRest ys → AreIndented (codes "  " ++ ys)
+are_indented-from_line_rest ys g = record {
   lines = g.line ∷ g.lines.lines;
   feedless = λ line h. elim h [
-    | inl e ↦ subst IsFeedless e (feedless-from g.line g.feedless)
+    | inl e ↦ subst HasNoLineFeed e (has_no_line_feed-from_no_byte g.line g.feedless)
     | inr k ↦ g.lines.feedless line k
   ];
   spelled = ap (λ (zs : List ℕ). 32 ∷ 32 ∷ zs)

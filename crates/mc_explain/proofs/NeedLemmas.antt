@@ -2,10 +2,10 @@
 use Rattle.std.proofs.Common.{◌≡◌, ℕ, ◌+◌, ◌-◌, ◌<◌, ◌≤◌, max, List, ◌∷◌, length, drop}
 use Rattle.std.proofs.Common.{take, get_or, Some, None, ap, sym, ◌∙◌, arith}
 use Rattle.std.proofs.lemmas.List.{drop_more, length-drop, take-append-drop}
-use Rattle.mc_theory.specs.Ways.{Hop, need}
-use Rattle.mc_theory.specs.Hops.{stop_of}
-use Rattle.mc_theory.proofs.Ways.{need-low}
-use Rattle.mc_theory.proofs.Stopped.{stop-here, stop-stays}
+use Rattle.mc_theory.specs.Paths.{Hop, need}
+use Rattle.mc_theory.specs.Hops.{stopping_hop}
+use Rattle.mc_theory.proofs.Paths.{need-at_least_one}
+use Rattle.mc_theory.proofs.StoppingHop.{stopping_hop-here, stopping_hop-more}
 
 -- ---- the need
 
@@ -15,9 +15,9 @@ pub record NeedSoFar (hops : List Hop) (i before least : ℕ) : Type 0 where
   pub low : 1 ≤ least
   pub all : max least (need (drop i hops)) ≡ need hops
 
-pub need-start : (hops : List Hop) → NeedSoFar hops 0 (length hops) 1
-need-start hops =
-    let low = need-low hops in
+pub need_so_far-none : (hops : List Hop) → NeedSoFar hops 0 (length hops) 1
+need_so_far-none hops =
+    let low = need-at_least_one hops in
     record { count = omega arith; low = omega arith; all = omega (arith, low) }
 
 -- ---- where a packet stops
@@ -25,13 +25,13 @@ need-start hops =
 -- it got through by the last hops of the list, and has so much TTL left
 pub record ThroughSoFar (t : ℕ) (hops : List Hop) (before left : ℕ) : Type 0 where
   pub ttl : left + before ≡ t
-  pub through : stop_of t (drop (length hops - before) hops) ≡ None
+  pub through : stopping_hop t (drop (length hops - before) hops) ≡ None
 
 -- the hops up to the next one
-next-hops : (hops : List Hop) (before : ℕ) (h : Hop) → before < length hops →
+drop-next_hop : (hops : List Hop) (before : ℕ) (h : Hop) → before < length hops →
     h ≡ get_or hops (length hops - 1 - before) h →
     drop (length hops - (before + 1)) hops ≡ h ∷ drop (length hops - before) hops
-next-hops hops before h lt at =
+drop-next_hop hops before h lt at =
     let j = length hops - 1 - before in
     let place : length hops - (before + 1) ≡ j = omega arith in
     let after : j + 1 ≡ length hops - before = omega (arith, lt) in
@@ -41,24 +41,24 @@ next-hops hops before h lt at =
     (ap (λ (g : Hop). g ∷ drop (j + 1) hops) (sym at) ∙
     ap (λ (k : ℕ). h ∷ drop k hops) after))
 
-before-long : (hops : List Hop) (before : ℕ) → before < length hops →
+length-drop_before : (hops : List Hop) (before : ℕ) → before < length hops →
     length (drop (length hops - before) hops) ≡ before
-before-long hops before lt =
+length-drop_before hops before lt =
     let long = length-drop (length hops - before) hops in omega (arith, long, lt)
 
-pub stop-there : (t : ℕ) (hops : List Hop) (before left : ℕ) (h : Hop) →
+pub stopping_hop-there : (t : ℕ) (hops : List Hop) (before left : ℕ) (h : Hop) →
     ThroughSoFar t hops before left → before < length hops →
     h ≡ get_or hops (length hops - 1 - before) h → left ≤ h.threshold →
-    Some (h, left) ≡ stop_of t hops
-stop-there t hops before left h so_far lt at stops =
+    Some (h, left) ≡ stopping_hop t hops
+stopping_hop-there t hops before left h so_far lt at stops =
     let ttl = so_far.ttl in
     let rest = drop (length hops - before) hops in
     let k = length hops - (before + 1) in
-    let long = before-long hops before lt in
+    let long = length-drop_before hops before lt in
     let same : t - length rest ≡ left = omega (arith, ttl, long) in
-    let here : stop_of t (drop k hops) ≡ Some (h, left) =
-    ap (stop_of t) (next-hops hops before h lt at) ∙
-    (stop-here t rest h so_far.through (omega (arith, same, stops)) ∙
+    let here : stopping_hop t (drop k hops) ≡ Some (h, left) =
+    ap (stopping_hop t) (drop-next_hop hops before h lt at) ∙
+    (stopping_hop-here t rest h so_far.through (omega (arith, same, stops)) ∙
     ap (λ (m : ℕ). Some (h, m)) same) in
-    sym (sym (ap (stop_of t) (take-append-drop k hops)) ∙
-    stop-stays t (take k hops) (drop k hops) (h, left) here)
+    sym (sym (ap (stopping_hop t) (take-append-drop k hops)) ∙
+    stopping_hop-more t (take k hops) (drop k hops) (h, left) here)

@@ -12,122 +12,122 @@ use Rattle.std.proofs.lemmas.Bool.{eq-eqb, false≢true}
 use Rattle.std.proofs.lemmas.List.{take_all, take-append-le}
 use Rattle.std.proofs.lemmas.Grind.{flat_map-append}
 use Rattle.std.proofs.lemmas.Option.{slice_get_within, slice_get_past}
-use Rattle.mc_tables.specs.Notes.{NotesText}
+use Rattle.mc_tables.specs.Summary.{SummaryValue}
 use Rattle.mc_theory.specs.Lists.{In, Distinct}
 use Rattle.mc_theory.specs.Flights.{Copy}
-use Rattle.mc_theory.specs.Findings.{copy_on}
-use Rattle.mc_theory.proofs.InLists.{slice_get-in, in-push_cases}
+use Rattle.mc_theory.specs.Findings.{first_copy_on}
+use Rattle.mc_theory.proofs.ListLemmas.{slice_get-in, in-push_cases}
 use Rattle.mc_forward.specs.Domains.{DomainValue}
-use Rattle.mc_forward.specs.Journeys.{FlowIn}
+use Rattle.mc_forward.specs.FlightsInDomain.{FlowOfDomain}
 use Rattle.mc_forward.specs.ListedTables.{facts}
-use Rattle.mc_forward.specs.PerLan.{held, first_by, IsFirstBy}
-use Rattle.mc_forward.proofs.BelowLemmas.{few-different}
-use Rattle.mc_forward.proofs.EachLemmas.{take-found}
-use Rattle.mc_forward.proofs.FirstLemmas.{first-copy}
-use Rattle.mc_explain.specs.declared.searched.Searched.{Searched}
-use Rattle.mc_explain.specs.Searched.{Search, add_met, leads_to, lines_of_lan, met, met_after}
+use Rattle.mc_forward.specs.PerLan.{item_on_lan, first_with_key, HoldsFirstOfEachKey}
+use Rattle.mc_forward.proofs.BelowLemmas.{length-of_distinct_below}
+use Rattle.mc_forward.proofs.IndexLemmas.{take-one_more}
+use Rattle.mc_forward.proofs.PerLanLemmas.{first_with_key-first_copy_on}
+use Rattle.mc_explain.specs.declared.search_line.SearchLine.{SearchLine}
+use Rattle.mc_explain.specs.SearchLine.{Search, append_new, next_lans, lines_of_lan, visited_lans, visited_after}
 
 -- ---- what was met
 
-met-first : (lans : List ℕ) (lan : ℕ)
-    → list_any (λ m. m == lan) lans ≡ is_some (first_by (λ (l : ℕ). l) lans lan)
-met-first [] lan = refl
-met-first (m ∷ lans) lan = by (m == lan) (met-first lans lan)
+list_any-first_by : (lans : List ℕ) (lan : ℕ)
+    → list_any (λ m. m == lan) lans ≡ is_some (first_with_key (λ (l : ℕ). l) lans lan)
+list_any-first_by [] lan = refl
+list_any-first_by (m ∷ lans) lan = by (m == lan) (list_any-first_by lans lan)
   where
-    by : (b : Bool) → list_any (λ m. m == lan) lans ≡ is_some (first_by (λ (l : ℕ). l) lans lan)
+    by : (b : Bool) → list_any (λ m. m == lan) lans ≡ is_some (first_with_key (λ (l : ℕ). l) lans lan)
         → (b || list_any (λ m. m == lan) lans)
-        ≡ is_some (cond b (Some m) (first_by (λ (l : ℕ). l) lans lan))
+        ≡ is_some (cond b (Some m) (first_with_key (λ (l : ℕ). l) lans lan))
     by true rest = refl
     by false rest = rest
 
-pub not-met : (marks : List (Option ℕ)) (lans : List ℕ) (lan : ℕ)
-    → IsFirstBy (λ (l : ℕ). l) marks lans → held marks lan ≡ None
+pub list_any-from_not_held : (marks : List (Option ℕ)) (lans : List ℕ) (lan : ℕ)
+    → HoldsFirstOfEachKey (λ (l : ℕ). l) marks lans → item_on_lan marks lan ≡ None
     → list_any (λ m. m == lan) lans ≡ false
-not-met marks lans lan marked none =
-    met-first lans lan ∙ ap is_some (sym (marked lan) ∙ none)
+list_any-from_not_held marks lans lan marked none =
+    list_any-first_by lans lan ∙ ap is_some (sym (marked lan) ∙ none)
 
-pub was-met : (marks : List (Option ℕ)) (lans : List ℕ) (lan : ℕ)
-    → IsFirstBy (λ (l : ℕ). l) marks lans → IsSome (held marks lan)
+pub list_any-from_held : (marks : List (Option ℕ)) (lans : List ℕ) (lan : ℕ)
+    → HoldsFirstOfEachKey (λ (l : ℕ). l) marks lans → IsSome (item_on_lan marks lan)
     → list_any (λ m. m == lan) lans ≡ true
-was-met marks lans lan marked some =
-    met-first lans lan ∙ ap is_some (sym (marked lan)) ∙ some
+list_any-from_held marks lans lan marked some =
+    list_any-first_by lans lan ∙ ap is_some (sym (marked lan)) ∙ some
 
-any-in : (lans : List ℕ) (lan : ℕ) → In lan lans → list_any (λ m. m == lan) lans ≡ true
-any-in [] lan h = absurd h
-any-in (m ∷ lans) lan (inl e) = ap (λ (b : Bool). b || list_any (λ m. m == lan) lans) (eq-eqb m lan e)
-any-in (m ∷ lans) lan (inr h) = by (m == lan) (any-in lans lan h)
+list_any-from_in : (lans : List ℕ) (lan : ℕ) → In lan lans → list_any (λ m. m == lan) lans ≡ true
+list_any-from_in [] lan h = absurd h
+list_any-from_in (m ∷ lans) lan (inl e) = ap (λ (b : Bool). b || list_any (λ m. m == lan) lans) (eq-eqb m lan e)
+list_any-from_in (m ∷ lans) lan (inr h) = by (m == lan) (list_any-from_in lans lan h)
   where
     by : (b : Bool) → list_any (λ m. m == lan) lans ≡ true
         → (b || list_any (λ m. m == lan) lans) ≡ true
     by true rest = refl
     by false rest = rest
 
-held-within : (marks : List (Option ℕ)) (lan : ℕ) → is_some (held marks lan) ≡ true
+held-within_marks : (marks : List (Option ℕ)) (lan : ℕ) → is_some (item_on_lan marks lan) ≡ true
     → lan < length marks
-held-within [] lan some = absurd cc
-held-within (m ∷ marks) zero some = omega arith
-held-within (m ∷ marks) (suc lan) some = let h = held-within marks lan some in omega (arith, h)
+held-within_marks [] lan some = absurd cc
+held-within_marks (m ∷ marks) zero some = omega arith
+held-within_marks (m ∷ marks) (suc lan) some = let h = held-within_marks marks lan some in omega (arith, h)
 
-pub met-within : (marks : List (Option ℕ)) (lans : List ℕ) (k lan : ℕ)
-    → IsFirstBy (λ (l : ℕ). l) marks lans → slice_get lans k ≡ Some lan → lan < length marks
-met-within marks lans k lan marked at =
-    held-within marks lan (ap is_some (marked lan) ∙ sym (met-first lans lan)
-    ∙ any-in lans lan (slice_get-in lans k lan at))
+pub visited-within_marks : (marks : List (Option ℕ)) (lans : List ℕ) (k lan : ℕ)
+    → HoldsFirstOfEachKey (λ (l : ℕ). l) marks lans → slice_get lans k ≡ Some lan → lan < length marks
+visited-within_marks marks lans k lan marked at =
+    held-within_marks marks lan (ap is_some (marked lan) ∙ sym (list_any-first_by lans lan)
+    ∙ list_any-from_in lans lan (slice_get-in lans k lan at))
 
 -- ---- more LANs
 
 -- those that were met stand before those that are met
-pub met-front : (lans more : List ℕ) → (new : List ℕ) × (add_met lans more ≡ lans ++ new)
-met-front lans [] = ([], sym (append-nil lans))
-met-front lans (lan ∷ more) =
-    by (list_any (λ m. m == lan) lans) (met-front lans more) (met-front (lans ++ lan ∷ []) more)
+pub append_new-keeps_front : (lans more : List ℕ) → (new : List ℕ) × (append_new lans more ≡ lans ++ new)
+append_new-keeps_front lans [] = ([], sym (append-nil lans))
+append_new-keeps_front lans (lan ∷ more) =
+    by (list_any (λ m. m == lan) lans) (append_new-keeps_front lans more) (append_new-keeps_front (lans ++ lan ∷ []) more)
   where
-    by : (b : Bool) → ((new : List ℕ) × (add_met lans more ≡ lans ++ new))
-        → ((new : List ℕ) × (add_met (lans ++ lan ∷ []) more ≡ (lans ++ lan ∷ []) ++ new))
-        → (new : List ℕ) × (add_met (cond b lans (lans ++ lan ∷ [])) more ≡ lans ++ new)
+    by : (b : Bool) → ((new : List ℕ) × (append_new lans more ≡ lans ++ new))
+        → ((new : List ℕ) × (append_new (lans ++ lan ∷ []) more ≡ (lans ++ lan ∷ []) ++ new))
+        → (new : List ℕ) × (append_new (cond b lans (lans ++ lan ∷ [])) more ≡ lans ++ new)
     by true old new = old
     by false old new = (lan ∷ new.0, new.1 ∙ append_assoc lans (lan ∷ []) new.0)
 
-pub met-more : (s : Search) (missed k : ℕ)
-    → met s missed (k + 1) ≡ met_after s (met s missed k) (slice_get (met s missed k) k)
-met-more s missed k = ap (met s missed) (add-one k)
+pub visited-more : (s : Search) (missed k : ℕ)
+    → visited_lans s missed (k + 1) ≡ visited_after s (visited_lans s missed k) (slice_get (visited_lans s missed k) k)
+visited-more s missed k = ap (visited_lans s missed) (add-one k)
 
 -- what was told, once one more was looked at
-pub told-more : (s : Search) (missed k lan : ℕ) (told now : List Searched)
-    → slice_get (met s missed k) k ≡ Some lan
-    → told ≡ flat_map (lines_of_lan s) (take k (met s missed k)) → now ≡ told ++ lines_of_lan s lan
-    → now ≡ flat_map (lines_of_lan s) (take (k + 1) (met s missed (k + 1)))
-told-more s missed k lan told now at before more =
-    let lans = met s missed k in
-    let front = met-front lans (leads_to s lan) in
-    let next : met s missed (k + 1) ≡ lans ++ front.0 =
-    met-more s missed k ∙ ap (met_after s lans) at ∙ front.1 in
+pub lines_so_far-more : (s : Search) (missed k lan : ℕ) (lines_so_far now : List SearchLine)
+    → slice_get (visited_lans s missed k) k ≡ Some lan
+    → lines_so_far ≡ flat_map (lines_of_lan s) (take k (visited_lans s missed k)) → now ≡ lines_so_far ++ lines_of_lan s lan
+    → now ≡ flat_map (lines_of_lan s) (take (k + 1) (visited_lans s missed (k + 1)))
+lines_so_far-more s missed k lan lines_so_far now at before more =
+    let lans = visited_lans s missed k in
+    let front = append_new-keeps_front lans (next_lans s lan) in
+    let next : visited_lans s missed (k + 1) ≡ lans ++ front.0 =
+    visited-more s missed k ∙ ap (visited_after s lans) at ∙ front.1 in
     let within = slice_get_within lans k lan at in
-    let looked : take (k + 1) (met s missed (k + 1)) ≡ take k lans ++ lan ∷ [] =
+    let looked : take (k + 1) (visited_lans s missed (k + 1)) ≡ take k lans ++ lan ∷ [] =
     ap (take (k + 1)) next ∙ take-append-le (k + 1) lans front.0 (omega (arith, within))
-    ∙ take-found lans k lan at in
-    more ∙ ap (λ (xs : List Searched). xs ++ lines_of_lan s lan) before
-    ∙ ap (λ (xs : List Searched). flat_map (lines_of_lan s) (take k lans) ++ xs)
+    ∙ take-one_more lans k lan at in
+    more ∙ ap (λ (xs : List SearchLine). xs ++ lines_of_lan s lan) before
+    ∙ ap (λ (xs : List SearchLine). flat_map (lines_of_lan s) (take k lans) ++ xs)
     (sym (append-nil (lines_of_lan s lan)))
     ∙ sym (flat_map-append (lines_of_lan s) (take k lans) (lan ∷ []))
     ∙ ap (flat_map (lines_of_lan s)) (sym looked)
 
 -- all of them were looked at
-pub told-same : (s : Search) (missed k : ℕ) (told : List Searched)
-    → length (met s missed k) ≤ k
-    → told ≡ flat_map (lines_of_lan s) (take k (met s missed k))
-    → told ≡ flat_map (lines_of_lan s) (take (k + 1) (met s missed (k + 1)))
-told-same s missed k told all before =
-    let lans = met s missed k in
-    let next : met s missed (k + 1) ≡ lans =
-    met-more s missed k ∙ ap (met_after s lans) (slice_get_past lans k all) in
+pub lines_so_far-same : (s : Search) (missed k : ℕ) (lines_so_far : List SearchLine)
+    → length (visited_lans s missed k) ≤ k
+    → lines_so_far ≡ flat_map (lines_of_lan s) (take k (visited_lans s missed k))
+    → lines_so_far ≡ flat_map (lines_of_lan s) (take (k + 1) (visited_lans s missed (k + 1)))
+lines_so_far-same s missed k lines_so_far all before =
+    let lans = visited_lans s missed k in
+    let next : visited_lans s missed (k + 1) ≡ lans =
+    visited-more s missed k ∙ ap (visited_after s lans) (slice_get_past lans k all) in
     before ∙ ap (flat_map (lines_of_lan s)) (take_all k lans all
     ∙ sym (take_all (k + 1) lans (omega (arith, all))) ∙ ap (take (k + 1)) (sym next))
 
-pub past-none : (lans : List ℕ) (k : ℕ) → slice_get lans k ≡ None → length lans ≤ k
-past-none [] k none = omega arith
-past-none (m ∷ lans) zero none = absurd cc
-past-none (m ∷ lans) (suc k) none = let h = past-none lans k none in omega (arith, h)
+pub length-from_slice_get_none : (lans : List ℕ) (k : ℕ) → slice_get lans k ≡ None → length lans ≤ k
+length-from_slice_get_none [] k none = omega arith
+length-from_slice_get_none (m ∷ lans) zero none = absurd cc
+length-from_slice_get_none (m ∷ lans) (suc k) none = let h = length-from_slice_get_none lans k none in omega (arith, h)
 
 -- ---- each once
 
@@ -142,46 +142,46 @@ distinct-push (m ∷ lans) lan distinct other = (
   distinct-push lans lan distinct.1 (λ h. other (inr h)),
 )
 
-distinct-more : (lans more : List ℕ) → Distinct lans → Distinct (add_met lans more)
-distinct-more lans [] distinct = distinct
-distinct-more lans (lan ∷ more) distinct =
-    by (list_any (λ m. m == lan) lans) refl (distinct-more lans more distinct)
-    (distinct-more (lans ++ lan ∷ []) more)
+distinct-append_new : (lans more : List ℕ) → Distinct lans → Distinct (append_new lans more)
+distinct-append_new lans [] distinct = distinct
+distinct-append_new lans (lan ∷ more) distinct =
+    by (list_any (λ m. m == lan) lans) refl (distinct-append_new lans more distinct)
+    (distinct-append_new (lans ++ lan ∷ []) more)
   where
-    by : (b : Bool) → list_any (λ m. m == lan) lans ≡ b → Distinct (add_met lans more)
-        → (Distinct (lans ++ lan ∷ []) → Distinct (add_met (lans ++ lan ∷ []) more))
-        → Distinct (add_met (cond b lans (lans ++ lan ∷ [])) more)
+    by : (b : Bool) → list_any (λ m. m == lan) lans ≡ b → Distinct (append_new lans more)
+        → (Distinct (lans ++ lan ∷ []) → Distinct (append_new (lans ++ lan ∷ []) more))
+        → Distinct (append_new (cond b lans (lans ++ lan ∷ [])) more)
     by true q old new = old
     by false q old new = new (distinct-push lans lan distinct
-        (λ h. absurd (false≢true (sym q ∙ any-in lans lan h))))
+        (λ h. absurd (false≢true (sym q ∙ list_any-from_in lans lan h))))
 
-pub distinct-met : (s : Search) (missed k : ℕ) → Distinct (met s missed k)
-distinct-met s missed zero = (λ h. h, tt)
-distinct-met s missed (suc k) = by (slice_get (met s missed k) k) (distinct-met s missed k)
+pub distinct-visited : (s : Search) (missed k : ℕ) → Distinct (visited_lans s missed k)
+distinct-visited s missed zero = (λ h. h, tt)
+distinct-visited s missed (suc k) = by (slice_get (visited_lans s missed k) k) (distinct-visited s missed k)
   where
-    by : (o : Option ℕ) → Distinct (met s missed k) → Distinct (met_after s (met s missed k) o)
+    by : (o : Option ℕ) → Distinct (visited_lans s missed k) → Distinct (visited_after s (visited_lans s missed k) o)
     by None distinct = distinct
-    by (Some lan) distinct = distinct-more (met s missed k) (leads_to s lan) distinct
+    by (Some lan) distinct = distinct-append_new (visited_lans s missed k) (next_lans s lan) distinct
 
-in-at : (lans : List ℕ) (lan : ℕ) → In lan lans → (k : ℕ) × (slice_get lans k ≡ Some lan)
-in-at [] lan h = absurd h
-in-at (m ∷ lans) lan (inl e) = (0, ap Some e)
-in-at (m ∷ lans) lan (inr h) = (suc (in-at lans lan h).0, (in-at lans lan h).1)
+slice_get-from_in : (lans : List ℕ) (lan : ℕ) → In lan lans → (k : ℕ) × (slice_get lans k ≡ Some lan)
+slice_get-from_in [] lan h = absurd h
+slice_get-from_in (m ∷ lans) lan (inl e) = (0, ap Some e)
+slice_get-from_in (m ∷ lans) lan (inr h) = (suc (slice_get-from_in lans lan h).0, (slice_get-from_in lans lan h).1)
 
 -- no more are met than there are
-pub few-met : (s : Search) (missed k : ℕ) (marks : List (Option ℕ)) (lans : List ℕ)
-    → lans ≡ met s missed k → IsFirstBy (λ (l : ℕ). l) marks lans
-    → length (met s missed k) ≤ length marks
-few-met s missed k marks lans e marked =
-    few-different (met s missed k) (length marks) (distinct-met s missed k)
-    (λ lan h. met-within marks (met s missed k) (in-at (met s missed k) lan h).0 lan
-    (subst (IsFirstBy (λ (l : ℕ). l) marks) e marked) (in-at (met s missed k) lan h).1)
+pub length-visited : (s : Search) (missed k : ℕ) (marks : List (Option ℕ)) (lans : List ℕ)
+    → lans ≡ visited_lans s missed k → HoldsFirstOfEachKey (λ (l : ℕ). l) marks lans
+    → length (visited_lans s missed k) ≤ length marks
+length-visited s missed k marks lans e marked =
+    length-of_distinct_below (visited_lans s missed k) (length marks) (distinct-visited s missed k)
+    (λ lan h. visited-within_marks marks (visited_lans s missed k) (slice_get-from_in (visited_lans s missed k) lan h).0 lan
+    (subst (HoldsFirstOfEachKey (λ (l : ℕ). l) marks) e marked) (slice_get-from_in (visited_lans s missed k) lan h).1)
 
 -- ---- the lines that were added
 
-pub added-lines : {A : Type 0} (old now lines : List A) (n : ℕ) → now ≡ old ++ lines → n ≡ length old
+pub take_drop-added : {A : Type 0} (old now lines : List A) (n : ℕ) → now ≡ old ++ lines → n ≡ length old
     → take (length now - n) (drop n now) ≡ lines
-added-lines {A} old now lines n more count =
+take_drop-added {A} old now lines n more count =
     let size : length now ≡ length old + length lines = ap length more ∙ length-append old lines in
     let rest : drop n now ≡ lines =
     ap (λ (k : ℕ). drop k now) count ∙ ap (drop (length old)) more ∙ drop-append_seam old lines in
@@ -190,50 +190,50 @@ added-lines {A} old now lines n more count =
 
 -- ---- what is searched
 
-held-first : (places : List (Option Copy)) (copies cs : List Copy)
-    → IsFirstBy (λ (c : Copy). c.lan) places copies → copies ≡ cs → held places ≡ copy_on cs
-held-first places copies cs first same =
-    let each : (lan : ℕ) → held places lan ≡ copy_on cs lan = λ lan.
-    first lan ∙ first-copy copies lan ∙ ap (λ (xs : List Copy). copy_on xs lan) same in
+held-all_first_copies : (places : List (Option Copy)) (copies cs : List Copy)
+    → HoldsFirstOfEachKey (λ (c : Copy). c.lan) places copies → copies ≡ cs → item_on_lan places ≡ first_copy_on cs
+held-all_first_copies places copies cs first same =
+    let each : (lan : ℕ) → item_on_lan places lan ≡ first_copy_on cs lan = λ lan.
+    first lan ∙ first_with_key-first_copy_on copies lan ∙ ap (λ (xs : List Copy). first_copy_on xs lan) same in
     λ i lan. each lan i
 
-pub same-search : (view : FlowIn) (d : DomainValue) (flow : ℕ) (notes : List NotesText)
-    (left_out : List Bool) (places : List (Option Copy)) (copies cs : List Copy)
-    → view ≡ record { domain = d; flow = flow } → IsFirstBy (λ (c : Copy). c.lan) places copies
+pub search-of_view : (view : FlowOfDomain) (d : DomainValue) (flow : ℕ) (summary : List SummaryValue)
+    (excluded : List Bool) (places : List (Option Copy)) (copies cs : List Copy)
+    → view ≡ record { domain = d; flow = flow } → HoldsFirstOfEachKey (λ (c : Copy). c.lan) places copies
     → copies ≡ cs
     → ◌≡◌ {A = Search} (record {
       domain = facts view.domain;
       flow = view.flow;
-      notes = notes;
-      left_out = left_out;
-      copy_on = held places;
+      summary = summary;
+      excluded = excluded;
+      first_copy_on = item_on_lan places;
     })
-    (record { domain = facts d; flow = flow; notes = notes; left_out = left_out; copy_on = copy_on cs })
-same-search view d flow notes left_out places copies cs e first same =
-    ap {B = Search} (λ (v : FlowIn). record {
+    (record { domain = facts d; flow = flow; summary = summary; excluded = excluded; first_copy_on = first_copy_on cs })
+search-of_view view d flow summary excluded places copies cs e first same =
+    ap {B = Search} (λ (v : FlowOfDomain). record {
       domain = facts v.domain;
       flow = v.flow;
-      notes = notes;
-      left_out = left_out;
-      copy_on = held places;
+      summary = summary;
+      excluded = excluded;
+      first_copy_on = item_on_lan places;
     }) e
     ∙ ap {B = Search} (λ (f : ℕ → Option Copy). record {
       domain = facts d;
       flow = flow;
-      notes = notes;
-      left_out = left_out;
-      copy_on = f;
-    }) (held-first places copies cs first same)
+      summary = summary;
+      excluded = excluded;
+      first_copy_on = f;
+    }) (held-all_first_copies places copies cs first same)
 
-read-some : (xs : List ℕ) (k d : ℕ) → k < length xs → slice_get xs k ≡ Some (get_or xs k d)
-read-some [] k d lt = absurd (omega (arith, lt))
-read-some (x ∷ xs) zero d lt = refl
-read-some (x ∷ xs) (suc k) d lt = read-some xs k d (omega (arith, lt))
+slice_get-get_or : (xs : List ℕ) (k d : ℕ) → k < length xs → slice_get xs k ≡ Some (get_or xs k d)
+slice_get-get_or [] k d lt = absurd (omega (arith, lt))
+slice_get-get_or (x ∷ xs) zero d lt = refl
+slice_get-get_or (x ∷ xs) (suc k) d lt = slice_get-get_or xs k d (omega (arith, lt))
 
 -- each LAN that was met is one of those that have a mark
-pub all-within : (marks : List (Option ℕ)) (lans found : List ℕ) (n : ℕ) → found ≡ lans
-    → length marks ≡ n → IsFirstBy (λ (l : ℕ). l) marks lans → All (λ lan. lan < n) found
-all-within marks lans found n same count marked k d lt =
+pub visited-all_within_marks : (marks : List (Option ℕ)) (lans found : List ℕ) (n : ℕ) → found ≡ lans
+    → length marks ≡ n → HoldsFirstOfEachKey (λ (l : ℕ). l) marks lans → All (λ lan. lan < n) found
+visited-all_within_marks marks lans found n same count marked k d lt =
     subst (λ (m : ℕ). get_or found k d < m) count
-    (met-within marks found k (get_or found k d)
-    (subst (IsFirstBy (λ (l : ℕ). l) marks) (sym same) marked) (read-some found k d lt))
+    (visited-within_marks marks found k (get_or found k d)
+    (subst (HoldsFirstOfEachKey (λ (l : ℕ). l) marks) (sym same) marked) (slice_get-get_or found k d lt))

@@ -4,227 +4,227 @@ use Rattle.std.proofs.Common.{Option, Some, None, codes, decimal, refl}
 use Rattle.std.specs.Prelude.{not}
 use Rattle.std.specs.List.{list_all}
 use Rattle.std.specs.Str.{bytes_eq}
-use Rattle.mc_text.proofs.BundleWords.{Without}
-use Rattle.mc_tables.specs.Notes.{NotesText}
-use Rattle.mc_tables.specs.VifTable.{VifText, no_device}
+use Rattle.mc_text.proofs.BundleWords.{HasNoByte}
+use Rattle.mc_tables.specs.Summary.{SummaryValue}
+use Rattle.mc_tables.specs.VifTable.{VifValue, no_device}
 use Rattle.mc_topology.specs.declared.flow.Flow.{Flow}
-use Rattle.mc_topology.specs.Topology.{TopologyValue, IsTopology, lan_name, router_name}
+use Rattle.mc_topology.specs.Topology.{TopologyValue, IsValidTopology, lan_name, router_name}
 use Rattle.mc_theory.specs.Nets.{Row}
 use Rattle.mc_theory.specs.Nets.Row.{Exact, Open, NoRow as no_row}
 use Rattle.mc_forward.specs.ListedTables.{DomainFacts}
-use Rattle.mc_explain.specs.declared.searched.Searched.{Searched}
-use Rattle.mc_explain.specs.declared.searched.Searched.TheVariants.{LeftOut}
-use Rattle.mc_explain.specs.declared.searched.Searched.TheVariants.{NoVif, NotMulticast, NoRow}
-use Rattle.mc_explain.specs.declared.searched.Searched.TheVariants.{Unresolved, EverySource}
-use Rattle.mc_explain.specs.declared.searched.Searched.TheVariants.{FromUnplaced, DoesNotSend}
-use Rattle.mc_explain.specs.declared.searched.Searched.TheVariants.{Stopped, WaitsFor}
-use Rattle.mc_explain.specs.declared.searched.Searched.TheVariants.{ExpectedFromHere, NoRouter}
-use Rattle.mc_explain.specs.declared.searched.Searched.TheVariants.{NoSender}
+use Rattle.mc_explain.specs.declared.search_line.SearchLine.{SearchLine}
+use Rattle.mc_explain.specs.declared.search_line.SearchLine.TheVariants.{Excluded}
+use Rattle.mc_explain.specs.declared.search_line.SearchLine.TheVariants.{NoVif, NotMulticast, NoRow}
+use Rattle.mc_explain.specs.declared.search_line.SearchLine.TheVariants.{Unresolved, EverySource}
+use Rattle.mc_explain.specs.declared.search_line.SearchLine.TheVariants.{FromUnplaced, DoesNotSend}
+use Rattle.mc_explain.specs.declared.search_line.SearchLine.TheVariants.{Stopped, WaitsFor}
+use Rattle.mc_explain.specs.declared.search_line.SearchLine.TheVariants.{ExpectedFromHere, NoRouter}
+use Rattle.mc_explain.specs.declared.search_line.SearchLine.TheVariants.{NoSender}
 use Rattle.mc_explain.specs.declared.shown_line.ShownLine.{ShownLine}
 use Rattle.mc_explain.specs.declared.shown_line.ShownLine.TheVariants.{One, Expected}
 use Rattle.mc_explain.specs.EverySourceText.{every_source_text}
 use Rattle.mc_explain.specs.Indented.{AreIndented}
-use Rattle.mc_explain.specs.RouterText.{router_behind_space, routers_text}
+use Rattle.mc_explain.specs.RouterText.{router_after_space, routers_text}
 use Rattle.mc_explain.specs.RowText.{byte_text, device_text, incoming_text, is_plain, row_text}
 use Rattle.mc_explain.specs.SearchText.{carries_text, expected_text, from_no_lan_text, interface_text}
-use Rattle.mc_explain.specs.SearchText.{line_text, lines_text, more_lines_text, no_lan_text, of_lan}
-use Rattle.mc_explain.specs.SearchText.{of_router, place_text, reach_text, routers_line, search_text}
-use Rattle.mc_explain.specs.SearchText.{shown_text}
+use Rattle.mc_explain.specs.SearchText.{search_line_text, first_lines_text, more_lines_text, no_lan_text, lan_line_text}
+use Rattle.mc_explain.specs.SearchText.{router_line_text, lan_router_text, reach_text, routers_line, search_text}
+use Rattle.mc_explain.specs.SearchText.{shown_line_text}
 use Rattle.mc_explain.specs.ShownLines.{shown_lines}
 use Rattle.mc_explain.specs.TopologyLans.{interface_at}
 use Rattle.mc_explain.specs.WantedText.{more_text}
-use Rattle.mc_explain.proofs.ExplanationLemmas.{more-plain}
-use Rattle.mc_explain.proofs.FeedLemmas.{byte-by, device-plain, each-plain, either, every-source_plain}
-use Rattle.mc_explain.proofs.FeedLemmas.{incoming-plain, lan-plain, number, plain, router-plain}
-use Rattle.mc_explain.proofs.FeedLemmas.{row-plain, said, words}
-use Rattle.mc_explain.proofs.IndentedLemmas.{GoesOn, line-begins, line-last, line-more, line-says}
-use Rattle.mc_explain.proofs.IndentedLemmas.{lines-both, lines-each, no-lines}
+use Rattle.mc_explain.proofs.ExplanationLemmas.{no_feed-more_text}
+use Rattle.mc_explain.proofs.LineFeedLemmas.{no_feed-escaped_byte, no_feed-device_text, no_feed-flat_map, no_feed-cond, no_feed-every_source_text}
+use Rattle.mc_explain.proofs.LineFeedLemmas.{no_feed-incoming_text, no_feed-lan_name, number, no_feed-from_list_all, no_feed-router_name}
+use Rattle.mc_explain.proofs.LineFeedLemmas.{no_feed-row_text, no_feed-append_front, no_feed-append}
+use Rattle.mc_explain.proofs.IndentedLemmas.{IsLineRest, are_indented-from_line_rest, is_line_rest-feed, is_line_rest-append, is_line_rest-append_front}
+use Rattle.mc_explain.proofs.IndentedLemmas.{are_indented-append, are_indented-flat_map, are_indented-none}
 
 -- ---- the parts of a line
 
-pub routers-plain : (t : TopologyValue) (routers : List ℕ) → IsTopology t
-    → Without 10 (routers_text t routers)
-routers-plain t routers ok =
-    words _ (more_text (length routers - 8))
-    (each-plain (router_behind_space t) (take 8 routers)
-    (λ r. said (codes " ") _ refl (router-plain t r ok)))
-    (more-plain (length routers - 8))
+pub no_feed-routers_text : (t : TopologyValue) (routers : List ℕ) → IsValidTopology t
+    → HasNoByte 10 (routers_text t routers)
+no_feed-routers_text t routers ok =
+    no_feed-append _ (more_text (length routers - 8))
+    (no_feed-flat_map (router_after_space t) (take 8 routers)
+    (λ r. no_feed-append_front (codes " ") _ refl (no_feed-router_name t r ok)))
+    (no_feed-more_text (length routers - 8))
 
-interface-plain : (t : TopologyValue) (interface : ℕ) → Without 10 (interface_text t interface)
-interface-plain t interface =
-    each-plain byte_text (interface_at t interface).device (λ b. byte-by b (is_plain b) refl)
+no_feed-interface_text : (t : TopologyValue) (interface : ℕ) → HasNoByte 10 (interface_text t interface)
+no_feed-interface_text t interface =
+    no_feed-flat_map byte_text (interface_at t interface).device (λ b. no_feed-escaped_byte b (is_plain b) refl)
 
-no_lan-plain : (t : TopologyValue) (router : ℕ) (o : Option VifText) → IsTopology t
-    → Without 10 (no_lan_text t router o)
-no_lan-plain t router None ok =
-    said (codes "which has no line in vif-") _ refl (router-plain t router ok)
-no_lan-plain t router (Some v) ok =
-    either v.register _ _ (plain (codes "PIM's register vif") refl)
-    (either v.tunnel _ _ (plain (codes "a tunnel") refl)
-    (either (bytes_eq v.device no_device) _ _ (plain (codes "which has lost its device") refl)
-    (plain (codes "which is on no listed LAN") refl)))
+no_feed-no_lan_text : (t : TopologyValue) (router : ℕ) (o : Option VifValue) → IsValidTopology t
+    → HasNoByte 10 (no_lan_text t router o)
+no_feed-no_lan_text t router None ok =
+    no_feed-append_front (codes "which has no line in vif-") _ refl (no_feed-router_name t router ok)
+no_feed-no_lan_text t router (Some v) ok =
+    no_feed-cond v.register _ _ (no_feed-from_list_all (codes "PIM's register vif") refl)
+    (no_feed-cond v.tunnel _ _ (no_feed-from_list_all (codes "a tunnel") refl)
+    (no_feed-cond (bytes_eq v.device no_device) _ _ (no_feed-from_list_all (codes "which has lost its device") refl)
+    (no_feed-from_list_all (codes "which is on no listed LAN") refl)))
 
-from_no_lan-plain : (d : DomainFacts) (router : ℕ) (row : Row) → IsTopology d.topology
-    → Without 10 (from_no_lan_text d router row)
-from_no_lan-plain d router (Exact incoming pairs) ok =
-    no_lan-plain d.topology router (d.vifs router incoming) ok
-from_no_lan-plain d router Open ok = tt
-from_no_lan-plain d router no_row ok = tt
+no_feed-from_no_lan_text : (d : DomainFacts) (router : ℕ) (row : Row) → IsValidTopology d.topology
+    → HasNoByte 10 (from_no_lan_text d router row)
+no_feed-from_no_lan_text d router (Exact incoming pairs) ok =
+    no_feed-no_lan_text d.topology router (d.vifs router incoming) ok
+no_feed-from_no_lan_text d router Open ok = tt
+no_feed-from_no_lan_text d router no_row ok = tt
 
 -- a line of a router goes on behind it
-placed : (t : TopologyValue) (lan router : ℕ) (rest : List ℕ) → IsTopology t → GoesOn rest
-    → AreIndented (place_text t lan router ++ rest)
-placed t lan router rest ok g =
-    line-begins _
-    (line-more (lan_name t lan ++ (codes ": " ++ router_name t router)) rest
-    (words (lan_name t lan) _ (lan-plain t lan ok) (said (codes ": ") _ refl (router-plain t router ok)))
+are_indented-lan_router_text : (t : TopologyValue) (lan router : ℕ) (rest : List ℕ) → IsValidTopology t → IsLineRest rest
+    → AreIndented (lan_router_text t lan router ++ rest)
+are_indented-lan_router_text t lan router rest ok g =
+    are_indented-from_line_rest _
+    (is_line_rest-append (lan_name t lan ++ (codes ": " ++ router_name t router)) rest
+    (no_feed-append (lan_name t lan) _ (no_feed-lan_name t lan ok) (no_feed-append_front (codes ": ") _ refl (no_feed-router_name t router ok)))
     g)
 
 -- a row ends a line
-row-last : (d : DomainFacts) (f : Flow) (router : ℕ) (row : Row) → IsTopology d.topology
-    → GoesOn (codes ": " ++ (row_text d f router row ++ codes "\n"))
-row-last d f router row ok =
-    line-says (codes ": ") _ refl
-    (line-more (row_text d f router row) _ (row-plain d f router row ok) line-last)
+is_line_rest-row : (d : DomainFacts) (f : Flow) (router : ℕ) (row : Row) → IsValidTopology d.topology
+    → IsLineRest (codes ": " ++ (row_text d f router row ++ codes "\n"))
+is_line_rest-row d f router row ok =
+    is_line_rest-append_front (codes ": ") _ refl
+    (is_line_rest-append (row_text d f router row) _ (no_feed-row_text d f router row ok) is_line_rest-feed)
 
-expected-indented : (t : TopologyValue) (lan : ℕ) (routers : List ℕ) → IsTopology t
+are_indented-expected_text : (t : TopologyValue) (lan : ℕ) (routers : List ℕ) → IsValidTopology t
     → AreIndented (expected_text t lan routers)
-expected-indented t lan routers ok =
-    line-begins _
-    (line-more (lan_name t lan) _ (lan-plain t lan ok)
-    (line-says (codes ": expected from this LAN by") _ refl
-    (line-more (routers_text t routers) _ (routers-plain t routers ok) line-last)))
+are_indented-expected_text t lan routers ok =
+    are_indented-from_line_rest _
+    (is_line_rest-append (lan_name t lan) _ (no_feed-lan_name t lan ok)
+    (is_line_rest-append_front (codes ": expected from this LAN by") _ refl
+    (is_line_rest-append (routers_text t routers) _ (no_feed-routers_text t routers ok) is_line_rest-feed)))
 
-of_lan-indented : (t : TopologyValue) (lan : ℕ) (what : List ℕ) → IsTopology t
-    → list_all (λ b. not (b == 10)) what ≡ true → AreIndented (of_lan t lan what)
-of_lan-indented t lan what ok none =
-    line-begins _
-    (line-more (lan_name t lan) _ (lan-plain t lan ok)
-    (line-says (codes ": ") _ refl (line-says what _ none line-last)))
+are_indented-lan_line : (t : TopologyValue) (lan : ℕ) (what : List ℕ) → IsValidTopology t
+    → list_all (λ b. not (b == 10)) what ≡ true → AreIndented (lan_line_text t lan what)
+are_indented-lan_line t lan what ok none =
+    are_indented-from_line_rest _
+    (is_line_rest-append (lan_name t lan) _ (no_feed-lan_name t lan ok)
+    (is_line_rest-append_front (codes ": ") _ refl (is_line_rest-append_front what _ none is_line_rest-feed)))
 
-of_router-indented : (t : TopologyValue) (lan router : ℕ) (what : List ℕ) → IsTopology t
-    → list_all (λ b. not (b == 10)) what ≡ true → AreIndented (of_router t lan router what)
-of_router-indented t lan router what ok none =
-    placed t lan router _ ok (line-says (codes " ") _ refl (line-says what _ none line-last))
+are_indented-router_line : (t : TopologyValue) (lan router : ℕ) (what : List ℕ) → IsValidTopology t
+    → list_all (λ b. not (b == 10)) what ≡ true → AreIndented (router_line_text t lan router what)
+are_indented-router_line t lan router what ok none =
+    are_indented-lan_router_text t lan router _ ok (is_line_rest-append_front (codes " ") _ refl (is_line_rest-append_front what _ none is_line_rest-feed))
 
 -- ---- a line
 
-line-indented : (d : DomainFacts) (notes : List NotesText) (k : ℕ) (f : Flow) (line : Searched)
-    → IsTopology d.topology → AreIndented (line_text d notes k f line)
-line-indented d notes k f (LeftOut lan router) ok =
-    of_router-indented d.topology lan router (codes "is left out: its tables are not known") ok refl
-line-indented d notes k f (NoVif lan router interface) ok =
-    placed d.topology lan router _ ok
-    (line-says (codes " has no vif for ") _ refl
-    (line-more (interface_text d.topology interface) _ (interface-plain d.topology interface)
-    line-last))
-line-indented d notes k f (NotMulticast lan router interface) ok =
-    placed d.topology lan router _ ok
-    (line-says (codes " has ") _ refl
-    (line-more (interface_text d.topology interface) _ (interface-plain d.topology interface)
-    (line-says (codes " as a tunnel or register vif") _ refl line-last)))
-line-indented d notes k f (NoRow lan router) ok =
-    of_router-indented d.topology lan router (codes "has no row of this source and group") ok refl
-line-indented d notes k f (Unresolved lan router) ok =
-    of_router-indented d.topology lan router
+are_indented-search_line : (d : DomainFacts) (summary : List SummaryValue) (k : ℕ) (f : Flow) (line : SearchLine)
+    → IsValidTopology d.topology → AreIndented (search_line_text d summary k f line)
+are_indented-search_line d summary k f (Excluded lan router) ok =
+    are_indented-router_line d.topology lan router (codes "is left out: its tables are not known") ok refl
+are_indented-search_line d summary k f (NoVif lan router interface) ok =
+    are_indented-lan_router_text d.topology lan router _ ok
+    (is_line_rest-append_front (codes " has no vif for ") _ refl
+    (is_line_rest-append (interface_text d.topology interface) _ (no_feed-interface_text d.topology interface)
+    is_line_rest-feed))
+are_indented-search_line d summary k f (NotMulticast lan router interface) ok =
+    are_indented-lan_router_text d.topology lan router _ ok
+    (is_line_rest-append_front (codes " has ") _ refl
+    (is_line_rest-append (interface_text d.topology interface) _ (no_feed-interface_text d.topology interface)
+    (is_line_rest-append_front (codes " as a tunnel or register vif") _ refl is_line_rest-feed)))
+are_indented-search_line d summary k f (NoRow lan router) ok =
+    are_indented-router_line d.topology lan router (codes "has no row of this source and group") ok refl
+are_indented-search_line d summary k f (Unresolved lan router) ok =
+    are_indented-router_line d.topology lan router
     (codes "has only an unresolved row (incoming interface -1): "
     ++ codes "its routing daemon has not answered yet") ok refl
-line-indented d notes k f (EverySource lan router) ok =
-    placed d.topology lan router _ ok
-    (line-says (codes " has only a row for every source, which is not judged: ") _ refl
-    (line-more (every_source_text d notes f.group router) _
-    (every-source_plain d notes f.group router ok) line-last))
-line-indented d notes k f (FromUnplaced lan router) ok =
+are_indented-search_line d summary k f (EverySource lan router) ok =
+    are_indented-lan_router_text d.topology lan router _ ok
+    (is_line_rest-append_front (codes " has only a row for every source, which is not judged: ") _ refl
+    (is_line_rest-append (every_source_text d summary f.group router) _
+    (no_feed-every_source_text d summary f.group router ok) is_line_rest-feed))
+are_indented-search_line d summary k f (FromUnplaced lan router) ok =
     let row = (d.nets k).row router in
-    placed d.topology lan router _ ok
-    (line-says (codes " expects it from ") _ refl
-    (line-more (incoming_text d router row) _ (incoming-plain d router row)
-    (line-says (codes ", ") _ refl
-    (line-more (from_no_lan_text d router row) _ (from_no_lan-plain d router row ok)
-    (row-last d f router row ok)))))
-line-indented d notes k f (DoesNotSend lan router vif from carried) ok =
+    are_indented-lan_router_text d.topology lan router _ ok
+    (is_line_rest-append_front (codes " expects it from ") _ refl
+    (is_line_rest-append (incoming_text d router row) _ (no_feed-incoming_text d router row)
+    (is_line_rest-append_front (codes ", ") _ refl
+    (is_line_rest-append (from_no_lan_text d router row) _ (no_feed-from_no_lan_text d router row ok)
+    (is_line_rest-row d f router row ok)))))
+are_indented-search_line d summary k f (DoesNotSend lan router vif from carried) ok =
     let row = (d.nets k).row router in
-    placed d.topology lan router _ ok
-    (line-says (codes " takes it from ") _ refl
-    (line-more (lan_name d.topology from) _ (lan-plain d.topology from ok)
-    (line-says (codes ", which carries ") _ refl
-    (line-more (carries_text carried) _
-    (elim carried as (λ b. Without 10 (carries_text b)) [
-      | true ↦ plain (codes "it") refl
-      | false ↦ plain (codes "none either") refl
+    are_indented-lan_router_text d.topology lan router _ ok
+    (is_line_rest-append_front (codes " takes it from ") _ refl
+    (is_line_rest-append (lan_name d.topology from) _ (no_feed-lan_name d.topology from ok)
+    (is_line_rest-append_front (codes ", which carries ") _ refl
+    (is_line_rest-append (carries_text carried) _
+    (elim carried as (λ b. HasNoByte 10 (carries_text b)) [
+      | true ↦ no_feed-from_list_all (codes "it") refl
+      | false ↦ no_feed-from_list_all (codes "none either") refl
     ])
-    (line-says (codes ", and does not send to ") _ refl
-    (line-more (device_text d router vif) _ (device-plain d router vif)
-    (row-last d f router row ok)))))))
-line-indented d notes k f (Stopped lan router vif threshold ttl) ok =
-    placed d.topology lan router _ ok
-    (line-says (codes " is stopped at ") _ refl
-    (line-more (device_text d router vif) _ (device-plain d router vif)
-    (line-says (codes ": threshold ") _ refl
-    (line-more (decimal threshold) _ (number threshold)
-    (line-says (codes ", the copy has ttl ") _ refl
-    (line-more (decimal ttl) _ (number ttl) line-last))))))
-line-indented d notes k f (WaitsFor lan router vif from) ok =
+    (is_line_rest-append_front (codes ", and does not send to ") _ refl
+    (is_line_rest-append (device_text d router vif) _ (no_feed-device_text d router vif)
+    (is_line_rest-row d f router row ok)))))))
+are_indented-search_line d summary k f (Stopped lan router vif threshold ttl) ok =
+    are_indented-lan_router_text d.topology lan router _ ok
+    (is_line_rest-append_front (codes " is stopped at ") _ refl
+    (is_line_rest-append (device_text d router vif) _ (no_feed-device_text d router vif)
+    (is_line_rest-append_front (codes ": threshold ") _ refl
+    (is_line_rest-append (decimal threshold) _ (number threshold)
+    (is_line_rest-append_front (codes ", the copy has ttl ") _ refl
+    (is_line_rest-append (decimal ttl) _ (number ttl) is_line_rest-feed))))))
+are_indented-search_line d summary k f (WaitsFor lan router vif from) ok =
     let row = (d.nets k).row router in
-    placed d.topology lan router _ ok
-    (line-says (codes " waits for it on ") _ refl
-    (line-more (lan_name d.topology from) _ (lan-plain d.topology from ok)
-    (line-says (codes " at ") _ refl
-    (line-more (incoming_text d router row) _ (incoming-plain d router row)
-    (row-last d f router row ok)))))
-line-indented d notes k f (ExpectedFromHere lan router) ok =
-    expected-indented d.topology lan (router ∷ []) ok
-line-indented d notes k f (NoRouter lan) ok =
-    of_lan-indented d.topology lan (codes "no router is on it") ok refl
-line-indented d notes k f (NoSender lan) ok =
-    of_lan-indented d.topology lan (codes "no row of this source sends onto it") ok refl
+    are_indented-lan_router_text d.topology lan router _ ok
+    (is_line_rest-append_front (codes " waits for it on ") _ refl
+    (is_line_rest-append (lan_name d.topology from) _ (no_feed-lan_name d.topology from ok)
+    (is_line_rest-append_front (codes " at ") _ refl
+    (is_line_rest-append (incoming_text d router row) _ (no_feed-incoming_text d router row)
+    (is_line_rest-row d f router row ok)))))
+are_indented-search_line d summary k f (ExpectedFromHere lan router) ok =
+    are_indented-expected_text d.topology lan (router ∷ []) ok
+are_indented-search_line d summary k f (NoRouter lan) ok =
+    are_indented-lan_line d.topology lan (codes "no router is on it") ok refl
+are_indented-search_line d summary k f (NoSender lan) ok =
+    are_indented-lan_line d.topology lan (codes "no row of this source sends onto it") ok refl
 
-shown-indented : (d : DomainFacts) (notes : List NotesText) (k : ℕ) (f : Flow) (line : ShownLine)
-    → IsTopology d.topology → AreIndented (shown_text d notes k f line)
-shown-indented d notes k f (One line) ok = line-indented d notes k f line ok
-shown-indented d notes k f (Expected lan routers) ok = expected-indented d.topology lan routers ok
+are_indented-shown_line : (d : DomainFacts) (summary : List SummaryValue) (k : ℕ) (f : Flow) (line : ShownLine)
+    → IsValidTopology d.topology → AreIndented (shown_line_text d summary k f line)
+are_indented-shown_line d summary k f (One line) ok = are_indented-search_line d summary k f line ok
+are_indented-shown_line d summary k f (Expected lan routers) ok = are_indented-expected_text d.topology lan routers ok
 
 -- ---- all of them
 
-more_lines-indented : (more : ℕ) → AreIndented (more_lines_text more)
-more_lines-indented more =
+are_indented-more_lines : (more : ℕ) → AreIndented (more_lines_text more)
+are_indented-more_lines more =
     elim (more == 0) as (λ b. AreIndented (cond b []
     (codes "  and " ++ (decimal more ++ codes " more lines\n")))) [
-      | true ↦ no-lines
-      | false ↦ line-begins _
-          (line-says (codes "and ") _ refl
-          (line-more (decimal more) _ (number more)
-          (line-says (codes " more lines") _ refl line-last)))
+      | true ↦ are_indented-none
+      | false ↦ are_indented-from_line_rest _
+          (is_line_rest-append_front (codes "and ") _ refl
+          (is_line_rest-append (decimal more) _ (number more)
+          (is_line_rest-append_front (codes " more lines") _ refl is_line_rest-feed)))
     ]
 
-not_taken-indented : (t : TopologyValue) (routers : List ℕ) → IsTopology t
+are_indented-not_taken_line : (t : TopologyValue) (routers : List ℕ) → IsValidTopology t
     → AreIndented (routers_line t (codes "  it comes to, and is not taken by:") routers)
-not_taken-indented t [] ok = no-lines
-not_taken-indented t (r ∷ rs) ok =
-    line-begins _
-    (line-says (codes "it comes to, and is not taken by:") _ refl
-    (line-more (routers_text t (r ∷ rs)) _ (routers-plain t (r ∷ rs) ok) line-last))
+are_indented-not_taken_line t [] ok = are_indented-none
+are_indented-not_taken_line t (r ∷ rs) ok =
+    are_indented-from_line_rest _
+    (is_line_rest-append_front (codes "it comes to, and is not taken by:") _ refl
+    (is_line_rest-append (routers_text t (r ∷ rs)) _ (no_feed-routers_text t (r ∷ rs) ok) is_line_rest-feed))
 
-reach-indented : (t : TopologyValue) (sent_on took_none : List ℕ) → IsTopology t
+are_indented-reach_text : (t : TopologyValue) (sent_on took_none : List ℕ) → IsValidTopology t
     → AreIndented (reach_text t sent_on took_none)
-reach-indented t [] [] ok =
-    line-begins _
-    (line-says (codes "it comes to no router of this search whose tables are known") _ refl line-last)
-reach-indented t [] (r ∷ rs) ok = not_taken-indented t (r ∷ rs) ok
-reach-indented t (s ∷ ss) took_none ok =
-    lines-both _ (routers_line t (codes "  it comes to, and is not taken by:") took_none)
-    (line-begins _
-    (line-says (codes "it gets as far as:") _ refl
-    (line-more (routers_text t (s ∷ ss)) _ (routers-plain t (s ∷ ss) ok) line-last)))
-    (not_taken-indented t took_none ok)
+are_indented-reach_text t [] [] ok =
+    are_indented-from_line_rest _
+    (is_line_rest-append_front (codes "it comes to no router of this search whose tables are known") _ refl is_line_rest-feed)
+are_indented-reach_text t [] (r ∷ rs) ok = are_indented-not_taken_line t (r ∷ rs) ok
+are_indented-reach_text t (s ∷ ss) took_none ok =
+    are_indented-append _ (routers_line t (codes "  it comes to, and is not taken by:") took_none)
+    (are_indented-from_line_rest _
+    (is_line_rest-append_front (codes "it gets as far as:") _ refl
+    (is_line_rest-append (routers_text t (s ∷ ss)) _ (no_feed-routers_text t (s ∷ ss) ok) is_line_rest-feed)))
+    (are_indented-not_taken_line t took_none ok)
 
-pub search-lines : (d : DomainFacts) (notes : List NotesText) (k : ℕ) (f : Flow)
-    (lines : List Searched) (sent_on took_none : List ℕ) → IsTopology d.topology
-    → AreIndented (search_text d notes k f lines sent_on took_none)
-search-lines d notes k f lines sent_on took_none ok =
-    lines-both (reach_text d.topology sent_on took_none) (lines_text d notes k f (shown_lines lines))
-    (reach-indented d.topology sent_on took_none ok)
-    (lines-both _ (more_lines_text (length (shown_lines lines) - 40))
-    (lines-each (shown_text d notes k f) (take 40 (shown_lines lines))
-    (λ line. shown-indented d notes k f line ok))
-    (more_lines-indented (length (shown_lines lines) - 40)))
+pub are_indented-search_text : (d : DomainFacts) (summary : List SummaryValue) (k : ℕ) (f : Flow)
+    (lines : List SearchLine) (sent_on took_none : List ℕ) → IsValidTopology d.topology
+    → AreIndented (search_text d summary k f lines sent_on took_none)
+are_indented-search_text d summary k f lines sent_on took_none ok =
+    are_indented-append (reach_text d.topology sent_on took_none) (first_lines_text d summary k f (shown_lines lines))
+    (are_indented-reach_text d.topology sent_on took_none ok)
+    (are_indented-append _ (more_lines_text (length (shown_lines lines) - 40))
+    (are_indented-flat_map (shown_line_text d summary k f) (take 40 (shown_lines lines))
+    (λ line. are_indented-shown_line d summary k f line ok))
+    (are_indented-more_lines (length (shown_lines lines) - 40)))

@@ -2,32 +2,32 @@
 use Rattle.std.proofs.Common.{◌≡◌, ℕ, suc, ◌+◌, ◌-◌, ◌<◌, ◌≤◌, List, ◌∷◌, ◌++◌, take, flat_map, Some}
 use Rattle.std.proofs.Common.{Result, Ok, Err, ap, sym, ◌∙◌, append_assoc, arith}
 use Rattle.std.specs.Prelude.{OnOk, slice_get, unwrap_or}
-use Rattle.mc_tables.specs.Notes.{NotesText}
+use Rattle.mc_tables.specs.Summary.{SummaryValue}
 use Rattle.mc_topology.specs.declared.flow.Flow.{Flow}
 use Rattle.mc_topology.specs.Topology.{TopologyValue}
 use Rattle.mc_forward.specs.Domains.{DomainValue}
-use Rattle.mc_forward.specs.Journeys.{FlowIn}
+use Rattle.mc_forward.specs.FlightsInDomain.{FlowOfDomain}
 use Rattle.mc_forward.specs.ListedTables.{facts}
-use Rattle.mc_explain.specs.declared.searched.Searched.{Searched}
-use Rattle.mc_explain.specs.SearchText.{lines_text, reach_text, search_text}
+use Rattle.mc_explain.specs.declared.search_line.SearchLine.{SearchLine}
+use Rattle.mc_explain.specs.SearchText.{first_lines_text, reach_text, search_text}
 use Rattle.mc_explain.specs.ShownLines.{shown_lines}
 
 -- ---- the first 40
 
-pub first-more : {A : Type 0} (f : A → List ℕ) (old : List ℕ) (line : A) (rest : List A) (count : ℕ)
+pub first_40_lines-more : {A : Type 0} (f : A → List ℕ) (old : List ℕ) (line : A) (rest : List A) (count : ℕ)
     → count < 40
     → (old ++ f line) ++ flat_map f (take (40 - (count + 1)) rest)
     ≡ old ++ flat_map f (take (40 - count) (line ∷ rest))
-first-more f old line rest count few =
+first_40_lines-more f old line rest count few =
     let one_less : suc (40 - (count + 1)) ≡ 40 - count = omega arith in
     append_assoc old (f line) (flat_map f (take (40 - (count + 1)) rest))
     ∙ ap (λ (n : ℕ). old ++ flat_map f (take n (line ∷ rest))) one_less
 
-pub first-done : {A : Type 0} (f : A → List ℕ) (old : List ℕ) (line : A) (rest : List A) (count : ℕ)
+pub first_40_lines-full : {A : Type 0} (f : A → List ℕ) (old : List ℕ) (line : A) (rest : List A) (count : ℕ)
     → 40 ≤ count
     → old ++ flat_map f (take (40 - (count + 1)) rest)
     ≡ old ++ flat_map f (take (40 - count) (line ∷ rest))
-first-done f old line rest count many =
+first_40_lines-full f old line rest count many =
     let none : 40 - (count + 1) ≡ 0 = omega arith in
     let none_now : 40 - count ≡ 0 = omega arith in
     ap (λ (n : ℕ). old ++ flat_map f (take n rest)) none
@@ -35,32 +35,32 @@ first-done f old line rest count many =
 
 -- ---- all of it
 
-pub on_ok-then : {A B : Type 0} {P Q : Type 0} (r : Result A B) → OnOk r P → (P → Q) → OnOk r Q
-on_ok-then (Ok x) p f = f p
-on_ok-then (Err e) p f = tt
+pub on_ok-map : {A B : Type 0} {P Q : Type 0} (r : Result A B) → OnOk r P → (P → Q) → OnOk r Q
+on_ok-map (Ok x) p f = f p
+on_ok-map (Err e) p f = tt
 
 -- the parts are those of the flow that the topology has under its number
-pub search-written : (d : DomainValue) (view : FlowIn) (flow : ℕ) (t : TopologyValue)
-    (notes : List NotesText) (f listed : Flow) (lines seen : List Searched)
+pub search_text-from_parts : (d : DomainValue) (view : FlowOfDomain) (flow : ℕ) (t : TopologyValue)
+    (summary : List SummaryValue) (f listed : Flow) (lines seen : List SearchLine)
     (sent_on took_none old reached new : List ℕ)
     → view ≡ record { domain = d; flow = flow } → t ≡ d.topology
     → slice_get t.flows flow ≡ Some f → slice_get d.topology.flows flow ≡ Some listed
     → seen ≡ lines → reached ≡ old ++ reach_text t sent_on took_none
-    → new ≡ reached ++ lines_text (facts view.domain) notes view.flow f (shown_lines seen)
-    → new ≡ old ++ search_text (facts d) notes flow listed lines sent_on took_none
-search-written d view flow t notes f listed lines seen sent_on took_none old reached new of_view of_t at
+    → new ≡ reached ++ first_lines_text (facts view.domain) summary view.flow f (shown_lines seen)
+    → new ≡ old ++ search_text (facts d) summary flow listed lines sent_on took_none
+search_text-from_parts d view flow t summary f listed lines seen sent_on took_none old reached new of_view of_t at
     at_listed of_lines reach all =
     let same : f ≡ listed =
     ap (λ o. unwrap_or o f) (sym at ∙ ap (λ (u : TopologyValue). slice_get u.flows flow) of_t
     ∙ at_listed) in
     all
-    ∙ ap (λ (v : FlowIn). reached ++ lines_text (facts v.domain) notes v.flow f (shown_lines seen))
+    ∙ ap (λ (v : FlowOfDomain). reached ++ first_lines_text (facts v.domain) summary v.flow f (shown_lines seen))
     of_view
-    ∙ ap (λ (g : Flow). reached ++ lines_text (facts d) notes flow g (shown_lines seen)) same
-    ∙ ap (λ (ls : List Searched). reached ++ lines_text (facts d) notes flow listed (shown_lines ls))
+    ∙ ap (λ (g : Flow). reached ++ first_lines_text (facts d) summary flow g (shown_lines seen)) same
+    ∙ ap (λ (ls : List SearchLine). reached ++ first_lines_text (facts d) summary flow listed (shown_lines ls))
     of_lines
-    ∙ ap (λ (l : List ℕ). l ++ lines_text (facts d) notes flow listed (shown_lines lines)) reach
+    ∙ ap (λ (l : List ℕ). l ++ first_lines_text (facts d) summary flow listed (shown_lines lines)) reach
     ∙ append_assoc old (reach_text t sent_on took_none)
-    (lines_text (facts d) notes flow listed (shown_lines lines))
+    (first_lines_text (facts d) summary flow listed (shown_lines lines))
     ∙ ap (λ (u : TopologyValue). old ++ (reach_text u sent_on took_none
-    ++ lines_text (facts d) notes flow listed (shown_lines lines))) of_t
+    ++ first_lines_text (facts d) summary flow listed (shown_lines lines))) of_t

@@ -13,106 +13,106 @@ use Rattle.std.proofs.lemmas.List.Edits.{length-insert}
 use Rattle.std.proofs.lemmas.List.Elements.{filter-append}
 use Rattle.mc_tables.specs.CacheTable.{key_cmp}
 use Rattle.mc_tables.specs.ListedRows.{is_listed}
-use Rattle.mc_tables.specs.Notes.{NotesText, in_order, shown_pairs}
-use Rattle.mc_tables.proofs.CacheLemmas.{key_total}
-use Rattle.mc_tables.proofs.LowestLemmas.{put_found, put_searched}
+use Rattle.mc_tables.specs.Summary.{SummaryValue, in_order, shown_pairs}
+use Rattle.mc_tables.proofs.CacheLemmas.{key_cmp-total}
+use Rattle.mc_tables.proofs.LowestLemmas.{put_pair-member, put_pair-at_search_place}
 use Rattle.mc_topology.specs.Topology.{TopologyValue}
 use Rattle.mc_theory.specs.Lists.{In, below}
-use Rattle.mc_theory.proofs.InLists.{in-append_cases, in-append_left, in-below_cases, in-filter_cases}
-use Rattle.mc_theory.proofs.InLists.{in-push}
-use Rattle.mc_explain.specs.UnlistedPairs.{is_last, put_last, with_below, with_routers}
-use Rattle.mc_explain.specs.UnlistedText.{has_pair, line_of_pair, pair_lines, pairs_in}
+use Rattle.mc_theory.proofs.ListLemmas.{in-append_cases, in-append_left, in-below_cases, in-filter_cases}
+use Rattle.mc_theory.proofs.ListLemmas.{in-push}
+use Rattle.mc_explain.specs.UnlistedPairs.{is_last, push_unless_last, with_routers_below, with_routers}
+use Rattle.mc_explain.specs.UnlistedText.{has_pair, unlisted_pair_text, unlisted_pair_lines, pairs_in}
 use Rattle.mc_explain.specs.UnlistedText.{routers_below}
 use Rattle.mc_forward.proofs.BelowLemmas.{below-more}
-use Rattle.mc_explain.proofs.MergeLemmas.{in_order-ascends}
-use Rattle.mc_explain.proofs.OwnLemmas.{above-in, in-listed, listed-in, not-itself, same_bool}
-use Rattle.mc_explain.proofs.UnlistedLemmas.{lowest-ascends}
+use Rattle.mc_explain.proofs.MergeLemmas.{is_strictly_sorted_by-in_order}
+use Rattle.mc_explain.proofs.LowestPairLemmas.{key_cmp-from_are_above, is_listed-from_in, in-from_is_listed, key_cmp-not_less_itself, equal_bools-from_both}
+use Rattle.mc_explain.proofs.UnlistedLemmas.{is_strictly_sorted_by-lowest}
 
 -- what is shown ascends
-pub shown-ascends : (all : Bool) (ps : List (ℕ × ℕ))
+pub is_strictly_sorted_by-shown_pairs : (all : Bool) (ps : List (ℕ × ℕ))
     → IsStrictlySortedBy key_cmp (shown_pairs all (in_order ps))
-shown-ascends true ps = in_order-ascends ps
-shown-ascends false ps = lowest-ascends ps
+is_strictly_sorted_by-shown_pairs true ps = is_strictly_sorted_by-in_order ps
+is_strictly_sorted_by-shown_pairs false ps = is_strictly_sorted_by-lowest ps
 
 -- ---- a router behind others
 
-get-behind : (xs : List ℕ) (x : ℕ) → slice_get (xs ++ x ∷ []) (length xs) ≡ Some x
-get-behind [] x = refl
-get-behind (y ∷ xs) x = get-behind xs x
+slice_get-push : (xs : List ℕ) (x : ℕ) → slice_get (xs ++ x ∷ []) (length xs) ≡ Some x
+slice_get-push [] x = refl
+slice_get-push (y ∷ xs) x = slice_get-push xs x
 
 -- one that is their last stays so,
-put-again : (xs : List ℕ) (r : ℕ) → put_last r (xs ++ r ∷ []) ≡ xs ++ r ∷ []
-put-again xs r =
+push_unless_last-same : (xs : List ℕ) (r : ℕ) → push_unless_last r (xs ++ r ∷ []) ≡ xs ++ r ∷ []
+push_unless_last-same xs r =
     let place : length (xs ++ r ∷ []) - 1 ≡ length xs = omega (arith, length-append xs (r ∷ [])) in
     let last : slice_get (xs ++ r ∷ []) (length (xs ++ r ∷ []) - 1) ≡ Some r =
-    ap (slice_get (xs ++ r ∷ [])) place ∙ get-behind xs r in
+    ap (slice_get (xs ++ r ∷ [])) place ∙ slice_get-push xs r in
     ap (λ (o : Option ℕ). cond (is_last r o) (xs ++ r ∷ []) ((xs ++ r ∷ []) ++ r ∷ [])) last
     ∙ ap (λ (b : Bool). cond b (xs ++ r ∷ []) ((xs ++ r ∷ []) ++ r ∷ [])) (eq-eqb r r refl)
 
 -- and one that is above them is put behind them
-not-last : (xs : List ℕ) (r k : ℕ) → ((x : ℕ) → In x xs → x < r) → is_last r (slice_get xs k) ≡ false
-not-last [] r k less = refl
-not-last (x ∷ xs) r zero less = ne_eqb x r (λ e. absurd (omega (arith, less x (inl refl), e)))
-not-last (x ∷ xs) r (suc k) less = not-last xs r k (λ y h. less y (inr h))
+is_last-above : (xs : List ℕ) (r k : ℕ) → ((x : ℕ) → In x xs → x < r) → is_last r (slice_get xs k) ≡ false
+is_last-above [] r k less = refl
+is_last-above (x ∷ xs) r zero less = ne_eqb x r (λ e. absurd (omega (arith, less x (inl refl), e)))
+is_last-above (x ∷ xs) r (suc k) less = is_last-above xs r k (λ y h. less y (inr h))
 
-put-behind : (xs : List ℕ) (r : ℕ) → ((x : ℕ) → In x xs → x < r) → put_last r xs ≡ xs ++ r ∷ []
-put-behind xs r less =
-    ap (λ (b : Bool). cond b xs (xs ++ r ∷ [])) (not-last xs r (length xs - 1) less)
+push_unless_last-above : (xs : List ℕ) (r : ℕ) → ((x : ℕ) → In x xs → x < r) → push_unless_last r xs ≡ xs ++ r ∷ []
+push_unless_last-above xs r less =
+    ap (λ (b : Bool). cond b xs (xs ++ r ∷ [])) (is_last-above xs r (length xs - 1) less)
 
-put-either : (b : Bool) (xs : List ℕ) (r : ℕ) → ((x : ℕ) → In x xs → x < r)
-    → put_last r (xs ++ cond b (r ∷ []) []) ≡ xs ++ r ∷ []
-put-either true xs r less = put-again xs r
-put-either false xs r less = ap (put_last r) (append-nil xs) ∙ put-behind xs r less
+push_unless_last-cond : (b : Bool) (xs : List ℕ) (r : ℕ) → ((x : ℕ) → In x xs → x < r)
+    → push_unless_last r (xs ++ cond b (r ∷ []) []) ≡ xs ++ r ∷ []
+push_unless_last-cond true xs r less = push_unless_last-same xs r
+push_unless_last-cond false xs r less = ap (push_unless_last r) (append-nil xs) ∙ push_unless_last-above xs r less
 
-below-less : (notes : List NotesText) (r : ℕ) (pair : ℕ × ℕ) (x : ℕ)
-    → In x (routers_below notes r pair) → x < r
-below-less notes r pair x h =
-    in-below_cases x r (in-filter_cases (λ router. has_pair pair (slice_get notes router)) x (below r) h).0
+routers_below-less : (summary : List SummaryValue) (r : ℕ) (pair : ℕ × ℕ) (x : ℕ)
+    → In x (routers_below summary r pair) → x < r
+routers_below-less summary r pair x h =
+    in-below_cases x r (in-filter_cases (λ router. has_pair pair (slice_get summary router)) x (below r) h).0
 
 -- ---- a router's pairs, one by one
 
 -- a pair with the routers below one, and with that one where the pair is among its first ones
-abbrev pub with_part : List NotesText → (router : ℕ) → List (ℕ × ℕ) → ℕ × ℕ → (ℕ × ℕ) × List ℕ
-with_part notes router own pair =
-    (pair, routers_below notes router pair ++ cond (is_listed (Some own) pair) (router ∷ []) [])
+abbrev pub with_routers_so_far : List SummaryValue → (router : ℕ) → List (ℕ × ℕ) → ℕ × ℕ → (ℕ × ℕ) × List ℕ
+with_routers_so_far summary router own pair =
+    (pair, routers_below summary router pair ++ cond (is_listed (Some own) pair) (router ∷ []) [])
 
-map-same : {A : Type 0} (f g : ℕ × ℕ → A) (ps : List (ℕ × ℕ)) → ((p : ℕ × ℕ) → In p ps → f p ≡ g p)
+map-equal_on_list : {A : Type 0} (f g : ℕ × ℕ → A) (ps : List (ℕ × ℕ)) → ((p : ℕ × ℕ) → In p ps → f p ≡ g p)
     → map f ps ≡ map g ps
-map-same f g [] same = refl
-map-same {A} f g (p ∷ ps) same =
-    ap₂ (λ (x : A) (xs : List A). x ∷ xs) (same p (inl refl)) (map-same f g ps (λ q h. same q (inr h)))
+map-equal_on_list f g [] same = refl
+map-equal_on_list {A} f g (p ∷ ps) same =
+    ap₂ (λ (x : A) (xs : List A). x ∷ xs) (same p (inl refl)) (map-equal_on_list f g ps (λ q h. same q (inr h)))
 
 -- with none of its pairs
-pub part-none : (notes : List NotesText) (router : ℕ) (ps : List (ℕ × ℕ))
-    → map (with_below notes router) ps ≡ map (with_part notes router []) ps
-part-none notes router ps =
-    map-same (with_below notes router) (with_part notes router []) ps (λ p h.
-    ap (λ (rs : List ℕ). (p, rs)) (sym (append-nil (routers_below notes router p))))
+pub with_routers_so_far-none : (summary : List SummaryValue) (router : ℕ) (ps : List (ℕ × ℕ))
+    → map (with_routers_below summary router) ps ≡ map (with_routers_so_far summary router []) ps
+with_routers_so_far-none summary router ps =
+    map-equal_on_list (with_routers_below summary router) (with_routers_so_far summary router []) ps (λ p h.
+    ap (λ (rs : List ℕ). (p, rs)) (sym (append-nil (routers_below summary router p))))
 
 -- the routers below the next one
-next-router : (notes : List NotesText) (router : ℕ) (pair : ℕ × ℕ)
-    → routers_below notes (router + 1) pair
-    ≡ routers_below notes router pair ++ cond (has_pair pair (slice_get notes router)) (router ∷ []) []
-next-router notes router pair =
-    let has : ℕ → Bool = λ r. has_pair pair (slice_get notes r) in
+routers_below-more : (summary : List SummaryValue) (router : ℕ) (pair : ℕ × ℕ)
+    → routers_below summary (router + 1) pair
+    ≡ routers_below summary router pair ++ cond (has_pair pair (slice_get summary router)) (router ∷ []) []
+routers_below-more summary router pair =
+    let has : ℕ → Bool = λ r. has_pair pair (slice_get summary r) in
     ap (filter has) (below-more router) ∙ filter-append has (below router) (router ∷ [])
 
 -- with all of its pairs
-pub part-all : (notes : List NotesText) (router : ℕ) (ps : List (ℕ × ℕ))
-    → map (with_part notes router (pairs_in (slice_get notes router))) ps
-    ≡ map (with_below notes (router + 1)) ps
-part-all notes router ps =
-    map-same (with_part notes router (pairs_in (slice_get notes router))) (with_below notes (router + 1)) ps
-    (λ p h. ap (λ (rs : List ℕ). (p, rs)) (sym (next-router notes router p)))
+pub with_routers_so_far-all : (summary : List SummaryValue) (router : ℕ) (ps : List (ℕ × ℕ))
+    → map (with_routers_so_far summary router (pairs_in (slice_get summary router))) ps
+    ≡ map (with_routers_below summary (router + 1)) ps
+with_routers_so_far-all summary router ps =
+    map-equal_on_list (with_routers_so_far summary router (pairs_in (slice_get summary router))) (with_routers_below summary (router + 1)) ps
+    (λ p h. ap (λ (rs : List ℕ). (p, rs)) (sym (routers_below-more summary router p)))
 
 -- ---- one pair more
 
-listed-more : (own : List (ℕ × ℕ)) (q p : ℕ × ℕ) → p ≢ q
+is_listed-push_other : (own : List (ℕ × ℕ)) (q p : ℕ × ℕ) → p ≢ q
     → is_listed (Some own) p ≡ is_listed (Some (own ++ q ∷ [])) p
-listed-more own q p other =
-    same_bool (is_listed (Some own) p) (is_listed (Some (own ++ q ∷ [])) p)
-    (λ e. in-listed p (own ++ q ∷ []) (in-append_left p own (q ∷ []) (listed-in p own e)))
-    (λ e. in-listed p own (elim (in-append_cases p own (q ∷ []) (listed-in p (own ++ q ∷ []) e)) [
+is_listed-push_other own q p other =
+    equal_bools-from_both (is_listed (Some own) p) (is_listed (Some (own ++ q ∷ [])) p)
+    (λ e. is_listed-from_in p (own ++ q ∷ []) (in-append_left p own (q ∷ []) (in-from_is_listed p own e)))
+    (λ e. is_listed-from_in p own (elim (in-append_cases p own (q ∷ []) (in-from_is_listed p (own ++ q ∷ []) e)) [
       | inl h ↦ h
       | inr h ↦ elim h [
         | inl e ↦ absurd (other (sym e))
@@ -121,103 +121,103 @@ listed-more own q p other =
     ]))
 
 -- another pair has the same routers
-other-same : (notes : List NotesText) (router : ℕ) (own : List (ℕ × ℕ)) (q p : ℕ × ℕ) → p ≢ q
-    → with_part notes router own p ≡ with_part notes router (own ++ q ∷ []) p
-other-same notes router own q p other =
-    ap (λ (b : Bool). (p, routers_below notes router p ++ cond b (router ∷ []) []))
-    (listed-more own q p other)
+with_routers_so_far-other_pair : (summary : List SummaryValue) (router : ℕ) (own : List (ℕ × ℕ)) (q p : ℕ × ℕ) → p ≢ q
+    → with_routers_so_far summary router own p ≡ with_routers_so_far summary router (own ++ q ∷ []) p
+with_routers_so_far-other_pair summary router own q p other =
+    ap (λ (b : Bool). (p, routers_below summary router p ++ cond b (router ∷ []) []))
+    (is_listed-push_other own q p other)
 
-read-in : (xs : List (ℕ × ℕ)) (k : ℕ) (d : ℕ × ℕ) → k < length xs → In (get_or xs k d) xs
-read-in [] k d lt = absurd (omega (arith, lt))
-read-in (x ∷ xs) zero d lt = inl refl
-read-in (x ∷ xs) (suc k) d lt = inr (read-in xs k d (omega (arith, lt)))
+in-get_or : (xs : List (ℕ × ℕ)) (k : ℕ) (d : ℕ × ℕ) → k < length xs → In (get_or xs k d) xs
+in-get_or [] k d lt = absurd (omega (arith, lt))
+in-get_or (x ∷ xs) zero d lt = inl refl
+in-get_or (x ∷ xs) (suc k) d lt = inr (in-get_or xs k d (omega (arith, lt)))
 
 -- what stands at the place of one of ascending pairs is changed
-put-one : {A : Type 0} (f g : ℕ × ℕ → A) (ps : List (ℕ × ℕ)) (i : ℕ) (q : ℕ × ℕ)
+set-map_sorted : {A : Type 0} (f g : ℕ × ℕ → A) (ps : List (ℕ × ℕ)) (i : ℕ) (q : ℕ × ℕ)
     → IsStrictlySortedBy key_cmp ps → i < length ps → get_or ps i q ≡ q
     → ((p : ℕ × ℕ) → p ≢ q → f p ≡ g p) → set (map f ps) i (g q) ≡ map g ps
 unfolding IsStrictlySortedBy
-put-one f g [] i q up lt at other = absurd (omega (arith, lt))
-put-one {A} f g (p ∷ ps) zero q up lt at other =
+set-map_sorted f g [] i q up lt at other = absurd (omega (arith, lt))
+set-map_sorted {A} f g (p ∷ ps) zero q up lt at other =
     ap₂ (λ (x : A) (xs : List A). x ∷ xs) (ap g (sym at))
-    (map-same f g ps (λ x h. other x (λ e. not-itself p x (at ∙ sym e) (above-in p x ps up.0 h))))
-put-one {A} f g (p ∷ ps) (suc i) q up lt at other =
+    (map-equal_on_list f g ps (λ x h. other x (λ e. key_cmp-not_less_itself p x (at ∙ sym e) (key_cmp-from_are_above p x ps up.0 h))))
+set-map_sorted {A} f g (p ∷ ps) (suc i) q up lt at other =
     let lower : i < length ps = omega (arith, lt) in
-    let behind : In q ps = subst (λ (x : ℕ × ℕ). In x ps) at (read-in ps i q lower) in
+    let behind : In q ps = subst (λ (x : ℕ × ℕ). In x ps) at (in-get_or ps i q lower) in
     ap₂ (λ (x : A) (xs : List A). x ∷ xs)
-    (other p (λ e. not-itself p q e (above-in p q ps up.0 behind)))
-    (put-one f g ps i q up.1 lower at other)
+    (other p (λ e. key_cmp-not_less_itself p q e (key_cmp-from_are_above p q ps up.0 behind)))
+    (set-map_sorted f g ps i q up.1 lower at other)
 
 -- what is read at its place
-pub part-read : {A : Type 0} (f : ℕ × ℕ → A) (ps : List (ℕ × ℕ)) (i : ℕ) (q : ℕ × ℕ) (old : A)
+pub get_or-map : {A : Type 0} (f : ℕ × ℕ → A) (ps : List (ℕ × ℕ)) (i : ℕ) (q : ℕ × ℕ) (old : A)
     → i < length ps → get_or ps i q ≡ q → old ≡ get_or (map f ps) i old → old ≡ f q
-part-read f [] i q old lt at read = absurd (omega (arith, lt))
-part-read f (p ∷ ps) zero q old lt at read = read ∙ ap f at
-part-read f (p ∷ ps) (suc i) q old lt at read = part-read f ps i q old (omega (arith, lt)) at read
+get_or-map f [] i q old lt at read = absurd (omega (arith, lt))
+get_or-map f (p ∷ ps) zero q old lt at read = read ∙ ap f at
+get_or-map f (p ∷ ps) (suc i) q old lt at read = get_or-map f ps i q old (omega (arith, lt)) at read
 
 -- a pair of the router that is shown
-pub part-found : (notes : List NotesText) (router : ℕ) (own ps : List (ℕ × ℕ)) (i : ℕ) (q : ℕ × ℕ)
+pub with_routers_so_far-more : (summary : List SummaryValue) (router : ℕ) (own ps : List (ℕ × ℕ)) (i : ℕ) (q : ℕ × ℕ)
     (old new : (ℕ × ℕ) × List ℕ) → IsStrictlySortedBy key_cmp ps → i < length ps → get_or ps i q ≡ q
-    → old ≡ with_part notes router own q → new ≡ (old.0, put_last router old.1)
-    → set (map (with_part notes router own) ps) i new ≡ map (with_part notes router (own ++ q ∷ [])) ps
-part-found notes router own ps i q old new up lt at was is =
-    let before = routers_below notes router q in
+    → old ≡ with_routers_so_far summary router own q → new ≡ (old.0, push_unless_last router old.1)
+    → set (map (with_routers_so_far summary router own) ps) i new ≡ map (with_routers_so_far summary router (own ++ q ∷ [])) ps
+with_routers_so_far-more summary router own ps i q old new up lt at was is =
+    let before = routers_below summary router q in
     let put : new ≡ (q, before ++ router ∷ []) =
-    is ∙ ap (λ (x : (ℕ × ℕ) × List ℕ). (x.0, put_last router x.1)) was
-    ∙ ap (λ (rs : List ℕ). (q, rs)) (put-either (is_listed (Some own) q) before router
-    (below-less notes router q)) in
-    let now : new ≡ with_part notes router (own ++ q ∷ []) q =
+    is ∙ ap (λ (x : (ℕ × ℕ) × List ℕ). (x.0, push_unless_last router x.1)) was
+    ∙ ap (λ (rs : List ℕ). (q, rs)) (push_unless_last-cond (is_listed (Some own) q) before router
+    (routers_below-less summary router q)) in
+    let now : new ≡ with_routers_so_far summary router (own ++ q ∷ []) q =
     put ∙ ap (λ (b : Bool). (q, before ++ cond b (router ∷ []) []))
-    (sym (in-listed q (own ++ q ∷ []) (in-push own q))) in
-    ap (set (map (with_part notes router own) ps) i) now
-    ∙ put-one (with_part notes router own) (with_part notes router (own ++ q ∷ [])) ps i q up lt at
-    (other-same notes router own q)
+    (sym (is_listed-from_in q (own ++ q ∷ []) (in-push own q))) in
+    ap (set (map (with_routers_so_far summary router own) ps) i) now
+    ∙ set-map_sorted (with_routers_so_far summary router own) (with_routers_so_far summary router (own ++ q ∷ [])) ps i q up lt at
+    (with_routers_so_far-other_pair summary router own q)
 
 -- ---- a pair that isn't shown
 
-place-of : (q : ℕ × ℕ) (ps : List (ℕ × ℕ)) → In q ps → (k : ℕ) × ((k < length ps) × (get_or ps k q ≡ q))
-place-of q [] h = absurd h
-place-of q (p ∷ ps) (inl e) = (0, (omega arith, e))
-place-of q (p ∷ ps) (inr h) =
-    let later = place-of q ps h in
+index-from_in : (q : ℕ × ℕ) (ps : List (ℕ × ℕ)) → In q ps → (k : ℕ) × ((k < length ps) × (get_or ps k q ≡ q))
+index-from_in q [] h = absurd h
+index-from_in q (p ∷ ps) (inl e) = (0, (omega arith, e))
+index-from_in q (p ∷ ps) (inr h) =
+    let later = index-from_in q ps h in
     (suc later.0, (omega (arith, later.1.0), later.1.1))
 
 -- one for which a search found a place to put it
-pub part-absent : (notes : List NotesText) (router : ℕ) (own ps seen : List (ℕ × ℕ)) (i : ℕ) (q : ℕ × ℕ)
+pub with_routers_so_far-absent : (summary : List SummaryValue) (router : ℕ) (own ps seen : List (ℕ × ℕ)) (i : ℕ) (q : ℕ × ℕ)
     → seen ≡ ps → IsStrictlySortedBy key_cmp ps → i ≤ length seen
     → (IsNonDecreasingBy (λ p. ordering_index (key_cmp p q)) seen
     → IsPartitionPoint (λ p. key_cmp p q ≡ Less) (λ p. key_cmp p q ≡ Greater) seen i)
-    → map (with_part notes router own) ps ≡ map (with_part notes router (own ++ q ∷ [])) ps
-part-absent notes router own ps seen i q same up le found =
-    map-same (with_part notes router own) (with_part notes router (own ++ q ∷ [])) ps (λ p h.
-    other-same notes router own q p (λ e.
-    let at = place-of q ps (subst (λ (x : ℕ × ℕ). In x ps) e h) in
+    → map (with_routers_so_far summary router own) ps ≡ map (with_routers_so_far summary router (own ++ q ∷ [])) ps
+with_routers_so_far-absent summary router own ps seen i q same up le found =
+    map-equal_on_list (with_routers_so_far summary router own) (with_routers_so_far summary router (own ++ q ∷ [])) ps (λ p h.
+    with_routers_so_far-other_pair summary router own q p (λ e.
+    let at = index-from_in q ps (subst (λ (x : ℕ × ℕ). In x ps) e h) in
     let equal : key_cmp (get_or ps at.0 q) q ≡ Equal =
-    ap (λ (x : ℕ × ℕ). key_cmp x q) at.1.1 ∙ tied_itself key_total q in
+    ap (λ (x : ℕ × ℕ). key_cmp x q) at.1.1 ∙ tied_itself key_cmp-total q in
     let whole : insert ps i q ≡ ps =
-    sym (put_searched q ps seen i same up le found) ∙ put_found q q ps at.0 up at.1.0 equal in
+    sym (put_pair-at_search_place q ps seen i same up le found) ∙ put_pair-member q q ps at.0 up at.1.0 equal in
     let size = ap length whole in
     let grown = length-insert ps i q (subst (λ (l : List (ℕ × ℕ)). i ≤ length l) same le) in
     absurd (omega (arith, size, grown))))
 
 -- ---- rows
 
-each-added : (f : ℕ × ℕ → (ℕ × ℕ) × List ℕ) (n : ℕ) (ps : List (ℕ × ℕ))
+fold-map_lengths : (f : ℕ × ℕ → (ℕ × ℕ) × List ℕ) (n : ℕ) (ps : List (ℕ × ℕ))
     → fold (λ a (s : (ℕ × ℕ) × List ℕ). a + length s.1) n (map f ps)
     ≡ fold (λ a p. a + length (f p).1) n ps
-each-added f n [] = refl
-each-added f n (p ∷ ps) = each-added f (n + length (f p).1) ps
+fold-map_lengths f n [] = refl
+fold-map_lengths f n (p ∷ ps) = fold-map_lengths f (n + length (f p).1) ps
 
-pub rows-told : (f : ℕ × ℕ → (ℕ × ℕ) × List ℕ) (ps : List (ℕ × ℕ))
+pub sum_by-map_lengths : (f : ℕ × ℕ → (ℕ × ℕ) × List ℕ) (ps : List (ℕ × ℕ))
     → sum_by (λ (s : (ℕ × ℕ) × List ℕ). length s.1) (map f ps)
     ≡ sum_by (λ (p : ℕ × ℕ). length (f p).1) ps
-rows-told f ps = each-added f 0 ps
+sum_by-map_lengths f ps = fold-map_lengths f 0 ps
 
 -- ---- lines
 
-pub pair-lines : (t : TopologyValue) (notes : List NotesText) (ps : List (ℕ × ℕ))
-    → flat_map (λ (pair : (ℕ × ℕ) × List ℕ). line_of_pair t pair.0 pair.1)
-    (map (with_routers t notes) ps) ≡ flat_map (pair_lines t notes) ps
-pair-lines t notes [] = refl
-pair-lines t notes (p ∷ ps) =
-    ap (λ (told : List ℕ). pair_lines t notes p ++ told) (pair-lines t notes ps)
+pub flat_map-unlisted_pair_lines : (t : TopologyValue) (summary : List SummaryValue) (ps : List (ℕ × ℕ))
+    → flat_map (λ (pair : (ℕ × ℕ) × List ℕ). unlisted_pair_text t pair.0 pair.1)
+    (map (with_routers t summary) ps) ≡ flat_map (unlisted_pair_lines t summary) ps
+flat_map-unlisted_pair_lines t summary [] = refl
+flat_map-unlisted_pair_lines t summary (p ∷ ps) =
+    ap (λ (rest : List ℕ). unlisted_pair_lines t summary p ++ rest) (flat_map-unlisted_pair_lines t summary ps)

@@ -1,24 +1,24 @@
 -- How a router's row for every source is written, by what is noted of its cache.
 use Rattle.std.specs.Prelude.{ℕ, List, [], Option, Some, None, slice_get, option_and_then}
-use Rattle.mc_tables.specs.CacheTable.{EntryText}
-use Rattle.mc_tables.specs.Notes.{NotesText, every_source_row}
-use Rattle.mc_forward.specs.Domains.{pairs_of}
+use Rattle.mc_tables.specs.CacheTable.{EntryValue}
+use Rattle.mc_tables.specs.Summary.{SummaryValue, every_source_row}
+use Rattle.mc_forward.specs.Domains.{oif_pairs}
 use Rattle.mc_forward.specs.ListedTables.{DomainFacts}
 use Rattle.mc_explain.specs.RowText.{entry_text}
 
 -- A router's row for every source, with the group that it has: this one, or else 0.0.0.0. The notes
 -- have the first router's first.
-abbrev pub every_source_of : List NotesText → (group router : ℕ) → Option (ℕ × EntryText)
-every_source_of notes group router =
-    option_and_then (λ n. every_source_row n group) (slice_get notes router)
+abbrev pub every_source_of : List SummaryValue → (group router : ℕ) → Option (ℕ × EntryValue)
+every_source_of summary group router =
+    option_and_then (λ n. every_source_row n group) (slice_get summary router)
 
 -- as `row (*,239.1.2.3) from eth0 to eth1 eth2:5 in cache-r1`, or `row (*,*) ..`; nothing where the
 -- notes have none
-abbrev pub noted_row_text : DomainFacts → (router : ℕ) → Option (ℕ × EntryText) → List ℕ
-noted_row_text d router None = []
-noted_row_text d router (Some row) =
-    entry_text d router 0 row.0 row.1.iif (pairs_of row.1.oifs)
+abbrev pub every_source_row_text : DomainFacts → (router : ℕ) → Option (ℕ × EntryValue) → List ℕ
+every_source_row_text d router None = []
+every_source_row_text d router (Some row) =
+    entry_text d router 0 row.0 row.1.iif (oif_pairs row.1.oifs)
 
-abbrev pub every_source_text : DomainFacts → List NotesText → (group router : ℕ) → List ℕ
-every_source_text d notes group router =
-    noted_row_text d router (every_source_of notes group router)
+abbrev pub every_source_text : DomainFacts → List SummaryValue → (group router : ℕ) → List ℕ
+every_source_text d summary group router =
+    every_source_row_text d router (every_source_of summary group router)

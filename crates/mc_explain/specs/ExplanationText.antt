@@ -2,22 +2,22 @@
 use Rattle.std.specs.Prelude.{ℕ, nat_le, List, ◌++◌, Option}
 use Rattle.std.specs.Prelude.{Some, None, if◌then◌else◌, codes, decimal, flat_map}
 use Rattle.std.specs.Str.{bytes_eq}
-use Rattle.mc_tables.specs.VifTable.{VifText, no_device}
-use Rattle.mc_tables.specs.Notes.{NotesText}
+use Rattle.mc_tables.specs.VifTable.{VifValue, no_device}
+use Rattle.mc_tables.specs.Summary.{SummaryValue}
 use Rattle.mc_topology.specs.declared.flow.Flow.{Flow}
 use Rattle.mc_topology.specs.Topology.{lan_name, router_name}
 use Rattle.mc_forward.specs.ListedTables.{DomainFacts}
-use Rattle.mc_explain.specs.declared.told.Told.{Told}
-use Rattle.mc_explain.specs.declared.told.Told.TheVariants.{SentOnto, Circle, TakeOut, Unplaced}
-use Rattle.mc_explain.specs.declared.told.Told.TheVariants.{LeastTtl, OnlyEverySource, StoppedAt}
+use Rattle.mc_explain.specs.declared.causes.Cause.{Cause}
+use Rattle.mc_explain.specs.declared.causes.Cause.TheVariants.{SentOnto, Circle, TakeOut, Unplaced}
+use Rattle.mc_explain.specs.declared.causes.Cause.TheVariants.{LeastTtl, OnlyEverySource, StoppedAt}
 use Rattle.mc_explain.specs.EverySourceText.{every_source_text}
 use Rattle.mc_explain.specs.RowText.{device_text, incoming_text, row_text}
 
 -- ---- why a vif is placed on no LAN
 
 -- why a vif of the table is placed on no LAN, the first of these that holds
-abbrev pub reason_text : VifText → List ℕ
-reason_text v =
+abbrev pub unplaced_reason_text : VifValue → List ℕ
+unplaced_reason_text v =
     if v.register
     then codes "is PIM's register vif: copies go to the rendezvous point until its Register-Stop "
     ++ codes "comes; if this stays, look why it does not"
@@ -26,15 +26,15 @@ reason_text v =
     else codes "is on no listed LAN"
 
 -- why a router's vif is placed on no LAN
-abbrev pub unplaced_text : DomainFacts → (router : ℕ) → Option VifText → List ℕ
+abbrev pub unplaced_text : DomainFacts → (router : ℕ) → Option VifValue → List ℕ
 unplaced_text d router None = codes "has no line in vif-" ++ router_name d.topology router
-unplaced_text d router (Some v) = reason_text v
+unplaced_text d router (Some v) = unplaced_reason_text v
 
 -- ---- lines
 
 -- what taking out costs a flow that is listed with less than the least TTL,
-abbrev pub dear_text : (lan : List ℕ) (least ttl : ℕ) → List ℕ
-dear_text lan least ttl =
+abbrev pub low_ttl_cost_text : (lan : List ℕ) (least ttl : ℕ) → List ℕ
+low_ttl_cost_text lan least ttl =
     codes "packets sent with less than ttl " ++ (decimal least
     ++ (codes " may then not reach " ++ (lan
     ++ (codes " and LANs behind it, and this flow is listed with ttl " ++ decimal ttl))))
@@ -44,7 +44,7 @@ abbrev pub cost_text : DomainFacts → Flow → (lan least : ℕ) → List ℕ
 cost_text d f lan least =
     if nat_le least f.ttl
     then codes "each LAN that this flow's packets reach is reached without it"
-    else dear_text (lan_name d.topology lan) least f.ttl
+    else low_ttl_cost_text (lan_name d.topology lan) least f.ttl
 
 -- where a packet was stopped
 abbrev pub stopped_text : DomainFacts → (router vif threshold ttl : ℕ) → List ℕ
@@ -55,45 +55,45 @@ stopped_text d router vif threshold ttl =
     ++ (codes ", and is sent only above threshold " ++ (decimal threshold ++ codes "\n")))))))
 
 -- where a copy met a row for every source, by what is noted of the routers' caches
-abbrev pub only_every_source_text : DomainFacts → List NotesText → Flow → (router vif : ℕ) → List ℕ
-only_every_source_text d notes f router vif =
+abbrev pub only_every_source_text : DomainFacts → List SummaryValue → Flow → (router vif : ℕ) → List ℕ
+only_every_source_text d summary f router vif =
     codes "  a copy comes in at " ++ (device_text d router vif
     ++ (codes " of " ++ (router_name d.topology router
     ++ (codes ", which has no resolved row of this source and group, only one for every source: "
-    ++ (every_source_text d notes f.group router
+    ++ (every_source_text d summary f.group router
     ++ codes "\n  this may be healthy: mcaudit judges source trees alone\n")))))
 
 -- the lines of one thing that is told of a flow, with its number
-abbrev pub told_text : DomainFacts → List NotesText → (number : ℕ) → Flow → Told → List ℕ
-told_text d notes number f (SentOnto lan router vif) =
+abbrev pub cause_text : DomainFacts → List SummaryValue → (number : ℕ) → Flow → Cause → List ℕ
+cause_text d summary number f (SentOnto lan router vif) =
     codes "  sent onto " ++ (lan_name d.topology lan
     ++ (codes " by " ++ (router_name d.topology router
     ++ (codes " at " ++ (device_text d router vif
     ++ (codes ": " ++ (row_text d f router ((d.nets number).row router) ++ codes "\n")))))))
-told_text d notes number f (Circle from onto router vif) =
+cause_text d summary number f (Circle from onto router vif) =
     codes "  " ++ (lan_name d.topology from
     ++ (codes " to " ++ (lan_name d.topology onto
     ++ (codes " by " ++ (router_name d.topology router
     ++ (codes " from " ++ (incoming_text d router ((d.nets number).row router)
     ++ (codes " to " ++ (device_text d router vif
     ++ (codes ": " ++ (row_text d f router ((d.nets number).row router) ++ codes "\n")))))))))))
-told_text d notes number f (TakeOut lan router vif least) =
+cause_text d summary number f (TakeOut lan router vif least) =
     codes "  one way to end it: take " ++ (device_text d router vif
     ++ (codes " out of this row of " ++ (router_name d.topology router
     ++ (codes "; " ++ (cost_text d f lan least ++ codes "\n  audit again after each change\n")))))
-told_text d notes number f (Unplaced router vif) =
+cause_text d summary number f (Unplaced router vif) =
     codes "  " ++ (device_text d router vif
     ++ (codes " of " ++ (router_name d.topology router
     ++ (codes " " ++ (unplaced_text d router (d.vifs router vif)
     ++ (codes "\n  " ++ (row_text d f router ((d.nets number).row router) ++ codes "\n")))))))
-told_text d notes number f (LeastTtl lan least) =
+cause_text d summary number f (LeastTtl lan least) =
     codes "  " ++ (lan_name d.topology lan
     ++ (codes " is reached by packets sent with ttl " ++ (decimal least
     ++ (codes " or more; this flow is listed with ttl " ++ (decimal f.ttl ++ codes "\n")))))
-told_text d notes number f (OnlyEverySource router vif) =
-    only_every_source_text d notes f router vif
-told_text d notes number f (StoppedAt router vif threshold ttl) = stopped_text d router vif threshold ttl
+cause_text d summary number f (OnlyEverySource router vif) =
+    only_every_source_text d summary f router vif
+cause_text d summary number f (StoppedAt router vif threshold ttl) = stopped_text d router vif threshold ttl
 
 -- the lines of all that is told of a flow, in order
-abbrev pub told_lines : DomainFacts → List NotesText → (number : ℕ) → Flow → List Told → List ℕ
-told_lines d notes number f told = flat_map (told_text d notes number f) told
+abbrev pub causes_text : DomainFacts → List SummaryValue → (number : ℕ) → Flow → List Cause → List ℕ
+causes_text d summary number f causes = flat_map (cause_text d summary number f) causes

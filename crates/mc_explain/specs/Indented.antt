@@ -5,8 +5,8 @@ use Rattle.std.specs.List.{list_all}
 use Rattle.mc_theory.specs.Lists.{In}
 
 -- no line feed stands in the text
-abbrev pub IsFeedless : List ℕ → Type 0
-IsFeedless text = IsTrue (list_all (λ b. not (b == 10)) text)
+abbrev pub HasNoLineFeed : List ℕ → Type 0
+HasNoLineFeed text = IsTrue (list_all (λ b. not (b == 10)) text)
 
 -- a line as it is written
 abbrev pub indented : List ℕ → List ℕ
@@ -16,5 +16,5 @@ indented line = codes "  " ++ (line ++ codes "\n")
 -- and has none before that.
 pub record AreIndented (text : List ℕ) : Type 0 where
   pub lines : List (List ℕ)
-  pub feedless : (line : List ℕ) → In line lines → IsFeedless line
+  pub feedless : (line : List ℕ) → In line lines → HasNoLineFeed line
   pub spelled : text ≡ flat_map indented lines

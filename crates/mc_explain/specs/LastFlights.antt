@@ -2,15 +2,15 @@
 use Rattle.std.specs.Prelude.{◌≡◌, ℕ, ◌≤◌, false, List, [], length, Some}
 use Rattle.mc_theory.specs.Nets.{Net, Interface}
 use Rattle.mc_theory.specs.Flights.{Copy, run, start}
-use Rattle.mc_theory.specs.Findings.{Finding, IsTravel, copy_on, double, handles}
-use Rattle.mc_theory.specs.Shown.{IsFirstDouble}
-use Rattle.mc_theory.specs.Ways.{Hop, CameBy, CameFrom, Passes, need}
+use Rattle.mc_theory.specs.Findings.{Finding, IsTravel, first_copy_on, first_double, handles}
+use Rattle.mc_theory.specs.FindingMeaning.{IsFirstDouble}
+use Rattle.mc_theory.specs.Paths.{Hop, CameByHops, CameFromLan, PassesHops, need}
 use Rattle.mc_theory.specs.Hops.{hops_back, hops_until}
-use Rattle.mc_forward.specs.Journeys.{FlowIn, Journey, net_in}
+use Rattle.mc_forward.specs.FlightsInDomain.{FlowOfDomain, FlightInDomain, net_in}
 
 -- The flight is the last of a travel of the flow's packet with this TTL, in which the first waiting
 -- copy is handled each time, and shows x.
-pub record EndsTravel (f : FlowIn) (ttl : ℕ) (x : Finding) (j : Journey) : Type 0 where
+pub record EndsTravel (f : FlowOfDomain) (ttl : ℕ) (x : Finding) (j : FlightInDomain) : Type 0 where
   pub domain : j.domain ≡ f.domain
   pub low : 1 ≤ ttl
   pub high : ttl ≤ 255
@@ -21,40 +21,40 @@ pub record EndsTravel (f : FlowIn) (ttl : ℕ) (x : Finding) (j : Journey) : Typ
   pub ends : j.flight ≡ run (net_in f) (handles picks) (start (net_in f) ttl)
 
 -- the hops by which a copy came, as they are found
-abbrev pub way_of : Net → List Copy → Copy → List Hop
-way_of n cs c = hops_back n cs (length cs) c.lan c.sender
+abbrev pub path_of : Net → List Copy → Copy → List Hop
+path_of n cs c = hops_back n cs (length cs) c.lan c.sender
 
 -- The LAN's first copy came by the hops that are found, and packets with some TTL get through.
-pub record HasWay (n : Net) (cs : List Copy) (lan : ℕ) (first : Copy) : Type 0 where
-  pub on : copy_on cs lan ≡ Some first
-  pub came : CameBy n cs first (way_of n cs first)
-  pub small : need (way_of n cs first) ≤ 255
+pub record HasPath (n : Net) (cs : List Copy) (lan : ℕ) (first : Copy) : Type 0 where
+  pub on : first_copy_on cs lan ≡ Some first
+  pub came_by_hops : CameByHops n cs first (path_of n cs first)
+  pub small : need (path_of n cs first) ≤ 255
 
 -- The copy is the flight's first double one, an interface sent it, and its LAN's first copy has a
 -- way.
-pub record IsSecond (n : Net) (cs : List Copy) (second : Copy) : Type 0 where
+pub record IsSecondCopy (n : Net) (cs : List Copy) (second : Copy) : Type 0 where
   pub is_double : IsFirstDouble cs second
-  pub found : double [] cs ≡ Some second
+  pub found : first_double [] cs ≡ Some second
   pub sender : Interface
   pub sent : second.sender ≡ Some sender
   pub first : Copy
-  pub way : HasWay n cs second.lan first
+  pub path : HasPath n cs second.lan first
 
 -- It is on this LAN.
-pub record HasSecond (n : Net) (cs : List Copy) (lan : ℕ) : Type 0 where
+pub record HasSecondCopy (n : Net) (cs : List Copy) (lan : ℕ) : Type 0 where
   pub second : Copy
-  pub is : IsSecond n cs second
+  pub is : IsSecondCopy n cs second
   pub on : second.lan ≡ lan
 
 -- It came from this LAN itself, by the hops that are found.
-pub record CameAround (n : Net) (cs : List Copy) (lan : ℕ) : Type 0 where
-  pub has : HasSecond n cs lan
-  pub came :
-      CameFrom n cs lan has.second
+pub record HasLoop (n : Net) (cs : List Copy) (lan : ℕ) : Type 0 where
+  pub has : HasSecondCopy n cs lan
+  pub came_by_hops :
+      CameFromLan n cs lan has.second
       (hops_until n cs lan (length cs) has.second.lan has.second.sender)
 
 -- The LAN's first copy has a way, by which packets with TTL t don't get through.
 pub record IsOutOfReach (n : Net) (cs : List Copy) (t lan : ℕ) : Type 0 where
   pub first : Copy
-  pub way : HasWay n cs lan first
-  pub stopped : Passes t (way_of n cs first) → ⊥
+  pub path : HasPath n cs lan first
+  pub stopped : PassesHops t (path_of n cs first) → ⊥

@@ -4,7 +4,7 @@ use Rattle.std.specs.Prelude.{ℕ, ◌+◌, ◌/◌, ◌%◌, ◌==◌, ◌&&◌
 use Rattle.std.specs.Prelude.{Some, None, if◌then◌else◌, codes, decimal, flat_map}
 use Rattle.std.specs.Str.{bytes_eq}
 use Rattle.mc_text.specs.Addr.{dotted}
-use Rattle.mc_tables.specs.VifTable.{VifText, no_device}
+use Rattle.mc_tables.specs.VifTable.{VifValue, no_device}
 use Rattle.mc_topology.specs.declared.flow.Flow.{Flow}
 use Rattle.mc_topology.specs.Topology.{router_name}
 use Rattle.mc_theory.specs.Nets.{Row}
@@ -28,17 +28,17 @@ byte_text b =
     then b ∷ []
     else codes "\\x" ++ (hex_digit_of (b / 16) ∷ hex_digit_of (b % 16) ∷ [])
 
-abbrev pub name_text : List ℕ → List ℕ
-name_text name = flat_map byte_text name
+abbrev pub device_name_text : List ℕ → List ℕ
+device_name_text name = flat_map byte_text name
 
 -- a vif by its number, where its table has no line for it or no device
 abbrev pub vif_number_text : ℕ → List ℕ
 vif_number_text vif = codes "vif/" ++ decimal vif
 
-abbrev pub device_text_of : (vif : ℕ) → Option VifText → List ℕ
+abbrev pub device_text_of : (vif : ℕ) → Option VifValue → List ℕ
 device_text_of vif None = vif_number_text vif
 device_text_of vif (Some v) =
-    if bytes_eq v.device no_device then vif_number_text vif else name_text v.device
+    if bytes_eq v.device no_device then vif_number_text vif else device_name_text v.device
 
 -- the device of a router's vif, as `eth1`
 abbrev pub device_text : DomainFacts → (router vif : ℕ) → List ℕ

@@ -1,7 +1,7 @@
 -- The lines of a search as they are shown.
 use Rattle.std.specs.Prelude.{◌==◌, ℕ, List, [], ◌∷◌, if◌then◌else◌}
-use Rattle.mc_explain.specs.declared.searched.Searched.{Searched}
-use Rattle.mc_explain.specs.declared.searched.Searched.TheVariants.{ExpectedFromHere}
+use Rattle.mc_explain.specs.declared.search_line.SearchLine.{SearchLine}
+use Rattle.mc_explain.specs.declared.search_line.SearchLine.TheVariants.{ExpectedFromHere}
 use Rattle.mc_explain.specs.declared.shown_line.ShownLine.{ShownLine}
 use Rattle.mc_explain.specs.declared.shown_line.ShownLine.TheVariants.{One, Expected}
 
@@ -13,10 +13,10 @@ put_expected lan router (Expected next routers ∷ lines) =
 put_expected lan router lines = Expected lan (router ∷ []) ∷ lines
 
 -- any line
-abbrev pub put_line : Searched → List ShownLine → List ShownLine
+abbrev pub put_line : SearchLine → List ShownLine → List ShownLine
 put_line (ExpectedFromHere lan router) lines = put_expected lan router lines
 put_line line lines = One line ∷ lines
 
-abbrev pub shown_lines : List Searched → List ShownLine
+abbrev pub shown_lines : List SearchLine → List ShownLine
 shown_lines [] = []
 shown_lines (line ∷ lines) = put_line line (shown_lines lines)

@@ -2,8 +2,8 @@
 use Rattle.std.specs.Prelude.{◌==◌, ℕ, Bool, false, List, [], length, map, filter, flat_map, find}
 use Rattle.std.specs.Prelude.{Option, Some, None, slice_get, unwrap_or}
 use Rattle.std.specs.Str.{bytes_eq}
-use Rattle.mc_tables.specs.VifTable.{VifText}
-use Rattle.mc_topology.specs.Rows.{InterfaceRow}
+use Rattle.mc_tables.specs.VifTable.{VifValue}
+use Rattle.mc_topology.specs.SectionRows.{InterfaceRow}
 use Rattle.mc_topology.specs.Topology.{TopologyValue}
 use Rattle.mc_theory.specs.Lists.{below}
 use Rattle.mc_forward.specs.ListedTables.{DomainFacts}
@@ -15,43 +15,43 @@ interface_at t k =
     unwrap_or (slice_get t.interfaces k) (record { router = 0; device = []; lan = 0 })
 
 -- those of a router among some interfaces
-abbrev pub of_router : TopologyValue → List ℕ → (router : ℕ) → List ℕ
-of_router t ks router = filter (λ k. (interface_at t k).router == router) ks
+abbrev pub interfaces_of_router : TopologyValue → List ℕ → (router : ℕ) → List ℕ
+interfaces_of_router t ks router = filter (λ k. (interface_at t k).router == router) ks
 
 -- all interfaces, by router and then in the topology's order
-abbrev pub by_router : TopologyValue → List ℕ
-by_router t =
-    flat_map (of_router t (below (length t.interfaces))) (below (length t.routers))
+abbrev pub interfaces_by_router : TopologyValue → List ℕ
+interfaces_by_router t =
+    flat_map (interfaces_of_router t (below (length t.interfaces))) (below (length t.routers))
 
 -- ---- vifs
 
 -- whether the vif is of the device
-abbrev pub is_of : List ℕ → Option VifText → Bool
-is_of device None = false
-is_of device (Some vif) = bytes_eq vif.device device
+abbrev pub vif_has_device : List ℕ → Option VifValue → Bool
+vif_has_device device None = false
+vif_has_device device (Some vif) = bytes_eq vif.device device
 
 -- a router's vif of a device
-abbrev pub vif_with : DomainFacts → (router : ℕ) → List ℕ → Option ℕ
-vif_with d router device = find (λ vif. is_of device (d.vifs router vif)) (below 32)
+abbrev pub vif_of_device : DomainFacts → (router : ℕ) → List ℕ → Option ℕ
+vif_of_device d router device = find (λ vif. vif_has_device device (d.vifs router vif)) (below 32)
 
 -- an interface's number, its router, and the router's vif of its device
-abbrev pub listed_of : DomainFacts → ℕ → InterfaceRow → ListedInterface
-listed_of d k i = record {
+abbrev pub listed_interface_of : DomainFacts → ℕ → InterfaceRow → ListedInterface
+listed_interface_of d k i = record {
   router = i.router;
   interface = k;
-  vif = vif_with d i.router i.device;
+  vif = vif_of_device d i.router i.device;
 }
 
-abbrev pub listed_at : DomainFacts → ℕ → ListedInterface
-listed_at d k = listed_of d k (interface_at d.topology k)
+abbrev pub listed_interface_at : DomainFacts → ℕ → ListedInterface
+listed_interface_at d k = listed_interface_of d k (interface_at d.topology k)
 
 -- ---- LANs
 
 -- the interfaces on a LAN, by router and then in the topology's order
-abbrev pub on_lan : DomainFacts → (lan : ℕ) → List ListedInterface
-on_lan d lan =
-    map (listed_at d) (filter (λ k. (interface_at d.topology k).lan == lan) (by_router d.topology))
+abbrev pub interfaces_on_lan : DomainFacts → (lan : ℕ) → List ListedInterface
+interfaces_on_lan d lan =
+    map (listed_interface_at d) (filter (λ k. (interface_at d.topology k).lan == lan) (interfaces_by_router d.topology))
 
 -- those of each LAN
-abbrev pub on_lans : DomainFacts → List (List ListedInterface)
-on_lans d = map (on_lan d) (below (length d.topology.lans))
+abbrev pub interfaces_on_lans : DomainFacts → List (List ListedInterface)
+interfaces_on_lans d = map (interfaces_on_lan d) (below (length d.topology.lans))

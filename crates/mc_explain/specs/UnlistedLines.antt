@@ -2,24 +2,24 @@
 -- says how a flow was judged.
 use Rattle.std.specs.Prelude.{◌≡◌, ◌⊎◌, ℕ, List, ◌++◌, codes, flat_map}
 use Rattle.mc_theory.specs.Lists.{In}
-use Rattle.mc_explain.specs.Indented.{IsFeedless}
+use Rattle.mc_explain.specs.Indented.{HasNoLineFeed}
 
 -- a line as it is written
-abbrev pub ended : List ℕ → List ℕ
-ended line = line ++ codes "\n"
+abbrev pub with_line_feed : List ℕ → List ℕ
+with_line_feed line = line ++ codes "\n"
 
 -- The text is lines, one after the other, each of which begins so, ends with a line feed and has none
 -- before that.
 pub record AreLines (Begins : List ℕ → Type 0) (text : List ℕ) : Type 0 where
   pub lines : List (List ℕ)
   pub begins : (line : List ℕ) → In line lines → Begins line
-  pub feedless : (line : List ℕ) → In line lines → IsFeedless line
-  pub spelled : text ≡ flat_map ended lines
+  pub feedless : (line : List ℕ) → In line lines → HasNoLineFeed line
+  pub spelled : text ≡ flat_map with_line_feed lines
 
 -- it begins with `unlisted `, or with two spaces
-abbrev pub TellsOfRows : List ℕ → Type 0
-TellsOfRows line =
+abbrev pub IsUnlistedLine : List ℕ → Type 0
+IsUnlistedLine line =
     (rest : List ℕ) × ((line ≡ codes "unlisted " ++ rest) ⊎ (line ≡ codes "  " ++ rest))
 
-abbrev pub AreOfRows : List ℕ → Type 0
-AreOfRows = AreLines TellsOfRows
+abbrev pub AreUnlistedLines : List ℕ → Type 0
+AreUnlistedLines = AreLines IsUnlistedLine

@@ -2,9 +2,9 @@
 -- besides.
 use Rattle.std.specs.Prelude.{◌≡◌, ◌==◌, ◌≤◌, ◌*◌, ◌-◌, ℕ, Bool, false, List, [], ◌∷◌, ◌++◌, length, map}
 use Rattle.std.specs.Prelude.{Option, Some, None, if◌then◌else◌, slice_get}
-use Rattle.mc_tables.specs.Notes.{NotesText}
+use Rattle.mc_tables.specs.Summary.{SummaryValue}
 use Rattle.mc_topology.specs.Topology.{TopologyValue}
-use Rattle.mc_explain.specs.UnlistedText.{further_rows, lowest_of, routers_below, routers_with}
+use Rattle.mc_explain.specs.UnlistedText.{further_rows, shown_unlisted_pairs, routers_below, routers_with}
 use Rattle.mc_explain.specs.declared.unlisted_pairs.UnlistedPairs.{UnlistedPairs}
 
 -- a router behind others, if it isn't their last one
@@ -12,22 +12,22 @@ abbrev pub is_last : (router : ℕ) → Option ℕ → Bool
 is_last router None = false
 is_last router (Some last) = last == router
 
-abbrev pub put_last : (router : ℕ) → List ℕ → List ℕ
-put_last router routers =
+abbrev pub push_unless_last : (router : ℕ) → List ℕ → List ℕ
+push_unless_last router routers =
     if is_last router (slice_get routers (length routers - 1)) then routers
     else routers ++ router ∷ []
 
 -- a pair of a group and a source, with the routers that have it: those below a number, and all
-abbrev pub with_below : List NotesText → (number : ℕ) → ℕ × ℕ → (ℕ × ℕ) × List ℕ
-with_below notes number pair = (pair, routers_below notes number pair)
+abbrev pub with_routers_below : List SummaryValue → (number : ℕ) → ℕ × ℕ → (ℕ × ℕ) × List ℕ
+with_routers_below summary number pair = (pair, routers_below summary number pair)
 
-abbrev pub with_routers : TopologyValue → List NotesText → ℕ × ℕ → (ℕ × ℕ) × List ℕ
-with_routers t notes pair = (pair, routers_with t notes pair)
+abbrev pub with_routers : TopologyValue → List SummaryValue → ℕ × ℕ → (ℕ × ℕ) × List ℕ
+with_routers t summary pair = (pair, routers_with t summary pair)
 
 -- Each pair that is shown stands with all its routers. The further rows are few enough for 64 bits where
 -- there are notes of at most 2 ^ 32 routers.
-pub record AreUnlisted (all : Bool) (t : TopologyValue) (notes : List NotesText) (u : UnlistedPairs)
+pub record AreUnlistedPairs (all : Bool) (t : TopologyValue) (summary : List SummaryValue) (u : UnlistedPairs)
     : Type 0 where
-  pub shown : u.shown.items ≡ map (with_routers t notes) (lowest_of all notes)
-  pub further : u.further ≡ further_rows all t notes
-  pub few : u.further ≤ length notes * 4294967295
+  pub shown : u.shown.items ≡ map (with_routers t summary) (shown_unlisted_pairs all summary)
+  pub further : u.further ≡ further_rows all t summary
+  pub few : u.further ≤ length summary * 4294967295

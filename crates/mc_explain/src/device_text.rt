@@ -2,7 +2,7 @@
 
 ghost use Rattle.std.specs.Prelude.{◌≡◌, Some};
 ghost use Rattle.mc_forward.specs.ListedTables.{facts};
-ghost use Rattle.mc_explain.specs.RowText.{byte_text, device_text, name_text};
+ghost use Rattle.mc_explain.specs.RowText.{byte_text, device_text, device_name_text};
 ghost use Rattle.mc_explain.specs.RowText.{is_plain as plain};
 
 use mc_forward::FlowView;
@@ -41,13 +41,13 @@ impl fmt::Display for ShownByte {
 
 /// A device's name, as `eth1`.
 #[derive(Clone, Copy, Drop)]
-pub struct ShownName<'n> {
+pub struct ShownDeviceName<'n> {
     /// Its bytes.
     pub name: &'n [u8],
 }
 
-impl<'n> fmt::Display for ShownName<'n> {
-    ghost output = { λ shown. Some (name_text shown.name.now) };
+impl<'n> fmt::Display for ShownDeviceName<'n> {
+    ghost output = { λ shown. Some (device_name_text shown.name.now) };
 
     fn fmt<W: fmt::Write>(&self, f: &mut fmt::Formatter<W>) -> fmt::Result {
         for byte in self.name {
@@ -77,7 +77,7 @@ impl<'v> fmt::Display for ShownDevice<'v> {
         let vif = self.vif;
         match self.view.vif(self.router, vif) {
             Some(line) if line.device() != NO_DEVICE => {
-                let name = ShownName {
+                let name = ShownDeviceName {
                     name: line.device(),
                 };
                 write!(f, "{name}")

@@ -6,7 +6,7 @@ ghost use Rattle.mc_explain.specs.EverySourceText.{every_source_text};
 
 use crate::row_text::ShownEntry;
 use mc_forward::FlowView;
-use mc_tables::CacheNotes;
+use mc_tables::CacheSummary;
 use mc_text::Addr;
 use mc_topology::RouterNo;
 use std::fmt;
@@ -19,7 +19,7 @@ pub(crate) struct ShownEverySource<'v> {
     /// A flow of the domain.
     pub(crate) view: &'v FlowView<'v>,
     /// What is noted of each router's cache, the first router's first.
-    pub(crate) notes: &'v [CacheNotes],
+    pub(crate) summary: &'v [CacheSummary],
     /// The flow's group.
     pub(crate) group: Addr,
     /// The router.
@@ -28,14 +28,14 @@ pub(crate) struct ShownEverySource<'v> {
 
 impl<'v> fmt::Display for ShownEverySource<'v> {
     ghost output = { λ shown. Some (every_source_text (facts shown.view.now.domain)
-        shown.notes.now shown.group shown.router) };
+        shown.summary.now shown.group shown.router) };
 
     fn fmt<W: fmt::Write>(&self, f: &mut fmt::Formatter<W>) -> fmt::Result {
         let (view, router) = (self.view, self.router);
-        let Some(notes) = self.notes.get(router.0 as usize) else {
+        let Some(summary) = self.summary.get(router.0 as usize) else {
             return Ok(());
         };
-        match notes.row_for_every_source(self.group) {
+        match summary.row_for_every_source(self.group) {
             Some(row) => {
                 let (group, entry) = row;
                 let row = ShownEntry {

@@ -2,7 +2,7 @@
 
 ghost use Rattle.std.specs.Prelude.{◌≡◌};
 ghost use Rattle.mc_theory.specs.Hops.{hop_by, hop_sent};
-ghost use Rattle.mc_forward.specs.Journeys.{net_in};
+ghost use Rattle.mc_forward.specs.FlightsInDomain.{net_in};
 
 use mc_forward::{FlowView, RowFor, threshold_of};
 use mc_topology::{LanNo, RouterNo};
@@ -19,7 +19,7 @@ pub(crate) struct Hop {
 }
 
 impl Model for Hop {
-    ghost use Rattle.mc_theory.specs.Ways.{Hop as HopValue};
+    ghost use Rattle.mc_theory.specs.Paths.{Hop as HopValue};
 
     ghost Value = { HopValue };
 

@@ -4,9 +4,9 @@ ghost use Rattle.std.specs.Prelude.{◌≡◌, ◌<◌, ◌++◌, ◌∷◌, ℕ
 ghost use Rattle.mc_theory.specs.Lists.{below};
 ghost use Rattle.mc_forward.specs.Domains.{vif_of};
 ghost use Rattle.mc_forward.specs.ListedTables.{DomainFacts, facts};
-ghost use Rattle.mc_explain.specs.TopologyLans.{listed_at, listed_of, of_router, on_lan, on_lans};
-ghost use Rattle.mc_explain.specs.TopologyLans.{interface_at, is_of, vif_with};
-ghost use Rattle.mc_explain.specs.Numbered.{Holds};
+ghost use Rattle.mc_explain.specs.TopologyLans.{listed_interface_at, listed_interface_of, interfaces_of_router, interfaces_on_lan, interfaces_on_lans};
+ghost use Rattle.mc_explain.specs.TopologyLans.{interface_at, vif_has_device, vif_of_device};
+ghost use Rattle.mc_explain.specs.BucketsAndMarks.{AreBuckets};
 
 use crate::listed_interface::ListedInterface;
 use mc_forward::Domain;
@@ -17,11 +17,11 @@ use std::marker::Model;
 
 /// A list that others stand beside.
 #[derive(Debug, Drop)]
-struct Listed<T> {
+struct InnerList<T> {
     items: Vec<T>,
 }
 
-impl<T> Model for Listed<T> {
+impl<T> Model for InnerList<T> {
     ghost use Rattle.std.specs.Prelude.{List};
 
     ghost Value = { List T };
@@ -33,7 +33,7 @@ impl<T> Model for Listed<T> {
 /// searches in a domain share them.
 #[derive(Debug, Drop)]
 pub struct InterfacesOfLans {
-    lans: Vec<Listed<ListedInterface>>,
+    lans: Vec<InnerList<ListedInterface>>,
 }
 
 impl Model for InterfacesOfLans {
@@ -46,12 +46,12 @@ impl Model for InterfacesOfLans {
 }
 
 /// So many empty lists.
-fn empty_lists<T: Drop>(alloc: Global, count: u32) -> Result<Vec<Listed<T>>, Memory>
+fn empty_lists<T: Drop>(alloc: Global, count: u32) -> Result<Vec<InnerList<T>>, Memory>
     ensures { IfOk result (λ lists. lists.items ≡ map (λ _. []) (below count)) }
 {
     let mut lists = Vec::new(alloc);
     for _ in 0..count {
-        lists.push(Listed {
+        lists.push(InnerList {
             items: Vec::new(alloc),
         })?;
     }
@@ -59,9 +59,9 @@ fn empty_lists<T: Drop>(alloc: Global, count: u32) -> Result<Vec<Listed<T>>, Mem
 }
 
 /// The numbers of the interfaces of each router, in the topology's order.
-fn numbers_of_routers(alloc: Global, topology: &Topology) -> Result<Vec<Listed<u32>>, Memory>
+fn interface_numbers_by_router(alloc: Global, topology: &Topology) -> Result<Vec<InnerList<u32>>, Memory>
     ensures { IfOk result (λ lists. lists.items ≡
-        map (of_router topology.now (below (length topology.now.interfaces)))
+        map (interfaces_of_router topology.now (below (length topology.now.interfaces)))
         (below (length topology.now.routers))) }
 {
     let mut lists = empty_lists(alloc, topology.routers())?;
@@ -74,8 +74,8 @@ fn numbers_of_routers(alloc: Global, topology: &Topology) -> Result<Vec<Listed<u
 }
 
 /// Whether a router's vif has this device.
-fn is_of(domain: &Domain, router: RouterNo, vif: u8, device: &[u8]) -> bool
-    ensures { result ≡ is_of device.now (vif_of domain.now.tables router vif) }
+fn vif_has_device(domain: &Domain, router: RouterNo, vif: u8, device: &[u8]) -> bool
+    ensures { result ≡ vif_has_device device.now (vif_of domain.now.tables router vif) }
 {
     match domain.vif(router, vif) {
         Some(found) => found.device() == device,
@@ -84,11 +84,11 @@ fn is_of(domain: &Domain, router: RouterNo, vif: u8, device: &[u8]) -> bool
 }
 
 /// The vif of a router that has this device.
-pub fn vif_with(domain: &Domain, router: RouterNo, device: &[u8]) -> Option<u8>
-    ensures { result ≡ vif_with (facts domain.now) router device.now }
+pub fn vif_of_device(domain: &Domain, router: RouterNo, device: &[u8]) -> Option<u8>
+    ensures { result ≡ vif_of_device (facts domain.now) router device.now }
 {
     for vif in 0..32u8 {
-        if is_of(domain, router, vif, device) {
+        if vif_has_device(domain, router, vif, device) {
             return Some(vif);
         }
     }
@@ -96,19 +96,19 @@ pub fn vif_with(domain: &Domain, router: RouterNo, device: &[u8]) -> Option<u8>
 }
 
 /// An interface with its number, and its router's vif.
-fn listed_of(domain: &Domain, number: u32, interface: &Interface<'_>) -> ListedInterface
-    ensures { result ≡ listed_of (facts domain.now) number interface.now }
+fn listed_interface_of(domain: &Domain, number: u32, interface: &Interface<'_>) -> ListedInterface
+    ensures { result ≡ listed_interface_of (facts domain.now) number interface.now }
 {
     ListedInterface {
         router: interface.router,
         interface: number,
-        vif: vif_with(domain, interface.router, interface.device),
+        vif: vif_of_device(domain, interface.router, interface.device),
     }
 }
 
 /// Adds some interfaces to the lists of their LANs.
 fn add_interfaces(
-    lists: &mut Vec<Listed<ListedInterface>>,
+    lists: &mut Vec<InnerList<ListedInterface>>,
     domain: &Domain,
     numbers: &[u32],
 ) -> Result<(), Memory>
@@ -116,14 +116,14 @@ fn add_interfaces(
     requires lans { length lists.old.items ≡ length domain.now.topology.lans }
     ensures count { length lists.new.items ≡ length domain.now.topology.lans }
     ensures each { OnOk result ((earlier : List ℕ) →
-        Holds (listed_at (facts domain.now)) (λ k. (interface_at domain.now.topology k).lan)
+        AreBuckets (listed_interface_at (facts domain.now)) (λ k. (interface_at domain.now.topology k).lan)
         lists.old.items earlier →
-        Holds (listed_at (facts domain.now)) (λ k. (interface_at domain.now.topology k).lan)
+        AreBuckets (listed_interface_at (facts domain.now)) (λ k. (interface_at domain.now.topology k).lan)
         lists.new.items (earlier ++ numbers.now)) }
 {
     for number in numbers {
         let interface = domain.topology().interface(*number);
-        let listed = listed_of(domain, *number, &interface);
+        let listed = listed_interface_of(domain, *number, &interface);
         let lan = interface.lan;
         let list = &mut lists[lan.0 as usize];
         list.items.push(listed)?;
@@ -135,11 +135,11 @@ fn add_interfaces(
 fn interfaces_of_lans(
     alloc: Global,
     domain: &Domain,
-) -> Result<Vec<Listed<ListedInterface>>, Memory>
-    ensures { IfOk result (λ lists. lists.items ≡ on_lans (facts domain.now)) }
+) -> Result<Vec<InnerList<ListedInterface>>, Memory>
+    ensures { IfOk result (λ lists. lists.items ≡ interfaces_on_lans (facts domain.now)) }
 {
     let topology = domain.topology();
-    let routers = numbers_of_routers(alloc, topology)?;
+    let routers = interface_numbers_by_router(alloc, topology)?;
     let mut lists = empty_lists(alloc, topology.lans())?;
     for router in &routers {
         add_interfaces(&mut lists, domain, &router.items)?;
@@ -155,7 +155,7 @@ impl InterfacesOfLans {
     ///
     /// `Memory` where a growth was refused.
     pub fn new(alloc: Global, domain: &Domain) -> Result<InterfacesOfLans, Memory>
-        ensures { IfOk result (λ interfaces. interfaces ≡ on_lans (facts domain.now)) }
+        ensures { IfOk result (λ interfaces. interfaces ≡ interfaces_on_lans (facts domain.now)) }
     {
         let lans = interfaces_of_lans(alloc, domain)?;
         Ok(InterfacesOfLans { lans })
@@ -164,8 +164,8 @@ impl InterfacesOfLans {
     /// Those on a LAN.
     pub(crate) fn on(&self, lan: LanNo) -> &[ListedInterface]
         requires { lan < length self.now }
-        ensures { (d : DomainFacts) → self.now ≡ on_lans d → lan < length d.topology.lans →
-            result.now ≡ on_lan d lan }
+        ensures { (d : DomainFacts) → self.now ≡ interfaces_on_lans d → lan < length d.topology.lans →
+            result.now ≡ interfaces_on_lan d lan }
     {
         &self.lans[lan.0 as usize].items
     }

@@ -5,57 +5,57 @@
 mod device_text;
 mod every_source_row;
 mod explained;
-mod firsts;
+mod first_copies;
 mod hop;
 mod interfaces_of_lans;
-mod lan_start;
+mod first_eight;
 mod laws;
-mod left_out_laws;
-mod left_out_text;
+mod excluded_laws;
+mod excluded_text;
 mod line_laws;
 mod listed_interface;
-mod looking;
-mod met;
+mod lan_probe;
+mod visited_lans;
 mod reach;
-mod router_start;
+mod first_eight_routers;
 mod routers_on_lan;
 mod row_text;
 mod search_laws;
 mod search_line_laws;
 mod search_text;
-mod searched;
+mod search_line;
 mod searching;
 mod shown_line;
-mod told;
-mod told_text;
+mod causes;
+mod cause_text;
 mod unlisted_laws;
 mod unlisted_pairs;
 mod unlisted_text;
 mod wanted_text;
-mod way;
+mod path;
 
-pub use device_text::ShownName;
+pub use device_text::ShownDeviceName;
 pub use explained::explain;
-pub use interfaces_of_lans::{InterfacesOfLans, vif_with};
+pub use interfaces_of_lans::{InterfacesOfLans, vif_of_device};
 pub use laws::{
-    a_circle_that_is_told_is_closed, a_row_for_every_source_that_is_told_is_met,
-    a_sender_that_is_told_has_such_a_row, a_stop_that_is_told_stops_the_packet,
-    a_vif_that_is_told_unplaced_leads_out, at_the_flows_ttl_a_lan_is_missed,
-    the_ttl_that_is_told_is_the_least, what_is_told_is_determined,
-    what_is_told_to_be_taken_out_can_be_spared,
+    circle_of_loop_is_closed, every_source_row_is_reached,
+    reported_sender_sends_onto_lan, reported_stop_stops_packet,
+    unplaced_vif_leads_out, low_ttl_finding_is_missed_or_clean,
+    reported_ttl_is_least, causes_are_unique,
+    remedy_keeps_reached_lans,
 };
-pub use left_out_laws::routers_left_out_begin_so;
-pub use left_out_text::{push_left_out, push_without};
+pub use excluded_laws::without_lines_have_prefix;
+pub use excluded_text::{push_excluded, push_without_lines};
 pub use line_laws::explanations_begin_with_two_spaces;
 pub use reach::Reach;
 pub use search_laws::{a_search_ends, a_search_names_each_router};
-pub use search_line_laws::searches_and_unlisted_rows_begin_so;
+pub use search_line_laws::search_and_unlisted_lines_have_prefix;
 pub use search_text::push_search;
-pub use searched::Searched;
+pub use search_line::SearchLine;
 pub use searching::{LanSearch, search};
 pub use shown_line::{ExpectingRouters, ShownLine, ShownLines};
-pub use told::Told;
-pub use told_text::push_told;
+pub use causes::Cause;
+pub use cause_text::push_causes;
 pub use unlisted_laws::the_lowest_unlisted_pairs_are_shown;
 pub use unlisted_pairs::{UnlistedPair, UnlistedPairs};
 pub use unlisted_text::push_unlisted;

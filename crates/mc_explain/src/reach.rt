@@ -2,14 +2,14 @@
 
 ghost use Rattle.std.specs.Prelude.{◌≡◌, ◌<◌, ◌≤◌, ◌||◌, ◌∷◌, ℕ, [], All, IfOk, OnOk, false, filter};
 ghost use Rattle.std.specs.Prelude.{◌&&◌, Bool, length, map, not, slice_index_or, true};
-ghost use Rattle.mc_forward.specs.Outcomes.{outcome_seen};
-ghost use Rattle.mc_explain.specs.Looking.{IsLooking, search_in};
-ghost use Rattle.mc_explain.specs.Numbered.{AreListed, AreMarksOf};
-ghost use Rattle.mc_explain.specs.Searched.{add_met, routers_on};
-ghost use Rattle.mc_explain.specs.SearchReach.{has, is_kind, routers_of, sent_on};
+ghost use Rattle.mc_forward.specs.OutcomeValues.{outcome_value};
+ghost use Rattle.mc_explain.specs.LanProbe.{IsLanProbe, search_in};
+ghost use Rattle.mc_explain.specs.BucketsAndMarks.{AreMarksOfListed, AreMarksOf};
+ghost use Rattle.mc_explain.specs.SearchLine.{append_new, routers_on};
+ghost use Rattle.mc_explain.specs.SearchReach.{has_event, outcome_matches, routers_of_lans, sent_on};
 ghost use Rattle.mc_explain.specs.SearchReach.{took_none};
 
-use crate::looking::Looking;
+use crate::lan_probe::LanProbe;
 use mc_forward::{Event, Outcome};
 use mc_text::Memory;
 use mc_topology::{LanNo, RouterNo};
@@ -29,8 +29,8 @@ pub struct Reach {
 const MAX_ROUTERS: usize = 256;
 
 /// Whether a handling sent the copy on, or else took none.
-fn is_kind(outcome: Outcome, sent: bool) -> bool
-    ensures { result ≡ is_kind sent (outcome_seen outcome) }
+fn outcome_matches(outcome: Outcome, sent: bool) -> bool
+    ensures { result ≡ outcome_matches sent (outcome_value outcome) }
 {
     match outcome {
         Outcome::Sent { .. } => sent,
@@ -40,30 +40,30 @@ fn is_kind(outcome: Outcome, sent: bool) -> bool
 }
 
 /// Marks the routers of such events.
-fn mark(marks: &mut [bool], events: &[Event], sent: bool)
+fn mark_routers(marks: &mut [bool], events: &[Event], sent: bool)
     ensures count { length marks.new ≡ length marks.old }
     ensures marks { (router : ℕ) → router < length marks.old →
         slice_index_or marks.new router false
-        ≡ (slice_index_or marks.old router false || has sent events.now router) }
+        ≡ (slice_index_or marks.old router false || has_event sent events.now router) }
 {
     for event in events {
         let router = event.router.0 as usize;
-        if router < marks.len() && is_kind(event.outcome, sent) {
+        if router < marks.len() && outcome_matches(event.outcome, sent) {
             marks[router] = true;
         }
     }
 }
 
 /// Takes the marks away of the routers that sent a copy on.
-fn unmark(marks: &mut [bool], events: &[Event])
+fn unmark_senders(marks: &mut [bool], events: &[Event])
     ensures count { length marks.new ≡ length marks.old }
     ensures marks { (router : ℕ) → router < length marks.old →
         slice_index_or marks.new router false
-        ≡ (slice_index_or marks.old router false && not (has true events.now router)) }
+        ≡ (slice_index_or marks.old router false && not (has_event true events.now router)) }
 {
     for event in events {
         let router = event.router.0 as usize;
-        if router < marks.len() && is_kind(event.outcome, true) {
+        if router < marks.len() && outcome_matches(event.outcome, true) {
             marks[router] = false;
         }
     }
@@ -76,10 +76,10 @@ fn add_router(
     router: RouterNo,
 ) -> Result<(), Memory>
     requires router { router < length listed.old }
-    requires listed { AreListed routers.old.items listed.old }
+    requires listed { AreMarksOfListed routers.old.items listed.old }
     ensures count { length listed.new ≡ length listed.old }
-    ensures routers { OnOk result (routers.new.items ≡ add_met routers.old.items (router ∷ [])) }
-    ensures listed { OnOk result (AreListed routers.new.items listed.new) }
+    ensures routers { OnOk result (routers.new.items ≡ append_new routers.old.items (router ∷ [])) }
+    ensures listed { OnOk result (AreMarksOfListed routers.new.items listed.new) }
 {
     let number = router.0 as usize;
     if !listed[number] {
@@ -91,45 +91,45 @@ fn add_router(
 
 /// The routers of a LAN are added.
 fn add_routers(
-    looking: &Looking<'_>,
+    lan_probe: &LanProbe<'_>,
     routers: &mut Vec<RouterNo>,
     listed: &mut [bool],
     lan: LanNo,
 ) -> Result<(), Memory>
-    requires looking { IsLooking looking.now }
-    requires lan { lan < length looking.now.view.now.domain.topology.lans }
-    requires listed { AreListed routers.old.items listed.old }
-    requires room { length looking.now.view.now.domain.topology.routers ≤ length listed.old }
+    requires lan_probe { IsLanProbe lan_probe.now }
+    requires lan { lan < length lan_probe.now.view.now.domain.topology.lans }
+    requires listed { AreMarksOfListed routers.old.items listed.old }
+    requires room { length lan_probe.now.view.now.domain.topology.routers ≤ length listed.old }
     ensures count { length listed.new ≡ length listed.old }
-    ensures routers { OnOk result (routers.new.items ≡ add_met routers.old.items
-        (map (λ g. g.0) (routers_on (search_in looking.now) lan))) }
-    ensures listed { OnOk result (AreListed routers.new.items listed.new) }
+    ensures routers { OnOk result (routers.new.items ≡ append_new routers.old.items
+        (map (λ g. g.0) (routers_on (search_in lan_probe.now) lan))) }
+    ensures listed { OnOk result (AreMarksOfListed routers.new.items listed.new) }
 {
-    for own in looking.routers_on(lan) {
+    for own in lan_probe.routers_on(lan) {
         add_router(routers, listed, own.router)?;
     }
     Ok(())
 }
 
 /// The routers of LANs, each once.
-fn routers_of(alloc: Global, looking: &Looking<'_>, lans: &[LanNo]) -> Result<Vec<RouterNo>, Memory>
-    requires looking { IsLooking looking.now }
-    requires lans { All (λ lan. lan < length looking.now.view.now.domain.topology.lans) lans.now }
+fn routers_of_lans(alloc: Global, lan_probe: &LanProbe<'_>, lans: &[LanNo]) -> Result<Vec<RouterNo>, Memory>
+    requires lan_probe { IsLanProbe lan_probe.now }
+    requires lans { All (λ lan. lan < length lan_probe.now.view.now.domain.topology.lans) lans.now }
     ensures routers { IfOk result (λ routers.
-        routers.items ≡ routers_of (search_in looking.now) lans.now) }
+        routers.items ≡ routers_of_lans (search_in lan_probe.now) lans.now) }
     ensures few { IfOk result (λ routers. All (λ router. router < 256) routers.items) }
 {
-    let _rules = looking.view.topology();
+    let _rules = lan_probe.view.topology();
     let mut listed = [false; MAX_ROUTERS];
     let mut routers = Vec::new(alloc);
     for lan in lans {
-        add_routers(looking, &mut routers, &mut listed, *lan)?;
+        add_routers(lan_probe, &mut routers, &mut listed, *lan)?;
     }
     Ok(routers)
 }
 
 /// The routers that are marked.
-fn marked(alloc: Global, routers: &[RouterNo], marks: &[bool]) -> Result<Vec<RouterNo>, Memory>
+fn marked_routers(alloc: Global, routers: &[RouterNo], marks: &[bool]) -> Result<Vec<RouterNo>, Memory>
     requires { All (λ router. router < length marks.now) routers.now }
     ensures { (p : ℕ → Bool) → AreMarksOf p marks.now →
         IfOk result (λ found. found.items ≡ filter p routers.now) }
@@ -152,30 +152,30 @@ fn reach_among(alloc: Global, routers: &[RouterNo], events: &[Event]) -> Result<
         reach.took_none.items ≡ took_none events.now routers.now) }
 {
     let mut sent = [false; MAX_ROUTERS];
-    mark(&mut sent, events, true);
+    mark_routers(&mut sent, events, true);
     let mut refused = [false; MAX_ROUTERS];
-    mark(&mut refused, events, false);
-    unmark(&mut refused, events);
+    mark_routers(&mut refused, events, false);
+    unmark_senders(&mut refused, events);
     Ok(Reach {
-        sent_on: marked(alloc, routers, &sent)?,
-        took_none: marked(alloc, routers, &refused)?,
+        sent_on: marked_routers(alloc, routers, &sent)?,
+        took_none: marked_routers(alloc, routers, &refused)?,
     })
 }
 
 /// Which routers of these LANs sent copies on, and which others took none.
 pub(crate) fn reach_of(
     alloc: Global,
-    looking: &Looking<'_>,
+    lan_probe: &LanProbe<'_>,
     lans: &[LanNo],
     events: &[Event],
 ) -> Result<Reach, Memory>
-    requires looking { IsLooking looking.now }
-    requires lans { All (λ lan. lan < length looking.now.view.now.domain.topology.lans) lans.now }
+    requires lan_probe { IsLanProbe lan_probe.now }
+    requires lans { All (λ lan. lan < length lan_probe.now.view.now.domain.topology.lans) lans.now }
     ensures sent_on { IfOk result (λ reach. reach.sent_on.items ≡
-        sent_on events.now (routers_of (search_in looking.now) lans.now)) }
+        sent_on events.now (routers_of_lans (search_in lan_probe.now) lans.now)) }
     ensures took_none { IfOk result (λ reach. reach.took_none.items ≡
-        took_none events.now (routers_of (search_in looking.now) lans.now)) }
+        took_none events.now (routers_of_lans (search_in lan_probe.now) lans.now)) }
 {
-    let routers = routers_of(alloc, looking, lans)?;
+    let routers = routers_of_lans(alloc, lan_probe, lans)?;
     reach_among(alloc, &routers, events)
 }

@@ -1,7 +1,7 @@
 //! The routers that have an interface on a LAN.
 
 ghost use Rattle.std.specs.Prelude.{◌≡◌, ◌≤◌, length};
-ghost use Rattle.mc_explain.specs.Numbered.{run};
+ghost use Rattle.mc_explain.specs.BucketsAndMarks.{leading_of_router};
 
 use crate::listed_interface::ListedInterface;
 use mc_topology::RouterNo;
@@ -9,12 +9,12 @@ use std::marker::Model;
 
 /// A router, and its interfaces on a LAN. Its value in contracts is the pair of both.
 #[derive(Drop)]
-pub(crate) struct OnLan<'a> {
+pub(crate) struct RouterOnLan<'a> {
     pub(crate) router: RouterNo,
     pub(crate) interfaces: &'a [ListedInterface],
 }
 
-impl<'a> Model for OnLan<'a> {
+impl<'a> Model for RouterOnLan<'a> {
     ghost use Rattle.std.specs.Prelude.{ℕ, List};
     ghost use Rattle.mc_explain.specs.declared.listed_interface.ListedInterface.{ListedInterface};
 
@@ -35,14 +35,14 @@ impl<'a> Model for RoutersOnLan<'a> {
 
     ghost Value = { List (ℕ × List ListedInterface) };
 
-    ghost use Rattle.mc_explain.specs.Searched.{groups};
+    ghost use Rattle.mc_explain.specs.SearchLine.{group_by_router};
 
-    ghost view = { λ s. groups s.left.now };
+    ghost view = { λ s. group_by_router s.left.now };
 }
 
 /// How many interfaces from the front are this router's.
-fn run(router: RouterNo, interfaces: &[ListedInterface]) -> usize
-    ensures { result ≡ run router interfaces.now }
+fn leading_of_router(router: RouterNo, interfaces: &[ListedInterface]) -> usize
+    ensures { result ≡ leading_of_router router interfaces.now }
 {
     for (index, interface) in interfaces.iter().enumerate() {
         if interface.router != router {
@@ -53,18 +53,18 @@ fn run(router: RouterNo, interfaces: &[ListedInterface]) -> usize
 }
 
 impl<'a> RoutersOnLan<'a> {
-    ghost use Rattle.mc_explain.specs.Searched.{groups};
+    ghost use Rattle.mc_explain.specs.SearchLine.{group_by_router};
 
     /// Those of these interfaces, which stand by router.
     pub(crate) fn new(all: &'a [ListedInterface]) -> RoutersOnLan<'a>
-        ensures { result ≡ groups all.now }
+        ensures { result ≡ group_by_router all.now }
     {
         RoutersOnLan { left: all }
     }
 }
 
 impl<'a> Iterator for RoutersOnLan<'a> {
-    type Item = OnLan<'a>;
+    type Item = RouterOnLan<'a>;
 
     ghost use Rattle.std.specs.Iterator.{YieldsFirst, item_count};
 
@@ -72,13 +72,13 @@ impl<'a> Iterator for RoutersOnLan<'a> {
 
     ghost remaining = { item_count (λ left. left) };
 
-    fn next(&mut self) -> Option<OnLan<'a>> {
+    fn next(&mut self) -> Option<RouterOnLan<'a>> {
         if self.left.is_empty() {
             return None;
         }
         let router = self.left[0].router;
-        let (interfaces, left) = self.left.split_at(run(router, self.left));
+        let (interfaces, left) = self.left.split_at(leading_of_router(router, self.left));
         self.left = left;
-        Some(OnLan { router, interfaces })
+        Some(RouterOnLan { router, interfaces })
     }
 }

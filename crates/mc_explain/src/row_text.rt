@@ -1,8 +1,8 @@
 //! A router's row as it is written.
 
 ghost use Rattle.std.specs.Prelude.{◌≡◌, Some};
-ghost use Rattle.mc_forward.specs.Domains.{pairs_of};
-ghost use Rattle.mc_forward.specs.Journeys.{net_in};
+ghost use Rattle.mc_forward.specs.Domains.{oif_pairs};
+ghost use Rattle.mc_forward.specs.FlightsInDomain.{net_in};
 ghost use Rattle.mc_forward.specs.ListedTables.{facts};
 ghost use Rattle.mc_explain.specs.RowText.{address_text, entry_text, incoming_text};
 ghost use Rattle.mc_explain.specs.RowText.{pair_text, pairs_text, row_text};
@@ -51,7 +51,7 @@ struct ShownOifs<'v> {
 
 impl<'v> fmt::Display for ShownOifs<'v> {
     ghost output = { λ shown. Some (pairs_text (facts shown.view.now.domain) shown.router
-        (pairs_of shown.oifs.now)) };
+        (oif_pairs shown.oifs.now)) };
 
     fn fmt<W: fmt::Write>(&self, f: &mut fmt::Formatter<W>) -> fmt::Result {
         if self.oifs.is_empty() {
@@ -107,7 +107,7 @@ pub(crate) struct ShownEntry<'v> {
 
 impl<'v> fmt::Display for ShownEntry<'v> {
     ghost output = { λ shown. Some (entry_text (facts shown.view.now.domain) shown.router
-        shown.source shown.group shown.incoming (pairs_of shown.oifs.now)) };
+        shown.source shown.group shown.incoming (oif_pairs shown.oifs.now)) };
 
     fn fmt<W: fmt::Write>(&self, f: &mut fmt::Formatter<W>) -> fmt::Result {
         let (view, router, oifs) = (self.view, self.router, self.oifs);

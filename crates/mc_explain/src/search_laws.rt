@@ -2,12 +2,12 @@
 
 ghost use Rattle.std.specs.Prelude.{◌≡◌, ◌<◌, ◌≤◌, ℕ, length};
 ghost use Rattle.mc_theory.specs.Lists.{Distinct, In};
-ghost use Rattle.mc_topology.specs.Rows.{InterfaceRow};
+ghost use Rattle.mc_topology.specs.SectionRows.{InterfaceRow};
 ghost use Rattle.mc_topology.specs.Topology.{IsIn};
 ghost use Rattle.mc_forward.specs.Domains.{DomainValue, IsDomain};
 ghost use Rattle.mc_forward.specs.ListedTables.{facts};
-ghost use Rattle.mc_explain.specs.SearchNames.{NameRouter};
-ghost use Rattle.mc_explain.specs.Searched.{Search, lans_of_search, met, search_lines};
+ghost use Rattle.mc_explain.specs.SearchNames.{NamesRouter};
+ghost use Rattle.mc_explain.specs.SearchLine.{Search, lans_of_search, visited_lans, search_lines};
 
 /// The LANs of a search are the missed one and those that are met from there, each once.
 pub fn a_search_ends()
@@ -21,7 +21,7 @@ pub fn a_search_ends()
     // and no more are met, however long the search goes on.
     ensures ends { (d : DomainValue) (s : Search) (missed looked : ℕ) → IsDomain d →
         s.domain ≡ facts d → missed < length d.topology.lans → length d.topology.lans ≤ looked →
-        met s missed looked ≡ lans_of_search s missed }
+        visited_lans s missed looked ≡ lans_of_search s missed }
 {}
 
 /// Each router that has an interface on a LAN of the search, by the topology, is named by a line that
@@ -29,5 +29,5 @@ pub fn a_search_ends()
 pub fn a_search_names_each_router()
     ensures { (d : DomainValue) (s : Search) (missed : ℕ) (i : InterfaceRow) → IsDomain d →
         s.domain ≡ facts d → IsIn d.topology.interfaces i → In i.lan (lans_of_search s missed) →
-        NameRouter i.lan i.router (search_lines s missed) }
+        NamesRouter i.lan i.router (search_lines s missed) }
 {}

@@ -4,46 +4,46 @@ ghost use Rattle.std.specs.Prelude.{◌≡◌, ◌<◌, ◌++◌, ◌==◌, ◌&
 ghost use Rattle.std.specs.Prelude.{flat_map, length, slice_get, take};
 ghost use Rattle.std.specs.String.{string_bytes};
 ghost use Rattle.mc_topology.specs.declared.flow.Flow.{Flow};
-ghost use Rattle.mc_forward.specs.Journeys.{net_in};
+ghost use Rattle.mc_forward.specs.FlightsInDomain.{net_in};
 ghost use Rattle.mc_forward.specs.ListedTables.{facts};
-ghost use Rattle.mc_explain.specs.LanStart.{IsStartOf};
+ghost use Rattle.mc_explain.specs.FirstEight.{IsFirstEightOf};
 ghost use Rattle.mc_explain.specs.SearchText.{carries_text, expected_text, from_no_lan_text};
-ghost use Rattle.mc_explain.specs.SearchText.{interface_text, line_text, lines_text, more_lines_text};
-ghost use Rattle.mc_explain.specs.SearchText.{no_lan_reason, of_lan, of_router, place_text, reach_text};
-ghost use Rattle.mc_explain.specs.SearchText.{routers_line, search_text, shown_text};
+ghost use Rattle.mc_explain.specs.SearchText.{interface_text, search_line_text, first_lines_text, more_lines_text};
+ghost use Rattle.mc_explain.specs.SearchText.{no_lan_reason, lan_line_text, router_line_text, lan_router_text, reach_text};
+ghost use Rattle.mc_explain.specs.SearchText.{routers_line, search_text, shown_line_text};
 ghost use Rattle.mc_explain.specs.ShownLines.{shown_lines};
-ghost use Rattle.mc_explain.specs.declared.searched.Searched.TheVariants.{DoesNotSend, FromUnplaced};
-ghost use Rattle.mc_explain.specs.declared.searched.Searched.TheVariants.{NotMulticast, NoVif};
-ghost use Rattle.mc_explain.specs.declared.searched.Searched.TheVariants.{EverySource, Stopped, WaitsFor};
+ghost use Rattle.mc_explain.specs.declared.search_line.SearchLine.TheVariants.{DoesNotSend, FromUnplaced};
+ghost use Rattle.mc_explain.specs.declared.search_line.SearchLine.TheVariants.{NotMulticast, NoVif};
+ghost use Rattle.mc_explain.specs.declared.search_line.SearchLine.TheVariants.{EverySource, Stopped, WaitsFor};
 
-use crate::device_text::{NO_DEVICE, ShownDevice, ShownName};
+use crate::device_text::{NO_DEVICE, ShownDevice, ShownDeviceName};
 use crate::every_source_row::ShownEverySource;
 use crate::reach::Reach;
-use crate::router_start::{RouterStart, ShownRouters};
+use crate::first_eight_routers::{FirstEightRouters, ShownRouters};
 use crate::row_text::{ShownIncoming, ShownRow};
-use crate::searched::Searched;
+use crate::search_line::SearchLine;
 use crate::searching::LanSearch;
 use crate::shown_line::{ShownLine, ShownLines};
 use mc_forward::{Domain, FlowView, RowFor};
-use mc_tables::{CacheNotes, Vif};
+use mc_tables::{CacheSummary, Vif};
 use mc_text::Memory;
 use mc_topology::{Flow, LanNo, RouterNo, Topology};
 use std::alloc::AllocError;
 use std::fmt;
 
 /// How many lines are shown at most.
-const MOST: usize = 40;
+const MAX_SHOWN_LINES: usize = 40;
 
 /// A LAN and a router on it, as `  l1: r1`.
 #[derive(Clone, Copy, Drop)]
-struct ShownPlace<'t> {
+struct ShownLanRouter<'t> {
     topology: &'t Topology,
     lan: LanNo,
     router: RouterNo,
 }
 
-impl<'t> fmt::Display for ShownPlace<'t> {
-    ghost output = { λ shown. Some (place_text shown.topology.now shown.lan shown.router) };
+impl<'t> fmt::Display for ShownLanRouter<'t> {
+    ghost output = { λ shown. Some (lan_router_text shown.topology.now shown.lan shown.router) };
 
     fn fmt<W: fmt::Write>(&self, f: &mut fmt::Formatter<W>) -> fmt::Result {
         let lan = self.topology.lan_name_or_empty(self.lan);
@@ -67,7 +67,7 @@ impl<'t> fmt::Display for ShownInterface<'t> {
             return Ok(());
         }
         let interface = self.topology.interface(self.interface);
-        let name = ShownName {
+        let name = ShownDeviceName {
             name: interface.device,
         };
         write!(f, "{name}")
@@ -92,12 +92,12 @@ fn no_lan_reason(vif: &Vif) -> &'static str
 /// Why the vif that a router's row takes from is placed on no LAN, as `a tunnel`. Nothing is written
 /// where `ShownRow` writes nothing.
 #[derive(Clone, Copy, Drop)]
-struct ShownNoLan<'v> {
+struct ShownNoLanReason<'v> {
     view: &'v FlowView<'v>,
     router: RouterNo,
 }
 
-impl<'v> fmt::Display for ShownNoLan<'v> {
+impl<'v> fmt::Display for ShownNoLanReason<'v> {
     ghost output = { λ shown. Some (from_no_lan_text (facts shown.view.now.domain) shown.router
         ((net_in shown.view.now).row shown.router)) };
 
@@ -137,28 +137,28 @@ impl fmt::Display for ShownMoreLines {
 /// What lines are written by: a flow, the same as the topology has it, and what is noted of each router's
 /// cache.
 #[derive(Clone, Copy, Drop)]
-struct Writing<'v> {
+struct LineContext<'v> {
     view: &'v FlowView<'v>,
     flow: &'v Flow,
-    notes: &'v [CacheNotes],
+    summary: &'v [CacheSummary],
 }
 
 /// Writes a line of a LAN alone.
-fn push_of_lan(
+fn push_lan_line(
     text: &mut String,
     topology: &Topology,
     lan: LanNo,
     what: &str,
 ) -> Result<(), AllocError>
     ensures { OnOk result (string_bytes text.new ≡ string_bytes text.old
-        ++ of_lan topology.now lan what.now) }
+        ++ lan_line_text topology.now lan what.now) }
 {
     let lan = topology.lan_name_or_empty(lan);
     writeln!(text, "  {lan}: {what}")
 }
 
 /// Writes a line of a router alone.
-fn push_of_router(
+fn push_router_line(
     text: &mut String,
     topology: &Topology,
     lan: LanNo,
@@ -166,9 +166,9 @@ fn push_of_router(
     what: &str,
 ) -> Result<(), AllocError>
     ensures { OnOk result (string_bytes text.new ≡ string_bytes text.old
-        ++ of_router topology.now lan router what.now) }
+        ++ router_line_text topology.now lan router what.now) }
 {
-    let place = ShownPlace {
+    let place = ShownLanRouter {
         topology,
         lan,
         router,
@@ -185,10 +185,10 @@ fn push_no_vif(
     interface: u32,
 ) -> Result<(), AllocError>
     ensures { OnOk result (string_bytes text.new ≡ string_bytes text.old
-        ++ (place_text topology.now lan router ++ (codes " has no vif for "
+        ++ (lan_router_text topology.now lan router ++ (codes " has no vif for "
         ++ (interface_text topology.now interface ++ codes "\n")))) }
 {
-    let place = ShownPlace {
+    let place = ShownLanRouter {
         topology,
         lan,
         router,
@@ -209,10 +209,10 @@ fn push_not_multicast(
     interface: u32,
 ) -> Result<(), AllocError>
     ensures { OnOk result (string_bytes text.new ≡ string_bytes text.old
-        ++ (place_text topology.now lan router ++ (codes " has "
+        ++ (lan_router_text topology.now lan router ++ (codes " has "
         ++ (interface_text topology.now interface ++ codes " as a tunnel or register vif\n")))) }
 {
-    let place = ShownPlace {
+    let place = ShownLanRouter {
         topology,
         lan,
         router,
@@ -227,24 +227,24 @@ fn push_not_multicast(
 /// Writes which row for every source a router has.
 fn push_every_source(
     text: &mut String,
-    by: &Writing<'_>,
+    context: &LineContext<'_>,
     lan: LanNo,
     router: RouterNo,
 ) -> Result<(), AllocError>
     ensures { OnOk result (string_bytes text.new ≡ string_bytes text.old
-        ++ line_text (facts by.now.view.now.domain) by.now.notes.now by.now.view.now.flow
-        by.now.flow.now (EverySource lan router)) }
+        ++ search_line_text (facts context.now.view.now.domain) context.now.summary.now context.now.view.now.flow
+        context.now.flow.now (EverySource lan router)) }
 {
-    let view = by.view;
-    let place = ShownPlace {
+    let view = context.view;
+    let place = ShownLanRouter {
         topology: view.topology(),
         lan,
         router,
     };
     let row = ShownEverySource {
         view,
-        notes: by.notes,
-        group: by.flow.group,
+        summary: context.summary,
+        group: context.flow.group,
         router,
     };
     writeln!(
@@ -256,23 +256,23 @@ fn push_every_source(
 /// Writes that a router's row takes from a vif that is placed on no LAN.
 fn push_from_unplaced(
     text: &mut String,
-    by: &Writing<'_>,
+    context: &LineContext<'_>,
     lan: LanNo,
     router: RouterNo,
 ) -> Result<(), AllocError>
     ensures { OnOk result (string_bytes text.new ≡ string_bytes text.old
-        ++ line_text (facts by.now.view.now.domain) by.now.notes.now by.now.view.now.flow by.now.flow.now
+        ++ search_line_text (facts context.now.view.now.domain) context.now.summary.now context.now.view.now.flow context.now.flow.now
         (FromUnplaced lan router)) }
 {
-    let (view, flow) = (by.view, by.flow);
+    let (view, flow) = (context.view, context.flow);
     let topology = view.topology();
-    let place = ShownPlace {
+    let place = ShownLanRouter {
         topology,
         lan,
         router,
     };
     let incoming = ShownIncoming { view, router };
-    let reason = ShownNoLan { view, router };
+    let reason = ShownNoLanReason { view, router };
     let row = ShownRow { view, flow, router };
     writeln!(text, "{place} expects it from {incoming}, {reason}: {row}")
 }
@@ -287,7 +287,7 @@ fn carries(carried: bool) -> &'static str
 /// Writes that a router's row doesn't send by a vif.
 fn push_does_not_send(
     text: &mut String,
-    by: &Writing<'_>,
+    context: &LineContext<'_>,
     lan: LanNo,
     router: RouterNo,
     vif: u8,
@@ -295,12 +295,12 @@ fn push_does_not_send(
     carried: bool,
 ) -> Result<(), AllocError>
     ensures { OnOk result (string_bytes text.new ≡ string_bytes text.old
-        ++ line_text (facts by.now.view.now.domain) by.now.notes.now by.now.view.now.flow by.now.flow.now
+        ++ search_line_text (facts context.now.view.now.domain) context.now.summary.now context.now.view.now.flow context.now.flow.now
         (DoesNotSend lan router vif from carried)) }
 {
-    let (view, flow) = (by.view, by.flow);
+    let (view, flow) = (context.view, context.flow);
     let topology = view.topology();
-    let place = ShownPlace {
+    let place = ShownLanRouter {
         topology,
         lan,
         router,
@@ -318,7 +318,7 @@ fn push_does_not_send(
 /// Writes by which threshold a copy is stopped.
 fn push_stopped(
     text: &mut String,
-    by: &Writing<'_>,
+    context: &LineContext<'_>,
     lan: LanNo,
     router: RouterNo,
     vif: u8,
@@ -326,11 +326,11 @@ fn push_stopped(
     ttl: u8,
 ) -> Result<(), AllocError>
     ensures { OnOk result (string_bytes text.new ≡ string_bytes text.old
-        ++ line_text (facts by.now.view.now.domain) by.now.notes.now by.now.view.now.flow by.now.flow.now
+        ++ search_line_text (facts context.now.view.now.domain) context.now.summary.now context.now.view.now.flow context.now.flow.now
         (Stopped lan router vif threshold ttl)) }
 {
-    let view = by.view;
-    let place = ShownPlace {
+    let view = context.view;
+    let place = ShownLanRouter {
         topology: view.topology(),
         lan,
         router,
@@ -345,19 +345,19 @@ fn push_stopped(
 /// Writes on which LAN a router waits for a copy.
 fn push_waits_for(
     text: &mut String,
-    by: &Writing<'_>,
+    context: &LineContext<'_>,
     lan: LanNo,
     router: RouterNo,
     vif: u8,
     from: LanNo,
 ) -> Result<(), AllocError>
     ensures { OnOk result (string_bytes text.new ≡ string_bytes text.old
-        ++ line_text (facts by.now.view.now.domain) by.now.notes.now by.now.view.now.flow by.now.flow.now
+        ++ search_line_text (facts context.now.view.now.domain) context.now.summary.now context.now.view.now.flow context.now.flow.now
         (WaitsFor lan router vif from)) }
 {
-    let (view, flow) = (by.view, by.flow);
+    let (view, flow) = (context.view, context.flow);
     let topology = view.topology();
-    let place = ShownPlace {
+    let place = ShownLanRouter {
         topology,
         lan,
         router,
@@ -373,104 +373,104 @@ fn push_expected(
     text: &mut String,
     topology: &Topology,
     lan: LanNo,
-    start: &RouterStart,
+    front: &FirstEightRouters,
 ) -> Result<(), AllocError>
-    ensures { (routers : List ℕ) → IsStartOf start.now routers → OnOk result (string_bytes text.new ≡
+    ensures { (routers : List ℕ) → IsFirstEightOf front.now routers → OnOk result (string_bytes text.new ≡
         string_bytes text.old ++ expected_text topology.now lan routers) }
 {
     let lan = topology.lan_name_or_empty(lan);
-    let routers = ShownRouters { start, topology };
+    let routers = ShownRouters { front, topology };
     writeln!(text, "  {lan}: expected from this LAN by{routers}")
 }
 
 /// Writes a line of a search.
-fn push_line(text: &mut String, by: &Writing<'_>, line: Searched) -> Result<(), AllocError>
+fn push_search_line(text: &mut String, context: &LineContext<'_>, line: SearchLine) -> Result<(), AllocError>
     ensures { OnOk result (string_bytes text.new ≡ string_bytes text.old
-        ++ line_text (facts by.now.view.now.domain) by.now.notes.now by.now.view.now.flow
-        by.now.flow.now line) }
+        ++ search_line_text (facts context.now.view.now.domain) context.now.summary.now context.now.view.now.flow
+        context.now.flow.now line) }
 {
-    let topology = by.view.topology();
+    let topology = context.view.topology();
     match line {
-        Searched::LeftOut { lan, router } => {
+        SearchLine::Excluded { lan, router } => {
             let what = "is left out: its tables are not known";
-            push_of_router(text, topology, lan, router, what)
+            push_router_line(text, topology, lan, router, what)
         }
-        Searched::NoVif {
+        SearchLine::NoVif {
             lan,
             router,
             interface,
         } => push_no_vif(text, topology, lan, router, interface),
-        Searched::NotMulticast {
+        SearchLine::NotMulticast {
             lan,
             router,
             interface,
         } => push_not_multicast(text, topology, lan, router, interface),
-        Searched::NoRow { lan, router } => {
+        SearchLine::NoRow { lan, router } => {
             let what = "has no row of this source and group";
-            push_of_router(text, topology, lan, router, what)
+            push_router_line(text, topology, lan, router, what)
         }
-        Searched::Unresolved { lan, router } => {
+        SearchLine::Unresolved { lan, router } => {
             let what = "has only an unresolved row (incoming interface -1): its routing daemon has \
                  not answered yet";
-            push_of_router(text, topology, lan, router, what)
+            push_router_line(text, topology, lan, router, what)
         }
-        Searched::EverySource { lan, router } => push_every_source(text, by, lan, router),
-        Searched::FromUnplaced { lan, router } => push_from_unplaced(text, by, lan, router),
-        Searched::DoesNotSend {
+        SearchLine::EverySource { lan, router } => push_every_source(text, context, lan, router),
+        SearchLine::FromUnplaced { lan, router } => push_from_unplaced(text, context, lan, router),
+        SearchLine::DoesNotSend {
             lan,
             router,
             vif,
             from,
             carried,
-        } => push_does_not_send(text, by, lan, router, vif, from, carried),
-        Searched::Stopped {
+        } => push_does_not_send(text, context, lan, router, vif, from, carried),
+        SearchLine::Stopped {
             lan,
             router,
             vif,
             threshold,
             ttl,
-        } => push_stopped(text, by, lan, router, vif, threshold, ttl),
-        Searched::WaitsFor {
+        } => push_stopped(text, context, lan, router, vif, threshold, ttl),
+        SearchLine::WaitsFor {
             lan,
             router,
             vif,
             from,
-        } => push_waits_for(text, by, lan, router, vif, from),
-        Searched::ExpectedFromHere { lan, router } => {
-            push_expected(text, topology, lan, &RouterStart::of(&[router]))
+        } => push_waits_for(text, context, lan, router, vif, from),
+        SearchLine::ExpectedFromHere { lan, router } => {
+            push_expected(text, topology, lan, &FirstEightRouters::of(&[router]))
         }
-        Searched::NoRouter { lan } => push_of_lan(text, topology, lan, "no router is on it"),
-        Searched::NoSender { lan } => {
-            push_of_lan(text, topology, lan, "no row of this source sends onto it")
+        SearchLine::NoRouter { lan } => push_lan_line(text, topology, lan, "no router is on it"),
+        SearchLine::NoSender { lan } => {
+            push_lan_line(text, topology, lan, "no row of this source sends onto it")
         }
     }
 }
 
 /// Writes a line of a search as it is shown.
-fn push_shown(text: &mut String, by: &Writing<'_>, line: &ShownLine<'_>) -> Result<(), AllocError>
+fn push_shown_line(text: &mut String, context: &LineContext<'_>, line: &ShownLine<'_>) -> Result<(), AllocError>
     ensures { OnOk result (string_bytes text.new ≡ string_bytes text.old
-        ++ shown_text (facts by.now.view.now.domain) by.now.notes.now by.now.view.now.flow by.now.flow.now
+        ++ shown_line_text (facts context.now.view.now.domain) context.now.summary.now context.now.view.now.flow context.now.flow.now
         line.now) }
 {
     match line {
-        ShownLine::One(line) => push_line(text, by, *line),
+        ShownLine::One(line) => push_search_line(text, context, *line),
         ShownLine::Expected { lan, routers } => {
-            push_expected(text, by.view.topology(), *lan, &routers.start())
+            push_expected(text, context.view.topology(), *lan, &routers.front())
         }
     }
 }
 
 /// Writes the first lines of a search. It answers how many lines there are.
-fn push_first(text: &mut String, by: &Writing<'_>, lines: &[Searched]) -> Result<usize, Memory>
+fn push_first_lines(text: &mut String, context: &LineContext<'_>, lines: &[SearchLine]) -> Result<usize, Memory>
     ensures text { OnOk result (string_bytes text.new ≡ string_bytes text.old
-        ++ flat_map (shown_text (facts by.now.view.now.domain) by.now.notes.now
-        by.now.view.now.flow by.now.flow.now) (take 40 (shown_lines lines.now))) }
+        ++ flat_map (shown_line_text (facts context.now.view.now.domain) context.now.summary.now
+        context.now.view.now.flow context.now.flow.now) (take 40 (shown_lines lines.now))) }
     ensures count { IfOk result (λ count. count ≡ length (shown_lines lines.now)) }
 {
     let mut count: usize = 0;
     for line in ShownLines::new(lines) {
-        if count < MOST {
-            push_shown(text, by, &line)?;
+        if count < MAX_SHOWN_LINES {
+            push_shown_line(text, context, &line)?;
         }
         count += 1;
     }
@@ -478,14 +478,14 @@ fn push_first(text: &mut String, by: &Writing<'_>, lines: &[Searched]) -> Result
 }
 
 /// Writes the lines of a search.
-fn push_lines(text: &mut String, by: &Writing<'_>, lines: &[Searched]) -> Result<(), Memory>
+fn push_shown_lines(text: &mut String, context: &LineContext<'_>, lines: &[SearchLine]) -> Result<(), Memory>
     ensures { OnOk result (string_bytes text.new ≡ string_bytes text.old
-        ++ lines_text (facts by.now.view.now.domain) by.now.notes.now by.now.view.now.flow by.now.flow.now
+        ++ first_lines_text (facts context.now.view.now.domain) context.now.summary.now context.now.view.now.flow context.now.flow.now
         (shown_lines lines.now)) }
 {
-    let count = push_first(text, by, lines)?;
+    let count = push_first_lines(text, context, lines)?;
     let more = ShownMoreLines {
-        more: count.saturating_sub(MOST),
+        more: count.saturating_sub(MAX_SHOWN_LINES),
     };
     write!(text, "{more}")?;
     Ok(())
@@ -504,16 +504,16 @@ fn push_routers(
     if routers.is_empty() {
         return Ok(());
     }
-    let start = RouterStart::of(routers);
+    let front = FirstEightRouters::of(routers);
     let routers = ShownRouters {
-        start: &start,
+        front: &front,
         topology,
     };
     writeln!(text, "{what}{routers}")
 }
 
 /// Whether a search comes to no router.
-fn is_nowhere(reach: &Reach) -> bool
+fn reaches_no_router(reach: &Reach) -> bool
     ensures { result ≡
         ((length reach.now.sent_on.items == 0) && (length reach.now.took_none.items == 0)) }
 {
@@ -525,7 +525,7 @@ fn push_reach(text: &mut String, topology: &Topology, reach: &Reach) -> Result<(
     ensures { OnOk result (string_bytes text.new ≡ string_bytes text.old
         ++ reach_text topology.now reach.now.sent_on.items reach.now.took_none.items) }
 {
-    if is_nowhere(reach) {
+    if reaches_no_router(reach) {
         return text.push_str("  it comes to no router of this search whose tables are known\n");
     }
     push_routers(text, topology, "  it gets as far as:", &reach.sent_on)?;
@@ -548,23 +548,23 @@ fn push_reach(text: &mut String, topology: &Topology, reach: &Reach) -> Result<(
 pub fn push_search(
     text: &mut String,
     domain: &Domain,
-    notes: &[CacheNotes],
+    summary: &[CacheSummary],
     flow: u32,
     search: &LanSearch,
 ) -> Result<(), Memory>
     requires flow { flow < length domain.now.topology.flows }
     ensures lines { OnOk result ((listed : Flow) → slice_get domain.now.topology.flows flow ≡ Some listed
         → string_bytes text.new ≡ string_bytes text.old
-        ++ search_text (facts domain.now) notes.now flow listed search.now.lines.items
+        ++ search_text (facts domain.now) summary.now flow listed search.now.lines.items
         search.now.reach.sent_on.items search.now.reach.took_none.items) }
 {
     let view = FlowView::new(domain, flow);
     let topology = domain.topology();
     push_reach(text, topology, &search.reach)?;
-    let by = Writing {
+    let context = LineContext {
         view: &view,
         flow: topology.flow(flow),
-        notes,
+        summary,
     };
-    push_lines(text, &by, &search.lines)
+    push_shown_lines(text, &context, &search.lines)
 }

@@ -3,23 +3,23 @@
 
 ghost use Rattle.std.specs.Prelude.{◌≡◌, ◌<◌, ◌++◌, All, IfOk, IfSome, OnOk, length};
 ghost use Rattle.std.specs.List.{filter_map};
-ghost use Rattle.mc_theory.specs.Findings.{copy_on};
+ghost use Rattle.mc_theory.specs.Findings.{first_copy_on};
 ghost use Rattle.mc_forward.specs.ListedTables.{facts};
-ghost use Rattle.mc_explain.specs.Looking.{IsLooking, search_in};
-ghost use Rattle.mc_explain.specs.Looking.{IsMet};
-ghost use Rattle.mc_explain.specs.Searched.{add_met, lead, leads_to, lines_of_lan, search_lines};
-ghost use Rattle.mc_explain.specs.Searched.{lans_of_search};
-ghost use Rattle.mc_explain.specs.TopologyLans.{on_lans};
-ghost use Rattle.mc_explain.specs.SearchReach.{IsSearched};
+ghost use Rattle.mc_explain.specs.LanProbe.{IsLanProbe, search_in};
+ghost use Rattle.mc_explain.specs.LanProbe.{IsVisitedLans};
+ghost use Rattle.mc_explain.specs.SearchLine.{append_new, next_lan, next_lans, lines_of_lan, search_lines};
+ghost use Rattle.mc_explain.specs.SearchLine.{lans_of_search};
+ghost use Rattle.mc_explain.specs.TopologyLans.{interfaces_on_lans};
+ghost use Rattle.mc_explain.specs.SearchReach.{IsLanSearch};
 
-use crate::firsts::Firsts;
+use crate::first_copies::FirstCopies;
 use crate::interfaces_of_lans::InterfacesOfLans;
-use crate::looking::Looking;
-use crate::met::Met;
+use crate::lan_probe::LanProbe;
+use crate::visited_lans::VisitedLans;
 use crate::reach::{Reach, reach_of};
-use crate::searched::Searched;
+use crate::search_line::SearchLine;
 use mc_forward::{Domain, Event, Flight, FlowView};
-use mc_tables::CacheNotes;
+use mc_tables::CacheSummary;
 use mc_text::Memory;
 use mc_topology::LanNo;
 use std::alloc::Global;
@@ -28,90 +28,90 @@ use std::alloc::Global;
 #[derive(Debug, Drop)]
 pub struct LanSearch {
     /// Its lines.
-    pub lines: Vec<Searched>,
+    pub lines: Vec<SearchLine>,
     /// How far the packet came among its routers.
     pub reach: Reach,
 }
 
 /// The LANs that lines lead to are met.
-fn follow(looking: &Looking<'_>, met: &mut Met, lines: &[Searched]) -> Result<(), Memory>
-    requires looking { IsLooking looking.now }
-    requires met { IsMet (length looking.now.view.now.domain.topology.lans) met.old }
-    requires lines { All (λ line. IfSome (lead (search_in looking.now) line)
-        (λ lan. lan < length looking.now.view.now.domain.topology.lans)) lines.now }
-    ensures lans { OnOk result (met.new.lans.items ≡
-        add_met met.old.lans.items (filter_map (lead (search_in looking.now)) lines.now)) }
-    ensures met { OnOk result (IsMet (length looking.now.view.now.domain.topology.lans) met.new) }
+fn add_next_lans(lan_probe: &LanProbe<'_>, visited_lans: &mut VisitedLans, lines: &[SearchLine]) -> Result<(), Memory>
+    requires lan_probe { IsLanProbe lan_probe.now }
+    requires visited_lans { IsVisitedLans (length lan_probe.now.view.now.domain.topology.lans) visited_lans.old }
+    requires lines { All (λ line. IfSome (next_lan (search_in lan_probe.now) line)
+        (λ lan. lan < length lan_probe.now.view.now.domain.topology.lans)) lines.now }
+    ensures lans { OnOk result (visited_lans.new.lans.items ≡
+        append_new visited_lans.old.lans.items (filter_map (next_lan (search_in lan_probe.now)) lines.now)) }
+    ensures visited_lans { OnOk result (IsVisitedLans (length lan_probe.now.view.now.domain.topology.lans) visited_lans.new) }
 {
     for line in lines {
-        if let Some(lan) = looking.lead(line) {
-            met.add(lan)?;
+        if let Some(lan) = lan_probe.next_lan(line) {
+            visited_lans.add(lan)?;
         }
     }
     Ok(())
 }
 
 /// Looks at a LAN that was met.
-fn look_at(
-    looking: &Looking<'_>,
-    told: &mut Vec<Searched>,
-    met: &mut Met,
+fn search_one_lan(
+    lan_probe: &LanProbe<'_>,
+    lines_so_far: &mut Vec<SearchLine>,
+    visited_lans: &mut VisitedLans,
     lan: LanNo,
 ) -> Result<(), Memory>
-    requires looking { IsLooking looking.now }
-    requires met { IsMet (length looking.now.view.now.domain.topology.lans) met.old }
-    requires lan { lan < length looking.now.view.now.domain.topology.lans }
-    ensures told { OnOk result (told.new.items ≡
-        told.old.items ++ lines_of_lan (search_in looking.now) lan) }
-    ensures lans { OnOk result (met.new.lans.items ≡
-        add_met met.old.lans.items (leads_to (search_in looking.now) lan)) }
-    ensures met { OnOk result (IsMet (length looking.now.view.now.domain.topology.lans) met.new) }
+    requires lan_probe { IsLanProbe lan_probe.now }
+    requires visited_lans { IsVisitedLans (length lan_probe.now.view.now.domain.topology.lans) visited_lans.old }
+    requires lan { lan < length lan_probe.now.view.now.domain.topology.lans }
+    ensures lines_so_far { OnOk result (lines_so_far.new.items ≡
+        lines_so_far.old.items ++ lines_of_lan (search_in lan_probe.now) lan) }
+    ensures lans { OnOk result (visited_lans.new.lans.items ≡
+        append_new visited_lans.old.lans.items (next_lans (search_in lan_probe.now) lan)) }
+    ensures visited_lans { OnOk result (IsVisitedLans (length lan_probe.now.view.now.domain.topology.lans) visited_lans.new) }
 {
-    let _rules = looking.view.topology();
-    let before = told.len();
-    looking.tell_lan(told, lan)?;
-    follow(looking, met, &told[before..])
+    let _rules = lan_probe.view.topology();
+    let before = lines_so_far.len();
+    lan_probe.add_lan_lines(lines_so_far, lan)?;
+    add_next_lans(lan_probe, visited_lans, &lines_so_far[before..])
 }
 
 /// All that is told of a LAN and of those that it leads to, and which these are.
-fn search_from(
+fn search_lans(
     alloc: Global,
-    looking: &Looking<'_>,
+    lan_probe: &LanProbe<'_>,
     missed: LanNo,
-) -> Result<(Vec<Searched>, Met), Memory>
-    requires looking { IsLooking looking.now }
-    requires missed { missed < length looking.now.view.now.domain.topology.lans }
+) -> Result<(Vec<SearchLine>, VisitedLans), Memory>
+    requires lan_probe { IsLanProbe lan_probe.now }
+    requires missed { missed < length lan_probe.now.view.now.domain.topology.lans }
     ensures lines { IfOk result (λ found.
-        found.0.items ≡ search_lines (search_in looking.now) missed) }
+        found.0.items ≡ search_lines (search_in lan_probe.now) missed) }
     ensures lans { IfOk result (λ found.
-        found.1.lans.items ≡ lans_of_search (search_in looking.now) missed) }
-    ensures met { IfOk result (λ found.
-        IsMet (length looking.now.view.now.domain.topology.lans) found.1) }
+        found.1.lans.items ≡ lans_of_search (search_in lan_probe.now) missed) }
+    ensures visited_lans { IfOk result (λ found.
+        IsVisitedLans (length lan_probe.now.view.now.domain.topology.lans) found.1) }
 {
-    let lans = looking.view.lans();
-    let mut met = Met::new(alloc, lans, missed)?;
-    let mut told = Vec::new(alloc);
-    for turn in 0..lans {
-        if let Some(lan) = met.at(turn) {
-            look_at(looking, &mut told, &mut met, lan)?;
+    let lans = lan_probe.view.lans();
+    let mut visited_lans = VisitedLans::new(alloc, lans, missed)?;
+    let mut lines_so_far = Vec::new(alloc);
+    for position in 0..lans {
+        if let Some(lan) = visited_lans.at(position) {
+            search_one_lan(lan_probe, &mut lines_so_far, &mut visited_lans, lan)?;
         }
     }
-    Ok((told, met))
+    Ok((lines_so_far, visited_lans))
 }
 
 /// The same, and what it comes to.
-fn search_all(
+fn search_with_reach(
     alloc: Global,
-    looking: &Looking<'_>,
+    lan_probe: &LanProbe<'_>,
     events: &[Event],
     missed: LanNo,
 ) -> Result<LanSearch, Memory>
-    requires looking { IsLooking looking.now }
-    requires missed { missed < length looking.now.view.now.domain.topology.lans }
-    ensures { IfOk result (IsSearched (search_in looking.now) events.now missed) }
+    requires lan_probe { IsLanProbe lan_probe.now }
+    requires missed { missed < length lan_probe.now.view.now.domain.topology.lans }
+    ensures { IfOk result (IsLanSearch (search_in lan_probe.now) events.now missed) }
 {
-    let (lines, met) = search_from(alloc, looking, missed)?;
-    let reach = reach_of(alloc, looking, met.lans(), events)?;
+    let (lines, visited_lans) = search_lans(alloc, lan_probe, missed)?;
+    let reach = reach_of(alloc, lan_probe, visited_lans.lans(), events)?;
     Ok(LanSearch { lines, reach })
 }
 
@@ -127,8 +127,8 @@ fn search_all(
 pub fn search(
     alloc: Global,
     domain: &Domain,
-    notes: &[CacheNotes],
-    left_out: &[bool],
+    summary: &[CacheSummary],
+    excluded: &[bool],
     interfaces: &InterfacesOfLans,
     flight: &Flight<'_>,
     events: &[Event],
@@ -136,26 +136,26 @@ pub fn search(
     missed: LanNo,
 ) -> Result<LanSearch, Memory>
     requires flow { flow < length domain.now.topology.flows }
-    requires interfaces { interfaces.now ≡ on_lans (facts domain.now) }
+    requires interfaces { interfaces.now ≡ interfaces_on_lans (facts domain.now) }
     requires flight { flight.now.domain ≡ domain.now }
     requires missed { missed < length domain.now.topology.lans }
-    ensures { IfOk result (IsSearched (record {
+    ensures { IfOk result (IsLanSearch (record {
       domain = facts domain.now;
       flow = flow;
-      notes = notes.now;
-      left_out = left_out.now;
-      copy_on = copy_on flight.now.flight.carried;
+      summary = summary.now;
+      excluded = excluded.now;
+      first_copy_on = first_copy_on flight.now.flight.carried;
     }) events.now missed) }
 {
     let view = FlowView::new(domain, flow);
-    let firsts = Firsts::new(alloc, &view, flight.copies())?;
-    let looking = Looking {
+    let first_copies = FirstCopies::new(alloc, &view, flight.copies())?;
+    let lan_probe = LanProbe {
         view: &view,
         flow: domain.topology().flow(flow),
-        notes,
-        left_out,
+        summary,
+        excluded,
         interfaces,
-        firsts: &firsts,
+        first_copies: &first_copies,
     };
-    search_all(alloc, &looking, events, missed)
+    search_with_reach(alloc, &lan_probe, events, missed)
 }

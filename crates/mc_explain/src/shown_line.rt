@@ -2,11 +2,11 @@
 //! a copy are one.
 
 ghost use Rattle.std.specs.Prelude.{◌≡◌};
-ghost use Rattle.mc_explain.specs.ExpectingRouters.{expects_from, run};
-ghost use Rattle.mc_explain.specs.LanStart.{IsStartOf};
+ghost use Rattle.mc_explain.specs.ExpectingRouters.{expects_from, leading_expected};
+ghost use Rattle.mc_explain.specs.FirstEight.{IsFirstEightOf};
 
-use crate::router_start::RouterStart;
-use crate::searched::Searched;
+use crate::first_eight_routers::FirstEightRouters;
+use crate::search_line::SearchLine;
 use mc_topology::{LanNo, RouterNo};
 use std::marker::Model;
 
@@ -14,7 +14,7 @@ use std::marker::Model;
 /// of those that are left.
 #[derive(Debug, Drop)]
 pub struct ExpectingRouters<'s> {
-    lines: &'s [Searched],
+    lines: &'s [SearchLine],
 }
 
 impl<'s> Model for ExpectingRouters<'s> {
@@ -30,7 +30,7 @@ impl<'s> Model for ExpectingRouters<'s> {
 #[derive(Debug, Drop)]
 pub enum ShownLine<'s> {
     /// One that stands alone.
-    One(Searched),
+    One(SearchLine),
     /// Which routers have a row that takes from the LAN.
     Expected {
         /// The LAN.
@@ -43,7 +43,7 @@ pub enum ShownLine<'s> {
 /// The lines of a search as they are shown. Its value in contracts is the list of those that are left.
 #[derive(Debug, Drop)]
 pub struct ShownLines<'s> {
-    left: &'s [Searched],
+    left: &'s [SearchLine],
 }
 
 impl<'s> Model for ShownLines<'s> {
@@ -57,18 +57,18 @@ impl<'s> Model for ShownLines<'s> {
 }
 
 /// Whether a line tells of a router that expects a copy from this LAN.
-fn expects_from(line: &Searched, lan: LanNo) -> bool
+fn expects_from(line: &SearchLine, lan: LanNo) -> bool
     ensures { result ≡ expects_from lan line.now }
 {
     match *line {
-        Searched::ExpectedFromHere { lan: own, .. } => own == lan,
+        SearchLine::ExpectedFromHere { lan: own, .. } => own == lan,
         _ => false,
     }
 }
 
 /// How many lines from the front tell so.
-fn run(lines: &[Searched], lan: LanNo) -> usize
-    ensures { result ≡ run lan lines.now }
+fn leading_expected(lines: &[SearchLine], lan: LanNo) -> usize
+    ensures { result ≡ leading_expected lan lines.now }
 {
     for (index, line) in lines.iter().enumerate() {
         if !expects_from(line, lan) {
@@ -80,16 +80,16 @@ fn run(lines: &[Searched], lan: LanNo) -> usize
 
 impl<'s> ExpectingRouters<'s> {
     /// The front of their list.
-    pub(crate) fn start(&self) -> RouterStart
-        ensures { IsStartOf result self.now }
+    pub(crate) fn front(&self) -> FirstEightRouters
+        ensures { IsFirstEightOf result self.now }
     {
-        let mut start = RouterStart::new();
+        let mut front = FirstEightRouters::new();
         for line in self.lines {
-            if let Searched::ExpectedFromHere { router, .. } = *line {
-                start.add(router);
+            if let SearchLine::ExpectedFromHere { router, .. } = *line {
+                front.add(router);
             }
         }
-        start
+        front
     }
 }
 
@@ -105,7 +105,7 @@ impl<'s> Iterator for ExpectingRouters<'s> {
     fn next(&mut self) -> Option<RouterNo> {
         let lines = self.lines;
         for (index, line) in lines.iter().enumerate() {
-            if let Searched::ExpectedFromHere { router, .. } = *line {
+            if let SearchLine::ExpectedFromHere { router, .. } = *line {
                 self.lines = &lines[index + 1..];
                 return Some(router);
             }
@@ -119,7 +119,7 @@ impl<'s> ShownLines<'s> {
     ghost use Rattle.mc_explain.specs.ShownLines.{shown_lines};
 
     /// Those of all lines of a search.
-    pub fn new(lines: &'s [Searched]) -> ShownLines<'s>
+    pub fn new(lines: &'s [SearchLine]) -> ShownLines<'s>
         ensures { result ≡ shown_lines lines.now }
     {
         ShownLines { left: lines }
@@ -139,8 +139,8 @@ impl<'s> Iterator for ShownLines<'s> {
         if self.left.is_empty() {
             return None;
         }
-        if let Searched::ExpectedFromHere { lan, .. } = self.left[0] {
-            let (lines, left) = self.left.split_at(run(self.left, lan));
+        if let SearchLine::ExpectedFromHere { lan, .. } = self.left[0] {
+            let (lines, left) = self.left.split_at(leading_expected(self.left, lan));
             self.left = left;
             let routers = ExpectingRouters { lines };
             return Some(ShownLine::Expected { lan, routers });

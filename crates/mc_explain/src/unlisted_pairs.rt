@@ -5,18 +5,18 @@ ghost use Rattle.std.specs.Prelude.{◌≡◌, ◌≤◌, ◌*◌, ◌+◌, [], 
 ghost use Rattle.std.specs.Prelude.{sum_by};
 ghost use Rattle.std.specs.List.Sorted.{IsStrictlySortedBy};
 ghost use Rattle.mc_tables.specs.CacheTable.{key_cmp};
-ghost use Rattle.mc_tables.specs.Notes.{in_order, shown_pairs};
-ghost use Rattle.mc_explain.specs.UnlistedPairs.{AreUnlisted, put_last, with_below, with_routers};
-ghost use Rattle.mc_explain.specs.UnlistedText.{lowest_of, pairs_in, rows_of};
+ghost use Rattle.mc_tables.specs.Summary.{in_order, shown_pairs};
+ghost use Rattle.mc_explain.specs.UnlistedPairs.{AreUnlistedPairs, push_unless_last, with_routers_below, with_routers};
+ghost use Rattle.mc_explain.specs.UnlistedText.{shown_unlisted_pairs, pairs_in, count_unlisted_rows};
 
-use mc_tables::CacheNotes;
+use mc_tables::CacheSummary;
 use mc_text::{Addr, Memory};
 use mc_topology::{RouterNo, Topology};
 use std::alloc::Global;
 use std::marker::Model;
 
 /// How many pairs are shown at most, where not all are.
-const MOST: usize = 20;
+const MAX_SHOWN_PAIRS: usize = 20;
 
 /// A pair of a group and a source that is no flow's, and the routers that have a row of it. Its value in
 /// contracts is the pair of both.
@@ -59,7 +59,7 @@ impl UnlistedPair {
 
     /// A router more has it, if it isn't the last one.
     fn add(&mut self, router: RouterNo) -> Result<(), Memory>
-        ensures { OnOk result (self.new ≡ (self.old.0, put_last router self.old.1)) }
+        ensures { OnOk result (self.new ≡ (self.old.0, push_unless_last router self.old.1)) }
     {
         let is_last = match self.routers.last() {
             Some(last) => *last == router,
@@ -88,17 +88,17 @@ fn shown_pairs(mut pairs: Vec<(Addr, Addr)>, all: bool) -> Vec<(Addr, Addr)>
     pairs.sort_unstable();
     pairs.dedup();
     if !all {
-        pairs.truncate(MOST);
+        pairs.truncate(MAX_SHOWN_PAIRS);
     }
     pairs
 }
 
 /// The pairs that are shown of all routers.
-fn lowest_of(alloc: Global, notes: &[CacheNotes], all: bool) -> Result<Vec<(Addr, Addr)>, Memory>
-    ensures { IfOk result (λ pairs. pairs.items ≡ lowest_of all notes.now) }
+fn shown_unlisted_pairs(alloc: Global, summary: &[CacheSummary], all: bool) -> Result<Vec<(Addr, Addr)>, Memory>
+    ensures { IfOk result (λ pairs. pairs.items ≡ shown_unlisted_pairs all summary.now) }
 {
     let mut pairs = Vec::new(alloc);
-    for own in notes {
+    for own in summary {
         pairs.extend_from_slice(own.lowest_unlisted())?;
     }
     Ok(shown_pairs(pairs, all))
@@ -120,10 +120,10 @@ fn without_routers(alloc: Global, pairs: &[(Addr, Addr)]) -> Result<Vec<Unlisted
 }
 
 /// The pairs that a router's notes have.
-fn pairs_in<'n>(notes: &'n [CacheNotes], router: RouterNo) -> &'n [(Addr, Addr)]
-    ensures { result.now ≡ pairs_in (slice_get notes.now router) }
+fn pairs_in<'n>(summary: &'n [CacheSummary], router: RouterNo) -> &'n [(Addr, Addr)]
+    ensures { result.now ≡ pairs_in (slice_get summary.now router) }
 {
-    match notes.get(router.0 as usize) {
+    match summary.get(router.0 as usize) {
         Some(own) => own.lowest_unlisted(),
         None => &[],
     }
@@ -133,14 +133,14 @@ fn pairs_in<'n>(notes: &'n [CacheNotes], router: RouterNo) -> &'n [(Addr, Addr)]
 fn add_router(
     shown: &mut Vec<UnlistedPair>,
     pairs: &[(Addr, Addr)],
-    notes: &[CacheNotes],
+    summary: &[CacheSummary],
     router: RouterNo,
 ) -> Result<(), Memory>
     requires ascend { IsStrictlySortedBy key_cmp pairs.now }
-    requires shown { shown.old.items ≡ map (with_below notes.now router) pairs.now }
-    ensures { OnOk result (shown.new.items ≡ map (with_below notes.now (router + 1)) pairs.now) }
+    requires shown { shown.old.items ≡ map (with_routers_below summary.now router) pairs.now }
+    ensures { OnOk result (shown.new.items ≡ map (with_routers_below summary.now (router + 1)) pairs.now) }
 {
-    let own = pairs_in(notes, router);
+    let own = pairs_in(summary, router);
     for pair in own {
         if let Ok(place) = pairs.binary_search(pair) {
             shown[place].add(router)?;
@@ -153,22 +153,22 @@ fn add_router(
 fn with_routers(
     alloc: Global,
     topology: &Topology,
-    notes: &[CacheNotes],
+    summary: &[CacheSummary],
     pairs: &[(Addr, Addr)],
 ) -> Result<Vec<UnlistedPair>, Memory>
     requires { IsStrictlySortedBy key_cmp pairs.now }
     ensures { IfOk result (λ shown.
-        shown.items ≡ map (with_routers topology.now notes.now) pairs.now) }
+        shown.items ≡ map (with_routers topology.now summary.now) pairs.now) }
 {
     let mut shown = without_routers(alloc, pairs)?;
     for number in 0..topology.routers() {
-        add_router(&mut shown, pairs, notes, RouterNo(number))?;
+        add_router(&mut shown, pairs, summary, RouterNo(number))?;
     }
     Ok(shown)
 }
 
 /// How many rows these pairs have.
-fn rows_told(shown: &[UnlistedPair]) -> u128
+fn count_rows_of_pairs(shown: &[UnlistedPair]) -> u128
     ensures { result ≡ sum_by (λ pair. length pair.1) shown.now }
 {
     let mut rows = 0;
@@ -179,13 +179,13 @@ fn rows_told(shown: &[UnlistedPair]) -> u128
 }
 
 /// How many rows the notes of all routers count.
-fn rows_of(notes: &[CacheNotes]) -> u128
-    ensures rows { result ≡ rows_of notes.now }
-    ensures few { result ≤ length notes.now * 4294967295 }
+fn count_unlisted_rows(summary: &[CacheSummary]) -> u128
+    ensures rows { result ≡ count_unlisted_rows summary.now }
+    ensures few { result ≤ length summary.now * 4294967295 }
 {
     let mut rows = 0;
-    for own in notes {
-        rows += u128::from(own.unlisted_rows());
+    for own in summary {
+        rows += u128::from(own.unlisted_count());
     }
     rows
 }
@@ -201,14 +201,14 @@ impl UnlistedPairs {
     pub fn new(
         alloc: Global,
         topology: &Topology,
-        notes: &[CacheNotes],
+        summary: &[CacheSummary],
         all: bool,
     ) -> Result<UnlistedPairs, Memory>
-        ensures { IfOk result (AreUnlisted all topology.now notes.now) }
+        ensures { IfOk result (AreUnlistedPairs all topology.now summary.now) }
     {
-        let pairs = lowest_of(alloc, notes, all)?;
-        let shown = with_routers(alloc, topology, notes, &pairs)?;
-        let further = rows_of(notes).saturating_sub(rows_told(&shown));
+        let pairs = shown_unlisted_pairs(alloc, summary, all)?;
+        let shown = with_routers(alloc, topology, summary, &pairs)?;
+        let further = count_unlisted_rows(summary).saturating_sub(count_rows_of_pairs(&shown));
         Ok(UnlistedPairs { shown, further })
     }
 }

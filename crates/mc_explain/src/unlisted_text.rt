@@ -3,11 +3,11 @@
 ghost use Rattle.std.specs.Prelude.{◌≡◌, ◌++◌, OnOk, Some, flat_map};
 ghost use Rattle.std.specs.String.{string_bytes};
 ghost use Rattle.mc_explain.specs.UnlistedText.{byte_order_text, further_text, is_multicast};
-ghost use Rattle.mc_explain.specs.UnlistedText.{line_of_pair, unlisted_text};
+ghost use Rattle.mc_explain.specs.UnlistedText.{unlisted_pair_text, unlisted_text};
 
-use crate::router_start::{RouterStart, ShownRouters};
+use crate::first_eight_routers::{FirstEightRouters, ShownRouters};
 use crate::unlisted_pairs::{UnlistedPair, UnlistedPairs};
-use mc_tables::CacheNotes;
+use mc_tables::CacheSummary;
 use mc_text::{Addr, Memory};
 use mc_topology::Topology;
 use std::alloc::{AllocError, Global};
@@ -22,11 +22,11 @@ fn is_multicast(group: Addr) -> bool
 
 /// What is asked where a group can't be one, as a line.
 #[derive(Clone, Copy, Drop)]
-struct ShownQuestion {
+struct ShownByteOrderQuestion {
     group: Addr,
 }
 
-impl fmt::Display for ShownQuestion {
+impl fmt::Display for ShownByteOrderQuestion {
     ghost output = { λ shown. Some (byte_order_text shown.group) };
 
     fn fmt<W: fmt::Write>(&self, f: &mut fmt::Formatter<W>) -> fmt::Result {
@@ -62,17 +62,17 @@ impl fmt::Display for ShownFurther {
 /// Writes which routers have a pair.
 fn push_pair(text: &mut String, topology: &Topology, pair: &UnlistedPair) -> Result<(), AllocError>
     ensures { OnOk result (string_bytes text.new ≡
-        string_bytes text.old ++ line_of_pair topology.now pair.now.0 pair.now.1) }
+        string_bytes text.old ++ unlisted_pair_text topology.now pair.now.0 pair.now.1) }
 {
-    let start = RouterStart::of(pair.routers());
-    let count = start.count();
+    let front = FirstEightRouters::of(pair.routers());
+    let count = front.count();
     let routers = ShownRouters {
-        start: &start,
+        front: &front,
         topology,
     };
     let group = pair.group();
     let source = pair.source();
-    let question = ShownQuestion { group };
+    let question = ShownByteOrderQuestion { group };
     write!(
         text,
         "unlisted {source} {group} routers {count}:{routers}\n{question}"
@@ -86,7 +86,7 @@ fn push_pairs(
     pairs: &[UnlistedPair],
 ) -> Result<(), AllocError>
     ensures { OnOk result (string_bytes text.new ≡ string_bytes text.old
-        ++ flat_map (λ pair. line_of_pair topology.now pair.0 pair.1) pairs.now) }
+        ++ flat_map (λ pair. unlisted_pair_text topology.now pair.0 pair.1) pairs.now) }
 {
     for pair in pairs {
         push_pair(text, topology, pair)?;
@@ -105,13 +105,13 @@ pub fn push_unlisted(
     alloc: Global,
     text: &mut String,
     topology: &Topology,
-    notes: &[CacheNotes],
+    summary: &[CacheSummary],
     all: bool,
 ) -> Result<(), Memory>
     ensures lines { OnOk result (string_bytes text.new ≡
-        string_bytes text.old ++ unlisted_text all topology.now notes.now) }
+        string_bytes text.old ++ unlisted_text all topology.now summary.now) }
 {
-    let unlisted = UnlistedPairs::new(alloc, topology, notes, all)?;
+    let unlisted = UnlistedPairs::new(alloc, topology, summary, all)?;
     push_pairs(text, topology, &unlisted.shown)?;
     let further = ShownFurther {
         more: unlisted.further,

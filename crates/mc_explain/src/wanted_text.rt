@@ -6,13 +6,13 @@ ghost use Rattle.std.specs.String.{string_bytes};
 ghost use Rattle.mc_forward.specs.ListedTables.{facts};
 ghost use Rattle.mc_theory.specs.Lists.{below};
 ghost use Rattle.mc_theory.specs.Flights.{Copy};
-ghost use Rattle.mc_theory.specs.Findings.{copy_on};
-ghost use Rattle.mc_explain.specs.LanStart.{AreMarked, IsStartOf};
-ghost use Rattle.mc_explain.specs.WantedText.{is_missed_too, missed_too, missed_too_line};
-ghost use Rattle.mc_explain.specs.WantedText.{wanted_line, wanting};
+ghost use Rattle.mc_theory.specs.Findings.{first_copy_on};
+ghost use Rattle.mc_explain.specs.FirstEight.{AreMarksOfCopies, IsFirstEightOf};
+ghost use Rattle.mc_explain.specs.WantedText.{is_also_missed, also_missed, also_missed_line};
+ghost use Rattle.mc_explain.specs.WantedText.{wanted_line, lans_wanting};
 
-use crate::lan_start::{LanStart, ShownStart};
-use mc_forward::{Carried, Domain, Flight, FlowView};
+use crate::first_eight::{FirstEight, ShownLans};
+use mc_forward::{CarriedCopy, Domain, Flight, FlowView};
 use mc_text::Memory;
 use mc_topology::LanNo;
 
@@ -20,26 +20,26 @@ use mc_topology::LanNo;
 const MAX_LANS: usize = 1024;
 
 /// The LANs that want a flow.
-fn wanting(view: &FlowView<'_>) -> LanStart
-    ensures { IsStartOf result (wanting (facts view.now.domain) view.now.flow) }
+fn lans_wanting(view: &FlowView<'_>) -> FirstEight
+    ensures { IsFirstEightOf result (lans_wanting (facts view.now.domain) view.now.flow) }
 {
-    let mut start = LanStart::new();
+    let mut front = FirstEight::new();
     for number in 0..view.lans() {
         let lan = LanNo(number);
         if view.wants(lan) {
-            start.add(lan);
+            front.add(lan);
         }
     }
-    start
+    front
 }
 
 /// How many LANs want the flow with this number.
 pub fn count_wanted(domain: &Domain, flow: u32) -> u32
     requires flow { flow < length domain.now.topology.flows }
-    ensures count { result ≡ length (wanting (facts domain.now) flow) }
+    ensures count { result ≡ length (lans_wanting (facts domain.now) flow) }
 {
     let view = FlowView::new(domain, flow);
-    wanting(&view).count()
+    lans_wanting(&view).count()
 }
 
 /// Writes which LANs want the flow with this number, the first 8 of them by their names. It answers
@@ -52,16 +52,16 @@ pub fn push_wanted(text: &mut String, domain: &Domain, flow: u32) -> Result<u32,
     requires flow { flow < length domain.now.topology.flows }
     ensures line { OnOk result (string_bytes text.new ≡
         string_bytes text.old ++ wanted_line (facts domain.now) flow) }
-    ensures count { IfOk result (λ count. count ≡ length (wanting (facts domain.now) flow)) }
+    ensures count { IfOk result (λ count. count ≡ length (lans_wanting (facts domain.now) flow)) }
 {
     let view = FlowView::new(domain, flow);
-    let start = wanting(&view);
-    let count = start.count();
+    let front = lans_wanting(&view);
+    let count = front.count();
     if count == 0 {
         text.push_str("  wanted 0: no report asks for it\n")?;
     } else {
-        let lans = ShownStart {
-            start: &start,
+        let lans = ShownLans {
+            front: &front,
             topology: view.topology(),
         };
         writeln!(text, "  wanted {count}:{lans}")?;
@@ -70,11 +70,11 @@ pub fn push_wanted(text: &mut String, domain: &Domain, flow: u32) -> Result<u32,
 }
 
 /// Marks the LANs of copies.
-fn mark(marks: &mut [bool], copies: &[Carried])
+fn mark_lans(marks: &mut [bool], copies: &[CarriedCopy])
     requires { All (λ c. c.lan < length marks.old) copies.now }
     ensures count { length marks.new ≡ length marks.old }
     ensures marks { (lan : ℕ) → slice_index_or marks.new lan false
-        ≡ (slice_index_or marks.old lan false || is_some (copy_on copies.now lan)) }
+        ≡ (slice_index_or marks.old lan false || is_some (first_copy_on copies.now lan)) }
 {
     for copy in copies {
         marks[copy.lan.0 as usize] = true;
@@ -82,42 +82,42 @@ fn mark(marks: &mut [bool], copies: &[Carried])
 }
 
 /// Whether a LAN that isn't this one wants the flow, and isn't marked.
-fn is_unmarked(view: &FlowView<'_>, marks: &[bool], missed: LanNo, lan: LanNo) -> bool
+fn is_wanted_and_unmarked(view: &FlowView<'_>, marks: &[bool], missed: LanNo, lan: LanNo) -> bool
     requires listed { lan < length view.now.domain.topology.lans }
     requires marked { lan < length marks.now }
-    ensures { (copies : List Copy) → AreMarked marks.now copies →
-        result ≡ is_missed_too (facts view.now.domain) view.now.flow copies missed lan }
+    ensures { (copies : List Copy) → AreMarksOfCopies marks.now copies →
+        result ≡ is_also_missed (facts view.now.domain) view.now.flow copies missed lan }
 {
     view.wants(lan) && !marks[lan.0 as usize] && lan != missed
 }
 
 /// The LANs that aren't this one, want the flow, and aren't marked.
-fn unmarked(view: &FlowView<'_>, marks: &[bool], missed: LanNo) -> LanStart
+fn unmarked_lans(view: &FlowView<'_>, marks: &[bool], missed: LanNo) -> FirstEight
     requires { length view.now.domain.topology.lans ≤ length marks.now }
-    ensures { (copies : List Copy) → AreMarked marks.now copies → IsStartOf result
-        (filter (is_missed_too (facts view.now.domain) view.now.flow copies missed)
+    ensures { (copies : List Copy) → AreMarksOfCopies marks.now copies → IsFirstEightOf result
+        (filter (is_also_missed (facts view.now.domain) view.now.flow copies missed)
         (below (length view.now.domain.topology.lans))) }
 {
-    let mut start = LanStart::new();
+    let mut front = FirstEight::new();
     for number in 0..view.lans() {
         let lan = LanNo(number);
-        if is_unmarked(view, marks, missed, lan) {
-            start.add(lan);
+        if is_wanted_and_unmarked(view, marks, missed, lan) {
+            front.add(lan);
         }
     }
-    start
+    front
 }
 
 /// The LANs that aren't this one, want the flow, and carried no copy in a flight.
-fn missed_too(flight: &Flight<'_>, missed: LanNo) -> LanStart
-    ensures { IsStartOf result (missed_too (facts flight.now.domain) flight.now.flow
+fn also_missed(flight: &Flight<'_>, missed: LanNo) -> FirstEight
+    ensures { IsFirstEightOf result (also_missed (facts flight.now.domain) flight.now.flow
         flight.now.flight.carried missed) }
 {
     let view = flight.flow_view();
     let _rules = view.topology();
     let mut marks = [false; MAX_LANS];
-    mark(&mut marks, flight.copies());
-    unmarked(view, &marks, missed)
+    mark_lans(&mut marks, flight.copies());
+    unmarked_lans(view, &marks, missed)
 }
 
 /// Writes which LANs besides this one want the flow of a flight and carried no copy in it, the
@@ -128,13 +128,13 @@ fn missed_too(flight: &Flight<'_>, missed: LanNo) -> LanStart
 /// `Memory` where a growth was refused.
 pub fn push_also_missed(text: &mut String, flight: &Flight<'_>, missed: LanNo) -> Result<(), Memory>
     ensures line { OnOk result (string_bytes text.new ≡
-        string_bytes text.old ++ missed_too_line (facts flight.now.domain)
+        string_bytes text.old ++ also_missed_line (facts flight.now.domain)
         flight.now.flow flight.now.flight.carried missed) }
 {
-    let start = missed_too(flight, missed);
-    if start.count() > 0 {
-        let lans = ShownStart {
-            start: &start,
+    let front = also_missed(flight, missed);
+    if front.count() > 0 {
+        let lans = ShownLans {
+            front: &front,
             topology: flight.flow_view().topology(),
         };
         writeln!(text, "  also missed:{lans}")?;

@@ -30,9 +30,9 @@ Decides-has xs s =
     (λ x. Decides-eqb x s) refl (λ _ _. refl) xs)
 
 -- what a filter leaves of ascending addresses
-pub filtered : (p : ℕ → Bool) (xs ys : List ℕ) → IsStrictlyIncreasing xs → ys ≡ filter p xs
+pub filter-ascending : (p : ℕ → Bool) (xs ys : List ℕ) → IsStrictlyIncreasing xs → ys ≡ filter p xs
     → IsStrictlyIncreasing ys × ((s : ℕ) → has ys s ≡ (has xs s && p s))
-filtered p xs ys h is =
+filter-ascending p xs ys h is =
     rw is (
       IsStrictlyIncreasing-filter p xs h,
       λ s.
@@ -41,18 +41,18 @@ filtered p xs ys h is =
     )
 
 -- a sort and a `dedup` keep each element
-pub has-sorted : (xs sorted ys : List ℕ) → IsPermutation xs sorted → ys ≡ dedup eqb sorted → (s : ℕ)
+pub has-dedup_sorted : (xs sorted ys : List ℕ) → IsPermutation xs sorted → ys ≡ dedup eqb sorted → (s : ℕ)
     → has ys s ≡ has xs s
-has-sorted xs sorted ys permutation is s =
+has-dedup_sorted xs sorted ys permutation is s =
     rw (is, list_any-IsPermutation (λ x. eqb x s) xs sorted permutation)
     (same_from_decides _ _ (Decides-has (dedup eqb sorted) s)
     (Decides-like _ (Contains-dedup_nat sorted s) (Contains-from_dedup eqb sorted s)
     (Decides-has sorted s)))
 
 -- two ascending lists that have the same addresses are equal, as sets of the library are
-pub same_from_has : (xs ys : List ℕ) → IsStrictlyIncreasing xs → IsStrictlyIncreasing ys
+pub ascending_lists_equal-from_has : (xs ys : List ℕ) → IsStrictlyIncreasing xs → IsStrictlyIncreasing ys
     → ((s : ℕ) → has xs s ≡ has ys s) → xs ≡ ys
-same_from_has xs ys h k same =
+ascending_lists_equal-from_has xs ys h k same =
     let is_key = λ (zs : List ℕ) (s : ℕ).
     sym (contains-from_list nat_cmp_total zs s) ∙ contains-from_list_nat zs s in
     btree_set_from_contains nat_cmp_total (record { keys = xs }) (record { keys = ys })
@@ -60,11 +60,11 @@ same_from_has xs ys h k same =
     (λ s. is_key xs s ∙ same s ∙ sym (is_key ys s)) exact_unsigned
 
 -- what a search for an address in ascending ones tells of its place
-pub search_places : (xs : List ℕ) (s : ℕ) (r : Result ℕ ℕ) → IsStrictlyIncreasing xs
+pub binary_search-place : (xs : List ℕ) (s : ℕ) (r : Result ℕ ℕ) → IsStrictlyIncreasing xs
     → IsBinarySearchResult (λ y. nat_cmp y s) xs r
     → MatchResult r (λ i. (i < length xs) × (get_or xs i 0 ≡ s))
     (λ _. All (λ x. eqb x s ≡ false) xs)
-search_places xs s r h search =
+binary_search-place xs s r h search =
     let sorted = sorted_from_strictly_increasing xs h in
     MatchResult-weaker r
     (searched xs s r search (λ i j. non_decreasing_from_sorted xs sorted i j 0)) (λ i found. found)
@@ -72,10 +72,10 @@ search_places xs s r h search =
     grind (arith, nat_tests, get_or_default xs k d 0 below, missed.1 k, missed.2 k))
 
 -- a search finds exactly what the list has
-pub found_by_search : (xs : List ℕ) (s : ℕ) (r : Result ℕ ℕ) → IsStrictlyIncreasing xs
+pub binary_search-is_ok : (xs : List ℕ) (s : ℕ) (r : Result ℕ ℕ) → IsStrictlyIncreasing xs
     → IsBinarySearchResult (λ y. nat_cmp y s) xs r → is_ok r ≡ has xs s
-found_by_search xs s (Ok i) h search =
-    let found = search_places xs s (Ok i) h search in
+binary_search-is_ok xs s (Ok i) h search =
+    let found = binary_search-place xs s (Ok i) h search in
     sym (list_any_at (λ x. eqb x s) xs i 0 found.0 (eq-eqb (get_or xs i 0) s found.1))
-found_by_search xs s (Err i) h search =
-    sym (list_any_none (λ x. eqb x s) xs (search_places xs s (Err i) h search))
+binary_search-is_ok xs s (Err i) h search =
+    sym (list_any_none (λ x. eqb x s) xs (binary_search-place xs s (Err i) h search))

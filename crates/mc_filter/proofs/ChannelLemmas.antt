@@ -7,21 +7,21 @@ use Rattle.std.proofs.lemmas.Bool.{cases_eq}
 use Rattle.std.proofs.lemmas.Grind.{elements}
 use Rattle.std.specs.Bool.{Decides}
 use Rattle.std.specs.List.{All, Contains}
-use Rattle.mc_filter.specs.Gathering.{wanted}
+use Rattle.mc_filter.specs.FilterBuilding.{wanted}
 use Rattle.std.proofs.lemmas.List.{get_or-map, length-map, map-append, take_more, get_or_default}
 use Rattle.std.proofs.lemmas.Option.{slice_get_within, get_or_from_slice_get}
 use Rattle.mc_igmp.specs.declared.record.Record.{Record}
 use Rattle.mc_igmp.specs.Wants.{Wants}
-use Rattle.mc_filter.specs.declared.channels.Place.{Place}
-use Rattle.mc_filter.specs.declared.tally.Told.{Told}
-use Rattle.mc_filter.specs.ChannelPlaces.{AreAnswers, IsAnswer, IsPlace, channel_at}
-use Rattle.mc_filter.specs.Tallies.{EachTells, is_left_out}
+use Rattle.mc_filter.specs.declared.channels.ChannelPlace.{ChannelPlace}
+use Rattle.mc_filter.specs.declared.tally.ChannelState.{ChannelState}
+use Rattle.mc_filter.specs.ChannelPlaces.{AreWantedAnswers, IsWantedAnswer, IsChannelPlace, channel_at}
+use Rattle.mc_filter.specs.Tallies.{AreTallied, is_unwanted}
 use Rattle.mc_filter.proofs.MergedLemmas.{Decides-wanted}
 
 -- what has all that is made of the items of a list has what is made of each
-pub mapped_in : (f : ℕ × ℕ → ℕ) (xs : List (ℕ × ℕ)) (made kept : List ℕ) → made ≡ map f xs
+pub contains-map : (f : ℕ × ℕ → ℕ) (xs : List (ℕ × ℕ)) (made kept : List ℕ) → made ≡ map f xs
     → ((n : ℕ) → Contains kept n ↔ Contains made n) → All (λ x. Contains kept (f x)) xs
-mapped_in f xs made kept is same = λ k d below.
+contains-map f xs made kept is same = λ k d below.
     (same (f (get_or xs k d))).1 (rw is (
       k,
       omega (arith, length-map xs f, below),
@@ -29,98 +29,98 @@ mapped_in f xs made kept is same = λ k d below.
     ))
 
 -- the channels of places, and of one more
-pub channels_more : (f : Place → ℕ × ℕ) (places : List Place) (place : Place) (asked : List (ℕ × ℕ))
+pub map-channels_more : (f : ChannelPlace → ℕ × ℕ) (places : List ChannelPlace) (place : ChannelPlace) (asked : List (ℕ × ℕ))
     (i : ℕ) (channel : ℕ × ℕ) → i < length asked → channel ≡ get_or asked i channel
     → map f places ≡ take i asked → f place ≡ channel
     → map f (places ++ place ∷ []) ≡ take (i + 1) asked
-channels_more f places place asked i channel below is before own =
+map-channels_more f places place asked i channel below is before own =
     map-append f places (place ∷ []) ∙ ap (λ cs. cs ++ f place ∷ []) before
     ∙ ap (λ c. take i asked ++ c ∷ []) (own ∙ is) ∙ sym (take_more asked i channel below)
 
 -- a test tells what is wanted
-answer_by_test : (answer left_out all : Bool) (P : Type 0) → Decides all P
-    → answer ≡ not left_out → (not left_out || false) ≡ all → IsTrue answer ↔ P
-answer_by_test answer left_out all P tells is same = grind arith
+wanted_answer-from_tests : (answer is_unlisted all : Bool) (P : Type 0) → Decides all P
+    → answer ≡ not is_unlisted → (not is_unlisted || false) ≡ all → IsTrue answer ↔ P
+wanted_answer-from_tests answer is_unlisted all P tallied is same = grind arith
 
 -- what is told of a channel answers whether it is wanted
-pub is_answer : (groups channels : List ℕ) (records : List Record) (excludes : List ℕ)
-    (told : List Told) (place : Place) (own : Told) (seen : ℕ) (answer : Bool)
+pub wanted_answer-from_tallied : (groups channels : List ℕ) (records : List Record) (excludes : List ℕ)
+    (states : List ChannelState) (place : ChannelPlace) (own : ChannelState) (seen : ℕ) (answer : Bool)
     → length excludes ≡ length groups
-    → EachTells groups channels records excludes told [] → IsPlace groups channels place
-    → own ≡ get_or told place.channel own → seen ≡ get_or excludes place.group seen
-    → answer ≡ not (is_left_out own seen) → IsAnswer channels records place answer
-is_answer groups channels records excludes told place own seen answer count each at told_is seen_is
+    → AreTallied groups channels records excludes states [] → IsChannelPlace groups channels place
+    → own ≡ get_or states place.channel own → seen ≡ get_or excludes place.group seen
+    → answer ≡ not (is_unwanted own seen) → IsWantedAnswer channels records place answer
+wanted_answer-from_tallied groups channels records excludes states place own seen answer count each at state_is seen_is
     is =
     let channel : ℕ × ℕ = channel_at channels place in
     let group : ℕ = get_or groups place.group 0 in
     let here : channel ≡ (channel.0, group) = ap (λ (n : ℕ). let p : ℕ × ℕ = (channel.0, n) in p) (sym
     at.is) in
-    let tells = each place.group place.channel channel.0 own at.group at.channel here in
+    let tallied = each place.group place.channel channel.0 own at.group at.channel here in
     let seen_here : get_or excludes place.group 0 ≡ seen =
     get_or_default excludes place.group 0 seen (let below = at.group in omega (arith, below, count))
     ∙ sym seen_is in
     subst (λ (g : ℕ). IsTrue answer ↔ Wants records g channel.0) at.is
-    (answer_by_test answer (is_left_out own seen) (wanted records group channel.0)
+    (wanted_answer-from_tests answer (is_unwanted own seen) (wanted records group channel.0)
     (Wants records group channel.0) (Decides-wanted records group channel.0) is
-    (rw (← told_is, seen_here) at tells.wants))
+    (rw (← state_is, seen_here) at tallied.wants))
 
 get_or-last : (xs : List Bool) (x d : Bool) → get_or (xs ++ x ∷ []) (length xs) d ≡ x
 get_or-last [] x d = refl
 get_or-last (y ∷ ys) x d = get_or-last ys x d
 
 -- one answer more
-pub answers_more : (channels : List ℕ) (records : List Record) (places : List Place)
-    (answers : List Bool) (place : Place) (answer : Bool) → length answers < length places
+pub wanted_answers_more : (channels : List ℕ) (records : List Record) (places : List ChannelPlace)
+    (answers : List Bool) (place : ChannelPlace) (answer : Bool) → length answers < length places
     → place ≡ get_or places (length answers) place
-    → IsAnswer channels records place answer
-    → AreAnswers channels records places answers
-    → AreAnswers channels records places (answers ++ answer ∷ [])
-answers_more channels records places answers place answer below is own before i d within =
+    → IsWantedAnswer channels records place answer
+    → AreWantedAnswers channels records places answers
+    → AreWantedAnswers channels records places (answers ++ answer ∷ [])
+wanted_answers_more channels records places answers place answer below is own before i d within =
     elim (cases_eq i (length answers)) [
       | inl last ↦
           let here : get_or places i d ≡ place =
           ap (λ n. get_or places n d) last
           ∙ get_or_default places (length answers) d place below ∙ sym is in
-          let told : get_or (answers ++ answer ∷ []) i false ≡ answer =
+          let states : get_or (answers ++ answer ∷ []) i false ≡ answer =
           ap (λ n. get_or (answers ++ answer ∷ []) n false) last ∙ get_or-last answers answer false
           in
-          subst (λ p. IsAnswer channels records p (get_or (answers ++ answer ∷ []) i false))
-          (sym here) (subst (λ b. IsAnswer channels records place b) (sym told) own)
+          subst (λ p. IsWantedAnswer channels records p (get_or (answers ++ answer ∷ []) i false))
+          (sym here) (subst (λ b. IsWantedAnswer channels records place b) (sym states) own)
       | inr earlier ↦
           let less : i < length answers =
           omega (arith, within, earlier, length-append answers (answer ∷ [])) in
-          let told : get_or (answers ++ answer ∷ []) i false ≡ get_or answers i false =
+          let states : get_or (answers ++ answer ∷ []) i false ≡ get_or answers i false =
           grind (arith, elements, less) in
-          subst (λ b. IsAnswer channels records (get_or places i d) b) (sym told)
+          subst (λ b. IsWantedAnswer channels records (get_or places i d) b) (sym states)
           (before i d less)
     ]
 
 -- what is answered of the channels
-pub answers_all : (channels : List ℕ) (records : List Record) (places : List Place)
+pub wanted_answers_all : (channels : List ℕ) (records : List Record) (places : List ChannelPlace)
     (answers : List Bool) → length answers ≡ length places
-    → AreAnswers channels records places answers
+    → AreWantedAnswers channels records places answers
     → (i : ℕ) (channel : ℕ × ℕ) (answer : Bool)
     → slice_get (map (channel_at channels) places) i ≡ Some channel
     → slice_get answers i ≡ Some answer
     → IsTrue answer ↔ Wants records channel.1 channel.0
-answers_all channels records places answers count each i channel answer at told =
-    let f : Place → ℕ × ℕ = channel_at channels in
-    let d : Place = record { group = 0; channel = 0 } in
-    let within : i < length answers = slice_get_within answers i answer told in
-    let here : get_or answers i false ≡ answer = get_or_from_slice_get answers i answer false told
+wanted_answers_all channels records places answers count each i channel answer at states =
+    let f : ChannelPlace → ℕ × ℕ = channel_at channels in
+    let d : ChannelPlace = record { group = 0; channel = 0 } in
+    let within : i < length answers = slice_get_within answers i answer states in
+    let here : get_or answers i false ≡ answer = get_or_from_slice_get answers i answer false states
     in
     let own : f (get_or places i d) ≡ channel =
     sym (get_or-map f places i d (f d) (omega (arith, within, count)))
     ∙ get_or_from_slice_get (map f places) i channel (f d) at in
     subst (λ (c : ℕ × ℕ). IsTrue answer ↔ Wants records c.1 c.0) own
-    (subst (λ (b : Bool). IsAnswer channels records (get_or places i d) b) here
+    (subst (λ (b : Bool). IsWantedAnswer channels records (get_or places i d) b) here
     (each i d within))
 
 -- what holds of every answer holds of this one
-pub answer_then : {A E : Type 0} (P Q : A → Type 0) (r : Result A E) → IfOk r P
+pub if_ok_map : {A E : Type 0} (P Q : A → Type 0) (r : Result A E) → IfOk r P
     → ((x : A) → P x → Q x) → IfOk r Q
-answer_then P Q (Ok x) holds then = then x holds
-answer_then P Q (Err e) holds then = tt
+if_ok_map P Q (Ok x) holds then = then x holds
+if_ok_map P Q (Err e) holds then = tt
 
 pub if_ok_both : {A E : Type 0} (P Q : A → Type 0) (r : Result A E) → IfOk r P → IfOk r Q
     → IfOk r (λ x. P x × Q x)

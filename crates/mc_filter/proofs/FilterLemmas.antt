@@ -9,7 +9,7 @@ use Rattle.mc_filter.specs.declared.filter.Mode.{Mode}
 use Rattle.mc_filter.specs.declared.filter.Mode.TheVariants.{Exclude}
 use Rattle.mc_filter.specs.SourceFilter.{has}
 use Rattle.mc_filter.specs.SourceFilter.{SourceFilter, FilterAdmits, admits}
-use Rattle.mc_filter.specs.Gathering.{kind_admits, is_exclude, is_exclude_mode}
+use Rattle.mc_filter.specs.FilterBuilding.{kind_admits, is_exclude, is_exclude_mode}
 use Rattle.mc_filter.proofs.AscendingLemmas.{Decides-has}
 
 -- each test tells its fact
@@ -24,11 +24,11 @@ Decides-Admits r s = grind (arith, Decides-has r.sources s)
 pub Decides-is_exclude_mode : (mode : Mode) → Decides (is_exclude_mode mode) (mode ≡ Exclude)
 Decides-is_exclude_mode mode = grind arith
 
-pub Decides-is_exclude : (told : Kind) → Decides (is_exclude told) (told ≡ kind.Exclude)
-Decides-is_exclude told = grind arith
+pub Decides-is_exclude : (kind_of_record : Kind) → Decides (is_exclude kind_of_record) (kind_of_record ≡ kind.Exclude)
+Decides-is_exclude kind_of_record = grind arith
 
 -- what a test tells, wherever one stands
-pub ruleset tests_tell = (
+pub ruleset filter_tests = (
   Decides-FilterAdmits,
   Decides-Admits,
   Decides-is_exclude_mode,

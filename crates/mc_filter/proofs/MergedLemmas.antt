@@ -14,16 +14,16 @@ use Rattle.mc_igmp.specs.Wants.{Admits, Wants}
 use Rattle.mc_filter.specs.declared.filter.Mode.{Mode}
 use Rattle.mc_filter.specs.declared.filter.Mode.TheVariants.{Include, Exclude}
 use Rattle.mc_filter.specs.SourceFilter.{has, SourceFilter, FilterAdmits, admits_by}
-use Rattle.mc_filter.specs.Gathering.{is_exclude_mode, wanted_by, excludes_by, wanted, excluding}
-use Rattle.mc_filter.specs.Merged.{IsFor, HasExclude, InSomeInclude, InEachExclude, IsMergedIn}
+use Rattle.mc_filter.specs.FilterBuilding.{is_exclude_mode, wanted_by, excludes_by, wanted, excluding}
+use Rattle.mc_filter.specs.Merged.{IsRecordFor, HasExclude, InSomeInclude, InEachExclude, IsMergedIn}
 use Rattle.mc_filter.specs.Merged.{IsMergedValue}
-use Rattle.mc_filter.proofs.AscendingLemmas.{Decides-has, same_from_has}
+use Rattle.mc_filter.proofs.AscendingLemmas.{Decides-has, ascending_lists_equal-from_has}
 use Rattle.mc_filter.proofs.FilterLemmas.{Decides-FilterAdmits, Decides-Admits}
 
 -- a test of some element tells that there is one of which its fact holds
-Decides-Any : {X : Type 0} (p : X → Bool) (P : X → Type 0) → ((x : X) → Decides (p x) (P x))
+Decides-list_any : {X : Type 0} (p : X → Bool) (P : X → Type 0) → ((x : X) → Decides (p x) (P x))
     → (xs : List X) → Decides (list_any p xs) (Any P xs)
-Decides-Any p P each xs = (
+Decides-list_any p P each xs = (
   λ h. let some = Any-from_list_any p xs h in
       (some.0, some.1, some.2, some.3, (each some.1).0 some.4),
   λ (k, x, below, is, holds). list_any-from_Any p xs (k, x, below, is, (each x).1 holds),
@@ -32,13 +32,13 @@ Decides-Any p P each xs = (
 pub Decides-wanted : (records : List Record) (group s : ℕ)
     → Decides (wanted records group s) (Wants records group s)
 Decides-wanted records group s =
-    Decides-Any (wanted_by group s) (λ r. (r.group ≡ group) × Admits r s)
+    Decides-list_any (wanted_by group s) (λ r. (r.group ≡ group) × Admits r s)
     (λ r. grind (arith, nat_tests, Decides-Admits r s)) records
 
 Decides-excluding : (records : List Record) (group : ℕ)
     → Decides (excluding records group) (HasExclude records group)
 Decides-excluding records group =
-    Decides-Any (excludes_by group) (IsFor group kind.Exclude)
+    Decides-list_any (excludes_by group) (IsRecordFor group kind.Exclude)
     (λ r. grind (arith, nat_tests)) records
 
 -- a source that an INCLUDE list has is wanted
@@ -48,9 +48,9 @@ Wants-from_included records group s (k, r, below, is, (own, listed)) =
     (k, r, below, is, (own.0, rw own.1 listed))
 
 -- a source is not wanted if each EXCLUDE list has it and no INCLUDE list does
-unwanted : (records : List Record) (group s : ℕ) → ¬ (Wants records group s)
+not_wanted : (records : List Record) (group s : ℕ) → ¬ (Wants records group s)
     ↔ (InEachExclude records group s × ¬ (InSomeInclude records group s))
-unwanted records group s = (
+not_wanted records group s = (
   λ no. (
     λ k d below own.
         let r = get_or records k d in
@@ -60,15 +60,15 @@ unwanted records group s = (
     λ some. no (Wants-from_included records group s some),
   ),
   λ (each, none) (k, r, below, is, (own, admitted)).
-      let included = λ (h : IsFor group kind.Include r × Contains r.sources s).
+      let included = λ (h : IsRecordFor group kind.Include r × Contains r.sources s).
       none (k, r, below, is, h) in
       grind (arith, included, each k r below),
 )
 
 -- with no EXCLUDE record a source is wanted if an INCLUDE list has it
-wanted_included : (records : List Record) (group s : ℕ) → ¬ (HasExclude records group)
+wanted_iff_included : (records : List Record) (group s : ℕ) → ¬ (HasExclude records group)
     → Wants records group s ↔ InSomeInclude records group s
-wanted_included records group s none = (
+wanted_iff_included records group s none = (
   λ (k, r, below, is, (own, admitted)).
       let excludes = λ (h : r.kind ≡ kind.Exclude). none (k, r, below, is, (own, h)) in
       (k, r, below, is, grind (arith, excludes)),
@@ -76,13 +76,13 @@ wanted_included records group s none = (
 )
 
 -- a list that has what is wanted, or what isn't, as a fact and as an equation of tests
-lists_wanted : {P Q R : Type 0} (a b : Bool) → Decides a P → Decides b Q → (Q ↔ R)
+has_iff_wanted : {P Q R : Type 0} (a b : Bool) → Decides a P → Decides b Q → (Q ↔ R)
     → (a ≡ b) ↔ (P ↔ R)
-lists_wanted a b own wants is = grind arith
+has_iff_wanted a b own wants is = grind arith
 
-lists_unwanted : {P Q R : Type 0} (a b : Bool) → Decides a P → Decides b Q → (¬ Q ↔ R)
+has_iff_not_wanted : {P Q R : Type 0} (a b : Bool) → Decides a P → Decides b Q → (¬ Q ↔ R)
     → (not a ≡ b) ↔ (P ↔ R)
-lists_unwanted a b own wants is = grind arith
+has_iff_not_wanted a b own wants is = grind arith
 
 -- The merged value is EXCLUDE exactly if a record is, and admits exactly what is wanted.
 pub record Merges (records : List Record) (group : ℕ) (mode : Mode) (sources : List ℕ)
@@ -96,16 +96,16 @@ pub Merges-iff : (mode : Mode) (sources : List ℕ) (records : List Record) (gro
 Merges-iff Exclude sources records group =
     let some = Decides-excluding records group in
     let listed = λ (s : ℕ).
-    lists_unwanted _ _ (Decides-has sources s) (Decides-wanted records group s)
-    (unwanted records group s) in (
+    has_iff_not_wanted _ _ (Decides-has sources s) (Decides-wanted records group s)
+    (not_wanted records group s) in (
       λ m. (some.0 (sym m.excludes), λ s. (listed s).0 (m.admitted s)),
       λ is. record { excludes = sym (some.1 is.0); admitted = λ s. (listed s).1 (is.1 s) },
     )
 Merges-iff Include sources records group =
     let some = Decides-excluding records group in
     let listed = λ (none : ¬ (HasExclude records group)) (s : ℕ).
-    lists_wanted _ _ (Decides-has sources s) (Decides-wanted records group s)
-    (wanted_included records group s none) in (
+    has_iff_wanted _ _ (Decides-has sources s) (Decides-wanted records group s)
+    (wanted_iff_included records group s none) in (
       λ m. let none = not_from_Decides _ some (sym m.excludes) in
           (none, λ s. (listed none s).0 (m.admitted s)),
       λ is. record {
@@ -132,6 +132,6 @@ merged_in_any_order records others group filter other permutation is is_other =
     let modes : filter.mode ≡ other.mode =
     grind (arith, m.excludes, n.excludes, same (excludes_by group)) in
     let sources : filter.sources ≡ other.sources =
-    same_from_has filter.sources other.sources is.ascending is_other.ascending
+    ascending_lists_equal-from_has filter.sources other.sources is.ascending is_other.ascending
     (λ s. grind (arith, modes, m.admitted s, n.admitted s, same (wanted_by group s))) in
     λ i. record { mode = modes i; sources = sources i }

@@ -13,71 +13,71 @@ use Rattle.mc_text.proofs.PairLemmas.{pair_of-injective}
 use Rattle.mc_igmp.specs.declared.record.Record.{Record}
 use Rattle.mc_igmp.specs.declared.record.Kind.{Kind}
 use Rattle.mc_igmp.specs.declared.record.Kind.TheVariants as kind
-use Rattle.mc_filter.specs.declared.tally.Told.{Told}
-use Rattle.mc_filter.specs.declared.tally.Told.TheVariants.{Included, Listed}
+use Rattle.mc_filter.specs.declared.tally.ChannelState.{ChannelState}
+use Rattle.mc_filter.specs.declared.tally.ChannelState.TheVariants.{Included, Listed}
 use Rattle.mc_filter.specs.SourceFilter.{has}
-use Rattle.mc_filter.specs.Gathering.{kind_admits, wanted}
-use Rattle.mc_filter.specs.Tallies.{AreListedBy, EachTells, Tells, channel_in, excludes_with}
-use Rattle.mc_filter.specs.Tallies.{told_by, told_if}
+use Rattle.mc_filter.specs.FilterBuilding.{kind_admits, wanted}
+use Rattle.mc_filter.specs.Tallies.{AreStatesAfterRecord, AreTallied, IsTallied, channel_numbered, excludes_with}
+use Rattle.mc_filter.specs.Tallies.{state_after_listing, state_after_record}
 
 -- to be listed twice by a record is to be listed once
-told_twice : (of_kind : Kind) (excludes : ℕ) (told : Told)
-    → told_by of_kind excludes (told_by of_kind excludes told) ≡ told_by of_kind excludes told
-told_twice kind.Include excludes told = refl
-told_twice kind.Exclude excludes told = grind (arith, nat_tests)
-told_twice (kind.Change type) excludes told = refl
-told_twice (kind.Unknown type) excludes told = refl
+state_after_listing-twice : (of_kind : Kind) (excludes : ℕ) (state : ChannelState)
+    → state_after_listing of_kind excludes (state_after_listing of_kind excludes state) ≡ state_after_listing of_kind excludes state
+state_after_listing-twice kind.Include excludes state = refl
+state_after_listing-twice kind.Exclude excludes state = grind (arith, nat_tests)
+state_after_listing-twice (kind.Change type) excludes state = refl
+state_after_listing-twice (kind.Unknown type) excludes state = refl
 
-pub told_listed : (listed : Bool) (of_kind : Kind) (excludes : ℕ) (told : Told)
-    → told_if listed of_kind excludes (told_by of_kind excludes told)
-    ≡ told_by of_kind excludes told
-told_listed true of_kind excludes told = told_twice of_kind excludes told
-told_listed false of_kind excludes told = refl
+pub state_after_record-listed : (listed : Bool) (of_kind : Kind) (excludes : ℕ) (state : ChannelState)
+    → state_after_record listed of_kind excludes (state_after_listing of_kind excludes state)
+    ≡ state_after_listing of_kind excludes state
+state_after_record-listed true of_kind excludes state = state_after_listing-twice of_kind excludes state
+state_after_record-listed false of_kind excludes state = refl
 
 -- what a record tells that lists the source
-listed_if : (a b c : Bool) (of_kind : Kind) (excludes : ℕ) (told : Told) → (a && b) ≡ true
-    → told_if (a && (b || c)) of_kind excludes told ≡ told_by of_kind excludes told
-listed_if true true c of_kind excludes told h = refl
-listed_if true false c of_kind excludes told h = absurd cc
-listed_if false b c of_kind excludes told h = absurd cc
+state_after_record-own_source : (a b c : Bool) (of_kind : Kind) (excludes : ℕ) (state : ChannelState) → (a && b) ≡ true
+    → state_after_record (a && (b || c)) of_kind excludes state ≡ state_after_listing of_kind excludes state
+state_after_record-own_source true true c of_kind excludes state h = refl
+state_after_record-own_source true false c of_kind excludes state h = absurd cc
+state_after_record-own_source false b c of_kind excludes state h = absurd cc
 
 -- what is told of channels whose sources the rest of a list has is what the whole list tells
-abbrev pub Listing : List ℕ → ℕ → Kind → ℕ → List ℕ → List ℕ → List Told → List Told → Type 0
-Listing channels group of_kind excludes left sources now old =
-    (c g s : ℕ) (d : Told) → c < length channels → channel_in channels c ≡ (s, g)
-    → told_if (eqb group g && has left s) of_kind excludes (get_or now c d)
-    ≡ told_if (eqb group g && has sources s) of_kind excludes (get_or old c d)
+abbrev pub AreListedUpTo : List ℕ → ℕ → Kind → ℕ → List ℕ → List ℕ → List ChannelState → List ChannelState → Type 0
+AreListedUpTo channels group of_kind excludes left sources now old =
+    (c g s : ℕ) (d : ChannelState) → c < length channels → channel_numbered channels c ≡ (s, g)
+    → state_after_record (eqb group g && has left s) of_kind excludes (get_or now c d)
+    ≡ state_after_record (eqb group g && has sources s) of_kind excludes (get_or old c d)
 
-passed_over : (a b c : Bool) → (a && b) ≡ false → (a && (b || c)) ≡ (a && c)
-passed_over true true c h = absurd cc
-passed_over true false c h = refl
-passed_over false b c h = refl
+and_or-false : (a b c : Bool) → (a && b) ≡ false → (a && (b || c)) ≡ (a && c)
+and_or-false true true c h = absurd cc
+and_or-false true false c h = refl
+and_or-false false b c h = refl
 
 -- two channels of one source and one group are one number
-same_number : (channels : List ℕ) (c place s g x group : ℕ) → channel_in channels c ≡ (s, g)
-    → channel_in channels place ≡ (x, group) → x ≡ s → g ≡ group
+channel_number-unique : (channels : List ℕ) (c place s g x group : ℕ) → channel_numbered channels c ≡ (s, g)
+    → channel_numbered channels place ≡ (x, group) → x ≡ s → g ≡ group
     → get_or channels c 0 ≡ get_or channels place 0
-same_number channels c place s g x group is found source same =
+channel_number-unique channels c place s g x group is found source same =
     pair_of-injective (get_or channels c 0) (get_or channels place 0)
     (is ∙ ap (λ (n : ℕ). let p : ℕ × ℕ = (n, g) in p) (sym source)
     ∙ ap (λ (n : ℕ). let p : ℕ × ℕ = (x, n) in p) same ∙ sym found)
 
 -- a source whose channel has this place
-pub Listing-found : (channels : List ℕ) (group : ℕ) (of_kind : Kind) (excludes x place : ℕ) (own :
-    Told)
-    (left sources : List ℕ) (now old : List Told) → IsStrictlyIncreasing channels
+pub AreListedUpTo-found : (channels : List ℕ) (group : ℕ) (of_kind : Kind) (excludes x place : ℕ) (own :
+    ChannelState)
+    (left sources : List ℕ) (now old : List ChannelState) → IsStrictlyIncreasing channels
     → length now ≡ length channels
-    → (place < length channels) × (channel_in channels place ≡ (x, group))
+    → (place < length channels) × (channel_numbered channels place ≡ (x, group))
     → own ≡ get_or now place own
-    → Listing channels group of_kind excludes (x ∷ left) sources now old
-    → Listing channels group of_kind excludes left sources
-    (set now place (told_by of_kind excludes own)) old
-Listing-found channels group of_kind excludes x place own left sources now old up count found at
+    → AreListedUpTo channels group of_kind excludes (x ∷ left) sources now old
+    → AreListedUpTo channels group of_kind excludes left sources
+    (set now place (state_after_listing of_kind excludes own)) old
+AreListedUpTo-found channels group of_kind excludes x place own left sources now old up count found at
     before c g s d within is =
     let rises = AllPairs-from_increasing channels up in
     elim (cases_eq c place) [
       | inl here ↦
-          let pair = sym is ∙ ap (channel_in channels) here ∙ found.1 in
+          let pair = sym is ∙ ap (channel_numbered channels) here ∙ found.1 in
           let same : (g ≡ group) × (s ≡ x) =
           (ap (λ (p : ℕ × ℕ). p.1) pair, ap (λ (p : ℕ × ℕ). p.0) pair) in
           let old_own : get_or now c d ≡ own =
@@ -85,65 +85,65 @@ Listing-found channels group of_kind excludes x place own left sources now old u
           here
           ∙ sym at in
           let listed : (eqb group g && eqb x s) ≡ true = grind (arith, nat_tests, same.0, same.1) in
-          let told = before c g s d within is in
-          let new_own : get_or (set now place (told_by of_kind excludes own)) c d
-          ≡ told_by of_kind excludes own =
-          ap (λ n. get_or (set now place (told_by of_kind excludes own)) n d) here
-          ∙ get_or-set_same now place (told_by of_kind excludes own) d
+          let state = before c g s d within is in
+          let new_own : get_or (set now place (state_after_listing of_kind excludes own)) c d
+          ≡ state_after_listing of_kind excludes own =
+          ap (λ n. get_or (set now place (state_after_listing of_kind excludes own)) n d) here
+          ∙ get_or-set_same now place (state_after_listing of_kind excludes own) d
           (omega (arith, found.0, count)) in
-          rw new_own (told_listed (eqb group g && has left s) of_kind excludes own
-          ∙ sym (listed_if (eqb group g) (eqb x s) (has left s) of_kind excludes own listed)
-          ∙ ap (λ t. told_if (eqb group g && has (x ∷ left) s) of_kind excludes t) (sym old_own)
-          ∙ told)
+          rw new_own (state_after_record-listed (eqb group g && has left s) of_kind excludes own
+          ∙ sym (state_after_record-own_source (eqb group g) (eqb x s) (has left s) of_kind excludes own listed)
+          ∙ ap (λ t. state_after_record (eqb group g && has (x ∷ left) s) of_kind excludes t) (sym old_own)
+          ∙ state)
       | inr there ↦
           let other : (eqb group g && eqb x s) ≡ false =
           elim (cases_eq g group) [
             | inl same ↦ elim (cases_eq x s) [
               | inl listed ↦ absurd (
                   let number : get_or channels c 0 ≡ get_or channels place 0 =
-                  same_number channels c place s g x group is found.1 listed same in
+                  channel_number-unique channels c place s g x group is found.1 listed same in
                   grind (arith, there, rises c place 0, rises place c 0, number, within, found.0))
               | inr apart ↦ grind (arith, nat_tests, apart)
             ]
             | inr apart ↦ grind (arith, nat_tests, apart)
           ] in
-          rw (get_or-set_other now place c (told_by of_kind excludes own) d there)
-          (rw (passed_over (eqb group g) (eqb x s) (has left s) other)
+          rw (get_or-set_other now place c (state_after_listing of_kind excludes own) d there)
+          (rw (and_or-false (eqb group g) (eqb x s) (has left s) other)
           at (before c g s d within is))
     ]
 
 -- a record of a type that tells no filter
-told_neither : (listed : Bool) (excludes : ℕ) (told : Told) (left all : Bool)
-    → Tells told excludes left all → Tells (cond listed told told) excludes left all
-told_neither true excludes told left all h = h
-told_neither false excludes told left all h = h
+tallied-other_type : (listed : Bool) (excludes : ℕ) (state : ChannelState) (left all : Bool)
+    → IsTallied state excludes left all → IsTallied (cond listed state state) excludes left all
+tallied-other_type true excludes state left all h = h
+tallied-other_type false excludes state left all h = h
 
 -- one more record, of a channel of its group or of another
-tells_next : (own listed : Bool) (of_kind : Kind) (excludes : ℕ) (told : Told) (left all : Bool)
-    → Tells told excludes ((own && kind_admits of_kind listed) || left) all
-    → Tells (told_if (own && listed) of_kind excludes told)
+tallied_more : (own listed : Bool) (of_kind : Kind) (excludes : ℕ) (state : ChannelState) (left all : Bool)
+    → IsTallied state excludes ((own && kind_admits of_kind listed) || left) all
+    → IsTallied (state_after_record (own && listed) of_kind excludes state)
     (cond own (excludes_with of_kind excludes) excludes) left all
-tells_next false listed of_kind excludes told left all h = record {
+tallied_more false listed of_kind excludes state left all h = record {
   within = h.within;
   wants = h.wants;
 }
-tells_next true listed (kind.Change type) excludes told left all h = told_neither listed excludes
-    told left all h
-tells_next true listed (kind.Unknown type) excludes told left all h = told_neither listed excludes
-    told left all h
-tells_next true true kind.Include excludes told left all h = record {
+tallied_more true listed (kind.Change type) excludes state left all h = tallied-other_type listed excludes
+    state left all h
+tallied_more true listed (kind.Unknown type) excludes state left all h = tallied-other_type listed excludes
+    state left all h
+tallied_more true true kind.Include excludes state left all h = record {
   within = tt;
   wants = grind (arith, h.wants);
 }
-tells_next true false kind.Include excludes told left all h = record {
+tallied_more true false kind.Include excludes state left all h = record {
   within = h.within;
   wants = h.wants;
 }
-tells_next true true kind.Exclude excludes Included left all h = record {
+tallied_more true true kind.Exclude excludes Included left all h = record {
   within = tt;
   wants = h.wants;
 }
-tells_next true true kind.Exclude excludes (Listed count) left all h =
+tallied_more true true kind.Exclude excludes (Listed count) left all h =
     elim (cases_eq count excludes) [
       | inl is ↦
           let same : eqb count excludes ≡ true = eq-eqb count excludes is in
@@ -163,32 +163,32 @@ tells_next true true kind.Exclude excludes (Listed count) left all h =
             wants = rw later wants;
           })
     ]
-tells_next true false kind.Exclude excludes Included left all h = record {
+tallied_more true false kind.Exclude excludes Included left all h = record {
   within = tt;
   wants = grind (arith, h.wants);
 }
-tells_next true false kind.Exclude excludes (Listed count) left all h = record {
+tallied_more true false kind.Exclude excludes (Listed count) left all h = record {
   within = omega (arith, h.within);
   wants = grind (arith, nat_tests, h.within, h.wants);
 }
 
 -- one more record, whose group is at a place among the groups
-pub EachTells-next : (groups channels : List ℕ) (records left : List Record)
-    (excludes : List ℕ) (told now : List Told) (place : ℕ) (r : Record)
+pub AreTallied-more : (groups channels : List ℕ) (records left : List Record)
+    (excludes : List ℕ) (state now : List ChannelState) (place : ℕ) (r : Record)
     → IsStrictlyIncreasing groups → length groups ≡ length excludes → place < length excludes
     → get_or groups place 0 ≡ r.group
-    → AreListedBy channels r (get_or excludes place 0) told now
-    → EachTells groups channels records excludes told (r ∷ left)
-    → EachTells groups channels records
+    → AreStatesAfterRecord channels r (get_or excludes place 0) state now
+    → AreTallied groups channels records excludes state (r ∷ left)
+    → AreTallied groups channels records
     (set excludes place (excludes_with r.kind (get_or excludes place 0))) now left
-EachTells-next groups channels records left excludes told now place r up count inside at each before
+AreTallied-more groups channels records left excludes state now place r up count inside at each before
     g c s d below within is =
     let rises = AllPairs-from_increasing groups up in
     let group : ℕ = get_or groups g 0 in
     let own : Bool = eqb r.group group in
     let all : Bool = wanted records group s in
     let old = before g c s d below within is in
-    let is_told = each c group s d within is in
+    let state_is = each c group s d within is in
     elim (cases_eq g place) [
       | inl here ↦
           let yes : own ≡ true = eq-eqb r.group group (sym at ∙ ap (λ n. get_or groups n 0) (sym
@@ -201,10 +201,10 @@ EachTells-next groups channels records left excludes told now place r up count i
           ∙ get_or-set_same excludes place (excludes_with r.kind (get_or excludes place 0)) 0 inside
           ∙ sym (ap (λ b. cond b (excludes_with r.kind (get_or excludes place 0)) (get_or excludes
           place 0)) yes) in
-          rw (is_told, seen) (tells_next own (has r.sources s) r.kind (get_or excludes place 0)
-          (get_or told c d)
+          rw (state_is, seen) (tallied_more own (has r.sources s) r.kind (get_or excludes place 0)
+          (get_or state c d)
           (wanted left group s) all
-          (subst (λ n. Tells (get_or told c d) (get_or excludes n 0) (wanted (r ∷ left) group s)
+          (subst (λ n. IsTallied (get_or state c d) (get_or excludes n 0) (wanted (r ∷ left) group s)
           all) here old))
       | inr there ↦
           let no : own ≡ false =
@@ -220,23 +220,23 @@ EachTells-next groups channels records left excludes told now place r up count i
           get_or-set_other excludes place g (excludes_with r.kind (get_or excludes place 0)) 0 there
           ∙ sym (ap (λ b. cond b (excludes_with r.kind (get_or excludes g 0)) (get_or excludes g 0))
           no) in
-          let told_here : get_or now c d
-          ≡ told_if (own && has r.sources s) r.kind (get_or excludes g 0) (get_or told c d) =
-          is_told
-          ∙ ap (λ b. told_if (b && has r.sources s) r.kind (get_or excludes place 0) (get_or told c
+          let new_state_is : get_or now c d
+          ≡ state_after_record (own && has r.sources s) r.kind (get_or excludes g 0) (get_or state c d) =
+          state_is
+          ∙ ap (λ b. state_after_record (b && has r.sources s) r.kind (get_or excludes place 0) (get_or state c
           d)) no
-          ∙ sym (ap (λ b. told_if (b && has r.sources s) r.kind (get_or excludes g 0) (get_or told c
+          ∙ sym (ap (λ b. state_after_record (b && has r.sources s) r.kind (get_or excludes g 0) (get_or state c
           d)) no) in
-          rw (told_here, seen) (tells_next own (has r.sources s) r.kind (get_or excludes g 0)
-          (get_or told c d) (wanted left group s) all old)
+          rw (new_state_is, seen) (tallied_more own (has r.sources s) r.kind (get_or excludes g 0)
+          (get_or state c d) (wanted left group s) all old)
     ]
 
 -- a record whose group is none of the groups
-pub EachTells-missed : (groups channels : List ℕ) (records left : List Record)
-    (excludes : List ℕ) (told : List Told) (r : Record) → ¬ Contains groups r.group
-    → EachTells groups channels records excludes told (r ∷ left)
-    → EachTells groups channels records excludes told left
-EachTells-missed groups channels records left excludes told r missed before
+pub AreTallied-other_group : (groups channels : List ℕ) (records left : List Record)
+    (excludes : List ℕ) (state : List ChannelState) (r : Record) → ¬ Contains groups r.group
+    → AreTallied groups channels records excludes state (r ∷ left)
+    → AreTallied groups channels records excludes state left
+AreTallied-other_group groups channels records left excludes state r missed before
     g c s d below within is =
     let group : ℕ = get_or groups g 0 in
     let no : eqb r.group group ≡ false =

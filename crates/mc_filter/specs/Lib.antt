@@ -1,6 +1,6 @@
 pub mod SourceFilter
 pub mod Merged
-pub mod Gathering
+pub mod FilterBuilding
 pub mod Tallies
 pub mod ChannelPlaces
 pub use Rattle.mc_igmp.specs.Wants

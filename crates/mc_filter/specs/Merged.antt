@@ -10,21 +10,21 @@ use Rattle.mc_filter.specs.declared.filter.Mode.TheVariants.{Include, Exclude}
 use Rattle.mc_filter.specs.SourceFilter.{SourceFilter}
 
 -- the record is for the group, and of this kind
-abbrev pub IsFor : ℕ → Kind → Record → Type 0
-IsFor group of_kind r = (r.group ≡ group) × (r.kind ≡ of_kind)
+abbrev pub IsRecordFor : ℕ → Kind → Record → Type 0
+IsRecordFor group of_kind r = (r.group ≡ group) × (r.kind ≡ of_kind)
 
 -- some record for the group is an EXCLUDE record
 abbrev pub HasExclude : List Record → ℕ → Type 0
-HasExclude records group = Any (IsFor group kind.Exclude) records
+HasExclude records group = Any (IsRecordFor group kind.Exclude) records
 
 -- the source is in the union of the INCLUDE lists for the group
 abbrev pub InSomeInclude : List Record → ℕ → ℕ → Type 0
-InSomeInclude records group source = Any (λ r. IsFor group kind.Include r
+InSomeInclude records group source = Any (λ r. IsRecordFor group kind.Include r
     × Contains r.sources source) records
 
 -- the source is in the intersection of the EXCLUDE lists for the group
 abbrev pub InEachExclude : List Record → ℕ → ℕ → Type 0
-InEachExclude records group source = All (λ r. IsFor group kind.Exclude r
+InEachExclude records group source = All (λ r. IsRecordFor group kind.Exclude r
     → Contains r.sources source) records
 
 -- EXCLUDE of the intersection of the EXCLUDE lists less all INCLUDE lists, if there is an EXCLUDE

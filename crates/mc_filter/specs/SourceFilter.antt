@@ -30,11 +30,11 @@ abbrev pub FilterAdmits : SourceFilter → ℕ → Type 0
 FilterAdmits filter source = AdmitsIn filter.mode filter.sources source
 
 -- Records of types 1 and 2 tell a filter, and no others.
-abbrev pub TellsNoFilter : Kind → Type 0
-TellsNoFilter kind.Include = ⊥
-TellsNoFilter kind.Exclude = ⊥
-TellsNoFilter (kind.Change type) = Unit {0}
-TellsNoFilter (kind.Unknown type) = Unit {0}
+abbrev pub ChangesNoFilter : Kind → Type 0
+ChangesNoFilter kind.Include = ⊥
+ChangesNoFilter kind.Exclude = ⊥
+ChangesNoFilter (kind.Change type) = Unit {0}
+ChangesNoFilter (kind.Unknown type) = Unit {0}
 
 -- The same as a test: whether a filter of this mode admits a source, by whether its list has the
 -- source.

@@ -9,7 +9,7 @@ use mc_text::Addr;
 use std::alloc::AllocError;
 
 /// Appends the sources of a record.
-pub(crate) fn append(addresses: &mut Vec<Addr>, sources: &Sources<'_>) -> Result<(), AllocError>
+pub(crate) fn append_sources(addresses: &mut Vec<Addr>, sources: &Sources<'_>) -> Result<(), AllocError>
     ensures { OnOk result (addresses.new.items ≡ addresses.old.items ++ sources.now) }
 {
     for source in sources.iter() {
@@ -19,7 +19,7 @@ pub(crate) fn append(addresses: &mut Vec<Addr>, sources: &Sources<'_>) -> Result
 }
 
 /// Puts addresses in ascending order, each once.
-pub(crate) fn make_ascending(addresses: &mut Vec<Addr>)
+pub(crate) fn sort_and_dedup(addresses: &mut Vec<Addr>)
     ensures ascending { IsStrictlyIncreasing addresses.new.items }
     ensures same { (address : ℕ)
         → has addresses.new.items address ≡ has addresses.old.items address }
@@ -37,7 +37,7 @@ pub(crate) fn is_listed(addresses: &[Addr], address: Addr) -> bool
 }
 
 /// Keeps the addresses that the others have too.
-pub(crate) fn keep_common(addresses: &mut Vec<Addr>, others: &[Addr])
+pub(crate) fn retain_common(addresses: &mut Vec<Addr>, others: &[Addr])
     requires ascending { IsStrictlyIncreasing addresses.old.items }
     requires others_ascending { IsStrictlyIncreasing others.now }
     ensures ascending { IsStrictlyIncreasing addresses.new.items }
@@ -48,7 +48,7 @@ pub(crate) fn keep_common(addresses: &mut Vec<Addr>, others: &[Addr])
 }
 
 /// Takes away the addresses that the others have.
-pub(crate) fn take_away(addresses: &mut Vec<Addr>, others: &[Addr])
+pub(crate) fn remove_common(addresses: &mut Vec<Addr>, others: &[Addr])
     requires ascending { IsStrictlyIncreasing addresses.old.items }
     requires others_ascending { IsStrictlyIncreasing others.now }
     ensures ascending { IsStrictlyIncreasing addresses.new.items }

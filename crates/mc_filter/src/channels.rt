@@ -6,8 +6,8 @@ ghost use Rattle.std.specs.List.{All};
 ghost use Rattle.mc_text.specs.Pair.{pair_number};
 ghost use Rattle.mc_igmp.specs.declared.record.Record.{Record};
 ghost use Rattle.mc_igmp.specs.Wants.{Wants};
-ghost use Rattle.mc_filter.specs.ChannelPlaces.{AreAnswers, IsPlace, channel_at};
-ghost use Rattle.mc_filter.specs.Tallies.{EachTells};
+ghost use Rattle.mc_filter.specs.ChannelPlaces.{AreWantedAnswers, IsChannelPlace, channel_at};
+ghost use Rattle.mc_filter.specs.Tallies.{AreTallied};
 
 use crate::tally::Tally;
 use mc_igmp::ReportList;
@@ -18,7 +18,7 @@ use std::marker::Model;
 /// The place of a channel among all channels, which ascend by their numbers, and of its group among
 /// their groups.
 #[derive(Clone, Copy, Debug)]
-struct Place {
+struct ChannelPlace {
     group: usize,
     channel: usize,
 }
@@ -35,10 +35,10 @@ fn group_numbers(alloc: Global, asked: &[(Addr, Addr)]) -> Result<Vec<u64>, Memo
 }
 
 /// The place of a channel among channels, which have to have it.
-fn place_of(groups: &Index, channels: &Index, source: Addr, group: Addr) -> Place
+fn place_of(groups: &Index, channels: &Index, source: Addr, group: Addr) -> ChannelPlace
     requires group { Contains groups.now group }
     requires channel { Contains channels.now (pair_number (source, group)) }
-    ensures place { IsPlace groups.now channels.now result }
+    ensures place { IsChannelPlace groups.now channels.now result }
     ensures channel { channel_at channels.now result ≡ (source, group) }
 {
     let places = (
@@ -46,7 +46,7 @@ fn place_of(groups: &Index, channels: &Index, source: Addr, group: Addr) -> Plac
         channels.place_of(pair_number(source, group)),
     );
     match places {
-        (Some(group), Some(channel)) => Place { group, channel },
+        (Some(group), Some(channel)) => ChannelPlace { group, channel },
         _ => unreachable!(),
     }
 }
@@ -57,10 +57,10 @@ fn places_of(
     groups: &Index,
     channels: &Index,
     asked: &[(Addr, Addr)],
-) -> Result<Vec<Place>, Memory>
+) -> Result<Vec<ChannelPlace>, Memory>
     requires groups { All (λ channel. Contains groups.now channel.1) asked.now }
     requires channels { All (λ channel. Contains channels.now (pair_number channel)) asked.now }
-    ensures places { IfOk result (λ places. All (IsPlace groups.now channels.now) places.items) }
+    ensures places { IfOk result (λ places. All (IsChannelPlace groups.now channels.now) places.items) }
     ensures asked { IfOk result (λ places.
         map (channel_at channels.now) places.items ≡ asked.now) }
 {
@@ -79,9 +79,9 @@ fn tally_of(
     reports: &ReportList,
 ) -> Result<Tally, Memory>
     ensures groups { IfOk result (λ tally. length tally.excludes.items ≡ length groups.now) }
-    ensures channels { IfOk result (λ tally. length tally.told.items ≡ length channels.now) }
-    ensures each { IfOk result (λ tally. EachTells groups.now channels.now reports.now
-        tally.excludes.items tally.told.items []) }
+    ensures channels { IfOk result (λ tally. length tally.states.items ≡ length channels.now) }
+    ensures each { IfOk result (λ tally. AreTallied groups.now channels.now reports.now
+        tally.excludes.items tally.states.items []) }
 {
     let mut tally = Tally::none(alloc, groups.count(), channels.count())?;
     for group_record in reports.records() {
@@ -94,19 +94,19 @@ fn tally_of(
 }
 
 /// Whether each channel is wanted, by what the records of a list told.
-fn answers_of(alloc: Global, tally: &Tally, places: &[Place]) -> Result<Vec<bool>, Memory>
+fn wanted_answers(alloc: Global, tally: &Tally, places: &[ChannelPlace]) -> Result<Vec<bool>, Memory>
     requires groups { All (λ place. place.group < length tally.now.excludes.items) places.now }
-    requires channels { All (λ place. place.channel < length tally.now.told.items) places.now }
+    requires channels { All (λ place. place.channel < length tally.now.states.items) places.now }
     ensures count { IfOk result (λ answers. length answers.items ≡ length places.now) }
     ensures each { IfOk result (λ answers. (groups channels : List ℕ) (records : List Record) →
-        length tally.now.excludes.items ≡ length groups → All (IsPlace groups channels) places.now →
-        EachTells groups channels records tally.now.excludes.items tally.now.told.items [] →
-        AreAnswers channels records places.now answers.items) }
+        length tally.now.excludes.items ≡ length groups → All (IsChannelPlace groups channels) places.now →
+        AreTallied groups channels records tally.now.excludes.items tally.now.states.items [] →
+        AreWantedAnswers channels records places.now answers.items) }
 {
     let mut answers = Vec::with_capacity(alloc, places.len())?;
     for place in places {
         let excludes = tally.excludes[place.group];
-        answers.push(!tally.told[place.channel].is_left_out(excludes))?;
+        answers.push(!tally.states[place.channel].is_unwanted(excludes))?;
     }
     Ok(answers)
 }
@@ -117,19 +117,19 @@ fn answers_of(alloc: Global, tally: &Tally, places: &[Place]) -> Result<Vec<bool
 pub struct Channels {
     groups: Index,
     channels: Index,
-    places: Vec<Place>,
+    places: Vec<ChannelPlace>,
 }
 
 impl Model for Channels {
     ghost use Rattle.std.specs.Prelude.{ℕ, List, map};
     ghost use Rattle.std.specs.List.{All};
-    ghost use Rattle.mc_filter.specs.ChannelPlaces.{IsPlace, channel_at};
+    ghost use Rattle.mc_filter.specs.ChannelPlaces.{IsChannelPlace, channel_at};
 
     ghost Value = { List (ℕ × ℕ) };
 
     ghost view = { λ s. map (channel_at s.channels) s.places.items };
 
-    ghost invariant = { λ s. All (IsPlace s.groups s.channels) s.places.items };
+    ghost invariant = { λ s. All (IsChannelPlace s.groups s.channels) s.places.items };
 }
 
 impl Channels {
@@ -164,6 +164,6 @@ impl Channels {
             IsTrue is_wanted ↔ Wants reports.now channel.1 channel.0) }
     {
         let tally = tally_of(alloc, &self.groups, &self.channels, reports)?;
-        answers_of(alloc, &tally, &self.places)
+        wanted_answers(alloc, &tally, &self.places)
     }
 }

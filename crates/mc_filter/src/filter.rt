@@ -5,10 +5,10 @@ ghost use Rattle.std.specs.List.Sorted.{IsStrictlyIncreasing};
 ghost use Rattle.mc_igmp.specs.declared.record.Kind.TheVariants as kind;
 ghost use Rattle.mc_igmp.specs.Wants.{Admits};
 ghost use Rattle.mc_filter.specs.SourceFilter.{has};
-ghost use Rattle.mc_filter.specs.SourceFilter.{FilterAdmits, TellsNoFilter, include_nothing};
+ghost use Rattle.mc_filter.specs.SourceFilter.{FilterAdmits, ChangesNoFilter, include_nothing};
 ghost use Rattle.mc_filter.specs.SourceFilter.{admits, admits_by};
 
-use crate::addresses::{append, is_listed, keep_common, make_ascending, take_away};
+use crate::addresses::{append_sources, is_listed, retain_common, sort_and_dedup, remove_common};
 use mc_igmp::{Kind, Record};
 use mc_text::{Addr, Memory};
 use std::alloc::Global;
@@ -62,7 +62,7 @@ impl Filter {
             ↔ (FilterAdmits self.old source ⊎ Admits group_record.now source)) }
         ensures mode { OnOk result ((self.new.mode ≡ Mode.Exclude) ↔
             ((self.old.mode ≡ Mode.Exclude) ⊎ (group_record.now.kind ≡ kind.Exclude))) }
-        ensures other_types { TellsNoFilter group_record.now.kind
+        ensures other_types { ChangesNoFilter group_record.now.kind
             → IsOk result × (self.new ≡ self.old) }
         ensures err { OnErr result (self.new ≡ self.old) }
         ensures ascending { IsStrictlyIncreasing self.new.sources }
@@ -74,7 +74,7 @@ impl Filter {
             Kind::Change(_) | Kind::Unknown(_) => return Ok(()),
         };
         let mut listed = Vec::new(alloc);
-        append(&mut listed, &group_record.sources)?;
+        append_sources(&mut listed, &group_record.sources)?;
         self.merge_list(mode, listed)
     }
 
@@ -91,24 +91,24 @@ impl Filter {
         match (self.mode, mode) {
             (Mode::Include, Mode::Include) => {
                 listed.extend_from_slice(&self.sources)?;
-                make_ascending(&mut listed);
+                sort_and_dedup(&mut listed);
                 self.sources = listed;
             }
             (Mode::Include, Mode::Exclude) => {
-                make_ascending(&mut listed);
-                take_away(&mut listed, &self.sources);
+                sort_and_dedup(&mut listed);
+                remove_common(&mut listed, &self.sources);
                 *self = Filter {
                     mode,
                     sources: listed,
                 };
             }
             (Mode::Exclude, Mode::Include) => {
-                make_ascending(&mut listed);
-                take_away(&mut self.sources, &listed);
+                sort_and_dedup(&mut listed);
+                remove_common(&mut self.sources, &listed);
             }
             (Mode::Exclude, Mode::Exclude) => {
-                make_ascending(&mut listed);
-                keep_common(&mut self.sources, &listed);
+                sort_and_dedup(&mut listed);
+                retain_common(&mut self.sources, &listed);
             }
         }
         Ok(())

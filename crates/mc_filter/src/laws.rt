@@ -16,7 +16,7 @@ pub fn merged_filter_admits_what_is_wanted()
 {}
 
 /// The same records in another order merge to the same filter.
-pub fn order_of_records_does_not_matter()
+pub fn merged_filter_ignores_record_order()
     ensures { (records others : List Record) (group : ℕ) (filter other : SourceFilter) →
         IsPermutation records others →
         IsMergedValue records group filter → IsMergedValue others group other → filter ≡ other }

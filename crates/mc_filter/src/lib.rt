@@ -5,12 +5,12 @@
 mod addresses;
 mod channels;
 mod filter;
-mod gathered;
+mod filter_builder;
 mod laws;
 mod tally;
 mod wants;
 
 pub use channels::Channels;
 pub use filter::{Filter, Mode};
-pub use laws::{merged_filter_admits_what_is_wanted, order_of_records_does_not_matter};
+pub use laws::{merged_filter_admits_what_is_wanted, merged_filter_ignores_record_order};
 pub use wants::{is_wanted, wants_of};

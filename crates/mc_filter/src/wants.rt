@@ -6,7 +6,7 @@ ghost use Rattle.mc_filter.specs.SourceFilter.{FilterAdmits};
 ghost use Rattle.mc_filter.specs.Merged.{IsMergedValue};
 
 use crate::filter::Filter;
-use crate::gathered::Gathered;
+use crate::filter_builder::FilterBuilder;
 use mc_igmp::{Kind, ListRecords, Record, ReportList};
 use mc_text::{Addr, Memory};
 use std::alloc::Global;
@@ -19,13 +19,13 @@ pub fn wants_of(alloc: Global, reports: &ReportList, group: Addr) -> Result<Filt
     ensures wants { IfOk result (λ filter. (source : ℕ) →
         FilterAdmits filter source ↔ Wants reports.now group source) }
 {
-    let mut gathered = Gathered::none(alloc);
+    let mut filter_builder = FilterBuilder::none(alloc);
     for group_record in reports.records() {
         if group_record.group == group {
-            gathered.add(&group_record)?;
+            filter_builder.add(&group_record)?;
         }
     }
-    gathered.into_filter()
+    filter_builder.into_filter()
 }
 
 /// Whether a record admits a source.

@@ -4,7 +4,7 @@ use Rattle.std.proofs.Common.{take, drop, ◌-◌, min, ◌⊎◌, inl, inr, ref
 use Rattle.std.proofs.lemmas.List.{take_all, length-drop}
 use Rattle.std.specs.List.{AllByRecursion}
 use Rattle.std.specs.List.Sorted.{IsStrictlyIncreasing}
-use Rattle.mc_tables.specs.CacheTable.{EntryText, IsEntry}
+use Rattle.mc_tables.specs.CacheTable.{EntryValue, IsValidEntry}
 use Rattle.mc_tables.specs.declared.entry.Oif.{Oif}
 use Rattle.mc_tables.proofs.EntryLemmas.{tail-ascends}
 
@@ -15,37 +15,37 @@ AreInRange oifs =
 abbrev Ascend : List Oif → Type 0
 Ascend oifs = IsStrictlyIncreasing (map (λ (o : Oif). o.vif) oifs)
 
-room : (oif : Oif) (oifs : List Oif) → Ascend (oif ∷ oifs) → AreInRange (oif ∷ oifs)
+vif_plus_length-at_most_32 : (oif : Oif) (oifs : List Oif) → Ascend (oif ∷ oifs) → AreInRange (oif ∷ oifs)
     → oif.vif + length (oif ∷ oifs) ≤ 32
-room oif [] up within = omega (arith, within.0.0)
-room oif (next ∷ oifs) up within =
+vif_plus_length-at_most_32 oif [] up within = omega (arith, within.0.0)
+vif_plus_length-at_most_32 oif (next ∷ oifs) up within =
     let first : oif.vif < next.vif = up 0 (omega arith) in
-    let rest = room next oifs (tail-ascends oif.vif (map (λ (o : Oif). o.vif) (next ∷ oifs)) up)
+    let rest = vif_plus_length-at_most_32 next oifs (tail-ascends oif.vif (map (λ (o : Oif). o.vif) (next ∷ oifs)) up)
     within.1 in
     omega (arith, first, rest)
 
-lower-front : (oifs : List Oif) (k vif : ℕ) → Ascend oifs → AreInRange oifs → k ≤ length oifs
+take-lower_vifs : (oifs : List Oif) (k vif : ℕ) → Ascend oifs → AreInRange oifs → k ≤ length oifs
     → k + 32 ≤ vif + length oifs → AllByRecursion (λ (o : Oif). o.vif < vif) (take k oifs)
-lower-front oifs zero vif up within few here = tt
-lower-front [] (suc k) vif up within few here = tt
-lower-front (oif ∷ oifs) (suc k) vif up within few here =
-    let fits = room oif oifs up within in (
+take-lower_vifs oifs zero vif up within few here = tt
+take-lower_vifs [] (suc k) vif up within few here = tt
+take-lower_vifs (oif ∷ oifs) (suc k) vif up within few here =
+    let fits = vif_plus_length-at_most_32 oif oifs up within in (
       omega (arith, fits, few, here),
-      lower-front oifs k vif (tail-ascends oif.vif (map (λ (o : Oif). o.vif) oifs) up) within.1
+      take-lower_vifs oifs k vif (tail-ascends oif.vif (map (λ (o : Oif). o.vif) oifs) up) within.1
           (omega (arith, few)) (omega (arith, here)),
     )
 
-lower-vifs : (entry : EntryText) (k vif : ℕ) → IsEntry entry → k ≤ length entry.oifs
+take-lower_vifs_of_entry : (entry : EntryValue) (k vif : ℕ) → IsValidEntry entry → k ≤ length entry.oifs
     → (k ≡ 0) ⊎ (k + 32 ≤ vif + length entry.oifs)
     → AllByRecursion (λ (o : Oif). o.vif < vif) (take k entry.oifs)
-lower-vifs entry k vif ok few (inl e) =
+take-lower_vifs_of_entry entry k vif ok few (inl e) =
     subst (λ (n : ℕ). AllByRecursion (λ (o : Oif). o.vif < vif) (take n entry.oifs)) (sym e) tt
-lower-vifs entry k vif ok few (inr here) =
-    lower-front entry.oifs k vif ok.ascending ok.ranges few here
+take-lower_vifs_of_entry entry k vif ok few (inr here) =
+    take-lower_vifs entry.oifs k vif ok.ascending ok.ranges few here
 
-front-and-rest : (k : ℕ) (oifs : List Oif)
+append-take_and_drop : (k : ℕ) (oifs : List Oif)
     → take k oifs ++ take (length oifs - k) (drop k oifs) ≡ oifs
-front-and-rest k oifs =
+append-take_and_drop k oifs =
     ap (λ (rest : List Oif). take k oifs ++ rest)
     (take_all (length oifs - k) (drop k oifs) (let e = length-drop k oifs in omega (arith, e)))
     ∙ take-drop k oifs
@@ -55,19 +55,19 @@ front-and-rest k oifs =
     take-drop (suc k) [] = refl
     take-drop (suc k) (o ∷ oifs) = ap (λ (os : List Oif). o ∷ os) (take-drop k oifs)
 
-none_or_room : (vif n k : ℕ) → k ≡ min (vif + n - 32) n → (k ≡ 0) ⊎ (k + 32 ≤ vif + n)
-none_or_room vif n k e = grind arith
+none_or_fits : (vif n k : ℕ) → k ≡ min (vif + n - 32) n → (k ≡ 0) ⊎ (k + 32 ≤ vif + n)
+none_or_fits vif n k e = grind arith
 
 -- so those at the front of an entry's are lower
-pub split-lower : (entry : EntryText) (oifs : List Oif) (vif k : ℕ) → IsEntry entry
+pub append-lower_vifs_and_rest : (entry : EntryValue) (oifs : List Oif) (vif k : ℕ) → IsValidEntry entry
     → oifs ≡ entry.oifs → k ≡ min (vif + length oifs - 32) (length oifs)
     → (lower : List Oif) × (lower ++ take (length oifs - k) (drop k oifs) ≡ entry.oifs)
     × AllByRecursion (λ (o : Oif). o.vif < vif) lower
-split-lower entry oifs vif k ok same is =
+append-lower_vifs_and_rest entry oifs vif k ok same is =
     let cases = subst (λ (os : List Oif). (k ≡ 0) ⊎ (k + 32 ≤ vif + length os)) same
-    (none_or_room vif (length oifs) k is) in (
+    (none_or_fits vif (length oifs) k is) in (
       take k oifs,
-      front-and-rest k oifs ∙ same,
+      append-take_and_drop k oifs ∙ same,
       subst (λ (os : List Oif). AllByRecursion (λ (o : Oif). o.vif < vif) (take k os)) (sym same)
-          (lower-vifs entry k vif ok (omega (arith, is, ap length same)) cases),
+          (take-lower_vifs_of_entry entry k vif ok (omega (arith, is, ap length same)) cases),
     )

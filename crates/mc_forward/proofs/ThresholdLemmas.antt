@@ -2,22 +2,22 @@
 use Rattle.std.proofs.Common.{◌≡◌, ℕ, ◌<◌, ◌==◌, false, cond, List, [], ◌∷◌, ◌++◌, refl, sym, ap, ◌∙◌, arith}
 use Rattle.std.specs.List.{AllByRecursion}
 use Rattle.mc_tables.specs.declared.entry.Oif.{Oif}
-use Rattle.mc_theory.specs.Made.{threshold_of}
-use Rattle.mc_forward.specs.Domains.{pairs_of}
+use Rattle.mc_theory.specs.CertificateOfCopies.{threshold_of}
+use Rattle.mc_forward.specs.Domains.{oif_pairs}
 
-behind-lower : (vif : ℕ) (lower rest : List Oif)
+threshold_of-append_lower_more : (vif : ℕ) (lower rest : List Oif)
     → AllByRecursion (λ (o : Oif). o.vif < vif) lower
-    → threshold_of vif (pairs_of rest) ≡ threshold_of vif (pairs_of (lower ++ rest))
-behind-lower vif [] rest are = refl
-behind-lower vif (o ∷ lower) rest are =
-    behind-lower vif lower rest are.1
+    → threshold_of vif (oif_pairs rest) ≡ threshold_of vif (oif_pairs (lower ++ rest))
+threshold_of-append_lower_more vif [] rest are = refl
+threshold_of-append_lower_more vif (o ∷ lower) rest are =
+    threshold_of-append_lower_more vif lower rest are.1
     ∙ (let other : (o.vif == vif) ≡ false = grind arith in
-    ap (λ b. cond b o.threshold (threshold_of vif (pairs_of (lower ++ rest)))) (sym other))
+    ap (λ b. cond b o.threshold (threshold_of vif (oif_pairs (lower ++ rest)))) (sym other))
 
-pub threshold-behind : (vif : ℕ) (rest oifs : List Oif)
+pub threshold_of-append_lower : (vif : ℕ) (rest oifs : List Oif)
     → (lower : List Oif) × (lower ++ rest ≡ oifs)
     × AllByRecursion (λ (o : Oif). o.vif < vif) lower
-    → threshold_of vif (pairs_of rest) ≡ threshold_of vif (pairs_of oifs)
-threshold-behind vif rest oifs found =
-    behind-lower vif found.0 rest found.2
-    ∙ ap (λ (os : List Oif). threshold_of vif (pairs_of os)) found.1
+    → threshold_of vif (oif_pairs rest) ≡ threshold_of vif (oif_pairs oifs)
+threshold_of-append_lower vif rest oifs found =
+    threshold_of-append_lower_more vif found.0 rest found.2
+    ∙ ap (λ (os : List Oif). threshold_of vif (oif_pairs os)) found.1

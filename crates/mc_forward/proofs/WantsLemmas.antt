@@ -7,30 +7,30 @@ use Rattle.std.proofs.lemmas.Option.{slice_get-map, slice_get_within, get_or_fro
 use Rattle.mc_igmp.specs.declared.record.Record.{Record}
 use Rattle.mc_igmp.specs.Wants.{Wants}
 use Rattle.mc_topology.specs.declared.flow.Flow.{Flow}
-use Rattle.mc_topology.specs.Topology.{TopologyValue, IsTopology}
+use Rattle.mc_topology.specs.Topology.{TopologyValue, IsValidTopology}
 use Rattle.mc_forward.specs.Domains.{TablesValue, AreTables, IsDomain}
 use Rattle.mc_forward.specs.DomainParts.{domain_with}
-use Rattle.mc_forward.specs.Assembling.{EachAt, AreAnswers, AreCounted, IsAssembled, AreWanted}
+use Rattle.mc_forward.specs.Assembling.{RelatedAtEachIndex, AreAnswers, HaveMatchingCounts, IsAssembled, AreWanted}
 use Rattle.mc_forward.specs.Assembling.{AreChannelsWanted}
 use Rattle.mc_forward.specs.ListedTables.{flow_pairs}
-use Rattle.mc_forward.proofs.EachLemmas.{some-at}
+use Rattle.mc_forward.proofs.IndexLemmas.{slice_get-exists}
 
 -- what the rows of wants say, LAN by LAN and flow by flow
-pub wanted-at : (flows : List Flow) (reports : List (List Record)) (wants : List (List Bool))
+pub wants-at_lan_and_flow : (flows : List Flow) (reports : List (List Record)) (wants : List (List Bool))
     → length wants ≡ length reports
-    → EachAt (AreWanted flows) reports wants → (lan flow : ℕ) (records : List Record) (f : Flow)
+    → RelatedAtEachIndex (AreWanted flows) reports wants → (lan flow : ℕ) (records : List Record) (f : Flow)
     → slice_get reports lan ≡ Some records
     → slice_get flows flow ≡ Some f
     → IsTrue (slice_index_or (slice_index_or wants lan []) flow false)
     ↔ Wants records f.group f.source
-wanted-at flows reports wants size each lan flow records f at here =
+wants-at_lan_and_flow flows reports wants size each lan flow records f at here =
     let within : lan < length wants =
     (let lt = slice_get_within reports lan records at in omega (arith, lt, size)) in
-    let row = some-at wants lan within in
+    let row = slice_get-exists wants lan within in
     let own = each lan records row.0 at row.1 in
     let inside : flow < length row.0 =
     (let lt = slice_get_within flows flow f here in omega (arith, lt, own.count)) in
-    let flag = some-at row.0 flow inside in
+    let flag = slice_get-exists row.0 flow inside in
     let read : slice_index_or (slice_index_or wants lan []) flow false ≡ flag.0 =
     ap (λ (r : List Bool). get_or r flow false) (get_or_from_slice_get wants lan row.0 [] row.1)
     ∙ get_or_from_slice_get row.0 flow flag.0 false flag.1 in
@@ -38,11 +38,11 @@ wanted-at flows reports wants size each lan flow records f at here =
     (own.each flow f flag.0 here flag.1)
 
 -- what was worked out makes a domain
-pub domain-of : (t : TopologyValue) (ts : List TablesValue) (wants : List (List Bool))
-    → IsTopology t → length ts ≡ length t.routers
+pub is_domain-from_parts : (t : TopologyValue) (ts : List TablesValue) (wants : List (List Bool))
+    → IsValidTopology t → length ts ≡ length t.routers
     → ((router : ℕ) (own : TablesValue) → slice_get ts router ≡ Some own → AreTables own)
     → AreAnswers t wants → IsDomain (domain_with t ts wants)
-domain-of t ts wants rules counted tables answers = record {
+is_domain-from_parts t ts wants rules counted tables answers = record {
   topology = rules;
   routers = counted;
   tables = tables;
@@ -51,48 +51,48 @@ domain-of t ts wants rules counted tables answers = record {
 }
 
 -- which flows are wanted is an answer for each LAN and flow
-pub answers-of : (t : TopologyValue) (ts : List TablesValue) (rs : List (List Record))
-    (wants : List (List Bool)) → AreCounted t ts rs
-    → length wants ≡ length rs → EachAt (AreWanted t.flows) rs wants → AreAnswers t wants
-answers-of t ts rs wants counted size each = record {
+pub are_answers-from_reports : (t : TopologyValue) (ts : List TablesValue) (rs : List (List Record))
+    (wants : List (List Bool)) → HaveMatchingCounts t ts rs
+    → length wants ≡ length rs → RelatedAtEachIndex (AreWanted t.flows) rs wants → AreAnswers t wants
+are_answers-from_reports t ts rs wants counted size each = record {
   lans = size ∙ counted.lans;
   flows = λ lan wanted at. (
       let lt = slice_get_within wants lan wanted at in
-      let records = some-at rs lan (omega (arith, lt, size)) in
+      let records = slice_get-exists rs lan (omega (arith, lt, size)) in
       (each lan records.0 wanted records.1 at).count);
 }
 
-pub assembled-of : (t : TopologyValue) (ts : List TablesValue) (rs : List (List Record))
+pub is_assembled-from_reports : (t : TopologyValue) (ts : List TablesValue) (rs : List (List Record))
     (wants : List (List Bool))
-    → length wants ≡ length rs → EachAt (AreWanted t.flows) rs wants
+    → length wants ≡ length rs → RelatedAtEachIndex (AreWanted t.flows) rs wants
     → IsAssembled t ts rs (domain_with t ts wants)
-assembled-of t ts rs wants size each = record {
+is_assembled-from_reports t ts rs wants size each = record {
   topology = refl;
   tables = refl;
   wants =
-      wanted-at t.flows rs wants size each;
+      wants-at_lan_and_flow t.flows rs wants size each;
 }
 
 -- there is a channel for each flow
-pub channels-count : (flows : List Flow) (channels : List (ℕ × ℕ)) → channels ≡ flow_pairs flows
+pub length-flow_pairs : (flows : List Flow) (channels : List (ℕ × ℕ)) → channels ≡ flow_pairs flows
     → length channels ≡ length flows
-channels-count flows channels are =
+length-flow_pairs flows channels are =
     ap length are ∙ length-map flows (λ (f : Flow). (f.source, f.group))
 
 -- which channels of flows are wanted says which flows are
-pub flows-wanted : (flows : List Flow) (records : List Record) (channels : List (ℕ × ℕ))
+pub are_wanted-from_channels : (flows : List Flow) (records : List Record) (channels : List (ℕ × ℕ))
     (wanted : List Bool) → channels ≡ flow_pairs flows
     → AreChannelsWanted channels records wanted → AreWanted flows records wanted
-flows-wanted flows records channels wanted are own = record {
-  count = own.count ∙ channels-count flows channels are;
-  each = λ k f b at told. own.each k (f.source, f.group) b
+are_wanted-from_channels flows records channels wanted are own = record {
+  count = own.count ∙ length-flow_pairs flows channels are;
+  each = λ k f b at wanted_is. own.each k (f.source, f.group) b
       (ap (λ (cs : List (ℕ × ℕ)). slice_get cs k) are
       ∙ slice_get-map (λ (g : Flow). (g.source, g.group)) flows k
-      ∙ ap (λ o. option_map (λ (g : Flow). (g.source, g.group)) o) at) told;
+      ∙ ap (λ o. option_map (λ (g : Flow). (g.source, g.group)) o) at) wanted_is;
 }
 
 -- what holds of every answer holds of this one
-pub each-answer : {A E : Type 0} (P Q : A → Type 0) (r : Result A E) → IfOk r P
+pub if_ok-implies : {A E : Type 0} (P Q : A → Type 0) (r : Result A E) → IfOk r P
     → ((x : A) → P x → Q x) → IfOk r Q
-each-answer P Q (Ok x) holds then = then x holds
-each-answer P Q (Err e) holds then = tt
+if_ok-implies P Q (Ok x) holds then = then x holds
+if_ok-implies P Q (Err e) holds then = tt

@@ -7,11 +7,11 @@ use Rattle.mc_igmp.specs.Wants.{Wants}
 use Rattle.mc_topology.specs.declared.flow.Flow.{Flow}
 use Rattle.mc_topology.specs.Topology.{TopologyValue}
 use Rattle.mc_theory.specs.Lists.{below}
-use Rattle.mc_theory.specs.Nets.{Interface, is_lan, slots}
+use Rattle.mc_theory.specs.Nets.{Interface, is_lan, router_vif_pairs}
 use Rattle.mc_forward.specs.Domains.{TablesValue, DomainValue, lan_of_vif, wants_of}
 
 -- tables for each router, and a list of reports for each LAN
-pub record AreCounted (t : TopologyValue) (ts : List TablesValue) (rs : List (List Record))
+pub record HaveMatchingCounts (t : TopologyValue) (ts : List TablesValue) (rs : List (List Record))
     : Type 0 where
   pub routers : length ts ≡ length t.routers
   pub lans : length rs ≡ length t.lans
@@ -29,8 +29,8 @@ pub record IsAssembled (t : TopologyValue) (ts : List TablesValue) (rs : List (L
 -- ---- step by step
 
 -- what stands at one place of both lists is so related
-abbrev pub EachAt : {A B : Type 0} → (A → B → Type 0) → List A → List B → Type 0
-EachAt {A} {B} R xs ys =
+abbrev pub RelatedAtEachIndex : {A B : Type 0} → (A → B → Type 0) → List A → List B → Type 0
+RelatedAtEachIndex {A} {B} R xs ys =
     (k : ℕ) (x : A) (y : B) → slice_get xs k ≡ Some x → slice_get ys k ≡ Some y → R x y
 
 -- whether the channel, a source and a group, is wanted by these records
@@ -41,7 +41,7 @@ IsChannelWanted records channel wanted = IsTrue wanted ↔ Wants records channel
 pub record AreChannelsWanted (channels : List (ℕ × ℕ)) (records : List Record) (wanted : List Bool)
     : Type 0 where
   pub count : length wanted ≡ length channels
-  pub each : EachAt (IsChannelWanted records) channels wanted
+  pub each : RelatedAtEachIndex (IsChannelWanted records) channels wanted
 
 -- whether the flow is wanted by these records
 abbrev pub IsWanted : List Record → Flow → Bool → Type 0
@@ -50,7 +50,7 @@ IsWanted records f wanted = IsTrue wanted ↔ Wants records f.group f.source
 -- which of the flows are wanted by these records
 pub record AreWanted (flows : List Flow) (records : List Record) (wanted : List Bool) : Type 0 where
   pub count : length wanted ≡ length flows
-  pub each : EachAt (IsWanted records) flows wanted
+  pub each : RelatedAtEachIndex (IsWanted records) flows wanted
 
 -- an answer for each LAN and flow
 pub record AreAnswers (t : TopologyValue) (wants : List (List Bool)) : Type 0 where
@@ -59,21 +59,21 @@ pub record AreAnswers (t : TopologyValue) (wants : List (List Bool)) : Type 0 wh
       → length wanted ≡ length t.flows
 
 -- the LAN of each vif of one router
-abbrev pub places_by : TopologyValue → ℕ → TablesValue → List (Option ℕ)
-places_by topology router tables =
+abbrev pub vif_lans_by_tables : TopologyValue → ℕ → TablesValue → List (Option ℕ)
+vif_lans_by_tables topology router tables =
     map (λ vif. option_and_then (lan_of_vif topology router) (finite.get tables.vifs vif))
     (below 32)
 
 -- the place of a vif in a table of the LANs of each router's vifs
-abbrev pub place_in : List (List (Option ℕ)) → ℕ → ℕ → Option ℕ
-place_in places router vif = slice_index_or (slice_index_or places router []) vif None
+abbrev pub vif_lan_in : List (List (Option ℕ)) → ℕ → ℕ → Option ℕ
+vif_lan_in vif_lans router vif = slice_index_or (slice_index_or vif_lans router []) vif None
 
 -- the interfaces of a LAN by such a table, of the first routers
-abbrev pub interfaces_by : List (List (Option ℕ)) → (routers : ℕ) → ℕ → List Interface
-interfaces_by places routers lan =
-    filter (λ i. is_lan (place_in places i.0 i.1) lan) (slots 32 routers)
+abbrev pub interfaces_by_vif_lans : List (List (Option ℕ)) → (routers : ℕ) → ℕ → List Interface
+interfaces_by_vif_lans vif_lans routers lan =
+    filter (λ i. is_lan (vif_lan_in vif_lans i.0 i.1) lan) (router_vif_pairs 32 routers)
 
 -- those of one router, among these vifs
 abbrev pub vifs_on : List (Option ℕ) → ℕ → ℕ → List ℕ → List Interface
-vifs_on places router lan vifs =
-    map (λ vif. (router, vif)) (filter (λ vif. is_lan (slice_index_or places vif None) lan) vifs)
+vifs_on vif_lans router lan vifs =
+    map (λ vif. (router, vif)) (filter (λ vif. is_lan (slice_index_or vif_lans vif None) lan) vifs)

@@ -5,11 +5,11 @@ use Rattle.mc_theory.specs.Nets.{Row}
 use Rattle.mc_theory.specs.Nets.Row.{Exact as exact, Open as open_row, NoRow as no_row}
 use Rattle.mc_forward.specs.declared.flow_rows.RowHead.{RowHead}
 use Rattle.mc_forward.specs.declared.flow_rows.RowHead.TheVariants.{Exact, Open, NoRow}
-use Rattle.mc_forward.specs.Domains.{pairs_of}
+use Rattle.mc_forward.specs.Domains.{oif_pairs}
 
 -- the row of a head and outgoing vifs
 abbrev pub row_with : RowHead × List Oif → Row
-row_with (Exact iif, oifs) = exact iif (pairs_of oifs)
+row_with (Exact iif, oifs) = exact iif (oif_pairs oifs)
 row_with (Open, oifs) = open_row
 row_with (NoRow, oifs) = no_row
 

@@ -3,9 +3,9 @@ pub mod Assembling
 pub mod ListedTables
 pub mod FlatRows
 pub mod DomainParts
-pub mod Rows
-pub mod Journeys
-pub mod Outcomes
+pub mod RowValues
+pub mod FlightsInDomain
+pub mod OutcomeValues
 pub mod PerLan
 pub use Rattle.mc_igmp.specs.Wants
 pub use Rattle.mc_filter.specs.SourceFilter
@@ -17,7 +17,7 @@ pub use Rattle.mc_theory.specs.Certificates
 pub use Rattle.mc_theory.specs.Headline
 pub use Rattle.mc_theory.specs.Reasons
 pub use Rattle.mc_theory.specs.Findings
-pub use Rattle.mc_theory.specs.Made
+pub use Rattle.mc_theory.specs.CertificateOfCopies
 pub use Rattle.mc_topology.specs.Topology
 pub use Rattle.mc_tables.specs.VifTable
 pub use Rattle.mc_tables.specs.VifLookups

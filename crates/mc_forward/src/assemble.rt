@@ -2,15 +2,15 @@
 
 ghost use Rattle.std.specs.Prelude.{◌≡◌, ◌↔◌, IfOk, IfErr, IsErrAnd, length};
 ghost use Rattle.mc_forward.specs.declared.refused.DomainFault.TheVariants.{Count};
-ghost use Rattle.mc_forward.specs.Assembling.{AreAnswers, AreCounted, IsAssembled};
+ghost use Rattle.mc_forward.specs.Assembling.{AreAnswers, HaveMatchingCounts, IsAssembled};
 ghost use Rattle.mc_forward.specs.Domains.{IsDomain};
-ghost use Rattle.mc_forward.specs.DomainParts.{domain_with, IsWorkedOut};
+ghost use Rattle.mc_forward.specs.DomainParts.{domain_with, AreDerivedTables};
 
-use crate::domain::{Domain, WorkedOut};
+use crate::domain::{Domain, DerivedTables};
 use crate::flow_rows::rows_of_routers;
 use crate::interfaces::interfaces_of_lans;
 use crate::items::Items;
-use crate::places::places_of_routers;
+use crate::vif_lans::vif_lans_of_routers;
 use crate::refused::{DomainFault, Refused};
 use crate::tables::Tables;
 use crate::wants::wants_of_lans;
@@ -20,46 +20,46 @@ use mc_topology::Topology;
 use std::alloc::Global;
 
 /// What is worked out of a topology, of the routers' tables and of which LAN wants which flow.
-fn work_out(
+fn derive_tables(
     alloc: Global,
     topology: &Topology,
     tables: &[Tables],
     wants: Vec<Items<bool>>,
-) -> Result<WorkedOut, Memory>
+) -> Result<DerivedTables, Memory>
     requires routers { length tables.now ≡ length topology.now.routers }
     requires answers { AreAnswers topology.now wants.items }
-    ensures worked_out { IfOk result (λ w.
-        IsWorkedOut (domain_with topology.now tables.now w.wants.items)
-        w.places.items w.interfaces.items w.rows.items) }
+    ensures derived { IfOk result (λ w.
+        AreDerivedTables (domain_with topology.now tables.now w.wants.items)
+        w.vif_lans.items w.interfaces.items w.rows.items) }
     ensures wants { IfOk result (λ w. w.wants.items ≡ wants.items) }
 {
-    let places = places_of_routers(alloc, topology, tables)?;
-    let interfaces = interfaces_of_lans(alloc, topology.lans(), &places)?;
+    let vif_lans = vif_lans_of_routers(alloc, topology, tables)?;
+    let interfaces = interfaces_of_lans(alloc, topology.lans(), &vif_lans)?;
     let rows = rows_of_routers(alloc, topology, tables)?;
-    Ok(WorkedOut {
+    Ok(DerivedTables {
         wants,
-        places,
+        vif_lans,
         interfaces,
         rows,
     })
 }
 
 /// The same, of the reports of each LAN.
-fn work_out_of_reports(
+fn derive_tables_from_reports(
     alloc: Global,
     topology: &Topology,
     tables: &[Tables],
     reports: &[ReportList],
-) -> Result<WorkedOut, Memory>
-    requires { AreCounted topology.now tables.now reports.now }
-    ensures worked_out { IfOk result (λ w.
-        IsWorkedOut (domain_with topology.now tables.now w.wants.items)
-        w.places.items w.interfaces.items w.rows.items) }
+) -> Result<DerivedTables, Memory>
+    requires { HaveMatchingCounts topology.now tables.now reports.now }
+    ensures derived { IfOk result (λ w.
+        AreDerivedTables (domain_with topology.now tables.now w.wants.items)
+        w.vif_lans.items w.interfaces.items w.rows.items) }
     ensures assembled { IfOk result (λ w. IsAssembled topology.now tables.now reports.now
         (domain_with topology.now tables.now w.wants.items)) }
 {
     let wants = wants_of_lans(alloc, topology, reports)?;
-    work_out(alloc, topology, tables, wants)
+    derive_tables(alloc, topology, tables, wants)
 }
 
 impl Domain {
@@ -80,7 +80,7 @@ impl Domain {
         ensures assembled { IfOk result (IsAssembled topology tables.items reports.items) }
         ensures rules { IfOk result IsDomain }
         ensures count { IsErrAnd result (λ refused. refused.fault ≡ Count) ↔
-            ¬ (AreCounted topology tables.items reports.items) }
+            ¬ (HaveMatchingCounts topology tables.items reports.items) }
         ensures topology { IfErr result (λ refused. refused.topology ≡ topology) }
         ensures tables { IfErr result (λ refused. refused.tables ≡ tables) }
         ensures reports { IfErr result (λ refused. refused.reports ≡ reports) }
@@ -95,8 +95,8 @@ impl Domain {
                 fault: DomainFault::Count,
             });
         }
-        match work_out_of_reports(alloc, &topology, &tables, &reports) {
-            Ok(worked_out) => Ok(Domain::new(topology, tables, worked_out)),
+        match derive_tables_from_reports(alloc, &topology, &tables, &reports) {
+            Ok(derived) => Ok(Domain::new(topology, tables, derived)),
             Err(Memory) => Err(Refused {
                 topology,
                 tables,
@@ -112,7 +112,7 @@ impl Domain {
     /// # Errors
     ///
     /// `Memory` where a growth was refused.
-    pub fn of_wants(
+    pub fn from_wants(
         alloc: Global,
         topology: Topology,
         tables: Vec<Tables>,
@@ -124,7 +124,7 @@ impl Domain {
             domain ≡ domain_with topology tables.items wants.items) }
         ensures rules { IfOk result IsDomain }
     {
-        let worked_out = work_out(alloc, &topology, &tables, wants)?;
-        Ok(Domain::new(topology, tables, worked_out))
+        let derived = derive_tables(alloc, &topology, &tables, wants)?;
+        Ok(Domain::new(topology, tables, derived))
     }
 }

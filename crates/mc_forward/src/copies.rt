@@ -4,18 +4,18 @@ ghost use Rattle.std.specs.Prelude.{◌≡◌, ◌-◌, ◌<◌, ◌≤◌, ◌+
 ghost use Rattle.std.specs.Prelude.{remove, filter, not, is_some, IfOk, OnOk, OnErr, slice_get};
 ghost use Rattle.std.specs.Prelude.{option_map};
 ghost use Rattle.mc_theory.specs.Flights.{hearers, waits_at, is_sender, put, leave, sends, handle};
-ghost use Rattle.mc_theory.specs.Flights.{step, without};
+ghost use Rattle.mc_theory.specs.Flights.{step, without_waiting};
 ghost use Rattle.mc_theory.specs.Events.Outcome.{Sent};
-ghost use Rattle.mc_theory.specs.Events.{event_of, outcome_by, sent_onto, sent_astray};
-ghost use Rattle.mc_forward.specs.Domains.{pairs_of};
-ghost use Rattle.mc_forward.specs.Journeys.{net_in, Extends};
-ghost use Rattle.mc_forward.specs.Outcomes.{outcome_seen};
+ghost use Rattle.mc_theory.specs.Events.{event_of, outcome_by_row, onto_lan_count, astray_count};
+ghost use Rattle.mc_forward.specs.Domains.{oif_pairs};
+ghost use Rattle.mc_forward.specs.FlightsInDomain.{net_in, Extends};
+ghost use Rattle.mc_forward.specs.OutcomeValues.{outcome_value};
 
-use crate::copy::{Carried, Stray, WaitingCopy};
+use crate::copy::{CarriedCopy, Stray, WaitingCopy};
 use crate::event::{Event, Outcome};
 use crate::flow_view::FlowView;
 use crate::row::RowFor;
-use crate::seen_flow::SeenFlow;
+use crate::flow_with_rows::FlowWithRows;
 use mc_tables::Oif;
 use mc_text::Memory;
 use mc_topology::RouterNo;
@@ -27,14 +27,14 @@ use std::marker::Model;
 /// came.
 #[derive(Drop)]
 pub(crate) struct Copies {
-    carried: Vec<Carried>,
+    carried: Vec<CarriedCopy>,
     waiting: VecDeque<WaitingCopy>,
     strays: Vec<Stray>,
 }
 
 impl Model for Copies {
     ghost use Rattle.mc_theory.specs.Flights.{Flight};
-    ghost use Rattle.mc_forward.specs.Journeys.{flight_of, flight_code};
+    ghost use Rattle.mc_forward.specs.FlightsInDomain.{flight_of, flight_code};
 
     ghost Value = { Flight };
 
@@ -44,7 +44,7 @@ impl Model for Copies {
 }
 
 /// Whether a router's vif sent the copy.
-fn is_sent_by(copy: &Carried, router: RouterNo, vif: u8) -> bool
+fn is_sent_by(copy: &CarriedCopy, router: RouterNo, vif: u8) -> bool
     ensures { result ≡ is_sender copy.now.sender (router, vif) }
 {
     match copy.sender {
@@ -57,7 +57,7 @@ fn is_sent_by(copy: &Carried, router: RouterNo, vif: u8) -> bool
 fn wait_at_hearers(
     waiting: &mut VecDeque<WaitingCopy>,
     view: &FlowView<'_>,
-    copy: &Carried,
+    copy: &CarriedCopy,
 ) -> Result<(), Memory>
     requires { copy.now.lan < length view.now.domain.topology.lans }
     ensures ok { OnOk result (waiting.new.items ≡
@@ -79,7 +79,7 @@ fn wait_at_hearers(
 
 /// Takes the copy with this index away. The others keep their order, and the fewer of those before
 /// and after it are moved.
-fn take_away(waiting: &mut VecDeque<WaitingCopy>, index: usize)
+fn remove_waiting(waiting: &mut VecDeque<WaitingCopy>, index: usize)
     requires { index < length waiting.old.items }
     ensures { waiting.new.items ≡ remove waiting.old.items index }
 {
@@ -104,7 +104,7 @@ impl Copies {
         })
     }
 
-    pub(crate) fn carried(&self) -> &[Carried]
+    pub(crate) fn carried(&self) -> &[CarriedCopy]
         ensures { result.now ≡ self.now.carried }
     {
         &self.carried
@@ -124,7 +124,7 @@ impl Copies {
 
     /// A copy is put on its LAN.
     #[inline(always)]
-    pub(crate) fn put(&mut self, view: &FlowView<'_>, copy: &Carried) -> Result<(), Memory>
+    pub(crate) fn put(&mut self, view: &FlowView<'_>, copy: &CarriedCopy) -> Result<(), Memory>
         requires { copy.now.lan < length view.now.domain.topology.lans }
         ensures ok { OnOk result (self.new ≡ put (net_in view.now) copy.now self.old) }
         ensures kept { Extends self.old self.new }
@@ -146,7 +146,7 @@ impl Copies {
         let router = taken.router;
         match view.placed(router, vif) {
             Some(lan) => {
-                let copy = Carried {
+                let copy = CarriedCopy {
                     lan,
                     ttl: taken.ttl - 1,
                     sender: Some((router, vif)),
@@ -170,10 +170,10 @@ impl Copies {
     ) -> Result<Outcome, Memory>
         requires { length oifs.now ≤ 32 }
         ensures ok { OnOk result (self.new ≡
-            sends (net_in view.now) taken.now.router taken.now.ttl (pairs_of oifs.now) self.old) }
-        ensures outcome { IfOk result (λ outcome. outcome_seen outcome ≡ Sent
-            (sent_onto (net_in view.now) taken.now.router taken.now.ttl (pairs_of oifs.now))
-            (sent_astray (net_in view.now) taken.now.router taken.now.ttl (pairs_of oifs.now))) }
+            sends (net_in view.now) taken.now.router taken.now.ttl (oif_pairs oifs.now) self.old) }
+        ensures outcome { IfOk result (λ outcome. outcome_value outcome ≡ Sent
+            (onto_lan_count (net_in view.now) taken.now.router taken.now.ttl (oif_pairs oifs.now))
+            (astray_count (net_in view.now) taken.now.router taken.now.ttl (oif_pairs oifs.now))) }
         ensures kept { Extends self.old self.new }
     {
         let mut copies = 0;
@@ -191,10 +191,10 @@ impl Copies {
     }
 
     /// What a router does with a copy that waits at its vif. The copy still waits afterwards.
-    fn forward(&mut self, flow: &SeenFlow<'_>, taken: &WaitingCopy) -> Result<Outcome, Memory>
+    fn forward(&mut self, flow: &FlowWithRows<'_>, taken: &WaitingCopy) -> Result<Outcome, Memory>
         ensures ok { OnOk result (self.new ≡ handle (net_in flow.now) (Some taken.now) self.old) }
-        ensures outcome { IfOk result (λ outcome. outcome_seen outcome ≡
-            outcome_by (net_in flow.now) taken.now ((net_in flow.now).row taken.now.router)) }
+        ensures outcome { IfOk result (λ outcome. outcome_value outcome ≡
+            outcome_by_row (net_in flow.now) taken.now ((net_in flow.now).row taken.now.router)) }
         ensures kept { Extends self.old self.new }
     {
         match flow.row(taken.router) {
@@ -219,7 +219,7 @@ impl Copies {
     /// The waiting copy with this index is taken away and handled. All that grows does so before,
     /// so that nothing is changed where memory runs out.
     #[inline(always)]
-    pub(crate) fn handle(&mut self, flow: &SeenFlow<'_>, index: usize) -> Result<Event, Memory>
+    pub(crate) fn handle(&mut self, flow: &FlowWithRows<'_>, index: usize) -> Result<Event, Memory>
         requires { index < length self.old.waiting }
         ensures ok { OnOk result (self.new ≡ step (net_in flow.now) index self.old) }
         ensures event { IfOk result (λ event.
@@ -233,7 +233,7 @@ impl Copies {
         let taken = self.waiting[index];
         match self.forward(flow, &taken) {
             Ok(outcome) => {
-                take_away(&mut self.waiting, index);
+                remove_waiting(&mut self.waiting, index);
                 Ok(Event {
                     router: taken.router,
                     vif: taken.vif,
@@ -253,8 +253,8 @@ impl Copies {
     /// The waiting copy with this index is taken away.
     pub(crate) fn lose(&mut self, lost: usize)
         requires { lost < length self.old.waiting }
-        ensures { self.new ≡ without lost self.old }
+        ensures { self.new ≡ without_waiting lost self.old }
     {
-        take_away(&mut self.waiting, lost);
+        remove_waiting(&mut self.waiting, lost);
     }
 }

@@ -6,7 +6,7 @@ use std::marker::Model;
 
 /// A copy that a LAN carried.
 #[derive(Clone, Copy, Debug, PartialEq, Eq)]
-pub struct Carried {
+pub struct CarriedCopy {
     /// The LAN.
     pub lan: LanNo,
     /// The time to live that it had there, at most 255.
@@ -15,7 +15,7 @@ pub struct Carried {
     pub sender: Option<(RouterNo, u8)>,
 }
 
-impl Model for Carried {
+impl Model for CarriedCopy {
     ghost use Rattle.mc_theory.specs.Flights.{Copy};
 
     ghost Value = { Copy };

@@ -4,13 +4,13 @@ ghost use Rattle.std.specs.Prelude.{◌≡◌, ◌<◌, ℕ, None, IfSome, lengt
 ghost use Rattle.std.specs.Option.{option_copied};
 ghost use Rattle.mc_theory.specs.Nets.{interfaces};
 ghost use Rattle.mc_forward.specs.Domains.{IsDomain, net_of, placed_of, row_of, vif_of, wants_of};
-ghost use Rattle.mc_forward.specs.DomainParts.{domain_with, IsWorkedOut};
-ghost use Rattle.mc_forward.specs.Rows.{row_seen, EntryStands};
+ghost use Rattle.mc_forward.specs.DomainParts.{domain_with, AreDerivedTables};
+ghost use Rattle.mc_forward.specs.RowValues.{row_value, HasValidEntry};
 
 use crate::flow_rows::RouterRows;
 use crate::interfaces::Interfaces;
 use crate::items::Items;
-use crate::places::Places;
+use crate::vif_lans::VifLans;
 use crate::row::RowFor;
 use crate::tables::Tables;
 use mc_tables::Vif;
@@ -19,11 +19,11 @@ use std::marker::Model;
 
 /// What is worked out once of the parts of a domain.
 #[derive(Drop)]
-pub(crate) struct WorkedOut {
+pub(crate) struct DerivedTables {
     /// For each LAN, whether it wants each flow.
     pub(crate) wants: Vec<Items<bool>>,
     /// For each router, the LAN of each vif.
-    pub(crate) places: Vec<Places>,
+    pub(crate) vif_lans: Vec<VifLans>,
     /// For each LAN, the vifs that are placed on it, with the router of each.
     pub(crate) interfaces: Vec<Items<(RouterNo, u8)>>,
     /// For each router, the row of each flow.
@@ -34,7 +34,7 @@ pub(crate) struct WorkedOut {
 pub struct Domain {
     topology: Topology,
     tables: Vec<Tables>,
-    worked_out: WorkedOut,
+    derived: DerivedTables,
 }
 
 // Written out, so that whoever lets a domain go takes one step, and not one for each of its parts.
@@ -43,37 +43,37 @@ impl Drop for Domain {
         let Self {
             topology,
             tables,
-            worked_out,
+            derived,
         } = self;
     }
 }
 
 impl Model for Domain {
     ghost use Rattle.mc_forward.specs.Domains.{DomainValue};
-    ghost use Rattle.mc_forward.specs.DomainParts.{domain_code, domain_with, IsWorkedOut};
+    ghost use Rattle.mc_forward.specs.DomainParts.{domain_code, domain_with, AreDerivedTables};
 
     ghost Value = { DomainValue };
 
     ghost coded = { domain_code };
 
-    ghost view = { λ d. domain_with d.topology d.tables.items d.worked_out.wants.items };
+    ghost view = { λ d. domain_with d.topology d.tables.items d.derived.wants.items };
 
     ghost invariant = { λ d.
-        IsWorkedOut (domain_with d.topology d.tables.items d.worked_out.wants.items)
-        d.worked_out.places.items d.worked_out.interfaces.items d.worked_out.rows.items };
+        AreDerivedTables (domain_with d.topology d.tables.items d.derived.wants.items)
+        d.derived.vif_lans.items d.derived.interfaces.items d.derived.rows.items };
 }
 
-fn place_of(places: &[Option<LanNo>], vif: u8) -> Option<LanNo>
-    ensures { result ≡ unwrap_or (slice_get places.now vif) None }
+fn vif_lan(vif_lans: &[Option<LanNo>], vif: u8) -> Option<LanNo>
+    ensures { result ≡ unwrap_or (slice_get vif_lans.now vif) None }
 {
-    match places.get(vif as usize) {
+    match vif_lans.get(vif as usize) {
         Some(place) => *place,
         None => None,
     }
 }
 
 /// The vif of a router with this index.
-fn vif_in(tables: &[Tables], router: RouterNo, vif: u8) -> Option<&Vif>
+fn vif_of_router(tables: &[Tables], router: RouterNo, vif: u8) -> Option<&Vif>
     ensures { option_copied result ≡ vif_of tables.now router vif }
 {
     match tables.get(router.0 as usize) {
@@ -84,15 +84,15 @@ fn vif_in(tables: &[Tables], router: RouterNo, vif: u8) -> Option<&Vif>
 
 impl Domain {
     /// The domain of a topology, the routers' tables, and what was worked out of them.
-    pub(crate) fn new(topology: Topology, tables: Vec<Tables>, worked_out: WorkedOut) -> Domain
-        requires { IsWorkedOut (domain_with topology tables.items worked_out.wants.items)
-            worked_out.places.items worked_out.interfaces.items worked_out.rows.items }
-        ensures { result ≡ domain_with topology tables.items worked_out.wants.items }
+    pub(crate) fn new(topology: Topology, tables: Vec<Tables>, derived: DerivedTables) -> Domain
+        requires { AreDerivedTables (domain_with topology tables.items derived.wants.items)
+            derived.vif_lans.items derived.interfaces.items derived.rows.items }
+        ensures { result ≡ domain_with topology tables.items derived.wants.items }
     {
         Domain {
             topology,
             tables,
-            worked_out,
+            derived,
         }
     }
 
@@ -112,8 +112,8 @@ impl Domain {
         ensures lan { result ≡ placed_of self.now router vif }
         ensures listed { IfSome result (λ lan. lan < length self.now.topology.lans) }
     {
-        let places = &self.worked_out.places[router.0 as usize];
-        place_of(places, vif)
+        let vif_lans = &self.derived.vif_lans[router.0 as usize];
+        vif_lan(vif_lans, vif)
     }
 
     /// The vif of a router with this index, as its table has it. None where that has no line of
@@ -121,17 +121,17 @@ impl Domain {
     pub fn vif(&self, router: RouterNo, vif: u8) -> Option<&Vif>
         ensures { option_copied result ≡ vif_of self.now.tables router vif }
     {
-        vif_in(&self.tables, router, vif)
+        vif_of_router(&self.tables, router, vif)
     }
 
     /// What a router's forwarding cache has for a flow.
     pub fn entry(&self, router: RouterNo, flow: u32) -> RowFor<'_>
         requires router { router < length self.now.topology.routers }
         requires flow { flow < length self.now.topology.flows }
-        ensures row { row_seen result ≡ row_of self.now flow router }
-        ensures stands { EntryStands result }
+        ensures row { row_value result ≡ row_of self.now flow router }
+        ensures valid { HasValidEntry result }
     {
-        let rows = &self.worked_out.rows[router.0 as usize];
+        let rows = &self.derived.rows[router.0 as usize];
         rows.row(flow)
     }
 
@@ -142,7 +142,7 @@ impl Domain {
         requires flow { flow < length self.now.topology.flows }
         ensures { result ≡ wants_of self.now flow lan }
     {
-        let wanted = &self.worked_out.wants[lan.0 as usize];
+        let wanted = &self.derived.wants[lan.0 as usize];
         wanted.items[flow as usize]
     }
 
@@ -151,7 +151,7 @@ impl Domain {
         requires { lan < length self.now.topology.lans }
         ensures { (flow : ℕ) → result ≡ interfaces (net_of self.now flow) lan }
     {
-        let interfaces = &self.worked_out.interfaces[lan.0 as usize];
+        let interfaces = &self.derived.interfaces[lan.0 as usize];
         Interfaces::new(interfaces)
     }
 }

@@ -37,22 +37,22 @@ pub struct Event {
 impl Model for Event {
     ghost use Rattle.std.proofs.Common.{ap};
     ghost use Rattle.mc_theory.specs.Events as events;
-    ghost use Rattle.mc_forward.specs.Outcomes.{outcome_seen, outcome_showing};
-    ghost use Rattle.mc_forward.specs.Outcomes.{outcome_showing-seen};
+    ghost use Rattle.mc_forward.specs.OutcomeValues.{outcome_value, outcome_of_value};
+    ghost use Rattle.mc_forward.specs.OutcomeValues.{outcome_of_value-outcome_value};
 
     ghost Value = { events.Event };
 
     ghost view = { λ e.
-        record { router = e.router; vif = e.vif; ttl = e.ttl; outcome = outcome_seen e.outcome } };
+        record { router = e.router; vif = e.vif; ttl = e.ttl; outcome = outcome_value e.outcome } };
 
     ghost inverse = { λ e. record {
       router = e.router;
       vif = e.vif;
       ttl = e.ttl;
-      outcome = outcome_showing e.outcome;
+      outcome = outcome_of_value e.outcome;
     } };
 
     ghost inverse_ok = { λ e h.
         ap (λ o. record { router = e.router; vif = e.vif; ttl = e.ttl; outcome = o })
-        (outcome_showing-seen e.outcome) };
+        (outcome_of_value-outcome_value e.outcome) };
 }

@@ -2,17 +2,17 @@
 
 ghost use Rattle.std.specs.Prelude.{◌≡◌, ◌<◌, Some, length, min, IfOk, OnOk, OnErr, slice_get};
 ghost use Rattle.std.specs.Prelude.{option_map, All, IfSome};
-ghost use Rattle.mc_theory.specs.Flights.{copies_on, start, step, without};
+ghost use Rattle.mc_theory.specs.Flights.{copy_count_on, start, step, without_waiting};
 ghost use Rattle.mc_theory.specs.Events.{event_of};
 ghost use Rattle.mc_forward.specs.Domains.{net_of};
-ghost use Rattle.mc_forward.specs.Journeys.{journey_net, flown};
+ghost use Rattle.mc_forward.specs.FlightsInDomain.{net_of_flight_in_domain, with_flight};
 
 use crate::copies::Copies;
-use crate::copy::{Carried, Stray};
+use crate::copy::{CarriedCopy, Stray};
 use crate::domain::Domain;
 use crate::event::Event;
 use crate::flow_view::FlowView;
-use crate::seen_flow::SeenFlow;
+use crate::flow_with_rows::FlowWithRows;
 use mc_text::Memory;
 use mc_topology::LanNo;
 use std::alloc::Global;
@@ -22,16 +22,16 @@ use std::marker::Model;
 /// caller picks. Its value in contracts is the domain, the flow's number and the flight.
 #[derive(Drop)]
 pub struct Flight<'d> {
-    flow: SeenFlow<'d>,
+    flow: FlowWithRows<'d>,
     copies: Copies,
 }
 
 impl<'d> Model for Flight<'d> {
-    ghost use Rattle.mc_forward.specs.Journeys.{Journey, IsFlight, journey_code};
+    ghost use Rattle.mc_forward.specs.FlightsInDomain.{FlightInDomain, IsFlight, flight_in_domain_code};
 
-    ghost Value = { Journey };
+    ghost Value = { FlightInDomain };
 
-    ghost coded = { journey_code };
+    ghost coded = { flight_in_domain_code };
 
     ghost view = { λ f. record { domain = f.flow.domain; flow = f.flow.flow; flight = f.copies } };
 
@@ -39,8 +39,8 @@ impl<'d> Model for Flight<'d> {
 }
 
 /// How many of the copies a LAN carried, 4,294,967,295 where there are more.
-fn count_on(carried: &[Carried], lan: LanNo) -> u32
-    ensures { result ≡ min (copies_on carried.now lan) 4294967295 }
+fn count_copies_on(carried: &[CarriedCopy], lan: LanNo) -> u32
+    ensures { result ≡ min (copy_count_on carried.now lan) 4294967295 }
 {
     let mut count = 0u32;
     for copy in carried {
@@ -73,13 +73,13 @@ impl<'d> Flight<'d> {
     {
         let view = FlowView::new(domain, flow);
         let mut copies = Copies::new(alloc, view.lans(), view.routers())?;
-        let first = Carried {
+        let first = CarriedCopy {
             lan: view.source(),
             ttl,
             sender: None,
         };
         copies.put(&view, &first)?;
-        let flow = SeenFlow::new(alloc, view)?;
+        let flow = FlowWithRows::new(alloc, view)?;
         Ok(Flight { flow, copies })
     }
 
@@ -99,9 +99,9 @@ impl<'d> Flight<'d> {
 
     /// How many copies a LAN carried, 4,294,967,295 where it carried more.
     pub fn carried(&self, lan: LanNo) -> u32
-        ensures { result ≡ min (copies_on self.now.flight.carried lan) 4294967295 }
+        ensures { result ≡ min (copy_count_on self.now.flight.carried lan) 4294967295 }
     {
-        count_on(self.copies.carried(), lan)
+        count_copies_on(self.copies.carried(), lan)
     }
 
     /// Where copies left the known domain, in order.
@@ -112,7 +112,7 @@ impl<'d> Flight<'d> {
     }
 
     /// The copies that LANs carried, in order. The first is the source's.
-    pub fn copies(&self) -> &[Carried]
+    pub fn copies(&self) -> &[CarriedCopy]
         ensures copies { result.now ≡ self.now.flight.carried }
         // Each on a LAN of the topology, and sent by one of its routers if not by the source.
         ensures lans { All (λ c. c.lan < length self.now.domain.topology.lans) result.now }
@@ -132,8 +132,8 @@ impl<'d> Flight<'d> {
     pub fn handle(&mut self, index: usize) -> Result<Event, Memory>
         requires { index < length self.old.flight.waiting }
         ensures ok { OnOk result (self.new ≡
-            flown self.old (step (journey_net self.old) index self.old.flight)) }
-        ensures event { IfOk result (λ event. option_map (event_of (journey_net self.old))
+            with_flight self.old (step (net_of_flight_in_domain self.old) index self.old.flight)) }
+        ensures event { IfOk result (λ event. option_map (event_of (net_of_flight_in_domain self.old))
             (slice_get self.old.flight.waiting index) ≡ Some event) }
         ensures err { OnErr result (self.new ≡ self.old) }
     {
@@ -143,7 +143,7 @@ impl<'d> Flight<'d> {
     /// The waiting copy with this index is lost: no router handles it. Nothing else changes.
     pub fn lose(&mut self, index: usize)
         requires { index < length self.old.flight.waiting }
-        ensures { self.new ≡ flown self.old (without index self.old.flight) }
+        ensures { self.new ≡ with_flight self.old (without_waiting index self.old.flight) }
     {
         self.copies.lose(index);
     }

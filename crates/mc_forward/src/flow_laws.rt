@@ -2,8 +2,8 @@
 
 ghost use Rattle.std.specs.Prelude.{◌≡◌, ◌≢◌, ◌↔◌, ◌<◌, ◌≤◌, ◌++◌, ◌∷◌, [], ℕ, Bool, List, None};
 ghost use Rattle.std.specs.Prelude.{length};
-ghost use Rattle.mc_theory.specs.Nets.{Net, placed_vifs};
-ghost use Rattle.mc_theory.specs.Flights.{Flight, Pick, EveryRun, InRange, happens, place_of, run};
+ghost use Rattle.mc_theory.specs.Nets.{Net, placed_interfaces};
+ghost use Rattle.mc_theory.specs.Flights.{Flight, Pick, EveryRun, InRange, apply_pick, picked_index, run};
 ghost use Rattle.mc_theory.specs.Flights.{start};
 ghost use Rattle.mc_theory.specs.Certificates.{Entry, IsTree, IsAccepted, IsRight};
 ghost use Rattle.mc_theory.specs.Certificates.{IsSafe, IsDeliveredWhole};
@@ -11,7 +11,7 @@ ghost use Rattle.mc_theory.specs.Headline.{HeadlineHolds};
 ghost use Rattle.mc_theory.specs.Reasons.{first_reason};
 ghost use Rattle.mc_theory.specs.Findings.{Finding, IsTravel, handles};
 ghost use Rattle.mc_theory.specs.Findings.Finding.{Clean};
-ghost use Rattle.mc_theory.specs.Made.{entries_of};
+ghost use Rattle.mc_theory.specs.CertificateOfCopies.{entries_of};
 ghost use Rattle.mc_forward.specs.Domains.{DomainValue, IsDomain, net_of, ttl_of};
 
 use crate::laws::domains_are_nets;
@@ -45,31 +45,31 @@ pub fn an_accepted_list_keeps_the_headline()
         HeadlineHolds (net_of d flow) (length es) }
 {
     domains_are_nets();
-    mc_theory::the_headline_holds();
+    mc_theory::accepted_flow_keeps_headline();
 }
 
 /// A flow of a domain has an accepted list exactly if it is right.
-pub fn a_flow_is_right_exactly_if_a_list_is_accepted()
+pub fn flow_is_right_iff_a_list_is_accepted()
     ensures { (d : DomainValue) (flow : ℕ) → IsDomain d → flow < length d.topology.flows →
         ((es : List Entry) × IsAccepted (net_of d flow) es) ↔ IsRight (net_of d flow) }
 {
     domains_are_nets();
-    mc_theory::a_flow_has_a_certificate_exactly_if_it_is_right();
+    mc_theory::certificate_exists_iff_flow_is_right();
 }
 
 /// No reason is left exactly where the list is accepted.
-pub fn no_reason_accepts_the_list()
+pub fn no_reason_iff_list_is_accepted()
     ensures { (d : DomainValue) (flow : ℕ) (es : List Entry) → IsDomain d →
         (first_reason (net_of d flow) (length d.topology.lans) es ≡ None)
         ↔ IsAccepted (net_of d flow) es }
 {
     domains_are_nets();
-    mc_theory::no_reason_is_acceptance();
+    mc_theory::no_reason_iff_accepted();
 }
 
 /// Another finding than `Clean`, of a travel at a TTL from the flow's to 255, shows that the flow
 /// is not right.
-pub fn a_finding_shows_that_a_flow_is_wrong()
+pub fn finding_shows_that_a_flow_is_wrong()
     ensures { (d : DomainValue) (flow t : ℕ) (numbers : List ℕ) (last : Bool) (is : List ℕ)
         (x : Finding) → IsDomain d → ttl_of d flow ≤ t → t ≤ 255 →
         IsTravel (net_of d flow) (length d.topology.lans) numbers last is (start (net_of d flow) t)
@@ -77,7 +77,7 @@ pub fn a_finding_shows_that_a_flow_is_wrong()
         x ≢ Clean → ¬ IsRight (net_of d flow) }
 {
     domains_are_nets();
-    mc_theory::a_finding_shows();
+    mc_theory::non_clean_finding_is_not_right();
 }
 
 /// A travel has at most as many events as there are placed interfaces.
@@ -86,7 +86,7 @@ pub fn a_travel_through_a_domain_ends()
         (x : Finding) → IsDomain d →
         IsTravel (net_of d flow) (length d.topology.lans) numbers last is (start (net_of d flow) t)
         x →
-        length is ≤ length (placed_vifs (net_of d flow)) }
+        length is ≤ length (placed_interfaces (net_of d flow)) }
 {
     domains_are_nets();
     mc_theory::a_travel_ends();
@@ -112,10 +112,10 @@ pub fn clean_travels_certify_a_flow()
 
 /// A run with one pick more is the run, and then what this pick makes happen; the picks are in
 /// range if those before are, and a copy waits at the last one's place.
-pub fn a_run_goes_on_by_a_pick()
+pub fn run_with_one_more_pick()
     ensures flight { (n : Net) (ps : List Pick) (p : Pick) (f : Flight) →
-        run n (ps ++ p ∷ []) f ≡ happens n p (run n ps f) }
+        run n (ps ++ p ∷ []) f ≡ apply_pick n p (run n ps f) }
     ensures in_range { (n : Net) (ps : List Pick) (p : Pick) (f : Flight) →
         InRange n (ps ++ p ∷ []) f
-        ↔ (InRange n ps f × (place_of p < length (run n ps f).waiting)) }
+        ↔ (InRange n ps f × (picked_index p < length (run n ps f).waiting)) }
 {}

@@ -4,9 +4,9 @@
 ghost use Rattle.std.specs.Prelude.{◌≡◌, ◌<◌, ◌++◌, ◌∷◌, [], IfOk, OnOk, Some, length, map};
 ghost use Rattle.std.specs.Prelude.{slice_get};
 ghost use Rattle.mc_forward.specs.DomainParts.{rows_by_tables};
-ghost use Rattle.mc_forward.specs.Domains.{row_in};
+ghost use Rattle.mc_forward.specs.Domains.{row_in_cache};
 ghost use Rattle.mc_forward.specs.FlatRows.{rows_of};
-ghost use Rattle.mc_forward.specs.Rows.{row_seen, EntryStands};
+ghost use Rattle.mc_forward.specs.RowValues.{row_value, HasValidEntry};
 
 use crate::row::RowFor;
 use crate::tables::Tables;
@@ -48,7 +48,7 @@ impl RouterRows {
     /// The row of the flow with this number.
     pub(crate) fn row(&self, flow: u32) -> RowFor<'_>
         requires { flow < length self.now }
-        ensures { slice_get self.now flow ≡ Some (row_seen result) }
+        ensures { slice_get self.now flow ≡ Some (row_value result) }
     {
         let (head, oifs) = self.rows.at(flow);
         match head {
@@ -62,9 +62,9 @@ impl RouterRows {
 /// Adds a row behind the others.
 fn push_row(rows: &mut FlatOifs<RowHead>, row: &RowFor<'_>) -> Result<(), Memory>
     requires count { length rows.old.lists < 65536 }
-    requires stands { EntryStands row.now }
+    requires valid { HasValidEntry row.now }
     ensures { OnOk result
-        (rows_of rows.new.lists ≡ rows_of rows.old.lists ++ row_seen row.now ∷ []) }
+        (rows_of rows.new.lists ≡ rows_of rows.old.lists ++ row_value row.now ∷ []) }
 {
     match row {
         RowFor::Exact(entry) => rows.push(RowHead::Exact(entry.iif), entry.oifs)?,
@@ -75,14 +75,14 @@ fn push_row(rows: &mut FlatOifs<RowHead>, row: &RowFor<'_>) -> Result<(), Memory
 }
 
 /// What a cache has for a flow, where that of another router had it at this place.
-fn row_of<'c>(cache: &'c CacheTable, flow: &Flow, near: &mut usize) -> RowFor<'c>
-    ensures row { row_seen result ≡ row_in cache.now flow.now }
-    ensures stands { EntryStands result }
+fn row_of<'c>(cache: &'c CacheTable, flow: &Flow, hint: &mut usize) -> RowFor<'c>
+    ensures row { row_value result ≡ row_in_cache cache.now flow.now }
+    ensures valid { HasValidEntry result }
 {
-    match cache.number_near(flow.source, flow.group, near) {
+    match cache.number_with_hint(flow.source, flow.group, hint) {
         Some(number) => RowFor::Exact(cache.entry_at(number)),
         None => {
-            if cache.wildcard(flow.group) {
+            if cache.has_wildcard(flow.group) {
                 RowFor::Open
             } else {
                 RowFor::NoRow
@@ -96,16 +96,16 @@ fn flow_rows_of(
     alloc: Global,
     topology: &Topology,
     tables: &Tables,
-    places: &mut Vec<usize>,
+    hints: &mut Vec<usize>,
 ) -> Result<RouterRows, Memory>
-    requires { length places.old.items ≡ length topology.now.flows }
-    ensures rows { IfOk result (λ rows. rows ≡ map (row_in tables.now.cache) topology.now.flows) }
-    ensures places { OnOk result (length places.new.items ≡ length topology.now.flows) }
+    requires { length hints.old.items ≡ length topology.now.flows }
+    ensures rows { IfOk result (λ rows. rows ≡ map (row_in_cache tables.now.cache) topology.now.flows) }
+    ensures hints { OnOk result (length hints.new.items ≡ length topology.now.flows) }
 {
     let mut rows = FlatOifs::with_capacity(alloc, topology.flows() as usize)?;
     for flow in 0..topology.flows() {
-        let near = &mut places[flow as usize];
-        let row = row_of(&tables.cache, topology.flow(flow), near);
+        let hint = &mut hints[flow as usize];
+        let row = row_of(&tables.cache, topology.flow(flow), hint);
         push_row(&mut rows, &row)?;
     }
     Ok(RouterRows { rows })
@@ -119,10 +119,10 @@ pub(crate) fn rows_of_routers(
 ) -> Result<Vec<RouterRows>, Memory>
     ensures { IfOk result (λ rows. rows.items ≡ rows_by_tables topology.now.flows tables.now) }
 {
-    let mut places = vec![in alloc; 0; topology.flows() as usize]?;
+    let mut hints = vec![in alloc; 0; topology.flows() as usize]?;
     let mut rows = Vec::with_capacity(alloc, tables.len())?;
     for own in tables {
-        rows.push(flow_rows_of(alloc, topology, own, &mut places)?)?;
+        rows.push(flow_rows_of(alloc, topology, own, &mut hints)?)?;
     }
     Ok(rows)
 }

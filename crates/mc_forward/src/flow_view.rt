@@ -5,8 +5,8 @@ ghost use Rattle.std.specs.Option.{option_copied};
 ghost use Rattle.mc_theory.specs.Nets.{interfaces};
 ghost use Rattle.mc_theory.specs.Findings.{from_lan, taken_from};
 ghost use Rattle.mc_forward.specs.Domains.{vif_of};
-ghost use Rattle.mc_forward.specs.Journeys.{net_in, IsFlowIn};
-ghost use Rattle.mc_forward.specs.Rows.{row_seen, EntryStands};
+ghost use Rattle.mc_forward.specs.FlightsInDomain.{net_in, IsFlowOfDomain};
+ghost use Rattle.mc_forward.specs.RowValues.{row_value, HasValidEntry};
 
 use crate::domain::Domain;
 use crate::interfaces::Interfaces;
@@ -23,15 +23,15 @@ pub struct FlowView<'d> {
 }
 
 impl<'d> Model for FlowView<'d> {
-    ghost use Rattle.mc_forward.specs.Journeys.{FlowIn, IsFlowIn, flow_in_code};
+    ghost use Rattle.mc_forward.specs.FlightsInDomain.{FlowOfDomain, IsFlowOfDomain, flow_of_domain_code};
 
-    ghost Value = { FlowIn };
+    ghost Value = { FlowOfDomain };
 
-    ghost coded = { flow_in_code };
+    ghost coded = { flow_of_domain_code };
 
     ghost view = { λ v. record { domain = v.domain.now; flow = v.flow } };
 
-    ghost invariant = { λ v. IsFlowIn (record { domain = v.domain.now; flow = v.flow }) };
+    ghost invariant = { λ v. IsFlowOfDomain (record { domain = v.domain.now; flow = v.flow }) };
 }
 
 impl<'d> FlowView<'d> {
@@ -39,7 +39,7 @@ impl<'d> FlowView<'d> {
     pub fn new(domain: &'d Domain, flow: u32) -> FlowView<'d>
         requires { flow < length domain.now.topology.flows }
         ensures flow { result ≡ record { domain = domain.now; flow = flow } }
-        ensures rules { IsFlowIn result }
+        ensures rules { IsFlowOfDomain result }
     {
         let _rules = domain.topology();
         FlowView { domain, flow }
@@ -49,7 +49,7 @@ impl<'d> FlowView<'d> {
     pub fn topology(&self) -> &'d Topology
         ensures topology { result.now ≡ self.now.domain.topology }
         // What every flow of a domain keeps.
-        ensures rules { IsFlowIn self.now }
+        ensures rules { IsFlowOfDomain self.now }
     {
         self.domain.topology()
     }
@@ -57,7 +57,7 @@ impl<'d> FlowView<'d> {
     /// How many routers there are.
     pub fn routers(&self) -> u32
         ensures count { result ≡ (net_in self.now).routers }
-        ensures rules { IsFlowIn self.now }
+        ensures rules { IsFlowOfDomain self.now }
     {
         self.topology().routers()
     }
@@ -65,7 +65,7 @@ impl<'d> FlowView<'d> {
     /// How many LANs there are.
     pub fn lans(&self) -> u32
         ensures count { result ≡ length self.now.domain.topology.lans }
-        ensures rules { IsFlowIn self.now }
+        ensures rules { IsFlowOfDomain self.now }
     {
         self.topology().lans()
     }
@@ -115,8 +115,8 @@ impl<'d> FlowView<'d> {
 
     /// What a router has for the flow. No row for a router that the topology hasn't.
     pub fn row(&self, router: RouterNo) -> RowFor<'d>
-        ensures row { row_seen result ≡ (net_in self.now).row router }
-        ensures stands { EntryStands result }
+        ensures row { row_value result ≡ (net_in self.now).row router }
+        ensures valid { HasValidEntry result }
     {
         if router.0 < self.routers() {
             self.domain.entry(router, self.flow)

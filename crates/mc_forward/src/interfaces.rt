@@ -3,10 +3,10 @@
 ghost use Rattle.std.specs.Prelude.{◌≡◌, ◌<◌, ◌≤◌, ◌++◌, ◌∷◌, [], ℕ, IfOk, OnOk, Some, None};
 ghost use Rattle.std.specs.Prelude.{length, map, slice_index_or};
 ghost use Rattle.mc_theory.specs.Lists.{below};
-ghost use Rattle.mc_forward.specs.Assembling.{vifs_on, place_in, interfaces_by};
+ghost use Rattle.mc_forward.specs.Assembling.{vifs_on, vif_lan_in, interfaces_by_vif_lans};
 
 use crate::items::Items;
-use crate::places::Places;
+use crate::vif_lans::VifLans;
 use mc_text::Memory;
 use mc_topology::RouterNo;
 use std::alloc::Global;
@@ -57,7 +57,7 @@ impl<'a> Iterator for Interfaces<'a> {
 }
 
 /// No interface yet, for so many LANs.
-fn no_interfaces(alloc: Global, lans: u32) -> Result<Vec<Items<(RouterNo, u8)>>, Memory>
+fn empty_interface_lists(alloc: Global, lans: u32) -> Result<Vec<Items<(RouterNo, u8)>>, Memory>
     ensures { IfOk result (λ lists. lists.items ≡ map (λ lan. []) (below lans)) }
 {
     let mut lists = Vec::new(alloc);
@@ -73,17 +73,17 @@ fn no_interfaces(alloc: Global, lans: u32) -> Result<Vec<Items<(RouterNo, u8)>>,
 fn add_router(
     lists: &mut Vec<Items<(RouterNo, u8)>>,
     router: RouterNo,
-    places: &Places,
+    vif_lans: &VifLans,
 ) -> Result<(), Memory>
-    requires { (vif lan : ℕ) → slice_index_or places.now vif None ≡ Some lan →
+    requires { (vif lan : ℕ) → slice_index_or vif_lans.now vif None ≡ Some lan →
         lan < length lists.old.items }
     ensures count { length lists.new.items ≡ length lists.old.items }
     ensures each { OnOk result ((lan : ℕ) → lan < length lists.old.items →
         slice_index_or lists.new.items lan [] ≡
-        slice_index_or lists.old.items lan [] ++ vifs_on places.now router lan (below 32)) }
+        slice_index_or lists.old.items lan [] ++ vifs_on vif_lans.now router lan (below 32)) }
 {
     for vif in 0..32u8 {
-        if let Some(lan) = places[vif as usize] {
+        if let Some(lan) = vif_lans[vif as usize] {
             let list = &mut lists[lan.0 as usize];
             list.push((router, vif))?;
         }
@@ -95,16 +95,16 @@ fn add_router(
 pub(crate) fn interfaces_of_lans(
     alloc: Global,
     lans: u32,
-    places: &[Places],
+    vif_lans: &[VifLans],
 ) -> Result<Vec<Items<(RouterNo, u8)>>, Memory>
-    requires few { length places.now ≤ 256 }
+    requires at_most_256 { length vif_lans.now ≤ 256 }
     requires listed { (router vif lan : ℕ) →
-        place_in places.now router vif ≡ Some lan → lan < lans }
+        vif_lan_in vif_lans.now router vif ≡ Some lan → lan < lans }
     ensures { IfOk result (λ lists. lists.items ≡
-        map (interfaces_by places.now (length places.now)) (below lans)) }
+        map (interfaces_by_vif_lans vif_lans.now (length vif_lans.now)) (below lans)) }
 {
-    let mut lists = no_interfaces(alloc, lans)?;
-    for (number, own) in places.iter().enumerate() {
+    let mut lists = empty_interface_lists(alloc, lans)?;
+    for (number, own) in vif_lans.iter().enumerate() {
         add_router(&mut lists, RouterNo(number as u32), own)?;
     }
     Ok(lists)

@@ -16,22 +16,22 @@ mod items;
 mod laws;
 mod outgoing;
 mod per_lan;
-mod places;
+mod vif_lans;
 mod refused;
 mod row;
-mod seen_flow;
+mod flow_with_rows;
 mod tables;
 mod wants;
 
-pub use copy::{Carried, Stray};
+pub use copy::{CarriedCopy, Stray};
 pub use domain::Domain;
 pub use event::{Event, Outcome};
 pub use flight::Flight;
 pub use flow_laws::{
-    a_finding_shows_that_a_flow_is_wrong, a_flow_is_right_exactly_if_a_list_is_accepted,
-    a_run_goes_on_by_a_pick, a_travel_through_a_domain_ends, an_accepted_list_keeps_the_headline,
+    finding_shows_that_a_flow_is_wrong, flow_is_right_iff_a_list_is_accepted,
+    run_with_one_more_pick, a_travel_through_a_domain_ends, an_accepted_list_keeps_the_headline,
     clean_travels_certify_a_flow, every_complete_run_of_a_flow_delivers,
-    every_run_of_a_flow_is_safe, no_reason_accepts_the_list,
+    every_run_of_a_flow_is_safe, no_reason_iff_list_is_accepted,
 };
 pub use flow_view::FlowView;
 pub use interfaces::Interfaces;
@@ -42,4 +42,4 @@ pub use per_lan::PerLan;
 pub use refused::{DomainFault, Refused};
 pub use row::RowFor;
 pub use tables::Tables;
-pub use wants::{FlowChannels, pairs_of};
+pub use wants::{FlowChannels, source_group_pairs};

@@ -2,10 +2,10 @@
 
 ghost use Rattle.std.specs.Prelude.{◌≡◌, ◌<◌, ◌++◌, List};
 ghost use Rattle.std.specs.List.{AllByRecursion};
-ghost use Rattle.mc_theory.specs.Made.{threshold_of};
-ghost use Rattle.mc_tables.specs.CacheTable.{IsEntry};
+ghost use Rattle.mc_theory.specs.CertificateOfCopies.{threshold_of};
+ghost use Rattle.mc_tables.specs.CacheTable.{IsValidEntry};
 ghost use Rattle.mc_tables.specs.declared.entry.Oif.{Oif as OifValue};
-ghost use Rattle.mc_forward.specs.Domains.{pairs_of};
+ghost use Rattle.mc_forward.specs.Domains.{oif_pairs};
 
 use mc_tables::{Entry, Oif};
 
@@ -13,7 +13,7 @@ use mc_tables::{Entry, Oif};
 /// places tell: vifs ascend, and none is higher than 31. Where an entry sends by all vifs but one,
 /// as many routers' do, the vif itself is one of the first two that are left.
 pub fn outgoing_from<'a>(entry: &Entry<'a>, vif: u8) -> &'a [Oif]
-    requires { IsEntry entry.now }
+    requires { IsValidEntry entry.now }
     ensures { (lower : List OifValue) × (lower ++ result.now ≡ entry.now.oifs)
         × AllByRecursion (λ o. o.vif < vif) lower }
 {
@@ -24,8 +24,8 @@ pub fn outgoing_from<'a>(entry: &Entry<'a>, vif: u8) -> &'a [Oif]
 
 /// The threshold of a vif's pair, 0 where it has none.
 pub fn threshold_of(vif: u8, entry: &Entry<'_>) -> u8
-    requires { IsEntry entry.now }
-    ensures { result ≡ threshold_of vif (pairs_of entry.now.oifs) }
+    requires { IsValidEntry entry.now }
+    ensures { result ≡ threshold_of vif (oif_pairs entry.now.oifs) }
 {
     for oif in outgoing_from(entry, vif) {
         if oif.vif == vif {

@@ -2,7 +2,7 @@
 
 ghost use Rattle.std.specs.Prelude.{◌≡◌, ◌<◌, IfOk, IsFalse, IsSome, IsTrue, None, Some, length};
 ghost use Rattle.std.specs.Prelude.{replicate, slice_set};
-ghost use Rattle.mc_forward.specs.PerLan.{held};
+ghost use Rattle.mc_forward.specs.PerLan.{item_on_lan};
 
 use mc_text::Memory;
 use mc_topology::LanNo;
@@ -39,7 +39,7 @@ impl<T: Copy> PerLan<T> {
 
     /// The item on a LAN. None on a LAN without one, and past the last LAN.
     pub fn on(&self, lan: LanNo) -> Option<T>
-        ensures { result ≡ held self.now lan }
+        ensures { result ≡ item_on_lan self.now lan }
     {
         match self.places.get(lan.0 as usize) {
             Some(first) => *first,
@@ -57,9 +57,9 @@ impl<T: Copy> PerLan<T> {
     /// Puts an item on a LAN, unless one was put there before. Whether it was put.
     pub fn put_first(&mut self, lan: LanNo, item: T) -> bool
         requires { lan < length self.old }
-        ensures free { IsTrue result → held self.old lan ≡ None }
+        ensures free { IsTrue result → item_on_lan self.old lan ≡ None }
         ensures put { IsTrue result → self.new ≡ slice_set self.old lan (Some item) }
-        ensures earlier { IsFalse result → IsSome (held self.old lan) }
+        ensures earlier { IsFalse result → IsSome (item_on_lan self.old lan) }
         ensures kept { IsFalse result → self.new ≡ self.old }
     {
         let first = &mut self.places[lan.0 as usize];

@@ -1,7 +1,7 @@
 //! Which flows of a topology the hosts of a LAN want.
 
 ghost use Rattle.std.specs.Prelude.{◌≡◌, IfOk, length, vec_len};
-ghost use Rattle.mc_forward.specs.Assembling.{EachAt, AreChannelsWanted, AreWanted};
+ghost use Rattle.mc_forward.specs.Assembling.{RelatedAtEachIndex, AreChannelsWanted, AreWanted};
 ghost use Rattle.mc_forward.specs.ListedTables.{flow_pairs};
 
 use crate::items::Items;
@@ -17,7 +17,7 @@ use std::marker::Model;
 /// # Errors
 ///
 /// `Memory` where a growth was refused.
-pub fn pairs_of(alloc: Global, topology: &Topology) -> Result<Vec<(Addr, Addr)>, Memory>
+pub fn source_group_pairs(alloc: Global, topology: &Topology) -> Result<Vec<(Addr, Addr)>, Memory>
     ensures { IfOk result (λ pairs. pairs.items ≡ flow_pairs topology.now.flows) }
 {
     let mut pairs = Vec::with_capacity(alloc, topology.flows() as usize)?;
@@ -52,7 +52,7 @@ impl FlowChannels {
     pub fn of(alloc: Global, topology: &Topology) -> Result<FlowChannels, Memory>
         ensures { IfOk result (λ channels. channels ≡ flow_pairs topology.now.flows) }
     {
-        let pairs = pairs_of(alloc, topology)?;
+        let pairs = source_group_pairs(alloc, topology)?;
         let channels = Channels::of(alloc, &pairs)?;
         Ok(FlowChannels { channels })
     }
@@ -78,7 +78,7 @@ pub(crate) fn wants_of_lans(
 ) -> Result<Vec<Items<bool>>, Memory>
     ensures count { IfOk result (λ wants. vec_len wants ≡ length reports.now) }
     ensures each { IfOk result (λ wants.
-        EachAt (AreWanted topology.now.flows) reports.now wants.items) }
+        RelatedAtEachIndex (AreWanted topology.now.flows) reports.now wants.items) }
 {
     let channels = FlowChannels::of(alloc, topology)?;
     let mut wants = Vec::new(alloc);

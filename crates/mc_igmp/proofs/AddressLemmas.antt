@@ -6,7 +6,7 @@ use Rattle.std.specs.List.{flat_map, AllByRecursion}
 use Rattle.std.proofs.lemmas.List.{length-take, get_or-drop, get_or-take, get_or_past}
 use Rattle.std.proofs.lemmas.Nat.{from_be_bytes-to_be_bytes_4}
 use Rattle.mc_text.specs.Addr.{IsAddr, octets_of}
-use Rattle.mc_text.proofs.AddrLemmas.{octets_of-from, from_octets_fits}
+use Rattle.mc_text.proofs.AddrLemmas.{octets_of-from_be_bytes, from_be_bytes-below_2_32}
 use Rattle.mc_igmp.specs.Addresses.{addresses_in}
 
 -- every element is a byte
@@ -16,8 +16,8 @@ IsBytes bytes = (i : ℕ) → get_or bytes i 0 < 256
 pub IsBytes-drop : (n : ℕ) (bytes : List ℕ) → IsBytes bytes → IsBytes (drop n bytes)
 IsBytes-drop n bytes h i = rw get_or-drop (h (n + i))
 
-pub IsBytes-part : (m n : ℕ) (bytes : List ℕ) → IsBytes bytes → IsBytes (take m (drop n bytes))
-IsBytes-part m n bytes h i = grind (arith, get_or-take, get_or_past, get_or-drop, length-take)
+pub IsBytes-take_drop : (m n : ℕ) (bytes : List ℕ) → IsBytes bytes → IsBytes (take m (drop n bytes))
+IsBytes-take_drop m n bytes h i = grind (arith, get_or-take, get_or_past, get_or-drop, length-take)
 
 -- the first address is in the first four bytes
 pub addresses_in-first : (s : List ℕ) → 4 ≤ length s → addresses_in s
@@ -44,24 +44,24 @@ unfolding addresses_in
 addresses_in-whole zero [] fits len = record { spelled = refl; count = refl; fit = tt }
 addresses_in-whole (suc n) (a ∷ b ∷ c ∷ d ∷ rest) fits len =
     let four = a ∷ b ∷ c ∷ d ∷ [] in
-    let front : IsBytes four = IsBytes-part 4 0 (a ∷ b ∷ c ∷ d ∷ rest) fits in
+    let front : IsBytes four = IsBytes-take_drop 4 0 (a ∷ b ∷ c ∷ d ∷ rest) fits in
     let rest_fits = IsBytes-drop 4 (a ∷ b ∷ c ∷ d ∷ rest) fits in
     let others = addresses_in-whole n rest rest_fits (omega arith) in
     record {
-      spelled = λ i. octets_of-from four refl front i ++ others.spelled i;
+      spelled = λ i. octets_of-from_be_bytes four refl front i ++ others.spelled i;
       count = ap suc others.count;
-      fit = (from_octets_fits four front, others.fit);
+      fit = (from_be_bytes-below_2_32 four front, others.fit);
     }
 addresses_in-whole _ _ fits len = absurd (omega arith)
 
 -- addresses that are written are read again
-pub addresses_in-written : (xs : List ℕ) → AllByRecursion IsAddr xs
+pub addresses_in-octets_of : (xs : List ℕ) → AllByRecursion IsAddr xs
     → addresses_in (flat_map octets_of xs) ≡ xs
 unfolding addresses_in
-addresses_in-written [] h = refl
-addresses_in-written (x ∷ xs) h =
-    λ i. from_be_bytes-to_be_bytes_4 x h.0 i ∷ addresses_in-written xs h.1 i
+addresses_in-octets_of [] h = refl
+addresses_in-octets_of (x ∷ xs) h =
+    λ i. from_be_bytes-to_be_bytes_4 x h.0 i ∷ addresses_in-octets_of xs h.1 i
 
-pub length-written : (xs : List ℕ) → length (flat_map octets_of xs) ≡ 4 * length xs
-length-written [] = refl
-length-written (x ∷ xs) = omega (arith, length-written xs)
+pub length-octets_of_addresses : (xs : List ℕ) → length (flat_map octets_of xs) ≡ 4 * length xs
+length-octets_of_addresses [] = refl
+length-octets_of_addresses (x ∷ xs) = omega (arith, length-octets_of_addresses xs)

@@ -5,11 +5,11 @@ use Rattle.mc_igmp.specs.Checksum.{word_sum}
 use Rattle.mc_igmp.proofs.AddressLemmas.{IsBytes, IsBytes-drop}
 
 -- the first word and the others
-pub word_sum-first : (s : List ℕ) → 2 ≤ length s
+pub word_sum-cons : (s : List ℕ) → 2 ≤ length s
     → word_sum s ≡ 256 * get_or s 0 0 + get_or s 1 0 + word_sum (drop 2 s)
 unfolding word_sum
-word_sum-first (a ∷ b ∷ rest) h = refl
-word_sum-first _ h = absurd (omega arith)
+word_sum-cons (a ∷ b ∷ rest) h = refl
+word_sum-cons _ h = absurd (omega arith)
 
 -- an odd last byte, or none
 pub word_sum-last : (s : List ℕ) → length s < 2 → word_sum s ≡ 256 * get_or s 0 0
@@ -25,16 +25,16 @@ word_sum-none [] h = refl
 word_sum-none (a ∷ rest) h = absurd (omega arith)
 
 -- the words of the first n bytes and of the others, where no word is cut
-pub word_sum-parts : (n : ℕ) (s : List ℕ) → (n < length s → n % 2 ≡ 0)
+pub word_sum-take_drop : (n : ℕ) (s : List ℕ) → (n < length s → n % 2 ≡ 0)
     → word_sum s ≡ word_sum (take n s) + word_sum (drop n s)
 unfolding word_sum
-word_sum-parts zero s even = omega arith
-word_sum-parts (suc n) [] even = refl
-word_sum-parts (suc zero) (a ∷ []) even = omega arith
-word_sum-parts (suc zero) (a ∷ b ∷ rest) even = absurd (omega (arith, even (omega arith)))
-word_sum-parts (suc (suc n)) (a ∷ []) even = omega arith
-word_sum-parts (suc (suc n)) (a ∷ b ∷ rest) even =
-    omega (arith, word_sum-parts n rest (λ more. omega (arith, even (omega arith))))
+word_sum-take_drop zero s even = omega arith
+word_sum-take_drop (suc n) [] even = refl
+word_sum-take_drop (suc zero) (a ∷ []) even = omega arith
+word_sum-take_drop (suc zero) (a ∷ b ∷ rest) even = absurd (omega (arith, even (omega arith)))
+word_sum-take_drop (suc (suc n)) (a ∷ []) even = omega arith
+word_sum-take_drop (suc (suc n)) (a ∷ b ∷ rest) even =
+    omega (arith, word_sum-take_drop n rest (λ more. omega (arith, even (omega arith))))
 
 -- a word is at most 65,535
 pub word_sum-bound : (s : List ℕ) → IsBytes s → 2 * word_sum s ≤ 65535 * (length s + 1)

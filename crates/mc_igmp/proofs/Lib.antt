@@ -2,8 +2,8 @@ pub mod AddressLemmas
 pub mod RecordsLemmas
 pub mod ChecksumLemmas
 pub mod DigitLemmas
-pub mod WrittenLemmas
+pub mod DecodedLemmas
 pub mod MessageLemmas
 pub mod ListLemmas
 pub mod PieceLemmas
-pub mod AheadLemmas
+pub mod DecodeAheadLemmas

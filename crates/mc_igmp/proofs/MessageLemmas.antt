@@ -16,74 +16,74 @@ use Rattle.mc_igmp.specs.Records.{records_in, after_records}
 use Rattle.mc_igmp.specs.Message.{record_count, IsReportType, IsMessage}
 use Rattle.mc_igmp.specs.OlderReport.{older_record}
 use Rattle.mc_igmp.specs.Record.{group_at}
-use Rattle.mc_igmp.specs.ReadingMessage.{report_of, read_typed, read_message}
+use Rattle.mc_igmp.specs.ReadingMessage.{report_of, read_by_type, read_message}
 use Rattle.mc_igmp.proofs.AddressLemmas.{IsBytes, IsBytes-drop}
-use Rattle.mc_igmp.proofs.RecordsLemmas.{word_at, records_again, records_found}
+use Rattle.mc_igmp.proofs.RecordsLemmas.{big_number-at, records_in-complete, after_records-sound}
 
 -- ---- what is read is the message that the bytes are
 
 -- if something was read, it is what the bytes are
-abbrev IsFound : List ℕ → Result Message MessageFault → Type 0
-IsFound bytes read = IfOk read (IsMessage bytes)
+abbrev IsReadMessageOf : List ℕ → Result Message MessageFault → Type 0
+IsReadMessageOf bytes read = IfOk read (IsMessage bytes)
 
-report_found : (bytes : List ℕ) → IsBytes bytes → IsWellFormed bytes → slice_index bytes 0 ≡ 0x22
+report_of-sound : (bytes : List ℕ) → IsBytes bytes → IsWellFormed bytes → slice_index bytes 0 ≡ 0x22
     → (after : Result (List ℕ) ℕ) → after_records 1 (record_count bytes) (drop 8 bytes) ≡ after
-    → IsFound bytes (report_of bytes after)
-report_found bytes fits formed type (Err number) e = tt
-report_found bytes fits formed type (Ok ignored) e =
-    let found = records_found 1 (record_count bytes) (drop 8 bytes) ignored
+    → IsReadMessageOf bytes (report_of bytes after)
+report_of-sound bytes fits formed type (Err number) e = tt
+report_of-sound bytes fits formed type (Ok ignored) e =
+    let found = after_records-sound 1 (record_count bytes) (drop 8 bytes) ignored
     (IsBytes-drop 8 bytes fits) e in
     (formed, inl (grind arith))
 
-pub read_message-found : (bytes : List ℕ) → IsBytes bytes → IsFound bytes (read_message bytes)
-unfolding read_message read_typed
-read_message-found bytes fits = grind (arith, nat_tests, report_found)
+pub read_message-sound : (bytes : List ℕ) → IsBytes bytes → IsReadMessageOf bytes (read_message bytes)
+unfolding read_message read_by_type
+read_message-sound bytes fits = grind (arith, nat_tests, report_of-sound)
 
 -- ---- bytes that are a message are read as it
 
-pub older_again : (bytes : List ℕ) (type : ℕ) → (type ≡ 0x12) ⊎ (type ≡ 0x16)
-    → read_typed bytes type ≡ Ok (Report (older_record (group_at bytes) ∷ []))
-unfolding read_typed
-older_again bytes type e = grind (arith, nat_tests)
+pub read_by_type-older_report : (bytes : List ℕ) (type : ℕ) → (type ≡ 0x12) ⊎ (type ≡ 0x16)
+    → read_by_type bytes type ≡ Ok (Report (older_record (group_at bytes) ∷ []))
+unfolding read_by_type
+read_by_type-older_report bytes type e = grind (arith, nat_tests)
 
-pub other_again : (bytes : List ℕ) (type : ℕ) → ¬ (IsReportType type)
-    → read_typed bytes type ≡ Ok (Other type)
-unfolding read_typed
-other_again bytes type other = grind (arith, nat_tests)
+pub read_by_type-other_type : (bytes : List ℕ) (type : ℕ) → ¬ (IsReportType type)
+    → read_by_type bytes type ≡ Ok (Other type)
+unfolding read_by_type
+read_by_type-other_type bytes type other = grind (arith, nat_tests)
 
-pub read_message-again : (bytes : List ℕ) (m : Message) → IsMessage bytes m
+pub read_message-complete : (bytes : List ℕ) (m : Message) → IsMessage bytes m
     → read_message bytes ≡ Ok m
-unfolding read_message read_typed
-read_message-again bytes (Report rs) (formed, inl h) =
-    grind (arith, nat_tests, records_again 1 rs h.own h.ignored h.whole)
-read_message-again bytes (Report rs) (formed, inr h) = grind (arith, nat_tests)
-read_message-again bytes (Other type) (formed, is, other) = grind (arith, nat_tests)
+unfolding read_message read_by_type
+read_message-complete bytes (Report rs) (formed, inl h) =
+    grind (arith, nat_tests, records_in-complete 1 rs h.own h.ignored h.whole)
+read_message-complete bytes (Report rs) (formed, inr h) = grind (arith, nat_tests)
+read_message-complete bytes (Other type) (formed, is, other) = grind (arith, nat_tests)
 
-pub read_message-is : (bytes : List ℕ) (m : Message) → IsBytes bytes → read_message bytes ≡ Ok m
+pub read_message-gives_message : (bytes : List ℕ) (m : Message) → IsBytes bytes → read_message bytes ≡ Ok m
     → IsMessage bytes m
-read_message-is bytes m fits e = IfOk-at_ok (IsMessage bytes) e (read_message-found bytes fits)
+read_message-gives_message bytes m fits e = IfOk-at_ok (IsMessage bytes) e (read_message-sound bytes fits)
 
 -- ---- as the code reads it
 
 -- what was read of a Version 3 report's records
-abbrev IsReadOf : List ℕ → ℕ → Result (List Record) ℕ → Type 0
-IsReadOf body count read = MatchResult read
+abbrev AreRecordsReadOf : List ℕ → ℕ → Result (List Record) ℕ → Type 0
+AreRecordsReadOf body count read = MatchResult read
     (λ rs. (ignored : List ℕ) × (after_records 1 count body ≡ Ok ignored)
     × (rs ≡ records_in count body))
     (λ number. after_records 1 count body ≡ Err number)
 
 -- it as a message, with the number of the record that wasn't read as the fault
-abbrev IsAnswer : Result (List Record) ℕ → Result Message ℕ → Result Message MessageFault → Type 0
-IsAnswer read said answer =
-    MatchResult read (λ rs. IsOkAnd said (λ m. m ≡ Report rs)) (λ number. said ≡ Err number)
-    × MatchResult said (λ m. answer ≡ Ok m)
+abbrev IsReportAnswer : Result (List Record) ℕ → Result Message ℕ → Result Message MessageFault → Type 0
+IsReportAnswer read parsed answer =
+    MatchResult read (λ rs. IsOkAnd parsed (λ m. m ≡ Report rs)) (λ number. parsed ≡ Err number)
+    × MatchResult parsed (λ m. answer ≡ Ok m)
     (λ number. IsErrAnd answer (λ fault. fault ≡ Truncated number))
 
-pub new_report : (bytes : List ℕ) (count : ℕ) (read : Result (List Record) ℕ)
-    (said : Result Message ℕ) (answer : Result Message MessageFault) → slice_index bytes 0 ≡ 0x22
+pub read_by_type-version_3_report : (bytes : List ℕ) (count : ℕ) (read : Result (List Record) ℕ)
+    (parsed : Result Message ℕ) (answer : Result Message MessageFault) → slice_index bytes 0 ≡ 0x22
     → count ≡ big_number 2 (take (length bytes - 6) (drop 6 bytes))
-    → IsReadOf (take (length bytes - 8) (drop 8 bytes)) count read → IsAnswer read said answer
-    → answer ≡ read_typed bytes (slice_index bytes 0)
-unfolding read_typed
-new_report bytes count read said answer type count_is is is_answer =
-    grind (arith, nat_tests, word_at bytes 6, take_rest bytes 8)
+    → AreRecordsReadOf (take (length bytes - 8) (drop 8 bytes)) count read → IsReportAnswer read parsed answer
+    → answer ≡ read_by_type bytes (slice_index bytes 0)
+unfolding read_by_type
+read_by_type-version_3_report bytes count read parsed answer type count_is is is_answer =
+    grind (arith, nat_tests, big_number-at bytes 6, take_rest bytes 8)

@@ -18,48 +18,48 @@ use Rattle.mc_igmp.specs.declared.fault.ListFault.{ListFault}
 use Rattle.mc_igmp.specs.declared.fault.ListFaultKind.TheVariants.{TooLarge, Unended}
 use Rattle.mc_igmp.specs.ReadingList.{IsMemory, fault_at, bytes_of_line, read_line, read_lines}
 use Rattle.mc_igmp.specs.ReadingList.{read_list}
-use Rattle.mc_igmp.specs.ListSoFar.{ListSoFar, WithoutLineFeed, line_after, read_on}
+use Rattle.mc_igmp.specs.ListSoFar.{ListSoFar, WithoutLineFeed, line_after, read_rest_of_lines}
 use Rattle.mc_igmp.specs.ListSoFar.{list_if, no_list}
-use Rattle.mc_igmp.proofs.ListLemmas.{lines_go_on}
+use Rattle.mc_igmp.proofs.ListLemmas.{read_lines_more}
 
 -- ---- line feeds
 
-pub without_both : (xs ys : List ℕ) → WithoutLineFeed xs → WithoutLineFeed ys
+pub without_line_feed-append : (xs ys : List ℕ) → WithoutLineFeed xs → WithoutLineFeed ys
     → WithoutLineFeed (xs ++ ys)
-without_both [] ys a b = b
-without_both (x ∷ xs) ys a b = (a.0, without_both xs ys a.1 b)
+without_line_feed-append [] ys a b = b
+without_line_feed-append (x ∷ xs) ys a b = (a.0, without_line_feed-append xs ys a.1 b)
 
-without_each : (xs : List ℕ) → ((k : ℕ) → k < length xs → eqb (get_or xs k 0) 10 ≡ false)
+without_line_feed-from_each : (xs : List ℕ) → ((k : ℕ) → k < length xs → eqb (get_or xs k 0) 10 ≡ false)
     → WithoutLineFeed xs
-without_each [] none = tt
-without_each (x ∷ xs) none =
-    (none 0 (omega arith), without_each xs (λ k lt. none (suc k) (omega (arith, lt))))
+without_line_feed-from_each [] none = tt
+without_line_feed-from_each (x ∷ xs) none =
+    (none 0 (omega arith), without_line_feed-from_each xs (λ k lt. none (suc k) (omega (arith, lt))))
 
 -- where none is found there is none
-pub without_none : (xs : List ℕ) → position (λ b. eqb b 10) xs ≡ None → WithoutLineFeed xs
-without_none xs none =
+pub without_line_feed-from_position : (xs : List ℕ) → position (λ b. eqb b 10) xs ≡ None → WithoutLineFeed xs
+without_line_feed-from_position xs none =
     let past : length xs ≤ position_or_len (λ b. eqb b 10) xs = grind (arith, nat_tests) in
-    without_each xs (λ k lt. fails_before_first (λ b. eqb b 10) xs k 0 (omega (arith, past)))
+    without_line_feed-from_each xs (λ k lt. fails_before_first (λ b. eqb b 10) xs k 0 (omega (arith, past)))
 
 -- before the first there is none
-without_before : (xs : List ℕ) (end : ℕ) → position (λ b. eqb b 10) xs ≡ Some end
+without_line_feed-take : (xs : List ℕ) (end : ℕ) → position (λ b. eqb b 10) xs ≡ Some end
     → WithoutLineFeed (take end xs)
-without_before xs end found =
+without_line_feed-take xs end found =
     let at = position-Some (λ b. eqb b 10) xs end 0 found in
-    without_each (take end xs) (λ k lt.
+    without_line_feed-from_each (take end xs) (λ k lt.
     let before : k < end = omega (arith, lt, length-take end xs) in
     ap (λ b. eqb b 10) (get_or-take end xs k 0 before) ∙ at.2 k before)
 
 -- it stands within the text
-pub end_within : (xs : List ℕ) (end : ℕ) → position (λ b. eqb b 10) xs ≡ Some end
+pub position-within_length : (xs : List ℕ) (end : ℕ) → position (λ b. eqb b 10) xs ≡ Some end
     → end + 1 ≤ length xs
-end_within xs end found =
+position-within_length xs end found =
     let at = position-Some (λ b. eqb b 10) xs end 0 found in omega (arith, at.0)
 
 -- a text at its first line feed
-parted_at : (xs : List ℕ) (end : ℕ) → position (λ b. eqb b 10) xs ≡ Some end
+split_at_line_feed : (xs : List ℕ) (end : ℕ) → position (λ b. eqb b 10) xs ≡ Some end
     → xs ≡ take end xs ++ 10 ∷ drop (end + 1) xs
-parted_at xs end found =
+split_at_line_feed xs end found =
     let at = position-Some (λ b. eqb b 10) xs end 0 found in
     let feed : get_or xs end 0 ≡ 10 = eqb-true (get_or xs end 0) 10 at.1 in
     sym (take-append-drop end xs)
@@ -69,115 +69,115 @@ parted_at xs end found =
 -- ---- lines
 
 -- bytes without a line feed stand at the front of the first part
-split_behind : (front text part : List ℕ) (parts : List (List ℕ)) → WithoutLineFeed front
+slice_split-append_front : (front text part : List ℕ) (parts : List (List ℕ)) → WithoutLineFeed front
     → slice_split (λ b. eqb b 10) text ≡ part ∷ parts
     → slice_split (λ b. eqb b 10) (front ++ text) ≡ (front ++ part) ∷ parts
-split_behind [] text part parts without is = is
-split_behind (b ∷ front) text part parts without is =
-    rw (without.0, split_behind front text part parts without.1 is) refl
+slice_split-append_front [] text part parts without is = is
+slice_split-append_front (b ∷ front) text part parts without is =
+    rw (without.0, slice_split-append_front front text part parts without.1 is) refl
 
 -- a part with parts after it is an ended line
-numbered_more : (n : ℕ) (part : List ℕ) (parts : List (List ℕ)) → 0 < length parts
+numbered-more : (n : ℕ) (part : List ℕ) (parts : List (List ℕ)) → 0 < length parts
     → numbered n (part ∷ parts) ≡ record { number = n; bytes = part; ended = true }
     ∷ numbered (n + 1) parts
-numbered_more n part parts some = grind arith
+numbered-more n part parts some = grind arith
 
 -- a line without a line feed, and one after it
-line_then : (n : ℕ) (line rest : List ℕ) → WithoutLineFeed line
+lines_from-line_and_rest : (n : ℕ) (line rest : List ℕ) → WithoutLineFeed line
     → lines_from n (line ++ 10 ∷ rest)
     ≡ record { number = n; bytes = line; ended = true } ∷ lines_from (n + 1) rest
-line_then n line rest without =
-    let parts = split_behind line (10 ∷ rest) [] (slice_split (λ b. eqb b 10) rest) without refl in
+lines_from-line_and_rest n line rest without =
+    let parts = slice_split-append_front line (10 ∷ rest) [] (slice_split (λ b. eqb b 10) rest) without refl in
     let more = length-slice_split (λ b. eqb b 10) rest in
     ap (numbered n) (parts
     ∙ ap (λ part. part ∷ slice_split (λ b. eqb b 10) rest) (append-nil line))
-    ∙ numbered_more n line (slice_split (λ b. eqb b 10) rest) (omega (arith, more))
+    ∙ numbered-more n line (slice_split (λ b. eqb b 10) rest) (omega (arith, more))
 
 -- the first of the lines to come, where a line feed stands in the next bytes
-first_to_come : (ended : ℕ) (begun rest more : List ℕ) (end : ℕ) → WithoutLineFeed begun
+lines_from-first_ended : (ended : ℕ) (begun rest more : List ℕ) (end : ℕ) → WithoutLineFeed begun
     → position (λ b. eqb b 10) rest ≡ Some end
     → lines_from (ended + 1) (begun ++ (rest ++ more))
     ≡ line_after ended (begun ++ take end rest)
     ∷ lines_from (ended + 1 + 1) (drop (end + 1) rest ++ more)
-first_to_come ended begun rest more end without found =
+lines_from-first_ended ended begun rest more end without found =
     let line = begun ++ take end rest in
     let parted : begun ++ (rest ++ more) ≡ line ++ 10 ∷ (drop (end + 1) rest ++ more) =
-    ap (λ r. begun ++ (r ++ more)) (parted_at rest end found)
+    ap (λ r. begun ++ (r ++ more)) (split_at_line_feed rest end found)
     ∙ ap (λ r. begun ++ r) (append_assoc (take end rest) (10 ∷ drop (end + 1) rest) more)
     ∙ sym (append_assoc begun (take end rest) (10 ∷ (drop (end + 1) rest ++ more))) in
-    let whole = without_both begun (take end rest) without (without_before rest end found) in
+    let whole = without_line_feed-append begun (take end rest) without (without_line_feed-take rest end found) in
     ap (lines_from (ended + 1)) parted
-    ∙ line_then (ended + 1) line (drop (end + 1) rest ++ more) whole
+    ∙ lines_from-line_and_rest (ended + 1) line (drop (end + 1) rest ++ more) whole
 
 -- ---- reading on
 
 -- a line that was read
-pub read_taken : (old first new : List Record) (ended : ℕ) (begun rest more : List ℕ) (end : ℕ)
+pub read_rest_of_lines_more : (old first new : List Record) (ended : ℕ) (begun rest more : List ℕ) (end : ℕ)
     → WithoutLineFeed begun → position (λ b. eqb b 10) rest ≡ Some end
     → read_line (line_after ended (begun ++ take end rest)) ≡ Ok first → new ≡ old ++ first
-    → read_on old ended (begun ++ (rest ++ more))
-    ≡ read_on new (ended + 1) (drop (end + 1) rest ++ more)
-read_taken old first new ended begun rest more end without found read grown =
-    sym (lines_go_on old first new (line_after ended (begun ++ take end rest))
+    → read_rest_of_lines old ended (begun ++ (rest ++ more))
+    ≡ read_rest_of_lines new (ended + 1) (drop (end + 1) rest ++ more)
+read_rest_of_lines_more old first new ended begun rest more end without found read grown =
+    sym (read_lines_more old first new (line_after ended (begun ++ take end rest))
     (lines_from (ended + 1) (begun ++ (rest ++ more)))
     (lines_from (ended + 1 + 1) (drop (end + 1) rest ++ more)) _
-    (first_to_come ended begun rest more end without found) read grown refl)
+    (lines_from-first_ended ended begun rest more end without found) read grown refl)
 
 -- and one that was refused
-refused_first : (old : List Record) (line : LineText) (all lines : List LineText)
+read_lines-first_fault : (old : List Record) (line : LineText) (all lines : List LineText)
     (fault : ListFault) → all ≡ line ∷ lines → read_line line ≡ Err fault
     → with_front old (read_lines all) ≡ Err fault
 unfolding read_lines
-refused_first old line all lines fault is refused = rw (is, refused) refl
+read_lines-first_fault old line all lines fault is refused = rw (is, refused) refl
 
-pub read_refused : (old : List Record) (ended : ℕ) (begun rest more : List ℕ) (end : ℕ)
+pub read_rest_of_lines-fault : (old : List Record) (ended : ℕ) (begun rest more : List ℕ) (end : ℕ)
     (fault : ListFault) → WithoutLineFeed begun → position (λ b. eqb b 10) rest ≡ Some end
     → IsMemory fault ⊎ (read_line (line_after ended (begun ++ take end rest)) ≡ Err fault)
-    → IsMemory fault ⊎ (read_on old ended (begun ++ (rest ++ more)) ≡ Err fault)
-read_refused old ended begun rest more end fault without found why =
-    let refused = refused_first old (line_after ended (begun ++ take end rest))
+    → IsMemory fault ⊎ (read_rest_of_lines old ended (begun ++ (rest ++ more)) ≡ Err fault)
+read_rest_of_lines-fault old ended begun rest more end fault without found why =
+    let refused = read_lines-first_fault old (line_after ended (begun ++ take end rest))
     (lines_from (ended + 1) (begun ++ (rest ++ more)))
     (lines_from (ended + 1 + 1) (drop (end + 1) rest ++ more)) fault
-    (first_to_come ended begun rest more end without found) in
+    (lines_from-first_ended ended begun rest more end without found) in
     grind (arith, refused)
 
 -- ---- a text from its front to its end
 
 -- where nothing has come, what the text is read as
-pub read_from_none : (text : List ℕ) → list_if no_list text ≡ read_list text
+pub list_if-no_list : (text : List ℕ) → list_if no_list text ≡ read_list text
 unfolding read_list
-read_from_none text = rw zero-add (ap (λ r. cond (nat_lt 16777216 (length text))
+list_if-no_list text = rw zero-add (ap (λ r. cond (nat_lt 16777216 (length text))
     (Err (fault_at 0 0 TooLarge)) r) (with_front-none (read_lines (lines_of text))))
 
 -- bytes after the last line feed are a line that none ends
-unended_line : (records : List Record) (ended : ℕ) (begun : List ℕ) → WithoutLineFeed begun
+read_rest_of_lines-unended : (records : List Record) (ended : ℕ) (begun : List ℕ) → WithoutLineFeed begun
     → eqb (length begun) 0 ≡ false
-    → read_on records ended begun ≡ Err (fault_at (ended + 1) 0 Unended)
+    → read_rest_of_lines records ended begun ≡ Err (fault_at (ended + 1) 0 Unended)
 unfolding read_lines read_line bytes_of_line
-unended_line records ended begun without some =
+read_rest_of_lines-unended records ended begun without some =
     let one = slice_split_none (λ b. eqb b 10) begun
     (All-from_recursion (λ b. eqb b 10 ≡ false) begun without) in
     rw (one, some) refl
 
 -- and without them no line is left
-no_line : (records : List Record) (ended : ℕ) → read_on records ended [] ≡ Ok records
+read_rest_of_lines-none : (records : List Record) (ended : ℕ) → read_rest_of_lines records ended [] ≡ Ok records
 unfolding read_lines
-no_line records ended = ap Ok (append-nil records)
+read_rest_of_lines-none records ended = ap Ok (append-nil records)
 
 -- a text within the limit that ends here, where no line was refused
-list_ends : (so_far : ListSoFar) → so_far.size ≤ 16777216 → so_far.fault ≡ None
-    → list_if so_far [] ≡ read_on so_far.records so_far.ended so_far.begun
-list_ends so_far within none =
+list_if-nothing_more : (so_far : ListSoFar) → so_far.size ≤ 16777216 → so_far.fault ≡ None
+    → list_if so_far [] ≡ read_rest_of_lines so_far.records so_far.ended so_far.begun
+list_if-nothing_more so_far within none =
     let few : nat_lt 16777216 (so_far.size + 0) ≡ false = grind (arith, nat_tests) in
     rw (few, none, append-nil so_far.begun) refl
 
-pub ends_unended : (so_far : ListSoFar) → so_far.size ≤ 16777216 → so_far.fault ≡ None
+pub list_if-unended : (so_far : ListSoFar) → so_far.size ≤ 16777216 → so_far.fault ≡ None
     → WithoutLineFeed so_far.begun → eqb (length so_far.begun) 0 ≡ false
     → list_if so_far [] ≡ Err (fault_at (so_far.ended + 1) 0 Unended)
-ends_unended so_far within none without some = list_ends so_far within none
-    ∙ unended_line so_far.records so_far.ended so_far.begun without some
+list_if-unended so_far within none without some = list_if-nothing_more so_far within none
+    ∙ read_rest_of_lines-unended so_far.records so_far.ended so_far.begun without some
 
-pub ends_ended : (so_far : ListSoFar) → so_far.size ≤ 16777216 → so_far.fault ≡ None
+pub list_if-ended : (so_far : ListSoFar) → so_far.size ≤ 16777216 → so_far.fault ≡ None
     → so_far.begun ≡ [] → list_if so_far [] ≡ Ok so_far.records
-ends_ended so_far within none nothing = list_ends so_far within none
-    ∙ rw nothing (no_line so_far.records so_far.ended)
+list_if-ended so_far within none nothing = list_if-nothing_more so_far within none
+    ∙ rw nothing (read_rest_of_lines-none so_far.records so_far.ended)

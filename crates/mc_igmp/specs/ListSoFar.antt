@@ -2,7 +2,7 @@
 use Rattle.std.specs.Prelude.{ℕ, ◌+◌, ◌*◌, ◌≤◌, ◌==◌, nat_lt, true, false, ◌≡◌, List, [], ◌++◌}
 use Rattle.std.specs.Prelude.{length, Option, Some, None, Result, Ok, Err, if◌then◌else◌}
 use Rattle.std.specs.List.{AllByRecursion}
-use Rattle.mc_text.specs.DigitPairs.{AreWritten}
+use Rattle.mc_text.specs.DigitPairs.{AreDecoded}
 use Rattle.mc_text.specs.Lines.{LineText, lines_from}
 use Rattle.mc_text.specs.Steps.{◌>>=◌}
 use Rattle.mc_igmp.specs.declared.record.Record.{Record}
@@ -15,14 +15,14 @@ abbrev pub WithoutLineFeed : List ℕ → Type 0
 WithoutLineFeed bytes = AllByRecursion (λ b. (b == 10) ≡ false) bytes
 
 -- so many bytes of a line's message are written
-pub record AreAhead (line message : List ℕ) (written : ℕ) : Type 0 where
-  pub ahead : AreWritten line message written
-  pub within : 2 * written ≤ length line
-  pub fits : written ≤ length message
+pub record IsDecodedAhead (line message : List ℕ) (decoded : ℕ) : Type 0 where
+  pub ahead : AreDecoded line message decoded
+  pub within : 2 * decoded ≤ length line
+  pub fits : decoded ≤ length message
 
 -- these records, and those of the lines of these bytes, which come after so many lines
-abbrev pub read_on : List Record → ℕ → List ℕ → Result (List Record) ListFault
-read_on records ended bytes =
+abbrev pub read_rest_of_lines : List Record → ℕ → List ℕ → Result (List Record) ListFault
+read_rest_of_lines records ended bytes =
     read_lines (lines_from (ended + 1) bytes) >>= λ others. Ok (records ++ others)
 
 -- a line whose line feed comes next, after so many lines
@@ -30,8 +30,8 @@ abbrev pub line_after : ℕ → List ℕ → LineText
 line_after ended bytes = record { number = ended + 1; bytes = bytes; ended = true }
 
 -- where no fault was met and the text is within the limit, the lines can be read on
-abbrev pub GoOn : ℕ → ℕ → List ℕ → Option ListFault → Type 0
-GoOn size ended begun fault = size ≤ 16777216 → fault ≡ None →
+abbrev pub CanReadOn : ℕ → ℕ → List ℕ → Option ListFault → Type 0
+CanReadOn size ended begun fault = size ≤ 16777216 → fault ≡ None →
     WithoutLineFeed begun × (ended + length begun ≤ size)
 
 -- how many bytes have come and how many lines have ended, the bytes after the last line feed, the
@@ -68,4 +68,4 @@ abbrev pub list_if : ListSoFar → List ℕ → Result (List Record) ListFault
 list_if so_far more =
     if nat_lt 16777216 (so_far.size + length more) then Err (fault_at 0 0 TooLarge)
     else unless_fault so_far.fault
-    (read_on so_far.records so_far.ended (so_far.begun ++ more))
+    (read_rest_of_lines so_far.records so_far.ended (so_far.begun ++ more))

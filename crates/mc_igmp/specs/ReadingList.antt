@@ -25,16 +25,16 @@ abbrev pub fault_at : ℕ → ℕ → ListFaultKind → ListFault
 fault_at line record_no kind = record { line = line; record_no = record_no; kind = kind }
 
 -- the bytes that the digits of a line write
-abbrev pub digits_read : ℕ → Result (List ℕ) FromHexError → Result (List ℕ) ListFault
-digits_read line (Ok bytes) = Ok bytes
-digits_read line (Err e) = Err (fault_at line 0 BadHex)
+abbrev pub decoded_or_bad_hex : ℕ → Result (List ℕ) FromHexError → Result (List ℕ) ListFault
+decoded_or_bad_hex line (Ok bytes) = Ok bytes
+decoded_or_bad_hex line (Err e) = Err (fault_at line 0 BadHex)
 
 unfoldable pub bytes_of_line : LineText → Result (List ℕ) ListFault
 bytes_of_line line =
     if not line.ended then Err (fault_at line.number 0 Unended)
     else if nat_lt 65536 line.number || nat_lt 131030 (length line.bytes)
     then Err (fault_at line.number 0 TooLarge)
-    else digits_read line.number (decode_of line.bytes)
+    else decoded_or_bad_hex line.number (decode_of line.bytes)
 
 -- the number of the first record that tells of a change, where the first record has the number
 -- `number`
@@ -49,18 +49,18 @@ without_change line records None = Ok records
 without_change line records (Some number) = Err (fault_at line number StateChange)
 
 -- the records of what was read as a message, if a list takes it
-abbrev pub taken_records : ℕ → Result Message MessageFault → Result (List Record) ListFault
-taken_records line (Ok (Report records)) = without_change line records (first_change 1 records)
-taken_records line (Ok (Other type)) = Ok []
-taken_records line (Err message.Short) = Err (fault_at line 0 Short)
-taken_records line (Err message.BadChecksum) = Err (fault_at line 0 BadChecksum)
-taken_records line (Err (message.Truncated number)) = Err (fault_at line number Truncated)
+abbrev pub accepted_records : ℕ → Result Message MessageFault → Result (List Record) ListFault
+accepted_records line (Ok (Report records)) = without_change line records (first_change 1 records)
+accepted_records line (Ok (Other type)) = Ok []
+accepted_records line (Err message.Short) = Err (fault_at line 0 Short)
+accepted_records line (Err message.BadChecksum) = Err (fault_at line 0 BadChecksum)
+accepted_records line (Err (message.Truncated number)) = Err (fault_at line number Truncated)
 
 -- the records of the message on a line
 unfoldable pub read_line : LineText → Result (List Record) ListFault
 read_line line = do
   bytes ← bytes_of_line line
-  taken_records line.number (read_message bytes)
+  accepted_records line.number (read_message bytes)
 
 -- the records of all lines, or the fault of the first line that has one
 unfoldable pub read_lines : List LineText → Result (List Record) ListFault
@@ -76,8 +76,8 @@ read_list text =
     if nat_lt 16777216 (length text) then Err (fault_at 0 0 TooLarge)
     else read_lines (lines_of text)
 
-abbrev pub no_memory : ListFault
-no_memory = record { line = 0; record_no = 0; kind = Memory }
+abbrev pub oom_fault : ListFault
+oom_fault = record { line = 0; record_no = 0; kind = Memory }
 
 abbrev pub IsMemory : ListFault → Type 0
-IsMemory fault = fault ≡ no_memory
+IsMemory fault = fault ≡ oom_fault

@@ -17,8 +17,8 @@ report_of bytes (Ok ignored) = Ok (Report (records_in (record_count bytes) (drop
 report_of bytes (Err number) = Err (Truncated number)
 
 -- what stands in a well formed message of this type
-unfoldable pub read_typed : List ℕ → ℕ → Result Message MessageFault
-read_typed bytes type =
+unfoldable pub read_by_type : List ℕ → ℕ → Result Message MessageFault
+read_by_type bytes type =
     if type == 0x22 then report_of bytes (after_records 1 (record_count bytes) (drop 8 bytes))
     else if type == 0x12 || type == 0x16 then Ok (Report (older_record (group_at bytes) ∷ []))
     else Ok (Other type)
@@ -28,5 +28,5 @@ unfoldable pub read_message : List ℕ → Result Message MessageFault
 read_message bytes =
     if nat_lt (length bytes) 8 then Err Short
     else if nat_lt 0 (word_sum bytes) && (word_sum bytes % 65535 == 0)
-    then read_typed bytes (slice_index bytes 0)
+    then read_by_type bytes (slice_index bytes 0)
     else Err BadChecksum

@@ -13,32 +13,32 @@ AreRecords bytes (r ∷ rs) =
     (own : List ℕ) × (rest : List ℕ) × (bytes ≡ own ++ rest) × IsRecord own r × AreRecords rest rs
 
 -- the record that was read and the others, or none
-abbrev pub then_records : Option (Record × List ℕ) → (List ℕ → List Record) → List Record
-then_records None others = []
-then_records (Some x) others = x.0 ∷ others x.1
+abbrev pub with_other_records : Option (Record × List ℕ) → (List ℕ → List Record) → List Record
+with_other_records None others = []
+with_other_records (Some x) others = x.0 ∷ others x.1
 
 -- the first `count` records of the bytes, or those before the first that doesn't end within them
 unfoldable pub records_in : ℕ → List ℕ → List Record
 records_in zero bytes = []
-records_in (suc count) bytes = then_records (read_record bytes) (records_in count)
+records_in (suc count) bytes = with_other_records (read_record bytes) (records_in count)
 
 -- what stands after the others, or the number of the record that wasn't read
-abbrev pub then_after : ℕ → Option (Record × List ℕ) → (List ℕ → Result (List ℕ) ℕ)
+abbrev pub after_other_records : ℕ → Option (Record × List ℕ) → (List ℕ → Result (List ℕ) ℕ)
     → Result (List ℕ) ℕ
-then_after number None others = Err number
-then_after number (Some x) others = others x.1
+after_other_records number None others = Err number
+after_other_records number (Some x) others = others x.1
 
 -- the bytes after the first `count` records, or the number of the first that doesn't end within
 -- them, where the first has the number `number`
 unfoldable pub after_records : ℕ → ℕ → List ℕ → Result (List ℕ) ℕ
 after_records number zero bytes = Ok bytes
 after_records number (suc count) bytes =
-    then_after number (read_record bytes) (after_records (number + 1) count)
+    after_other_records number (read_record bytes) (after_records (number + 1) count)
 
 -- the bytes are `count` records, and nothing else
-abbrev pub IsWhole : ℕ → List ℕ → Type 0
-IsWhole count bytes = after_records 1 count bytes ≡ Ok []
+abbrev pub AreWholeRecords : ℕ → List ℕ → Type 0
+AreWholeRecords count bytes = after_records 1 count bytes ≡ Ok []
 
 -- no record tells of a change
-abbrev pub AreLasting : List Record → Type 0
-AreLasting records = AllByRecursion (λ r. is_change r.kind ≡ false) records
+abbrev pub HaveNoChanges : List Record → Type 0
+HaveNoChanges records = AllByRecursion (λ r. is_change r.kind ≡ false) records

@@ -7,13 +7,13 @@ use Rattle.mc_igmp.specs.declared.record.Record.{Record}
 use Rattle.mc_igmp.specs.declared.message.Message.{Message}
 use Rattle.mc_igmp.specs.declared.message.Message.TheVariants.{Report, Other}
 use Rattle.mc_igmp.specs.Message.{IsMessage, records_of}
-use Rattle.mc_igmp.specs.Records.{AreLasting}
+use Rattle.mc_igmp.specs.Records.{HaveNoChanges}
 
 -- The messages that a list takes. No record tells of a change (types 3 to 6, RFC 3376, section
 -- 4.2.12), since its meaning hangs on what was reported before.
-abbrev pub IsTaken : Message → Type 0
-IsTaken (Report records) = AreLasting records
-IsTaken (Other type) = Unit {0}
+abbrev pub IsAcceptedMessage : Message → Type 0
+IsAcceptedMessage (Report records) = HaveNoChanges records
+IsAcceptedMessage (Other type) = Unit {0}
 
 -- The line is the hexadecimal of this message, and nothing else. A message is the payload of one IP
 -- packet, of at most 65,535 bytes less 20 of its header (RFC 791, section 3.1), each of two digits.
@@ -25,8 +25,8 @@ pub record IsMessageLine (line : LineText) (message : Message) : Type 0 where
   pub number : line.number ≤ 65536
   pub size : length line.bytes ≤ 131030
   pub decoded : decode_of line.bytes ≡ Ok bytes
-  pub stands : IsMessage bytes message
-  pub taken : IsTaken message
+  pub denotes : IsMessage bytes message
+  pub accepted : IsAcceptedMessage message
 
 abbrev pub AreMessageLines : List LineText → List Message → Type 0
 AreMessageLines [] [] = Unit {0}

@@ -4,8 +4,8 @@ ghost use Rattle.std.specs.Prelude.{◌≡◌, ◌≢◌, ◌+◌, ◌*◌, ◌/
 ghost use Rattle.std.specs.Prelude.{map, take, true, false, Ok};
 ghost use Rattle.std.specs.List.{list_all};
 ghost use Rattle.hex.specs.Hex.{decode_of, is_hex_digit};
-ghost use Rattle.mc_text.specs.AddressWord.{value_or_16};
-ghost use Rattle.mc_text.specs.DigitPairs.{AreWritten};
+ghost use Rattle.mc_text.specs.AddressWord.{hex_value_or_16};
+ghost use Rattle.mc_text.specs.DigitPairs.{AreDecoded};
 
 use mc_text::{are_hex_digits, bytes_of_hex_digits, hex_digit};
 use std::simd::prelude::*;
@@ -14,11 +14,11 @@ use std::simd::prelude::*;
 const LANES: usize = 16;
 
 /// Half of that.
-const HALF_LANES: usize = 8;
+const HALF_OF_LANES: usize = 8;
 
 /// The bytes of both, one after the other.
 #[inline(always)]
-fn both(front: u8x16, back: u8x16) -> u8x32
+fn concat_lanes(front: u8x16, back: u8x16) -> u8x32
     ensures { result ≡ front ++ back }
 {
     front.shuffle(
@@ -37,9 +37,9 @@ fn byte_of(high: u8, low: u8) -> u8
     high.wrapping_mul(16).wrapping_add(low)
 }
 
-/// Writes the bytes of a few digits by a table, as `write_bytes` does. The values of all digits are
+/// Writes the bytes of a few digits by a table, as `decode_all` does. The values of all digits are
 /// looked at together, once, since a branch at each would be guessed wrong too often.
-fn write_few(digits: &[u8], bytes: &mut [u8]) -> bool
+fn decode_by_table(digits: &[u8], bytes: &mut [u8]) -> bool
     requires { length digits.now ≡ 2 * length bytes.old }
     ensures found { result ≡ true → decode_of digits.now ≡ Ok bytes.new }
     ensures only { result ≡ false → (out : List ℕ) → decode_of digits.now ≢ Ok out }
@@ -56,11 +56,11 @@ fn write_few(digits: &[u8], bytes: &mut [u8]) -> bool
 
 /// Writes the sixteen bytes from `at` on, and tells whether all that stands for them are digits.
 #[inline(always)]
-fn write_piece(digits: &[u8], bytes: &mut [u8], at: usize) -> bool
+fn decode_lanes(digits: &[u8], bytes: &mut [u8], at: usize) -> bool
     requires digits { 2 * (at + LANES) ≤ length digits.now }
     requires room { at + LANES ≤ length bytes.old }
-    ensures found { result ≡ true → AreWritten digits.now bytes.old at
-        → AreWritten digits.now bytes.new (at + LANES) }
+    ensures found { result ≡ true → AreDecoded digits.now bytes.old at
+        → AreDecoded digits.now bytes.new (at + LANES) }
     ensures only { result ≡ false → (out : List ℕ) → decode_of digits.now ≢ Ok out }
     ensures kept { result ≡ false → bytes.new ≡ bytes.old }
 {
@@ -74,38 +74,38 @@ fn write_piece(digits: &[u8], bytes: &mut [u8], at: usize) -> bool
 
 /// Writes all bytes, eight to fifteen, those of the first sixteen digits and of the last sixteen,
 /// which may be some of the first.
-fn write_short(digits: &[u8], bytes: &mut [u8]) -> bool
+fn decode_short(digits: &[u8], bytes: &mut [u8]) -> bool
     requires size { length digits.now ≡ 2 * length bytes.old }
-    requires some { HALF_LANES ≤ length bytes.old }
+    requires some { HALF_OF_LANES ≤ length bytes.old }
     requires few { length bytes.old < LANES }
     ensures found { result ≡ true → decode_of digits.now ≡ Ok bytes.new }
     ensures only { result ≡ false → (out : List ℕ) → decode_of digits.now ≢ Ok out }
 {
-    let last = bytes.len() - HALF_LANES;
-    let text = both(
+    let last = bytes.len() - HALF_OF_LANES;
+    let text = concat_lanes(
         u8x16::from_slice(digits),
         u8x16::from_slice(&digits[2 * last..]),
     );
     if !are_hex_digits(text) {
         return false;
     }
-    let written = bytes_of_hex_digits(text);
-    written.extract::<0, 8>().copy_to_slice(bytes);
-    written.extract::<8, 8>().copy_to_slice(&mut bytes[last..]);
+    let decoded = bytes_of_hex_digits(text);
+    decoded.extract::<0, 8>().copy_to_slice(bytes);
+    decoded.extract::<8, 8>().copy_to_slice(&mut bytes[last..]);
     true
 }
 
 /// Writes the bytes of the digits that a text begins with, sixteen together, as far as there is room,
 /// and answers how many are written.
-pub(crate) fn write_ahead(text: &[u8], room: &mut [u8]) -> usize
-    ensures written { AreWritten text.now room.new result }
+pub(crate) fn decode_prefix(text: &[u8], room: &mut [u8]) -> usize
+    ensures decoded { AreDecoded text.now room.new result }
     ensures text { 2 * result ≤ length text.now }
     ensures room { result ≤ length room.old }
 {
     let most = room.len().min(text.len() / 2);
     let mut at = 0;
     'pieces: while LANES <= most - at {
-        if !write_piece(text, room, at) {
+        if !decode_lanes(text, room, at) {
             return at;
         }
         at += LANES;
@@ -115,39 +115,39 @@ pub(crate) fn write_ahead(text: &[u8], room: &mut [u8]) -> usize
 
 /// Writes all bytes, those that the digits stand for, two digits a byte, of which so many are
 /// written, and tells whether all are digits. If not, what is written says nothing.
-fn write_bytes(digits: &[u8], bytes: &mut [u8], written: usize) -> bool
+fn decode_all(digits: &[u8], bytes: &mut [u8], decoded: usize) -> bool
     requires size { length digits.now ≡ 2 * length bytes.old }
-    requires written { AreWritten digits.now bytes.old written }
+    requires decoded { AreDecoded digits.now bytes.old decoded }
     ensures found { result ≡ true → decode_of digits.now ≡ Ok bytes.new }
     ensures only { result ≡ false → (out : List ℕ) → decode_of digits.now ≢ Ok out }
 {
-    if bytes.len() < HALF_LANES {
-        return write_few(digits, bytes);
+    if bytes.len() < HALF_OF_LANES {
+        return decode_by_table(digits, bytes);
     }
     if bytes.len() < LANES {
-        return write_short(digits, bytes);
+        return decode_short(digits, bytes);
     }
     let last = bytes.len() - LANES;
-    let mut at = written;
+    let mut at = decoded;
     'pieces: while at < last {
-        if !write_piece(digits, bytes, at) {
+        if !decode_lanes(digits, bytes, at) {
             return false;
         }
         at += LANES;
     }
     // The last piece ends with the digits, and so may begin within the one before.
-    write_piece(digits, bytes, last)
+    decode_lanes(digits, bytes, last)
 }
 
 /// Writes the bytes that the digits stand for to the front of the room, where so many are written,
 /// and tells whether all are digits.
-pub(crate) fn write_to_front(digits: &[u8], room: &mut [u8], written: usize) -> bool
+pub(crate) fn decode_to_front(digits: &[u8], room: &mut [u8], decoded: usize) -> bool
     requires even { length digits.now % 2 ≡ 0 }
     requires fits { length digits.now ≤ 2 * length room.old }
-    requires written { AreWritten digits.now room.old written }
-    requires within { 2 * written ≤ length digits.now }
+    requires decoded { AreDecoded digits.now room.old decoded }
+    requires within { 2 * decoded ≤ length digits.now }
     ensures found { result ≡ true → decode_of digits.now ≡ Ok (take (length digits.now / 2) room.new) }
     ensures only { result ≡ false → (out : List ℕ) → decode_of digits.now ≢ Ok out }
 {
-    write_bytes(digits, &mut room[..digits.len() / 2], written)
+    decode_all(digits, &mut room[..digits.len() / 2], decoded)
 }

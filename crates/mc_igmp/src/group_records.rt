@@ -1,7 +1,7 @@
 //! Group records one after another, as a Version 3 report and a list keep them.
 
 ghost use Rattle.std.specs.Prelude.{◌≡◌, ℕ, List, MatchResult, true};
-ghost use Rattle.mc_igmp.specs.Records.{records_in, after_records, IsWhole, AreLasting};
+ghost use Rattle.mc_igmp.specs.Records.{records_in, after_records, AreWholeRecords, HaveNoChanges};
 
 use crate::record::{Record, split_record};
 use std::marker::Model;
@@ -12,40 +12,40 @@ pub struct GroupRecords<'a> {
     left: usize,
     bytes: &'a [u8],
     /// Whether it is known that no record that is left tells of a change.
-    known_lasting: bool,
+    known_without_changes: bool,
 }
 
 impl<'a> Model for GroupRecords<'a> {
     ghost use Rattle.std.specs.Prelude.{◌≡◌, true, List};
     ghost use Rattle.mc_igmp.specs.declared.record.Record.{Record};
-    ghost use Rattle.mc_igmp.specs.Records.{records_in, IsWhole, AreLasting};
+    ghost use Rattle.mc_igmp.specs.Records.{records_in, AreWholeRecords, HaveNoChanges};
 
     ghost Value = { List Record };
 
     ghost view = { λ s. records_in s.left s.bytes.now };
 
-    ghost invariant = { λ s. IsWhole s.left s.bytes.now
-        × (s.known_lasting ≡ true → AreLasting (records_in s.left s.bytes.now)) };
+    ghost invariant = { λ s. AreWholeRecords s.left s.bytes.now
+        × (s.known_without_changes ≡ true → HaveNoChanges (records_in s.left s.bytes.now)) };
 }
 
 /// The bytes after so many records and whether none of these tells of a change, or the number of
 /// the first, counted from 1, that doesn't end within the bytes.
-fn after_records_of(count: u16, bytes: &[u8]) -> Result<(&[u8], bool), u32>
+fn skip_records(count: u16, bytes: &[u8]) -> Result<(&[u8], bool), u32>
     ensures { MatchResult result
         (λ x. (after_records 1 count bytes.now ≡ Ok x.0.now)
-        × (x.1 ≡ true → AreLasting (records_in count bytes.now)))
+        × (x.1 ≡ true → HaveNoChanges (records_in count bytes.now)))
         (λ number. after_records 1 count bytes.now ≡ Err number) }
 {
     let mut rest = bytes;
-    let mut are_lasting = true;
+    let mut no_changes = true;
     for index in 0..count {
         let Some((record, after)) = split_record(rest) else {
             return Err(u32::from(index) + 1);
         };
-        are_lasting &= !record.kind.is_change();
+        no_changes &= !record.kind.is_change();
         rest = after;
     }
-    Ok((rest, are_lasting))
+    Ok((rest, no_changes))
 }
 
 impl<'a> GroupRecords<'a> {
@@ -57,24 +57,24 @@ impl<'a> GroupRecords<'a> {
             (after_records 1 count bytes.now ≡ Ok ignored) × (records ≡ records_in count bytes.now))
             (λ number. after_records 1 count bytes.now ≡ Err number) }
     {
-        let (ignored, known_lasting) = after_records_of(count, bytes)?;
+        let (ignored, known_without_changes) = skip_records(count, bytes)?;
         let own = &bytes[..bytes.len() - ignored.len()];
         Ok(GroupRecords {
             left: usize::from(count),
             bytes: own,
-            known_lasting,
+            known_without_changes,
         })
     }
 
     /// So many records that follow one another and end with the bytes.
     pub(crate) fn new(count: usize, bytes: &'a [u8]) -> GroupRecords<'a>
-        requires { IsWhole count bytes.now }
+        requires { AreWholeRecords count bytes.now }
         ensures { result ≡ records_in count bytes.now }
     {
         GroupRecords {
             left: count,
             bytes,
-            known_lasting: false,
+            known_without_changes: false,
         }
     }
 
@@ -85,20 +85,20 @@ impl<'a> GroupRecords<'a> {
         GroupRecords {
             left: self.left,
             bytes: self.bytes,
-            known_lasting: self.known_lasting,
+            known_without_changes: self.known_without_changes,
         }
     }
 
     /// Whether it is known, from when they were read, that none tells of a change.
-    pub(crate) fn are_known_lasting(&self) -> bool
-        ensures { result ≡ true → AreLasting self.now }
+    pub(crate) fn has_no_changes(&self) -> bool
+        ensures { result ≡ true → HaveNoChanges self.now }
     {
-        self.known_lasting
+        self.known_without_changes
     }
 
     /// The number of records that are left and their bytes.
     pub(crate) fn parts(&self) -> (usize, &'a [u8])
-        ensures whole { IsWhole result.0 result.1.now }
+        ensures whole { AreWholeRecords result.0 result.1.now }
         ensures records { records_in result.0 result.1.now ≡ self.now }
     {
         (self.left, self.bytes)

@@ -15,7 +15,7 @@ mod records;
 
 pub use fault::{ListFault, ListFaultKind};
 pub use group_records::GroupRecords;
-pub use laws::{lists_are_read_as_they_stand, messages_are_read_as_they_stand};
+pub use laws::{report_lists_are_read_exactly, messages_are_read_exactly};
 pub use list::{ListRecords, ReportList};
 pub use list_reader::ListReader;
 pub use message::{Message, MessageFault};

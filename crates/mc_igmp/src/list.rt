@@ -3,18 +3,18 @@
 ghost use Rattle.std.specs.Prelude.{◌≡◌, ◌≢◌, ◌*◌, ◌++◌, ◌∷◌, ◌<◌, ◌≤◌, ◌^◌, ◌⊎◌, List, [], length};
 ghost use Rattle.std.specs.Prelude.{unwrap_or};
 ghost use Rattle.std.specs.Prelude.{IfOk, IfErr, OnOk, OnErr, MatchResult};
-ghost use Rattle.mc_text.specs.DigitPairs.{AreWritten};
+ghost use Rattle.mc_text.specs.DigitPairs.{AreDecoded};
 ghost use Rattle.mc_text.specs.LineView.{line_text};
 ghost use Rattle.mc_igmp.specs.declared.record.Record.{Record};
-ghost use Rattle.mc_igmp.specs.ReadingList.{IsMemory, no_memory};
+ghost use Rattle.mc_igmp.specs.ReadingList.{IsMemory, oom_fault};
 ghost use Rattle.mc_igmp.specs.OlderReport.{older_record};
-ghost use Rattle.mc_igmp.specs.Records.{records_in, IsWhole};
+ghost use Rattle.mc_igmp.specs.Records.{records_in, AreWholeRecords};
 ghost use Rattle.mc_igmp.specs.ReadingMessage.{read_message};
 ghost use Rattle.mc_igmp.specs.ReportList.{IsReportList};
-ghost use Rattle.mc_igmp.specs.ReadingList.{bytes_of_line, first_change, taken_records, read_line};
+ghost use Rattle.mc_igmp.specs.ReadingList.{bytes_of_line, first_change, accepted_records, read_line};
 ghost use Rattle.mc_igmp.specs.ReadingList.{read_list};
 
-use crate::digits::write_to_front;
+use crate::digits::decode_to_front;
 use crate::fault::{ListFault, ListFaultKind};
 use crate::group_records::GroupRecords;
 use crate::message::{Message, MessageFault};
@@ -32,8 +32,8 @@ const MAX_LINE_LEN: usize = 131_030;
 
 /// The bytes of the record that a report of version 1 or 2 stands for (RFC 3376, sections 4.2.4 and
 /// 7.3.2).
-fn bytes_of_older_record(group: Addr) -> [u8; 8]
-    ensures whole { IsWhole 1 result }
+fn older_record_bytes(group: Addr) -> [u8; 8]
+    ensures whole { AreWholeRecords 1 result }
     ensures record { records_in 1 result ≡ older_record group ∷ [] }
 {
     let [a, b, c, d] = group.octets();
@@ -42,14 +42,14 @@ fn bytes_of_older_record(group: Addr) -> [u8; 8]
 
 /// Reads the bytes that a line's hexadecimal digits write, at the front of `bytes`, where so many
 /// are written. It stays as long as the longest line makes it: what stands there is written over.
-fn read_digits<'a>(
+fn decode_line<'a>(
     line: &Line<'_>,
     bytes: &'a mut Vec<u8>,
-    written: usize,
+    decoded: usize,
 ) -> Result<&'a [u8], ListFault>
-    requires written { AreWritten line.now.bytes.now bytes.old.items written }
-    requires within { 2 * written ≤ length line.now.bytes.now }
-    requires room { written ≤ length bytes.old.items }
+    requires decoded { AreDecoded line.now.bytes.now bytes.old.items decoded }
+    requires within { 2 * decoded ≤ length line.now.bytes.now }
+    requires room { decoded ≤ length bytes.old.items }
     ensures ok { IfOk result (λ read. bytes_of_line (line_text line.now) ≡ Ok read.now) }
     ensures err { IfErr result (λ fault.
         IsMemory fault ⊎ (bytes_of_line (line_text line.now) ≡ Err fault)) }
@@ -67,7 +67,7 @@ fn read_digits<'a>(
     if bytes.len() < len {
         bytes.resize(len, 0)?;
     }
-    if write_to_front(line.bytes, bytes, written) {
+    if decode_to_front(line.bytes, bytes, decoded) {
         Ok(&bytes[..len])
     } else {
         Err(ListFaultKind::BadHex.at(line.number, 0))
@@ -79,7 +79,7 @@ fn first_change_of(records: &Records<'_>) -> Option<u32>
     requires { length records.now < 2 ^ 16 }
     ensures { result ≡ first_change 1 records.now }
 {
-    if records.are_known_lasting() {
+    if records.has_no_changes() {
         return None;
     }
     let mut number = 0u32;
@@ -93,10 +93,10 @@ fn first_change_of(records: &Records<'_>) -> Option<u32>
 }
 
 /// The records of the message on a line, none if the list takes it and it is no report.
-fn records_taken(line_number: u32, bytes: &[u8]) -> Result<Option<Records<'_>>, ListFault>
+fn accepted_records_of_line(line_number: u32, bytes: &[u8]) -> Result<Option<Records<'_>>, ListFault>
     ensures { MatchResult result
-        (λ records. taken_records line_number (read_message bytes.now) ≡ Ok (unwrap_or records []))
-        (λ fault. taken_records line_number (read_message bytes.now) ≡ Err fault) }
+        (λ records. accepted_records line_number (read_message bytes.now) ≡ Ok (unwrap_or records []))
+        (λ fault. accepted_records line_number (read_message bytes.now) ≡ Err fault) }
 {
     match Message::parse(bytes) {
         Ok(Message::Report(records)) => match first_change_of(&records) {
@@ -129,13 +129,13 @@ pub struct ReportList {
 impl Model for ReportList {
     ghost use Rattle.std.specs.Prelude.{List};
     ghost use Rattle.mc_igmp.specs.declared.record.Record.{Record};
-    ghost use Rattle.mc_igmp.specs.Records.{records_in, IsWhole};
+    ghost use Rattle.mc_igmp.specs.Records.{records_in, AreWholeRecords};
 
     ghost Value = { List Record };
 
     ghost view = { λ s. records_in s.count s.bytes.items };
 
-    ghost invariant = { λ s. IsWhole s.count s.bytes.items };
+    ghost invariant = { λ s. AreWholeRecords s.count s.bytes.items };
 }
 
 impl ReportList {
@@ -171,9 +171,9 @@ impl ReportList {
         ensures found { IfOk result (λ records. IsReportList text.now records) }
         // A text that stands for records is read as those, unless memory runs out.
         ensures only { (records : List Record) → IsReportList text.now records →
-            (result ≡ Ok records) ⊎ (result ≡ Err no_memory) }
+            (result ≡ Ok records) ⊎ (result ≡ Err oom_fault) }
         // Which fault it is, unless memory runs out.
-        ensures fault { (result ≡ read_list text.now) ⊎ (result ≡ Err no_memory) }
+        ensures fault { (result ≡ read_list text.now) ⊎ (result ≡ Err oom_fault) }
     {
         if text.len() > MAX_TEXT {
             return Err(ListFaultKind::TooLarge.at(0, 0));
@@ -192,18 +192,18 @@ impl ReportList {
         &mut self,
         line: &Line<'_>,
         message: &mut Vec<u8>,
-        written: usize,
+        decoded: usize,
     ) -> Result<(), ListFault>
-        requires written { AreWritten line.now.bytes.now message.old.items written }
-        requires within { 2 * written ≤ length line.now.bytes.now }
-        requires room { written ≤ length message.old.items }
+        requires decoded { AreDecoded line.now.bytes.now message.old.items decoded }
+        requires within { 2 * decoded ≤ length line.now.bytes.now }
+        requires room { decoded ≤ length message.old.items }
         ensures ok { OnOk result ((records : List Record) ×
             (read_line (line_text line.now) ≡ Ok records) × (self.new ≡ self.old ++ records)) }
         ensures err { IfErr result (λ fault.
             IsMemory fault ⊎ (read_line (line_text line.now) ≡ Err fault)) }
     {
-        let bytes = read_digits(line, message, written)?;
-        if let Some(records) = records_taken(line.number, bytes)? {
+        let bytes = decode_line(line, message, decoded)?;
+        if let Some(records) = accepted_records_of_line(line.number, bytes)? {
             self.append(&records)?;
         }
         Ok(())
@@ -215,7 +215,7 @@ impl ReportList {
     {
         let (older_group, group_records) = records.parts();
         if let Some(group) = older_group {
-            self.append_bytes(1, &bytes_of_older_record(group))?;
+            self.append_bytes(1, &older_record_bytes(group))?;
         }
         let (count, bytes) = group_records.parts();
         self.append_bytes(count, bytes)
@@ -223,7 +223,7 @@ impl ReportList {
 
     // Appends group records that follow one another in the bytes.
     fn append_bytes(&mut self, count: usize, bytes: &[u8]) -> Result<(), AllocError>
-        requires { IsWhole count bytes.now }
+        requires { AreWholeRecords count bytes.now }
         ensures { OnOk result (self.new ≡ self.old ++ records_in count bytes.now) }
     {
         self.bytes.extend_from_slice(bytes)?;

@@ -7,19 +7,19 @@ ghost use Rattle.std.specs.List.{list_all};
 ghost use Rattle.hex.specs.Hex.{is_hex_digit};
 ghost use Rattle.mc_text.specs.Lines.{max_text};
 ghost use Rattle.mc_igmp.specs.declared.record.Record.{Record};
-ghost use Rattle.mc_igmp.specs.ReadingList.{IsMemory, no_memory, read_line, read_list};
-ghost use Rattle.mc_igmp.specs.ListSoFar.{AreAhead, WithoutLineFeed, line_after, read_on};
+ghost use Rattle.mc_igmp.specs.ReadingList.{IsMemory, oom_fault, read_line, read_list};
+ghost use Rattle.mc_igmp.specs.ListSoFar.{IsDecodedAhead, WithoutLineFeed, line_after, read_rest_of_lines};
 ghost use Rattle.mc_igmp.specs.ListSoFar.{no_list, without_records, list_if};
 
-use crate::digits::write_ahead;
+use crate::digits::decode_prefix;
 use crate::fault::{ListFault, ListFaultKind};
 use crate::list::{ListRecords, ReportList};
-use mc_text::{Line, MAX_TEXT, Memory, first_place_of};
+use mc_text::{Line, MAX_TEXT, Memory, find_byte};
 use std::alloc::{AllocError, Global};
 use std::marker::Model;
 
 /// The line that ends with these bytes: what has begun it and they, or they alone, where they stand.
-fn whole_line<'a>(begun: &'a mut Vec<u8>, bytes: &'a [u8]) -> Result<&'a [u8], AllocError>
+fn join_line<'a>(begun: &'a mut Vec<u8>, bytes: &'a [u8]) -> Result<&'a [u8], AllocError>
     ensures { IfOk result (λ whole. whole.now ≡ begun.old.items ++ bytes.now) }
 {
     if begun.is_empty() {
@@ -30,18 +30,18 @@ fn whole_line<'a>(begun: &'a mut Vec<u8>, bytes: &'a [u8]) -> Result<&'a [u8], A
 }
 
 /// The place of the first line feed, where so many digits stand before it.
-fn line_feed_after(digits: usize, text: &[u8]) -> Option<usize>
+fn line_feed_after_digits(digits: usize, text: &[u8]) -> Option<usize>
     requires within { digits ≤ length text.now }
     requires digits { list_all is_hex_digit (take digits text.now) ≡ true }
     ensures { result ≡ position (λ b. b == 10) text.now }
 {
-    let place = first_place_of(b'\n', &text[digits..])?;
+    let place = find_byte(b'\n', &text[digits..])?;
     Some(digits + place)
 }
 
 /// The lines that have come.
 #[derive(Debug, Drop)]
-struct LinesRead {
+struct LineReader {
     /// How many have ended.
     ended: u32,
     /// The bytes after the last line feed.
@@ -51,45 +51,45 @@ struct LinesRead {
     /// Room for the bytes of a line's message, as long as it is read.
     message: Vec<u8>,
     /// How many of them are written before the line's end is known.
-    written: usize,
+    decoded: usize,
 }
 
-impl LinesRead {
+impl LineReader {
     // Writes the bytes of the digits that come next, if they begin a line.
-    fn read_ahead(&mut self, rest: &[u8])
-        ensures ahead { AreAhead rest.now self.new.message.items self.new.written }
-        ensures split { (self.new.begun.items ≡ []) ⊎ (self.new.written ≡ 0) }
+    fn decode_ahead(&mut self, rest: &[u8])
+        ensures ahead { IsDecodedAhead rest.now self.new.message.items self.new.decoded }
+        ensures split { (self.new.begun.items ≡ []) ⊎ (self.new.decoded ≡ 0) }
         ensures begun { self.new.begun ≡ self.old.begun }
         ensures list { self.new.list ≡ self.old.list }
         ensures ended { self.new.ended ≡ self.old.ended }
     {
         if self.begun.is_empty() {
-            self.written = write_ahead(rest, &mut self.message);
+            self.decoded = decode_prefix(rest, &mut self.message);
         } else {
-            self.written = 0;
+            self.decoded = 0;
         }
     }
 
     // Where the line ends, if it does. Its digits are read meanwhile, so that its end isn't looked
     // for among them.
-    fn find_end(&mut self, rest: &[u8]) -> Option<usize>
+    fn find_line_end(&mut self, rest: &[u8]) -> Option<usize>
         ensures end { result ≡ position (λ b. b == 10) rest.now }
-        ensures ahead { IfSome result (λ end. AreAhead
-            (self.new.begun.items ++ take end rest.now) self.new.message.items self.new.written) }
+        ensures ahead { IfSome result (λ end. IsDecodedAhead
+            (self.new.begun.items ++ take end rest.now) self.new.message.items self.new.decoded) }
         ensures begun { self.new.begun ≡ self.old.begun }
         ensures list { self.new.list ≡ self.old.list }
         ensures ended { self.new.ended ≡ self.old.ended }
     {
-        self.read_ahead(rest);
-        line_feed_after(2 * self.written, rest)
+        self.decode_ahead(rest);
+        line_feed_after_digits(2 * self.decoded, rest)
     }
 
     // A line ends here, of the bytes that have begun it, if it is split, and of these. One that
     // isn't is read where it stands.
     fn end_line(&mut self, bytes: &[u8]) -> Result<(), ListFault>
         requires few { self.old.ended < u32.MAX }
-        requires ahead { AreAhead
-            (self.old.begun.items ++ bytes.now) self.old.message.items self.old.written }
+        requires ahead { IsDecodedAhead
+            (self.old.begun.items ++ bytes.now) self.old.message.items self.old.decoded }
         ensures records { OnOk result ((records : List Record)
             × (read_line (line_after self.old.ended (self.old.begun.items ++ bytes.now)) ≡ Ok records)
             × (self.new.list ≡ self.old.list ++ records)) }
@@ -100,10 +100,10 @@ impl LinesRead {
     {
         let line = Line {
             number: self.ended + 1,
-            bytes: whole_line(&mut self.begun, bytes)?,
+            bytes: join_line(&mut self.begun, bytes)?,
             ended: true,
         };
-        self.list.push_line(&line, &mut self.message, self.written)?;
+        self.list.push_line(&line, &mut self.message, self.decoded)?;
         self.ended += 1;
         self.begun.clear();
         Ok(())
@@ -115,17 +115,17 @@ impl LinesRead {
             < u32.MAX }
         requires begun { WithoutLineFeed self.old.begun.items }
         ensures reads { (more : List ℕ) → OnOk result
-            (read_on self.old.list self.old.ended (self.old.begun.items ++ (piece.now ++ more))
-            ≡ read_on self.new.list self.new.ended (self.new.begun.items ++ more)) }
+            (read_rest_of_lines self.old.list self.old.ended (self.old.begun.items ++ (piece.now ++ more))
+            ≡ read_rest_of_lines self.new.list self.new.ended (self.new.begun.items ++ more)) }
         ensures fault { (more : List ℕ) → IfErr result (λ fault. IsMemory fault
-            ⊎ (read_on self.old.list self.old.ended
+            ⊎ (read_rest_of_lines self.old.list self.old.ended
             (self.old.begun.items ++ (piece.now ++ more)) ≡ Err fault)) }
         ensures few { OnOk result (self.new.ended + length self.new.begun.items
             ≤ self.old.ended + (length self.old.begun.items + length piece.now)) }
         ensures begun { OnOk result (WithoutLineFeed self.new.begun.items) }
     {
         let mut rest = piece;
-        'lines: while let Some(end) = self.find_end(rest) {
+        'lines: while let Some(end) = self.find_line_end(rest) {
             self.end_line(&rest[..end])?;
             rest = &rest[end + 1..];
         }
@@ -140,15 +140,15 @@ impl LinesRead {
 pub struct ListReader {
     /// How many bytes have come, or one more than a text may have.
     size: usize,
-    lines: LinesRead,
+    lines: LineReader,
     /// The first fault of a line, or that memory ran out.
     fault: Option<ListFault>,
 }
 
 impl Model for ListReader {
     ghost use Rattle.std.specs.Prelude.{◌≡◌, ◌≤◌, ◌+◌, Some};
-    ghost use Rattle.mc_igmp.specs.ReadingList.{no_memory};
-    ghost use Rattle.mc_igmp.specs.ListSoFar.{ListSoFar, GoOn};
+    ghost use Rattle.mc_igmp.specs.ReadingList.{oom_fault};
+    ghost use Rattle.mc_igmp.specs.ListSoFar.{ListSoFar, CanReadOn};
 
     ghost Value = { ListSoFar };
 
@@ -161,8 +161,8 @@ impl Model for ListReader {
     } };
 
     ghost invariant = { λ s. (s.size ≤ 16777216 + 1)
-        × GoOn s.size s.lines.ended s.lines.begun.items s.fault
-        × (s.fault ≡ Some no_memory → s.size ≤ 16777216) };
+        × CanReadOn s.size s.lines.ended s.lines.begun.items s.fault
+        × (s.fault ≡ Some oom_fault → s.size ≤ 16777216) };
 }
 
 impl ListReader {
@@ -174,12 +174,12 @@ impl ListReader {
     {
         ListReader {
             size: 0,
-            lines: LinesRead {
+            lines: LineReader {
                 ended: 0,
                 begun: Vec::new(alloc),
                 list: ReportList::none(alloc),
                 message: Vec::new(alloc),
-                written: 0,
+                decoded: 0,
             },
             fault: None,
         }
@@ -205,9 +205,9 @@ impl ListReader {
         ensures size { OnOk result
             (self.new.size ≡ min (self.old.size + length piece.now) (max_text + 1)) }
         ensures within { self.new.size ≤ self.old.size + length piece.now }
-        ensures memory { OnErr result (self.new.fault ≡ Some no_memory) }
+        ensures memory { OnErr result (self.new.fault ≡ Some oom_fault) }
         // Once memory ran out each call answers that again.
-        ensures again { self.old.fault ≡ Some no_memory → IsErr result × (self.new ≡ self.old) }
+        ensures again { self.old.fault ≡ Some oom_fault → IsErr result × (self.new ≡ self.old) }
     {
         if self.is_out_of_memory() {
             return Err(Memory);
@@ -229,7 +229,7 @@ impl ListReader {
 
     /// Whether memory ran out.
     fn is_out_of_memory(&self) -> bool
-        ensures { IsTrue result ↔ (self.now.fault ≡ Some no_memory) }
+        ensures { IsTrue result ↔ (self.now.fault ≡ Some oom_fault) }
     {
         match self.fault {
             Some(fault) => fault.is_memory(),
@@ -258,7 +258,7 @@ impl ListReader {
     /// The first fault, as `ReportList::read` has it, or `Memory` where `feed` answered that.
     pub fn finish(self) -> Result<ReportList, ListFault>
         ensures ends { result ≡ list_if self [] }
-        ensures again { self.fault ≡ Some no_memory → result ≡ Err no_memory }
+        ensures again { self.fault ≡ Some oom_fault → result ≡ Err oom_fault }
     {
         let ListReader { size, lines, fault } = self;
         if size > MAX_TEXT {

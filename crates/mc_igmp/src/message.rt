@@ -3,7 +3,7 @@
 ghost use Rattle.std.specs.Prelude.{◌≡◌, ◌≤◌, length, slice_index, IfOk, Ok};
 ghost use Rattle.mc_igmp.specs.declared.message.Message.{Message};
 ghost use Rattle.mc_igmp.specs.Message.{IsMessage};
-ghost use Rattle.mc_igmp.specs.ReadingMessage.{read_message, read_typed};
+ghost use Rattle.mc_igmp.specs.ReadingMessage.{read_message, read_by_type};
 
 use crate::checksum::is_checksum_right;
 use crate::record::group_of;
@@ -48,9 +48,9 @@ pub enum MessageFault {
 }
 
 /// What the bytes of a message with a right checksum stand for.
-fn message_in(bytes: &[u8]) -> Result<Message<'_>, MessageFault>
+fn parse_by_type(bytes: &[u8]) -> Result<Message<'_>, MessageFault>
     requires { HEADER_LEN ≤ length bytes.now }
-    ensures { result ≡ read_typed bytes.now (slice_index bytes.now 0) }
+    ensures { result ≡ read_by_type bytes.now (slice_index bytes.now 0) }
 {
     match bytes[0] {
         VERSION_3_REPORT => {
@@ -84,6 +84,6 @@ impl<'a> Message<'a> {
         if !is_checksum_right(bytes) {
             return Err(MessageFault::BadChecksum);
         }
-        message_in(bytes)
+        parse_by_type(bytes)
     }
 }

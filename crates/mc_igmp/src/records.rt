@@ -2,7 +2,7 @@
 
 ghost use Rattle.std.specs.Prelude.{◌≡◌, ◌++◌, ◌∷◌, ℕ, List, [], MatchResult, true};
 ghost use Rattle.mc_igmp.specs.OlderReport.{older_record, older_records};
-ghost use Rattle.mc_igmp.specs.Records.{records_in, after_records, AreLasting};
+ghost use Rattle.mc_igmp.specs.Records.{records_in, after_records, HaveNoChanges};
 
 use crate::group_records::GroupRecords;
 use crate::record::Record;
@@ -67,10 +67,10 @@ impl<'a> Records<'a> {
     }
 
     /// Whether it is known, from when they were read, that none tells of a change.
-    pub(crate) fn are_known_lasting(&self) -> bool
-        ensures { result ≡ true → AreLasting self.now }
+    pub(crate) fn has_no_changes(&self) -> bool
+        ensures { result ≡ true → HaveNoChanges self.now }
     {
-        self.group_records.are_known_lasting()
+        self.group_records.has_no_changes()
     }
 
     /// The group of a report of version 1 or 2, if its record is left, and the group records that

@@ -1,87 +1,87 @@
 -- Each line but the verdict's is an object whose first key isn't the verdict's.
 use Rattle.std.proofs.Common.{◌==◌, ℕ, Bool, true, false, cond, List, [], ◌∷◌, flat_map, map, refl}
-use Rattle.mc_tables.specs.Notes.{NotesText}
+use Rattle.mc_tables.specs.Summary.{SummaryValue}
 use Rattle.mc_topology.specs.Topology.{TopologyValue}
 use Rattle.mc_topology.specs.declared.flow.Flow.{Flow}
 use Rattle.mc_theory.specs.Certificates.{Entry}
 use Rattle.mc_theory.specs.Events.{Event}
 use Rattle.mc_forward.specs.ListedTables.{DomainFacts}
 use Rattle.mc_replay.specs.declared.finding.Finding.{Finding}
-use Rattle.mc_explain.specs.LeftOutText.{left_out_routers}
+use Rattle.mc_explain.specs.ExcludedText.{excluded_routers}
 use Rattle.mc_explain.specs.UnlistedPairs.{with_routers}
-use Rattle.mc_explain.specs.UnlistedText.{further_rows, lowest_of}
+use Rattle.mc_explain.specs.UnlistedText.{further_rows, shown_unlisted_pairs}
 use Rattle.serde_json.specs.Data.{Data}
 use Rattle.json.specs.Print.{escape_byte}
 use Rattle.mc_json.specs.DomainData.{domain_data}
 use Rattle.mc_json.specs.EndData.{summary_data, unlisted_data, unlisted_line, unlisted_lines}
 use Rattle.mc_json.specs.EndData.{unlisted_more_data, unlisted_more_line, without_data, without_line}
 use Rattle.mc_json.specs.EndData.{without_line_of}
-use Rattle.mc_json.specs.FlowData.{right_data, tree_data, wrong_data, wrong_line, wrong_of}
+use Rattle.mc_json.specs.FlowData.{right_data, tree_data, wrong_data, wrong_line, wrong_flow_of}
 use Rattle.mc_json.specs.ObjectLines.{AreObjectLines}
 use Rattle.mc_json.specs.RowData.{line_of}
-use Rattle.mc_json.proofs.ObjectLemmas.{lines-both, lines-each, no-lines, one-line}
+use Rattle.mc_json.proofs.ObjectLemmas.{are_object_lines-append, are_object_lines-flat_map, are_object_lines-none, are_object_lines-one}
 
-pub domain-object : (d : DomainFacts) (words : List (List ℕ))
+pub are_object_lines-domain : (d : DomainFacts) (words : List (List ℕ))
     → AreObjectLines (line_of (domain_data d words))
 unfolding escape_byte
-domain-object d words = one-line (domain_data d words) refl refl
+are_object_lines-domain d words = are_object_lines-one (domain_data d words) refl refl
 
 -- ---- flows
 
-pub tree-object : (t : TopologyValue) (es : List Entry) (tree : ℕ)
+pub are_object_lines-tree : (t : TopologyValue) (es : List Entry) (tree : ℕ)
     → AreObjectLines (line_of (tree_data t es tree))
 unfolding escape_byte
-tree-object t es tree = one-line (tree_data t es tree) refl refl
+are_object_lines-tree t es tree = are_object_lines-one (tree_data t es tree) refl refl
 
-pub right-object : (whole : Bool) (number : ℕ) (f : Flow) (copies tree : ℕ) (wanted : List Data)
+pub are_object_lines-right : (whole : Bool) (number : ℕ) (f : Flow) (copies tree : ℕ) (wanted : List Data)
     → AreObjectLines (line_of (right_data whole number f copies tree wanted))
 unfolding escape_byte
-right-object true number f copies tree wanted =
-    one-line (right_data true number f copies tree wanted) refl refl
-right-object false number f copies tree wanted =
-    one-line (right_data false number f copies tree wanted) refl refl
+are_object_lines-right true number f copies tree wanted =
+    are_object_lines-one (right_data true number f copies tree wanted) refl refl
+are_object_lines-right false number f copies tree wanted =
+    are_object_lines-one (right_data false number f copies tree wanted) refl refl
 
-pub wrong-object : (d : DomainFacts) (number : ℕ) (f : Flow) (found_ttl : ℕ) (finding : Finding)
-    (events : List Event) (also : List ℕ) (why : List Data) (asked : Bool)
-    → AreObjectLines (wrong_line d number f found_ttl finding events also why asked)
+pub are_object_lines-wrong : (d : DomainFacts) (number : ℕ) (f : Flow) (found_ttl : ℕ) (finding : Finding)
+    (events : List Event) (also : List ℕ) (why : List Data) (events_asked : Bool)
+    → AreObjectLines (wrong_line d number f found_ttl finding events also why events_asked)
 unfolding escape_byte
-wrong-object d number f found_ttl finding events also why asked =
-    one-line (wrong_data number f (wrong_of d.topology found_ttl finding events also why asked))
+are_object_lines-wrong d number f found_ttl finding events also why events_asked =
+    are_object_lines-one (wrong_data number f (wrong_flow_of d.topology found_ttl finding events also why events_asked))
     refl refl
 
 -- ---- behind the flows
 
-unlisted-object : (t : TopologyValue) (source group : ℕ) (routers : List ℕ)
+are_object_lines-unlisted : (t : TopologyValue) (source group : ℕ) (routers : List ℕ)
     → AreObjectLines (line_of (unlisted_data t source group routers))
 unfolding escape_byte
-unlisted-object t source group routers =
-    one-line (unlisted_data t source group routers) refl refl
+are_object_lines-unlisted t source group routers =
+    are_object_lines-one (unlisted_data t source group routers) refl refl
 
-more-by : (rows : ℕ) (none : Bool)
+are_object_lines-unlisted_more : (rows : ℕ) (none : Bool)
     → AreObjectLines (cond none [] (line_of (unlisted_more_data rows)))
 unfolding escape_byte
-more-by rows true = no-lines
-more-by rows false = one-line (unlisted_more_data rows) refl refl
+are_object_lines-unlisted_more rows true = are_object_lines-none
+are_object_lines-unlisted_more rows false = are_object_lines-one (unlisted_more_data rows) refl refl
 
-pub unlisted-objects : (all : Bool) (t : TopologyValue) (notes : List NotesText)
-    → AreObjectLines (unlisted_lines all t notes)
-unlisted-objects all t notes =
-    let pairs = map (with_routers t notes) (lowest_of all notes) in
-    let more = further_rows all t notes in
-    lines-both (flat_map (unlisted_line t) pairs) (unlisted_more_line more)
-    (lines-each (unlisted_line t) pairs (λ pair. unlisted-object t pair.0.1 pair.0.0 pair.1))
-    (more-by more (more == 0))
+pub are_object_lines-all_unlisted : (all : Bool) (t : TopologyValue) (summary : List SummaryValue)
+    → AreObjectLines (unlisted_lines all t summary)
+are_object_lines-all_unlisted all t summary =
+    let pairs = map (with_routers t summary) (shown_unlisted_pairs all summary) in
+    let more = further_rows all t summary in
+    are_object_lines-append (flat_map (unlisted_line t) pairs) (unlisted_more_line more)
+    (are_object_lines-flat_map (unlisted_line t) pairs (λ pair. are_object_lines-unlisted t pair.0.1 pair.0.0 pair.1))
+    (are_object_lines-unlisted_more more (more == 0))
 
-without-by : (t : TopologyValue) (routers : List ℕ) → AreObjectLines (without_line_of t routers)
+are_object_lines-without_line_of : (t : TopologyValue) (routers : List ℕ) → AreObjectLines (without_line_of t routers)
 unfolding escape_byte
-without-by t [] = no-lines
-without-by t (router ∷ routers) = one-line (without_data t (router ∷ routers)) refl refl
+are_object_lines-without_line_of t [] = are_object_lines-none
+are_object_lines-without_line_of t (router ∷ routers) = are_object_lines-one (without_data t (router ∷ routers)) refl refl
 
-pub without-object : (t : TopologyValue) (left_out : List Bool)
-    → AreObjectLines (without_line t left_out)
-without-object t left_out = without-by t (left_out_routers t left_out)
+pub are_object_lines-without : (t : TopologyValue) (excluded : List Bool)
+    → AreObjectLines (without_line t excluded)
+are_object_lines-without t excluded = are_object_lines-without_line_of t (excluded_routers t excluded)
 
-pub summary-object : (right unwanted wrong : ℕ)
+pub are_object_lines-summary : (right unwanted wrong : ℕ)
     → AreObjectLines (line_of (summary_data right unwanted wrong))
 unfolding escape_byte
-summary-object right unwanted wrong = one-line (summary_data right unwanted wrong) refl refl
+are_object_lines-summary right unwanted wrong = are_object_lines-one (summary_data right unwanted wrong) refl refl

@@ -5,22 +5,22 @@ use Rattle.std.proofs.lemmas.List.Elements.{filter-append}
 use Rattle.mc_theory.specs.Lists.{below}
 use Rattle.mc_forward.proofs.BelowLemmas.{below-more}
 
-filter-next : (p : ℕ → Bool) (n : ℕ)
+filter-below_more : (p : ℕ → Bool) (n : ℕ)
     → filter p (below (n + 1)) ≡ filter p (below n) ++ filter p (n ∷ [])
-filter-next p n = ap (filter p) (below-more n) ∙ filter-append p (below n) (n ∷ [])
+filter-below_more p n = ap (filter p) (below-more n) ∙ filter-append p (below n) (n ∷ [])
 
 -- where the next number passes, the list has one more,
-pub filter-passed : (p : ℕ → Bool) (xs now : List ℕ) (n : ℕ) → xs ≡ filter p (below n) → p n ≡ true
+pub filter-below_passed : (p : ℕ → Bool) (xs now : List ℕ) (n : ℕ) → xs ≡ filter p (below n) → p n ≡ true
     → now ≡ xs ++ n ∷ [] → now ≡ filter p (below (n + 1))
-filter-passed p xs now n so_far passes pushed =
+filter-below_passed p xs now n so_far passes pushed =
     let one : filter p (n ∷ []) ≡ n ∷ [] = ap (λ (b : Bool). cond b (n ∷ []) []) passes in
     pushed ∙ ap (λ ys. ys ++ n ∷ []) so_far
-    ∙ sym (filter-next p n ∙ ap (λ ys. filter p (below n) ++ ys) one)
+    ∙ sym (filter-below_more p n ∙ ap (λ ys. filter p (below n) ++ ys) one)
 
 -- and where it doesn't, it stays
-pub filter-passed_not : (p : ℕ → Bool) (xs : List ℕ) (n : ℕ) → xs ≡ filter p (below n) → p n ≡ false
+pub filter-below_failed : (p : ℕ → Bool) (xs : List ℕ) (n : ℕ) → xs ≡ filter p (below n) → p n ≡ false
     → xs ≡ filter p (below (n + 1))
-filter-passed_not p xs n so_far fails =
+filter-below_failed p xs n so_far fails =
     let none : filter p (n ∷ []) ≡ [] = ap (λ (b : Bool). cond b (n ∷ []) []) fails in
-    so_far ∙ sym (filter-next p n ∙ ap (λ ys. filter p (below n) ++ ys) none
+    so_far ∙ sym (filter-below_more p n ∙ ap (λ ys. filter p (below n) ++ ys) none
     ∙ append-nil (filter p (below n)))

@@ -1,8 +1,8 @@
-pub mod PlainLemmas
+pub mod NoFloatLemmas
 pub mod FilterLemmas
-pub mod SearchPlainLemmas
-pub mod NumberedLemmas
-pub mod DomainPlainLemmas
-pub mod TextLemmas
+pub mod SearchNoFloatLemmas
+pub mod LoopStepLemmas
+pub mod DomainNoFloatLemmas
+pub mod NoFeedLemmas
 pub mod ObjectLemmas
 pub mod EachLineLemmas

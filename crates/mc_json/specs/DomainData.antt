@@ -1,22 +1,22 @@
 -- What an audit tells first in JSON: the domain that was read, and by which words.
 use Rattle.std.specs.Prelude.{ℕ, List, [], ◌∷◌, ◌++◌, length, map, flat_map, Option, Some, None, codes}
 use Rattle.mc_text.specs.Addr.{dotted}
-use Rattle.mc_tables.specs.VifTable.{VifText}
-use Rattle.mc_topology.specs.Rows.{InterfaceRow, SourceRow}
+use Rattle.mc_tables.specs.VifTable.{VifValue}
+use Rattle.mc_topology.specs.SectionRows.{InterfaceRow, SourceRow}
 use Rattle.mc_topology.specs.Topology.{TopologyValue}
 use Rattle.mc_theory.specs.Lists.{below}
 use Rattle.mc_forward.specs.ListedTables.{DomainFacts}
-use Rattle.mc_explain.specs.RowText.{name_text}
-use Rattle.mc_explain.specs.TopologyLans.{vif_with}
+use Rattle.mc_explain.specs.RowText.{device_name_text}
+use Rattle.mc_explain.specs.TopologyLans.{vif_of_device}
 use Rattle.serde_json.specs.Data.{Data, null, string}
 use Rattle.mc_json.specs.RowData.{count_data, list_data, object_data}
-use Rattle.mc_json.specs.ToldData.{lan_data, router_data}
+use Rattle.mc_json.specs.CauseData.{lan_data, router_data}
 
 -- ---- interfaces
 
 abbrev pub interface_data : TopologyValue → (router : ℕ) → (device : List ℕ) → (lan vif : Data) → Data
 interface_data t router device lan vif = object_data (
-    (codes "device", string (name_text device))
+    (codes "device", string (device_name_text device))
     ∷ (codes "lan", lan)
     ∷ (codes "router", router_data t router)
     ∷ (codes "vif", vif) ∷ [])
@@ -26,28 +26,28 @@ lan_or_null t None = null
 lan_or_null t (Some lan) = lan_data t lan
 
 -- a vif, if the table has a line for it, with the LAN that it is placed on, for whichever flow
-abbrev pub vif_row : DomainFacts → (router vif : ℕ) → Option VifText → List Data
-vif_row d router vif None = []
-vif_row d router vif (Some v) =
+abbrev pub vif_data : DomainFacts → (router vif : ℕ) → Option VifValue → List Data
+vif_data d router vif None = []
+vif_data d router vif (Some v) =
     interface_data d.topology router v.device (lan_or_null d.topology ((d.nets 0).placed router vif))
     (count_data vif) ∷ []
 
-abbrev pub vifs_of : DomainFacts → (router : ℕ) → List Data
-vifs_of d router = flat_map (λ vif. vif_row d router vif (d.vifs router vif)) (below 32)
+abbrev pub vifs_data : DomainFacts → (router : ℕ) → List Data
+vifs_data d router = flat_map (λ vif. vif_data d router vif (d.vifs router vif)) (below 32)
 
 -- an interface of the topology, if its router has no vif of its device
-abbrev pub unmatched_by : Option ℕ → TopologyValue → InterfaceRow → List Data
-unmatched_by None t i = interface_data t i.router i.device (lan_data t i.lan) null ∷ []
-unmatched_by (Some vif) t i = []
+abbrev pub unmatched_data_of : Option ℕ → TopologyValue → InterfaceRow → List Data
+unmatched_data_of None t i = interface_data t i.router i.device (lan_data t i.lan) null ∷ []
+unmatched_data_of (Some vif) t i = []
 
-abbrev pub unmatched : DomainFacts → InterfaceRow → List Data
-unmatched d i = unmatched_by (vif_with d i.router i.device) d.topology i
+abbrev pub unmatched_data : DomainFacts → InterfaceRow → List Data
+unmatched_data d i = unmatched_data_of (vif_of_device d i.router i.device) d.topology i
 
 -- all vifs by router and number, then those interfaces in the topology's order
 abbrev pub interfaces_data : DomainFacts → List Data
 interfaces_data d =
-    flat_map (vifs_of d) (below (length d.topology.routers))
-    ++ flat_map (unmatched d) d.topology.interfaces
+    flat_map (vifs_data d) (below (length d.topology.routers))
+    ++ flat_map (unmatched_data d) d.topology.interfaces
 
 -- ---- the line
 

@@ -1,33 +1,33 @@
 -- What is told behind the flows in JSON: a line each.
 use Rattle.std.specs.Prelude.{ℕ, ◌+◌, ◌==◌, Bool, List, [], ◌∷◌, ◌++◌, flat_map, map}
 use Rattle.std.specs.Prelude.{if◌then◌else◌, codes}
-use Rattle.mc_tables.specs.Notes.{NotesText}
+use Rattle.mc_tables.specs.Summary.{SummaryValue}
 use Rattle.mc_text.specs.Addr.{dotted}
 use Rattle.mc_topology.specs.Topology.{TopologyValue}
-use Rattle.mc_explain.specs.LeftOutText.{left_out_routers}
+use Rattle.mc_explain.specs.ExcludedText.{excluded_routers}
 use Rattle.mc_explain.specs.UnlistedPairs.{with_routers}
-use Rattle.mc_explain.specs.UnlistedText.{further_rows, lowest_of}
+use Rattle.mc_explain.specs.UnlistedText.{further_rows, shown_unlisted_pairs}
 use Rattle.serde_json.specs.Data.{Data, string}
 use Rattle.mc_json.specs.RowData.{count_data, line_of, list_data, object_data}
-use Rattle.mc_json.specs.ToldData.{router_data}
+use Rattle.mc_json.specs.CauseData.{router_data}
 
 abbrev pub routers_data : TopologyValue → List ℕ → Data
 routers_data t routers = list_data (map (router_data t) routers)
 
 -- an object of one member
-abbrev pub alone : (key : List ℕ) → Data → Data
-alone key d = object_data ((key, d) ∷ [])
+abbrev pub single_member : (key : List ℕ) → Data → Data
+single_member key d = object_data ((key, d) ∷ [])
 
 -- a source and a group that aren't listed, and the routers that have a row of them
 abbrev pub unlisted_data : TopologyValue → (source group : ℕ) → List ℕ → Data
-unlisted_data t source group routers = alone (codes "unlisted") (object_data (
+unlisted_data t source group routers = single_member (codes "unlisted") (object_data (
     (codes "group", string (dotted group))
     ∷ (codes "routers", routers_data t routers)
     ∷ (codes "source", string (dotted source)) ∷ []))
 
 -- how many further rows aren't listed
 abbrev pub unlisted_more_data : (rows : ℕ) → Data
-unlisted_more_data rows = alone (codes "unlisted_more") (alone (codes "rows") (count_data rows))
+unlisted_more_data rows = single_member (codes "unlisted_more") (single_member (codes "rows") (count_data rows))
 
 -- a line for each pair of a group and a source that is shown, with all routers that have a row of it
 abbrev pub unlisted_line : TopologyValue → (pair : (ℕ × ℕ) × List ℕ) → List ℕ
@@ -37,14 +37,14 @@ unlisted_line t pair = line_of (unlisted_data t pair.0.1 pair.0.0 pair.1)
 abbrev pub unlisted_more_line : (rows : ℕ) → List ℕ
 unlisted_more_line rows = if rows == 0 then [] else line_of (unlisted_more_data rows)
 
-abbrev pub unlisted_lines : (all : Bool) → TopologyValue → List NotesText → List ℕ
-unlisted_lines all t notes =
-    flat_map (unlisted_line t) (map (with_routers t notes) (lowest_of all notes))
-    ++ unlisted_more_line (further_rows all t notes)
+abbrev pub unlisted_lines : (all : Bool) → TopologyValue → List SummaryValue → List ℕ
+unlisted_lines all t summary =
+    flat_map (unlisted_line t) (map (with_routers t summary) (shown_unlisted_pairs all summary))
+    ++ unlisted_more_line (further_rows all t summary)
 
 -- the routers that were left out
 abbrev pub without_data : TopologyValue → List ℕ → Data
-without_data t routers = alone (codes "without") (routers_data t routers)
+without_data t routers = single_member (codes "without") (routers_data t routers)
 
 -- as a line, nothing where there are none
 abbrev pub without_line_of : TopologyValue → List ℕ → List ℕ
@@ -52,12 +52,12 @@ without_line_of t [] = []
 without_line_of t (router ∷ routers) = line_of (without_data t (router ∷ routers))
 
 -- by a mark for each router
-abbrev pub without_line : TopologyValue → (left_out : List Bool) → List ℕ
-without_line t left_out = without_line_of t (left_out_routers t left_out)
+abbrev pub without_line : TopologyValue → (excluded : List Bool) → List ℕ
+without_line t excluded = without_line_of t (excluded_routers t excluded)
 
 -- how many flows there are, and how many of them are right, wanted by nobody, and not right
 abbrev pub summary_data : (right unwanted wrong : ℕ) → Data
-summary_data right unwanted wrong = alone (codes "summary") (object_data (
+summary_data right unwanted wrong = single_member (codes "summary") (object_data (
     (codes "flows", count_data (right + wrong))
     ∷ (codes "right", count_data right)
     ∷ (codes "unwanted", count_data unwanted)
@@ -67,4 +67,4 @@ abbrev pub verdict_word : (is_yes : Bool) → List ℕ
 verdict_word is_yes = if is_yes then codes "yes" else codes "no"
 
 abbrev pub verdict_data : (is_yes : Bool) → Data
-verdict_data is_yes = alone (codes "verdict") (string (verdict_word is_yes))
+verdict_data is_yes = single_member (codes "verdict") (string (verdict_word is_yes))

@@ -12,11 +12,11 @@ use Rattle.mc_forward.specs.ListedTables.{DomainFacts, facts}
 use Rattle.mc_replay.specs.declared.finding.Finding.{Finding}
 use Rattle.mc_replay.specs.declared.finding.Finding.TheVariants.{Clean, Duplicate, Loop, Stray}
 use Rattle.mc_replay.specs.declared.finding.Finding.TheVariants.{Missed}
-use Rattle.mc_replay.specs.declared.travel.Ended.{Ended}
-use Rattle.mc_explain.specs.WantedText.{missed_besides, wanting}
+use Rattle.mc_replay.specs.declared.travel.FinishedTravel.{FinishedTravel}
+use Rattle.mc_explain.specs.WantedText.{missed_besides, lans_wanting}
 use Rattle.serde_json.specs.Data.{Data, null, boolean, string}
 use Rattle.mc_json.specs.RowData.{count_data, line_of, list_data, object_data}
-use Rattle.mc_json.specs.ToldData.{lan_data, router_data}
+use Rattle.mc_json.specs.CauseData.{lan_data, router_data}
 
 -- ---- ways
 
@@ -65,36 +65,36 @@ right_data whole number f copies tree wanted = object_data (
     ∷ (codes "wanted", list_data wanted) ∷ [])
 
 abbrev pub wanted_data : DomainFacts → (number : ℕ) → List Data
-wanted_data d number = map (lan_data d.topology) (wanting d number)
+wanted_data d number = map (lan_data d.topology) (lans_wanting d number)
 
 -- ---- one that isn't right
 
-abbrev pub at_lan : TopologyValue → (kind : List ℕ) → (lan : ℕ) → Data
-at_lan t kind lan = object_data (
+abbrev pub finding_at_lan : TopologyValue → (kind : List ℕ) → (lan : ℕ) → Data
+finding_at_lan t kind lan = object_data (
     (codes "kind", string kind) ∷ (codes "lan", lan_data t lan) ∷ [])
 
 abbrev pub finding_data : TopologyValue → Finding → Data
 finding_data t Clean = object_data ((codes "kind", string (codes "Clean")) ∷ [])
-finding_data t (Duplicate lan) = at_lan t (codes "Duplicate") lan
-finding_data t (Loop lan) = at_lan t (codes "Loop") lan
+finding_data t (Duplicate lan) = finding_at_lan t (codes "Duplicate") lan
+finding_data t (Loop lan) = finding_at_lan t (codes "Loop") lan
 finding_data t (Stray router vif) = object_data (
     (codes "kind", string (codes "Stray"))
     ∷ (codes "router", router_data t router)
     ∷ (codes "vif", count_data vif) ∷ [])
-finding_data t (Missed lan) = at_lan t (codes "Missed") lan
+finding_data t (Missed lan) = finding_at_lan t (codes "Missed") lan
 
 -- a handling that sent no copies
-abbrev pub no_copies_data : TopologyValue → Event → (outcome : List ℕ) → Data
-no_copies_data t e outcome = object_data (
+abbrev pub event_without_copies_data : TopologyValue → Event → (outcome : List ℕ) → Data
+event_without_copies_data t e outcome = object_data (
     (codes "outcome", string outcome)
     ∷ (codes "router", router_data t e.router)
     ∷ (codes "ttl", count_data e.ttl)
     ∷ (codes "vif", count_data e.vif) ∷ [])
 
 abbrev pub outcome_data : TopologyValue → Event → Outcome → Data
-outcome_data t e Open = no_copies_data t e (codes "open")
-outcome_data t e NoRow = no_copies_data t e (codes "no row")
-outcome_data t e OtherVif = no_copies_data t e (codes "other vif")
+outcome_data t e Open = event_without_copies_data t e (codes "open")
+outcome_data t e NoRow = event_without_copies_data t e (codes "no row")
+outcome_data t e OtherVif = event_without_copies_data t e (codes "other vif")
 outcome_data t e (Sent copies strays) = object_data (
     (codes "copies", count_data copies)
     ∷ (codes "outcome", string (codes "sent"))
@@ -108,7 +108,7 @@ event_data t e = outcome_data t e e.outcome
 
 -- What is told of a flow that isn't right: what was found at which TTL, the LANs that were missed
 -- besides, the travel's events where they are asked for, and why it is so.
-pub record Wrong : Type 0 where
+pub record WrongFlow : Type 0 where
   pub also : List Data
   pub events : Option (List Data)
   pub finding : Data
@@ -119,7 +119,7 @@ abbrev pub events_member : Option (List Data) → List (List ℕ × Data)
 events_member None = []
 events_member (Some events) = (codes "events", list_data events) ∷ []
 
-abbrev pub wrong_members : (number : ℕ) → Flow → Wrong → List (List ℕ × Data)
+abbrev pub wrong_members : (number : ℕ) → Flow → WrongFlow → List (List ℕ × Data)
 wrong_members number f w =
     (codes "also", list_data w.also)
     ∷ (events_member w.events
@@ -132,19 +132,19 @@ wrong_members number f w =
     ∷ (codes "ttl", count_data f.ttl)
     ∷ (codes "why", list_data w.why) ∷ []))
 
-abbrev pub wrong_data : (number : ℕ) → Flow → Wrong → Data
+abbrev pub wrong_data : (number : ℕ) → Flow → WrongFlow → Data
 wrong_data number f w = object_data (wrong_members number f w)
 
 -- the events of a travel, where they are asked for
-abbrev pub events_told : TopologyValue → (asked : Bool) → List Event → Option (List Data)
-events_told t asked es = if asked then Some (map (event_data t) es) else None
+abbrev pub events_if_asked : TopologyValue → (events_asked : Bool) → List Event → Option (List Data)
+events_if_asked t events_asked es = if events_asked then Some (map (event_data t) es) else None
 
 -- of a travel that found it, by its events and by the LANs that it missed besides
-abbrev pub wrong_of : TopologyValue → (found_ttl : ℕ) → Finding → List Event → (also : List ℕ)
-    → (why : List Data) → (asked : Bool) → Wrong
-wrong_of t found_ttl finding events also why asked = record {
+abbrev pub wrong_flow_of : TopologyValue → (found_ttl : ℕ) → Finding → List Event → (also : List ℕ)
+    → (why : List Data) → (events_asked : Bool) → WrongFlow
+wrong_flow_of t found_ttl finding events also why events_asked = record {
   also = map (lan_data t) also;
-  events = events_told t asked events;
+  events = events_if_asked t events_asked events;
   finding = finding_data t finding;
   found_ttl = found_ttl;
   why = why;
@@ -152,14 +152,14 @@ wrong_of t found_ttl finding events also why asked = record {
 
 -- and as a line
 abbrev pub wrong_line : DomainFacts → (number : ℕ) → Flow → (found_ttl : ℕ) → Finding → List Event
-    → (also : List ℕ) → (why : List Data) → (asked : Bool) → List ℕ
-wrong_line d number f found_ttl finding events also why asked =
-    line_of (wrong_data number f (wrong_of d.topology found_ttl finding events also why asked))
+    → (also : List ℕ) → (why : List Data) → (events_asked : Bool) → List ℕ
+wrong_line d number f found_ttl finding events also why events_asked =
+    line_of (wrong_data number f (wrong_flow_of d.topology found_ttl finding events also why events_asked))
 
 -- of the flow and the travel that ended so
-abbrev pub found_line : (number : ℕ) → Flow → Ended → (found_ttl : ℕ) → (why : List Data)
-    → (asked : Bool) → List ℕ
-found_line number f e found_ttl why asked =
+abbrev pub wrong_line_of_travel : (number : ℕ) → Flow → FinishedTravel → (found_ttl : ℕ) → (why : List Data)
+    → (events_asked : Bool) → List ℕ
+wrong_line_of_travel number f e found_ttl why events_asked =
     wrong_line (facts e.flight.domain) number f found_ttl e.travel.finding e.travel.events.items
     (missed_besides (facts e.flight.domain) e.flight.flow e.flight.flight.carried e.travel.finding)
-    why asked
+    why events_asked

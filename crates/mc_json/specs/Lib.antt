@@ -1,5 +1,5 @@
 pub mod RowData
-pub mod ToldData
+pub mod CauseData
 pub mod FlowData
 pub mod EndData
 pub mod SearchData

@@ -1,22 +1,22 @@
 -- Lines that are JSON objects, and none of which is the verdict.
 use Rattle.std.specs.Prelude.{◌≡◌, ◌≢◌, ℕ, List, ◌++◌, codes, flat_map}
 use Rattle.mc_theory.specs.Lists.{In}
-use Rattle.mc_explain.specs.Indented.{IsFeedless}
-use Rattle.mc_explain.specs.UnlistedLines.{ended}
+use Rattle.mc_explain.specs.Indented.{HasNoLineFeed}
+use Rattle.mc_explain.specs.UnlistedLines.{with_line_feed}
 
 -- it begins with a brace and a quote
 abbrev pub BeginsObject : List ℕ → Type 0
 BeginsObject line = (rest : List ℕ) × (line ≡ codes "{\"" ++ rest)
 
 -- it doesn't begin as the verdict does
-abbrev pub IsNoVerdict : List ℕ → Type 0
-IsNoVerdict line = (rest : List ℕ) → line ≢ codes "{\"verdict\"" ++ rest
+abbrev pub IsNotVerdict : List ℕ → Type 0
+IsNotVerdict line = (rest : List ℕ) → line ≢ codes "{\"verdict\"" ++ rest
 
 -- The text is lines, one after the other, each of which begins an object that isn't the verdict, ends
 -- with a line feed and has none before that.
 pub record AreObjectLines (text : List ℕ) : Type 0 where
   pub lines : List (List ℕ)
   pub begins : (line : List ℕ) → In line lines → BeginsObject line
-  pub other : (line : List ℕ) → In line lines → IsNoVerdict line
-  pub feedless : (line : List ℕ) → In line lines → IsFeedless line
-  pub spelled : text ≡ flat_map ended lines
+  pub other : (line : List ℕ) → In line lines → IsNotVerdict line
+  pub feedless : (line : List ℕ) → In line lines → HasNoLineFeed line
+  pub spelled : text ≡ flat_map with_line_feed lines

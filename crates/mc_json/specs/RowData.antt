@@ -1,16 +1,16 @@
 -- Values and lines in JSON, and a router's devices and rows, by the names of the topology and of the vif tables.
 use Rattle.std.specs.Prelude.{ℕ, List, [], ◌∷◌, ◌++◌, map, Option, Some, None, codes}
-use Rattle.mc_tables.specs.CacheTable.{EntryText}
-use Rattle.mc_tables.specs.Notes.{NotesText}
-use Rattle.mc_tables.specs.VifTable.{VifText}
+use Rattle.mc_tables.specs.CacheTable.{EntryValue}
+use Rattle.mc_tables.specs.Summary.{SummaryValue}
+use Rattle.mc_tables.specs.VifTable.{VifValue}
 use Rattle.mc_topology.specs.Topology.{router_name}
 use Rattle.mc_topology.specs.declared.flow.Flow.{Flow}
 use Rattle.mc_theory.specs.Nets.{Row}
 use Rattle.mc_theory.specs.Nets.Row.{Exact, Open, NoRow}
-use Rattle.mc_forward.specs.Domains.{pairs_of}
+use Rattle.mc_forward.specs.Domains.{oif_pairs}
 use Rattle.mc_forward.specs.ListedTables.{DomainFacts}
 use Rattle.mc_explain.specs.EverySourceText.{every_source_of}
-use Rattle.mc_explain.specs.RowText.{address_text, name_text}
+use Rattle.mc_explain.specs.RowText.{address_text, device_name_text}
 use Rattle.serde_json.specs.Data.{Data, Members, null, number, unsigned, string, array, object}
 use Rattle.serde_json.specs.Data.{member, no_members}
 use Rattle.serde_json.specs.View.{items_of}
@@ -39,9 +39,9 @@ line_of d = compact_text d ++ codes "\n"
 -- ---- devices
 
 -- the name of a vif's device, null where the vif table has no line for it
-abbrev pub device_data_of : Option VifText → Data
+abbrev pub device_data_of : Option VifValue → Data
 device_data_of None = null
-device_data_of (Some v) = string (name_text v.device)
+device_data_of (Some v) = string (device_name_text v.device)
 
 abbrev pub device_data : DomainFacts → (router vif : ℕ) → Data
 device_data d router vif = device_data_of (d.vifs router vif)
@@ -49,26 +49,26 @@ device_data d router vif = device_data_of (d.vifs router vif)
 -- ---- rows
 
 -- a row's outgoing vif with its threshold
-abbrev pub pair_data : DomainFacts → (router : ℕ) → ℕ × ℕ → Data
-pair_data d router p = object_data (
+abbrev pub oif_data : DomainFacts → (router : ℕ) → ℕ × ℕ → Data
+oif_data d router p = object_data (
     (codes "device", device_data d router p.0)
     ∷ (codes "threshold", count_data p.1)
     ∷ (codes "vif", count_data p.0) ∷ [])
 
 -- the vif that a row takes from
-abbrev pub from_data : DomainFacts → (router incoming : ℕ) → Data
-from_data d router incoming = object_data (
+abbrev pub incoming_data : DomainFacts → (router incoming : ℕ) → Data
+incoming_data d router incoming = object_data (
     (codes "device", device_data d router incoming)
     ∷ (codes "vif", count_data incoming) ∷ [])
 
 -- a row; its source or group 0.0.0.0 stands for every one, and is told as `*`
 abbrev pub entry_data : DomainFacts → (router source group incoming : ℕ) → List (ℕ × ℕ) → Data
 entry_data d router source group incoming pairs = object_data (
-    (codes "from", from_data d router incoming)
+    (codes "from", incoming_data d router incoming)
     ∷ (codes "group", string (address_text group))
     ∷ (codes "router", string (router_name d.topology router))
     ∷ (codes "source", string (address_text source))
-    ∷ (codes "to", list_data (map (pair_data d router) pairs)) ∷ [])
+    ∷ (codes "to", list_data (map (oif_data d router) pairs)) ∷ [])
 
 -- a router's row for a flow
 abbrev pub row_data : DomainFacts → Flow → (router : ℕ) → Row → Data
@@ -78,11 +78,11 @@ row_data d f router Open = null
 row_data d f router NoRow = null
 
 -- a router's row for every source, by what is noted of its cache
-abbrev pub noted_row_data : DomainFacts → (router : ℕ) → Option (ℕ × EntryText) → Data
-noted_row_data d router None = null
-noted_row_data d router (Some row) =
-    entry_data d router 0 row.0 row.1.iif (pairs_of row.1.oifs)
+abbrev pub every_source_row_data : DomainFacts → (router : ℕ) → Option (ℕ × EntryValue) → Data
+every_source_row_data d router None = null
+every_source_row_data d router (Some row) =
+    entry_data d router 0 row.0 row.1.iif (oif_pairs row.1.oifs)
 
-abbrev pub every_source_data : DomainFacts → List NotesText → (group router : ℕ) → Data
-every_source_data d notes group router =
-    noted_row_data d router (every_source_of notes group router)
+abbrev pub every_source_data : DomainFacts → List SummaryValue → (group router : ℕ) → Data
+every_source_data d summary group router =
+    every_source_row_data d router (every_source_of summary group router)

@@ -1,24 +1,24 @@
 -- Why a flow isn't right, in JSON: what is told of it, and the search for a LAN that was missed.
 use Rattle.std.specs.Prelude.{ℕ, List, [], ◌++◌, Option, Some, None}
-use Rattle.mc_tables.specs.Notes.{NotesText}
+use Rattle.mc_tables.specs.Summary.{SummaryValue}
 use Rattle.mc_topology.specs.declared.flow.Flow.{Flow}
 use Rattle.mc_forward.specs.ListedTables.{DomainFacts}
 use Rattle.mc_explain.specs.declared.searching.LanSearch.{LanSearch}
-use Rattle.mc_explain.specs.declared.told.Told.{Told}
+use Rattle.mc_explain.specs.declared.causes.Cause.{Cause}
 use Rattle.serde_json.specs.Data.{Data}
 use Rattle.mc_json.specs.SearchData.{search_data}
-use Rattle.mc_json.specs.ToldData.{all_told_data}
+use Rattle.mc_json.specs.CauseData.{causes_data}
 
 -- nothing where there was no search
-abbrev pub found_data : DomainFacts → List NotesText → (number : ℕ) → Flow → Option LanSearch
+abbrev pub search_data_if_any : DomainFacts → List SummaryValue → (number : ℕ) → Flow → Option LanSearch
     → List Data
-found_data d notes number f None = []
-found_data d notes number f (Some found) =
-    search_data d notes number f found.lines.items found.reach.sent_on.items
+search_data_if_any d summary number f None = []
+search_data_if_any d summary number f (Some found) =
+    search_data d summary number f found.lines.items found.reach.sent_on.items
     found.reach.took_none.items
 
 -- of the flow with this number, by what is noted of the routers' caches
-abbrev pub why_data : DomainFacts → List NotesText → (number : ℕ) → Flow → List Told
+abbrev pub why_data : DomainFacts → List SummaryValue → (number : ℕ) → Flow → List Cause
     → Option LanSearch → List Data
-why_data d notes number f told search =
-    all_told_data d notes number f told ++ found_data d notes number f search
+why_data d summary number f causes search =
+    causes_data d summary number f causes ++ search_data_if_any d summary number f search

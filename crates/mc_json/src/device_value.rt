@@ -4,10 +4,10 @@ ghost use Rattle.std.specs.Prelude.{◌≡◌, IfOk};
 ghost use Rattle.std.specs.String.{string_bytes};
 ghost use Rattle.serde_json.specs.View.{view as data_of};
 ghost use Rattle.mc_forward.specs.ListedTables.{facts};
-ghost use Rattle.mc_explain.specs.RowText.{name_text};
+ghost use Rattle.mc_explain.specs.RowText.{device_name_text};
 ghost use Rattle.mc_json.specs.RowData.{device_data};
 
-use mc_explain::ShownName;
+use mc_explain::ShownDeviceName;
 use mc_forward::FlowView;
 use mc_topology::RouterNo;
 use serde_json::Value;
@@ -18,9 +18,9 @@ pub(crate) const NO_DEVICE: &[u8] = b"none";
 
 /// A device's name, as `eth1`.
 pub(crate) fn device_name(alloc: Global, name: &[u8]) -> Result<String, AllocError>
-    ensures { IfOk result (λ text. string_bytes text ≡ name_text name.now) }
+    ensures { IfOk result (λ text. string_bytes text ≡ device_name_text name.now) }
 {
-    let name = ShownName { name };
+    let name = ShownDeviceName { name };
     format!(in alloc; "{name}")
 }
 

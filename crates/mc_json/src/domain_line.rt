@@ -8,15 +8,15 @@ ghost use Rattle.mc_theory.specs.Lists.{below};
 ghost use Rattle.mc_forward.specs.Domains.{vif_of};
 ghost use Rattle.mc_forward.specs.ListedTables.{facts};
 ghost use Rattle.mc_json.specs.DomainData.{domain_data, interface_data, interfaces_data, lan_or_null};
-ghost use Rattle.mc_json.specs.DomainData.{parts_data, source_data, unmatched, vif_row, vifs_of};
+ghost use Rattle.mc_json.specs.DomainData.{parts_data, source_data, unmatched_data, vif_data, vifs_data};
 ghost use Rattle.mc_json.specs.RowData.{line_of};
-ghost use Rattle.mc_json.specs.ToldData.{lan_data, router_data};
+ghost use Rattle.mc_json.specs.CauseData.{lan_data, router_data};
 
 use crate::device_value::device_name;
 use crate::fields::Fields;
 use crate::line::push_line;
 use crate::name_values::{lan_names, router_names};
-use mc_explain::vif_with;
+use mc_explain::vif_of_device;
 use mc_forward::Domain;
 use mc_text::Memory;
 use mc_topology::{Interface, LanNo, RouterNo, Source, Topology};
@@ -63,7 +63,7 @@ fn push_vif(
 ) -> Result<(), AllocError>
     requires { router < length domain.now.topology.routers }
     ensures { OnOk result (map data_of values.new.items ≡ map data_of values.old.items
-        ++ vif_row (facts domain.now) router vif (vif_of domain.now.tables router vif)) }
+        ++ vif_data (facts domain.now) router vif (vif_of domain.now.tables router vif)) }
 {
     let topology = domain.topology();
     let Some(line) = domain.vif(router, vif) else {
@@ -85,7 +85,7 @@ fn push_vifs(
 ) -> Result<(), AllocError>
     requires { router < length domain.now.topology.routers }
     ensures { OnOk result (map data_of values.new.items ≡ map data_of values.old.items
-        ++ vifs_of (facts domain.now) router) }
+        ++ vifs_data (facts domain.now) router) }
 {
     for vif in 0..32u8 {
         push_vif(alloc, values, domain, router, vif)?;
@@ -96,7 +96,7 @@ fn push_vifs(
 /// Tells the vifs of all routers.
 fn push_all_vifs(alloc: Global, values: &mut Vec<Value>, domain: &Domain) -> Result<(), AllocError>
     ensures { OnOk result (map data_of values.new.items ≡ map data_of values.old.items
-        ++ flat_map (vifs_of (facts domain.now)) (below (length domain.now.topology.routers))) }
+        ++ flat_map (vifs_data (facts domain.now)) (below (length domain.now.topology.routers))) }
 {
     for number in 0..domain.topology().routers() {
         push_vifs(alloc, values, domain, RouterNo(number))?;
@@ -112,9 +112,9 @@ fn push_interface(
     interface: &Interface<'_>,
 ) -> Result<(), AllocError>
     ensures { OnOk result (map data_of values.new.items ≡ map data_of values.old.items
-        ++ unmatched (facts domain.now) interface.now) }
+        ++ unmatched_data (facts domain.now) interface.now) }
 {
-    if let Some(_found) = vif_with(domain, interface.router, interface.device) {
+    if let Some(_found) = vif_of_device(domain, interface.router, interface.device) {
         return Ok(());
     }
     let topology = domain.topology();
@@ -134,7 +134,7 @@ fn push_interface(
 /// Tells those of all interfaces of the topology.
 fn push_unmatched(alloc: Global, values: &mut Vec<Value>, domain: &Domain) -> Result<(), AllocError>
     ensures { OnOk result (map data_of values.new.items ≡ map data_of values.old.items
-        ++ flat_map (unmatched (facts domain.now)) domain.now.topology.interfaces) }
+        ++ flat_map (unmatched_data (facts domain.now)) domain.now.topology.interfaces) }
 {
     let topology = domain.topology();
     for number in 0..topology.interfaces() {

@@ -4,8 +4,8 @@
 ghost use Rattle.std.specs.Prelude.{◌≡◌, ◌++◌, IfOk, OnOk, flat_map};
 ghost use Rattle.std.specs.String.{string_bytes};
 ghost use Rattle.serde_json.specs.View.{view as data_of};
-ghost use Rattle.mc_explain.specs.LeftOutText.{left_out_routers};
-ghost use Rattle.mc_explain.specs.Searched.{is_left_out};
+ghost use Rattle.mc_explain.specs.ExcludedText.{excluded_routers};
+ghost use Rattle.mc_explain.specs.SearchLine.{is_excluded};
 ghost use Rattle.mc_json.specs.EndData.{summary_data, unlisted_data, unlisted_line, unlisted_lines};
 ghost use Rattle.mc_json.specs.EndData.{unlisted_more_line, verdict_data, verdict_word, without_data};
 ghost use Rattle.mc_json.specs.EndData.{without_line};
@@ -15,7 +15,7 @@ use crate::fields::Fields;
 use crate::line::push_line;
 use crate::name_values::router_names;
 use mc_explain::{UnlistedPair, UnlistedPairs};
-use mc_tables::CacheNotes;
+use mc_tables::CacheSummary;
 use mc_text::Memory;
 use mc_topology::{RouterNo, Topology};
 use serde_json::Value;
@@ -40,7 +40,7 @@ fn unlisted_value(
 }
 
 /// Writes their line.
-fn push_pair(
+fn push_unlisted_line(
     alloc: Global,
     text: &mut String,
     topology: &Topology,
@@ -54,7 +54,7 @@ fn push_pair(
 }
 
 /// Writes the lines of pairs that are shown.
-fn push_pairs(
+fn push_unlisted_pair_lines(
     alloc: Global,
     text: &mut String,
     topology: &Topology,
@@ -64,13 +64,13 @@ fn push_pairs(
         string_bytes text.old ++ flat_map (unlisted_line topology.now) shown.now) }
 {
     for pair in shown {
-        push_pair(alloc, text, topology, pair)?;
+        push_unlisted_line(alloc, text, topology, pair)?;
     }
     Ok(())
 }
 
 /// Writes the line of the further rows, nothing where there are none.
-fn push_further(text: &mut String, rows: u128) -> Result<(), AllocError>
+fn push_unlisted_more_line(text: &mut String, rows: u128) -> Result<(), AllocError>
     ensures { OnOk result (string_bytes text.new ≡ string_bytes text.old ++ unlisted_more_line rows) }
 {
     if rows == 0 {
@@ -92,15 +92,15 @@ pub fn push_unlisted_lines(
     alloc: Global,
     text: &mut String,
     topology: &Topology,
-    notes: &[CacheNotes],
+    summary: &[CacheSummary],
     all: bool,
 ) -> Result<(), Memory>
     ensures lines { OnOk result (string_bytes text.new ≡
-        string_bytes text.old ++ unlisted_lines all topology.now notes.now) }
+        string_bytes text.old ++ unlisted_lines all topology.now summary.now) }
 {
-    let pairs = UnlistedPairs::new(alloc, topology, notes, all)?;
-    push_pairs(alloc, text, topology, &pairs.shown)?;
-    push_further(text, pairs.further)?;
+    let pairs = UnlistedPairs::new(alloc, topology, summary, all)?;
+    push_unlisted_pair_lines(alloc, text, topology, &pairs.shown)?;
+    push_unlisted_more_line(text, pairs.further)?;
     Ok(())
 }
 
@@ -118,10 +118,10 @@ fn without_value(
 }
 
 /// Whether a router is marked as left out. Those beyond the marks are not.
-fn is_left_out(left_out: &[bool], router: RouterNo) -> bool
-    ensures { result ≡ is_left_out left_out.now router }
+fn is_excluded(excluded: &[bool], router: RouterNo) -> bool
+    ensures { result ≡ is_excluded excluded.now router }
 {
-    match left_out.get(router.0 as usize) {
+    match excluded.get(router.0 as usize) {
         Some(mark) => *mark,
         None => false,
     }
@@ -132,17 +132,17 @@ fn is_left_out(left_out: &[bool], router: RouterNo) -> bool
 /// # Errors
 ///
 /// `AllocError` where a growth was refused.
-pub fn routers_left_out(
+pub fn list_excluded_routers(
     alloc: Global,
     topology: &Topology,
-    left_out: &[bool],
+    excluded: &[bool],
 ) -> Result<Vec<RouterNo>, AllocError>
-    ensures { IfOk result (λ routers. routers.items ≡ left_out_routers topology.now left_out.now) }
+    ensures { IfOk result (λ routers. routers.items ≡ excluded_routers topology.now excluded.now) }
 {
     let mut routers = Vec::new(alloc);
     for number in 0..topology.routers() {
         let router = RouterNo(number);
-        if is_left_out(left_out, router) {
+        if is_excluded(excluded, router) {
             routers.push(router)?;
         }
     }
@@ -159,12 +159,12 @@ pub fn push_without_line(
     alloc: Global,
     text: &mut String,
     topology: &Topology,
-    left_out: &[bool],
+    excluded: &[bool],
 ) -> Result<(), Memory>
     ensures line { OnOk result (string_bytes text.new ≡
-        string_bytes text.old ++ without_line topology.now left_out.now) }
+        string_bytes text.old ++ without_line topology.now excluded.now) }
 {
-    let routers = routers_left_out(alloc, topology, left_out)?;
+    let routers = list_excluded_routers(alloc, topology, excluded)?;
     if routers.is_empty() {
         return Ok(());
     }

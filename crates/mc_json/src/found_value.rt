@@ -5,7 +5,7 @@ ghost use Rattle.serde_json.specs.Data.{string};
 ghost use Rattle.serde_json.specs.View.{view as data_of};
 ghost use Rattle.mc_theory.specs.Events.Outcome.{Sent};
 ghost use Rattle.mc_replay.specs.declared.finding.Finding.TheVariants.{Stray};
-ghost use Rattle.mc_json.specs.FlowData.{at_lan, event_data, finding_data, no_copies_data, outcome_data};
+ghost use Rattle.mc_json.specs.FlowData.{finding_at_lan, event_data, finding_data, event_without_copies_data, outcome_data};
 ghost use Rattle.mc_json.specs.RowData.{object_data};
 
 use crate::fields::Fields;
@@ -16,14 +16,14 @@ use serde_json::Value;
 use std::alloc::{AllocError, Global};
 
 /// A handling that sent no copies.
-fn no_copies(
+fn event_without_copies(
     alloc: Global,
     topology: &Topology,
     event: &Event,
     outcome: &str,
 ) -> Result<Value, AllocError>
     ensures { IfOk result (λ value. data_of value
-        ≡ no_copies_data topology.now event.now outcome.now) }
+        ≡ event_without_copies_data topology.now event.now outcome.now) }
 {
     let (vif, ttl) = (event.vif, event.ttl);
     Fields::new(alloc)
@@ -35,7 +35,7 @@ fn no_copies(
 }
 
 /// A handling that sent copies.
-fn sent(
+fn event_with_copies(
     alloc: Global,
     topology: &Topology,
     event: &Event,
@@ -60,10 +60,10 @@ fn event_value(alloc: Global, topology: &Topology, event: &Event) -> Result<Valu
     ensures { IfOk result (λ value. data_of value ≡ event_data topology.now event.now) }
 {
     match event.outcome {
-        Outcome::Open => no_copies(alloc, topology, event, "open"),
-        Outcome::NoRow => no_copies(alloc, topology, event, "no row"),
-        Outcome::OtherVif => no_copies(alloc, topology, event, "other vif"),
-        Outcome::Sent { copies, strays } => sent(alloc, topology, event, copies, strays),
+        Outcome::Open => event_without_copies(alloc, topology, event, "open"),
+        Outcome::NoRow => event_without_copies(alloc, topology, event, "no row"),
+        Outcome::OtherVif => event_without_copies(alloc, topology, event, "other vif"),
+        Outcome::Sent { copies, strays } => event_with_copies(alloc, topology, event, copies, strays),
     }
 }
 
@@ -84,8 +84,8 @@ pub(crate) fn event_values(
 }
 
 /// What is found at a LAN.
-fn at_lan(alloc: Global, topology: &Topology, kind: &str, lan: LanNo) -> Result<Value, AllocError>
-    ensures { IfOk result (λ value. data_of value ≡ at_lan topology.now kind.now lan) }
+fn finding_at_lan(alloc: Global, topology: &Topology, kind: &str, lan: LanNo) -> Result<Value, AllocError>
+    ensures { IfOk result (λ value. data_of value ≡ finding_at_lan topology.now kind.now lan) }
 {
     Fields::new(alloc)
         .text("kind", kind)
@@ -94,7 +94,7 @@ fn at_lan(alloc: Global, topology: &Topology, kind: &str, lan: LanNo) -> Result<
 }
 
 /// That nothing is found.
-fn clean(alloc: Global) -> Result<Value, AllocError>
+fn clean_finding(alloc: Global) -> Result<Value, AllocError>
     ensures { IfOk result (λ value. data_of value
         ≡ object_data ((codes "kind", string (codes "Clean")) ∷ [])) }
 {
@@ -102,7 +102,7 @@ fn clean(alloc: Global) -> Result<Value, AllocError>
 }
 
 /// What is found at a vif that leads out of the listed LANs.
-fn stray(alloc: Global, topology: &Topology, router: RouterNo, vif: u8) -> Result<Value, AllocError>
+fn stray_finding(alloc: Global, topology: &Topology, router: RouterNo, vif: u8) -> Result<Value, AllocError>
     ensures { IfOk result (λ value. data_of value ≡ finding_data topology.now (Stray router vif)) }
 {
     Fields::new(alloc)
@@ -121,10 +121,10 @@ pub(crate) fn finding_value(
     ensures { IfOk result (λ value. data_of value ≡ finding_data topology.now finding) }
 {
     match finding {
-        Finding::Clean => clean(alloc),
-        Finding::Duplicate(lan) => at_lan(alloc, topology, "Duplicate", lan),
-        Finding::Loop(lan) => at_lan(alloc, topology, "Loop", lan),
-        Finding::Stray(router, vif) => stray(alloc, topology, router, vif),
-        Finding::Missed(lan) => at_lan(alloc, topology, "Missed", lan),
+        Finding::Clean => clean_finding(alloc),
+        Finding::Duplicate(lan) => finding_at_lan(alloc, topology, "Duplicate", lan),
+        Finding::Loop(lan) => finding_at_lan(alloc, topology, "Loop", lan),
+        Finding::Stray(router, vif) => stray_finding(alloc, topology, router, vif),
+        Finding::Missed(lan) => finding_at_lan(alloc, topology, "Missed", lan),
     }
 }

@@ -2,7 +2,7 @@
 
 ghost use Rattle.std.specs.Prelude.{◌≡◌, ℕ, Bool, List, codes, false, true};
 ghost use Rattle.serde_json.specs.Data.{Data};
-ghost use Rattle.mc_tables.specs.Notes.{NotesText};
+ghost use Rattle.mc_tables.specs.Summary.{SummaryValue};
 ghost use Rattle.mc_topology.specs.declared.flow.Flow.{Flow};
 ghost use Rattle.mc_topology.specs.Topology.{TopologyValue};
 ghost use Rattle.mc_theory.specs.Certificates.{Entry};
@@ -25,12 +25,12 @@ pub fn each_line_is_an_object()
     ensures right { (whole : Bool) (number : ℕ) (f : Flow) (copies tree : ℕ) (wanted : List Data) →
         AreObjectLines (line_of (right_data whole number f copies tree wanted)) }
     ensures wrong { (d : DomainFacts) (number : ℕ) (f : Flow) (found_ttl : ℕ) (finding : Finding)
-        (events : List Event) (also : List ℕ) (why : List Data) (asked : Bool) →
-        AreObjectLines (wrong_line d number f found_ttl finding events also why asked) }
-    ensures unlisted { (all : Bool) (t : TopologyValue) (notes : List NotesText) →
-        AreObjectLines (unlisted_lines all t notes) }
-    ensures without { (t : TopologyValue) (left_out : List Bool) →
-        AreObjectLines (without_line t left_out) }
+        (events : List Event) (also : List ℕ) (why : List Data) (events_asked : Bool) →
+        AreObjectLines (wrong_line d number f found_ttl finding events also why events_asked) }
+    ensures unlisted { (all : Bool) (t : TopologyValue) (summary : List SummaryValue) →
+        AreObjectLines (unlisted_lines all t summary) }
+    ensures without { (t : TopologyValue) (excluded : List Bool) →
+        AreObjectLines (without_line t excluded) }
     ensures summary { (right unwanted wrong : ℕ) →
         AreObjectLines (line_of (summary_data right unwanted wrong)) }
 {}

@@ -14,7 +14,7 @@ use crate::fields::Fields;
 use crate::flow_fields::flow_fields;
 use crate::line::push_line;
 use crate::name_values::lan_names;
-use crate::wanted::wanting;
+use crate::wanted::lans_wanting;
 use mc_cert::Reached;
 use mc_forward::{Domain, FlowView};
 use mc_text::Memory;
@@ -101,7 +101,7 @@ pub fn push_tree_line(
 }
 
 /// That a flow is right, where the whole domain is known.
-fn mark_of(whole: bool) -> Value
+fn right_mark_value(whole: bool) -> Value
     ensures { data_of result ≡ right_mark whole }
 {
     if whole {
@@ -126,7 +126,7 @@ fn right_value(
 {
     flow_fields(alloc, number, flow)
         .count("copies", copies as u64)
-        .value("right", Ok(mark_of(whole)))
+        .value("right", Ok(right_mark_value(whole)))
         .count("tree", tree as u64)
         .list("wanted", Ok(wanted))
         .object()
@@ -137,7 +137,7 @@ fn wanted_values(alloc: Global, view: &FlowView<'_>) -> Result<Vec<Value>, Alloc
     ensures { IfOk result (λ values. map data_of values.items
         ≡ wanted_data (facts view.now.domain) view.now.flow) }
 {
-    let lans = wanting(alloc, view)?;
+    let lans = lans_wanting(alloc, view)?;
     lan_names(alloc, view.topology(), &lans)
 }
 

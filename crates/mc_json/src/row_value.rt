@@ -4,17 +4,17 @@ ghost use Rattle.std.specs.Prelude.{◌≡◌, IfOk, map};
 ghost use Rattle.std.specs.String.{string_bytes};
 ghost use Rattle.serde_json.specs.View.{view as data_of};
 ghost use Rattle.mc_topology.specs.declared.flow.Flow.{Flow};
-ghost use Rattle.mc_forward.specs.Domains.{pairs_of};
-ghost use Rattle.mc_forward.specs.Journeys.{net_in};
+ghost use Rattle.mc_forward.specs.Domains.{oif_pairs};
+ghost use Rattle.mc_forward.specs.FlightsInDomain.{net_in};
 ghost use Rattle.mc_forward.specs.ListedTables.{facts};
 ghost use Rattle.mc_explain.specs.EverySourceText.{every_source_of};
 ghost use Rattle.mc_explain.specs.RowText.{address_text};
-ghost use Rattle.mc_json.specs.RowData.{entry_data, every_source_data, pair_data, row_data};
+ghost use Rattle.mc_json.specs.RowData.{entry_data, every_source_data, oif_data, row_data};
 
 use crate::device_value::device_value;
 use crate::fields::Fields;
 use mc_forward::{FlowView, RowFor};
-use mc_tables::{CacheNotes, Entry, Oif};
+use mc_tables::{CacheSummary, Entry, Oif};
 use mc_text::Addr;
 use mc_topology::{Flow, RouterNo};
 use serde_json::Value;
@@ -32,14 +32,14 @@ fn address(alloc: Global, address: Addr) -> Result<String, AllocError>
 }
 
 /// An outgoing vif of a router's row.
-fn pair_value(
+fn oif_value(
     alloc: Global,
     view: &FlowView<'_>,
     router: RouterNo,
     oif: Oif,
 ) -> Result<Value, AllocError>
     ensures { IfOk result (λ value. data_of value
-        ≡ pair_data (facts view.now.domain) router (oif.vif, oif.threshold)) }
+        ≡ oif_data (facts view.now.domain) router (oif.vif, oif.threshold)) }
 {
     let Oif { vif, threshold } = oif;
     Fields::new(alloc)
@@ -50,25 +50,25 @@ fn pair_value(
 }
 
 /// The outgoing vifs of a router's row.
-fn pair_values(
+fn oif_values(
     alloc: Global,
     view: &FlowView<'_>,
     router: RouterNo,
     oifs: &[Oif],
 ) -> Result<Vec<Value>, AllocError>
     ensures { IfOk result (λ values. map data_of values.items
-        ≡ map (pair_data (facts view.now.domain) router) (pairs_of oifs.now)) }
+        ≡ map (oif_data (facts view.now.domain) router) (oif_pairs oifs.now)) }
 {
     let mut values = Vec::new(alloc);
     for oif in oifs {
-        values.push(pair_value(alloc, view, router, *oif)?)?;
+        values.push(oif_value(alloc, view, router, *oif)?)?;
     }
     Ok(values)
 }
 
 /// What a row is of: its router, its source and its group.
 #[derive(Clone, Copy, Drop)]
-struct RowOf {
+struct RowKey {
     router: RouterNo,
     source: Addr,
     group: Addr,
@@ -78,12 +78,12 @@ struct RowOf {
 fn entry_value(
     alloc: Global,
     view: &FlowView<'_>,
-    of: RowOf,
+    of: RowKey,
     incoming: u8,
     oifs: &[Oif],
 ) -> Result<Value, AllocError>
     ensures { IfOk result (λ value. data_of value ≡ entry_data (facts view.now.domain)
-        of.router of.source of.group incoming (pairs_of oifs.now)) }
+        of.router of.source of.group incoming (oif_pairs oifs.now)) }
 {
     let from = Fields::new(alloc)
         .value("device", device_value(alloc, view, of.router, incoming))
@@ -94,7 +94,7 @@ fn entry_value(
         .string("group", address(alloc, of.group))
         .router("router", view.topology(), of.router)
         .string("source", address(alloc, of.source))
-        .list("to", pair_values(alloc, view, of.router, oifs))
+        .list("to", oif_values(alloc, view, of.router, oifs))
         .object()
 }
 
@@ -110,7 +110,7 @@ pub(crate) fn row_value(
 {
     match view.row(router) {
         RowFor::Exact(entry) => {
-            let of = RowOf {
+            let of = RowKey {
                 router,
                 source: flow.source,
                 group: flow.group,
@@ -123,14 +123,14 @@ pub(crate) fn row_value(
 
 /// A router's row for every source, with the group that it has.
 fn row_for_every_source<'n>(
-    notes: &'n [CacheNotes],
+    summary: &'n [CacheSummary],
     group: Addr,
     router: RouterNo,
 ) -> Option<(Addr, Entry<'n>)>
-    ensures { result ≡ every_source_of notes.now group router }
+    ensures { result ≡ every_source_of summary.now group router }
 {
-    match notes.get(router.0 as usize) {
-        Some(noted) => noted.row_for_every_source(group),
+    match summary.get(router.0 as usize) {
+        Some(router_summary) => router_summary.row_for_every_source(group),
         None => None,
     }
 }
@@ -140,17 +140,17 @@ fn row_for_every_source<'n>(
 pub(crate) fn every_source_value(
     alloc: Global,
     view: &FlowView<'_>,
-    notes: &[CacheNotes],
+    summary: &[CacheSummary],
     group: Addr,
     router: RouterNo,
 ) -> Result<Value, AllocError>
     ensures { IfOk result (λ value. data_of value ≡ every_source_data (facts view.now.domain)
-        notes.now group router) }
+        summary.now group router) }
 {
-    match row_for_every_source(notes, group, router) {
+    match row_for_every_source(summary, group, router) {
         Some(row) => {
             let (every, entry) = row;
-            let of = RowOf {
+            let of = RowKey {
                 router,
                 source: Addr::from_octets([0, 0, 0, 0]),
                 group: every,

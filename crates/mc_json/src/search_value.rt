@@ -3,24 +3,24 @@
 ghost use Rattle.std.specs.Prelude.{◌≡◌, ◌++◌, IfOk, OnOk, Some, map};
 ghost use Rattle.std.specs.String.{string_bytes};
 ghost use Rattle.serde_json.specs.View.{view as data_of};
-ghost use Rattle.mc_forward.specs.Journeys.{net_in};
+ghost use Rattle.mc_forward.specs.FlightsInDomain.{net_in};
 ghost use Rattle.mc_forward.specs.ListedTables.{facts};
-ghost use Rattle.mc_explain.specs.RowText.{name_text};
+ghost use Rattle.mc_explain.specs.RowText.{device_name_text};
 ghost use Rattle.mc_explain.specs.ShownLines.{shown_lines};
 ghost use Rattle.mc_explain.specs.TopologyLans.{interface_at};
 ghost use Rattle.mc_json.specs.SearchData.{does_not_send_line, every_source_line, expected_line};
-ghost use Rattle.mc_json.specs.SearchData.{from_kind, from_kind_of, from_unplaced_line, lan_alone};
-ghost use Rattle.mc_json.specs.SearchData.{reach_line, router_alone, search_data, searched_data};
-ghost use Rattle.mc_json.specs.SearchData.{shown_data, stopped_line, waits_for_line, with_device};
-ghost use Rattle.mc_json.specs.ToldData.{router_data};
+ghost use Rattle.mc_json.specs.SearchData.{incoming_kind, incoming_kind_of, from_unplaced_line, kind_and_lan};
+ghost use Rattle.mc_json.specs.SearchData.{reach_line, kind_lan_router, search_data, search_line_data};
+ghost use Rattle.mc_json.specs.SearchData.{shown_line_data, stopped_line, waits_for_line, kind_lan_router_device};
+ghost use Rattle.mc_json.specs.CauseData.{router_data};
 
 use crate::device_value::{NO_DEVICE, device_name, device_value};
 use crate::fields::Fields;
 use crate::name_values::router_names;
 use crate::row_value::{every_source_value, row_value};
-use crate::telling::Telling;
-use crate::told_value::{incoming_device, incoming_vif};
-use mc_explain::{ExpectingRouters, LanSearch, Searched, ShownLine, ShownLines};
+use crate::line_context::LineContext;
+use crate::cause_value::{incoming_device, incoming_vif};
+use mc_explain::{ExpectingRouters, LanSearch, SearchLine, ShownLine, ShownLines};
 use mc_forward::{FlowView, RowFor};
 use mc_tables::Vif;
 use mc_topology::{LanNo, RouterNo, Topology};
@@ -28,13 +28,13 @@ use serde_json::Value;
 use std::alloc::{AllocError, Global};
 
 /// What is told of a LAN alone.
-fn lan_alone(
+fn kind_and_lan(
     alloc: Global,
     topology: &Topology,
     kind: &str,
     lan: LanNo,
 ) -> Result<Value, AllocError>
-    ensures { IfOk result (λ value. data_of value ≡ lan_alone topology.now kind.now lan) }
+    ensures { IfOk result (λ value. data_of value ≡ kind_and_lan topology.now kind.now lan) }
 {
     Fields::new(alloc)
         .text("kind", kind)
@@ -43,14 +43,14 @@ fn lan_alone(
 }
 
 /// What is told of a router alone.
-fn router_alone(
+fn kind_lan_router(
     alloc: Global,
     topology: &Topology,
     kind: &str,
     lan: LanNo,
     router: RouterNo,
 ) -> Result<Value, AllocError>
-    ensures { IfOk result (λ value. data_of value ≡ router_alone topology.now kind.now lan router) }
+    ensures { IfOk result (λ value. data_of value ≡ kind_lan_router topology.now kind.now lan router) }
 {
     Fields::new(alloc)
         .text("kind", kind)
@@ -62,7 +62,7 @@ fn router_alone(
 /// The device of an interface of the topology, empty for one that it hasn't.
 fn interface_name(alloc: Global, topology: &Topology, interface: u32) -> Result<String, AllocError>
     ensures { IfOk result (λ text. string_bytes text
-        ≡ name_text (interface_at topology.now interface).device) }
+        ≡ device_name_text (interface_at topology.now interface).device) }
 {
     if interface >= topology.interfaces() {
         return Ok(String::new(alloc));
@@ -71,7 +71,7 @@ fn interface_name(alloc: Global, topology: &Topology, interface: u32) -> Result<
 }
 
 /// What is told of a router and a device that the topology has on the LAN.
-fn with_device(
+fn kind_lan_router_device(
     alloc: Global,
     topology: &Topology,
     kind: &str,
@@ -80,7 +80,7 @@ fn with_device(
     interface: u32,
 ) -> Result<Value, AllocError>
     ensures { IfOk result (λ value. data_of value
-        ≡ with_device topology.now kind.now lan router interface) }
+        ≡ kind_lan_router_device topology.now kind.now lan router interface) }
 {
     Fields::new(alloc)
         .string("device", interface_name(alloc, topology, interface))
@@ -91,30 +91,30 @@ fn with_device(
 }
 
 /// Which row for every source a router has.
-fn every_source(
+fn every_source_line_value(
     alloc: Global,
-    by: &Telling<'_>,
+    context: &LineContext<'_>,
     lan: LanNo,
     router: RouterNo,
 ) -> Result<Value, AllocError>
-    ensures { IfOk result (λ value. data_of value ≡ every_source_line (facts by.now.view.now.domain)
-        by.now.notes.now by.now.flow.now lan router) }
+    ensures { IfOk result (λ value. data_of value ≡ every_source_line (facts context.now.view.now.domain)
+        context.now.summary.now context.now.flow.now lan router) }
 {
-    let topology = by.view.topology();
+    let topology = context.view.topology();
     Fields::new(alloc)
         .text("kind", "every_source")
         .lan("lan", topology, lan)
         .router("router", topology, router)
         .value(
             "row",
-            every_source_value(alloc, by.view, by.notes, by.flow.group, router),
+            every_source_value(alloc, context.view, context.summary, context.flow.group, router),
         )
         .object()
 }
 
 /// Why a vif of a table that a row takes from is placed on no LAN.
-fn kind_of_vif(vif: &Vif) -> &'static str
-    ensures { result.now ≡ from_kind_of (Some vif.now) }
+fn incoming_vif_kind(vif: &Vif) -> &'static str
+    ensures { result.now ≡ incoming_kind_of (Some vif.now) }
 {
     if vif.register() {
         "from_register"
@@ -128,12 +128,12 @@ fn kind_of_vif(vif: &Vif) -> &'static str
 }
 
 /// Why the vif that a router's row takes from is placed on no LAN.
-fn from_kind(view: &FlowView<'_>, router: RouterNo) -> &'static str
-    ensures { result.now ≡ from_kind (facts view.now.domain) router ((net_in view.now).row router) }
+fn incoming_kind(view: &FlowView<'_>, router: RouterNo) -> &'static str
+    ensures { result.now ≡ incoming_kind (facts view.now.domain) router ((net_in view.now).row router) }
 {
     match view.row(router) {
         RowFor::Exact(entry) => match view.vif(router, entry.iif) {
-            Some(vif) => kind_of_vif(vif),
+            Some(vif) => incoming_vif_kind(vif),
             None => "from_no_vif_line",
         },
         RowFor::Open | RowFor::NoRow => "",
@@ -141,72 +141,72 @@ fn from_kind(view: &FlowView<'_>, router: RouterNo) -> &'static str
 }
 
 /// A row that takes from a vif that is placed on no LAN.
-fn from_unplaced(
+fn from_unplaced_value(
     alloc: Global,
-    by: &Telling<'_>,
+    context: &LineContext<'_>,
     lan: LanNo,
     router: RouterNo,
 ) -> Result<Value, AllocError>
-    ensures { IfOk result (λ value. data_of value ≡ from_unplaced_line (facts by.now.view.now.domain)
-        by.now.flow.now ((net_in by.now.view.now).row router) lan router) }
+    ensures { IfOk result (λ value. data_of value ≡ from_unplaced_line (facts context.now.view.now.domain)
+        context.now.flow.now ((net_in context.now.view.now).row router) lan router) }
 {
-    let topology = by.view.topology();
+    let topology = context.view.topology();
     Fields::new(alloc)
-        .value("from_device", incoming_device(alloc, by.view, router))
-        .value("from_vif", Ok(incoming_vif(by.view, router)))
-        .text("kind", from_kind(by.view, router))
+        .value("from_device", incoming_device(alloc, context.view, router))
+        .value("from_vif", Ok(incoming_vif(context.view, router)))
+        .text("kind", incoming_kind(context.view, router))
         .lan("lan", topology, lan)
         .router("router", topology, router)
-        .value("row", row_value(alloc, by.view, by.flow, router))
+        .value("row", row_value(alloc, context.view, context.flow, router))
         .object()
 }
 
 /// A row that doesn't send by a vif.
-fn does_not_send(
+fn does_not_send_value(
     alloc: Global,
-    by: &Telling<'_>,
+    context: &LineContext<'_>,
     lan: LanNo,
     router: RouterNo,
     vif: u8,
     from: LanNo,
     carried: bool,
 ) -> Result<Value, AllocError>
-    ensures { IfOk result (λ value. data_of value ≡ does_not_send_line (facts by.now.view.now.domain)
-        by.now.flow.now ((net_in by.now.view.now).row router) lan router vif from carried) }
+    ensures { IfOk result (λ value. data_of value ≡ does_not_send_line (facts context.now.view.now.domain)
+        context.now.flow.now ((net_in context.now.view.now).row router) lan router vif from carried) }
 {
-    let topology = by.view.topology();
+    let topology = context.view.topology();
     Fields::new(alloc)
         .flag("carried", carried)
-        .value("device", device_value(alloc, by.view, router, vif))
+        .value("device", device_value(alloc, context.view, router, vif))
         .lan("from_lan", topology, from)
         .text("kind", "does_not_send")
         .lan("lan", topology, lan)
         .router("router", topology, router)
-        .value("row", row_value(alloc, by.view, by.flow, router))
+        .value("row", row_value(alloc, context.view, context.flow, router))
         .count("vif", vif as u64)
         .object()
 }
 
 /// A row whose threshold stops the copy.
-fn stopped(
+fn stopped_value(
     alloc: Global,
-    by: &Telling<'_>,
+    context: &LineContext<'_>,
     lan: LanNo,
     router: RouterNo,
     vif: u8,
     threshold: u8,
     ttl: u8,
 ) -> Result<Value, AllocError>
-    ensures { IfOk result (λ value. data_of value ≡ stopped_line (facts by.now.view.now.domain)
-        by.now.flow.now ((net_in by.now.view.now).row router) lan router vif threshold ttl) }
+    ensures { IfOk result (λ value. data_of value ≡ stopped_line (facts context.now.view.now.domain)
+        context.now.flow.now ((net_in context.now.view.now).row router) lan router vif threshold ttl) }
 {
-    let topology = by.view.topology();
+    let topology = context.view.topology();
     Fields::new(alloc)
-        .value("device", device_value(alloc, by.view, router, vif))
+        .value("device", device_value(alloc, context.view, router, vif))
         .text("kind", "stopped")
         .lan("lan", topology, lan)
         .router("router", topology, router)
-        .value("row", row_value(alloc, by.view, by.flow, router))
+        .value("row", row_value(alloc, context.view, context.flow, router))
         .count("threshold", threshold as u64)
         .count("ttl", ttl as u64)
         .count("vif", vif as u64)
@@ -214,33 +214,33 @@ fn stopped(
 }
 
 /// A row that takes from a LAN that carried no copy.
-fn waits_for(
+fn waits_for_value(
     alloc: Global,
-    by: &Telling<'_>,
+    context: &LineContext<'_>,
     lan: LanNo,
     router: RouterNo,
     vif: u8,
     from: LanNo,
 ) -> Result<Value, AllocError>
-    ensures { IfOk result (λ value. data_of value ≡ waits_for_line (facts by.now.view.now.domain)
-        by.now.flow.now ((net_in by.now.view.now).row router) lan router vif from) }
+    ensures { IfOk result (λ value. data_of value ≡ waits_for_line (facts context.now.view.now.domain)
+        context.now.flow.now ((net_in context.now.view.now).row router) lan router vif from) }
 {
-    let topology = by.view.topology();
+    let topology = context.view.topology();
     Fields::new(alloc)
-        .value("device", device_value(alloc, by.view, router, vif))
-        .value("from_device", incoming_device(alloc, by.view, router))
+        .value("device", device_value(alloc, context.view, router, vif))
+        .value("from_device", incoming_device(alloc, context.view, router))
         .lan("from_lan", topology, from)
-        .value("from_vif", Ok(incoming_vif(by.view, router)))
+        .value("from_vif", Ok(incoming_vif(context.view, router)))
         .text("kind", "waits_for")
         .lan("lan", topology, lan)
         .router("router", topology, router)
-        .value("row", row_value(alloc, by.view, by.flow, router))
+        .value("row", row_value(alloc, context.view, context.flow, router))
         .count("vif", vif as u64)
         .object()
 }
 
 /// Which routers expect a copy from a LAN.
-fn expected(
+fn expected_value(
     alloc: Global,
     topology: &Topology,
     lan: LanNo,
@@ -256,57 +256,57 @@ fn expected(
 }
 
 /// A line of a search.
-fn searched_value(alloc: Global, by: &Telling<'_>, line: Searched) -> Result<Value, AllocError>
-    ensures { IfOk result (λ value. data_of value ≡ searched_data (facts by.now.view.now.domain)
-        by.now.notes.now by.now.view.now.flow by.now.flow.now line) }
+fn search_line_value(alloc: Global, context: &LineContext<'_>, line: SearchLine) -> Result<Value, AllocError>
+    ensures { IfOk result (λ value. data_of value ≡ search_line_data (facts context.now.view.now.domain)
+        context.now.summary.now context.now.view.now.flow context.now.flow.now line) }
 {
-    let topology = by.view.topology();
+    let topology = context.view.topology();
     match line {
-        Searched::NoVif {
+        SearchLine::NoVif {
             lan,
             router,
             interface,
-        } => with_device(alloc, topology, "no_vif", lan, router, interface),
-        Searched::NotMulticast {
+        } => kind_lan_router_device(alloc, topology, "no_vif", lan, router, interface),
+        SearchLine::NotMulticast {
             lan,
             router,
             interface,
-        } => with_device(alloc, topology, "not_multicast", lan, router, interface),
-        Searched::NoRow { lan, router } => router_alone(alloc, topology, "no_row", lan, router),
-        Searched::Unresolved { lan, router } => {
-            router_alone(alloc, topology, "unresolved", lan, router)
+        } => kind_lan_router_device(alloc, topology, "not_multicast", lan, router, interface),
+        SearchLine::NoRow { lan, router } => kind_lan_router(alloc, topology, "no_row", lan, router),
+        SearchLine::Unresolved { lan, router } => {
+            kind_lan_router(alloc, topology, "unresolved", lan, router)
         }
-        Searched::EverySource { lan, router } => every_source(alloc, by, lan, router),
-        Searched::FromUnplaced { lan, router } => from_unplaced(alloc, by, lan, router),
-        Searched::DoesNotSend {
+        SearchLine::EverySource { lan, router } => every_source_line_value(alloc, context, lan, router),
+        SearchLine::FromUnplaced { lan, router } => from_unplaced_value(alloc, context, lan, router),
+        SearchLine::DoesNotSend {
             lan,
             router,
             vif,
             from,
             carried,
-        } => does_not_send(alloc, by, lan, router, vif, from, carried),
-        Searched::Stopped {
+        } => does_not_send_value(alloc, context, lan, router, vif, from, carried),
+        SearchLine::Stopped {
             lan,
             router,
             vif,
             threshold,
             ttl,
-        } => stopped(alloc, by, lan, router, vif, threshold, ttl),
-        Searched::WaitsFor {
+        } => stopped_value(alloc, context, lan, router, vif, threshold, ttl),
+        SearchLine::WaitsFor {
             lan,
             router,
             vif,
             from,
-        } => waits_for(alloc, by, lan, router, vif, from),
-        Searched::ExpectedFromHere { lan, router } => { expected(alloc, topology, lan, &[router]) }
-        Searched::NoRouter { lan } => lan_alone(alloc, topology, "no_router", lan),
-        Searched::NoSender { lan } => lan_alone(alloc, topology, "no_sender", lan),
-        Searched::LeftOut { lan, router } => router_alone(alloc, topology, "left_out", lan, router),
+        } => waits_for_value(alloc, context, lan, router, vif, from),
+        SearchLine::ExpectedFromHere { lan, router } => { expected_value(alloc, topology, lan, &[router]) }
+        SearchLine::NoRouter { lan } => kind_and_lan(alloc, topology, "no_router", lan),
+        SearchLine::NoSender { lan } => kind_and_lan(alloc, topology, "no_sender", lan),
+        SearchLine::Excluded { lan, router } => kind_lan_router(alloc, topology, "left_out", lan, router),
     }
 }
 
 /// Routers that stand in one line.
-fn listed(alloc: Global, routers: ExpectingRouters<'_>) -> Result<Vec<RouterNo>, AllocError>
+fn collect_routers(alloc: Global, routers: ExpectingRouters<'_>) -> Result<Vec<RouterNo>, AllocError>
     ensures { IfOk result (λ list. list.items ≡ routers.entry) }
 {
     let mut list = Vec::new(alloc);
@@ -317,32 +317,32 @@ fn listed(alloc: Global, routers: ExpectingRouters<'_>) -> Result<Vec<RouterNo>,
 }
 
 /// A line of a search as it is shown.
-fn shown_value(alloc: Global, by: &Telling<'_>, line: ShownLine<'_>) -> Result<Value, AllocError>
-    ensures { IfOk result (λ value. data_of value ≡ shown_data (facts by.now.view.now.domain)
-        by.now.notes.now by.now.view.now.flow by.now.flow.now line.entry) }
+fn shown_line_value(alloc: Global, context: &LineContext<'_>, line: ShownLine<'_>) -> Result<Value, AllocError>
+    ensures { IfOk result (λ value. data_of value ≡ shown_line_data (facts context.now.view.now.domain)
+        context.now.summary.now context.now.view.now.flow context.now.flow.now line.entry) }
 {
     match line {
-        ShownLine::One(line) => searched_value(alloc, by, line),
+        ShownLine::One(line) => search_line_value(alloc, context, line),
         ShownLine::Expected { lan, routers } => {
-            let routers = listed(alloc, routers)?;
-            expected(alloc, by.view.topology(), lan, &routers)
+            let routers = collect_routers(alloc, routers)?;
+            expected_value(alloc, context.view.topology(), lan, &routers)
         }
     }
 }
 
 /// Tells the lines of a search.
-fn push_shown(
+fn push_shown_lines(
     alloc: Global,
     values: &mut Vec<Value>,
-    by: &Telling<'_>,
-    lines: &[Searched],
+    context: &LineContext<'_>,
+    lines: &[SearchLine],
 ) -> Result<(), AllocError>
     ensures { OnOk result (map data_of values.new.items ≡ map data_of values.old.items
-        ++ map (shown_data (facts by.now.view.now.domain) by.now.notes.now by.now.view.now.flow
-        by.now.flow.now) (shown_lines lines.now)) }
+        ++ map (shown_line_data (facts context.now.view.now.domain) context.now.summary.now context.now.view.now.flow
+        context.now.flow.now) (shown_lines lines.now)) }
 {
     for line in ShownLines::new(lines) {
-        values.push(shown_value(alloc, by, line)?)?;
+        values.push(shown_line_value(alloc, context, line)?)?;
     }
     Ok(())
 }
@@ -364,20 +364,20 @@ fn reach_value(
 
 /// Tells what a search comes to, and its lines.
 #[tactic(auto, unfolding(crate::specs::SearchData::search_data))]
-pub(crate) fn push_searched(
+pub(crate) fn push_search_values(
     alloc: Global,
     values: &mut Vec<Value>,
-    by: &Telling<'_>,
+    context: &LineContext<'_>,
     search: &LanSearch,
 ) -> Result<(), AllocError>
     ensures { OnOk result (map data_of values.new.items ≡ map data_of values.old.items ++ search_data
-        (facts by.now.view.now.domain) by.now.notes.now by.now.view.now.flow by.now.flow.now
+        (facts context.now.view.now.domain) context.now.summary.now context.now.view.now.flow context.now.flow.now
         search.now.lines.items search.now.reach.sent_on.items search.now.reach.took_none.items) }
 {
-    let topology = by.view.topology();
+    let topology = context.view.topology();
     let sent_on = reach_value(alloc, topology, "gets_as_far_as", &search.reach.sent_on)?;
     values.push(sent_on)?;
     let took_none = reach_value(alloc, topology, "not_taken", &search.reach.took_none)?;
     values.push(took_none)?;
-    push_shown(alloc, values, by, &search.lines)
+    push_shown_lines(alloc, values, context, &search.lines)
 }

@@ -5,11 +5,11 @@ ghost use Rattle.std.specs.Prelude.{length, slice_index_or};
 ghost use Rattle.mc_forward.specs.ListedTables.{facts};
 ghost use Rattle.mc_theory.specs.Lists.{below};
 ghost use Rattle.mc_theory.specs.Flights.{Copy};
-ghost use Rattle.mc_theory.specs.Findings.{copy_on};
-ghost use Rattle.mc_explain.specs.LanStart.{AreMarked};
-ghost use Rattle.mc_explain.specs.WantedText.{is_missed_too, missed_besides, missed_too, wanting};
+ghost use Rattle.mc_theory.specs.Findings.{first_copy_on};
+ghost use Rattle.mc_explain.specs.FirstEight.{AreMarksOfCopies};
+ghost use Rattle.mc_explain.specs.WantedText.{is_also_missed, missed_besides, also_missed, lans_wanting};
 
-use mc_forward::{Carried, Flight, FlowView};
+use mc_forward::{CarriedCopy, Flight, FlowView};
 use mc_replay::Finding;
 use mc_topology::LanNo;
 use std::alloc::{AllocError, Global};
@@ -18,8 +18,8 @@ use std::alloc::{AllocError, Global};
 const MAX_LANS: usize = 1024;
 
 /// The LANs that want a flow.
-pub(crate) fn wanting(alloc: Global, view: &FlowView<'_>) -> Result<Vec<LanNo>, AllocError>
-    ensures { IfOk result (λ lans. lans.items ≡ wanting (facts view.now.domain) view.now.flow) }
+pub(crate) fn lans_wanting(alloc: Global, view: &FlowView<'_>) -> Result<Vec<LanNo>, AllocError>
+    ensures { IfOk result (λ lans. lans.items ≡ lans_wanting (facts view.now.domain) view.now.flow) }
 {
     let mut lans = Vec::new(alloc);
     for number in 0..view.lans() {
@@ -32,11 +32,11 @@ pub(crate) fn wanting(alloc: Global, view: &FlowView<'_>) -> Result<Vec<LanNo>, 
 }
 
 /// Marks the LANs of copies.
-fn mark(marks: &mut [bool], copies: &[Carried])
+fn mark_lans(marks: &mut [bool], copies: &[CarriedCopy])
     requires { All (λ c. c.lan < length marks.old) copies.now }
     ensures count { length marks.new ≡ length marks.old }
     ensures marks { (lan : ℕ) → slice_index_or marks.new lan false
-        ≡ (slice_index_or marks.old lan false || is_some (copy_on copies.now lan)) }
+        ≡ (slice_index_or marks.old lan false || is_some (first_copy_on copies.now lan)) }
 {
     for copy in copies {
         marks[copy.lan.0 as usize] = true;
@@ -44,31 +44,31 @@ fn mark(marks: &mut [bool], copies: &[Carried])
 }
 
 /// Whether a LAN that isn't this one wants the flow, and isn't marked.
-fn is_unmarked(view: &FlowView<'_>, marks: &[bool], missed: LanNo, lan: LanNo) -> bool
+fn is_wanted_and_unmarked(view: &FlowView<'_>, marks: &[bool], missed: LanNo, lan: LanNo) -> bool
     requires listed { lan < length view.now.domain.topology.lans }
     requires marked { lan < length marks.now }
-    ensures { (copies : List Copy) → AreMarked marks.now copies →
-        result ≡ is_missed_too (facts view.now.domain) view.now.flow copies missed lan }
+    ensures { (copies : List Copy) → AreMarksOfCopies marks.now copies →
+        result ≡ is_also_missed (facts view.now.domain) view.now.flow copies missed lan }
 {
     view.wants(lan) && !marks[lan.0 as usize] && lan != missed
 }
 
 /// The LANs that aren't this one, want the flow, and aren't marked.
-fn unmarked(
+fn unmarked_lans(
     alloc: Global,
     view: &FlowView<'_>,
     marks: &[bool],
     missed: LanNo,
 ) -> Result<Vec<LanNo>, AllocError>
     requires { length view.now.domain.topology.lans ≤ length marks.now }
-    ensures { (copies : List Copy) → AreMarked marks.now copies → IfOk result (λ lans. lans.items ≡
-        filter (is_missed_too (facts view.now.domain) view.now.flow copies missed)
+    ensures { (copies : List Copy) → AreMarksOfCopies marks.now copies → IfOk result (λ lans. lans.items ≡
+        filter (is_also_missed (facts view.now.domain) view.now.flow copies missed)
         (below (length view.now.domain.topology.lans))) }
 {
     let mut lans = Vec::new(alloc);
     for number in 0..view.lans() {
         let lan = LanNo(number);
-        if is_unmarked(view, marks, missed, lan) {
+        if is_wanted_and_unmarked(view, marks, missed, lan) {
             lans.push(lan)?;
         }
     }
@@ -76,15 +76,15 @@ fn unmarked(
 }
 
 /// The LANs that aren't this one, want the flow, and carried no copy in a flight.
-fn missed_too(alloc: Global, flight: &Flight<'_>, missed: LanNo) -> Result<Vec<LanNo>, AllocError>
-    ensures { IfOk result (λ lans. lans.items ≡ missed_too (facts flight.now.domain) flight.now.flow
+fn also_missed(alloc: Global, flight: &Flight<'_>, missed: LanNo) -> Result<Vec<LanNo>, AllocError>
+    ensures { IfOk result (λ lans. lans.items ≡ also_missed (facts flight.now.domain) flight.now.flow
         flight.now.flight.carried missed) }
 {
     let view = flight.flow_view();
     let _rules = view.topology();
     let mut marks = [false; MAX_LANS];
-    mark(&mut marks, flight.copies());
-    unmarked(alloc, view, &marks, missed)
+    mark_lans(&mut marks, flight.copies());
+    unmarked_lans(alloc, view, &marks, missed)
 }
 
 /// The LANs that were missed besides the one that is found.
@@ -97,7 +97,7 @@ pub(crate) fn missed_besides(
         flight.now.flow flight.now.flight.carried finding) }
 {
     match finding {
-        Finding::Missed(lan) => missed_too(alloc, flight, lan),
+        Finding::Missed(lan) => also_missed(alloc, flight, lan),
         Finding::Clean | Finding::Duplicate(_) | Finding::Loop(_) | Finding::Stray(_, _) => {
             Ok(Vec::new(alloc))
         }

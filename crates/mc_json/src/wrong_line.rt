@@ -10,9 +10,9 @@ ghost use Rattle.mc_text.specs.Addr.{dotted};
 ghost use Rattle.mc_topology.specs.declared.flow.Flow.{Flow as FlowValue};
 ghost use Rattle.mc_forward.specs.ListedTables.{facts};
 ghost use Rattle.mc_explain.specs.WantedText.{missed_besides};
-ghost use Rattle.mc_json.specs.FlowData.{found_line, wrong_data, wrong_of};
+ghost use Rattle.mc_json.specs.FlowData.{wrong_line_of_travel, wrong_data, wrong_flow_of};
 ghost use Rattle.mc_json.specs.RowData.{count_data, list_data, members};
-ghost use Rattle.mc_json.specs.ToldData.{lan_data};
+ghost use Rattle.mc_json.specs.CauseData.{lan_data};
 ghost use Rattle.mc_json.specs.WhyData.{why_data};
 
 use crate::fields::Fields;
@@ -20,21 +20,21 @@ use crate::flow_fields::flow_fields;
 use crate::found_value::{event_values, finding_value};
 use crate::line::push_line;
 use crate::name_values::lan_names;
-use crate::search_value::push_searched;
-use crate::telling::Telling;
-use crate::told_value::push_told;
+use crate::search_value::push_search_values;
+use crate::line_context::LineContext;
+use crate::cause_value::push_causes;
 use crate::wanted::missed_besides;
-use mc_explain::{LanSearch, Told};
+use mc_explain::{LanSearch, Cause};
 use mc_forward::{Domain, FlowView};
-use mc_replay::Ended;
-use mc_tables::CacheNotes;
+use mc_replay::FinishedTravel;
+use mc_tables::CacheSummary;
 use mc_text::Memory;
 use mc_topology::Flow;
 use serde_json::Value;
 use std::alloc::{AllocError, Global};
 
 /// The members of the object of a flow that isn't right, by its number, the TTL and why it is so.
-fn faulty_fields(alloc: Global, number: u32, flow: &Flow, found_ttl: u8, why: Vec<Value>) -> Fields
+fn wrong_fields(alloc: Global, number: u32, flow: &Flow, found_ttl: u8, why: Vec<Value>) -> Fields
     ensures { IfOk result.built (λ built. members_view built.entries ≡ members (
         (codes "flow", count_data (number + 1))
         ∷ (codes "found_ttl", count_data found_ttl)
@@ -51,7 +51,7 @@ fn faulty_fields(alloc: Global, number: u32, flow: &Flow, found_ttl: u8, why: Ve
 }
 
 /// The LANs that a travel missed besides the one that was found.
-fn also_values(alloc: Global, ended: &Ended<'_>) -> Result<Vec<Value>, AllocError>
+fn also_missed_values(alloc: Global, ended: &FinishedTravel<'_>) -> Result<Vec<Value>, AllocError>
     ensures { IfOk result (λ values. map data_of values.items
         ≡ map (lan_data ended.now.flight.domain.topology) (missed_besides
         (facts ended.now.flight.domain) ended.now.flight.flow ended.now.flight.flight.carried
@@ -67,25 +67,25 @@ fn wrong_value(
     alloc: Global,
     number: u32,
     flow: &Flow,
-    ended: &Ended<'_>,
+    ended: &FinishedTravel<'_>,
     found_ttl: u8,
-    asked: bool,
+    events_asked: bool,
     why: Vec<Value>,
 ) -> Result<Value, AllocError>
     ensures { IfOk result (λ value. data_of value ≡ wrong_data number flow.now
-        (wrong_of ended.now.flight.domain.topology found_ttl ended.now.travel.finding
+        (wrong_flow_of ended.now.flight.domain.topology found_ttl ended.now.travel.finding
         ended.now.travel.events.items (missed_besides (facts ended.now.flight.domain)
         ended.now.flight.flow ended.now.flight.flight.carried ended.now.travel.finding)
-        (map data_of why.items) asked)) }
+        (map data_of why.items) events_asked)) }
 {
     let topology = ended.flight.flow_view().topology();
-    let fields = faulty_fields(alloc, number, flow, found_ttl, why)
-        .list("also", also_values(alloc, ended))
+    let fields = wrong_fields(alloc, number, flow, found_ttl, why)
+        .list("also", also_missed_values(alloc, ended))
         .value(
             "finding",
             finding_value(alloc, topology, ended.travel.finding),
         );
-    if !asked {
+    if !events_asked {
         return fields.object();
     }
     let events = event_values(alloc, topology, &ended.travel.events);
@@ -93,49 +93,49 @@ fn wrong_value(
 }
 
 /// Writes the line of such a flow.
-fn push_wrong(
+fn push_wrong_flow(
     alloc: Global,
     text: &mut String,
     number: u32,
     flow: &Flow,
-    ended: &Ended<'_>,
+    ended: &FinishedTravel<'_>,
     found_ttl: u8,
-    asked: bool,
+    events_asked: bool,
     why: Vec<Value>,
 ) -> Result<(), AllocError>
     requires { items_have_float (items_of (map data_of why.items)) ≡ false }
     ensures { OnOk result (string_bytes text.new ≡ string_bytes text.old
-        ++ found_line number flow.now ended.now found_ttl (map data_of why.items) asked) }
+        ++ wrong_line_of_travel number flow.now ended.now found_ttl (map data_of why.items) events_asked) }
 {
-    let value = wrong_value(alloc, number, flow, ended, found_ttl, asked, why)?;
+    let value = wrong_value(alloc, number, flow, ended, found_ttl, events_asked, why)?;
     push_line(alloc, text, &value)
 }
 
 /// The lines of an explanation.
-fn told_values(alloc: Global, by: &Telling<'_>, told: &[Told]) -> Result<Vec<Value>, AllocError>
+fn cause_values(alloc: Global, context: &LineContext<'_>, causes: &[Cause]) -> Result<Vec<Value>, AllocError>
     ensures { IfOk result (λ values. map data_of values.items ≡ why_data
-        (facts by.now.view.now.domain) by.now.notes.now by.now.view.now.flow by.now.flow.now told.now
+        (facts context.now.view.now.domain) context.now.summary.now context.now.view.now.flow context.now.flow.now causes.now
         None) }
 {
     let mut values = Vec::new(alloc);
-    push_told(alloc, &mut values, by, told)?;
+    push_causes(alloc, &mut values, context, causes)?;
     Ok(values)
 }
 
 /// The same, and behind them what a search found.
-fn missed_values(
+fn cause_and_search_values(
     alloc: Global,
-    by: &Telling<'_>,
-    told: &[Told],
+    context: &LineContext<'_>,
+    causes: &[Cause],
     search: &LanSearch,
 ) -> Result<Vec<Value>, AllocError>
     ensures { IfOk result (λ values. map data_of values.items ≡ why_data
-        (facts by.now.view.now.domain) by.now.notes.now by.now.view.now.flow by.now.flow.now told.now
+        (facts context.now.view.now.domain) context.now.summary.now context.now.view.now.flow context.now.flow.now causes.now
         (Some search.now)) }
 {
     let mut values = Vec::new(alloc);
-    push_told(alloc, &mut values, by, told)?;
-    push_searched(alloc, &mut values, by, search)?;
+    push_causes(alloc, &mut values, context, causes)?;
+    push_search_values(alloc, &mut values, context, search)?;
     Ok(values)
 }
 
@@ -150,29 +150,29 @@ pub fn push_missed_line(
     alloc: Global,
     text: &mut String,
     domain: &Domain,
-    notes: &[CacheNotes],
+    summary: &[CacheSummary],
     flow: u32,
-    ended: &Ended<'_>,
+    ended: &FinishedTravel<'_>,
     found_ttl: u8,
-    asked: bool,
-    told: &[Told],
+    events_asked: bool,
+    causes: &[Cause],
     search: &LanSearch,
 ) -> Result<(), Memory>
     requires flow { flow < length domain.now.topology.flows }
     ensures line { OnOk result ((listed : FlowValue) →
         slice_get domain.now.topology.flows flow ≡ Some listed → string_bytes text.new ≡
-        string_bytes text.old ++ found_line flow listed ended.now found_ttl (why_data
-        (facts domain.now) notes.now flow listed told.now (Some search.now)) asked) }
+        string_bytes text.old ++ wrong_line_of_travel flow listed ended.now found_ttl (why_data
+        (facts domain.now) summary.now flow listed causes.now (Some search.now)) events_asked) }
 {
     let view = FlowView::new(domain, flow);
     let listed = domain.topology().flow(flow);
-    let by = Telling {
+    let context = LineContext {
         view: &view,
         flow: listed,
-        notes,
+        summary,
     };
-    let why = missed_values(alloc, &by, told, search)?;
-    push_wrong(alloc, text, flow, listed, ended, found_ttl, asked, why)?;
+    let why = cause_and_search_values(alloc, &context, causes, search)?;
+    push_wrong_flow(alloc, text, flow, listed, ended, found_ttl, events_asked, why)?;
     Ok(())
 }
 
@@ -187,27 +187,27 @@ pub fn push_wrong_line(
     alloc: Global,
     text: &mut String,
     domain: &Domain,
-    notes: &[CacheNotes],
+    summary: &[CacheSummary],
     flow: u32,
-    ended: &Ended<'_>,
+    ended: &FinishedTravel<'_>,
     found_ttl: u8,
-    asked: bool,
-    told: &[Told],
+    events_asked: bool,
+    causes: &[Cause],
 ) -> Result<(), Memory>
     requires flow { flow < length domain.now.topology.flows }
     ensures line { OnOk result ((listed : FlowValue) →
         slice_get domain.now.topology.flows flow ≡ Some listed → string_bytes text.new ≡
-        string_bytes text.old ++ found_line flow listed ended.now found_ttl (why_data
-        (facts domain.now) notes.now flow listed told.now None) asked) }
+        string_bytes text.old ++ wrong_line_of_travel flow listed ended.now found_ttl (why_data
+        (facts domain.now) summary.now flow listed causes.now None) events_asked) }
 {
     let view = FlowView::new(domain, flow);
     let listed = domain.topology().flow(flow);
-    let by = Telling {
+    let context = LineContext {
         view: &view,
         flow: listed,
-        notes,
+        summary,
     };
-    let why = told_values(alloc, &by, told)?;
-    push_wrong(alloc, text, flow, listed, ended, found_ttl, asked, why)?;
+    let why = cause_values(alloc, &context, causes)?;
+    push_wrong_flow(alloc, text, flow, listed, ended, found_ttl, events_asked, why)?;
     Ok(())
 }

@@ -1,4 +1,4 @@
-pub mod BelongsLemmas
+pub mod PartMismatchLemmas
 mod NameLemmas
 mod PackLemmas
 pub mod PartLemmas

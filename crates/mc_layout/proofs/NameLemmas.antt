@@ -26,37 +26,37 @@ bytes_eq-joined (y ∷ ys) (x ∷ xs) rest =
 
 -- ---- files by name
 
-files_shift : (files : List (Bor (List ℕ) × Bor (List ℕ))) (file : Bor (List ℕ) × Bor (List ℕ))
+find_file-more : (files : List (Bor (List ℕ) × Bor (List ℕ))) (file : Bor (List ℕ) × Bor (List ℕ))
     (name : List ℕ) (b : Bool) → bytes_eq file.0.now name ≡ b
     → option_map (λ file. file.1.now) (find (λ file. bytes_eq file.0.now name) files)
     ≡ file_named (map file_text files) name
     → option_map (λ file. file.1.now) (find (λ file. bytes_eq file.0.now name) (file ∷ files))
     ≡ file_named (map file_text (file ∷ files)) name
-files_shift files file name true e rest = rw (e) refl
-files_shift files file name false e rest = rw (e) rest
+find_file-more files file name true e rest = rw (e) refl
+find_file-more files file name false e rest = rw (e) rest
 
 -- the file that is found among those in memory
-found_in : (files : List (Bor (List ℕ) × Bor (List ℕ))) (name : List ℕ)
+find_file-file_named : (files : List (Bor (List ℕ) × Bor (List ℕ))) (name : List ℕ)
     → option_map (λ file. file.1.now) (find (λ file. bytes_eq file.0.now name) files)
     ≡ file_named (map file_text files) name
-found_in [] name = refl
-found_in (file ∷ files) name =
-    files_shift files file name (bytes_eq file.0.now name) refl (found_in files name)
+find_file-file_named [] name = refl
+find_file-file_named (file ∷ files) name =
+    find_file-more files file name (bytes_eq file.0.now name) refl (find_file-file_named files name)
 
-pub not_found : (files : List (Bor (List ℕ) × Bor (List ℕ))) (name : List ℕ)
+pub file_named-not_found : (files : List (Bor (List ℕ) × Bor (List ℕ))) (name : List ℕ)
     (found : Option (Bor (Bor (List ℕ) × Bor (List ℕ)))) → found ≡ None
     → option_map (λ x. x.now) found ≡ find (λ file. bytes_eq file.0.now name) files
     → None ≡ file_named (map file_text files) name
-not_found files name found none is =
+file_named-not_found files name found none is =
     let gone : find (λ file. bytes_eq file.0.now name) files ≡ None = sym is ∙ rw (none) refl in
-    sym (sym (found_in files name) ∙ rw (gone) refl)
+    sym (sym (find_file-file_named files name) ∙ rw (gone) refl)
 
-pub found_one : (files : List (Bor (List ℕ) × Bor (List ℕ))) (name : List ℕ)
+pub file_named-found : (files : List (Bor (List ℕ) × Bor (List ℕ))) (name : List ℕ)
     (found : Option (Bor (Bor (List ℕ) × Bor (List ℕ)))) (file : Bor (Bor (List ℕ) × Bor (List ℕ)))
     → found ≡ Some file
     → option_map (λ x. x.now) found ≡ find (λ file. bytes_eq file.0.now name) files
     → Some file.now.1.now ≡ file_named (map file_text files) name
-found_one files name found file some is =
+file_named-found files name found file some is =
     let there : find (λ file. bytes_eq file.0.now name) files ≡ Some file.now =
     sym is ∙ rw (some) refl in
-    sym (sym (found_in files name) ∙ rw (there) refl)
+    sym (sym (find_file-file_named files name) ∙ rw (there) refl)

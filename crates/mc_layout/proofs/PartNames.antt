@@ -10,21 +10,21 @@ use Rattle.mc_text.specs.Bundle.{IsPartName, is_name_byte as is_part_byte}
 use Rattle.mc_topology.specs.Names.{is_name, is_name_byte}
 
 -- a byte of a name is a byte of a part's name
-byte_fits : (b : ℕ) → is_name_byte b ≡ true → is_part_byte b ≡ true
-byte_fits b e = (and_parts (is_part_byte b) (not (b == 47)) e).0
+is_part_byte-from_is_name_byte : (b : ℕ) → is_name_byte b ≡ true → is_part_byte b ≡ true
+is_part_byte-from_is_name_byte b e = (and_parts (is_part_byte b) (not (b == 47)) e).0
 
 -- and so are those of a whole name
-bytes_fit : (name : List ℕ) → list_all is_name_byte name ≡ true → list_all is_part_byte name ≡ true
-bytes_fit [] e = refl
-bytes_fit (b ∷ bs) e =
+list_all-is_part_byte : (name : List ℕ) → list_all is_name_byte name ≡ true → list_all is_part_byte name ≡ true
+list_all-is_part_byte [] e = refl
+list_all-is_part_byte (b ∷ bs) e =
     let both = and_parts (is_name_byte b) (list_all is_name_byte bs) e in
-    rw (byte_fits b both.0, bytes_fit bs both.1) refl
+    rw (is_part_byte-from_is_name_byte b both.0, list_all-is_part_byte bs both.1) refl
 
 -- a name after a front of at most 32 such bytes
-pub part_name : (front name : List ℕ) → list_all is_part_byte front ≡ true → length front ≤ 32
+pub IsPartName-append : (front name : List ℕ) → list_all is_part_byte front ≡ true → length front ≤ 32
     → is_name name ≡ true → IsPartName (front ++ name)
 unfolding is_name
-part_name front name fits short is =
+IsPartName-append front name fits short is =
     let all = and_parts _ (list_all is_name_byte name) is in
     let long = and_parts _ _ all.0 in
     let from = leb-true 1 (length name) long.0 in
@@ -33,5 +33,5 @@ part_name front name fits short is =
       some = simp length-append (omega arith);
       short = simp length-append (omega arith);
       bytes = AllPass-from_list_all is_part_byte (front ++ name)
-          (rw (list_all-append, fits, bytes_fit name all.1) refl);
+          (rw (list_all-append, fits, list_all-is_part_byte name all.1) refl);
     }

@@ -4,129 +4,129 @@ use Rattle.std.proofs.Common.{Err, refl, ap, sym, subst}
 use Rattle.std.specs.Prelude.{IfErr, IfOk, IfSome, OnOk}
 use Rattle.mc_text.specs.Bundle.{PartText, AreWithinLimits, bundle_spelling}
 use Rattle.mc_text.specs.Bundle.{AppendsBundle}
-use Rattle.mc_text.specs.Device.{AppendsPart}
+use Rattle.mc_text.specs.Device.{AppendsProperPrefix}
 use Rattle.mc_text.specs.Steps.{Gives}
-use Rattle.mc_layout.specs.Files.{FileText, GivesOf}
+use Rattle.mc_layout.specs.Files.{FileText, GivesFromContents}
 use Rattle.mc_layout.specs.Packing.{IsPacked}
-use Rattle.mc_layout.specs.PackReading.{pack_of, parts_read}
-use Rattle.mc_layout.specs.PackRun.{Answers, SaysNothing, WritesPacked}
-use Rattle.mc_layout.specs.PackRun.{WritesPartOfPacked}
+use Rattle.mc_layout.specs.PackReading.{packed_parts, parts_before_limits}
+use Rattle.mc_layout.specs.PackRun.{IsPackAnswer, IsIoOrMemory, WritesPackedBundle}
+use Rattle.mc_layout.specs.PackRun.{WritesPackedPrefix}
 use Rattle.mc_layout.specs.declared.fault.PackFault.{PackFault}
 use Rattle.mc_layout.specs.declared.fault.PackFault.TheVariants.{Topology, TooLarge, Read, Write}
 use Rattle.mc_layout.specs.declared.fault.PackFault.TheVariants.{Memory}
-use Rattle.mc_layout.proofs.PackLemmas.{packed_within, packed_beyond, packed_refused, pack_again}
+use Rattle.mc_layout.proofs.PackLemmas.{IsPacked-within_limits, packed_parts-too_large, packed_parts-Err, packed_parts-Ok}
 
 -- ---- the files are refused
 
-refused : {X : Type 0} (view : X → List PartText) (certified : Bool) (files : List FileText)
-    (f : PackFault) → Gives SaysNothing view (Err f) (parts_read certified files)
-    → Answers certified files (Err f)
-refused view certified files (Topology f) given = packed_refused files certified (Topology f) (given (λ no. no))
-refused view certified files TooLarge given = packed_refused files certified TooLarge (given (λ no. no))
-refused view certified files Read given = tt
-refused view certified files Write given = tt
-refused view certified files Memory given = tt
+IsPackAnswer-refused : {X : Type 0} (view : X → List PartText) (certified : Bool) (files : List FileText)
+    (f : PackFault) → Gives IsIoOrMemory view (Err f) (parts_before_limits certified files)
+    → IsPackAnswer certified files (Err f)
+IsPackAnswer-refused view certified files (Topology f) given = packed_parts-Err files certified (Topology f) (given (λ no. no))
+IsPackAnswer-refused view certified files TooLarge given = packed_parts-Err files certified TooLarge (given (λ no. no))
+IsPackAnswer-refused view certified files Read given = tt
+IsPackAnswer-refused view certified files Write given = tt
+IsPackAnswer-refused view certified files Memory given = tt
 
-pub refused_answer : {X : Type 0} (view : X → List PartText) (told : Option (List FileText))
+pub IsPackAnswer-from_error : {X : Type 0} (view : X → List PartText) (contents : Option (List FileText))
     (certified : Bool) (r : Result (Unit {0}) PackFault) (f : PackFault)
-    → GivesOf SaysNothing told view (Err f) (parts_read certified) → r ≡ Err f
-    → IfSome told (λ files. Answers certified files r)
-refused_answer view None certified r f given e = tt
-refused_answer view (Some files) certified r f given e =
-    rw (e) (refused view certified files f (given files refl))
+    → GivesFromContents IsIoOrMemory contents view (Err f) (parts_before_limits certified) → r ≡ Err f
+    → IfSome contents (λ files. IsPackAnswer certified files r)
+IsPackAnswer-from_error view None certified r f given e = tt
+IsPackAnswer-from_error view (Some files) certified r f given e =
+    rw (e) (IsPackAnswer-refused view certified files f (given files refl))
 
 -- a bundle of the files says that they aren't refused
-refused_not : {X : Type 0} (view : X → List PartText) (certified : Bool) (files : List FileText)
-    (parts : List PartText) (f : PackFault) → Gives SaysNothing view (Err f) (parts_read certified files)
-    → pack_of certified files ≡ Ok parts → SaysNothing f
-refused_not view certified files parts (Topology f) given is =
-    let bad = packed_refused files certified (Topology f) (given (λ no. no)) in
+IsIoOrMemory-from_packed : {X : Type 0} (view : X → List PartText) (certified : Bool) (files : List FileText)
+    (parts : List PartText) (f : PackFault) → Gives IsIoOrMemory view (Err f) (parts_before_limits certified files)
+    → packed_parts certified files ≡ Ok parts → IsIoOrMemory f
+IsIoOrMemory-from_packed view certified files parts (Topology f) given is =
+    let bad = packed_parts-Err files certified (Topology f) (given (λ no. no)) in
     absurd cc
-refused_not view certified files parts TooLarge given is =
-    let bad = packed_refused files certified TooLarge (given (λ no. no)) in
+IsIoOrMemory-from_packed view certified files parts TooLarge given is =
+    let bad = packed_parts-Err files certified TooLarge (given (λ no. no)) in
     absurd cc
-refused_not view certified files parts Read given is = tt
-refused_not view certified files parts Write given is = tt
-refused_not view certified files parts Memory given is = tt
+IsIoOrMemory-from_packed view certified files parts Read given is = tt
+IsIoOrMemory-from_packed view certified files parts Write given is = tt
+IsIoOrMemory-from_packed view certified files parts Memory given is = tt
 
-pub refused_only : {X : Type 0} (view : X → List PartText) (certified : Bool)
+pub IsIoOrMemory-from_IsPacked : {X : Type 0} (view : X → List PartText) (certified : Bool)
     (files : List FileText) (parts : List PartText) (r : Result (Unit {0}) PackFault)
-    (f : PackFault) → Gives SaysNothing view (Err f) (parts_read certified files) → r ≡ Err f
-    → IsPacked files certified parts → IfErr r SaysNothing
-refused_only view certified files parts r f given e is =
-    rw (e) (refused_not view certified files parts f given (pack_again files certified parts is))
+    (f : PackFault) → Gives IsIoOrMemory view (Err f) (parts_before_limits certified files) → r ≡ Err f
+    → IsPacked files certified parts → IfErr r IsIoOrMemory
+IsIoOrMemory-from_IsPacked view certified files parts r f given e is =
+    rw (e) (IsIoOrMemory-from_packed view certified files parts f given (packed_parts-Ok files certified parts is))
 
 -- ---- the parts are read, and written or not
 
 -- the only faults of writing
-abbrev IsOfWriting : PackFault → Type 0
-IsOfWriting fault = (fault ≡ TooLarge) ⊎ (fault ≡ Write)
+abbrev IsTooLargeOrWrite : PackFault → Type 0
+IsTooLargeOrWrite fault = (fault ≡ TooLarge) ⊎ (fault ≡ Write)
 
-unwritten : (files : List FileText) (certified : Bool) (items : List PartText) (f : PackFault)
-    → parts_read certified files ≡ Ok items → IsOfWriting f
-    → (f ≡ TooLarge → ¬ AreWithinLimits items) → Answers certified files (Err f)
-unwritten files certified items f read (inl is) beyond =
-    subst (λ (x : PackFault). Answers certified files (Err x)) (sym is)
-    (packed_beyond files certified items read (beyond is))
-unwritten files certified items f read (inr is) beyond =
-    subst (λ (x : PackFault). Answers certified files (Err x)) (sym is) tt
+IsPackAnswer-unwritten : (files : List FileText) (certified : Bool) (items : List PartText) (f : PackFault)
+    → parts_before_limits certified files ≡ Ok items → IsTooLargeOrWrite f
+    → (f ≡ TooLarge → ¬ AreWithinLimits items) → IsPackAnswer certified files (Err f)
+IsPackAnswer-unwritten files certified items f read (inl is) beyond =
+    subst (λ (x : PackFault). IsPackAnswer certified files (Err x)) (sym is)
+    (packed_parts-too_large files certified items read (beyond is))
+IsPackAnswer-unwritten files certified items f read (inr is) beyond =
+    subst (λ (x : PackFault). IsPackAnswer certified files (Err x)) (sym is) tt
 
-pub written_answer : (told : Option (List FileText)) (certified : Bool)
+pub IsPackAnswer-written : (contents : Option (List FileText)) (certified : Bool)
     (items texts : List PartText)
     (old new : Option (List ℕ)) (r : Result (Unit {0}) PackFault)
-    → ((files : List FileText) → told ≡ Some files → parts_read certified files ≡ Ok items)
-    → texts ≡ items → OnOk r (AppendsBundle old new texts) → IfErr r IsOfWriting
+    → ((files : List FileText) → contents ≡ Some files → parts_before_limits certified files ≡ Ok items)
+    → texts ≡ items → OnOk r (AppendsBundle old new texts) → IfErr r IsTooLargeOrWrite
     → (r ≡ Err TooLarge → ¬ AreWithinLimits texts)
-    → IfSome told (λ files. Answers certified files r)
-written_answer None certified items texts old new r read same ok faults beyond = tt
-written_answer (Some files) certified items texts old new (Ok x) read same ok faults beyond = (
+    → IfSome contents (λ files. IsPackAnswer certified files r)
+IsPackAnswer-written None certified items texts old new r read same ok faults beyond = tt
+IsPackAnswer-written (Some files) certified items texts old new (Ok x) read same ok faults beyond = (
   items,
-  packed_within files certified items (read files refl) (subst AreWithinLimits same ok.1.limits),
+  IsPacked-within_limits files certified items (read files refl) (subst AreWithinLimits same ok.1.limits),
 )
-written_answer (Some files) certified items texts old new (Err f) read same ok faults beyond =
-    unwritten files certified items f (read files refl) faults
+IsPackAnswer-written (Some files) certified items texts old new (Err f) read same ok faults beyond =
+    IsPackAnswer-unwritten files certified items f (read files refl) faults
     (λ is. subst (λ (ps : List PartText). ¬ AreWithinLimits ps) same (beyond (ap (λ x. Err x) is)))
 
-writing_not : (files : List FileText) (certified : Bool) (items parts : List PartText)
-    (f : PackFault) → parts_read certified files ≡ Ok items → pack_of certified files ≡ Ok parts
-    → IsOfWriting f → (f ≡ TooLarge → ¬ AreWithinLimits items) → SaysNothing f
-writing_not files certified items parts f read packed (inl is) beyond =
-    let bad = packed_beyond files certified items read (beyond is) in
+IsIoOrMemory-from_write_fault : (files : List FileText) (certified : Bool) (items parts : List PartText)
+    (f : PackFault) → parts_before_limits certified files ≡ Ok items → packed_parts certified files ≡ Ok parts
+    → IsTooLargeOrWrite f → (f ≡ TooLarge → ¬ AreWithinLimits items) → IsIoOrMemory f
+IsIoOrMemory-from_write_fault files certified items parts f read packed (inl is) beyond =
+    let bad = packed_parts-too_large files certified items read (beyond is) in
     absurd cc
-writing_not files certified items parts f read packed (inr is) beyond =
-    subst (λ (x : PackFault). SaysNothing x) (sym is) tt
+IsIoOrMemory-from_write_fault files certified items parts f read packed (inr is) beyond =
+    subst (λ (x : PackFault). IsIoOrMemory x) (sym is) tt
 
-pub written_only : (files : List FileText) (certified : Bool) (items texts parts : List PartText)
-    (r : Result (Unit {0}) PackFault) → parts_read certified files ≡ Ok items → texts ≡ items
-    → IfErr r IsOfWriting → (r ≡ Err TooLarge → ¬ AreWithinLimits texts)
-    → IsPacked files certified parts → IfErr r SaysNothing
-written_only files certified items texts parts (Ok x) read same faults beyond is = tt
-written_only files certified items texts parts (Err f) read same faults beyond is =
-    writing_not files certified items parts f read (pack_again files certified parts is) faults
+pub IsIoOrMemory-written : (files : List FileText) (certified : Bool) (items texts parts : List PartText)
+    (r : Result (Unit {0}) PackFault) → parts_before_limits certified files ≡ Ok items → texts ≡ items
+    → IfErr r IsTooLargeOrWrite → (r ≡ Err TooLarge → ¬ AreWithinLimits texts)
+    → IsPacked files certified parts → IfErr r IsIoOrMemory
+IsIoOrMemory-written files certified items texts parts (Ok x) read same faults beyond is = tt
+IsIoOrMemory-written files certified items texts parts (Err f) read same faults beyond is =
+    IsIoOrMemory-from_write_fault files certified items parts f read (packed_parts-Ok files certified parts is) faults
     (λ e. subst (λ (ps : List PartText). ¬ AreWithinLimits ps) same (beyond (ap (λ x. Err x) e)))
 
-pub written_whole : (told : Option (List FileText)) (certified : Bool) (items texts : List PartText)
+pub WritesPackedBundle-written : (contents : Option (List FileText)) (certified : Bool) (items texts : List PartText)
     (old new : Option (List ℕ)) (r : Result (Unit {0}) PackFault)
-    → ((files : List FileText) → told ≡ Some files → parts_read certified files ≡ Ok items)
+    → ((files : List FileText) → contents ≡ Some files → parts_before_limits certified files ≡ Ok items)
     → texts ≡ items → OnOk r (AppendsBundle old new texts)
-    → IfOk r (λ _. IfSome told (λ files. WritesPacked certified files old new))
-written_whole None certified items texts old new (Ok x) read same ok = tt
-written_whole None certified items texts old new (Err f) read same ok = tt
-written_whole (Some files) certified items texts old new (Ok x) read same ok = (
+    → IfOk r (λ _. IfSome contents (λ files. WritesPackedBundle certified files old new))
+WritesPackedBundle-written None certified items texts old new (Ok x) read same ok = tt
+WritesPackedBundle-written None certified items texts old new (Err f) read same ok = tt
+WritesPackedBundle-written (Some files) certified items texts old new (Ok x) read same ok = (
   items,
-  packed_within files certified items (read files refl) (subst AreWithinLimits same ok.1.limits),
+  IsPacked-within_limits files certified items (read files refl) (subst AreWithinLimits same ok.1.limits),
   subst (λ (ps : List PartText). AppendsBundle old new ps) same ok,
 )
-written_whole (Some files) certified items texts old new (Err f) read same ok = tt
+WritesPackedBundle-written (Some files) certified items texts old new (Err f) read same ok = tt
 
-pub written_part : (told : Option (List FileText)) (certified : Bool) (items texts : List PartText)
+pub WritesPackedPrefix-cut : (contents : Option (List FileText)) (certified : Bool) (items texts : List PartText)
     (old new : Option (List ℕ))
-    → ((files : List FileText) → told ≡ Some files → parts_read certified files ≡ Ok items)
-    → texts ≡ items → AreWithinLimits texts → AppendsPart old new (bundle_spelling texts)
-    → IfSome told (λ files. WritesPartOfPacked certified files old new)
-written_part None certified items texts old new read same limits cut = tt
-written_part (Some files) certified items texts old new read same limits cut = (
+    → ((files : List FileText) → contents ≡ Some files → parts_before_limits certified files ≡ Ok items)
+    → texts ≡ items → AreWithinLimits texts → AppendsProperPrefix old new (bundle_spelling texts)
+    → IfSome contents (λ files. WritesPackedPrefix certified files old new)
+WritesPackedPrefix-cut None certified items texts old new read same limits cut = tt
+WritesPackedPrefix-cut (Some files) certified items texts old new read same limits cut = (
   items,
-  packed_within files certified items (read files refl) (subst AreWithinLimits same limits),
-  subst (λ (ps : List PartText). AppendsPart old new (bundle_spelling ps)) same cut,
+  IsPacked-within_limits files certified items (read files refl) (subst AreWithinLimits same limits),
+  subst (λ (ps : List PartText). AppendsProperPrefix old new (bundle_spelling ps)) same cut,
 )

@@ -8,44 +8,44 @@ use Rattle.std.proofs.lemmas.Bool.{and_parts}
 use Rattle.std.proofs.lemmas.List.{length-append, length-map}
 use Rattle.mc_text.specs.Bundle.{IsPartName}
 use Rattle.mc_topology.specs.Names.{is_name, is_name_byte}
-use Rattle.mc_topology.specs.Rows.{RouterRow}
-use Rattle.mc_topology.specs.Topology.{TopologyValue, IsTopology}
+use Rattle.mc_topology.specs.SectionRows.{RouterRow}
+use Rattle.mc_topology.specs.Topology.{TopologyValue, IsValidTopology}
 use Rattle.mc_layout.specs.Layout.{Slot, part_name, file_name, router_slots, reports_slot}
-use Rattle.mc_layout.specs.Layout.{vif_slot, cache_slot, certificate_slot, last_slots, other_slots}
+use Rattle.mc_layout.specs.Layout.{vif_slot, cache_slot, certificate_slot, certificate_slots, slots_after_topology}
 use Rattle.mc_layout.specs.Layout.{slots, topology_slot}
-use Rattle.mc_layout.proofs.PartNames.{part_name as name_fits}
+use Rattle.mc_layout.proofs.PartNames.{IsPartName-append}
 
 -- ---- how many they are
 
-routers_count : (rs : List RouterRow) → length (flat_map router_slots rs) ≡ 2 * length rs
-routers_count [] = refl
-routers_count (r ∷ rs) = omega (arith, routers_count rs)
+length-router_slots : (rs : List RouterRow) → length (flat_map router_slots rs) ≡ 2 * length rs
+length-router_slots [] = refl
+length-router_slots (r ∷ rs) = omega (arith, length-router_slots rs)
 
-last_count : (certified : Bool) → length (last_slots certified) ≤ 1
-last_count true = lit≤ tt
-last_count false = lit≤ tt
+length-certificate_slots : (certified : Bool) → length (certificate_slots certified) ≤ 1
+length-certificate_slots true = lit≤ tt
+length-certificate_slots false = lit≤ tt
 
 -- two for each router, one for each LAN, and the certificate's
-pub others_count : (certified : Bool) (t : TopologyValue)
-    → length (other_slots certified t)
-    ≡ 2 * length t.routers + length t.lans + length (last_slots certified)
-others_count certified t =
+pub length-slots_after_topology : (certified : Bool) (t : TopologyValue)
+    → length (slots_after_topology certified t)
+    ≡ 2 * length t.routers + length t.lans + length (certificate_slots certified)
+length-slots_after_topology certified t =
     omega (
       arith,
       length-append (flat_map router_slots t.routers)
-          (map reports_slot t.lans ++ last_slots certified),
-      length-append (map reports_slot t.lans) (last_slots certified),
+          (map reports_slot t.lans ++ certificate_slots certified),
+      length-append (map reports_slot t.lans) (certificate_slots certified),
       length-map t.lans reports_slot,
-      routers_count t.routers,
+      length-router_slots t.routers,
     )
 
-pub few_slots : (certified : Bool) (t : TopologyValue) → IsTopology t
-    → length (other_slots certified t) ≤ 1537
-few_slots certified t is =
+pub slots_after_topology-at_most_1537 : (certified : Bool) (t : TopologyValue) → IsValidTopology t
+    → length (slots_after_topology certified t) ≤ 1537
+slots_after_topology-at_most_1537 certified t is =
     omega (
       arith,
-      others_count certified t,
-      last_count certified,
+      length-slots_after_topology certified t,
+      length-certificate_slots certified,
       is.few_routers,
       is.few_lans,
     )
@@ -54,194 +54,194 @@ few_slots certified t is =
 
 module _ (more : List Slot) where
   -- a router's vifs have the even ones,
-  pub vif_at : (rs : List RouterRow) (i k : ℕ) (name : List ℕ) → k ≡ 2 * i
+  pub slice_get-vif_slot : (rs : List RouterRow) (i k : ℕ) (name : List ℕ) → k ≡ 2 * i
       → option_map (λ r. r.name) (slice_get rs i) ≡ Some name
       → slice_get (flat_map router_slots rs ++ more) k ≡ Some (vif_slot name)
-  vif_at [] i k name is at = absurd cc
-  vif_at (r ∷ rs) zero zero name is at =
+  slice_get-vif_slot [] i k name is at = absurd cc
+  slice_get-vif_slot (r ∷ rs) zero zero name is at =
       let same : r.name ≡ name = cc in ap (λ n. Some (vif_slot n)) same
-  vif_at (r ∷ rs) zero (suc k) name is at = absurd (omega (arith, is))
-  vif_at (r ∷ rs) (suc i) zero name is at = absurd (omega (arith, is))
-  vif_at (r ∷ rs) (suc i) (suc zero) name is at = absurd (omega (arith, is))
-  vif_at (r ∷ rs) (suc i) (suc (suc k)) name is at =
-      vif_at rs i k name (omega (arith, is)) at
+  slice_get-vif_slot (r ∷ rs) zero (suc k) name is at = absurd (omega (arith, is))
+  slice_get-vif_slot (r ∷ rs) (suc i) zero name is at = absurd (omega (arith, is))
+  slice_get-vif_slot (r ∷ rs) (suc i) (suc zero) name is at = absurd (omega (arith, is))
+  slice_get-vif_slot (r ∷ rs) (suc i) (suc (suc k)) name is at =
+      slice_get-vif_slot rs i k name (omega (arith, is)) at
 
   -- its cache the odd ones,
-  pub cache_at : (rs : List RouterRow) (i k : ℕ) (name : List ℕ) → k ≡ 2 * i + 1
+  pub slice_get-cache_slot : (rs : List RouterRow) (i k : ℕ) (name : List ℕ) → k ≡ 2 * i + 1
       → option_map (λ r. r.name) (slice_get rs i) ≡ Some name
       → slice_get (flat_map router_slots rs ++ more) k ≡ Some (cache_slot name)
-  cache_at [] i k name is at = absurd cc
-  cache_at (r ∷ rs) zero zero name is at = absurd (omega (arith, is))
-  cache_at (r ∷ rs) zero (suc zero) name is at =
+  slice_get-cache_slot [] i k name is at = absurd cc
+  slice_get-cache_slot (r ∷ rs) zero zero name is at = absurd (omega (arith, is))
+  slice_get-cache_slot (r ∷ rs) zero (suc zero) name is at =
       let same : r.name ≡ name = cc in ap (λ n. Some (cache_slot n)) same
-  cache_at (r ∷ rs) zero (suc (suc k)) name is at = absurd (omega (arith, is))
-  cache_at (r ∷ rs) (suc i) zero name is at = absurd (omega (arith, is))
-  cache_at (r ∷ rs) (suc i) (suc zero) name is at = absurd (omega (arith, is))
-  cache_at (r ∷ rs) (suc i) (suc (suc k)) name is at =
-      cache_at rs i k name (omega (arith, is)) at
+  slice_get-cache_slot (r ∷ rs) zero (suc (suc k)) name is at = absurd (omega (arith, is))
+  slice_get-cache_slot (r ∷ rs) (suc i) zero name is at = absurd (omega (arith, is))
+  slice_get-cache_slot (r ∷ rs) (suc i) (suc zero) name is at = absurd (omega (arith, is))
+  slice_get-cache_slot (r ∷ rs) (suc i) (suc (suc k)) name is at =
+      slice_get-cache_slot rs i k name (omega (arith, is)) at
 
   -- those after them the next,
-  pub after_routers : (rs : List RouterRow) (k : ℕ)
+  pub slice_get-after_routers : (rs : List RouterRow) (k : ℕ)
       → slice_get (flat_map router_slots rs ++ more) (k + 2 * length rs) ≡ slice_get more k
-  after_routers [] k = let same : k + 0 ≡ k = omega arith in ap (slice_get more) same
-  after_routers (r ∷ rs) k =
+  slice_get-after_routers [] k = let same : k + 0 ≡ k = omega arith in ap (slice_get more) same
+  slice_get-after_routers (r ∷ rs) k =
       let same : k + 2 * suc (length rs) ≡ suc (suc (k + 2 * length rs)) = omega arith in
-      ap (slice_get (flat_map router_slots (r ∷ rs) ++ more)) same ∙ after_routers rs k
+      ap (slice_get (flat_map router_slots (r ∷ rs) ++ more)) same ∙ slice_get-after_routers rs k
 
   -- and each LAN's reports theirs
-  pub reports_at : (lans : List (List ℕ)) (k : ℕ) (lan : List ℕ) → slice_get lans k ≡ Some lan
+  pub slice_get-reports_slot : (lans : List (List ℕ)) (k : ℕ) (lan : List ℕ) → slice_get lans k ≡ Some lan
       → slice_get (map reports_slot lans ++ more) k ≡ Some (reports_slot lan)
-  reports_at [] k lan at = absurd cc
-  reports_at (l ∷ lans) zero lan at =
+  slice_get-reports_slot [] k lan at = absurd cc
+  slice_get-reports_slot (l ∷ lans) zero lan at =
       let same : l ≡ lan = cc in ap (λ n. Some (reports_slot n)) same
-  reports_at (l ∷ lans) (suc k) lan at = reports_at lans k lan at
+  slice_get-reports_slot (l ∷ lans) (suc k) lan at = slice_get-reports_slot lans k lan at
 
-  pub after_lans : (lans : List (List ℕ)) (k : ℕ)
+  pub slice_get-after_lans : (lans : List (List ℕ)) (k : ℕ)
       → slice_get (map reports_slot lans ++ more) (k + length lans) ≡ slice_get more k
-  after_lans [] k = let same : k + 0 ≡ k = omega arith in ap (slice_get more) same
-  after_lans (l ∷ lans) k =
+  slice_get-after_lans [] k = let same : k + 0 ≡ k = omega arith in ap (slice_get more) same
+  slice_get-after_lans (l ∷ lans) k =
       let same : k + suc (length lans) ≡ suc (k + length lans) = omega arith in
-      ap (slice_get (map reports_slot (l ∷ lans) ++ more)) same ∙ after_lans lans k
+      ap (slice_get (map reports_slot (l ∷ lans) ++ more)) same ∙ slice_get-after_lans lans k
 
 -- a number of one more is that behind the topology
-after_first : (xs : List Slot) (s : Slot) (n k : ℕ) → n ≡ k + 1
+slice_get-behind_first : (xs : List Slot) (s : Slot) (n k : ℕ) → n ≡ k + 1
     → slice_get (s ∷ xs) n ≡ slice_get xs k
-after_first xs s zero k is = absurd (omega (arith, is))
-after_first xs s (suc n) k is = let same : n ≡ k = omega (arith, is) in ap (slice_get xs) same
+slice_get-behind_first xs s zero k is = absurd (omega (arith, is))
+slice_get-behind_first xs s (suc n) k is = let same : n ≡ k = omega (arith, is) in ap (slice_get xs) same
 
 -- a slot of the routers
 pub router_slot : (certified : Bool) (t : TopologyValue) (n k : ℕ) (slot : Slot) → n ≡ k + 1
     → ((more : List Slot) → slice_get (flat_map router_slots t.routers ++ more) k ≡ Some slot)
     → slice_get (slots certified t) n ≡ Some slot
 router_slot certified t n k slot is at =
-    after_first (other_slots certified t) topology_slot n k is
-    ∙ at (map reports_slot t.lans ++ last_slots certified)
+    slice_get-behind_first (slots_after_topology certified t) topology_slot n k is
+    ∙ at (map reports_slot t.lans ++ certificate_slots certified)
 
 -- a slot behind those of the routers
-behind_routers : (certified : Bool) (t : TopologyValue) (n k : ℕ)
+slots-behind_routers : (certified : Bool) (t : TopologyValue) (n k : ℕ)
     → n ≡ k + 2 * length t.routers + 1
     → slice_get (slots certified t) n
-    ≡ slice_get (map reports_slot t.lans ++ last_slots certified) k
-behind_routers certified t n k is =
-    after_first (other_slots certified t) topology_slot n (k + 2 * length t.routers) is
-    ∙ after_routers (map reports_slot t.lans ++ last_slots certified) t.routers k
+    ≡ slice_get (map reports_slot t.lans ++ certificate_slots certified) k
+slots-behind_routers certified t n k is =
+    slice_get-behind_first (slots_after_topology certified t) topology_slot n (k + 2 * length t.routers) is
+    ∙ slice_get-after_routers (map reports_slot t.lans ++ certificate_slots certified) t.routers k
 
 -- one of the LANs
-pub lan_slot : (certified : Bool) (t : TopologyValue) (n k : ℕ) (lan : List ℕ)
+pub slots-reports_slot : (certified : Bool) (t : TopologyValue) (n k : ℕ) (lan : List ℕ)
     → n ≡ k + 2 * length t.routers + 1 → slice_get t.lans k ≡ Some lan
     → slice_get (slots certified t) n ≡ Some (reports_slot lan)
-lan_slot certified t n k lan is at =
-    behind_routers certified t n k is ∙ reports_at (last_slots certified) t.lans k lan at
+slots-reports_slot certified t n k lan is at =
+    slots-behind_routers certified t n k is ∙ slice_get-reports_slot (certificate_slots certified) t.lans k lan at
 
 -- and behind those of the LANs the certificate's alone
-pub last_slot : (certified : Bool) (t : TopologyValue) (n : ℕ)
+pub slots-certificate_slot : (certified : Bool) (t : TopologyValue) (n : ℕ)
     → 2 * length t.routers + length t.lans < n → n < length (slots certified t)
     → slice_get (slots certified t) n ≡ Some certificate_slot
-last_slot false t n past within =
-    absurd (omega (arith, past, within, others_count false t))
-last_slot true t n past within =
-    behind_routers true t n (length t.lans)
-    (omega (arith, past, within, others_count true t))
-    ∙ ap (slice_get (map reports_slot t.lans ++ last_slots true)) zero_first
-    ∙ after_lans (last_slots true) t.lans 0
+slots-certificate_slot false t n past within =
+    absurd (omega (arith, past, within, length-slots_after_topology false t))
+slots-certificate_slot true t n past within =
+    slots-behind_routers true t n (length t.lans)
+    (omega (arith, past, within, length-slots_after_topology true t))
+    ∙ ap (slice_get (map reports_slot t.lans ++ certificate_slots true)) zero_first
+    ∙ slice_get-after_lans (certificate_slots true) t.lans 0
   where
     zero_first : length t.lans ≡ 0 + length t.lans
     zero_first = omega arith
 
 -- ---- their names in a bundle
 
-abbrev IsNamed : Slot → Type 0
-IsNamed slot = IsPartName (part_name slot)
+abbrev HasPartName : Slot → Type 0
+HasPartName slot = IsPartName (part_name slot)
 
 module _ (P : Slot → Type 0) where
-  all_append : (xs ys : List Slot) → AllByRecursion P xs → AllByRecursion P ys
+  AllByRecursion-append : (xs ys : List Slot) → AllByRecursion P xs → AllByRecursion P ys
       → AllByRecursion P (xs ++ ys)
-  all_append [] ys p q = q
-  all_append (x ∷ xs) ys p q = (p.0, all_append xs ys p.1 q)
+  AllByRecursion-append [] ys p q = q
+  AllByRecursion-append (x ∷ xs) ys p q = (p.0, AllByRecursion-append xs ys p.1 q)
 
-  routers_all : (rs : List RouterRow)
+  AllByRecursion-router_slots : (rs : List RouterRow)
       → ((n : ℕ) (r : RouterRow) → slice_get rs n ≡ Some r → IsTrue (is_name r.name))
       → ((name : List ℕ) → IsTrue (is_name name) → P (vif_slot name) × P (cache_slot name))
       → AllByRecursion P (flat_map router_slots rs)
-  routers_all [] named each = tt
-  routers_all (r ∷ rs) named each =
+  AllByRecursion-router_slots [] named each = tt
+  AllByRecursion-router_slots (r ∷ rs) named each =
       let here = each r.name (named 0 r refl) in
-      (here.0, (here.1, routers_all rs (λ n q at. named (suc n) q at) each))
+      (here.0, (here.1, AllByRecursion-router_slots rs (λ n q at. named (suc n) q at) each))
 
-  lans_all : (lans : List (List ℕ))
+  AllByRecursion-reports_slots : (lans : List (List ℕ))
       → ((n : ℕ) (lan : List ℕ) → slice_get lans n ≡ Some lan → IsTrue (is_name lan))
       → ((name : List ℕ) → IsTrue (is_name name) → P (reports_slot name))
       → AllByRecursion P (map reports_slot lans)
-  lans_all [] named each = tt
-  lans_all (lan ∷ lans) named each =
-      (each lan (named 0 lan refl), lans_all lans (λ n q at. named (suc n) q at) each)
+  AllByRecursion-reports_slots [] named each = tt
+  AllByRecursion-reports_slots (lan ∷ lans) named each =
+      (each lan (named 0 lan refl), AllByRecursion-reports_slots lans (λ n q at. named (suc n) q at) each)
 
   -- what holds of the slots of each name holds of those of a topology
-  slots_all : (certified : Bool) (t : TopologyValue) → IsTopology t
+  AllByRecursion-slots_after_topology : (certified : Bool) (t : TopologyValue) → IsValidTopology t
       → ((name : List ℕ) → IsTrue (is_name name) → P (vif_slot name) × P (cache_slot name))
       → ((name : List ℕ) → IsTrue (is_name name) → P (reports_slot name))
-      → AllByRecursion P (last_slots certified) → AllByRecursion P (other_slots certified t)
-  slots_all certified t is routers lans last =
-      all_append (flat_map router_slots t.routers) (map reports_slot t.lans ++ last_slots certified)
-      (routers_all t.routers is.routers_named routers)
-      (all_append (map reports_slot t.lans) (last_slots certified)
-      (lans_all t.lans is.lans_named lans) last)
+      → AllByRecursion P (certificate_slots certified) → AllByRecursion P (slots_after_topology certified t)
+  AllByRecursion-slots_after_topology certified t is routers lans last =
+      AllByRecursion-append (flat_map router_slots t.routers) (map reports_slot t.lans ++ certificate_slots certified)
+      (AllByRecursion-router_slots t.routers is.valid_router_names routers)
+      (AllByRecursion-append (map reports_slot t.lans) (certificate_slots certified)
+      (AllByRecursion-reports_slots t.lans is.valid_lan_names lans) last)
 
-topology_is_name : is_name (codes "topology") ≡ true
+is_name-topology : is_name (codes "topology") ≡ true
 unfolding is_name
-topology_is_name = refl
+is_name-topology = refl
 
-certificate_is_name : is_name (codes "certificate") ≡ true
+is_name-certificate : is_name (codes "certificate") ≡ true
 unfolding is_name
-certificate_is_name = refl
+is_name-certificate = refl
 
-pub vif_named : (name : List ℕ) → is_name name ≡ true → IsNamed (vif_slot name)
-vif_named name is = name_fits (codes "vif/") name refl (lit≤ tt) is
+pub HasPartName-vif_slot : (name : List ℕ) → is_name name ≡ true → HasPartName (vif_slot name)
+HasPartName-vif_slot name is = IsPartName-append (codes "vif/") name refl (lit≤ tt) is
 
-pub cache_named : (name : List ℕ) → is_name name ≡ true → IsNamed (cache_slot name)
-cache_named name is = name_fits (codes "cache/") name refl (lit≤ tt) is
+pub HasPartName-cache_slot : (name : List ℕ) → is_name name ≡ true → HasPartName (cache_slot name)
+HasPartName-cache_slot name is = IsPartName-append (codes "cache/") name refl (lit≤ tt) is
 
-pub reports_named : (name : List ℕ) → is_name name ≡ true → IsNamed (reports_slot name)
-reports_named name is = name_fits (codes "igmp/") name refl (lit≤ tt) is
+pub HasPartName-reports_slot : (name : List ℕ) → is_name name ≡ true → HasPartName (reports_slot name)
+HasPartName-reports_slot name is = IsPartName-append (codes "igmp/") name refl (lit≤ tt) is
 
-pub topology_named : IsPartName (codes "topology")
-topology_named = name_fits [] (codes "topology") refl (lit≤ tt) topology_is_name
+pub IsPartName-topology : IsPartName (codes "topology")
+IsPartName-topology = IsPartName-append [] (codes "topology") refl (lit≤ tt) is_name-topology
 
-pub certificate_named : IsPartName (codes "certificate")
-certificate_named = name_fits [] (codes "certificate") refl (lit≤ tt) certificate_is_name
+pub IsPartName-certificate : IsPartName (codes "certificate")
+IsPartName-certificate = IsPartName-append [] (codes "certificate") refl (lit≤ tt) is_name-certificate
 
-last_named : (certified : Bool) → AllByRecursion IsNamed (last_slots certified)
-last_named true = (certificate_named, tt)
-last_named false = tt
+HasPartName-certificate_slots : (certified : Bool) → AllByRecursion HasPartName (certificate_slots certified)
+HasPartName-certificate_slots true = (IsPartName-certificate, tt)
+HasPartName-certificate_slots false = tt
 
-pub slots_named : (certified : Bool) (t : TopologyValue) → IsTopology t
-    → AllByRecursion IsNamed (slots certified t)
-slots_named certified t is = (
-  topology_named,
-  slots_all IsNamed certified t is (λ name ok. (vif_named name ok, cache_named name ok))
-      reports_named (last_named certified),
+pub HasPartName-slots : (certified : Bool) (t : TopologyValue) → IsValidTopology t
+    → AllByRecursion HasPartName (slots certified t)
+HasPartName-slots certified t is = (
+  IsPartName-topology,
+  AllByRecursion-slots_after_topology HasPartName certified t is (λ name ok. (HasPartName-vif_slot name ok, HasPartName-cache_slot name ok))
+      HasPartName-reports_slot (HasPartName-certificate_slots certified),
 )
 
 -- ---- their names in a folder
 
-abbrev IsPlain : Slot → Type 0
-IsPlain slot = IsTrue (list_all is_name_byte (file_name slot))
+abbrev HasPlainFileName : Slot → Type 0
+HasPlainFileName slot = IsTrue (list_all is_name_byte (file_name slot))
 
 -- a name of the topology has such bytes alone
-plain : (name : List ℕ) → is_name name ≡ true → list_all is_name_byte name ≡ true
+list_all-is_name_byte : (name : List ℕ) → is_name name ≡ true → list_all is_name_byte name ≡ true
 unfolding is_name
-plain name is =
+list_all-is_name_byte name is =
     (and_parts (nat_le 1 (length name) && nat_le (length name) 32)
     (list_all is_name_byte name) is).1
 
-last_plain : (certified : Bool) → AllByRecursion IsPlain (last_slots certified)
-last_plain true = (refl, tt)
-last_plain false = tt
+HasPlainFileName-certificate_slots : (certified : Bool) → AllByRecursion HasPlainFileName (certificate_slots certified)
+HasPlainFileName-certificate_slots true = (refl, tt)
+HasPlainFileName-certificate_slots false = tt
 
-pub slots_plain : (certified : Bool) (t : TopologyValue) → IsTopology t
-    → AllByRecursion IsPlain (slots certified t)
-slots_plain certified t is = (
+pub HasPlainFileName-slots : (certified : Bool) (t : TopologyValue) → IsValidTopology t
+    → AllByRecursion HasPlainFileName (slots certified t)
+HasPlainFileName-slots certified t is = (
   refl,
-  slots_all IsPlain certified t is (λ name ok. (plain name ok, plain name ok)) plain
-      (last_plain certified),
+  AllByRecursion-slots_after_topology HasPlainFileName certified t is (λ name ok. (list_all-is_name_byte name ok, list_all-is_name_byte name ok)) list_all-is_name_byte
+      (HasPlainFileName-certificate_slots certified),
 )

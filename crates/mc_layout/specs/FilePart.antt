@@ -9,17 +9,17 @@ use Rattle.mc_layout.specs.declared.fault.FileFault.{FileFault}
 use Rattle.mc_layout.specs.declared.fault.FileFault.TheVariants.{Failed, TooLarge}
 
 -- the fault is that of a source or of memory, and says nothing of the file
-abbrev pub IsOfSource : FileFault → Type 0
-IsOfSource TooLarge = ⊥
-IsOfSource fault = ⊤
+abbrev pub IsFailedOrMemory : FileFault → Type 0
+IsFailedOrMemory TooLarge = ⊥
+IsFailedOrMemory fault = ⊤
 
 -- the bytes of the file that was found, as those of a part
-abbrev pub part_bytes : Option (List ℕ) → Result (List ℕ) FileFault
-part_bytes None = Err Failed
-part_bytes (Some bytes) = if nat_le (length bytes) max_part then Ok bytes else Err TooLarge
+abbrev pub bytes_within_max_part : Option (List ℕ) → Result (List ℕ) FileFault
+bytes_within_max_part None = Err Failed
+bytes_within_max_part (Some bytes) = if nat_le (length bytes) max_part then Ok bytes else Err TooLarge
 
 -- the part of a slot, which is made of its file
 abbrev pub file_part : List FileText → Slot → Result PartText FileFault
 file_part files slot =
-    part_bytes (file_named files (file_name slot))
+    bytes_within_max_part (file_named files (file_name slot))
     >>= λ bytes. Ok (record { name = part_name slot; bytes = bytes })

@@ -36,15 +36,15 @@ is_failure fault = false
 
 -- What a call answers, seen by view, is what the definition gives of the files that a source tells,
 -- or a fault that is silent of them.
-abbrev pub GivesOf : {X Y E : Type 0} → (Silent : E → Type 0) → Option (List FileText) → (X → Y)
+abbrev pub GivesFromContents : {X Y E : Type 0} → (Silent : E → Type 0) → Option (List FileText) → (X → Y)
     → Result X E → (List FileText → Result Y E) → Type 0
-GivesOf Silent told view result step =
-    (files : List FileText) → told ≡ Some files → Gives Silent view result (step files)
+GivesFromContents Silent contents view result step =
+    (files : List FileText) → contents ≡ Some files → Gives Silent view result (step files)
 
 -- what contracts see of a source of files in memory
 pub record FilesState : Type 0 where
   -- the files, where it tells them
-  pub told : Option (List FileText)
+  pub contents : Option (List FileText)
   -- whether a file is open
   pub is_open : Bool
   -- the bytes of the open file that are still to come, where it tells them
@@ -66,6 +66,6 @@ abbrev pub file_text : Bor (List ℕ) × Bor (List ℕ) → FileText
 file_text file = record { name = file.0.now; bytes = file.1.now }
 
 -- why an input wasn't read, as a file's fault
-abbrev pub of_reading : ReadFault → FileFault
-of_reading reading.Read = Failed
-of_reading reading.Memory = Memory
+abbrev pub from_read_fault : ReadFault → FileFault
+from_read_fault reading.Read = Failed
+from_read_fault reading.Memory = Memory

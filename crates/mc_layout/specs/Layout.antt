@@ -1,7 +1,7 @@
 -- The parts of a domain: which there are, in the one order, and the two names of each.
 use Rattle.std.specs.Prelude.{ℕ, Bool, true, false, List, [], ◌∷◌, ◌++◌, codes, map, flat_map}
 use Rattle.std.specs.Prelude.{Option, Some, None}
-use Rattle.mc_topology.specs.Rows.{RouterRow}
+use Rattle.mc_topology.specs.SectionRows.{RouterRow}
 use Rattle.mc_topology.specs.Topology.{TopologyValue}
 
 -- a part of a domain: what it is, and whose
@@ -49,15 +49,15 @@ abbrev pub router_slots : RouterRow → List Slot
 router_slots r = vif_slot r.name ∷ cache_slot r.name ∷ []
 
 -- the certificate, where one is to be there
-abbrev pub last_slots : (certified : Bool) → List Slot
-last_slots true = certificate_slot ∷ []
-last_slots false = []
+abbrev pub certificate_slots : (certified : Bool) → List Slot
+certificate_slots true = certificate_slot ∷ []
+certificate_slots false = []
 
 -- those after the topology: of the routers, of the LANs, and the certificate
-abbrev pub other_slots : (certified : Bool) → TopologyValue → List Slot
-other_slots certified t =
-    flat_map router_slots t.routers ++ (map reports_slot t.lans ++ last_slots certified)
+abbrev pub slots_after_topology : (certified : Bool) → TopologyValue → List Slot
+slots_after_topology certified t =
+    flat_map router_slots t.routers ++ (map reports_slot t.lans ++ certificate_slots certified)
 
 -- all, in the one order
 abbrev pub slots : (certified : Bool) → TopologyValue → List Slot
-slots certified t = topology_slot ∷ other_slots certified t
+slots certified t = topology_slot ∷ slots_after_topology certified t

@@ -1,4 +1,4 @@
-pub mod Belongs
+pub mod PartMismatch
 pub mod FilePart
 pub mod Files
 pub mod Layout
@@ -13,5 +13,5 @@ pub use Rattle.mc_text.specs.Device
 pub use Rattle.mc_text.specs.Steps
 pub use Rattle.mc_topology.specs.Names
 pub use Rattle.mc_topology.specs.Topology
-pub use Rattle.mc_topology.specs.Stands
+pub use Rattle.mc_topology.specs.Denotation
 pub use Rattle.mc_topology.specs.Reading

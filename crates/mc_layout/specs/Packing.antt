@@ -2,7 +2,7 @@
 use Rattle.std.specs.Prelude.{◌≡◌, ℕ, Bool, List, [], ◌∷◌, codes, Some, ⊤}
 use Rattle.mc_text.specs.Bundle.{PartText, AreWithinLimits}
 use Rattle.mc_topology.specs.Topology.{TopologyValue}
-use Rattle.mc_topology.specs.Stands.{BoundedTopology}
+use Rattle.mc_topology.specs.Denotation.{DenotesBoundedTopology}
 use Rattle.mc_layout.specs.Files.{FileText, file_named}
 use Rattle.mc_layout.specs.Layout.{Slot, file_name, part_name, slots}
 
@@ -22,6 +22,6 @@ pub record IsPacked (files : List FileText) (certified : Bool) (parts : List Par
     pub text : List ℕ
     pub topology : TopologyValue
     pub first : file_named files (codes "topology") ≡ Some text
-    pub stands : BoundedTopology text topology
+    pub denotes : DenotesBoundedTopology text topology
     pub each : ArePacked files (slots certified topology) parts
     pub limits : AreWithinLimits parts

@@ -1,8 +1,8 @@
 //! Why a file isn't read, and why nothing is packed.
 
 ghost use Rattle.std.specs.Prelude.{◌≡◌};
-ghost use Rattle.mc_layout.specs.Files.{of_reading};
-ghost use Rattle.mc_layout.specs.PackReading.{of_file};
+ghost use Rattle.mc_layout.specs.Files.{from_read_fault};
+ghost use Rattle.mc_layout.specs.PackReading.{from_file_fault};
 ghost use Rattle.mc_layout.specs.declared.fault.FileFault.TheVariants as file;
 ghost use Rattle.mc_layout.specs.declared.fault.PackFault.TheVariants as packing;
 
@@ -34,7 +34,7 @@ impl From<AllocError> for FileFault {
 }
 
 impl From<ReadFault> for FileFault {
-    ghost from_gives = { λ read fault. fault ≡ of_reading read };
+    ghost from_gives = { λ read fault. fault ≡ from_read_fault read };
 
     fn from(fault: ReadFault) -> FileFault {
         match fault {
@@ -60,7 +60,7 @@ pub enum PackFault {
 }
 
 impl From<FileFault> for PackFault {
-    ghost from_gives = { λ fault pack_fault. pack_fault ≡ of_file fault };
+    ghost from_gives = { λ fault pack_fault. pack_fault ≡ from_file_fault fault };
 
     fn from(fault: FileFault) -> PackFault {
         match fault {

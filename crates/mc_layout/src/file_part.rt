@@ -1,10 +1,10 @@
 //! The part that a file of a folder makes.
 
 ghost use Rattle.std.specs.Prelude.{◌≡◌, ◌<◌};
-ghost use Rattle.mc_text.specs.Device.{counted};
+ghost use Rattle.mc_text.specs.Device.{failures_after};
 ghost use Rattle.mc_text.specs.BundleView.{part_text};
-ghost use Rattle.mc_layout.specs.FilePart.{IsOfSource, file_part};
-ghost use Rattle.mc_layout.specs.Files.{GivesOf, is_failure};
+ghost use Rattle.mc_layout.specs.FilePart.{IsFailedOrMemory, file_part};
+ghost use Rattle.mc_layout.specs.Files.{GivesFromContents, is_failure};
 
 use crate::fault::FileFault;
 use crate::slot::Slot;
@@ -53,13 +53,13 @@ pub fn part_of_file<F: FileSource>(
     slot: &Slot<'_>,
 ) -> Result<FilePart, FileFault>
     requires { F.failed files.old < u64.MAX }
-    ensures same { F.names files.new ≡ F.names files.old }
-    ensures kept { F.told files.new ≡ F.told files.old }
+    ensures same { F.borrows files.new ≡ F.borrows files.old }
+    ensures kept { F.contents files.new ≡ F.contents files.old }
     // It is the part that the file makes, or the reason why there is none.
-    ensures part { GivesOf IsOfSource (F.told files.old) (λ part. part) result
-        (λ told. file_part told slot.now) }
+    ensures part { GivesFromContents IsFailedOrMemory (F.contents files.old) (λ part. part) result
+        (λ contents. file_part contents slot.now) }
     // Failed comes only where the source's failures rose in the call.
-    ensures failures { F.failed files.new ≡ counted is_failure result (F.failed files.old) }
+    ensures failures { F.failed files.new ≡ failures_after is_failure result (F.failed files.old) }
 {
     let name = slot.part_name(alloc)?;
     let file = slot.file_name(alloc)?;

@@ -43,16 +43,16 @@ impl<'a, R: Files> Model for Folder<'a, R> {
 
 /// Why a file isn't opened.
 #[derive(Drop)]
-enum Unopened {
+enum OpenFault {
     /// It can't be.
     Unread(Unread),
     /// Memory ran out.
     Memory,
 }
 
-impl From<AllocError> for Unopened {
-    fn from(_refused: AllocError) -> Unopened {
-        Unopened::Memory
+impl From<AllocError> for OpenFault {
+    fn from(_refused: AllocError) -> OpenFault {
+        OpenFault::Memory
     }
 }
 
@@ -73,7 +73,7 @@ impl<'a, R: Files> Folder<'a, R> {
     }
 
     /// A call fails, since a file can't be read.
-    fn fail(&mut self, unread: Unread) -> FileFault
+    fn count_failure(&mut self, unread: Unread) -> FileFault
         requires { self.old.failed < u64.MAX }
         ensures state { self.new ≡ record self.old { failed = self.old.failed + 1 } }
         ensures fault { result ≡ FileFault.Failed }
@@ -84,49 +84,49 @@ impl<'a, R: Files> Folder<'a, R> {
     }
 
     /// A file isn't opened.
-    fn fail_to_open(&mut self, unopened: Unopened) -> FileFault
+    fn fail_to_open(&mut self, open_fault: OpenFault) -> FileFault
         requires { self.old.failed < u64.MAX }
         ensures state { self.new ≡ record self.old {
           failed = cond (is_failure result) (self.old.failed + 1) self.old.failed;
         } }
         ensures fault { result ≢ FileFault.TooLarge }
     {
-        match unopened {
-            Unopened::Unread(unread) => self.fail(unread),
-            Unopened::Memory => FileFault::Memory,
+        match open_fault {
+            OpenFault::Unread(unread) => self.count_failure(unread),
+            OpenFault::Memory => FileFault::Memory,
         }
     }
 }
 
 /// The regular file with this path, or the one that it links to, opened.
-fn regular_file<R: Files>(system: &R, path: Path<'_>) -> Result<R::File, Unread> {
+fn open_regular_file<R: Files>(system: &R, path: Path<'_>) -> Result<R::File, Unread> {
     match fs::metadata(system, path) {
         Ok(found) if found.is_file() => {}
         Ok(_) => return Err(Unread::NotRegular),
-        Err(error) => return Err(Unread::of(error)),
+        Err(error) => return Err(Unread::from_error(error)),
     }
-    fs::open(system, path).map_err(Unread::of)
+    fs::open(system, path).map_err(Unread::from_error)
 }
 
 /// The file of a folder, opened. A name with a `/` in it is none of the folder's files.
-fn file_in<R: Files>(
+fn open_in_folder<R: Files>(
     alloc: Global,
     system: &R,
     folder: &str,
     name: &str,
-) -> Result<R::File, Unopened> {
+) -> Result<R::File, OpenFault> {
     if name.as_bytes().contains(&b'/') {
-        return Err(Unopened::Unread(Unread::NoSuchFile));
+        return Err(OpenFault::Unread(Unread::NoSuchFile));
     }
     let path = Path::new(folder).join(alloc, name)?;
-    match regular_file(system, path.as_path()) {
+    match open_regular_file(system, path.as_path()) {
         Ok(file) => Ok(file),
-        Err(unread) => Err(Unopened::Unread(unread)),
+        Err(unread) => Err(OpenFault::Unread(unread)),
     }
 }
 
 /// The bytes of an open file. No more is read of it than the limit and a byte.
-fn bytes_in<R: Read + Drop>(alloc: Global, file: R, limit: usize) -> Result<Vec<u8>, FileFault>
+fn read_within_limit<R: Read + Drop>(alloc: Global, file: R, limit: usize) -> Result<Vec<u8>, FileFault>
     ensures bound { IfOk result (λ bytes. vec_len bytes ≤ limit) }
 {
     let bytes = read_to_limit(alloc, &mut FromReader::new(file), limit.saturating_add(1))?;
@@ -137,19 +137,19 @@ fn bytes_in<R: Read + Drop>(alloc: Global, file: R, limit: usize) -> Result<Vec<
 }
 
 impl<'a, R: Files> FileSource for Folder<'a, R> {
-    ghost told = { λ _. None };
+    ghost contents = { λ _. None };
 
     ghost folder = { λ s. s.folder };
 
     ghost failed = { λ s. s.failed };
 
     fn read(&mut self, alloc: Global, name: &str, limit: usize) -> Result<Vec<u8>, FileFault> {
-        match file_in(alloc, self.system, self.folder, name) {
-            Ok(file) => match bytes_in(alloc, file, limit) {
-                Err(FileFault::Failed) => Err(self.fail(Unread::Failed)),
+        match open_in_folder(alloc, self.system, self.folder, name) {
+            Ok(file) => match read_within_limit(alloc, file, limit) {
+                Err(FileFault::Failed) => Err(self.count_failure(Unread::Failed)),
                 answer => answer,
             },
-            Err(unopened) => Err(self.fail_to_open(unopened)),
+            Err(open_fault) => Err(self.fail_to_open(open_fault)),
         }
     }
 
@@ -165,12 +165,12 @@ impl<'a, R: Files> PieceSource for Folder<'a, R> {
 
     fn open(&mut self, alloc: Global, name: &str) -> Result<(), FileFault> {
         self.close();
-        match file_in(alloc, self.system, self.folder, name) {
+        match open_in_folder(alloc, self.system, self.folder, name) {
             Ok(file) => {
                 self.file = Some(file);
                 Ok(())
             }
-            Err(unopened) => Err(self.fail_to_open(unopened)),
+            Err(open_fault) => Err(self.fail_to_open(open_fault)),
         }
     }
 
@@ -180,7 +180,7 @@ impl<'a, R: Files> PieceSource for Folder<'a, R> {
         };
         match file.read(buffer) {
             Ok(count) => Ok(count),
-            Err(error) => Err(self.fail(Unread::of(error))),
+            Err(error) => Err(self.count_failure(Unread::from_error(error))),
         }
     }
 

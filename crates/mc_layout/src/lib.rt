@@ -8,7 +8,7 @@ mod fault;
 mod file_part;
 mod folder;
 mod laws;
-mod map_files;
+mod memory_files;
 mod packed_part;
 mod packing;
 mod piece_source;
@@ -20,10 +20,10 @@ pub use fault::{FileFault, PackFault};
 pub use file_part::{FilePart, part_of_file};
 pub use folder::Folder;
 pub use laws::{
-    packed_files_are_read_back, packed_names_are_plain, packs_are_made_as_they_stand,
-    parts_belong_by_their_names, slots_have_names_of_parts,
+    packed_files_are_read_back, packed_names_are_plain, packing_is_exact_and_unique,
+    parts_match_slots_exactly_by_name, slot_names_are_part_names,
 };
-pub use map_files::MapFiles;
+pub use memory_files::MemoryFiles;
 pub use packing::pack;
 pub use piece_source::PieceSource;
 pub use slot::{Slot, slot_at, slot_count};

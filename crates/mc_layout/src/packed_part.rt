@@ -1,14 +1,14 @@
 //! The parts that are made of files.
 
 ghost use Rattle.std.specs.Prelude.{◌≡◌, ◌≢◌, ◌<◌, [], ◌∷◌, IfErr, IfOk};
-ghost use Rattle.mc_text.specs.Device.{counted};
+ghost use Rattle.mc_text.specs.Device.{failures_after};
 ghost use Rattle.mc_text.specs.BundleView.{part_texts};
 ghost use Rattle.mc_text.specs.Steps.{Gives};
-ghost use Rattle.mc_layout.specs.Files.{GivesOf};
-ghost use Rattle.mc_layout.specs.Layout.{other_slots};
+ghost use Rattle.mc_layout.specs.Files.{GivesFromContents};
+ghost use Rattle.mc_layout.specs.Layout.{slots_after_topology};
 ghost use Rattle.mc_layout.specs.PackReading.{parts_after as parts_read_after};
-ghost use Rattle.mc_layout.specs.PackReading.{parts_read, topology_told};
-ghost use Rattle.mc_layout.specs.PackRun.{SaysNothing, is_read};
+ghost use Rattle.mc_layout.specs.PackReading.{parts_before_limits, read_topology};
+ghost use Rattle.mc_layout.specs.PackRun.{IsIoOrMemory, is_read};
 
 use crate::fault::PackFault;
 use crate::file_part::{FilePart, part_of_file};
@@ -27,12 +27,12 @@ fn parts_after<F: FileSource>(
     certified: bool,
 ) -> Result<Vec<FilePart>, PackFault>
     requires { F.failed files.old < u64.MAX }
-    ensures same { F.names files.new ≡ F.names files.old }
-    ensures kept { F.told files.new ≡ F.told files.old }
-    ensures parts { GivesOf SaysNothing (F.told files.old) (λ parts. parts.items) result
-        (λ told. parts_read_after told (first ∷ []) (other_slots certified topology.now)) }
+    ensures same { F.borrows files.new ≡ F.borrows files.old }
+    ensures kept { F.contents files.new ≡ F.contents files.old }
+    ensures parts { GivesFromContents IsIoOrMemory (F.contents files.old) (λ parts. parts.items) result
+        (λ contents. parts_read_after contents (first ∷ []) (slots_after_topology certified topology.now)) }
     ensures no_write { IfErr result (λ fault. fault ≢ PackFault.Write) }
-    ensures failures { F.failed files.new ≡ counted is_read result (F.failed files.old) }
+    ensures failures { F.failed files.new ≡ failures_after is_read result (F.failed files.old) }
 {
     let mut parts = vec![in alloc; first]?;
     for number in 1..slot_count(topology, certified) {
@@ -45,8 +45,8 @@ fn parts_after<F: FileSource>(
 }
 
 /// The topology of a text.
-fn topology_of(alloc: Global, text: &[u8]) -> Result<Topology, PackFault>
-    ensures topology { Gives SaysNothing (λ topology. topology) result (topology_told text.now) }
+fn topology_from_text(alloc: Global, text: &[u8]) -> Result<Topology, PackFault>
+    ensures topology { Gives IsIoOrMemory (λ topology. topology) result (read_topology text.now) }
     ensures no_device { IfErr result (λ fault. (fault ≢ PackFault.Write)
         × (fault ≢ PackFault.Read)) }
 {
@@ -63,26 +63,26 @@ fn topology_of(alloc: Global, text: &[u8]) -> Result<Topology, PackFault>
 }
 
 /// The parts of the bundle that is packed of the files.
-#[tactic(auto, unfolding(crate::specs::PackReading::parts_read))]
-pub(crate) fn parts_of<F: FileSource>(
+#[tactic(auto, unfolding(crate::specs::PackReading::parts_before_limits))]
+pub(crate) fn read_parts<F: FileSource>(
     alloc: Global,
     files: &mut F,
     certified: bool,
 ) -> Result<Vec<FilePart>, PackFault>
     requires { F.failed files.old < u64.MAX }
-    ensures same { F.names files.new ≡ F.names files.old }
-    ensures kept { F.told files.new ≡ F.told files.old }
-    ensures parts { GivesOf SaysNothing (F.told files.old) (λ parts. parts.items) result (parts_read certified) }
+    ensures same { F.borrows files.new ≡ F.borrows files.old }
+    ensures kept { F.contents files.new ≡ F.contents files.old }
+    ensures parts { GivesFromContents IsIoOrMemory (F.contents files.old) (λ parts. parts.items) result (parts_before_limits certified) }
     ensures no_write { IfErr result (λ fault. fault ≢ PackFault.Write) }
-    ensures failures { F.failed files.new ≡ counted is_read result (F.failed files.old) }
+    ensures failures { F.failed files.new ≡ failures_after is_read result (F.failed files.old) }
 {
     let first = part_of_file(alloc, files, &Slot::topology())?;
-    let topology = topology_of(alloc, first.as_part().bytes)?;
+    let topology = topology_from_text(alloc, first.as_part().bytes)?;
     parts_after(alloc, files, first, &topology, certified)
 }
 
 /// The parts, with their bytes where they lie.
-pub(crate) fn borrowed(alloc: Global, parts: &[FilePart]) -> Result<Vec<Part<'_>>, AllocError>
+pub(crate) fn borrow_parts(alloc: Global, parts: &[FilePart]) -> Result<Vec<Part<'_>>, AllocError>
     ensures { IfOk result (λ all. part_texts all.items ≡ parts.now) }
 {
     Ok(parts.iter().map(|part| part.as_part()).collect(alloc)?)

@@ -3,22 +3,22 @@
 ghost use Rattle.std.specs.Prelude.{◌≡◌, ◌≢◌, ◌<◌, ◌⊎◌, List, OnOk, Some, IfErr, IfOk, IfSome, Err};
 ghost use Rattle.mc_text.specs.Bundle.{AreWithinLimits, PartText, bundle_spelling};
 ghost use Rattle.mc_text.specs.Bundle.{AppendsBundle};
-ghost use Rattle.mc_text.specs.Device.{AppendsPart, counted};
+ghost use Rattle.mc_text.specs.Device.{AppendsProperPrefix, failures_after};
 ghost use Rattle.mc_text.specs.BundleView.{part_texts};
 ghost use Rattle.mc_layout.specs.Files.{FileText};
 ghost use Rattle.mc_layout.specs.Packing.{IsPacked};
-ghost use Rattle.mc_layout.specs.PackRun.{Answers, SaysNothing, WritesPacked, WritesPartOfPacked};
-ghost use Rattle.mc_layout.specs.PackRun.{is_read, is_write, of_writing};
+ghost use Rattle.mc_layout.specs.PackRun.{IsPackAnswer, IsIoOrMemory, WritesPackedBundle, WritesPackedPrefix};
+ghost use Rattle.mc_layout.specs.PackRun.{is_read, is_write, from_bundle_fault};
 
 use crate::fault::PackFault;
-use crate::packed_part::{borrowed, parts_of};
+use crate::packed_part::{borrow_parts, read_parts};
 use crate::source::FileSource;
 use mc_text::{BundleFault, Output, Part, write_bundle};
 use std::alloc::Global;
 
 /// Why a bundle isn't written.
-fn fault_of_writing(fault: BundleFault) -> PackFault
-    ensures { result ≡ of_writing fault }
+fn pack_fault_of(fault: BundleFault) -> PackFault
+    ensures { result ≡ from_bundle_fault fault }
 {
     match fault {
         BundleFault::TooLarge => PackFault::TooLarge,
@@ -29,22 +29,22 @@ fn fault_of_writing(fault: BundleFault) -> PackFault
 /// Writes the bundle of the parts.
 fn write_parts<W: Output>(parts: &[Part<'_>], output: &mut W) -> Result<(), PackFault>
     requires { W.failed output.old < u64.MAX }
-    ensures same { W.names output.new ≡ W.names output.old }
+    ensures same { W.borrows output.new ≡ W.borrows output.old }
     ensures ok { OnOk result
-        (AppendsBundle (W.took output.old) (W.took output.new) (part_texts parts.now)) }
+        (AppendsBundle (W.written output.old) (W.written output.new) (part_texts parts.now)) }
     ensures faults { IfErr result (λ fault. (fault ≡ PackFault.TooLarge)
         ⊎ (fault ≡ PackFault.Write)) }
     ensures too_large { result ≡ Err PackFault.TooLarge → ¬ AreWithinLimits (part_texts parts.now) }
     ensures within { result ≡ Err PackFault.Write → AreWithinLimits (part_texts parts.now) }
     ensures cut { result ≡ Err PackFault.Write
-        → AppendsPart (W.took output.old) (W.took output.new)
+        → AppendsProperPrefix (W.written output.old) (W.written output.new)
         (bundle_spelling (part_texts parts.now)) }
     ensures unwritten { IfErr result (λ fault. fault ≢ PackFault.Write → output.new ≡ output.old) }
-    ensures failures { W.failed output.new ≡ counted is_write result (W.failed output.old) }
+    ensures failures { W.failed output.new ≡ failures_after is_write result (W.failed output.old) }
 {
     match write_bundle(parts, output) {
         Ok(()) => Ok(()),
-        Err(fault) => Err(fault_of_writing(fault)),
+        Err(fault) => Err(pack_fault_of(fault)),
     }
 }
 
@@ -69,25 +69,25 @@ pub fn pack<F: FileSource, W: Output>(
 ) -> Result<(), PackFault>
     requires reads { F.failed files.old < u64.MAX }
     requires writes { W.failed output.old < u64.MAX }
-    ensures files_same { F.names files.new ≡ F.names files.old }
-    ensures output_same { W.names output.new ≡ W.names output.old }
-    ensures kept { F.told files.new ≡ F.told files.old }
+    ensures files_same { F.borrows files.new ≡ F.borrows files.old }
+    ensures output_same { W.borrows output.new ≡ W.borrows output.old }
+    ensures kept { F.contents files.new ≡ F.contents files.old }
     // There is a bundle of the files, or the answer is the first reason why there is none.
-    ensures answer { IfSome (F.told files.old) (λ told. Answers certified told result) }
+    ensures answer { IfSome (F.contents files.old) (λ contents. IsPackAnswer certified contents result) }
     // Where there is one, only a device or lack of memory keeps it from being written.
-    ensures only { (told : List FileText) (parts : List PartText) → F.told files.old ≡ Some told
-        → IsPacked told certified parts → IfErr result SaysNothing }
+    ensures only { (contents : List FileText) (parts : List PartText) → F.contents files.old ≡ Some contents
+        → IsPacked contents certified parts → IfErr result IsIoOrMemory }
     // The bundle is written whole, or a part of it where the output failed, or else nothing.
-    ensures written { IfOk result (λ _. IfSome (F.told files.old) (λ told.
-        WritesPacked certified told (W.took output.old) (W.took output.new))) }
-    ensures part { result ≡ Err PackFault.Write → IfSome (F.told files.old) (λ told.
-        WritesPartOfPacked certified told (W.took output.old) (W.took output.new)) }
+    ensures written { IfOk result (λ _. IfSome (F.contents files.old) (λ contents.
+        WritesPackedBundle certified contents (W.written output.old) (W.written output.new))) }
+    ensures part { result ≡ Err PackFault.Write → IfSome (F.contents files.old) (λ contents.
+        WritesPackedPrefix certified contents (W.written output.old) (W.written output.new)) }
     ensures unwritten { IfErr result (λ fault. fault ≢ PackFault.Write → output.new ≡ output.old) }
     // Read and Write come only where the device's failures rose in the call.
-    ensures read_failures { F.failed files.new ≡ counted is_read result (F.failed files.old) }
-    ensures write_failures { W.failed output.new ≡ counted is_write result (W.failed output.old) }
+    ensures read_failures { F.failed files.new ≡ failures_after is_read result (F.failed files.old) }
+    ensures write_failures { W.failed output.new ≡ failures_after is_write result (W.failed output.old) }
 {
-    let files = parts_of(alloc, files, certified)?;
-    let parts = borrowed(alloc, &files)?;
+    let files = read_parts(alloc, files, certified)?;
+    let parts = borrow_parts(alloc, &files)?;
     write_parts(&parts, output)
 }

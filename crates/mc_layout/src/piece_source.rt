@@ -4,7 +4,7 @@ ghost use Rattle.std.specs.Prelude.{◌≡◌, ◌≢◌, ◌<◌, ◌↔◌, �
 ghost use Rattle.std.specs.Prelude.{IfErr, IfSome, IsSome, OnErr, OnOk};
 ghost use Rattle.std.specs.Io.{ReadsAtMost};
 ghost use Rattle.std.specs.Io.KnownBytes.{ReadConsumes};
-ghost use Rattle.mc_text.specs.Device.{counted};
+ghost use Rattle.mc_text.specs.Device.{failures_after};
 ghost use Rattle.mc_layout.specs.Files.{file_named, is_failure};
 
 use crate::fault::FileFault;
@@ -30,17 +30,17 @@ pub trait PieceSource: FileSource {
     /// `Failed` where the file isn't there or can't be opened, or `Memory`. No file is open then.
     fn open(&mut self, alloc: Global, name: &str) -> Result<(), FileFault>
         requires { Self.failed self.old < u64.MAX }
-        ensures same { Self.names self.new ≡ Self.names self.old }
-        ensures kept { Self.told self.new ≡ Self.told self.old }
+        ensures same { Self.borrows self.new ≡ Self.borrows self.old }
+        ensures kept { Self.contents self.new ≡ Self.contents self.old }
         ensures folder { Self.folder self.new ≡ Self.folder self.old }
         // The file is there, and all of its bytes are to come.
-        ensures bytes { IfSome (Self.told self.old) (λ files. OnOk result
+        ensures bytes { IfSome (Self.contents self.old) (λ files. OnOk result
             ((bytes : List ℕ) × (file_named files name.now ≡ Some bytes)
             × (left self.new ≡ Some bytes))) }
         ensures open { is_open self.new ≡ is_ok result }
         ensures none { OnErr result (left self.new ≡ None) }
         ensures fault { IfErr result (λ fault. fault ≢ FileFault.TooLarge) }
-        ensures failures { Self.failed self.new ≡ counted is_failure result (Self.failed self.old) };
+        ensures failures { Self.failed self.new ≡ failures_after is_failure result (Self.failed self.old) };
 
     /// Puts the next bytes of the open file at the buffer's front, and answers how many: none only
     /// at the file's end, for an empty buffer and where no file is open. It may be called while the
@@ -51,20 +51,20 @@ pub trait PieceSource: FileSource {
     /// `Failed` where the file can't be read. No byte was taken of it then, and it stays open.
     fn read_piece(&mut self, buffer: &mut [u8]) -> Result<usize, FileFault>
         requires { Self.failed self.old < u64.MAX }
-        ensures same { Self.names self.new ≡ Self.names self.old }
-        ensures kept { Self.told self.new ≡ Self.told self.old }
+        ensures same { Self.borrows self.new ≡ Self.borrows self.old }
+        ensures kept { Self.contents self.new ≡ Self.contents self.old }
         ensures folder { Self.folder self.new ≡ Self.folder self.old }
         ensures bound { ReadsAtMost result buffer.new }
         ensures bytes { ReadConsumes (left self.old) (left self.new) result buffer.new }
         ensures open { is_open self.new ≡ is_open self.old }
         ensures closed { is_open self.old ≡ false → result ≡ Ok 0 }
         ensures fault { IfErr result (λ fault. fault ≡ FileFault.Failed) }
-        ensures failures { Self.failed self.new ≡ counted is_failure result (Self.failed self.old) };
+        ensures failures { Self.failed self.new ≡ failures_after is_failure result (Self.failed self.old) };
 
     /// Closes the open file, where there is one.
     fn close(&mut self)
-        ensures same { Self.names self.new ≡ Self.names self.old }
-        ensures kept { Self.told self.new ≡ Self.told self.old }
+        ensures same { Self.borrows self.new ≡ Self.borrows self.old }
+        ensures kept { Self.contents self.new ≡ Self.contents self.old }
         ensures folder { Self.folder self.new ≡ Self.folder self.old }
         ensures closed { is_open self.new ≡ false }
         ensures none { left self.new ≡ None }

@@ -97,7 +97,7 @@ impl<'a> Slot<'a> {
     {
         match self.owner {
             None => name == self.kind.as_bytes(),
-            Some(owner) => is_part_of(name, self.kind.as_bytes(), owner.as_bytes()),
+            Some(owner) => is_joined_by_slash(name, self.kind.as_bytes(), owner.as_bytes()),
         }
     }
 
@@ -107,10 +107,10 @@ impl<'a> Slot<'a> {
     {
         let kind = self.kind;
         match self.owner {
-            None => Ok(name_of(kind)),
+            None => Ok(to_part_name(kind)),
             Some(owner) => {
                 let name = format!(in alloc; "{kind}/{owner}")?;
-                Ok(name_of(&name))
+                Ok(to_part_name(&name))
             }
         }
     }
@@ -128,7 +128,7 @@ impl<'a> Slot<'a> {
 }
 
 /// The name of a part.
-fn name_of(name: &str) -> PartName
+fn to_part_name(name: &str) -> PartName
     requires { IsPartName name.now }
     ensures { result ≡ name.now }
 {
@@ -149,7 +149,7 @@ fn is_joined(bytes: &[u8], front: &[u8], rest: &[u8]) -> bool
 }
 
 /// Whether the bytes are the first text, a slash and the second text.
-fn is_part_of(bytes: &[u8], kind: &[u8], owner: &[u8]) -> bool
+fn is_joined_by_slash(bytes: &[u8], kind: &[u8], owner: &[u8]) -> bool
     ensures { result ≡ bytes_eq bytes.now (kind.now ++ (codes "/" ++ owner.now)) }
 {
     match bytes.strip_prefix(kind) {

@@ -2,7 +2,7 @@
 
 ghost use Rattle.std.specs.Prelude.{◌≡◌, ◌<◌, ◌≤◌, ◌∷◌, ℕ, List, [], Option, IfOk, IfSome, vec_len};
 ghost use Rattle.std.specs.Borrow.{GName};
-ghost use Rattle.mc_text.specs.Device.{counted};
+ghost use Rattle.mc_text.specs.Device.{failures_after};
 ghost use Rattle.mc_layout.specs.Files.{FileText, file_named, is_failure, IsRead};
 
 use crate::fault::FileFault;
@@ -11,7 +11,7 @@ use std::alloc::Global;
 /// What files are read from, each whole and by its name.
 pub trait FileSource {
     // the files, where it tells them
-    ghost told: { Self → Option (List FileText) };
+    ghost contents: { Self → Option (List FileText) };
 
     // the path of the folder that they lie in, empty where that is the present directory or none
     ghost folder: { Self → List ℕ } = { λ _. [] };
@@ -20,7 +20,7 @@ pub trait FileSource {
     ghost failed: { Self → ℕ };
 
     // the references that it is reached through
-    ghost names: { Self → List GName } = { λ _. [] };
+    ghost borrows: { Self → List GName } = { λ _. [] };
 
     /// Reads the file with the name, which has to have at most `limit` bytes. It may be called
     /// while the count of failures is below `u64::MAX`.
@@ -31,13 +31,13 @@ pub trait FileSource {
     /// `Memory`.
     fn read(&mut self, alloc: Global, name: &str, limit: usize) -> Result<Vec<u8>, FileFault>
         requires { failed self.old < u64.MAX }
-        ensures same { names self.new ≡ names self.old }
-        ensures kept { told self.new ≡ told self.old }
+        ensures same { borrows self.new ≡ borrows self.old }
+        ensures kept { contents self.new ≡ contents self.old }
         ensures folder { folder self.new ≡ folder self.old }
         ensures bound { IfOk result (λ bytes. vec_len bytes ≤ limit) }
-        ensures bytes { IfSome (told self.old) (λ files.
+        ensures bytes { IfSome (contents self.old) (λ files.
             IsRead (λ bytes. bytes.items) (file_named files name.now) limit result) }
-        ensures failures { failed self.new ≡ counted is_failure result (failed self.old) };
+        ensures failures { failed self.new ≡ failures_after is_failure result (failed self.old) };
 
     /// How many calls of `read` answered `Failed`.
     fn failures(&self) -> u64
@@ -45,13 +45,13 @@ pub trait FileSource {
 }
 
 impl<F: FileSource> FileSource for &mut F {
-    ghost told = { λ files. F.told files.now };
+    ghost contents = { λ files. F.contents files.now };
 
     ghost folder = { λ files. F.folder files.now };
 
     ghost failed = { λ files. F.failed files.now };
 
-    ghost names = { λ files. files.ghost_name ∷ F.names files.now };
+    ghost borrows = { λ files. files.ghost_name ∷ F.borrows files.now };
 
     fn read(&mut self, alloc: Global, name: &str, limit: usize) -> Result<Vec<u8>, FileFault> {
         FileSource::read(&mut **self, alloc, name, limit)

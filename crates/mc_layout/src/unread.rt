@@ -23,7 +23,7 @@ pub enum Unread {
 
 impl Unread {
     /// Why the system doesn't open or read a file.
-    pub(crate) fn of(error: Error) -> Unread {
+    pub(crate) fn from_error(error: Error) -> Unread {
         match error.kind() {
             ErrorKind::NotFound => Unread::NoSuchFile,
             ErrorKind::PermissionDenied => Unread::PermissionDenied,

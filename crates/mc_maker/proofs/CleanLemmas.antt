@@ -10,83 +10,83 @@ use Rattle.mc_theory.specs.Certificates.{Entry, IsTree, IsSafe, IsReordering, la
 use Rattle.mc_theory.specs.Reasons.{entry_at}
 use Rattle.mc_theory.specs.Findings.{Finding, IsTravel, from_lan, handles}
 use Rattle.mc_theory.specs.Findings.Finding.{Clean}
-use Rattle.mc_theory.specs.Made.{entry_after, entries_after, entries_of, need_after, need_over}
-use Rattle.mc_theory.specs.Made.{pairs_of, threshold_of}
-use Rattle.mc_theory.proofs.InLists.{in-map, in-map_cases, in-push_cases, same-by_image}
-use Rattle.mc_theory.proofs.Delivery.{safe}
-use Rattle.mc_theory.proofs.Shown.{shown}
-use Rattle.mc_theory.proofs.Travels.{travel-range, tree_made}
+use Rattle.mc_theory.specs.CertificateOfCopies.{entry_after, entries_after, entries_of, need_after, need_over}
+use Rattle.mc_theory.specs.CertificateOfCopies.{row_pairs, threshold_of}
+use Rattle.mc_theory.proofs.ListLemmas.{in-map, in-map_cases, in-push_cases, equal-from_same_image}
+use Rattle.mc_theory.proofs.ReachedLans.{is_safe-from_tree}
+use Rattle.mc_theory.proofs.FindingMeaning.{shows-travel_finding}
+use Rattle.mc_theory.proofs.Travels.{in_range-travel, is_tree-from_clean_travel}
 use Rattle.mc_forward.specs.Domains.{DomainValue, IsDomain, net_of}
-use Rattle.mc_forward.proofs.BelowLemmas.{few-different}
-use Rattle.mc_forward.proofs.DomainLemmas.{net-of_domain, wanting-within}
-use Rattle.mc_cert.specs.Certificate.{IsWritable, IsList, IsEntryOf}
+use Rattle.mc_forward.proofs.BelowLemmas.{length-of_distinct_below}
+use Rattle.mc_forward.proofs.DomainLemmas.{is_net-net_of, wants-below_lan_count}
+use Rattle.mc_cert.specs.Certificate.{IsWritableEntry, IsWritableTree, IsEntryOf}
 use Rattle.mc_replay.specs.declared.travel.Travel.{Travel}
 use Rattle.mc_replay.specs.Travels.{replay_of, IsRunTo}
 use Rattle.mc_maker.specs.Examined.{FindsNothing, first_choices}
-use Rattle.mc_maker.specs.Examined.{AreClean}
-use Rattle.mc_maker.proofs.FilledLemmas.{all-in, in-all}
+use Rattle.mc_maker.specs.Examined.{AreCleanCopies}
+use Rattle.mc_maker.proofs.FilledLemmas.{each_in-all, all-each_in}
 
 -- ---- of each entry
 
 -- what holds of each copy's entry, whatever the entries before it, holds of all
-each-after : (n : Net) (P : Entry → Type 0) (es : List Entry) (cs : List Copy)
+entries_after-each : (n : Net) (P : Entry → Type 0) (es : List Entry) (cs : List Copy)
     → ((ds : List Entry) (c : Copy) → In c cs → P (entry_after n ds c))
     → ((e : Entry) → In e es → P e) → (e : Entry) → In e (entries_after n es cs) → P e
-each-after n P es [] new old e h = old e h
-each-after n P es (c ∷ cs) new old e h =
-    each-after n P (es ++ entry_after n es c ∷ []) cs (λ ds b k. new ds b (inr k))
+entries_after-each n P es [] new old e h = old e h
+entries_after-each n P es (c ∷ cs) new old e h =
+    entries_after-each n P (es ++ entry_after n es c ∷ []) cs (λ ds b k. new ds b (inr k))
     (λ x k. elim (in-push_cases x es (entry_after n es c) k)
     [ inl j ↦ old x j | inr q ↦ subst P q (new es c (inl refl)) ]) e h
 
-pub each-entry : (n : Net) (P : Entry → Type 0) (cs : List Copy)
+pub entries_of-each : (n : Net) (P : Entry → Type 0) (cs : List Copy)
     → ((ds : List Entry) (c : Copy) → In c cs → P (entry_after n ds c))
     → (e : Entry) → In e (entries_of n cs) → P e
-each-entry n P cs new = each-after n P [] cs new (λ e h. absurd h)
+entries_of-each n P cs new = entries_after-each n P [] cs new (λ e h. absurd h)
 
-one-over : (threshold : ℕ) (o : Option Entry) → 1 ≤ need_over threshold o
-one-over threshold None = omega arith
-one-over threshold (Some p) = omega arith
+need_over-at_least_one : (threshold : ℕ) (o : Option Entry) → 1 ≤ need_over threshold o
+need_over-at_least_one threshold None = omega arith
+need_over-at_least_one threshold (Some p) = omega arith
 
-need-one : (n : Net) (ds : List Entry) (x : Option Interface) → 1 ≤ need_after n ds x
-need-one n ds None = omega arith
-need-one n ds (Some i) = one-over (threshold_of i.1 (pairs_of (n.row i.0)))
+need_after-at_least_one : (n : Net) (ds : List Entry) (x : Option Interface) → 1 ≤ need_after n ds x
+need_after-at_least_one n ds None = omega arith
+need_after-at_least_one n ds (Some i) = need_over-at_least_one (threshold_of i.1 (row_pairs (n.row i.0)))
     (entry_at ds (from_lan n (Some i)))
 
-pub needs-one : (n : Net) (cs : List Copy) (e : Entry) → In e (entries_of n cs) → 1 ≤ e.need
-needs-one n cs = each-entry n (λ e. 1 ≤ e.need) cs (λ ds c h. need-one n ds c.sender)
+pub entries_of-needs_at_least_one : (n : Net) (cs : List Copy) (e : Entry) → In e (entries_of n cs) → 1 ≤ e.need
+entries_of-needs_at_least_one n cs = entries_of-each n (λ e. 1 ≤ e.need) cs (λ ds c h. need_after-at_least_one n ds c.sender)
 
 -- an entry's LAN carried a copy
-carried-lan : (n : Net) (cs : List Copy) (e : Entry) → In e (entries_of n cs) → In e.lan (lans cs)
-carried-lan n cs = each-entry n (λ e. In e.lan (lans cs)) cs
+lans-carry_entry_lan : (n : Net) (cs : List Copy) (e : Entry) → In e (entries_of n cs) → In e.lan (lans cs)
+lans-carry_entry_lan n cs = entries_of-each n (λ e. In e.lan (lans cs)) cs
     (λ ds c h. in-map (λ (x : Copy). x.lan) c cs h)
 
 -- ---- of the copies of a clean travel
 
-needs-small : (n : Net) (count : ℕ) (picks : List ℕ) → IsNet n
+entries_of-needs_at_most_255 : (n : Net) (count : ℕ) (picks : List ℕ) → IsNet n
     → IsTravel n count [] false picks (start n 255) Clean
     → (e : Entry) → In e (entries_of n (run n (handles picks) (start n 255)).carried) → e.need ≤ 255
-needs-small n count picks net travel e h =
+entries_of-needs_at_most_255 n count picks net travel e h =
     let f = run n (handles picks) (start n 255) in
     let es = entries_of n f.carried in
-    let tree : IsTree n es = tree_made n count [] false picks net travel in
+    let tree : IsTree n es = is_tree-from_clean_travel n count [] false picks net travel in
     let s : IsSafe n es 255 (handles picks) f =
-    safe n es 255 (handles picks) net tree (omega arith) (omega arith)
-    (travel-range n count [] false picks (start n 255) Clean travel) in
-    let c = in-map_cases (λ (x : Copy). x.lan) e.lan f.carried (carried-lan n f.carried e h) in
+    is_safe-from_tree n es 255 (handles picks) net tree (omega arith) (omega arith)
+    (in_range-travel n count [] false picks (start n 255) Clean travel) in
+    let c = in-map_cases (λ (x : Copy). x.lan) e.lan f.carried (lans-carry_entry_lan n f.carried e h) in
     let named = s.named c.0 c.1 in
-    let same : e ≡ named.0 = same-by_image (λ (x : Entry). x.lan) e named.0 es tree.one_entry h
+    let same : e ≡ named.0 = equal-from_same_image (λ (x : Entry). x.lan) e named.0 es tree.one_entry h
     named.1 (sym c.2 ∙ sym named.2.lan) in
     subst (λ (x : Entry). x.need ≤ 255) (sym same) named.2.need
 
-pub clean-copies : (d a : DomainValue) (flow : ℕ) (t : Travel) (g : Flight) (cs : List Copy)
+pub are_clean_copies-of_travel : (d a : DomainValue) (flow : ℕ) (t : Travel) (g : Flight) (cs : List Copy)
     → IsDomain d → a ≡ d
     → IsRunTo (replay_of d flow 255 first_choices) t g → FindsNothing t → cs ≡ g.carried
     → All (λ (c : Copy). c.lan < length a.topology.lans) cs
     → All (λ (c : Copy). IfSome c.sender (λ i. i.0 < length a.topology.routers)) cs
-    → AreClean d flow cs
-clean-copies d a flow t g cs ok same is none carried on by =
+    → AreCleanCopies d flow cs
+are_clean_copies-of_travel d a flow t g cs ok same is none carried on by =
     let n = net_of d flow in
-    let net = net-of_domain d flow ok in
+    let net = is_net-net_of d flow ok in
     let travel : IsTravel n (length d.topology.lans) [] false is.picks (start n 255) Clean =
     subst (λ (x : Finding). IsTravel n (length d.topology.lans) [] false is.picks (start n 255) x)
     none is.travel in
@@ -94,14 +94,14 @@ clean-copies d a flow t g cs ok same is none carried on by =
     ∙ ap (λ (f : Flight). f.carried) is.ends in
     record {
       tree = subst (λ xs. IsTree n (entries_of n xs)) (sym all)
-          (tree_made n (length d.topology.lans) [] false is.picks net travel);
+          (is_tree-from_clean_travel n (length d.topology.lans) [] false is.picks net travel);
       needs = subst (λ xs. All (λ (e : Entry). e.need ≤ 255) (entries_of n xs)) (sym all)
-          (in-all (λ (e : Entry). e.need ≤ 255) (entries_of n
+          (all-each_in (λ (e : Entry). e.need ≤ 255) (entries_of n
           (run n (handles is.picks) (start n 255)).carried)
-          (needs-small n (length d.topology.lans) is.picks net travel));
+          (entries_of-needs_at_most_255 n (length d.topology.lans) is.picks net travel));
       reached = subst (λ xs. (l : ℕ) → n.wants l ≡ true → In l (lans xs)) (sym all)
-          (shown n (length d.topology.lans) 255 [] false is.picks Clean
-          (λ l w. wanting-within d flow l ok w) travel).2;
+          (shows-travel_finding n (length d.topology.lans) 255 [] false is.picks Clean
+          (λ l w. wants-below_lan_count d flow l ok w) travel).2;
       lans = subst (λ (x : DomainValue). All (λ (c : Copy). c.lan < length x.topology.lans) cs) same
           on;
       senders = subst (λ (x : DomainValue). All (λ (c : Copy). IfSome c.sender
@@ -110,55 +110,55 @@ clean-copies d a flow t g cs ok same is none carried on by =
 
 -- ---- what a certificate can hold
 
-entry-of : (d : DomainValue) (flow : ℕ) (cs : List Copy) → AreClean d flow cs → (e : Entry)
+is_entry_of-entries_of : (d : DomainValue) (flow : ℕ) (cs : List Copy) → AreCleanCopies d flow cs → (e : Entry)
     → In e (entries_of (net_of d flow) cs) → IsEntryOf d.topology e
-entry-of d flow cs clean = each-entry (net_of d flow) (IsEntryOf d.topology) cs (λ ds c h. record {
-  lan = all-in (λ (x : Copy). x.lan < length d.topology.lans) cs clean.lans c h;
-  router = all-in (λ (x : Copy). IfSome x.sender (λ i. i.0 < length d.topology.routers)) cs
+is_entry_of-entries_of d flow cs clean = entries_of-each (net_of d flow) (IsEntryOf d.topology) cs (λ ds c h. record {
+  lan = each_in-all (λ (x : Copy). x.lan < length d.topology.lans) cs clean.lans c h;
+  router = each_in-all (λ (x : Copy). IfSome x.sender (λ i. i.0 < length d.topology.routers)) cs
       clean.senders c h;
 })
 
-pub made-listed : (d : DomainValue) (flow : ℕ) (cs : List Copy) (es : List Entry)
-    → AreClean d flow cs → IsReordering (entries_of (net_of d flow) cs) es
+pub reordered-all_of_topology : (d : DomainValue) (flow : ℕ) (cs : List Copy) (es : List Entry)
+    → AreCleanCopies d flow cs → IsReordering (entries_of (net_of d flow) cs) es
     → All (IsEntryOf d.topology) es
-made-listed d flow cs es clean made = in-all (IsEntryOf d.topology) es
-    (λ e h. entry-of d flow cs clean e (made.from e h))
+reordered-all_of_topology d flow cs es clean made = all-each_in (IsEntryOf d.topology) es
+    (λ e h. is_entry_of-entries_of d flow cs clean e (made.from e h))
 
-pub made-within : (d : DomainValue) (flow : ℕ) (cs : List Copy) (es : List Entry)
-    → AreClean d flow cs → IsReordering (entries_of (net_of d flow) cs) es
+pub reordered-lans_below_count : (d : DomainValue) (flow : ℕ) (cs : List Copy) (es : List Entry)
+    → AreCleanCopies d flow cs → IsReordering (entries_of (net_of d flow) cs) es
     → All (λ (e : Entry). e.lan < length d.topology.lans) es
-made-within d flow cs es clean made =
-    in-all (λ (e : Entry). e.lan < length d.topology.lans) es
-    (λ e h. (entry-of d flow cs clean e (made.from e h)).lan)
+reordered-lans_below_count d flow cs es clean made =
+    all-each_in (λ (e : Entry). e.lan < length d.topology.lans) es
+    (λ e h. (is_entry_of-entries_of d flow cs clean e (made.from e h)).lan)
 
-small-vif : (n : Net) (es : List Entry) (e : Entry) (o : Option Interface) → IsNet n → IsTree n es
+forwarder_vif-at_most_31 : (n : Net) (es : List Entry) (e : Entry) (o : Option Interface) → IsNet n → IsTree n es
     → In e es → e.forwarder ≡ o → IfSome o (λ i. i.1 ≤ 31)
-small-vif n es e None net tree h q = tt
-small-vif n es e (Some i) net tree h q =
+forwarder_vif-at_most_31 n es e None net tree h q = tt
+forwarder_vif-at_most_31 n es e (Some i) net tree h q =
     let fed = tree.fed e i.0 i.1 h q in
     let lt : i.1 < 32 = net.vif i.0 i.1 e.lan fed.4 in
     omega (arith, lt)
 
-few-entries : (d : DomainValue) (es : List Entry) → Distinct (map (λ (e : Entry). e.lan) es)
+length-listed_entries : (d : DomainValue) (es : List Entry) → Distinct (map (λ (e : Entry). e.lan) es)
     → All (IsEntryOf d.topology) es → length es ≤ length d.topology.lans
-few-entries d es once all =
-    let few = few-different (map (λ (e : Entry). e.lan) es) (length d.topology.lans) once (λ l h.
+length-listed_entries d es once all =
+    let few = length-of_distinct_below (map (λ (e : Entry). e.lan) es) (length d.topology.lans) once (λ l h.
     let e = in-map_cases (λ (e : Entry). e.lan) l es h in
     subst (λ (k : ℕ). k < length d.topology.lans) e.2
-    (all-in (IsEntryOf d.topology) es all e.0 e.1).lan) in
+    (each_in-all (IsEntryOf d.topology) es all e.0 e.1).lan) in
     omega (arith, few, length-map es (λ (e : Entry). e.lan))
 
-pub made-list : (d : DomainValue) (flow : ℕ) (cs : List Copy) (es : List Entry) → IsDomain d
-    → AreClean d flow cs → IsReordering (entries_of (net_of d flow) cs) es → IsList es
-made-list d flow cs es ok clean made =
+pub is_list-reordered : (d : DomainValue) (flow : ℕ) (cs : List Copy) (es : List Entry) → IsDomain d
+    → AreCleanCopies d flow cs → IsReordering (entries_of (net_of d flow) cs) es → IsWritableTree es
+is_list-reordered d flow cs es ok clean made =
     let n = net_of d flow in
-    let few = few-entries d es made.one_entry (made-listed d flow cs es clean made) in
+    let few = length-listed_entries d es made.one_entry (reordered-all_of_topology d flow cs es clean made) in
     let most : length d.topology.lans ≤ 1024 = ok.topology.few_lans in
     record {
       few = omega (arith, few, most);
-      each = in-all IsWritable es (λ e h. record {
-        need = needs-one n cs e (made.from e h);
-        vif = small-vif n (entries_of n cs) e e.forwarder (net-of_domain d flow ok) clean.tree
+      each = all-each_in IsWritableEntry es (λ e h. record {
+        need = entries_of-needs_at_least_one n cs e (made.from e h);
+        vif = forwarder_vif-at_most_31 n (entries_of n cs) e e.forwarder (is_net-net_of d flow ok) clean.tree
             (made.from e h) refl;
       });
     }

@@ -6,62 +6,62 @@ use Rattle.mc_theory.specs.Lists.{In, Distinct}
 use Rattle.mc_theory.specs.Nets.{Net}
 use Rattle.mc_theory.specs.Flights.{Copy}
 use Rattle.mc_theory.specs.Certificates.{Entry, IsReordering, IsServed, lans}
-use Rattle.mc_theory.specs.Made.{entry_after, entries_after, entries_of}
-use Rattle.mc_theory.proofs.InLists.{in-map_cases, in-push, same-by_image}
-use Rattle.mc_maker.specs.ByLan.{serves}
-use Rattle.mc_maker.proofs.FilledLemmas.{all-in, in-later}
+use Rattle.mc_theory.specs.CertificateOfCopies.{entry_after, entries_after, entries_of}
+use Rattle.mc_theory.proofs.ListLemmas.{in-map_cases, in-push, equal-from_same_image}
+use Rattle.mc_maker.specs.EntriesByLan.{serves}
+use Rattle.mc_maker.proofs.FilledLemmas.{each_in-all, in-entries_after}
 
 -- ---- the entry of a LAN that carried a copy
 
-entry-for : (n : Net) (es : List Entry) (cs : List Copy) (c : Copy) → In c cs
+entry_after-of_copy : (n : Net) (es : List Entry) (cs : List Copy) (c : Copy) → In c cs
     → (e : Entry) × In e (entries_after n es cs) × (e.lan ≡ c.lan)
-entry-for n es [] c h = absurd h
-entry-for n es (x ∷ cs) c (inl q) = (
+entry_after-of_copy n es [] c h = absurd h
+entry_after-of_copy n es (x ∷ cs) c (inl q) = (
   entry_after n es x,
-  in-later n (es ++ entry_after n es x ∷ []) cs (entry_after n es x)
+  in-entries_after n (es ++ entry_after n es x ∷ []) cs (entry_after n es x)
       (in-push es (entry_after n es x)),
   ap (λ (y : Copy). y.lan) q,
 )
-entry-for n es (x ∷ cs) c (inr h) = entry-for n (es ++ entry_after n es x ∷ []) cs c h
+entry_after-of_copy n es (x ∷ cs) c (inr h) = entry_after-of_copy n (es ++ entry_after n es x ∷ []) cs c h
 
-lan-entry : (n : Net) (cs : List Copy) (l : ℕ) → In l (lans cs)
+entries_of-entry_of_lan : (n : Net) (cs : List Copy) (l : ℕ) → In l (lans cs)
     → (e : Entry) × In e (entries_of n cs) × (e.lan ≡ l)
-lan-entry n cs l h =
+entries_of-entry_of_lan n cs l h =
     let c = in-map_cases (λ (x : Copy). x.lan) l cs h in
-    let e = entry-for n [] cs c.0 c.1 in (e.0, e.1, e.2 ∙ c.2)
+    let e = entry_after-of_copy n [] cs c.0 c.1 in (e.0, e.1, e.2 ∙ c.2)
 
 -- ---- what is served
 
-met : (m w : Bool) → w ≡ true → (m || not w) ≡ true → m ≡ true
-met true w q e = refl
-met false true q e = absurd cc
-met false false q e = absurd cc
+served_if_wanted : (m w : Bool) → w ≡ true → (m || not w) ≡ true → m ≡ true
+served_if_wanted true w q e = refl
+served_if_wanted false true q e = absurd cc
+served_if_wanted false false q e = absurd cc
 
-unmet : (m w : Bool) → (m || not w) ≡ false → (m ≡ false) × (w ≡ true)
-unmet true w e = absurd cc
-unmet false true e = (refl, refl)
-unmet false false e = absurd cc
+wanted_and_not_served : (m w : Bool) → (m || not w) ≡ false → (m ≡ false) × (w ≡ true)
+wanted_and_not_served true w e = absurd cc
+wanted_and_not_served false true e = (refl, refl)
+wanted_and_not_served false false e = absurd cc
 
 module _ (n : Net) (cs : List Copy) (es : List Entry) (made : IsReordering (entries_of n cs) es)
   where
     pub served-each : ((l : ℕ) → n.wants l ≡ true → In l (lans cs))
         → All (λ (e : Entry). serves n e ≡ true) es → IsServed n (entries_of n cs)
     served-each reached all l w =
-        let e = lan-entry n cs l (reached l w) in
+        let e = entries_of-entry_of_lan n cs l (reached l w) in
         let wanted : n.wants e.0.lan ≡ true = ap n.wants e.2 ∙ w in
-        let good = all-in (λ (x : Entry). serves n x ≡ true) es all e.0 (made.to e.0 e.1) in (
+        let good = each_in-all (λ (x : Entry). serves n x ≡ true) es all e.0 (made.to e.0 e.1) in (
           e.0,
           e.1,
           e.2,
-          leb-true e.0.need n.ttl (met (nat_le e.0.need n.ttl) (n.wants e.0.lan) wanted good),
+          leb-true e.0.need n.ttl (served_if_wanted (nat_le e.0.need n.ttl) (n.wants e.0.lan) wanted good),
         )
 
     pub served-not : (e : Entry) → Distinct (map (λ (x : Entry). x.lan) (entries_of n cs)) → In e es
         → serves n e ≡ false → ¬ IsServed n (entries_of n cs)
     served-not e once h low served =
-        let un = unmet (nat_le e.need n.ttl) (n.wants e.lan) low in
+        let un = wanted_and_not_served (nat_le e.need n.ttl) (n.wants e.lan) low in
         let s = served e.lan un.1 in
-        let same : s.0 ≡ e = same-by_image (λ (x : Entry). x.lan) s.0 e (entries_of n cs) once s.1
+        let same : s.0 ≡ e = equal-from_same_image (λ (x : Entry). x.lan) s.0 e (entries_of n cs) once s.1
         (made.from e h) s.2 in
         let short : nat_le s.0.need n.ttl ≡ false =
         ap (λ (x : Entry). nat_le x.need n.ttl) same ∙ un.0 in

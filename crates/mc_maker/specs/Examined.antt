@@ -5,7 +5,7 @@ use Rattle.mc_theory.specs.Lists.{In}
 use Rattle.mc_theory.specs.Certificates.{Entry, IsReordering, lans}
 use Rattle.mc_theory.specs.Findings.{Choices}
 use Rattle.mc_theory.specs.Findings.Finding.{Clean}
-use Rattle.mc_theory.specs.Made.{entries_of}
+use Rattle.mc_theory.specs.CertificateOfCopies.{entries_of}
 use Rattle.mc_forward.specs.Domains.{DomainValue, net_of, ttl_of}
 use Rattle.mc_replay.specs.FindingValues.{finding_value}
 use Rattle.mc_replay.specs.Travels.{replay_of, IsRunTo, IsRunOfChoices}
@@ -18,7 +18,7 @@ use Rattle.mc_theory.specs.Certificates.{IsTree}
 
 -- The copies are of the domain's LANs and routers, each LAN that wants the flow carried one, and
 -- their entries meet all conditions of a certificate but the last, with needs up to 255.
-pub record AreClean (d : DomainValue) (flow : ℕ) (cs : List Copy) : Type 0 where
+pub record AreCleanCopies (d : DomainValue) (flow : ℕ) (cs : List Copy) : Type 0 where
   pub tree : IsTree (net_of d flow) (entries_of (net_of d flow) cs)
   pub needs : All (λ e. e.need ≤ 255) (entries_of (net_of d flow) cs)
   pub reached : (l : ℕ) → (net_of d flow).wants l ≡ true → In l (lans cs)
@@ -48,8 +48,8 @@ abbrev pub first_choices : Choices
 first_choices = record { numbers = []; last = false }
 
 -- the travel of a packet of the flow with this TTL
-abbrev pub IsTravelOfFirst : DomainValue → (flow ttl : ℕ) → Travel → Type 0
-IsTravelOfFirst d flow ttl t = IsRunOfChoices (replay_of d flow ttl first_choices) t
+abbrev pub IsFirstPickTravel : DomainValue → (flow ttl : ℕ) → Travel → Type 0
+IsFirstPickTravel d flow ttl t = IsRunOfChoices (replay_of d flow ttl first_choices) t
 
 abbrev pub FindsNothing : Travel → Type 0
 FindsNothing t = finding_value t.finding ≡ Clean
@@ -59,12 +59,12 @@ FindsFault t = finding_value t.finding ≢ Clean
 
 -- The TTL at which a fault is found: 255 if the travel at 255 finds one, and else the flow's.
 pub record IsTtlOfFault (d : DomainValue) (flow ttl : ℕ) : Type 0 where
-  pub greatest : (t : Travel) → IsTravelOfFirst d flow 255 t → FindsFault t → ttl ≡ 255
-  pub least : (t : Travel) → IsTravelOfFirst d flow 255 t → FindsNothing t → ttl ≡ ttl_of d flow
+  pub greatest : (t : Travel) → IsFirstPickTravel d flow 255 t → FindsFault t → ttl ≡ 255
+  pub least : (t : Travel) → IsFirstPickTravel d flow 255 t → FindsNothing t → ttl ≡ ttl_of d flow
 
 -- The entries are those of the copies that the travel at TTL 255 carried, in some order: each has
 -- its copy's LAN, as its rank 255 less its copy's TTL, and its copy's sender as its forwarder.
-pub record IsOfTravel (d : DomainValue) (flow : ℕ) (es : List Entry) : Type 0 where
+pub record AreEntriesOfCleanTravel (d : DomainValue) (flow : ℕ) (es : List Entry) : Type 0 where
   pub travel : Travel
   pub flight : Flight
   pub run : IsRunTo (replay_of d flow 255 first_choices) travel flight

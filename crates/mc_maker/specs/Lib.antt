@@ -1,11 +1,11 @@
 pub mod Examined
-pub mod Flown
-pub mod ByLan
+pub mod ExaminedFlights
+pub mod EntriesByLan
 pub use Rattle.mc_theory.specs.Nets
 pub use Rattle.mc_theory.specs.Flights
 pub use Rattle.mc_theory.specs.Certificates
 pub use Rattle.mc_theory.specs.Findings
-pub use Rattle.mc_theory.specs.Made
+pub use Rattle.mc_theory.specs.CertificateOfCopies
 pub use Rattle.mc_cert.specs.Certificate
 pub use Rattle.mc_replay.specs.FindingValues
 pub use Rattle.mc_replay.specs.Travels

@@ -2,19 +2,19 @@
 //! LAN.
 
 ghost use Rattle.std.specs.Prelude.{◌≡◌, ◌<◌, ◌≤◌, All, IfOk, IfSome, Some, [], length};
-ghost use Rattle.mc_theory.specs.Made.{entries_of, need_over};
-ghost use Rattle.mc_maker.specs.ByLan.{IsByLan, entry_by, entry_held, held_entries, need_held};
-ghost use Rattle.mc_forward.specs.Journeys.{net_in};
+ghost use Rattle.mc_theory.specs.CertificateOfCopies.{entries_of, need_over};
+ghost use Rattle.mc_maker.specs.EntriesByLan.{AreEntriesByLan, entry_by_held_entries, held_entry_at, held_entries, need_by_held_entries};
+ghost use Rattle.mc_forward.specs.FlightsInDomain.{net_in};
 
 use mc_cert::Reached;
-use mc_forward::{Carried, FlowView, PerLan, RowFor, threshold_of};
+use mc_forward::{CarriedCopy, FlowView, PerLan, RowFor, threshold_of};
 use mc_text::Memory;
 use mc_topology::{LanNo, RouterNo};
 use std::alloc::Global;
 
 /// The entry of a LAN, if there is a LAN and it has one.
 pub(crate) fn entry_at(by_lan: &PerLan<Reached>, place: Option<LanNo>) -> Option<Reached>
-    ensures { result ≡ entry_held by_lan.now place }
+    ensures { result ≡ held_entry_at by_lan.now place }
 {
     match place {
         Some(lan) => by_lan.on(lan),
@@ -35,9 +35,9 @@ fn need_over(threshold: u8, base: Option<Reached>) -> u8
 }
 
 /// The least TTL with which packets are sent by a router's vif.
-fn need_by(view: &FlowView<'_>, by_lan: &PerLan<Reached>, router: RouterNo, vif: u8) -> u8
-    requires { need_held (net_in view.now) by_lan.now (Some (router, vif)) ≤ 255 }
-    ensures { result ≡ need_held (net_in view.now) by_lan.now (Some (router, vif)) }
+fn need_at_vif(view: &FlowView<'_>, by_lan: &PerLan<Reached>, router: RouterNo, vif: u8) -> u8
+    requires { need_by_held_entries (net_in view.now) by_lan.now (Some (router, vif)) ≤ 255 }
+    ensures { result ≡ need_by_held_entries (net_in view.now) by_lan.now (Some (router, vif)) }
 {
     match view.row(router) {
         RowFor::Exact(entry) => {
@@ -49,38 +49,38 @@ fn need_by(view: &FlowView<'_>, by_lan: &PerLan<Reached>, router: RouterNo, vif:
 }
 
 /// The least TTL with which packets reach the LAN of a copy with this sender, 1 for the source's.
-fn need_of(view: &FlowView<'_>, by_lan: &PerLan<Reached>, sender: Option<(RouterNo, u8)>) -> u8
-    requires { need_held (net_in view.now) by_lan.now sender ≤ 255 }
-    ensures { result ≡ need_held (net_in view.now) by_lan.now sender }
+fn need_of_sender(view: &FlowView<'_>, by_lan: &PerLan<Reached>, sender: Option<(RouterNo, u8)>) -> u8
+    requires { need_by_held_entries (net_in view.now) by_lan.now sender ≤ 255 }
+    ensures { result ≡ need_by_held_entries (net_in view.now) by_lan.now sender }
 {
     match sender {
-        Some((router, vif)) => need_by(view, by_lan, router, vif),
+        Some((router, vif)) => need_at_vif(view, by_lan, router, vif),
         None => 1,
     }
 }
 
 /// The entry of a copy, after those of the earlier ones.
-fn entry_of(view: &FlowView<'_>, by_lan: &PerLan<Reached>, copy: &Carried) -> Reached
-    requires { need_held (net_in view.now) by_lan.now copy.now.sender ≤ 255 }
-    ensures { result ≡ entry_by (net_in view.now) by_lan.now copy.now }
+fn entry_of_copy(view: &FlowView<'_>, by_lan: &PerLan<Reached>, copy: &CarriedCopy) -> Reached
+    requires { need_by_held_entries (net_in view.now) by_lan.now copy.now.sender ≤ 255 }
+    ensures { result ≡ entry_by_held_entries (net_in view.now) by_lan.now copy.now }
 {
     Reached {
         lan: copy.lan,
         rank: 255 - copy.ttl,
-        need: need_of(view, by_lan, copy.sender),
+        need: need_of_sender(view, by_lan, copy.sender),
         forwarder: copy.sender,
     }
 }
 
 /// Puts the entry of each copy on its LAN, unless an earlier one is there.
-fn put_entries(view: &FlowView<'_>, by_lan: &mut PerLan<Reached>, copies: &[Carried])
-    requires empty { IsByLan by_lan.old [] }
+fn put_entries(view: &FlowView<'_>, by_lan: &mut PerLan<Reached>, copies: &[CarriedCopy])
+    requires empty { AreEntriesByLan by_lan.old [] }
     requires lans { All (λ c. c.lan < length by_lan.old) copies.now }
     requires needs { All (λ e. e.need ≤ 255) (entries_of (net_in view.now) copies.now) }
-    ensures { IsByLan by_lan.new (entries_of (net_in view.now) copies.now) }
+    ensures { AreEntriesByLan by_lan.new (entries_of (net_in view.now) copies.now) }
 {
     for copy in copies {
-        let entry = entry_of(view, by_lan, copy);
+        let entry = entry_of_copy(view, by_lan, copy);
         let _free = by_lan.put_first(entry.lan, entry);
     }
 }
@@ -89,12 +89,12 @@ fn put_entries(view: &FlowView<'_>, by_lan: &mut PerLan<Reached>, copies: &[Carr
 pub(crate) fn entries_by_lan(
     alloc: Global,
     view: &FlowView<'_>,
-    copies: &[Carried],
+    copies: &[CarriedCopy],
 ) -> Result<PerLan<Reached>, Memory>
     requires lans { All (λ c. c.lan < length view.now.domain.topology.lans) copies.now }
     requires needs { All (λ e. e.need ≤ 255) (entries_of (net_in view.now) copies.now) }
     ensures { IfOk result (λ by_lan.
-        IsByLan by_lan (entries_of (net_in view.now) copies.now)) }
+        AreEntriesByLan by_lan (entries_of (net_in view.now) copies.now)) }
 {
     let mut by_lan = PerLan::new(alloc, view.lans())?;
     put_entries(view, &mut by_lan, copies);
@@ -102,7 +102,7 @@ pub(crate) fn entries_by_lan(
 }
 
 /// The entries, by ascending numbers of their LANs. Room is made for so many at once.
-pub(crate) fn listed(
+pub(crate) fn entries_in_lan_order(
     alloc: Global,
     by_lan: &PerLan<Reached>,
     count: usize,

@@ -4,15 +4,15 @@ ghost use Rattle.std.specs.Prelude.{◌≡◌, ◌↔◌, ◌<◌, All, IfNone, 
 ghost use Rattle.std.specs.Prelude.{length, map};
 ghost use Rattle.std.specs.List.Sorted.{IsStrictlyIncreasing};
 ghost use Rattle.mc_theory.specs.Certificates.{IsAccepted, IsReordering, IsRight};
-ghost use Rattle.mc_theory.specs.Made.{entries_of};
+ghost use Rattle.mc_theory.specs.CertificateOfCopies.{entries_of};
 ghost use Rattle.mc_forward.specs.Domains.{net_of, ttl_of};
-ghost use Rattle.mc_forward.specs.Journeys.{net_in};
-ghost use Rattle.mc_cert.specs.Certificate.{IsEntryOf, IsList};
+ghost use Rattle.mc_forward.specs.FlightsInDomain.{net_in};
+ghost use Rattle.mc_cert.specs.Certificate.{IsEntryOf, IsWritableTree};
 ghost use Rattle.mc_maker.specs.Examined.{FindsFault, FindsNothing, IfCertified, IfFound};
-ghost use Rattle.mc_maker.specs.Examined.{IsOfTravel, IsTravelOfFirst, IsTtlOfFault, is_certified};
-ghost use Rattle.mc_maker.specs.Examined.{AreClean};
+ghost use Rattle.mc_maker.specs.Examined.{AreEntriesOfCleanTravel, IsFirstPickTravel, IsTtlOfFault, is_certified};
+ghost use Rattle.mc_maker.specs.Examined.{AreCleanCopies};
 
-use crate::flown::{Flown, examine_to_end};
+use crate::examined_flights::{ExaminedFlights, examine_to_end};
 use mc_cert::Reached;
 use mc_forward::Domain;
 use mc_replay::Travel;
@@ -49,11 +49,11 @@ pub fn examine(alloc: Global, domain: &Domain, flow: u32) -> Result<Examined, Me
     // of the topology,
     ensures listed { IfOk result (IfCertified (All (IsEntryOf domain.now.topology))) }
     // such as a certificate can hold,
-    ensures list { IfOk result (IfCertified IsList) }
+    ensures list { IfOk result (IfCertified IsWritableTree) }
     // and those of the copies that the travel at TTL 255 carried.
-    ensures made { IfOk result (IfCertified (IsOfTravel domain.now flow)) }
+    ensures made { IfOk result (IfCertified (AreEntriesOfCleanTravel domain.now flow)) }
     // What is found is the travel at that TTL in which the first waiting copy is handled each time,
-    ensures travel { IfOk result (IfFound (IsTravelOfFirst domain.now flow)) }
+    ensures travel { IfOk result (IfFound (IsFirstPickTravel domain.now flow)) }
     // it finds a fault,
     ensures fault { IfOk result (IfFound (λ ttl travel. FindsFault travel)) }
     // and the TTL is 255 if a fault is found there, and else the flow's.
@@ -63,12 +63,12 @@ pub fn examine(alloc: Global, domain: &Domain, flow: u32) -> Result<Examined, Me
         IsTrue (is_certified examined) ↔ IsRight (net_of domain.now flow)) }
 {
     match examine_to_end(alloc, domain, flow)? {
-        Flown::Certified(entries) => Ok(Examined::Certified(entries)),
-        Flown::AtGreatest(ended) => Ok(Examined::Found {
+        ExaminedFlights::Certified(entries) => Ok(Examined::Certified(entries)),
+        ExaminedFlights::FoundAtTtl255(ended) => Ok(Examined::Found {
             ttl: 255,
             travel: ended.travel,
         }),
-        Flown::AtLeast { least, .. } => Ok(Examined::Found {
+        ExaminedFlights::FoundAtFlowTtl { least, .. } => Ok(Examined::Found {
             ttl: domain.topology().flow(flow).ttl,
             travel: least.travel,
         }),
@@ -92,15 +92,15 @@ pub fn make(alloc: Global, domain: &Domain, flow: u32) -> Result<Option<Vec<Reac
     ensures listed { IfOk result (λ made. IfSome made (λ es.
         All (IsEntryOf domain.now.topology) es.items)) }
     // such as a certificate can hold,
-    ensures list { IfOk result (λ made. IfSome made (λ es. IsList es.items)) }
+    ensures list { IfOk result (λ made. IfSome made (λ es. IsWritableTree es.items)) }
     // and those of the copies that the travel at TTL 255 carried.
-    ensures made { IfOk result (λ made. IfSome made (λ es. IsOfTravel domain.now flow es.items)) }
+    ensures made { IfOk result (λ made. IfSome made (λ es. AreEntriesOfCleanTravel domain.now flow es.items)) }
     // There are some exactly if the flow is right,
     ensures right { IfOk result (λ made. IsSome made ↔ IsRight (net_of domain.now flow)) }
     // which is to say that the travels at TTL 255 and at the flow's both find nothing.
     ensures travels { IfOk result (λ made. (first second : Travel) →
-        IsTravelOfFirst domain.now flow 255 first →
-        IsTravelOfFirst domain.now flow (ttl_of domain.now flow) second →
+        IsFirstPickTravel domain.now flow 255 first →
+        IsFirstPickTravel domain.now flow (ttl_of domain.now flow) second →
         IsSome made ↔ (FindsNothing first × FindsNothing second)) }
 {
     let _rules = domain.topology();

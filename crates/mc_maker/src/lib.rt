@@ -4,8 +4,8 @@
 
 mod entries;
 mod examination;
-mod flown;
+mod examined_flights;
 mod served;
 
 pub use examination::{Examined, examine, make};
-pub use flown::{Flown, examine_to_end};
+pub use examined_flights::{ExaminedFlights, examine_to_end};

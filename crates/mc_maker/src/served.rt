@@ -3,8 +3,8 @@
 ghost use Rattle.std.specs.Prelude.{◌≡◌, ◌<◌, All, IsFalse, IsTrue, false, length, true};
 ghost use Rattle.mc_theory.specs.Certificates.{Entry};
 ghost use Rattle.mc_theory.specs.Lists.{In};
-ghost use Rattle.mc_maker.specs.ByLan.{serves};
-ghost use Rattle.mc_forward.specs.Journeys.{IsFlowIn, net_in};
+ghost use Rattle.mc_maker.specs.EntriesByLan.{serves};
+ghost use Rattle.mc_forward.specs.FlightsInDomain.{IsFlowOfDomain, net_in};
 
 use mc_cert::Reached;
 use mc_forward::FlowView;
@@ -21,7 +21,7 @@ fn serves(view: &FlowView<'_>, entry: &Reached) -> bool
 /// each LAN that wants the flow has an entry.
 pub(crate) fn serves_all(view: &FlowView<'_>, entries: &[Reached]) -> bool
     requires { All (λ e. e.lan < length view.now.domain.topology.lans) entries.now }
-    ensures rules { IsFlowIn view.now }
+    ensures rules { IsFlowOfDomain view.now }
     ensures each { IsTrue result → All (λ e. serves (net_in view.now) e ≡ true) entries.now }
     ensures some { IsFalse result →
         (e : Entry) × In e entries.now × (serves (net_in view.now) e ≡ false) }

@@ -6,172 +6,172 @@ use Rattle.std.proofs.Common.{append-nil}
 use Rattle.std.specs.Prelude.{slice_set, not, IsTrue, IsFalse, IsSome}
 use Rattle.std.proofs.lemmas.List.{take_more, drop_more, take-append-drop}
 use Rattle.mc_theory.specs.Flights.{Copy}
-use Rattle.mc_theory.specs.Findings.{copy_on, double}
-use Rattle.mc_forward.specs.PerLan.{held, IsFirstBy}
-use Rattle.mc_forward.proofs.FirstLemmas.{first-copy, filled-next, count-next}
+use Rattle.mc_theory.specs.Findings.{first_copy_on, first_double}
+use Rattle.mc_forward.specs.PerLan.{item_on_lan, HoldsFirstOfEachKey}
+use Rattle.mc_forward.proofs.PerLanLemmas.{first_with_key-first_copy_on, holds_first-more, length-after_put}
 
 -- ---- the first second copy, among more copies
 
 -- what was found earlier, or else later
-abbrev pub or_later : {A : Type 0} → Option A → Option A → Option A
-or_later None y = y
-or_later (Some x) y = Some x
+abbrev pub first_some : {A : Type 0} → Option A → Option A → Option A
+first_some None y = y
+first_some (Some x) y = Some x
 
-append-one : (xs : List Copy) (y : Copy) (ys : List Copy) → (xs ++ y ∷ []) ++ ys ≡ xs ++ y ∷ ys
-append-one [] y ys = refl
-append-one (x ∷ xs) y ys = ap (λ zs. x ∷ zs) (append-one xs y ys)
+append-push : (xs : List Copy) (y : Copy) (ys : List Copy) → (xs ++ y ∷ []) ++ ys ≡ xs ++ y ∷ ys
+append-push [] y ys = refl
+append-push (x ∷ xs) y ys = ap (λ zs. x ∷ zs) (append-push xs y ys)
 
-pub double-append : (earlier xs ys : List Copy) → double earlier (xs ++ ys)
-    ≡ or_later (double earlier xs) (double (earlier ++ xs) ys)
-double-append earlier [] ys = ap (λ es. double es ys) (sym (append-nil earlier))
-double-append earlier (x ∷ xs) ys = by (is_some (copy_on earlier x.lan))
+pub double-append : (earlier xs ys : List Copy) → first_double earlier (xs ++ ys)
+    ≡ first_some (first_double earlier xs) (first_double (earlier ++ xs) ys)
+double-append earlier [] ys = ap (λ es. first_double es ys) (sym (append-nil earlier))
+double-append earlier (x ∷ xs) ys = by (is_some (first_copy_on earlier x.lan))
     (double-append (earlier ++ x ∷ []) xs ys)
   where
-    by : (b : Bool) → double (earlier ++ x ∷ []) (xs ++ ys) ≡ or_later
-        (double (earlier ++ x ∷ []) xs) (double ((earlier ++ x ∷ []) ++ xs) ys)
-        → cond b (Some x) (double (earlier ++ x ∷ []) (xs ++ ys))
-        ≡ or_later (cond b (Some x) (double (earlier ++ x ∷ []) xs))
-        (double (earlier ++ x ∷ xs) ys)
+    by : (b : Bool) → first_double (earlier ++ x ∷ []) (xs ++ ys) ≡ first_some
+        (first_double (earlier ++ x ∷ []) xs) (first_double ((earlier ++ x ∷ []) ++ xs) ys)
+        → cond b (Some x) (first_double (earlier ++ x ∷ []) (xs ++ ys))
+        ≡ first_some (cond b (Some x) (first_double (earlier ++ x ∷ []) xs))
+        (first_double (earlier ++ x ∷ xs) ys)
     by true rest = refl
-    by false rest = rest ∙ ap (λ es. or_later (double (earlier ++ x ∷ []) xs) (double es ys))
-        (append-one earlier x xs)
+    by false rest = rest ∙ ap (λ es. first_some (first_double (earlier ++ x ∷ []) xs) (first_double es ys))
+        (append-push earlier x xs)
 
 -- ---- copy by copy
 
 -- the first second copy so far, after one copy more, which is a second one or not
-abbrev pub second_so_far : Option Copy → Bool → Copy → Option Copy
-second_so_far (Some d) again c = Some d
-second_so_far None true c = Some c
-second_so_far None false c = None
+abbrev pub second_copy_so_far : Option Copy → Bool → Copy → Option Copy
+second_copy_so_far (Some d) is_second_copy c = Some d
+second_copy_so_far None true c = Some c
+second_copy_so_far None false c = None
 
-pub so-far-new : (o : Option Copy) (again : Bool) (c : Copy) → again ≡ true → is_some o ≡ false
-    → second_so_far o again c ≡ Some c
-so-far-new None true c e none = refl
-so-far-new None false c e none = absurd cc
-so-far-new (Some d) again c e none = absurd cc
+pub second_copy_so_far-found_now : (o : Option Copy) (is_second_copy : Bool) (c : Copy) → is_second_copy ≡ true → is_some o ≡ false
+    → second_copy_so_far o is_second_copy c ≡ Some c
+second_copy_so_far-found_now None true c e none = refl
+second_copy_so_far-found_now None false c e none = absurd cc
+second_copy_so_far-found_now (Some d) is_second_copy c e none = absurd cc
 
-pub so-far-known : (o : Option Copy) (again : Bool) (c : Copy) → is_some o ≡ true
-    → second_so_far o again c ≡ o
-so-far-known None again c some = absurd cc
-so-far-known (Some d) again c some = refl
+pub second_copy_so_far-found_before : (o : Option Copy) (is_second_copy : Bool) (c : Copy) → is_some o ≡ true
+    → second_copy_so_far o is_second_copy c ≡ o
+second_copy_so_far-found_before None is_second_copy c some = absurd cc
+second_copy_so_far-found_before (Some d) is_second_copy c some = refl
 
-pub so-far-first : (o : Option Copy) (again : Bool) (c : Copy) → again ≡ false
-    → second_so_far o again c ≡ o
-so-far-first None true c e = absurd cc
-so-far-first None false c e = refl
-so-far-first (Some d) again c e = refl
+pub second_copy_so_far-first_on_lan : (o : Option Copy) (is_second_copy : Bool) (c : Copy) → is_second_copy ≡ false
+    → second_copy_so_far o is_second_copy c ≡ o
+second_copy_so_far-first_on_lan None true c e = absurd cc
+second_copy_so_far-first_on_lan None false c e = refl
+second_copy_so_far-first_on_lan (Some d) is_second_copy c e = refl
 
 -- the first k copies were taken in, and the first second copy among them is this
-pub record Taken (firsts old : List (Option Copy)) (cs : List Copy) (k : ℕ)
+pub record FirstCopiesSoFar (firsts old : List (Option Copy)) (cs : List Copy) (k : ℕ)
     (found : Option Copy) : Type 0 where
   pub count : length firsts ≡ length old
-  pub filled : IsFirstBy (λ (c : Copy). c.lan) firsts (take k cs)
-  pub second : or_later found (double (take k cs) (drop k cs)) ≡ double [] cs
+  pub filled : HoldsFirstOfEachKey (λ (c : Copy). c.lan) firsts (take k cs)
+  pub second : first_some found (first_double (take k cs) (drop k cs)) ≡ first_double [] cs
 
-pub taken-start : (firsts : List (Option Copy)) (cs : List Copy) (k : ℕ)
-    → IsFirstBy (λ (c : Copy). c.lan) firsts (take k cs) → double [] (take k cs) ≡ None → Taken firsts firsts cs k None
-taken-start firsts cs k filled once = record {
+pub first_copies_so_far-none : (firsts : List (Option Copy)) (cs : List Copy) (k : ℕ)
+    → HoldsFirstOfEachKey (λ (c : Copy). c.lan) firsts (take k cs) → first_double [] (take k cs) ≡ None → FirstCopiesSoFar firsts firsts cs k None
+first_copies_so_far-none firsts cs k filled once = record {
   count = refl;
   filled = filled;
-  second = sym (ap (double []) (sym (take-append-drop k cs))
+  second = sym (ap (first_double []) (sym (take-append-drop k cs))
       ∙ (double-append [] (take k cs) (drop k cs)
-      ∙ ap (λ o. or_later o (double (take k cs) (drop k cs))) once));
+      ∙ ap (λ o. first_some o (first_double (take k cs) (drop k cs))) once));
 }
 
-second-next : (second : Option Copy) (earlier cs : List Copy) (c : Copy) (b : Bool)
-    → is_some (copy_on earlier c.lan) ≡ b
-    → or_later (second_so_far second b c) (double (earlier ++ c ∷ []) cs)
-    ≡ or_later second (double earlier (c ∷ cs))
-second-next (Some d) earlier cs c b q = refl
-second-next None earlier cs c true q =
-    sym (ap (λ (x : Bool). cond x (Some c) (double (earlier ++ c ∷ []) cs)) q)
-second-next None earlier cs c false q =
-    sym (ap (λ (x : Bool). cond x (Some c) (double (earlier ++ c ∷ []) cs)) q)
+second_copy_so_far-more : (second : Option Copy) (earlier cs : List Copy) (c : Copy) (b : Bool)
+    → is_some (first_copy_on earlier c.lan) ≡ b
+    → first_some (second_copy_so_far second b c) (first_double (earlier ++ c ∷ []) cs)
+    ≡ first_some second (first_double earlier (c ∷ cs))
+second_copy_so_far-more (Some d) earlier cs c b q = refl
+second_copy_so_far-more None earlier cs c true q =
+    sym (ap (λ (x : Bool). cond x (Some c) (first_double (earlier ++ c ∷ []) cs)) q)
+second_copy_so_far-more None earlier cs c false q =
+    sym (ap (λ (x : Bool). cond x (Some c) (first_double (earlier ++ c ∷ []) cs)) q)
 
 -- whether the copy is a second one
-again : (o : Option Copy) (put : Bool) → (IsTrue put → o ≡ None) → (IsFalse put → IsSome o)
+is_second_copy : (o : Option Copy) (put : Bool) → (IsTrue put → o ≡ None) → (IsFalse put → IsSome o)
     → is_some o ≡ not put
-again o true free earlier = ap is_some (free refl)
-again o false free earlier = earlier refl
+is_second_copy o true free earlier = ap is_some (free refl)
+is_second_copy o false free earlier = earlier refl
 
-pub taken-next : (firsts firsts' old : List (Option Copy)) (cs : List Copy) (k : ℕ)
+pub first_copies_so_far-more : (firsts firsts' old : List (Option Copy)) (cs : List Copy) (k : ℕ)
     (second second' : Option Copy) (c : Copy) (put : Bool)
-    → Taken firsts old cs k second → k < length cs → c ≡ get_or cs k c → c.lan < length old
-    → (IsTrue put → held firsts c.lan ≡ None)
+    → FirstCopiesSoFar firsts old cs k second → k < length cs → c ≡ get_or cs k c → c.lan < length old
+    → (IsTrue put → item_on_lan firsts c.lan ≡ None)
     → (IsTrue put → firsts' ≡ slice_set firsts c.lan (Some c))
-    → (IsFalse put → IsSome (held firsts c.lan)) → (IsFalse put → firsts' ≡ firsts)
-    → second' ≡ second_so_far second (not put) c → Taken firsts' old cs (k + 1) second'
-taken-next firsts firsts' old cs k second second' c put t lt at within free is earlier kept found =
+    → (IsFalse put → IsSome (item_on_lan firsts c.lan)) → (IsFalse put → firsts' ≡ firsts)
+    → second' ≡ second_copy_so_far second (not put) c → FirstCopiesSoFar firsts' old cs (k + 1) second'
+first_copies_so_far-more firsts firsts' old cs k second second' c put t lt at within free is earlier kept found =
     let more : take (k + 1) cs ≡ take k cs ++ c ∷ [] = take_more cs k c lt
     ∙ ap (λ x. take k cs ++ x ∷ []) (sym at) in
     let rest : drop k cs ≡ c ∷ drop (k + 1) cs = drop_more cs k c lt
     ∙ ap (λ x. x ∷ drop (k + 1) cs) (sym at) in
     let within_now : c.lan < length firsts = omega (arith, t.count, within) in
-    let told : is_some (copy_on (take k cs) c.lan) ≡ not put =
-    ap is_some (sym (t.filled c.lan ∙ first-copy (take k cs) c.lan))
-    ∙ again (held firsts c.lan) put free earlier in
+    let has_copy_on_lan : is_some (first_copy_on (take k cs) c.lan) ≡ not put =
+    ap is_some (sym (t.filled c.lan ∙ first_with_key-first_copy_on (take k cs) c.lan))
+    ∙ is_second_copy (item_on_lan firsts c.lan) put free earlier in
     record {
-      count = count-next firsts firsts' c.lan c put is kept ∙ t.count;
-      filled = subst (IsFirstBy (λ (x : Copy). x.lan) firsts') (sym more)
-          (filled-next (λ (x : Copy). x.lan) firsts firsts' (take k cs) c put within_now t.filled
+      count = length-after_put firsts firsts' c.lan c put is kept ∙ t.count;
+      filled = subst (HoldsFirstOfEachKey (λ (x : Copy). x.lan) firsts') (sym more)
+          (holds_first-more (λ (x : Copy). x.lan) firsts firsts' (take k cs) c put within_now t.filled
           free is earlier kept);
-      second = ap (λ xs. or_later second' (double xs (drop (k + 1) cs))) more
-          ∙ (ap (λ o. or_later o (double (take k cs ++ c ∷ []) (drop (k + 1) cs))) found
-          ∙ (second-next second (take k cs) (drop (k + 1) cs) c (not put) told
-          ∙ (ap (λ xs. or_later second (double (take k cs) xs)) (sym rest) ∙ t.second)));
+      second = ap (λ xs. first_some second' (first_double xs (drop (k + 1) cs))) more
+          ∙ (ap (λ o. first_some o (first_double (take k cs ++ c ∷ []) (drop (k + 1) cs))) found
+          ∙ (second_copy_so_far-more second (take k cs) (drop (k + 1) cs) c (not put) has_copy_on_lan
+          ∙ (ap (λ xs. first_some second (first_double (take k cs) xs)) (sym rest) ∙ t.second)));
     }
 
-or-none : (o : Option Copy) → or_later o None ≡ o
-or-none None = refl
-or-none (Some c) = refl
+first_some-none : (o : Option Copy) → first_some o None ≡ o
+first_some-none None = refl
+first_some-none (Some c) = refl
 
-whole-list : {A : Type 0} (xs : List A) (k : ℕ) → length xs ≤ k → take k xs ≡ xs
-whole-list [] zero le = refl
-whole-list [] (suc k) le = refl
-whole-list (x ∷ xs) zero le = absurd (omega (arith, le))
-whole-list (x ∷ xs) (suc k) le = ap (λ ys. x ∷ ys) (whole-list xs k (omega (arith, le)))
+take-length_le : {A : Type 0} (xs : List A) (k : ℕ) → length xs ≤ k → take k xs ≡ xs
+take-length_le [] zero le = refl
+take-length_le [] (suc k) le = refl
+take-length_le (x ∷ xs) zero le = absurd (omega (arith, le))
+take-length_le (x ∷ xs) (suc k) le = ap (λ ys. x ∷ ys) (take-length_le xs k (omega (arith, le)))
 
-no-rest : {A : Type 0} (xs : List A) (k : ℕ) → length xs ≤ k → drop k xs ≡ []
-no-rest [] zero le = refl
-no-rest [] (suc k) le = refl
-no-rest (x ∷ xs) zero le = absurd (omega (arith, le))
-no-rest (x ∷ xs) (suc k) le = no-rest xs k (omega (arith, le))
+drop-length_le : {A : Type 0} (xs : List A) (k : ℕ) → length xs ≤ k → drop k xs ≡ []
+drop-length_le [] zero le = refl
+drop-length_le [] (suc k) le = refl
+drop-length_le (x ∷ xs) zero le = absurd (omega (arith, le))
+drop-length_le (x ∷ xs) (suc k) le = drop-length_le xs k (omega (arith, le))
 
-pub taken-second : (firsts old : List (Option Copy)) (cs : List Copy) (k : ℕ) (second : Option Copy)
-    → Taken firsts old cs k second → length cs ≤ k → second ≡ double [] cs
-taken-second firsts old cs k second t le = sym (or-none second)
-    ∙ (ap (λ xs. or_later second (double (take k cs) xs)) (sym (no-rest cs k le)) ∙ t.second)
+pub second_copy_so_far-all : (firsts old : List (Option Copy)) (cs : List Copy) (k : ℕ) (second : Option Copy)
+    → FirstCopiesSoFar firsts old cs k second → length cs ≤ k → second ≡ first_double [] cs
+second_copy_so_far-all firsts old cs k second t le = sym (first_some-none second)
+    ∙ (ap (λ xs. first_some second (first_double (take k cs) xs)) (sym (drop-length_le cs k le)) ∙ t.second)
 
-pub taken-filled : (firsts old : List (Option Copy)) (cs : List Copy) (k : ℕ) (second : Option Copy)
-    → Taken firsts old cs k second → length cs ≤ k → IsFirstBy (λ (c : Copy). c.lan) firsts cs
-taken-filled firsts old cs k second t le = subst (IsFirstBy (λ (c : Copy). c.lan) firsts) (whole-list cs k le) t.filled
+pub first_copies_so_far-all : (firsts old : List (Option Copy)) (cs : List Copy) (k : ℕ) (second : Option Copy)
+    → FirstCopiesSoFar firsts old cs k second → length cs ≤ k → HoldsFirstOfEachKey (λ (c : Copy). c.lan) firsts cs
+first_copies_so_far-all firsts old cs k second t le = subst (HoldsFirstOfEachKey (λ (c : Copy). c.lan) firsts) (take-length_le cs k le) t.filled
 
 -- ---- the copies from a place on
 
-length-drop' : (cs : List Copy) (k : ℕ) → length (drop k cs) ≡ length cs - k
-length-drop' cs zero = omega arith
-length-drop' [] (suc k) = omega arith
-length-drop' (c ∷ cs) (suc k) = let ih = length-drop' cs k in omega (arith, ih)
+length-drop_copies : (cs : List Copy) (k : ℕ) → length (drop k cs) ≡ length cs - k
+length-drop_copies cs zero = omega arith
+length-drop_copies [] (suc k) = omega arith
+length-drop_copies (c ∷ cs) (suc k) = let ih = length-drop_copies cs k in omega (arith, ih)
 
-pub from-place : (cs : List Copy) (k : ℕ) → take (length cs - k) (drop k cs) ≡ drop k cs
-from-place cs k = whole-list (drop k cs) (length cs - k) (omega (arith, length-drop' cs k))
+pub take-drop_rest : (cs : List Copy) (k : ℕ) → take (length cs - k) (drop k cs) ≡ drop k cs
+take-drop_rest cs k = take-length_le (drop k cs) (length cs - k) (omega (arith, length-drop_copies cs k))
 
-get-from : (cs : List Copy) (k i : ℕ) (d : Copy) → get_or (drop k cs) i d ≡ get_or cs (k + i) d
-get-from cs zero i d = let e : i ≡ zero + i = omega arith in ap (λ j. get_or cs j d) e
-get-from [] (suc k) i d = refl
-get-from (c ∷ cs) (suc k) i d = let e : suc (k + i) ≡ suc k + i = omega arith in get-from cs k i d
+get_or-drop_copies : (cs : List Copy) (k i : ℕ) (d : Copy) → get_or (drop k cs) i d ≡ get_or cs (k + i) d
+get_or-drop_copies cs zero i d = let e : i ≡ zero + i = omega arith in ap (λ j. get_or cs j d) e
+get_or-drop_copies [] (suc k) i d = refl
+get_or-drop_copies (c ∷ cs) (suc k) i d = let e : suc (k + i) ≡ suc k + i = omega arith in get_or-drop_copies cs k i d
     ∙ ap (λ j. get_or (c ∷ cs) j d) e
 
 -- an item of those from place k on is one of all
-pub item-from : (cs : List Copy) (k i : ℕ) (c : Copy)
+pub get_or-take_drop : (cs : List Copy) (k i : ℕ) (c : Copy)
     → i < length (take (length cs - k) (drop k cs))
     → c ≡ get_or (take (length cs - k) (drop k cs)) i c
     → (k + i < length cs) × (c ≡ get_or cs (k + i) c)
-item-from cs k i c lt at = (
-  (let e = ap length (from-place cs k) in omega (arith, lt, e, length-drop' cs k)),
-  at ∙ (ap (λ (xs : List Copy). get_or xs i c) (from-place cs k) ∙ get-from cs k i c),
+get_or-take_drop cs k i c lt at = (
+  (let e = ap length (take-drop_rest cs k) in omega (arith, lt, e, length-drop_copies cs k)),
+  at ∙ (ap (λ (xs : List Copy). get_or xs i c) (take-drop_rest cs k) ∙ get_or-drop_copies cs k i c),
 )
 
-pub end-from : (cs : List Copy) (k i : ℕ) → length (take (length cs - k) (drop k cs)) ≤ i
+pub length-take_drop_end : (cs : List Copy) (k i : ℕ) → length (take (length cs - k) (drop k cs)) ≤ i
     → length cs ≤ k + i
-end-from cs k i le = let e = ap length (from-place cs k) in omega (arith, le, e, length-drop' cs k)
+length-take_drop_end cs k i le = let e = ap length (take-drop_rest cs k) in omega (arith, le, e, length-drop_copies cs k)

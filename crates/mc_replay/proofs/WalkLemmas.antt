@@ -5,29 +5,29 @@ use Rattle.std.specs.Prelude.{option_and_then}
 use Rattle.std.proofs.lemmas.List.{drop_more}
 use Rattle.mc_theory.specs.Nets.{Net, Interface}
 use Rattle.mc_theory.specs.Flights.{Copy}
-use Rattle.mc_theory.specs.Findings.{copy_on, from_lan, meets, or_then, sender_on}
+use Rattle.mc_theory.specs.Findings.{first_copy_on, from_lan, walk_visits, is_lan_or, sender_on}
 
 -- who sent a LAN's first copy
-pub sender-first : (cs : List Copy) (l : ℕ) → option_and_then (λ (c : Copy). c.sender)
-    (copy_on cs l) ≡ sender_on cs l
-sender-first [] l = refl
-sender-first (c ∷ cs) l = by (c.lan == l) (sender-first cs l)
+pub sender-copy_on : (cs : List Copy) (l : ℕ) → option_and_then (λ (c : Copy). c.sender)
+    (first_copy_on cs l) ≡ sender_on cs l
+sender-copy_on [] l = refl
+sender-copy_on (c ∷ cs) l = by (c.lan == l) (sender-copy_on cs l)
   where
-    by : (b : Bool) → option_and_then (λ (x : Copy). x.sender) (copy_on cs l) ≡ sender_on cs l
-        → option_and_then (λ (x : Copy). x.sender) (cond b (Some c) (copy_on cs l))
+    by : (b : Bool) → option_and_then (λ (x : Copy). x.sender) (first_copy_on cs l) ≡ sender_on cs l
+        → option_and_then (λ (x : Copy). x.sender) (cond b (Some c) (first_copy_on cs l))
         ≡ cond b c.sender (sender_on cs l)
     by true rest = refl
     by false rest = rest
 
 -- the walk goes on from a LAN that isn't the one that is looked for
-pub meets-turn : (n : Net) (cs : List Copy) (l k : ℕ) (x : Option Interface) (p : ℕ)
-    → from_lan n x ≡ Some p → (p == l) ≡ false → meets n cs l (suc k) x
-    ≡ meets n cs l k (sender_on cs p)
-meets-turn n cs l k x p from other =
-    ap (or_then l (λ q. meets n cs l k (sender_on cs q))) from
-    ∙ ap (λ (b : Bool). b || meets n cs l k (sender_on cs p)) other
+pub meets-next_lan : (n : Net) (cs : List Copy) (l k : ℕ) (x : Option Interface) (p : ℕ)
+    → from_lan n x ≡ Some p → (p == l) ≡ false → walk_visits n cs l (suc k) x
+    ≡ walk_visits n cs l k (sender_on cs p)
+meets-next_lan n cs l k x p from other =
+    ap (is_lan_or l (λ q. walk_visits n cs l k (sender_on cs q))) from
+    ∙ ap (λ (b : Bool). b || walk_visits n cs l k (sender_on cs p)) other
 
 -- one LAN fewer is left to walk over
-pub one-fewer : (cs : List Copy) (i : ℕ) (c : Copy) → i < length cs
+pub length-drop_one_more : (cs : List Copy) (i : ℕ) (c : Copy) → i < length cs
     → length (drop i cs) ≡ suc (length (drop (i + 1) cs))
-one-fewer cs i c lt = ap length (drop_more cs i c lt)
+length-drop_one_more cs i c lt = ap length (drop_more cs i c lt)

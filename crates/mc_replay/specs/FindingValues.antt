@@ -13,6 +13,6 @@ finding_value (Stray router vif) = FindingValue.Stray router vif
 finding_value (Missed lan) = FindingValue.Missed lan
 
 -- the finding that was made, if one was
-abbrev pub finding_seen : Option Finding → Option FindingValue
-finding_seen None = None
-finding_seen (Some finding) = Some (finding_value finding)
+abbrev pub optional_finding_value : Option Finding → Option FindingValue
+optional_finding_value None = None
+optional_finding_value (Some finding) = Some (finding_value finding)

@@ -5,4 +5,4 @@ pub use Rattle.mc_theory.specs.Nets
 pub use Rattle.mc_theory.specs.Flights
 pub use Rattle.mc_theory.specs.Events
 pub use Rattle.mc_theory.specs.Findings
-pub use Rattle.mc_theory.specs.Shown
+pub use Rattle.mc_theory.specs.FindingMeaning

@@ -1,12 +1,12 @@
 -- What a travel says: the run of a picker's choices, up to the first flight that shows something.
 use Rattle.std.specs.Prelude.{◌≡◌, ◌≢◌, ℕ, ◌≤◌, List, length}
-use Rattle.mc_theory.specs.Nets.{Net, placed_vifs}
+use Rattle.mc_theory.specs.Nets.{Net, placed_interfaces}
 use Rattle.mc_theory.specs.Flights.{Flight, run, start}
 use Rattle.mc_theory.specs.Certificates.{IsRight}
 use Rattle.mc_theory.specs.Events.{Event, events}
-use Rattle.mc_theory.specs.Findings.{Finding, Choices, IsTravel, WalksEnd, handles}
+use Rattle.mc_theory.specs.Findings.{Finding, Choices, IsTravel, AllWalksEnd, handles}
 use Rattle.mc_theory.specs.Findings.Finding.{Clean}
-use Rattle.mc_theory.specs.Shown.{Shows}
+use Rattle.mc_theory.specs.FindingMeaning.{Shows}
 use Rattle.mc_forward.specs.Domains.{DomainValue, net_of}
 use Rattle.mc_replay.specs.declared.travel.Travel.{Travel}
 use Rattle.mc_replay.specs.FindingValues.{finding_value}
@@ -29,7 +29,7 @@ replay_of d flow ttl choices = record {
 
 -- From flight f on, these events are those of the run of the picker's choices, which ends with
 -- flight g. That shows x, and no flight before it shows anything.
-pub record Goes (n : Net) (lans : ℕ) (choices : Choices) (f : Flight) (es : List Event) (g : Flight)
+pub record IsTravelTo (n : Net) (lans : ℕ) (choices : Choices) (f : Flight) (es : List Event) (g : Flight)
     (x : Finding) : Type 0 where
   pub picks : List ℕ
   pub travel : IsTravel n lans choices.numbers choices.last picks f x
@@ -39,23 +39,23 @@ pub record Goes (n : Net) (lans : ℕ) (choices : Choices) (f : Flight) (es : Li
 -- The travel's events are those of the run of the picker's choices, up to flight g, which is the
 -- first to show something: the travel's finding.
 abbrev pub IsRunTo : Replay → Travel → Flight → Type 0
-IsRunTo r t g = Goes r.net r.lans r.choices (start r.net r.ttl) t.events.items g
+IsRunTo r t g = IsTravelTo r.net r.lans r.choices (start r.net r.ttl) t.events.items g
     (finding_value t.finding)
 
 abbrev pub IsRunOfChoices : Replay → Travel → Type 0
 IsRunOfChoices r t = (g : Flight) × IsRunTo r t g
 
 -- there are at most as many events as placed interfaces
-abbrev pub HasShortTravel : Replay → Travel → Type 0
-HasShortTravel r t = length t.events.items ≤ length (placed_vifs r.net)
+abbrev pub EventsAtMostPlacedVifs : Replay → Travel → Type 0
+EventsAtMostPlacedVifs r t = length t.events.items ≤ length (placed_interfaces r.net)
 
 -- the flight that the run ends with shows what the finding says
-abbrev pub ShowsItsFinding : Replay → Travel → Type 0
-ShowsItsFinding r t = (g : Flight) × IsRunTo r t g × Shows r.net g (finding_value t.finding)
+abbrev pub EndShowsFinding : Replay → Travel → Type 0
+EndShowsFinding r t = (g : Flight) × IsRunTo r t g × Shows r.net g (finding_value t.finding)
 
 -- in that flight the walk back from each copy ends at the source's copy
 abbrev pub WalksEndAtSource : Replay → Travel → Type 0
-WalksEndAtSource r t = (g : Flight) × IsRunTo r t g × WalksEnd r.net g.carried
+WalksEndAtSource r t = (g : Flight) × IsRunTo r t g × AllWalksEnd r.net g.carried
 
 -- another finding than `Clean`, at a TTL from the flow's on, shows that the flow isn't right
 abbrev pub ShowsWrongFlow : Replay → Travel → Type 0

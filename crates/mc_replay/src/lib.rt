@@ -3,8 +3,8 @@
 #![tactic(auto)]
 
 mod finding;
-mod firsts;
-mod found;
+mod first_copies;
+mod flight_finding;
 mod picker;
 mod shown;
 mod travel;
@@ -12,4 +12,4 @@ mod travel;
 pub use finding::Finding;
 pub use picker::{First, Last, Numbers, Picker};
 pub use shown::{ShownEvent, ShownFinding, shown_event};
-pub use travel::{Ended, Travel, replay, replay_to_end};
+pub use travel::{FinishedTravel, Travel, replay, replay_to_end};

@@ -5,7 +5,7 @@ ghost use Rattle.mc_replay.specs.TravelText.{event_text, finding_text, outcome_t
 
 use crate::finding::Finding;
 use mc_forward::{Event, Outcome};
-use mc_topology::{AtLan, AtVif, Topology};
+use mc_topology::{WordAtLan, WordAtVif, Topology};
 use std::fmt;
 
 /// An outcome as it is written, as `sent 1 strayed 0`.
@@ -15,9 +15,9 @@ struct ShownOutcome {
 }
 
 impl fmt::Display for ShownOutcome {
-    ghost use Rattle.mc_forward.specs.Outcomes.{outcome_seen};
+    ghost use Rattle.mc_forward.specs.OutcomeValues.{outcome_value};
 
-    ghost output = { λ shown. Some (outcome_text (outcome_seen shown.outcome)) };
+    ghost output = { λ shown. Some (outcome_text (outcome_value shown.outcome)) };
 
     fn fmt<W: fmt::Write>(&self, f: &mut fmt::Formatter<W>) -> fmt::Result {
         match self.outcome {
@@ -75,10 +75,10 @@ impl<'t> fmt::Display for ShownFinding<'t> {
         let topology = self.topology;
         match self.finding {
             Finding::Clean => f.write_str("Clean"),
-            Finding::Duplicate(lan) => AtLan::new("Duplicate", topology, lan).fmt(f),
-            Finding::Loop(lan) => AtLan::new("Loop", topology, lan).fmt(f),
-            Finding::Stray(router, vif) => AtVif::new("Stray", topology, router, vif).fmt(f),
-            Finding::Missed(lan) => AtLan::new("Missed", topology, lan).fmt(f),
+            Finding::Duplicate(lan) => WordAtLan::new("Duplicate", topology, lan).fmt(f),
+            Finding::Loop(lan) => WordAtLan::new("Loop", topology, lan).fmt(f),
+            Finding::Stray(router, vif) => WordAtVif::new("Stray", topology, router, vif).fmt(f),
+            Finding::Missed(lan) => WordAtLan::new("Missed", topology, lan).fmt(f),
         }
     }
 }

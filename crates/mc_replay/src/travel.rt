@@ -2,19 +2,19 @@
 
 ghost use Rattle.std.specs.Prelude.{◌≡◌, ℕ, ◌<◌, ◌≤◌, IfOk, [], length};
 ghost use Rattle.mc_theory.specs.Flights.{start};
-ghost use Rattle.mc_theory.specs.Nets.{placed_vifs};
+ghost use Rattle.mc_theory.specs.Nets.{placed_interfaces};
 ghost use Rattle.mc_forward.specs.Domains.{net_of};
-ghost use Rattle.mc_forward.specs.PerLan.{IsFirstBy};
+ghost use Rattle.mc_forward.specs.PerLan.{HoldsFirstOfEachKey};
 ghost use Rattle.mc_replay.specs.FindingValues.{finding_value};
-ghost use Rattle.mc_replay.specs.Travels.{Goes, HasShortTravel, IsRunOfChoices, IsRunTo};
-ghost use Rattle.mc_replay.specs.Travels.{ShowsItsFinding, ShowsWrongFlow, WalksEndAtSource};
+ghost use Rattle.mc_replay.specs.Travels.{IsTravelTo, EventsAtMostPlacedVifs, IsRunOfChoices, IsRunTo};
+ghost use Rattle.mc_replay.specs.Travels.{EndShowsFinding, ShowsWrongFlow, WalksEndAtSource};
 ghost use Rattle.mc_replay.specs.Travels.{replay_of};
 
 use crate::finding::Finding;
-use crate::firsts::take_in;
-use crate::found::finding_of;
+use crate::first_copies::record_first_copies;
+use crate::flight_finding::finding_of;
 use crate::picker::Picker;
-use mc_forward::{Carried, Domain, Event, Flight, FlowView, PerLan};
+use mc_forward::{CarriedCopy, Domain, Event, Flight, FlowView, PerLan};
 use mc_text::Memory;
 use std::alloc::Global;
 
@@ -30,7 +30,7 @@ pub struct Travel {
 
 /// A travel with the flight that it ends with.
 #[derive(Drop)]
-pub struct Ended<'d> {
+pub struct FinishedTravel<'d> {
     /// The travel.
     pub travel: Travel,
     /// The flight after its last event.
@@ -40,10 +40,10 @@ pub struct Ended<'d> {
 /// Has the copies of a flight handled as the picker chooses, up to the first flight that shows
 /// something, and tells what that shows. The handlings go into `events`, and the first copy of each
 /// LAN into `firsts`.
-fn travel_on<'d, P: Picker>(
+fn travel_to_finding<'d, P: Picker>(
     view: &FlowView<'d>,
     flight: &mut Flight<'d>,
-    firsts: &mut PerLan<Carried>,
+    firsts: &mut PerLan<CarriedCopy>,
     events: &mut Vec<Event>,
     picker: &mut P,
 ) -> Result<Finding, Memory>
@@ -52,21 +52,21 @@ fn travel_on<'d, P: Picker>(
     requires start { (ttl : ℕ) × (flight.old.flight
         ≡ start (net_of view.now.domain view.now.flow) ttl) }
     requires count { length firsts.old ≡ length view.now.domain.topology.lans }
-    requires firsts { IsFirstBy (λ c. c.lan) firsts.old [] }
+    requires firsts { HoldsFirstOfEachKey (λ c. c.lan) firsts.old [] }
     requires events { events.old.items ≡ [] }
     ensures domain { IfOk result (λ _. flight.new.domain ≡ view.now.domain) }
     ensures flow { IfOk result (λ _. flight.new.flow ≡ view.now.flow) }
-    ensures run { IfOk result (λ finding. Goes
+    ensures run { IfOk result (λ finding. IsTravelTo
         (net_of view.now.domain view.now.flow)
         (length view.now.domain.topology.lans) (P.choices picker.old) flight.old.flight
         events.new.items flight.new.flight (finding_value finding)) }
     ensures short { IfOk result (λ _. length events.new.items
-        ≤ length (placed_vifs (net_of view.now.domain view.now.flow))) }
+        ≤ length (placed_interfaces (net_of view.now.domain view.now.flow))) }
 {
     let mut seen = 0;
     'travel: loop {
         let copies = flight.copies();
-        let second = take_in(firsts, copies, seen);
+        let second = record_first_copies(firsts, copies, seen);
         seen = copies.len();
         if let Some(finding) = finding_of(view, flight, firsts, second) {
             return Ok(finding);
@@ -88,7 +88,7 @@ pub fn replay_to_end<'d, P: Picker>(
     flow: u32,
     ttl: u8,
     picker: &mut P,
-) -> Result<Ended<'d>, Memory>
+) -> Result<FinishedTravel<'d>, Memory>
     requires flow { flow < length domain.now.topology.flows }
     requires ttl { 0 < ttl }
     // The flight is one of the domain's flow,
@@ -99,16 +99,16 @@ pub fn replay_to_end<'d, P: Picker>(
         (replay_of domain.now flow ttl (P.choices picker.old)) ended.travel
         ended.flight.flight) }
     // It has at most as many events as there are placed interfaces.
-    ensures short { IfOk result (λ ended. HasShortTravel
+    ensures short { IfOk result (λ ended. EventsAtMostPlacedVifs
         (replay_of domain.now flow ttl (P.choices picker.old)) ended.travel) }
 {
     let view = FlowView::new(domain, flow);
     let mut firsts = PerLan::new(alloc, view.lans())?;
     let mut flight = Flight::start(alloc, domain, flow, ttl)?;
     let mut events = Vec::with_capacity(alloc, view.routers() as usize)?;
-    let finding = travel_on(&view, &mut flight, &mut firsts, &mut events, picker)?;
+    let finding = travel_to_finding(&view, &mut flight, &mut firsts, &mut events, picker)?;
     let travel = Travel { events, finding };
-    Ok(Ended { travel, flight })
+    Ok(FinishedTravel { travel, flight })
 }
 
 /// The travel of a packet of a flow with this time to live, 1 to 255, whose copies are handled in
@@ -132,10 +132,10 @@ pub fn replay<P: Picker>(
     ensures run { IfOk result (IsRunOfChoices
         (replay_of domain.now flow ttl (P.choices picker.old))) }
     // It has at most as many events as there are placed interfaces.
-    ensures short { IfOk result (HasShortTravel
+    ensures short { IfOk result (EventsAtMostPlacedVifs
         (replay_of domain.now flow ttl (P.choices picker.old))) }
     // That flight shows what the words of the finding say:
-    ensures shown { IfOk result (ShowsItsFinding
+    ensures shown { IfOk result (EndShowsFinding
         (replay_of domain.now flow ttl (P.choices picker.old))) }
     // the walk back from each copy ends at the source's copy, so `Loop` and `Duplicate` are told
     // apart.

@@ -3,13 +3,13 @@ use Rattle.std.proofs.Common.{◌≡◌, ℕ, suc, eqb, Bool, true, false, List,
 use Rattle.std.proofs.Common.{length, Option, Some, None, refl, sym, ap, subst, ◌∙◌, append_assoc, arith}
 use Rattle.std.specs.Prelude.{◌==◌, ◌&&◌, not, codes, slice_index, slice_get, decimal, flat_map, is_some}
 use Rattle.std.specs.Prelude.{map, take}
-use Rattle.mc_text.proofs.BundleWords.{Without}
+use Rattle.mc_text.proofs.BundleWords.{HasNoByte}
 use Rattle.mc_topology.specs.declared.flow.Flow.{Flow}
-use Rattle.mc_topology.specs.Topology.{TopologyValue, IsTopology, router_name}
+use Rattle.mc_topology.specs.Topology.{TopologyValue, IsValidTopology, router_name}
 use Rattle.mc_theory.specs.Events.{Event, Outcome}
 use Rattle.mc_theory.specs.Events.Outcome.{Open, NoRow, OtherVif, Sent}
 use Rattle.mc_cert.specs.Certificate.{Tree}
-use Rattle.mc_cert.specs.Distinct.{place_in, place_of, with_tree}
+use Rattle.mc_cert.specs.Distinct.{find_tree, tree_number_of, with_tree}
 use Rattle.mc_check.specs.declared.verdict.Verdict.TheVariants.{Yes}
 use Rattle.mc_replay.specs.TravelText.{event_text, finding_text, outcome_text}
 use Rattle.mc_replay.specs.declared.finding.Finding.{Finding}
@@ -18,175 +18,175 @@ use Rattle.mc_replay.specs.declared.finding.Finding.TheVariants.{Missed}
 use Rattle.mc_replay.specs.declared.travel.Travel.{Travel}
 use Rattle.mc_maker.specs.declared.examination.Examined.{Examined}
 use Rattle.mc_maker.specs.declared.examination.Examined.TheVariants.{Certified, Found}
-use Rattle.mc_tables.specs.Notes.{NotesText}
+use Rattle.mc_tables.specs.Summary.{SummaryValue}
 use Rattle.mc_forward.specs.ListedTables.{DomainFacts, facts}
-use Rattle.mc_explain.specs.ExplanationText.{told_lines}
-use Rattle.mc_explain.specs.Indented.{AreIndented, IsFeedless, indented}
-use Rattle.mc_explain.specs.LeftOutText.{TellsOfLeftOut, left_out_text, without_text}
+use Rattle.mc_explain.specs.ExplanationText.{causes_text}
+use Rattle.mc_explain.specs.Indented.{AreIndented, HasNoLineFeed, indented}
+use Rattle.mc_explain.specs.ExcludedText.{IsWithoutLine, excluded_text, without_text}
 use Rattle.mc_theory.specs.Lists.{In}
-use Rattle.mc_explain.specs.UnlistedLines.{AreLines, TellsOfRows, ended}
+use Rattle.mc_explain.specs.UnlistedLines.{AreLines, IsUnlistedLine, with_line_feed}
 use Rattle.mc_explain.specs.UnlistedText.{unlisted_text}
-use Rattle.mc_explain.specs.WantedText.{missed_too_text, wanted_text}
+use Rattle.mc_explain.specs.WantedText.{also_missed_text, wanted_text}
 use Rattle.mc_explain.specs.declared.searching.LanSearch.{LanSearch}
-use Rattle.mc_explain.proofs.ExplanationLemmas.{missed-by, told-lines, wanted-by}
-use Rattle.mc_explain.proofs.LeftOutLemmas.{reason-indented, without-lines}
-use Rattle.mc_explain.proofs.RowLineLemmas.{unlisted-of_rows}
-use Rattle.mc_explain.proofs.SearchLineLemmas.{search-lines}
+use Rattle.mc_explain.proofs.ExplanationLemmas.{are_indented-also_missed_text, are_indented-causes_text, are_indented-wanted_text}
+use Rattle.mc_explain.proofs.ExcludedLemmas.{are_indented-excluded_text, are_without_lines-without_text}
+use Rattle.mc_explain.proofs.UnlistedLineLemmas.{are_unlisted_lines-unlisted_text}
+use Rattle.mc_explain.proofs.SearchLineLemmas.{are_indented-search_text}
 use Rattle.mc_json.specs.DomainData.{domain_data}
 use Rattle.mc_json.specs.EndData.{summary_data, unlisted_lines, without_line}
 use Rattle.mc_json.specs.FlowData.{tree_data}
-use Rattle.mc_json.specs.ObjectLines.{AreObjectLines, BeginsObject, IsNoVerdict}
+use Rattle.mc_json.specs.ObjectLines.{AreObjectLines, BeginsObject, IsNotVerdict}
 use Rattle.mc_json.specs.RowData.{line_of}
-use Rattle.mc_json.specs.ToldData.{lan_data}
+use Rattle.mc_json.specs.CauseData.{lan_data}
 use Rattle.mc_json.specs.WhyData.{why_data}
-use Rattle.mc_json.proofs.EachLineLemmas.{domain-object, right-object, summary-object, tree-object}
-use Rattle.mc_json.proofs.EachLineLemmas.{unlisted-objects, without-object, wrong-object}
-use Rattle.mc_run.specs.AuditEnd.{FlowAnswer, begin_lines, count, end_by, end_lines, end_objects}
+use Rattle.mc_json.proofs.EachLineLemmas.{are_object_lines-domain, are_object_lines-right, are_object_lines-summary, are_object_lines-tree}
+use Rattle.mc_json.proofs.EachLineLemmas.{are_object_lines-all_unlisted, are_object_lines-without, are_object_lines-wrong}
+use Rattle.mc_run.specs.AuditEnd.{FlowAnswer, begin_lines, count, end_text_or_objects, end_lines, end_objects}
 use Rattle.mc_run.specs.AuditEnd.{end_text, is_right, is_unwanted, is_wrong, option_words, strict_lines}
-use Rattle.mc_run.specs.AuditEnd.{summary_by}
-use Rattle.mc_run.specs.AuditObjects.{way_line}
-use Rattle.mc_run.specs.AuditRun.{AreAnswers, IsAnswer, NotedValue, is_whole, is_yes, left_out}
-use Rattle.mc_run.specs.AuditRun.{ways_told, yes_object}
-use Rattle.mc_run.specs.AuditText.{Explanation, events_told, explanation_lines, right_line}
+use Rattle.mc_run.specs.AuditEnd.{summary_line}
+use Rattle.mc_run.specs.AuditObjects.{tree_line}
+use Rattle.mc_run.specs.AuditRun.{AreFlowAnswers, IsFlowAnswer, AuditedValue, is_whole, is_yes, excluded}
+use Rattle.mc_run.specs.AuditRun.{trees_shown, yes_object}
+use Rattle.mc_run.specs.AuditText.{Explanation, events_if_shown, explanation_lines, right_line}
 use Rattle.mc_run.specs.AuditText.{searched_lines}
-use Rattle.mc_run.specs.AuditTold.{answer_lines, is_left_out, right_by, wrong_by}
+use Rattle.mc_run.specs.AuditFlowText.{answer_lines, is_hidden, right_lines_or_object, wrong_lines_or_object}
 use Rattle.mc_run.specs.declared.audit_options.AuditOptions.{AuditOptions}
 use Rattle.mc_run.specs.MakeRun.{found_line, found_lines, no_certificate_line}
 use Rattle.mc_run.specs.ReplayRun.{event_line, event_lines}
 use Rattle.mc_run.specs.VerdictText.{flow_words}
-use Rattle.mc_explain.proofs.FeedLemmas.{address, number, plain, router-plain, words}
-use Rattle.mc_run.proofs.RunLemmas.{AreYes}
-use Rattle.mc_run.proofs.VerdictLines.{AreOther, BeginsOther, both_other, either_other, line_other}
-use Rattle.mc_run.proofs.VerdictLines.{named_lan, named_vif, none_other, text_other, verdict_other}
+use Rattle.mc_explain.proofs.LineFeedLemmas.{no_feed-dotted, number, no_feed-from_list_all, no_feed-router_name, no_feed-append}
+use Rattle.mc_run.proofs.RunLemmas.{AreYesWords}
+use Rattle.mc_run.proofs.VerdictLines.{AreLinesWithoutYes, BeginsWithOtherByte, are_other-append, are_other-if, are_other-line}
+use Rattle.mc_run.proofs.VerdictLines.{lan_name-no_line_feed, router_and_vif-no_line_feed, are_other-no_lines, are_other-text_line, are_other-verdict_line}
 
 -- ---- lines of text
 
-flow_plain : (f : Flow) → Without 10 (flow_words f)
-flow_plain f =
-    let ttl = words (codes " ttl ") (decimal f.ttl) (plain (codes " ttl ") refl) (number f.ttl) in
-    let group = words _ _ (address f.group) ttl in
-    let source = words _ _ (address f.source) (words (codes " ") _ (refl, tt) group) in
-    words (codes "flow ") _ (plain (codes "flow ") refl) source
+flow_words-no_yes : (f : Flow) → HasNoByte 10 (flow_words f)
+flow_words-no_yes f =
+    let ttl = no_feed-append (codes " ttl ") (decimal f.ttl) (no_feed-from_list_all (codes " ttl ") refl) (number f.ttl) in
+    let group = no_feed-append _ _ (no_feed-dotted f.group) ttl in
+    let source = no_feed-append _ _ (no_feed-dotted f.source) (no_feed-append (codes " ") _ (refl, tt) group) in
+    no_feed-append (codes "flow ") _ (no_feed-from_list_all (codes "flow ") refl) source
 
 -- a flow's words and some more
-flow_other : (f : Flow) (more : List ℕ) → Without 10 more
-    → AreOther (flow_words f ++ (more ++ codes "\n"))
-flow_other f more none =
-    text_other (flow_words f ++ (more ++ codes "\n")) (flow_words f ++ more) (refl, refl)
-    (words (flow_words f) more (flow_plain f) none) (sym (append_assoc (flow_words f) more (codes "\n")))
+are_other-flow_words : (f : Flow) (more : List ℕ) → HasNoByte 10 more
+    → AreLinesWithoutYes (flow_words f ++ (more ++ codes "\n"))
+are_other-flow_words f more none =
+    are_other-text_line (flow_words f ++ (more ++ codes "\n")) (flow_words f ++ more) (refl, refl)
+    (no_feed-append (flow_words f) more (flow_words-no_yes f) none) (sym (append_assoc (flow_words f) more (codes "\n")))
 
-none_line : (f : Flow) → AreOther (no_certificate_line f)
-none_line f = flow_other f (codes " no certificate") (plain (codes " no certificate") refl)
+are_other-no_certificate_line : (f : Flow) → AreLinesWithoutYes (no_certificate_line f)
+are_other-no_certificate_line f = are_other-flow_words f (codes " no certificate") (no_feed-from_list_all (codes " no certificate") refl)
 
-right_line_other : (whole : Bool) (t : TopologyValue) (f : Flow) (copies : ℕ) → IsTopology t
-    → AreOther (right_line whole t f copies)
-right_line_other true t f copies ok = verdict_other t f (Yes copies) ok
-right_line_other false t f copies ok =
-    flow_other f (codes " no fault known copies " ++ decimal copies)
-    (words (codes " no fault known copies ") _ (plain (codes " no fault known copies ") refl)
+are_other-right_line : (whole : Bool) (t : TopologyValue) (f : Flow) (copies : ℕ) → IsValidTopology t
+    → AreLinesWithoutYes (right_line whole t f copies)
+are_other-right_line true t f copies ok = are_other-verdict_line t f (Yes copies) ok
+are_other-right_line false t f copies ok =
+    are_other-flow_words f (codes " no fault known copies " ++ decimal copies)
+    (no_feed-append (codes " no fault known copies ") _ (no_feed-from_list_all (codes " no fault known copies ") refl)
     (number copies))
 
-finding_plain : (t : TopologyValue) (x : Finding) → IsTopology t → Without 10 (finding_text t x)
-finding_plain t Clean ok = plain (codes "Clean") refl
-finding_plain t (Duplicate lan) ok =
-    named_lan (codes "Duplicate ") t lan (plain (codes "Duplicate ") refl) ok
-finding_plain t (Loop lan) ok =
-    named_lan (codes "Loop ") t lan (plain (codes "Loop ") refl) ok
-finding_plain t (Stray router vif) ok =
-    named_vif (codes "Stray ") t router vif (plain (codes "Stray ") refl) ok
-finding_plain t (Missed lan) ok =
-    named_lan (codes "Missed ") t lan (plain (codes "Missed ") refl) ok
+finding_text-no_yes : (t : TopologyValue) (x : Finding) → IsValidTopology t → HasNoByte 10 (finding_text t x)
+finding_text-no_yes t Clean ok = no_feed-from_list_all (codes "Clean") refl
+finding_text-no_yes t (Duplicate lan) ok =
+    lan_name-no_line_feed (codes "Duplicate ") t lan (no_feed-from_list_all (codes "Duplicate ") refl) ok
+finding_text-no_yes t (Loop lan) ok =
+    lan_name-no_line_feed (codes "Loop ") t lan (no_feed-from_list_all (codes "Loop ") refl) ok
+finding_text-no_yes t (Stray router vif) ok =
+    router_and_vif-no_line_feed (codes "Stray ") t router vif (no_feed-from_list_all (codes "Stray ") refl) ok
+finding_text-no_yes t (Missed lan) ok =
+    lan_name-no_line_feed (codes "Missed ") t lan (no_feed-from_list_all (codes "Missed ") refl) ok
 
-found_other : (t : TopologyValue) (ttl : ℕ) (x : Finding) → IsTopology t
-    → AreOther (found_line t ttl x)
-found_other t ttl x ok =
+are_other-found_lines : (t : TopologyValue) (ttl : ℕ) (x : Finding) → IsValidTopology t
+    → AreLinesWithoutYes (found_line t ttl x)
+are_other-found_lines t ttl x ok =
     let last = codes " " ++ finding_text t x in
-    text_other (found_line t ttl x) (codes "found ttl " ++ (decimal ttl ++ last)) (refl, refl)
-    (words (codes "found ttl ") _ (plain (codes "found ttl ") refl)
-    (words (decimal ttl) last (number ttl)
-    (words (codes " ") (finding_text t x) (refl, tt) (finding_plain t x ok))))
+    are_other-text_line (found_line t ttl x) (codes "found ttl " ++ (decimal ttl ++ last)) (refl, refl)
+    (no_feed-append (codes "found ttl ") _ (no_feed-from_list_all (codes "found ttl ") refl)
+    (no_feed-append (decimal ttl) last (number ttl)
+    (no_feed-append (codes " ") (finding_text t x) (refl, tt) (finding_text-no_yes t x ok))))
     (ap (λ xs. codes "found ttl " ++ xs) (sym (append_assoc (decimal ttl) last (codes "\n"))))
 
-outcome_plain : (o : Outcome) → Without 10 (outcome_text o)
-outcome_plain Open = plain (codes "open") refl
-outcome_plain NoRow = plain (codes "no row") refl
-outcome_plain OtherVif = plain (codes "other vif") refl
-outcome_plain (Sent copies strays) =
+outcome_text-no_yes : (o : Outcome) → HasNoByte 10 (outcome_text o)
+outcome_text-no_yes Open = no_feed-from_list_all (codes "open") refl
+outcome_text-no_yes NoRow = no_feed-from_list_all (codes "no row") refl
+outcome_text-no_yes OtherVif = no_feed-from_list_all (codes "other vif") refl
+outcome_text-no_yes (Sent copies strays) =
     let sent = codes "sent " ++ decimal copies in
     let begun =
-    words (codes "sent ") (decimal copies) (plain (codes "sent ") refl) (number copies) in
-    let more = words sent (codes " strayed ") begun (plain (codes " strayed ") refl) in
-    words (sent ++ codes " strayed ") (decimal strays) more (number strays)
+    no_feed-append (codes "sent ") (decimal copies) (no_feed-from_list_all (codes "sent ") refl) (number copies) in
+    let more = no_feed-append sent (codes " strayed ") begun (no_feed-from_list_all (codes " strayed ") refl) in
+    no_feed-append (sent ++ codes " strayed ") (decimal strays) more (number strays)
 
-event_plain : (t : TopologyValue) (e : Event) → IsTopology t → Without 10 (event_text t e)
-event_plain t e ok =
+event_text-no_yes : (t : TopologyValue) (e : Event) → IsValidTopology t → HasNoByte 10 (event_text t e)
+event_text-no_yes t e ok =
     let name = router_name t e.router in
     let at = name ++ codes " " ++ decimal e.vif in
     let living = at ++ codes " ttl " ++ decimal e.ttl in
-    let router : Without 10 name = router-plain t e.router ok in
-    let begun = words name (codes " ") router (refl, tt) in
-    let vif = words (name ++ codes " ") (decimal e.vif) begun (number e.vif) in
-    let live = words at (codes " ttl ") vif (plain (codes " ttl ") refl) in
-    let ttl = words (at ++ codes " ttl ") (decimal e.ttl) live (number e.ttl) in
-    let more = words living (codes " ") ttl (refl, tt) in
-    words (living ++ codes " ") (outcome_text e.outcome) more (outcome_plain e.outcome)
+    let router : HasNoByte 10 name = no_feed-router_name t e.router ok in
+    let begun = no_feed-append name (codes " ") router (refl, tt) in
+    let vif = no_feed-append (name ++ codes " ") (decimal e.vif) begun (number e.vif) in
+    let live = no_feed-append at (codes " ttl ") vif (no_feed-from_list_all (codes " ttl ") refl) in
+    let ttl = no_feed-append (at ++ codes " ttl ") (decimal e.ttl) live (number e.ttl) in
+    let more = no_feed-append living (codes " ") ttl (refl, tt) in
+    no_feed-append (living ++ codes " ") (outcome_text e.outcome) more (outcome_text-no_yes e.outcome)
 
-event_other : (t : TopologyValue) (e : Event) → IsTopology t → AreOther (event_line t e)
-event_other t e ok =
-    text_other (event_line t e) (codes "event " ++ event_text t e) (refl, refl)
-    (words (codes "event ") (event_text t e) (plain (codes "event ") refl) (event_plain t e ok)) refl
+are_other-event_line : (t : TopologyValue) (e : Event) → IsValidTopology t → AreLinesWithoutYes (event_line t e)
+are_other-event_line t e ok =
+    are_other-text_line (event_line t e) (codes "event " ++ event_text t e) (refl, refl)
+    (no_feed-append (codes "event ") (event_text t e) (no_feed-from_list_all (codes "event ") refl) (event_text-no_yes t e ok)) refl
 
-events_other : (t : TopologyValue) (es : List Event) → IsTopology t → AreOther (event_lines t es)
-events_other t [] ok = none_other
-events_other t (e ∷ es) ok =
-    both_other (event_line t e) (event_lines t es) (event_other t e ok) (events_other t es ok)
+are_other-event_lines : (t : TopologyValue) (es : List Event) → IsValidTopology t → AreLinesWithoutYes (event_lines t es)
+are_other-event_lines t [] ok = are_other-no_lines
+are_other-event_lines t (e ∷ es) ok =
+    are_other-append (event_line t e) (event_lines t es) (are_other-event_line t e ok) (are_other-event_lines t es ok)
 
-shown_other : (travels : Bool) (t : TopologyValue) (travel : Travel) → IsTopology t
-    → AreOther (events_told travels t travel)
-shown_other true t travel ok = events_other t travel.events.items ok
-shown_other false t travel ok = none_other
+are_other-events_if_shown : (travels : Bool) (t : TopologyValue) (travel : Travel) → IsValidTopology t
+    → AreLinesWithoutYes (events_if_shown travels t travel)
+are_other-events_if_shown true t travel ok = are_other-event_lines t travel.events.items ok
+are_other-events_if_shown false t travel ok = are_other-no_lines
 
 -- lines that begin with two spaces
-indented_lines : (ls : List (List ℕ)) → ((l : List ℕ) → In l ls → IsFeedless l)
-    → AreOther (flat_map indented ls)
-indented_lines [] feedless = none_other
+indented_lines : (ls : List (List ℕ)) → ((l : List ℕ) → In l ls → HasNoLineFeed l)
+    → AreLinesWithoutYes (flat_map indented ls)
+indented_lines [] feedless = are_other-no_lines
 indented_lines (l ∷ ls) feedless =
-    both_other (indented l) (flat_map indented ls)
-    (text_other (indented l) (codes "  " ++ l) (refl, refl)
-    (words (codes "  ") l (plain (codes "  ") refl) (plain l (feedless l (inl refl)))) refl)
+    are_other-append (indented l) (flat_map indented ls)
+    (are_other-text_line (indented l) (codes "  " ++ l) (refl, refl)
+    (no_feed-append (codes "  ") l (no_feed-from_list_all (codes "  ") refl) (no_feed-from_list_all l (feedless l (inl refl)))) refl)
     (indented_lines ls (λ m h. feedless m (inr h)))
 
-indented_other : (text : List ℕ) → AreIndented text → AreOther text
-indented_other text is =
-    subst AreOther (sym is.spelled) (indented_lines is.lines is.feedless)
+are_other-indented_lines : (text : List ℕ) → AreIndented text → AreLinesWithoutYes text
+are_other-indented_lines text is =
+    subst AreLinesWithoutYes (sym is.spelled) (indented_lines is.lines is.feedless)
 
 -- lines that begin in some way, as those that tell of rows that are no flow's, or of routers that are
 -- left out
-lines_by : (Begins : List ℕ → Type 0) (ls : List (List ℕ))
-    → ((l : List ℕ) → Begins l → BeginsOther l) → ((l : List ℕ) → In l ls → Begins l)
-    → ((l : List ℕ) → In l ls → IsFeedless l) → AreOther (flat_map ended ls)
-lines_by Begins [] other begins feedless = none_other
-lines_by Begins (l ∷ ls) other begins feedless =
-    both_other (ended l) (flat_map ended ls)
-    (text_other (ended l) l (other l (begins l (inl refl))) (plain l (feedless l (inl refl))) refl)
-    (lines_by Begins ls other (λ m h. begins m (inr h)) (λ m h. feedless m (inr h)))
+lines_indented_by : (Begins : List ℕ → Type 0) (ls : List (List ℕ))
+    → ((l : List ℕ) → Begins l → BeginsWithOtherByte l) → ((l : List ℕ) → In l ls → Begins l)
+    → ((l : List ℕ) → In l ls → HasNoLineFeed l) → AreLinesWithoutYes (flat_map with_line_feed ls)
+lines_indented_by Begins [] other begins feedless = are_other-no_lines
+lines_indented_by Begins (l ∷ ls) other begins feedless =
+    are_other-append (with_line_feed l) (flat_map with_line_feed ls)
+    (are_other-text_line (with_line_feed l) l (other l (begins l (inl refl))) (no_feed-from_list_all l (feedless l (inl refl))) refl)
+    (lines_indented_by Begins ls other (λ m h. begins m (inr h)) (λ m h. feedless m (inr h)))
 
-lines_other : (Begins : List ℕ → Type 0) (text : List ℕ)
-    → ((l : List ℕ) → Begins l → BeginsOther l) → AreLines Begins text → AreOther text
-lines_other Begins text other are =
-    subst AreOther (sym are.spelled) (lines_by Begins are.lines other are.begins are.feedless)
+are_other-lines : (Begins : List ℕ → Type 0) (text : List ℕ)
+    → ((l : List ℕ) → Begins l → BeginsWithOtherByte l) → AreLines Begins text → AreLinesWithoutYes text
+are_other-lines Begins text other are =
+    subst AreLinesWithoutYes (sym are.spelled) (lines_indented_by Begins are.lines other are.begins are.feedless)
 
-row_begins : (l : List ℕ) → TellsOfRows l → BeginsOther l
-row_begins l (rest, inl begins) = subst BeginsOther (sym begins) (refl, refl)
-row_begins l (rest, inr begins) = subst BeginsOther (sym begins) (refl, refl)
+begins-row_line : (l : List ℕ) → IsUnlistedLine l → BeginsWithOtherByte l
+begins-row_line l (rest, inl begins) = subst BeginsWithOtherByte (sym begins) (refl, refl)
+begins-row_line l (rest, inr begins) = subst BeginsWithOtherByte (sym begins) (refl, refl)
 
-left_out_begins : (l : List ℕ) → TellsOfLeftOut l → BeginsOther l
-left_out_begins l (rest, begins) = subst BeginsOther (sym begins) (refl, refl)
+begins-excluded_line : (l : List ℕ) → IsWithoutLine l → BeginsWithOtherByte l
+begins-excluded_line l (rest, begins) = subst BeginsWithOtherByte (sym begins) (refl, refl)
 
 -- ---- lines that are objects
 
 -- words without a line feed that begin a line begin what stands before its line feed
-begins_with : (xs tail begin rest : List ℕ) → Without 10 begin → xs ++ (10 ∷ tail) ≡ begin ++ rest
+begins_with : (xs tail begin rest : List ℕ) → HasNoByte 10 begin → xs ++ (10 ∷ tail) ≡ begin ++ rest
     → (more : List ℕ) × (xs ≡ begin ++ more)
 begins_with xs tail [] rest none same = (xs, refl)
 begins_with [] tail (w ∷ begin) rest none same =
@@ -199,192 +199,192 @@ begins_with (x ∷ xs) tail (w ∷ begin) rest none same =
     let b = begins_with xs tail begin rest none.1 more in
     (b.0, subst (λ (k : ℕ). k ∷ xs ≡ w ∷ (begin ++ b.0)) (sym here) (ap (λ zs. w ∷ zs) b.1))
 
-object_byte : (xs begin tail rest : List ℕ) → BeginsObject xs → IsNoVerdict xs → AreYes begin
+first_byte-object : (xs begin tail rest : List ℕ) → BeginsObject xs → IsNotVerdict xs → AreYesWords begin
     → xs ++ (10 ∷ tail) ≡ begin ++ rest → ⊥
-object_byte xs begin tail rest (more, begins) other (inl is) same =
+first_byte-object xs begin tail rest (more, begins) other (inl is) same =
     let bad : 123 ≡ 118 = ap (λ (zs : List ℕ). slice_index zs 0)
     (sym (ap (λ zs. zs ++ (10 ∷ tail)) begins) ∙ same ∙ ap (λ w. w ++ rest) is) in
     absurd (omega (arith, bad))
-object_byte xs begin tail rest begins other (inr is) same =
-    let b = begins_with xs tail yes_object rest (plain yes_object refl)
+first_byte-object xs begin tail rest begins other (inr is) same =
+    let b = begins_with xs tail yes_object rest (no_feed-from_list_all yes_object refl)
     (same ∙ ap (λ w. w ++ rest) is) in
     other (codes ":\"yes\"}" ++ b.0) b.1
 
-each_object : (lines : List (List ℕ)) → ((line : List ℕ) → In line lines → BeginsObject line)
-    → ((line : List ℕ) → In line lines → IsNoVerdict line)
-    → ((line : List ℕ) → In line lines → IsFeedless line) → AreOther (flat_map ended lines)
-each_object [] begins other feedless = none_other
-each_object (l ∷ ls) begins other feedless =
-    both_other (ended l) (flat_map ended ls)
-    (line_other l (plain l (feedless l (inl refl)))
-    (λ begin tail rest are same. object_byte l begin tail rest (begins l (inl refl))
+are_other-each_object : (lines : List (List ℕ)) → ((line : List ℕ) → In line lines → BeginsObject line)
+    → ((line : List ℕ) → In line lines → IsNotVerdict line)
+    → ((line : List ℕ) → In line lines → HasNoLineFeed line) → AreLinesWithoutYes (flat_map with_line_feed lines)
+are_other-each_object [] begins other feedless = are_other-no_lines
+are_other-each_object (l ∷ ls) begins other feedless =
+    are_other-append (with_line_feed l) (flat_map with_line_feed ls)
+    (are_other-line l (no_feed-from_list_all l (feedless l (inl refl)))
+    (λ begin tail rest are same. first_byte-object l begin tail rest (begins l (inl refl))
     (other l (inl refl)) are same))
-    (each_object ls (λ m h. begins m (inr h)) (λ m h. other m (inr h)) (λ m h. feedless m (inr h)))
+    (are_other-each_object ls (λ m h. begins m (inr h)) (λ m h. other m (inr h)) (λ m h. feedless m (inr h)))
 
-objects_other : (text : List ℕ) → AreObjectLines text → AreOther text
-objects_other text are =
-    subst AreOther (sym are.spelled) (each_object are.lines are.begins are.other are.feedless)
+are_other-objects : (text : List ℕ) → AreObjectLines text → AreLinesWithoutYes text
+are_other-objects text are =
+    subst AreLinesWithoutYes (sym are.spelled) (are_other-each_object are.lines are.begins are.other are.feedless)
 
 -- ---- a flow
 
-way_other : (t : TopologyValue) (told : List Tree) (es : Tree) → AreOther (way_line t told es)
-way_other t told es =
-    either_other (is_some (place_in told es)) [] (line_of (tree_data t es (length told))) none_other
-    (objects_other _ (tree-object t es (length told)))
+are_other-tree_line : (t : TopologyValue) (printed : List Tree) (es : Tree) → AreLinesWithoutYes (tree_line t printed es)
+are_other-tree_line t printed es =
+    are_other-if (is_some (find_tree printed es)) [] (line_of (tree_data t es (length printed))) are_other-no_lines
+    (are_other-objects _ (are_object_lines-tree t es (length printed)))
 
-right_other : (json whole : Bool) (t : TopologyValue) (told : List Tree) (number : ℕ) (f : Flow)
-    (es : Tree) (wanted : List ℕ) → IsTopology t
-    → AreOther (right_by json whole t told number f es wanted)
-right_other true whole t told number f es wanted ok =
-    both_other (way_line t told es) _ (way_other t told es)
-    (objects_other _ (right-object whole number f (length es) (place_of (with_tree told es) es)
+are_other-right_lines_or_object : (json whole : Bool) (t : TopologyValue) (printed : List Tree) (number : ℕ) (f : Flow)
+    (es : Tree) (wanted : List ℕ) → IsValidTopology t
+    → AreLinesWithoutYes (right_lines_or_object json whole t printed number f es wanted)
+are_other-right_lines_or_object true whole t printed number f es wanted ok =
+    are_other-append (tree_line t printed es) _ (are_other-tree_line t printed es)
+    (are_other-objects _ (are_object_lines-right whole number f (length es) (tree_number_of (with_tree printed es) es)
     (map (lan_data t) wanted)))
-right_other false whole t told number f es wanted ok =
-    both_other (right_line whole t f (length es)) (wanted_text t wanted)
-    (right_line_other whole t f (length es) ok)
-    (indented_other (wanted_text t wanted) (wanted-by t wanted ok))
+are_other-right_lines_or_object false whole t printed number f es wanted ok =
+    are_other-append (right_line whole t f (length es)) (wanted_text t wanted)
+    (are_other-right_line whole t f (length es) ok)
+    (are_other-indented_lines (wanted_text t wanted) (are_indented-wanted_text t wanted ok))
 
-explained_other : (d : DomainFacts) (notes : List NotesText) (number : ℕ) (f : Flow)
-    (x : Explanation) → IsTopology d.topology → AreOther (explanation_lines d notes number f x)
-explained_other d notes number f x ok =
-    both_other (told_lines d notes number f x.told) _
-    (indented_other _ (told-lines d notes number f x.told ok))
-    (both_other (searched_lines d notes number f x.search) (missed_too_text d.topology x.also)
-    (searched x.search) (indented_other _ (missed-by d.topology x.also ok)))
+are_other-explanation_lines : (d : DomainFacts) (summary : List SummaryValue) (number : ℕ) (f : Flow)
+    (x : Explanation) → IsValidTopology d.topology → AreLinesWithoutYes (explanation_lines d summary number f x)
+are_other-explanation_lines d summary number f x ok =
+    are_other-append (causes_text d summary number f x.printed) _
+    (are_other-indented_lines _ (are_indented-causes_text d summary number f x.printed ok))
+    (are_other-append (searched_lines d summary number f x.search) (also_missed_text d.topology x.also)
+    (searched x.search) (are_other-indented_lines _ (are_indented-also_missed_text d.topology x.also ok)))
   where
-    searched : (s : Option LanSearch) → AreOther (searched_lines d notes number f s)
-    searched None = none_other
-    searched (Some found) = indented_other _ (search-lines d notes number f found.lines.items
+    searched : (s : Option LanSearch) → AreLinesWithoutYes (searched_lines d summary number f s)
+    searched None = are_other-no_lines
+    searched (Some found) = are_other-indented_lines _ (are_indented-search_text d summary number f found.lines.items
         found.reach.sent_on.items found.reach.took_none.items ok)
 
-wrong_other : (json travels : Bool) (d : DomainFacts) (notes : List NotesText) (number : ℕ) (f : Flow)
-    (ttl : ℕ) (travel : Travel) (x : Explanation) → IsTopology d.topology
-    → AreOther (wrong_by json travels d notes number f ttl travel x)
-wrong_other true travels d notes number f ttl travel x ok =
-    objects_other _ (wrong-object d number f ttl travel.finding travel.events.items x.also
-    (why_data d notes number f x.told x.search) travels)
-wrong_other false travels d notes number f ttl travel x ok =
+are_other-wrong_lines_or_object : (json travels : Bool) (d : DomainFacts) (summary : List SummaryValue) (number : ℕ) (f : Flow)
+    (ttl : ℕ) (travel : Travel) (x : Explanation) → IsValidTopology d.topology
+    → AreLinesWithoutYes (wrong_lines_or_object json travels d summary number f ttl travel x)
+are_other-wrong_lines_or_object true travels d summary number f ttl travel x ok =
+    are_other-objects _ (are_object_lines-wrong d number f ttl travel.finding travel.events.items x.also
+    (why_data d summary number f x.printed x.search) travels)
+are_other-wrong_lines_or_object false travels d summary number f ttl travel x ok =
     let t = d.topology in
-    both_other (found_lines t f ttl travel.finding) _
-    (both_other (no_certificate_line f) (found_line t ttl travel.finding) (none_line f)
-    (found_other t ttl travel.finding ok))
-    (both_other (explanation_lines d notes number f x) (events_told travels t travel)
-    (explained_other d notes number f x ok) (shown_other travels t travel ok))
+    are_other-append (found_lines t f ttl travel.finding) _
+    (are_other-append (no_certificate_line f) (found_line t ttl travel.finding) (are_other-no_certificate_line f)
+    (are_other-found_lines t ttl travel.finding ok))
+    (are_other-append (explanation_lines d summary number f x) (events_if_shown travels t travel)
+    (are_other-explanation_lines d summary number f x ok) (are_other-events_if_shown travels t travel ok))
 
-answer_other : (o : AuditOptions) (whole : Bool) (d : DomainFacts) (notes : List NotesText)
-    (told : List Tree) (number : ℕ) (f : Flow) (x : Examined) (e : Explanation) (wanted : List ℕ)
-    → IsTopology d.topology
-    → AreOther (answer_lines o whole d notes told number f x e wanted)
-answer_other o whole d notes told number f (Certified entries) e wanted ok =
-    either_other (is_left_out o.faults wanted) []
-    (right_by o.json whole d.topology told number f entries.items wanted) none_other
-    (right_other o.json whole d.topology told number f entries.items wanted ok)
-answer_other o whole d notes told number f (Found ttl travel) e wanted ok =
-    wrong_other o.json o.travels d notes number f ttl travel e ok
+are_other-answer_lines : (o : AuditOptions) (whole : Bool) (d : DomainFacts) (summary : List SummaryValue)
+    (printed : List Tree) (number : ℕ) (f : Flow) (x : Examined) (e : Explanation) (wanted : List ℕ)
+    → IsValidTopology d.topology
+    → AreLinesWithoutYes (answer_lines o whole d summary printed number f x e wanted)
+are_other-answer_lines o whole d summary printed number f (Certified entries) e wanted ok =
+    are_other-if (is_hidden o.faults wanted) []
+    (right_lines_or_object o.json whole d.topology printed number f entries.items wanted) are_other-no_lines
+    (are_other-right_lines_or_object o.json whole d.topology printed number f entries.items wanted ok)
+are_other-answer_lines o whole d summary printed number f (Found ttl travel) e wanted ok =
+    are_other-wrong_lines_or_object o.json o.travels d summary number f ttl travel e ok
 
-answers_other : (v : NotedValue) (o : AuditOptions) (answers : List FlowAnswer)
+are_other-all_answers : (v : AuditedValue) (o : AuditOptions) (answers : List FlowAnswer)
     → ((flow : ℕ) (a : FlowAnswer) → slice_get answers flow ≡ Some a
-    → (told : List Tree) × (number : ℕ) × IsAnswer v o told number a)
-    → IsTopology v.domain.topology → AreOther (flat_map (λ a. a.lines) answers)
-answers_other v o [] each ok = none_other
-answers_other v o (a ∷ answers) each ok =
+    → (printed : List Tree) × (number : ℕ) × IsFlowAnswer v o printed number a)
+    → IsValidTopology v.domain.topology → AreLinesWithoutYes (flat_map (λ a. a.lines) answers)
+are_other-all_answers v o [] each ok = are_other-no_lines
+are_other-all_answers v o (a ∷ answers) each ok =
     let first = each 0 a refl in
     let is = first.2 in
-    both_other a.lines (flat_map (λ b. b.lines) answers)
-    (subst AreOther (sym is.spelled) (answer_other o (is_whole v) (facts v.domain) v.notes first.0
+    are_other-append a.lines (flat_map (λ b. b.lines) answers)
+    (subst AreLinesWithoutYes (sym is.spelled) (are_other-answer_lines o (is_whole v) (facts v.domain) v.summary first.0
     first.1 is.listed a.examined is.explanation a.wanted ok))
-    (answers_other v o answers (λ flow b at. each (suc flow) b at) ok)
+    (are_other-all_answers v o answers (λ flow b at. each (suc flow) b at) ok)
 
 -- ---- what stands behind the flows
 
 -- whatever is counted, what stands before the summary's line feed
-summary_ends : (a b c d : List ℕ)
+summary_line-before_line_feed : (a b c d : List ℕ)
     → codes "summary flows " ++ (a ++ (codes " right " ++ (b ++ (codes " wrong " ++ (c
     ++ (codes " unwanted " ++ (d ++ codes "\n")))))))
     ≡ (codes "summary flows " ++ (a ++ (codes " right " ++ (b ++ (codes " wrong " ++ (c
     ++ (codes " unwanted " ++ d))))))) ++ codes "\n"
-summary_ends a b c d = simp append_assoc
+summary_line-before_line_feed a b c d = simp append_assoc
 
-summary_other : (flows right wrong unwanted : ℕ) → AreOther (summary_by flows right wrong unwanted)
-summary_other flows right wrong unwanted =
-    let last = words (codes " unwanted ") (decimal unwanted) (plain (codes " unwanted ") refl)
+are_other-summary_line : (flows right wrong unwanted : ℕ) → AreLinesWithoutYes (summary_line flows right wrong unwanted)
+are_other-summary_line flows right wrong unwanted =
+    let last = no_feed-append (codes " unwanted ") (decimal unwanted) (no_feed-from_list_all (codes " unwanted ") refl)
     (number unwanted) in
-    let third = words (decimal wrong) _ (number wrong) last in
-    let second = words (decimal right) _ (number right)
-    (words (codes " wrong ") _ (plain (codes " wrong ") refl) third) in
-    let first = words (decimal flows) _ (number flows)
-    (words (codes " right ") _ (plain (codes " right ") refl) second) in
-    text_other (summary_by flows right wrong unwanted)
+    let third = no_feed-append (decimal wrong) _ (number wrong) last in
+    let second = no_feed-append (decimal right) _ (number right)
+    (no_feed-append (codes " wrong ") _ (no_feed-from_list_all (codes " wrong ") refl) third) in
+    let first = no_feed-append (decimal flows) _ (number flows)
+    (no_feed-append (codes " right ") _ (no_feed-from_list_all (codes " right ") refl) second) in
+    are_other-text_line (summary_line flows right wrong unwanted)
     (codes "summary flows " ++ (decimal flows ++ (codes " right " ++ (decimal right
     ++ (codes " wrong " ++ (decimal wrong ++ (codes " unwanted " ++ decimal unwanted)))))))
     (refl, refl)
-    (words (codes "summary flows ") _ (plain (codes "summary flows ") refl) first)
-    (summary_ends (decimal flows) (decimal right) (decimal wrong) (decimal unwanted))
+    (no_feed-append (codes "summary flows ") _ (no_feed-from_list_all (codes "summary flows ") refl) first)
+    (summary_line-before_line_feed (decimal flows) (decimal right) (decimal wrong) (decimal unwanted))
 
-strict_other : (strict all : Bool) (unwanted : ℕ) → AreOther (strict_lines strict all unwanted)
-strict_other strict all unwanted =
+are_other-strict_lines : (strict all : Bool) (unwanted : ℕ) → AreLinesWithoutYes (strict_lines strict all unwanted)
+are_other-strict_lines strict all unwanted =
     let last = codes " flows that nobody wants, status 1" in
-    either_other (strict && (all && not (unwanted == 0)))
+    are_other-if (strict && (all && not (unwanted == 0)))
     (codes "  strict: " ++ (decimal unwanted ++ codes " flows that nobody wants, status 1\n")) []
-    (text_other _ (codes "  strict: " ++ (decimal unwanted ++ last)) (refl, refl)
-    (words (codes "  strict: ") _ (plain (codes "  strict: ") refl)
-    (words (decimal unwanted) last (number unwanted) (plain last refl)))
+    (are_other-text_line _ (codes "  strict: " ++ (decimal unwanted ++ last)) (refl, refl)
+    (no_feed-append (codes "  strict: ") _ (no_feed-from_list_all (codes "  strict: ") refl)
+    (no_feed-append (decimal unwanted) last (number unwanted) (no_feed-from_list_all last refl)))
     (ap (λ xs. codes "  strict: " ++ xs) (sym (append_assoc (decimal unwanted) last (codes "\n")))))
-    none_other
+    are_other-no_lines
 
-end_text_other : (o : AuditOptions) (t : TopologyValue) (notes : List NotesText) (marks : List Bool)
-    (all : Bool) (flows right wrong unwanted : ℕ) → IsTopology t
-    → AreOther (end_text o t notes marks all flows right wrong unwanted)
-end_text_other o t notes marks all flows right wrong unwanted ok =
-    both_other (unlisted_text o.unlisted t notes) _
-    (lines_other TellsOfRows _ row_begins (unlisted-of_rows o.unlisted t notes ok))
-    (both_other (without_text t marks) _
-    (lines_other TellsOfLeftOut _ left_out_begins (without-lines t marks ok))
-    (both_other (summary_by flows right wrong unwanted) _ (summary_other flows right wrong unwanted)
-    (both_other (left_out_text t marks) (strict_lines o.strict all unwanted)
-    (indented_other _ (reason-indented t marks ok)) (strict_other o.strict all unwanted))))
+are_other-end_text : (o : AuditOptions) (t : TopologyValue) (summary : List SummaryValue) (marks : List Bool)
+    (all : Bool) (flows right wrong unwanted : ℕ) → IsValidTopology t
+    → AreLinesWithoutYes (end_text o t summary marks all flows right wrong unwanted)
+are_other-end_text o t summary marks all flows right wrong unwanted ok =
+    are_other-append (unlisted_text o.unlisted t summary) _
+    (are_other-lines IsUnlistedLine _ begins-row_line (are_unlisted_lines-unlisted_text o.unlisted t summary ok))
+    (are_other-append (without_text t marks) _
+    (are_other-lines IsWithoutLine _ begins-excluded_line (are_without_lines-without_text t marks ok))
+    (are_other-append (summary_line flows right wrong unwanted) _ (are_other-summary_line flows right wrong unwanted)
+    (are_other-append (excluded_text t marks) (strict_lines o.strict all unwanted)
+    (are_other-indented_lines _ (are_indented-excluded_text t marks ok)) (are_other-strict_lines o.strict all unwanted))))
 
-end_objects_other : (o : AuditOptions) (t : TopologyValue) (notes : List NotesText)
+are_other-end_objects : (o : AuditOptions) (t : TopologyValue) (summary : List SummaryValue)
     (marks : List Bool) (right wrong unwanted : ℕ)
-    → AreOther (end_objects o t notes marks right wrong unwanted)
-end_objects_other o t notes marks right wrong unwanted =
-    both_other (unlisted_lines o.unlisted t notes) _
-    (objects_other _ (unlisted-objects o.unlisted t notes))
-    (both_other (without_line t marks) (line_of (summary_data right unwanted wrong))
-    (objects_other _ (without-object t marks)) (objects_other _ (summary-object right unwanted wrong)))
+    → AreLinesWithoutYes (end_objects o t summary marks right wrong unwanted)
+are_other-end_objects o t summary marks right wrong unwanted =
+    are_other-append (unlisted_lines o.unlisted t summary) _
+    (are_other-objects _ (are_object_lines-all_unlisted o.unlisted t summary))
+    (are_other-append (without_line t marks) (line_of (summary_data right unwanted wrong))
+    (are_other-objects _ (are_object_lines-without t marks)) (are_other-objects _ (are_object_lines-summary right unwanted wrong)))
 
-end_other : (o : AuditOptions) (t : TopologyValue) (notes : List NotesText) (marks : List Bool)
-    (all : Bool) (flows right wrong unwanted : ℕ) → IsTopology t
-    → AreOther (end_by o t notes marks all flows right wrong unwanted)
-end_other o t notes marks all flows right wrong unwanted ok =
-    either_other o.json (end_objects o t notes marks right wrong unwanted)
-    (end_text o t notes marks all flows right wrong unwanted)
-    (end_objects_other o t notes marks right wrong unwanted)
-    (end_text_other o t notes marks all flows right wrong unwanted ok)
+are_other-end_lines : (o : AuditOptions) (t : TopologyValue) (summary : List SummaryValue) (marks : List Bool)
+    (all : Bool) (flows right wrong unwanted : ℕ) → IsValidTopology t
+    → AreLinesWithoutYes (end_text_or_objects o t summary marks all flows right wrong unwanted)
+are_other-end_lines o t summary marks all flows right wrong unwanted ok =
+    are_other-if o.json (end_objects o t summary marks right wrong unwanted)
+    (end_text o t summary marks all flows right wrong unwanted)
+    (are_other-end_objects o t summary marks right wrong unwanted)
+    (are_other-end_text o t summary marks all flows right wrong unwanted ok)
 
 -- ---- all lines but the last
 
-begin_other : (o : AuditOptions) (d : DomainFacts) (marks : List Bool)
-    → AreOther (begin_lines o d marks)
-begin_other o d marks =
+are_other-begin_lines : (o : AuditOptions) (d : DomainFacts) (marks : List Bool)
+    → AreLinesWithoutYes (begin_lines o d marks)
+are_other-begin_lines o d marks =
     let asked = option_words o d.topology marks in
-    either_other o.json (line_of (domain_data d asked)) [] (objects_other _ (domain-object d asked))
-    none_other
+    are_other-if o.json (line_of (domain_data d asked)) [] (are_other-objects _ (are_object_lines-domain d asked))
+    are_other-no_lines
 
 -- what is written before the last line
-abbrev pub lines_before : NotedValue → AuditOptions → List FlowAnswer → List ℕ
-lines_before v o answers =
-    begin_lines o (facts v.domain) (left_out v)
+abbrev pub text_before_verdict : AuditedValue → AuditOptions → List FlowAnswer → List ℕ
+text_before_verdict v o answers =
+    begin_lines o (facts v.domain) (excluded v)
     ++ (flat_map (λ a. a.lines) answers
-    ++ end_lines o v.domain.topology v.notes (left_out v) (is_yes v answers) answers)
+    ++ end_lines o v.domain.topology v.summary (excluded v) (is_yes v answers) answers)
 
-pub audit_other : (v : NotedValue) (o : AuditOptions) (answers : List FlowAnswer)
-    → AreAnswers v o answers → IsTopology v.domain.topology → AreOther (lines_before v o answers)
-audit_other v o answers are ok =
-    let marks = left_out v in
-    both_other (begin_lines o (facts v.domain) marks) _ (begin_other o (facts v.domain) marks)
-    (both_other (flat_map (λ a. a.lines) answers) _
-    (answers_other v o answers (λ flow a at. (ways_told o (take flow answers), flow, are.each flow a at))
+pub are_other-text_before_verdict : (v : AuditedValue) (o : AuditOptions) (answers : List FlowAnswer)
+    → AreFlowAnswers v o answers → IsValidTopology v.domain.topology → AreLinesWithoutYes (text_before_verdict v o answers)
+are_other-text_before_verdict v o answers are ok =
+    let marks = excluded v in
+    are_other-append (begin_lines o (facts v.domain) marks) _ (are_other-begin_lines o (facts v.domain) marks)
+    (are_other-append (flat_map (λ a. a.lines) answers) _
+    (are_other-all_answers v o answers (λ flow a at. (trees_shown o (take flow answers), flow, are.each flow a at))
     ok)
-    (end_other o v.domain.topology v.notes marks (is_yes v answers) (length answers)
+    (are_other-end_lines o v.domain.topology v.summary marks (is_yes v answers) (length answers)
     (count is_right answers) (count is_wrong answers) (count is_unwanted answers) ok))

@@ -2,7 +2,7 @@ pub mod AuditAll
 pub mod AuditFlows
 pub mod AuditLemmas
 pub mod AuditLines
-mod AuditSaid
+mod AuditOutput
 pub mod CertifiedLemmas
 pub mod CheckLemmas
 pub mod EndsLemmas

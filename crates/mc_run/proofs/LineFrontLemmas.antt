@@ -6,50 +6,50 @@ use Rattle.std.proofs.Math.Seq.{take-append-add}
 use Rattle.std.specs.Io.KnownBytes.{Consumes, IsAtEnd}
 use Rattle.std.proofs.lemmas.List.{append-nil, take-append-le, take_all}
 use Rattle.mc_layout.specs.Files.{FileText, file_named}
-use Rattle.mc_run.specs.LineFront.{Takes, front_if, line_behind, line_front, shown_of}
-use Rattle.mc_run.specs.RefusalText.{IsFrontIn}
+use Rattle.mc_run.specs.LineFront.{TakesPiece, front_after_more, line_after_feeds, line_front, first_100_bytes}
+use Rattle.mc_run.specs.RefusalText.{IsFrontInFile}
 use Rattle.mc_run.specs.declared.line_front.LineFront.{LineFront}
 
 -- what is found is all that is shown, where the line ends, or the text,
-front_whole : (front : List ℕ) → length front ≤ 100 → shown_of (front ++ []) ≡ front
-front_whole front few = ap (take 100) (append-nil front) ∙ take_all 100 front few
+front_after_more-whole_front : (front : List ℕ) → length front ≤ 100 → first_100_bytes (front ++ []) ≡ front
+front_after_more-whole_front front few = ap (take 100) (append-nil front) ∙ take_all 100 front few
 
 -- the line ends at a line feed
-pub takes_end : (s : LineFront) (b : ℕ) → s.before ≡ 0 → b ≡ 10 → length s.front.items ≤ 100
-    → Takes s s (b ∷ []) true
-takes_end s b here feed few = λ more.
-    ap (λ c. shown_of (s.front.items ++ line_behind s.before (c ∷ more))) feed
-    ∙ ap (λ n. shown_of (s.front.items ++ line_behind n (10 ∷ more))) here
-    ∙ front_whole s.front.items few
+pub takes_piece-line_feed : (s : LineFront) (b : ℕ) → s.before ≡ 0 → b ≡ 10 → length s.front.items ≤ 100
+    → TakesPiece s s (b ∷ []) true
+takes_piece-line_feed s b here feed few = λ more.
+    ap (λ c. first_100_bytes (s.front.items ++ line_after_feeds s.before (c ∷ more))) feed
+    ∙ ap (λ n. first_100_bytes (s.front.items ++ line_after_feeds n (10 ∷ more))) here
+    ∙ front_after_more-whole_front s.front.items few
 
 -- as much is found as is shown
-pub takes_full : (s : LineFront) (b : ℕ) → 100 ≤ length s.front.items → length s.front.items ≤ 100
-    → Takes s s (b ∷ []) true
-takes_full s b full few = λ more.
-    take-append-le 100 s.front.items (line_behind s.before (b ∷ more)) full ∙ take_all 100 s.front.items few
+pub takes_piece-front_full : (s : LineFront) (b : ℕ) → 100 ≤ length s.front.items → length s.front.items ≤ 100
+    → TakesPiece s s (b ∷ []) true
+takes_piece-front_full s b full few = λ more.
+    take-append-le 100 s.front.items (line_after_feeds s.before (b ∷ more)) full ∙ take_all 100 s.front.items few
 
 -- nothing more comes
-pub front_at_end : (s : LineFront) → length s.front.items ≤ 100 → front_if s [] ≡ s.front.items
-front_at_end s few = by s.before
+pub front_after_more-nothing : (s : LineFront) → length s.front.items ≤ 100 → front_after_more s [] ≡ s.front.items
+front_after_more-nothing s few = by s.before
   where
-    by : (n : ℕ) → shown_of (s.front.items ++ line_behind n []) ≡ s.front.items
-    by zero = front_whole s.front.items few
-    by (suc n) = front_whole s.front.items few
+    by : (n : ℕ) → first_100_bytes (s.front.items ++ line_after_feeds n []) ≡ s.front.items
+    by zero = front_after_more-whole_front s.front.items few
+    by (suc n) = front_after_more-whole_front s.front.items few
 
 -- ---- in a file that is read in pieces
 
 -- the bytes that a piece leaves, where they are known
-pub left_known : (old new : Option (List ℕ)) (rest piece : List ℕ) → old ≡ Some rest → Consumes old new piece
+pub left_after_piece-known : (old new : Option (List ℕ)) (rest piece : List ℕ) → old ≡ Some rest → Consumes old new piece
     → (next : List ℕ) × (new ≡ Some next) × (rest ≡ piece ++ next)
-left_known None new rest piece is read = absurd cc
-left_known (Some bytes) None rest piece is read = absurd read
-left_known (Some bytes) (Some next) rest piece is read =
+left_after_piece-known None new rest piece is read = absurd cc
+left_after_piece-known (Some bytes) None rest piece is read = absurd read
+left_after_piece-known (Some bytes) (Some next) rest piece is read =
     let same : bytes ≡ rest = cc in (next, refl, sym same ∙ read)
 
 -- at the end none are left
-pub none_left : (old new : Option (List ℕ)) (rest piece : List ℕ) → old ≡ Some rest → Consumes old new piece
+pub take-none_left : (old new : Option (List ℕ)) (rest piece : List ℕ) → old ≡ Some rest → Consumes old new piece
     → piece ≡ [] → IsAtEnd new → rest ≡ []
-none_left old new rest piece is read none end = by new (left_known old new rest piece is read) end
+take-none_left old new rest piece is read none end = by new (left_after_piece-known old new rest piece is read) end
   where
     by : (new : Option (List ℕ)) → (next : List ℕ) × (new ≡ Some next) × (rest ≡ piece ++ next) → IsAtEnd new
         → rest ≡ []
@@ -65,44 +65,44 @@ take-piece piece next rest room within whole =
     ap (take room) whole ∙ ap (λ n. take n (piece ++ next)) sum ∙ take-append-add piece next (room - length piece)
 
 module _ (first old : LineFront) (room : ℕ) (rest all : List ℕ)
-    (so_far : front_if old (take room rest) ≡ front_if first all) where
+    (so_far : front_after_more old (take room rest) ≡ front_after_more first all) where
   -- all was read
-  pub found_at_end : length old.front.items ≤ 100 → take room rest ≡ [] → old.front.items ≡ front_if first all
-  found_at_end few none = sym (front_at_end old few) ∙ ap (front_if old) (sym none) ∙ so_far
+  pub found_at_end : length old.front.items ≤ 100 → take room rest ≡ [] → old.front.items ≡ front_after_more first all
+  found_at_end few none = sym (front_after_more-nothing old few) ∙ ap (front_after_more old) (sym none) ∙ so_far
 
   -- the front was found in a piece,
   pub found_in_piece : (new : LineFront) (piece next : List ℕ) (found : Bool) → length piece ≤ room
-      → rest ≡ piece ++ next → found ≡ true → Takes old new piece found → new.front.items ≡ front_if first all
+      → rest ≡ piece ++ next → found ≡ true → TakesPiece old new piece found → new.front.items ≡ front_after_more first all
   found_in_piece new piece next found within whole is takes =
       sym (rw is at (takes (take (room - length piece) next)))
-      ∙ ap (front_if old) (sym (take-piece piece next rest room within whole)) ∙ so_far
+      ∙ ap (front_after_more old) (sym (take-piece piece next rest room within whole)) ∙ so_far
 
   -- or comes behind it
   pub found_behind_piece : (new : LineFront) (piece next : List ℕ) (found : Bool) → length piece ≤ room
-      → rest ≡ piece ++ next → found ≡ false → Takes old new piece found
-      → front_if new (take (room - length piece) next) ≡ front_if first all
+      → rest ≡ piece ++ next → found ≡ false → TakesPiece old new piece found
+      → front_after_more new (take (room - length piece) next) ≡ front_after_more first all
   found_behind_piece new piece next found within whole is takes =
       sym (rw is at (takes (take (room - length piece) next)))
-      ∙ ap (front_if old) (sym (take-piece piece next rest room within whole)) ∙ so_far
+      ∙ ap (front_after_more old) (sym (take-piece piece next rest room within whole)) ∙ so_far
 
 -- what is found in a file that a source gives is the front of a line of the file by this name
-pub front_known : {V E : Type 0} (items : V → List ℕ) (told : Option (List FileText)) (left : Option (List ℕ))
+pub is_front_in_file-found : {V E : Type 0} (items : V → List ℕ) (contents : Option (List FileText)) (left : Option (List ℕ))
     (name : List ℕ) (line : ℕ) (r : Result (Option V) E)
-    → IfSome told (λ files. (bytes : List ℕ) × (file_named files name ≡ Some bytes) × (left ≡ Some bytes))
+    → IfSome contents (λ files. (bytes : List ℕ) × (file_named files name ≡ Some bytes) × (left ≡ Some bytes))
     → IfOk r (λ found. IfSome found (λ front. length (items front) ≤ 100))
     → ((text : List ℕ) → left ≡ Some text
     → IfOk r (λ found. IfSome found (λ front. items front ≡ line_front line (take 16777216 text))))
-    → IfOk r (λ found. IfSome (option_map items found) (IsFrontIn told name line))
-front_known items told left name line (Err fault) opened few known = tt
-front_known items told left name line (Ok None) opened few known = tt
-front_known items told left name line (Ok (Some front)) opened few known = record {
+    → IfOk r (λ found. IfSome (option_map items found) (IsFrontInFile contents name line))
+is_front_in_file-found items contents left name line (Err fault) opened few known = tt
+is_front_in_file-found items contents left name line (Ok None) opened few known = tt
+is_front_in_file-found items contents left name line (Ok (Some front)) opened few known = record {
   few = few;
-  known = λ files is. by told opened files is;
+  known = λ files is. by contents opened files is;
 }
   where
-    by : (told : Option (List FileText))
-        → IfSome told (λ files. (bytes : List ℕ) × (file_named files name ≡ Some bytes) × (left ≡ Some bytes))
-        → (files : List FileText) → told ≡ Some files
+    by : (contents : Option (List FileText))
+        → IfSome contents (λ files. (bytes : List ℕ) × (file_named files name ≡ Some bytes) × (left ≡ Some bytes))
+        → (files : List FileText) → contents ≡ Some files
         → (bytes : List ℕ) × (file_named files name ≡ Some bytes)
         × (items front ≡ line_front line (take 16777216 bytes))
     by None opened files is = absurd cc

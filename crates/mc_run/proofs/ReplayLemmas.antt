@@ -8,52 +8,52 @@ use Rattle.mc_theory.specs.Findings.{Choices}
 use Rattle.mc_forward.specs.Domains.{DomainValue}
 use Rattle.mc_replay.specs.Travels.{IsRunOfChoices, replay_of}
 use Rattle.mc_replay.specs.declared.travel.Travel.{Travel}
-use Rattle.mc_run.specs.declared.said.Said.{Said}
+use Rattle.mc_run.specs.declared.run_output.RunOutput.{RunOutput}
 use Rattle.mc_run.specs.declared.fault.RunFault.{RunFault}
-use Rattle.mc_domain.specs.Meaning.{MeansListed}
+use Rattle.mc_domain.specs.Meaning.{MeansDomainAsListed}
 use Rattle.mc_run.specs.Failures.{IsNoDeviceFault}
 use Rattle.mc_run.specs.ReplayRun.{HasNoTravel, IsReplayRefused, IsTextOfTravel, is_clean}
 use Rattle.mc_run.specs.ReplayRun.{replay_text}
-use Rattle.mc_run.proofs.SameLemmas.{same_no_flow}
+use Rattle.mc_run.proofs.SameLemmas.{has_no_flow-same_domain}
 
 -- the text of a travel through a domain
-pub travel_made : (d : DomainValue) (flow ttl : ℕ) (choices : Choices) (place : ℕ)
+pub is_text_of_travel-replayed : (d : DomainValue) (flow ttl : ℕ) (choices : Choices) (place : ℕ)
     (t : TopologyValue) (f : Flow) (travel : Travel) (clean : Bool) (written : List ℕ)
     → flow ≡ place + 1 → t ≡ d.topology → slice_get t.flows place ≡ Some f
     → IsRunOfChoices (replay_of d place ttl choices) travel → clean ≡ is_clean travel.finding
     → written ≡ replay_text t f ttl travel → IsTextOfTravel d flow ttl choices clean written
-travel_made d flow ttl choices place t f travel clean written counted same stands runs answer
+is_text_of_travel-replayed d flow ttl choices place t f travel clean written counted same matches runs answer
     spelled =
     record {
       place = place;
       listed = f;
       travel = travel;
       counted = counted;
-      stands = subst (λ (x : TopologyValue). slice_get x.flows place ≡ Some f) same stands;
+      matches = subst (λ (x : TopologyValue). slice_get x.flows place ≡ Some f) same matches;
       runs = runs;
       answer = answer;
       spelled = spelled ∙ ap (λ x. replay_text x f ttl travel) same;
     }
 
 -- the domain lists no such flow, or memory ran out
-pub travel_refused : (told : Option (List ℕ)) (flow : ℕ) (d : DomainValue)
-    (r : Result Said RunFault) → IfSome told (λ text. MeansListed text None d)
-    → IfErr r (HasNoTravel d flow) → IfErr r (λ f. IfSome told (λ text. IsReplayRefused flow text f))
-travel_refused told flow d (Ok said) means is = tt
-travel_refused None flow d (Err f) means is = tt
-travel_refused (Some text) flow d (Err f) means (inl is) =
+pub is_replay_refused-no_travel : (contents : Option (List ℕ)) (flow : ℕ) (d : DomainValue)
+    (r : Result RunOutput RunFault) → IfSome contents (λ text. MeansDomainAsListed text None d)
+    → IfErr r (HasNoTravel d flow) → IfErr r (λ f. IfSome contents (λ text. IsReplayRefused flow text f))
+is_replay_refused-no_travel contents flow d (Ok run_output) means is = tt
+is_replay_refused-no_travel None flow d (Err f) means is = tt
+is_replay_refused-no_travel (Some text) flow d (Err f) means (inl is) =
     rw (is.0) (
       refl,
       record {
         domain = means.whole;
         means = means.means;
-        holds = same_no_flow means.same flow is.1;
+        holds = has_no_flow-same_domain means.same flow is.1;
       },
     )
-travel_refused (Some text) flow d (Err f) means (inr is) = rw is tt
+is_replay_refused-no_travel (Some text) flow d (Err f) means (inr is) = rw is tt
 
-pub travel_no_device : (d : DomainValue) (flow : ℕ) (r : Result Said RunFault)
+pub is_no_device_fault-no_travel : (d : DomainValue) (flow : ℕ) (r : Result RunOutput RunFault)
     → IfErr r (HasNoTravel d flow) → IfErr r IsNoDeviceFault
-travel_no_device d flow (Ok said) is = tt
-travel_no_device d flow (Err f) (inl is) = rw (is.0) (refl, refl)
-travel_no_device d flow (Err f) (inr is) = rw is (refl, refl)
+is_no_device_fault-no_travel d flow (Ok run_output) is = tt
+is_no_device_fault-no_travel d flow (Err f) (inl is) = rw (is.0) (refl, refl)
+is_no_device_fault-no_travel d flow (Err f) (inr is) = rw is (refl, refl)

@@ -10,255 +10,255 @@ use Rattle.std.proofs.lemmas.Bool.{false≢true}
 use Rattle.std.proofs.lemmas.List.{take_all, length-append, take-append-drop}
 use Rattle.mc_forward.specs.Domains.{DomainValue}
 use Rattle.mc_cert.specs.Certificate.{Tree}
-use Rattle.mc_domain.specs.InputReading.{input_of}
+use Rattle.mc_domain.specs.InputReading.{input_of_bundle}
 use Rattle.mc_domain.specs.declared.fault.InputFault.{InputFault}
 use Rattle.mc_domain.specs.declared.fault.InputFault.TheVariants as input
-use Rattle.mc_run.specs.RunFault.{of_source}
+use Rattle.mc_run.specs.RunFault.{from_source_fault}
 use Rattle.mc_run.specs.declared.fault.RunFault.{RunFault}
 use Rattle.mc_run.specs.declared.fault.RunFault.TheVariants.{Write}
-use Rattle.mc_run.specs.declared.said.Said.{Said}
-use Rattle.mc_forward.specs.ListedTables.{SaysTheSame}
-use Rattle.mc_text.specs.Steps.{refused_as}
+use Rattle.mc_run.specs.declared.run_output.RunOutput.{RunOutput}
+use Rattle.mc_forward.specs.ListedTables.{HaveSameFacts}
+use Rattle.mc_text.specs.Steps.{map_fault}
 use Rattle.mc_domain.specs.Input.{InputValue}
-use Rattle.mc_domain.specs.InputView.{text_seen}
-use Rattle.mc_domain.specs.Meaning.{MeansListed, MeansSame, OfDomain}
-use Rattle.mc_domain.specs.SourceFault.{IsSilent}
+use Rattle.mc_domain.specs.InputView.{certificate_text}
+use Rattle.mc_domain.specs.Meaning.{MeansDomainAsListed, MeansSamePerFlow, MeansDomainWhere}
+use Rattle.mc_domain.specs.SourceFault.{IsReadOrMemory}
 use Rattle.mc_domain.specs.declared.source_fault.SourceFault.{SourceFault}
 use Rattle.mc_domain.specs.declared.source_fault.SourceFault.TheVariants as source
 use Rattle.mc_run.specs.InputMeaning.{IsRefusedFor, MeansListedWith, MeansWithLists}
 use Rattle.mc_run.specs.AuditRun.{AuditSaysYes, yes_object}
 use Rattle.mc_run.specs.CheckRun.{IsLineStart, SaysYes, WroteAtStart}
-use Rattle.mc_text.specs.Device.{counted}
+use Rattle.mc_text.specs.Device.{failures_after}
 use Rattle.mc_run.specs.Failures.{IsNoDeviceFault, is_read, is_write}
-use Rattle.mc_run.specs.Said.{Answers, IsSaid, Writes, WritesPart}
+use Rattle.mc_run.specs.RunOutput.{Answers, IsOutputWritten, Writes, WritesPart}
 
 -- why a bundle is refused, as the run's fault
-bundle_refused : (with : Bool) (text : List ℕ) (f own : InputFault)
-    → (let r : Result InputValue SourceFault = refused_as source.Input (input_of with text) in r)
-    ≡ Err (source.Input own) → f ≡ own → input_of with text ≡ Err f
-bundle_refused with text f own e same = by (input_of with text) e
+is_refused_for-input_fault : (with : Bool) (text : List ℕ) (f own : InputFault)
+    → (let r : Result InputValue SourceFault = map_fault source.Input (input_of_bundle with text) in r)
+    ≡ Err (source.Input own) → f ≡ own → input_of_bundle with text ≡ Err f
+is_refused_for-input_fault with text f own e same = by (input_of_bundle with text) e
   where
-    by : (r : Result InputValue InputFault) → refused_as source.Input r ≡ Err (source.Input own)
+    by : (r : Result InputValue InputFault) → map_fault source.Input r ≡ Err (source.Input own)
         → r ≡ Err f
     by (Ok v) e = absurd cc
     by (Err fault) e = cc
 
-pub source_refused : (with : Bool) (text : List ℕ) (f : SourceFault)
-    → (¬ IsSilent f → refused_as source.Input (input_of with text) ≡ Err f)
-    → IsRefusedFor with text (of_source f)
-source_refused with text source.Read is = tt
-source_refused with text (source.Input (input.Bundle f)) is =
-    bundle_refused with text _ _ (is (λ silent. elim silent [ inl e ↦ absurd cc | inr e ↦ absurd cc ]))
+pub is_refused_for-source_fault : (with : Bool) (text : List ℕ) (f : SourceFault)
+    → (¬ IsReadOrMemory f → map_fault source.Input (input_of_bundle with text) ≡ Err f)
+    → IsRefusedFor with text (from_source_fault f)
+is_refused_for-source_fault with text source.Read is = tt
+is_refused_for-source_fault with text (source.Input (input.Bundle f)) is =
+    is_refused_for-input_fault with text _ _ (is (λ silent. elim silent [ inl e ↦ absurd cc | inr e ↦ absurd cc ]))
     refl
-source_refused with text (source.Input (input.Parts place)) is =
-    bundle_refused with text _ _ (is (λ silent. elim silent [ inl e ↦ absurd cc | inr e ↦ absurd cc ]))
+is_refused_for-source_fault with text (source.Input (input.Parts place)) is =
+    is_refused_for-input_fault with text _ _ (is (λ silent. elim silent [ inl e ↦ absurd cc | inr e ↦ absurd cc ]))
     refl
-source_refused with text (source.Input (input.Topology f)) is =
-    bundle_refused with text _ _ (is (λ silent. elim silent [ inl e ↦ absurd cc | inr e ↦ absurd cc ]))
+is_refused_for-source_fault with text (source.Input (input.Topology f)) is =
+    is_refused_for-input_fault with text _ _ (is (λ silent. elim silent [ inl e ↦ absurd cc | inr e ↦ absurd cc ]))
     refl
-source_refused with text (source.Input (input.Vif part f)) is =
-    bundle_refused with text _ _ (is (λ silent. elim silent [ inl e ↦ absurd cc | inr e ↦ absurd cc ]))
+is_refused_for-source_fault with text (source.Input (input.Vif part f)) is =
+    is_refused_for-input_fault with text _ _ (is (λ silent. elim silent [ inl e ↦ absurd cc | inr e ↦ absurd cc ]))
     refl
-source_refused with text (source.Input (input.Cache part f)) is =
-    bundle_refused with text _ _ (is (λ silent. elim silent [ inl e ↦ absurd cc | inr e ↦ absurd cc ]))
+is_refused_for-source_fault with text (source.Input (input.Cache part f)) is =
+    is_refused_for-input_fault with text _ _ (is (λ silent. elim silent [ inl e ↦ absurd cc | inr e ↦ absurd cc ]))
     refl
-source_refused with text (source.Input (input.Reports part f)) is =
-    bundle_refused with text _ _ (is (λ silent. elim silent [ inl e ↦ absurd cc | inr e ↦ absurd cc ]))
+is_refused_for-source_fault with text (source.Input (input.Reports part f)) is =
+    is_refused_for-input_fault with text _ _ (is (λ silent. elim silent [ inl e ↦ absurd cc | inr e ↦ absurd cc ]))
     refl
-source_refused with text (source.Input input.Memory) is = tt
+is_refused_for-source_fault with text (source.Input input.Memory) is = tt
 
 -- and of all that an input tells
-pub told_refused : (told : Option (List ℕ)) (with : Bool) (f : SourceFault)
-    → ((text : List ℕ) → told ≡ Some text → ¬ IsSilent f
-    → refused_as source.Input (input_of with text) ≡ Err f)
-    → IfSome told (λ text. IsRefusedFor with text (of_source f))
-told_refused None with f is = tt
-told_refused (Some text) with f is = source_refused with text f (is text refl)
+pub is_refused_for-source_of_contents : (contents : Option (List ℕ)) (with : Bool) (f : SourceFault)
+    → ((text : List ℕ) → contents ≡ Some text → ¬ IsReadOrMemory f
+    → map_fault source.Input (input_of_bundle with text) ≡ Err f)
+    → IfSome contents (λ text. IsRefusedFor with text (from_source_fault f))
+is_refused_for-source_of_contents None with f is = tt
+is_refused_for-source_of_contents (Some text) with f is = is_refused_for-source_fault with text f (is text refl)
 
 -- ---- what is meant
 
 -- no certificate was asked for, and none was read
-pub listed_alone : (told : Option (List ℕ)) (certificate : Option (Vec ℕ Global)) (d : DomainValue)
+pub means_listed-no_certificate : (contents : Option (List ℕ)) (certificate : Option (Vec ℕ Global)) (d : DomainValue)
     → is_some certificate ≡ false
-    → IfSome told (λ text. MeansListed text (text_seen certificate) d)
-    → IfSome told (λ text. MeansListed text None d)
-listed_alone None certificate d none means = tt
-listed_alone (Some text) None d none means = means
-listed_alone (Some text) (Some bytes) d none means = absurd cc
+    → IfSome contents (λ text. MeansDomainAsListed text (certificate_text certificate) d)
+    → IfSome contents (λ text. MeansDomainAsListed text None d)
+means_listed-no_certificate None certificate d none means = tt
+means_listed-no_certificate (Some text) None d none means = means
+means_listed-no_certificate (Some text) (Some bytes) d none means = absurd cc
 
 -- what holds of a domain holds of what is meant, where that says the same of each flow
-pub of_same : {X : Type 0} (Means : X → DomainValue → Type 0) (Holds : DomainValue → Type 0)
-    (told : Option X) (d : DomainValue)
-    → ((whole : DomainValue) → SaysTheSame whole d → Holds d → Holds whole)
-    → IfSome told (λ x. MeansSame Means x d) → Holds d → IfSome told (OfDomain Means Holds)
-of_same Means Holds None d moves means holds = tt
-of_same Means Holds (Some x) d moves means holds = record {
+pub of_domain-means_same : {X : Type 0} (Means : X → DomainValue → Type 0) (Holds : DomainValue → Type 0)
+    (contents : Option X) (d : DomainValue)
+    → ((whole : DomainValue) → HaveSameFacts whole d → Holds d → Holds whole)
+    → IfSome contents (λ x. MeansSamePerFlow Means x d) → Holds d → IfSome contents (MeansDomainWhere Means Holds)
+of_domain-means_same Means Holds None d moves means holds = tt
+of_domain-means_same Means Holds (Some x) d moves means holds = record {
   domain = means.whole;
   means = means.means;
   holds = moves means.whole means.same holds;
 }
 
 -- the same of what a call answers
-pub ok_same : {X A F : Type 0} (Means : X → DomainValue → Type 0) (Holds : A → DomainValue → Type 0)
-    (told : Option X) (d : DomainValue) (r : Result A F)
-    → ((a : A) (whole : DomainValue) → SaysTheSame whole d → Holds a d → Holds a whole)
-    → IfSome told (λ x. MeansSame Means x d)
-    → IfOk r (λ a. Holds a d) → IfOk r (λ a. IfSome told (OfDomain Means (Holds a)))
-ok_same Means Holds told d (Ok a) moves means holds =
-    of_same Means (Holds a) told d (moves a) means holds
-ok_same Means Holds told d (Err f) moves means holds = tt
+pub of_domain-ok_result : {X A F : Type 0} (Means : X → DomainValue → Type 0) (Holds : A → DomainValue → Type 0)
+    (contents : Option X) (d : DomainValue) (r : Result A F)
+    → ((a : A) (whole : DomainValue) → HaveSameFacts whole d → Holds a d → Holds a whole)
+    → IfSome contents (λ x. MeansSamePerFlow Means x d)
+    → IfOk r (λ a. Holds a d) → IfOk r (λ a. IfSome contents (MeansDomainWhere Means (Holds a)))
+of_domain-ok_result Means Holds contents d (Ok a) moves means holds =
+    of_domain-means_same Means (Holds a) contents d (moves a) means holds
+of_domain-ok_result Means Holds contents d (Err f) moves means holds = tt
 
 -- the same with the lists of a certificate
-pub of_listed_with : (Holds : DomainValue → List Tree → Type 0) (told : Option (List ℕ))
+pub of_domain-listed_with : (Holds : DomainValue → List Tree → Type 0) (contents : Option (List ℕ))
     (d : DomainValue) (lists : List Tree)
-    → ((whole : DomainValue) → SaysTheSame whole d → Holds d lists → Holds whole lists)
-    → IfSome told (λ text. MeansListedWith text d lists) → Holds d lists
-    → IfSome told (OfDomain MeansWithLists (λ c. Holds c.domain c.lists))
-of_listed_with Holds None d lists moves means holds = tt
-of_listed_with Holds (Some text) d lists moves means holds = record {
+    → ((whole : DomainValue) → HaveSameFacts whole d → Holds d lists → Holds whole lists)
+    → IfSome contents (λ text. MeansListedWith text d lists) → Holds d lists
+    → IfSome contents (MeansDomainWhere MeansWithLists (λ c. Holds c.domain c.lists))
+of_domain-listed_with Holds None d lists moves means holds = tt
+of_domain-listed_with Holds (Some text) d lists moves means holds = record {
   domain = record { domain = means.0; lists = lists };
   means = means.1;
   holds = moves means.0 means.2 holds;
 }
 
 -- what is so of whatever an input tells is so of what it told
-pub told_so : {X A F : Type 0} (Means : X → Type 0) (So : A → X → Type 0) (told : Option X)
-    (r : Result A F) → ((x : X) → Means x → IfOk r (λ a. So a x)) → IfSome told Means
-    → IfOk r (λ a. IfSome told (So a))
-told_so Means So told (Err f) follows means = tt
-told_so Means So None (Ok a) follows means = tt
-told_so Means So (Some x) (Ok a) follows means = follows x means
+pub means-known_contents : {X A F : Type 0} (Means : X → Type 0) (So : A → X → Type 0) (contents : Option X)
+    (r : Result A F) → ((x : X) → Means x → IfOk r (λ a. So a x)) → IfSome contents Means
+    → IfOk r (λ a. IfSome contents (So a))
+means-known_contents Means So contents (Err f) follows means = tt
+means-known_contents Means So None (Ok a) follows means = tt
+means-known_contents Means So (Some x) (Ok a) follows means = follows x means
 
 -- what follows of a domain follows of what is meant
-pub more_meant : {X D : Type 0} (Means : X → D → Type 0) (Holds More : D → Type 0)
-    → ((d : D) → Holds d → More d) → (x : X) → OfDomain Means Holds x → OfDomain Means More x
-more_meant Means Holds More follows x is =
+pub of_domain-implication : {X D : Type 0} (Means : X → D → Type 0) (Holds More : D → Type 0)
+    → ((d : D) → Holds d → More d) → (x : X) → MeansDomainWhere Means Holds x → MeansDomainWhere Means More x
+of_domain-implication Means Holds More follows x is =
     record { domain = is.domain; means = is.means; holds = follows is.domain is.holds }
 
 -- ---- devices
 
 -- a fault that is no device's leaves the count of the input's failures
-pub reads_same : {A : Type 0} (r : Result A RunFault) (before : ℕ) → IfErr r IsNoDeviceFault
-    → before ≡ counted is_read r before
-reads_same (Ok a) before none = refl
-reads_same (Err f) before none =
+pub counted_reads-no_device_fault : {A : Type 0} (r : Result A RunFault) (before : ℕ) → IfErr r IsNoDeviceFault
+    → before ≡ failures_after is_read r before
+counted_reads-no_device_fault (Ok a) before none = refl
+counted_reads-no_device_fault (Err f) before none =
     subst (λ (b : Bool). before ≡ cond b (before + 1) before) (sym none.0) refl
 
 -- and isn't the output's
-pub no_write : {A : Type 0} (r : Result A RunFault) → IfErr r IsNoDeviceFault
+pub is_write_fault-other_fault : {A : Type 0} (r : Result A RunFault) → IfErr r IsNoDeviceFault
     → IfErr r (λ fault. is_write fault ≡ false)
-no_write (Ok a) none = tt
-no_write (Err f) none = none.1
+is_write_fault-other_fault (Ok a) none = tt
+is_write_fault-other_fault (Err f) none = none.1
 
 -- ---- what is said
 
 -- what a run is to say is right of what it was handed
-abbrev pub AreSaid : {X : Type 0} → Option X → (X → Bool → List ℕ → Type 0)
-    → Result Said RunFault → Type 0
-AreSaid told Says s =
-    IfOk s (λ said. IfSome told (λ x. Says x said.yes (string_bytes said.text)))
+abbrev pub IsOutputOf : {X : Type 0} → Option X → (X → Bool → List ℕ → Type 0)
+    → Result RunOutput RunFault → Type 0
+IsOutputOf contents Says s =
+    IfOk s (λ run_output. IfSome contents (λ x. Says x run_output.yes (string_bytes run_output.text)))
 
 -- so its answer is right,
-pub answered : {X : Type 0} (told : Option X) (Says : X → Bool → List ℕ → Type 0)
-    (Refuses : X → RunFault → Type 0) (s : Result Said RunFault) (r : Result Bool RunFault)
-    (old new : Option (List ℕ)) → ((x : X) → Refuses x Write) → AreSaid told Says s
-    → IfErr s (λ fault. IfSome told (λ x. Refuses x fault)) → IsSaid s r old new
-    → IfSome told (λ x. Answers Says Refuses x r)
-answered None Says Refuses s r old new silent says refused is = tt
-answered (Some x) Says Refuses (Ok said) (Ok answer) old new silent says refused is = (
-  string_bytes said.text,
-  subst (λ (b : Bool). Says x b (string_bytes said.text)) (sym is.0) says,
+pub answers-output_written : {X : Type 0} (contents : Option X) (Says : X → Bool → List ℕ → Type 0)
+    (Refuses : X → RunFault → Type 0) (s : Result RunOutput RunFault) (r : Result Bool RunFault)
+    (old new : Option (List ℕ)) → ((x : X) → Refuses x Write) → IsOutputOf contents Says s
+    → IfErr s (λ fault. IfSome contents (λ x. Refuses x fault)) → IsOutputWritten s r old new
+    → IfSome contents (λ x. Answers Says Refuses x r)
+answers-output_written None Says Refuses s r old new silent says refused is = tt
+answers-output_written (Some x) Says Refuses (Ok run_output) (Ok answer) old new silent says refused is = (
+  string_bytes run_output.text,
+  subst (λ (b : Bool). Says x b (string_bytes run_output.text)) (sym is.0) says,
 )
-answered (Some x) Says Refuses (Ok said) (Err fault) old new silent says refused is =
+answers-output_written (Some x) Says Refuses (Ok run_output) (Err fault) old new silent says refused is =
     subst (Refuses x) (sym is.0) (silent x)
-answered (Some x) Says Refuses (Err cause) (Ok answer) old new silent says refused is = absurd is
-answered (Some x) Says Refuses (Err cause) (Err fault) old new silent says refused is =
+answers-output_written (Some x) Says Refuses (Err cause) (Ok answer) old new silent says refused is = absurd is
+answers-output_written (Some x) Says Refuses (Err cause) (Err fault) old new silent says refused is =
     subst (Refuses x) (sym is.0) refused
 
 -- its fault is that of what was to be said, or the output's,
-pub faults_written : (P : RunFault → Type 0) (s : Result Said RunFault) (r : Result Bool RunFault)
-    (old new : Option (List ℕ)) → P Write → IfErr s P → IsSaid s r old new → IfErr r P
-faults_written P (Ok said) (Ok answer) old new write own is = tt
-faults_written P (Ok said) (Err fault) old new write own is = subst P (sym is.0) write
-faults_written P (Err cause) (Ok answer) old new write own is = absurd is
-faults_written P (Err cause) (Err fault) old new write own is = subst P (sym is.0) own
+pub fault-of_output_or_write : (P : RunFault → Type 0) (s : Result RunOutput RunFault) (r : Result Bool RunFault)
+    (old new : Option (List ℕ)) → P Write → IfErr s P → IsOutputWritten s r old new → IfErr r P
+fault-of_output_or_write P (Ok run_output) (Ok answer) old new write own is = tt
+fault-of_output_or_write P (Ok run_output) (Err fault) old new write own is = subst P (sym is.0) write
+fault-of_output_or_write P (Err cause) (Ok answer) old new write own is = absurd is
+fault-of_output_or_write P (Err cause) (Err fault) old new write own is = subst P (sym is.0) own
 
 -- and what follows of the answer,
-pub answer_so : {X : Type 0} (told : Option X) (Says : X → Bool → List ℕ → Type 0)
-    (So : X → Bool → Type 0) (s : Result Said RunFault) (r : Result Bool RunFault)
+pub answer-gives : {X : Type 0} (contents : Option X) (Says : X → Bool → List ℕ → Type 0)
+    (So : X → Bool → Type 0) (s : Result RunOutput RunFault) (r : Result Bool RunFault)
     (old new : Option (List ℕ))
     → ((x : X) (answer : Bool) (written : List ℕ) → Says x answer written → So x answer)
-    → AreSaid told Says s → IsSaid s r old new → IfOk r (λ answer. IfSome told (λ x. So x answer))
-answer_so told Says So s (Err fault) old new follows says is = tt
-answer_so None Says So s (Ok answer) old new follows says is = tt
-answer_so (Some x) Says So (Ok said) (Ok answer) old new follows says is =
-    subst (So x) (sym is.0) (follows x said.yes (string_bytes said.text) says)
-answer_so (Some x) Says So (Err cause) (Ok answer) old new follows says is = absurd is
+    → IsOutputOf contents Says s → IsOutputWritten s r old new → IfOk r (λ answer. IfSome contents (λ x. So x answer))
+answer-gives contents Says So s (Err fault) old new follows says is = tt
+answer-gives None Says So s (Ok answer) old new follows says is = tt
+answer-gives (Some x) Says So (Ok run_output) (Ok answer) old new follows says is =
+    subst (So x) (sym is.0) (follows x run_output.yes (string_bytes run_output.text) says)
+answer-gives (Some x) Says So (Err cause) (Ok answer) old new follows says is = absurd is
 
 -- what is written whole,
-pub written_whole : {X : Type 0} (told : Option X) (Says : X → Bool → List ℕ → Type 0)
-    (s : Result Said RunFault) (r : Result Bool RunFault) (old new : Option (List ℕ))
-    → AreSaid told Says s → IsSaid s r old new
-    → IfOk r (λ answer. IfSome told (λ x. Writes Says x answer old new))
-written_whole told Says s (Err fault) old new says is = tt
-written_whole None Says s (Ok answer) old new says is = tt
-written_whole (Some x) Says (Ok said) (Ok answer) old new says is = (
-  string_bytes said.text,
-  subst (λ (b : Bool). Says x b (string_bytes said.text)) (sym is.0) says,
+pub writes-output_written : {X : Type 0} (contents : Option X) (Says : X → Bool → List ℕ → Type 0)
+    (s : Result RunOutput RunFault) (r : Result Bool RunFault) (old new : Option (List ℕ))
+    → IsOutputOf contents Says s → IsOutputWritten s r old new
+    → IfOk r (λ answer. IfSome contents (λ x. Writes Says x answer old new))
+writes-output_written contents Says s (Err fault) old new says is = tt
+writes-output_written None Says s (Ok answer) old new says is = tt
+writes-output_written (Some x) Says (Ok run_output) (Ok answer) old new says is = (
+  string_bytes run_output.text,
+  subst (λ (b : Bool). Says x b (string_bytes run_output.text)) (sym is.0) says,
   is.1,
 )
-written_whole (Some x) Says (Err cause) (Ok answer) old new says is = absurd is
+writes-output_written (Some x) Says (Err cause) (Ok answer) old new says is = absurd is
 
 -- and the part where the output fails
-pub written_part : {X : Type 0} (told : Option X) (Says : X → Bool → List ℕ → Type 0)
-    (s : Result Said RunFault) (r : Result Bool RunFault) (old new : Option (List ℕ))
-    → IfErr s (λ fault. is_write fault ≡ false) → AreSaid told Says s → IsSaid s r old new
-    → r ≡ Err Write → IfSome told (λ x. WritesPart Says x old new)
-written_part None Says s r old new unsaid says is write = tt
-written_part (Some x) Says (Ok said) (Ok answer) old new unsaid says is write = absurd cc
-written_part (Some x) Says (Ok said) (Err fault) old new unsaid says is write =
-    (said.yes, string_bytes said.text, says, is.1)
-written_part (Some x) Says (Err cause) (Ok answer) old new unsaid says is write = absurd is
-written_part (Some x) Says (Err cause) (Err fault) old new unsaid says is write =
+pub writes_part-output_written : {X : Type 0} (contents : Option X) (Says : X → Bool → List ℕ → Type 0)
+    (s : Result RunOutput RunFault) (r : Result Bool RunFault) (old new : Option (List ℕ))
+    → IfErr s (λ fault. is_write fault ≡ false) → IsOutputOf contents Says s → IsOutputWritten s r old new
+    → r ≡ Err Write → IfSome contents (λ x. WritesPart Says x old new)
+writes_part-output_written None Says s r old new unsaid says is write = tt
+writes_part-output_written (Some x) Says (Ok run_output) (Ok answer) old new unsaid says is write = absurd cc
+writes_part-output_written (Some x) Says (Ok run_output) (Err fault) old new unsaid says is write =
+    (run_output.yes, string_bytes run_output.text, says, is.1)
+writes_part-output_written (Some x) Says (Err cause) (Ok answer) old new unsaid says is write = absurd is
+writes_part-output_written (Some x) Says (Err cause) (Err fault) old new unsaid says is write =
     let same : fault ≡ Write = cc in
     absurd (false≢true (sym unsaid ∙ ap is_write (sym is.0 ∙ same)))
 
 -- what follows of what is said
-pub said_so : {X : Type 0} (told : Option X) (Says More : X → Bool → List ℕ → Type 0)
-    (s : Result Said RunFault)
+pub is_output_of-implication : {X : Type 0} (contents : Option X) (Says More : X → Bool → List ℕ → Type 0)
+    (s : Result RunOutput RunFault)
     → ((x : X) (answer : Bool) (written : List ℕ) → Says x answer written → More x answer written)
-    → AreSaid told Says s → AreSaid told More s
-said_so told Says More (Err fault) follows says = tt
-said_so None Says More (Ok said) follows says = tt
-said_so (Some x) Says More (Ok said) follows says =
-    follows x said.yes (string_bytes said.text) says
+    → IsOutputOf contents Says s → IsOutputOf contents More s
+is_output_of-implication contents Says More (Err fault) follows says = tt
+is_output_of-implication None Says More (Ok run_output) follows says = tt
+is_output_of-implication (Some x) Says More (Ok run_output) follows says =
+    follows x run_output.yes (string_bytes run_output.text) says
 
 -- ---- yes
 
 -- what stands behind the same front is the same
-pub cancel : (xs ys zs : List ℕ) → xs ++ ys ≡ xs ++ zs → ys ≡ zs
-cancel [] ys zs same = same
-cancel (x ∷ xs) ys zs same = cancel xs ys zs cc
+pub append-cancel_front : (xs ys zs : List ℕ) → xs ++ ys ≡ xs ++ zs → ys ≡ zs
+append-cancel_front [] ys zs same = same
+append-cancel_front (x ∷ xs) ys zs same = append-cancel_front xs ys zs cc
 
 -- with these words a line says yes: those of text, or an object
-abbrev pub AreYes : (words : List ℕ) → Type 0
-AreYes words = (words ≡ codes "verdict yes") ⊎ (words ≡ yes_object)
+abbrev pub AreYesWords : (words : List ℕ) → Type 0
+AreYesWords words = (words ≡ codes "verdict yes") ⊎ (words ≡ yes_object)
 
 -- these words stand in a text, at a line's start
-abbrev pub HasLine : (words text : List ℕ) → Type 0
-HasLine words text =
+abbrev pub HasLineWith : (words text : List ℕ) → Type 0
+HasLineWith words text =
     (front rest : List ℕ) × IsLineStart front × (text ≡ front ++ (words ++ rest))
 
-are_some : (words : List ℕ) → AreYes words → 0 < length words
-are_some words (inl is) = omega (arith, ap (λ (w : List ℕ). length w) is)
-are_some words (inr is) = omega (arith, ap (λ (w : List ℕ). length w) is)
+yes_words-not_empty : (words : List ℕ) → AreYesWords words → 0 < length words
+yes_words-not_empty words (inl is) = omega (arith, ap (λ (w : List ℕ). length w) is)
+yes_words-not_empty words (inr is) = omega (arith, ap (λ (w : List ℕ). length w) is)
 
 -- nothing was written where the output is as it was
-not_wrote : (words : List ℕ) (old : Option (List ℕ)) → AreYes words → WroteAtStart words old old → ⊥
-not_wrote words None are wrote = wrote
-not_wrote words (Some xs) are (front, rest, starts, same) =
+wrote_at_start-nothing_written : (words : List ℕ) (old : Option (List ℕ)) → AreYesWords words → WroteAtStart words old old → ⊥
+wrote_at_start-nothing_written words None are wrote = wrote
+wrote_at_start-nothing_written words (Some xs) are (front, rest, starts, same) =
     let size = ap (λ (bytes : List ℕ). length bytes) same in
-    let some = are_some words are in
+    let some = yes_words-not_empty words are in
     absurd (omega (
       arith,
       size,
@@ -268,13 +268,13 @@ not_wrote words (Some xs) are (front, rest, starts, same) =
     ))
 
 -- where they were written, with a text or a part of it, they stand in the text
-wrote_line : (words text : List ℕ) (k : ℕ) (old new : Option (List ℕ)) → Appends old new (take k text)
-    → WroteAtStart words old new → HasLine words text
-wrote_line words text k None new puts wrote = absurd wrote
-wrote_line words text k (Some xs) None puts wrote = absurd wrote
-wrote_line words text k (Some xs) (Some ys) puts (front, rest, starts, is) =
+has_line_with-wrote_at_start : (words text : List ℕ) (k : ℕ) (old new : Option (List ℕ)) → Appends old new (take k text)
+    → WroteAtStart words old new → HasLineWith words text
+has_line_with-wrote_at_start words text k None new puts wrote = absurd wrote
+has_line_with-wrote_at_start words text k (Some xs) None puts wrote = absurd wrote
+has_line_with-wrote_at_start words text k (Some xs) (Some ys) puts (front, rest, starts, is) =
     let more = words ++ rest in
-    let part : take k text ≡ front ++ more = cancel xs _ _ (sym puts ∙ is) in
+    let part : take k text ≡ front ++ more = append-cancel_front xs _ _ (sym puts ∙ is) in
     let whole : text ≡ front ++ (words ++ (rest ++ drop k text)) =
     sym (take-append-drop k text) ∙ ap (λ zs. zs ++ drop k text) part
     ∙ append_assoc front more (drop k text)
@@ -282,63 +282,63 @@ wrote_line words text k (Some xs) (Some ys) puts (front, rest, starts, is) =
     (front, rest ++ drop k text, starts, whole)
 
 -- Where what is said says yes with a line of these words, and yes has its headline,
-abbrev pub SaysYesBy : {X : Type 0} → (words : List ℕ) → (X → Bool → List ℕ → Type 0) → Type 0
-SaysYesBy {X} words Says =
-    (x : X) (answer : Bool) (written : List ℕ) → Says x answer written → HasLine words written
+abbrev pub SaysYesByLine : {X : Type 0} → (words : List ℕ) → (X → Bool → List ℕ → Type 0) → Type 0
+SaysYesByLine {X} words Says =
+    (x : X) (answer : Bool) (written : List ℕ) → Says x answer written → HasLineWith words written
     → answer ≡ true
 
 -- so has a run that wrote them,
-wrote_so : {X : Type 0} (words : List ℕ) (told : Option X) (Says : X → Bool → List ℕ → Type 0)
-    (Headline : X → Type 0) (s : Result Said RunFault) (r : Result Bool RunFault)
-    (old new : Option (List ℕ)) → AreYes words → SaysYesBy words Says → AreSaid told Says s
-    → IfOk s (λ said. IsTrue said.yes → IfSome told Headline) → IsSaid s r old new
-    → WroteAtStart words old new → IfSome told Headline
-wrote_so words None Says Headline s r old new are last says keeps is wrote = tt
-wrote_so words (Some x) Says Headline (Ok said) (Ok answer) old new are last says keeps is wrote =
-    let text = string_bytes said.text in
+headline-wrote_yes_line : {X : Type 0} (words : List ℕ) (contents : Option X) (Says : X → Bool → List ℕ → Type 0)
+    (Headline : X → Type 0) (s : Result RunOutput RunFault) (r : Result Bool RunFault)
+    (old new : Option (List ℕ)) → AreYesWords words → SaysYesByLine words Says → IsOutputOf contents Says s
+    → IfOk s (λ run_output. IsTrue run_output.yes → IfSome contents Headline) → IsOutputWritten s r old new
+    → WroteAtStart words old new → IfSome contents Headline
+headline-wrote_yes_line words None Says Headline s r old new are last says keeps is wrote = tt
+headline-wrote_yes_line words (Some x) Says Headline (Ok run_output) (Ok answer) old new are last says keeps is wrote =
+    let text = string_bytes run_output.text in
     let whole = subst (λ (b : List ℕ). Appends old new b)
     (sym (take_all (length text) text (omega arith))) is.1 in
-    keeps (last x said.yes text says (wrote_line words text (length text) old new whole wrote))
-wrote_so words (Some x) Says Headline (Ok said) (Err fault) old new are last says keeps is wrote =
-    let text = string_bytes said.text in
-    keeps (last x said.yes text says (wrote_line words text is.1.0 old new is.1.2 wrote))
-wrote_so words (Some x) Says Headline (Err cause) (Ok answer) old new are last says keeps is wrote =
+    keeps (last x run_output.yes text says (has_line_with-wrote_at_start words text (length text) old new whole wrote))
+headline-wrote_yes_line words (Some x) Says Headline (Ok run_output) (Err fault) old new are last says keeps is wrote =
+    let text = string_bytes run_output.text in
+    keeps (last x run_output.yes text says (has_line_with-wrote_at_start words text is.1.0 old new is.1.2 wrote))
+headline-wrote_yes_line words (Some x) Says Headline (Err cause) (Ok answer) old new are last says keeps is wrote =
     absurd is
-wrote_so words (Some x) Says Headline (Err cause) (Err fault) old new are last says keeps is wrote =
-    absurd (not_wrote words old are
+headline-wrote_yes_line words (Some x) Says Headline (Err cause) (Err fault) old new are last says keeps is wrote =
+    absurd (wrote_at_start-nothing_written words old are
     (subst (λ (o : Option (List ℕ)). WroteAtStart words old o) is.1 wrote))
 
 -- and one that answers true.
-true_so : (Keeps : Type 0) (s : Result Said RunFault) (r : Result Bool RunFault)
-    (old new : Option (List ℕ)) → IfOk s (λ said. IsTrue said.yes → Keeps) → IsSaid s r old new
+headline-answered_true : (Keeps : Type 0) (s : Result RunOutput RunFault) (r : Result Bool RunFault)
+    (old new : Option (List ℕ)) → IfOk s (λ run_output. IsTrue run_output.yes → Keeps) → IsOutputWritten s r old new
     → r ≡ Ok true → Keeps
-true_so Keeps (Ok said) (Ok answer) old new keeps is ok =
+headline-answered_true Keeps (Ok run_output) (Ok answer) old new keeps is ok =
     let true_is : answer ≡ true = cc in
     keeps (sym is.0 ∙ true_is)
-true_so Keeps (Ok said) (Err fault) old new keeps is ok = absurd cc
-true_so Keeps (Err cause) (Ok answer) old new keeps is ok = absurd is
-true_so Keeps (Err cause) (Err fault) old new keeps is ok = absurd cc
+headline-answered_true Keeps (Ok run_output) (Err fault) old new keeps is ok = absurd cc
+headline-answered_true Keeps (Err cause) (Ok answer) old new keeps is ok = absurd is
+headline-answered_true Keeps (Err cause) (Err fault) old new keeps is ok = absurd cc
 
 -- So has a check that says yes,
-pub headline_said : {X : Type 0} (told : Option X) (Says : X → Bool → List ℕ → Type 0)
-    (Headline : X → Type 0) (s : Result Said RunFault) (r : Result Bool RunFault)
-    (old new : Option (List ℕ)) → SaysYesBy (codes "verdict yes") Says → AreSaid told Says s
-    → IfOk s (λ said. IsTrue said.yes → IfSome told Headline) → IsSaid s r old new
-    → SaysYes r old new → IfSome told Headline
-headline_said told Says Headline s r old new last says keeps is (inl ok) =
-    true_so (IfSome told Headline) s r old new keeps is ok
-headline_said told Says Headline s r old new last says keeps is (inr wrote) =
-    wrote_so (codes "verdict yes") told Says Headline s r old new (inl refl) last says keeps is wrote
+pub headline-check_says_yes : {X : Type 0} (contents : Option X) (Says : X → Bool → List ℕ → Type 0)
+    (Headline : X → Type 0) (s : Result RunOutput RunFault) (r : Result Bool RunFault)
+    (old new : Option (List ℕ)) → SaysYesByLine (codes "verdict yes") Says → IsOutputOf contents Says s
+    → IfOk s (λ run_output. IsTrue run_output.yes → IfSome contents Headline) → IsOutputWritten s r old new
+    → SaysYes r old new → IfSome contents Headline
+headline-check_says_yes contents Says Headline s r old new last says keeps is (inl ok) =
+    headline-answered_true (IfSome contents Headline) s r old new keeps is ok
+headline-check_says_yes contents Says Headline s r old new last says keeps is (inr wrote) =
+    headline-wrote_yes_line (codes "verdict yes") contents Says Headline s r old new (inl refl) last says keeps is wrote
 
 -- and an audit, which says it with a line of the one words or the other.
-pub headline_told : {X : Type 0} (told : Option X) (Says : X → Bool → List ℕ → Type 0)
-    (Headline : X → Type 0) (s : Result Said RunFault) (r : Result Bool RunFault)
-    (old new : Option (List ℕ)) → SaysYesBy (codes "verdict yes") Says → SaysYesBy yes_object Says
-    → AreSaid told Says s → IfOk s (λ said. IsTrue said.yes → IfSome told Headline)
-    → IsSaid s r old new → AuditSaysYes r old new → IfSome told Headline
-headline_told told Says Headline s r old new last object says keeps is (inl ok) =
-    true_so (IfSome told Headline) s r old new keeps is ok
-headline_told told Says Headline s r old new last object says keeps is (inr (inl wrote)) =
-    wrote_so (codes "verdict yes") told Says Headline s r old new (inl refl) last says keeps is wrote
-headline_told told Says Headline s r old new last object says keeps is (inr (inr wrote)) =
-    wrote_so yes_object told Says Headline s r old new (inr refl) object says keeps is wrote
+pub headline-audit_says_yes : {X : Type 0} (contents : Option X) (Says : X → Bool → List ℕ → Type 0)
+    (Headline : X → Type 0) (s : Result RunOutput RunFault) (r : Result Bool RunFault)
+    (old new : Option (List ℕ)) → SaysYesByLine (codes "verdict yes") Says → SaysYesByLine yes_object Says
+    → IsOutputOf contents Says s → IfOk s (λ run_output. IsTrue run_output.yes → IfSome contents Headline)
+    → IsOutputWritten s r old new → AuditSaysYes r old new → IfSome contents Headline
+headline-audit_says_yes contents Says Headline s r old new last object says keeps is (inl ok) =
+    headline-answered_true (IfSome contents Headline) s r old new keeps is ok
+headline-audit_says_yes contents Says Headline s r old new last object says keeps is (inr (inl wrote)) =
+    headline-wrote_yes_line (codes "verdict yes") contents Says Headline s r old new (inl refl) last says keeps is wrote
+headline-audit_says_yes contents Says Headline s r old new last object says keeps is (inr (inr wrote)) =
+    headline-wrote_yes_line yes_object contents Says Headline s r old new (inr refl) object says keeps is wrote

@@ -5,22 +5,22 @@ use Rattle.std.specs.Prelude.{ℕ, ◌==◌, ◌+◌, ◌&&◌, not, Bool, List,
 use Rattle.std.specs.Prelude.{flat_map, length, map, if◌then◌else◌}
 use Rattle.std.specs.List.{list_all, list_any}
 use Rattle.std.specs.Str.{bytes_eq}
-use Rattle.mc_tables.specs.Notes.{NotesText}
+use Rattle.mc_tables.specs.Summary.{SummaryValue}
 use Rattle.mc_topology.specs.Topology.{TopologyValue, router_name}
 use Rattle.mc_theory.specs.Lists.{below}
 use Rattle.mc_forward.specs.ListedTables.{DomainFacts}
 use Rattle.mc_maker.specs.Examined.{is_certified}
 use Rattle.mc_maker.specs.declared.examination.Examined.{Examined}
-use Rattle.mc_explain.specs.LeftOutText.{left_out_routers, left_out_text, without_text}
+use Rattle.mc_explain.specs.ExcludedText.{excluded_routers, excluded_text, without_text}
 use Rattle.mc_explain.specs.UnlistedText.{unlisted_text}
 use Rattle.mc_json.specs.DomainData.{domain_data}
 use Rattle.mc_json.specs.EndData.{summary_data, unlisted_lines, verdict_data, without_line}
 use Rattle.mc_json.specs.RowData.{line_of}
 use Rattle.mc_run.specs.VerdictText.{last_line}
 use Rattle.mc_run.specs.declared.audit_options.AuditOptions.{AuditOptions}
-use Rattle.mc_run.specs.declared.standing.Standing.{Standing}
-use Rattle.mc_run.specs.declared.standing.Standing.TheVariants.{Wanted, Unwanted, Wrong}
-use Rattle.mc_run.specs.declared.standing.Standings.{Standings}
+use Rattle.mc_run.specs.declared.flow_status.FlowStatus.{FlowStatus}
+use Rattle.mc_run.specs.declared.flow_status.FlowStatus.TheVariants.{Wanted, Unwanted, Wrong}
+use Rattle.mc_run.specs.declared.flow_status.FlowCounts.{FlowCounts}
 
 -- what is told of a flow: what its examination says, the LANs that want it, and its lines
 pub record FlowAnswer : Type 0 where
@@ -35,11 +35,11 @@ are_right answers = list_all (λ a. is_certified a.examined) answers
 -- ---- how many are
 
 -- one flow more that stands so
-abbrev pub with_standing : Standings → Standing → Standings
-with_standing s Wanted = record { right = s.right + 1; wrong = s.wrong; unwanted = s.unwanted }
-with_standing s Unwanted =
+abbrev pub with_status : FlowCounts → FlowStatus → FlowCounts
+with_status s Wanted = record { right = s.right + 1; wrong = s.wrong; unwanted = s.unwanted }
+with_status s Unwanted =
     record { right = s.right + 1; wrong = s.wrong; unwanted = s.unwanted + 1 }
-with_standing s Wrong = record { right = s.right; wrong = s.wrong + 1; unwanted = s.unwanted }
+with_status s Wrong = record { right = s.right; wrong = s.wrong + 1; unwanted = s.unwanted }
 
 abbrev pub is_right : FlowAnswer → Bool
 is_right a = is_certified a.examined
@@ -54,8 +54,8 @@ is_unwanted a = is_certified a.examined && (length a.wanted == 0)
 abbrev pub count : (FlowAnswer → Bool) → List FlowAnswer → ℕ
 count p answers = length (filter p answers)
 
-abbrev pub summary_by : (flows right wrong unwanted : ℕ) → List ℕ
-summary_by flows right wrong unwanted =
+abbrev pub summary_line : (flows right wrong unwanted : ℕ) → List ℕ
+summary_line flows right wrong unwanted =
     codes "summary flows " ++ (decimal flows
     ++ (codes " right " ++ (decimal right
     ++ (codes " wrong " ++ (decimal wrong
@@ -74,62 +74,62 @@ abbrev pub is_among : (names : List (List ℕ)) → (name : List ℕ) → Bool
 is_among names name = list_any (λ other. bytes_eq other name) names
 
 -- a mark for each router, in order: whether it has one of the names
-abbrev pub left_out_marks : TopologyValue → (names : List (List ℕ)) → List Bool
-left_out_marks t names = map (λ r. is_among names (router_name t r)) (below (length t.routers))
+abbrev pub excluded_marks : TopologyValue → (names : List (List ℕ)) → List Bool
+excluded_marks t names = map (λ r. is_among names (router_name t r)) (below (length t.routers))
 
 -- ---- what stands before the lines of flows
 
-abbrev pub word_if : Bool → (word : List ℕ) → List (List ℕ)
-word_if asked word = if asked then word ∷ [] else []
+abbrev pub word_if_asked : Bool → (word : List ℕ) → List (List ℕ)
+word_if_asked asked word = if asked then word ∷ [] else []
 
-abbrev pub words_of_router : TopologyValue → (router : ℕ) → List (List ℕ)
-words_of_router t router = codes "--without" ∷ router_name t router ∷ []
+abbrev pub without_words : TopologyValue → (router : ℕ) → List (List ℕ)
+without_words t router = codes "--without" ∷ router_name t router ∷ []
 
 -- the words that ask for these options, and leave the marked routers out
-abbrev pub option_words : AuditOptions → TopologyValue → (left_out : List Bool) → List (List ℕ)
-option_words o t left_out =
-    word_if o.travels (codes "--travel")
-    ++ (word_if o.faults (codes "--faults")
-    ++ (word_if o.unlisted (codes "--unlisted")
-    ++ (word_if o.strict (codes "--strict")
-    ++ (word_if o.json (codes "--json")
-    ++ flat_map (words_of_router t) (left_out_routers t left_out)))))
+abbrev pub option_words : AuditOptions → TopologyValue → (excluded : List Bool) → List (List ℕ)
+option_words o t excluded =
+    word_if_asked o.travels (codes "--travel")
+    ++ (word_if_asked o.faults (codes "--faults")
+    ++ (word_if_asked o.unlisted (codes "--unlisted")
+    ++ (word_if_asked o.strict (codes "--strict")
+    ++ (word_if_asked o.json (codes "--json")
+    ++ flat_map (without_words t) (excluded_routers t excluded)))))
 
 -- in JSON the domain and these words, and nothing in text
-abbrev pub begin_lines : AuditOptions → DomainFacts → (left_out : List Bool) → List ℕ
-begin_lines o d left_out =
-    if o.json then line_of (domain_data d (option_words o d.topology left_out)) else []
+abbrev pub begin_lines : AuditOptions → DomainFacts → (excluded : List Bool) → List ℕ
+begin_lines o d excluded =
+    if o.json then line_of (domain_data d (option_words o d.topology excluded)) else []
 
 -- ---- what stands behind them, before the last line
 
 -- of so many flows, of which so many stand how, where all is right and nothing left out, or not
-abbrev pub end_text : AuditOptions → TopologyValue → List NotesText → (left_out : List Bool)
+abbrev pub end_text : AuditOptions → TopologyValue → List SummaryValue → (excluded : List Bool)
     → (all : Bool) → (flows right wrong unwanted : ℕ) → List ℕ
-end_text o t notes left_out all flows right wrong unwanted =
-    unlisted_text o.unlisted t notes
-    ++ (without_text t left_out
-    ++ (summary_by flows right wrong unwanted
-    ++ (left_out_text t left_out ++ strict_lines o.strict all unwanted)))
+end_text o t summary excluded all flows right wrong unwanted =
+    unlisted_text o.unlisted t summary
+    ++ (without_text t excluded
+    ++ (summary_line flows right wrong unwanted
+    ++ (excluded_text t excluded ++ strict_lines o.strict all unwanted)))
 
-abbrev pub end_objects : AuditOptions → TopologyValue → List NotesText → (left_out : List Bool)
+abbrev pub end_objects : AuditOptions → TopologyValue → List SummaryValue → (excluded : List Bool)
     → (right wrong unwanted : ℕ) → List ℕ
-end_objects o t notes left_out right wrong unwanted =
-    unlisted_lines o.unlisted t notes
-    ++ (without_line t left_out ++ line_of (summary_data right unwanted wrong))
+end_objects o t summary excluded right wrong unwanted =
+    unlisted_lines o.unlisted t summary
+    ++ (without_line t excluded ++ line_of (summary_data right unwanted wrong))
 
-abbrev pub end_by : AuditOptions → TopologyValue → List NotesText → (left_out : List Bool)
+abbrev pub end_text_or_objects : AuditOptions → TopologyValue → List SummaryValue → (excluded : List Bool)
     → (all : Bool) → (flows right wrong unwanted : ℕ) → List ℕ
-end_by o t notes left_out all flows right wrong unwanted =
-    if o.json then end_objects o t notes left_out right wrong unwanted
-    else end_text o t notes left_out all flows right wrong unwanted
+end_text_or_objects o t summary excluded all flows right wrong unwanted =
+    if o.json then end_objects o t summary excluded right wrong unwanted
+    else end_text o t summary excluded all flows right wrong unwanted
 
 -- as the flows stand
-abbrev pub end_lines : AuditOptions → TopologyValue → List NotesText → (left_out : List Bool)
+abbrev pub end_lines : AuditOptions → TopologyValue → List SummaryValue → (excluded : List Bool)
     → (all : Bool) → List FlowAnswer → List ℕ
-end_lines o t notes left_out all answers =
-    end_by o t notes left_out all (length answers) (count is_right answers) (count is_wrong answers)
+end_lines o t summary excluded all answers =
+    end_text_or_objects o t summary excluded all (length answers) (count is_right answers) (count is_wrong answers)
     (count is_unwanted answers)
 
 -- the last line
-abbrev pub verdict_told : (json all : Bool) → List ℕ
-verdict_told json all = if json then line_of (verdict_data all) else last_line all
+abbrev pub verdict_line : (json all : Bool) → List ℕ
+verdict_line json all = if json then line_of (verdict_data all) else last_line all

@@ -1,38 +1,38 @@
 -- What `mcaudit audit` writes of a flow in JSON: an object a line, with the facts that the text tells.
 use Rattle.std.specs.Prelude.{ℕ, Bool, List, [], ◌++◌, map, length, is_some, if◌then◌else◌}
-use Rattle.mc_tables.specs.Notes.{NotesText}
+use Rattle.mc_tables.specs.Summary.{SummaryValue}
 use Rattle.mc_topology.specs.declared.flow.Flow.{Flow}
 use Rattle.mc_topology.specs.Topology.{TopologyValue}
 use Rattle.mc_forward.specs.ListedTables.{DomainFacts}
 use Rattle.mc_cert.specs.Certificate.{Tree}
-use Rattle.mc_cert.specs.Distinct.{place_in, place_of, with_tree}
+use Rattle.mc_cert.specs.Distinct.{find_tree, tree_number_of, with_tree}
 use Rattle.mc_replay.specs.declared.travel.Travel.{Travel}
 use Rattle.mc_json.specs.FlowData.{right_data, tree_data, wrong_line}
 use Rattle.mc_json.specs.RowData.{line_of}
-use Rattle.mc_json.specs.ToldData.{lan_data}
+use Rattle.mc_json.specs.CauseData.{lan_data}
 use Rattle.mc_json.specs.WhyData.{why_data}
 use Rattle.mc_run.specs.AuditText.{Explanation}
 
 -- ---- a flow that is right
 
 -- the way of a flow, if it is none of those that were told before
-abbrev pub way_line : TopologyValue → (told : List Tree) → Tree → List ℕ
-way_line t told es =
-    if is_some (place_in told es) then [] else line_of (tree_data t es (length told))
+abbrev pub tree_line : TopologyValue → (printed : List Tree) → Tree → List ℕ
+tree_line t printed es =
+    if is_some (find_tree printed es) then [] else line_of (tree_data t es (length printed))
 
 -- and behind it the flow, by the number of its way, with the LANs that want it
-abbrev pub right_objects : (whole : Bool) → TopologyValue → (told : List Tree) → (number : ℕ) → Flow
+abbrev pub right_objects : (whole : Bool) → TopologyValue → (printed : List Tree) → (number : ℕ) → Flow
     → Tree → (wanted : List ℕ) → List ℕ
-right_objects whole t told number f es wanted =
-    way_line t told es
-    ++ line_of (right_data whole number f (length es) (place_of (with_tree told es) es)
+right_objects whole t printed number f es wanted =
+    tree_line t printed es
+    ++ line_of (right_data whole number f (length es) (tree_number_of (with_tree printed es) es)
     (map (lan_data t) wanted))
 
 -- ---- a flow that isn't
 
 -- what is found, why, the LANs that were missed besides, and where that is asked for the travel
-abbrev pub wrong_object : (travels : Bool) → DomainFacts → List NotesText → (number : ℕ) → Flow
+abbrev pub wrong_object : (travels : Bool) → DomainFacts → List SummaryValue → (number : ℕ) → Flow
     → (ttl : ℕ) → Travel → Explanation → List ℕ
-wrong_object travels d notes number f ttl travel x =
+wrong_object travels d summary number f ttl travel x =
     wrong_line d number f ttl travel.finding travel.events.items x.also
-    (why_data d notes number f x.told x.search) travels
+    (why_data d summary number f x.printed x.search) travels

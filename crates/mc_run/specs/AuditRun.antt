@@ -2,50 +2,50 @@
 use Rattle.std.specs.Prelude.{◌≡◌, ◌≤◌, ◌==◌, ◌&&◌, ◌⊎◌, ℕ, Bool, true, false, List, [], ◌++◌, codes}
 use Rattle.std.specs.Prelude.{flat_map, fold, length, slice_get, take, Option, Some, Result, Ok}
 use Rattle.mc_layout.specs.Files.{FileText}
-use Rattle.mc_tables.specs.Notes.{NotesText}
+use Rattle.mc_tables.specs.Summary.{SummaryValue}
 use Rattle.mc_topology.specs.declared.flow.Flow.{Flow}
 use Rattle.mc_theory.specs.Certificates.{IsAccepted, IsRight}
 use Rattle.mc_theory.specs.Headline.{HeadlineHolds}
-use Rattle.mc_theory.specs.LeftOut.{IsUnclean}
+use Rattle.mc_theory.specs.ExcludedRouters.{IsSecondCopyOrStray}
 use Rattle.mc_forward.specs.Domains.{DomainValue, net_of, ttl_of}
 use Rattle.mc_forward.specs.ListedTables.{facts}
 use Rattle.mc_cert.specs.Certificate.{Tree}
 use Rattle.mc_replay.specs.FindingValues.{finding_value}
 use Rattle.mc_replay.specs.declared.travel.Travel.{Travel}
-use Rattle.mc_maker.specs.Examined.{FindsFault, IfCertified, IsTravelOfFirst, IsTtlOfFault}
-use Rattle.mc_maker.specs.Flown.{IsFlown, examined_by}
+use Rattle.mc_maker.specs.Examined.{FindsFault, IfCertified, IsFirstPickTravel, IsTtlOfFault}
+use Rattle.mc_maker.specs.ExaminedFlights.{HasExaminedFlights, without_flights}
 use Rattle.mc_maker.specs.declared.examination.Examined.{Examined}
-use Rattle.mc_maker.specs.declared.flown.Flown.{Flown}
-use Rattle.mc_explain.specs.WantedText.{wanting}
-use Rattle.mc_domain.specs.Meaning.{MeansFiles, OfDomain}
-use Rattle.mc_domain.specs.LeftOut.{AreRouters, left_out_files}
-use Rattle.mc_domain.specs.NotesOfFiles.{AreNotesOf}
+use Rattle.mc_maker.specs.declared.examined_flights.ExaminedFlights.{ExaminedFlights}
+use Rattle.mc_explain.specs.WantedText.{lans_wanting}
+use Rattle.mc_domain.specs.Meaning.{FilesMeanDomain, MeansDomainWhere}
+use Rattle.mc_domain.specs.ExcludedRouters.{AreRouterNames, files_with_exclusions}
+use Rattle.mc_domain.specs.SummariesOfFiles.{AreSummariesOf}
 use Rattle.mc_json.specs.FlowData.{Wrong, wrong_data}
 use Rattle.mc_json.specs.RowData.{line_of}
 use Rattle.mc_run.specs.AuditEnd.{FlowAnswer, are_right, begin_lines, count, end_lines, is_unwanted}
-use Rattle.mc_run.specs.AuditEnd.{left_out_marks, verdict_told}
+use Rattle.mc_run.specs.AuditEnd.{excluded_marks, verdict_line}
 use Rattle.mc_run.specs.AuditReasons.{IsExplanation}
 use Rattle.mc_run.specs.AuditText.{Explanation}
-use Rattle.mc_run.specs.AuditTold.{answer_lines, right_told, ways_with, wrong_told}
+use Rattle.mc_run.specs.AuditFlowText.{answer_lines, right_flow_lines, shown_trees_with, wrong_flow_lines}
 use Rattle.mc_run.specs.CheckRun.{KeepsHeadline, WroteAtStart, WroteYes}
-use Rattle.mc_run.specs.MakeRun.{AreExamined, AreRight, IsExamined, lists_of, no_certificate_line}
+use Rattle.mc_run.specs.MakeRun.{AreExamined, AreRight, IsExamined, certified_lists, no_certificate_line}
 use Rattle.mc_run.specs.declared.audit_options.AuditOptions.{AuditOptions}
 use Rattle.mc_run.specs.declared.fault.RunFault.{RunFault}
 
 -- ---- what is said of a domain
 
 -- a domain, what is noted of each router's cache, and the names of the routers that are left out
-pub record NotedValue : Type 0 where
+pub record AuditedValue : Type 0 where
   pub domain : DomainValue
-  pub notes : List NotesText
+  pub summary : List SummaryValue
   pub without : List (List ℕ)
 
 -- a mark for each router: whether it is left out
-abbrev pub left_out : NotedValue → List Bool
-left_out v = left_out_marks v.domain.topology v.without
+abbrev pub excluded : AuditedValue → List Bool
+excluded v = excluded_marks v.domain.topology v.without
 
 -- none is
-abbrev pub is_whole : NotedValue → Bool
+abbrev pub is_whole : AuditedValue → Bool
 is_whole v = length v.without == 0
 
 -- What is said of a flow: it is examined, and where it is certified, the checker accepts its list,
@@ -57,70 +57,70 @@ pub record IsChecked (d : DomainValue) (flow : ℕ) (x : Examined) : Type 0 wher
 -- What is told of the flow with this number, behind others that told these ways: what its
 -- examination says, by the flights of its packets, what explains that, and which LANs want it; and
 -- these are its lines.
-pub record IsAnswer (v : NotedValue) (o : AuditOptions) (told : List Tree) (flow : ℕ) (a : FlowAnswer)
+pub record IsFlowAnswer (v : AuditedValue) (o : AuditOptions) (printed : List Tree) (flow : ℕ) (a : FlowAnswer)
     : Type 0 where
   pub listed : Flow
-  pub flown : Flown
+  pub flown : ExaminedFlights
   pub explanation : Explanation
-  pub stands : slice_get v.domain.topology.flows flow ≡ Some listed
-  pub flies : IsFlown v.domain flow flown
-  pub examined : a.examined ≡ examined_by v.domain flow flown
+  pub matches : slice_get v.domain.topology.flows flow ≡ Some listed
+  pub flies : HasExaminedFlights v.domain flow flown
+  pub examined : a.examined ≡ without_flights v.domain flow flown
   pub checked : IsChecked v.domain flow a.examined
-  pub explained : IsExplanation v.domain v.notes (left_out v) (is_whole v) flow flown
+  pub explained : IsExplanation v.domain v.summary (excluded v) (is_whole v) flow flown
       explanation
-  pub wanted : a.wanted ≡ wanting (facts v.domain) flow
-  pub spelled : a.lines ≡ answer_lines o (is_whole v) (facts v.domain) v.notes told flow listed
+  pub wanted : a.wanted ≡ lans_wanting (facts v.domain) flow
+  pub spelled : a.lines ≡ answer_lines o (is_whole v) (facts v.domain) v.summary printed flow listed
       a.examined explanation a.wanted
 
 -- the ways that the lines of these flows tell, each once, in the order of first use
-abbrev pub ways_told : AuditOptions → List FlowAnswer → List Tree
-ways_told o = fold (λ told a. ways_with o told a.examined a.wanted) []
+abbrev pub trees_shown : AuditOptions → List FlowAnswer → List Tree
+trees_shown o = fold (λ printed a. shown_trees_with o printed a.examined a.wanted) []
 
 -- one for each flow of the domain's topology, in order
-pub record AreAnswers (v : NotedValue) (o : AuditOptions) (answers : List FlowAnswer) : Type 0 where
+pub record AreFlowAnswers (v : AuditedValue) (o : AuditOptions) (answers : List FlowAnswer) : Type 0 where
   pub count : length answers ≡ length v.domain.topology.flows
   pub each : (flow : ℕ) (a : FlowAnswer) → slice_get answers flow ≡ Some a
-      → IsAnswer v o (ways_told o (take flow answers)) flow a
+      → IsFlowAnswer v o (trees_shown o (take flow answers)) flow a
 
 -- whether all flows are right, and nothing is left out
-abbrev pub is_yes : NotedValue → List FlowAnswer → Bool
+abbrev pub is_yes : AuditedValue → List FlowAnswer → Bool
 is_yes v answers = is_whole v && are_right answers
 
 -- what is written of all flows, before and behind that
-abbrev pub audit_text : NotedValue → AuditOptions → List FlowAnswer → List ℕ
+abbrev pub audit_text : AuditedValue → AuditOptions → List FlowAnswer → List ℕ
 audit_text v o answers =
-    begin_lines o (facts v.domain) (left_out v)
+    begin_lines o (facts v.domain) (excluded v)
     ++ (flat_map (λ a. a.lines) answers
-    ++ (end_lines o v.domain.topology v.notes (left_out v) (is_yes v answers) answers
-    ++ verdict_told o.json (is_yes v answers)))
+    ++ (end_lines o v.domain.topology v.summary (excluded v) (is_yes v answers) answers
+    ++ verdict_line o.json (is_yes v answers)))
 
 -- This is written, and whether all flows are right and nothing is left out.
-pub record IsAudited (v : NotedValue) (o : AuditOptions) (all : Bool) (written : List ℕ)
+pub record IsAudited (v : AuditedValue) (o : AuditOptions) (all : Bool) (written : List ℕ)
     : Type 0 where
   pub answers : List FlowAnswer
-  pub are_answers : AreAnswers v o answers
+  pub are_answers : AreFlowAnswers v o answers
   pub answer : all ≡ is_yes v answers
   pub spelled : written ≡ audit_text v o answers
 
 -- The files mean a domain with these notes, where the routers of these names are left out, which are
 -- all the domain's.
-pub record MeansNoted (o : AuditOptions) (names : List (List ℕ)) (files : List FileText)
-    (v : NotedValue) : Type 0 where
-  pub means : MeansFiles (left_out_files names files) v.domain
-  pub routers : AreRouters v.domain.topology names
-  pub notes : AreNotesOf o.unlisted (left_out_files names files) v.domain.topology v.notes
+pub record MeansAudited (o : AuditOptions) (names : List (List ℕ)) (files : List FileText)
+    (v : AuditedValue) : Type 0 where
+  pub means : FilesMeanDomain (files_with_exclusions names files) v.domain
+  pub routers : AreRouterNames v.domain.topology names
+  pub summary : AreSummariesOf o.unlisted (files_with_exclusions names files) v.domain.topology v.summary
   pub without : v.without ≡ names
 
 -- and this is written of it
 abbrev pub IsAuditText : AuditOptions → (names : List (List ℕ)) → List FileText → Bool → List ℕ
     → Type 0
 IsAuditText o names files all written =
-    OfDomain (MeansNoted o names) (λ v. IsAudited v o all written) files
+    MeansDomainWhere (MeansAudited o names) (λ v. IsAudited v o all written) files
 
 -- of the domain's flows so many are right and wanted by no LAN
-pub record HasUnwanted (v : NotedValue) (o : AuditOptions) (unwanted : ℕ) : Type 0 where
+pub record HasUnwanted (v : AuditedValue) (o : AuditOptions) (unwanted : ℕ) : Type 0 where
   pub answers : List FlowAnswer
-  pub are_answers : AreAnswers v o answers
+  pub are_answers : AreFlowAnswers v o answers
   pub counted : unwanted ≡ count is_unwanted answers
 
 -- ---- what that says of the flows
@@ -132,16 +132,16 @@ SaysNoCertificate false flow f lines = (more : List ℕ) × (lines ≡ no_certif
 
 -- The lines say of a flow that it has a certificate, and which LANs want it, where it is right (where
 -- faults alone are asked for nothing, if it is wanted), and else that it has none.
-pub record SaysFlowRight (v : NotedValue) (o : AuditOptions) (flow : ℕ) (f : Flow) (lines : List ℕ)
+pub record SaysFlowRight (v : AuditedValue) (o : AuditOptions) (flow : ℕ) (f : Flow) (lines : List ℕ)
     : Type 0 where
-  pub right : IsRight (net_of v.domain flow) → (told : List Tree) × (es : Tree)
-      × (lines ≡ right_told o (is_whole v) v.domain.topology told flow f es
-      (wanting (facts v.domain) flow))
+  pub right : IsRight (net_of v.domain flow) → (printed : List Tree) × (es : Tree)
+      × (lines ≡ right_flow_lines o (is_whole v) v.domain.topology printed flow f es
+      (lans_wanting (facts v.domain) flow))
   pub wrong : ¬ IsRight (net_of v.domain flow) → SaysNoCertificate o.json flow f lines
 
 -- This was written of the domain: for each flow lines that say whether it is right, and last
 -- whether all are, and nothing is left out.
-pub record TellsWhichAreRight (v : NotedValue) (o : AuditOptions) (all : Bool) (written : List ℕ)
+pub record WritesWhichAreRight (v : AuditedValue) (o : AuditOptions) (all : Bool) (written : List ℕ)
     : Type 0 where
   pub begin : List ℕ
   pub lines : List (List ℕ)
@@ -150,7 +150,7 @@ pub record TellsWhichAreRight (v : NotedValue) (o : AuditOptions) (all : Bool) (
   pub count : length lines ≡ length v.domain.topology.flows
   pub each : (flow : ℕ) (f : Flow) (ls : List ℕ) → slice_get v.domain.topology.flows flow ≡ Some f
       → slice_get lines flow ≡ Some ls → SaysFlowRight v o flow f ls
-  pub spelled : written ≡ begin ++ (flat_map (λ ls. ls) lines ++ (end ++ verdict_told o.json all))
+  pub spelled : written ≡ begin ++ (flat_map (λ ls. ls) lines ++ (end ++ verdict_line o.json all))
   pub are_right : AreRight v.domain right
   pub answer : all ≡ (is_whole v && right)
 
@@ -158,42 +158,42 @@ pub record TellsWhichAreRight (v : NotedValue) (o : AuditOptions) (all : Bool) (
 abbrev pub SaysWhichAreRight : AuditOptions → (names : List (List ℕ)) → List FileText → Bool
     → List ℕ → Type 0
 SaysWhichAreRight o names files all written =
-    OfDomain (MeansNoted o names) (λ v. TellsWhichAreRight v o all written) files
+    MeansDomainWhere (MeansAudited o names) (λ v. WritesWhichAreRight v o all written) files
 
 -- The lines say yes to the flow with so many copies, or that no fault is known where routers are left
 -- out, and so it is of the tables that were read: the flow is right, the checker accepts a list of so
 -- many entries, and the headline holds with so many named.
-pub record SaysYesOf (v : NotedValue) (o : AuditOptions) (flow : ℕ) (f : Flow) (lines : List ℕ)
+pub record SaysYesOf (v : AuditedValue) (o : AuditOptions) (flow : ℕ) (f : Flow) (lines : List ℕ)
     : Type 0 where
   pub list : Tree
-  pub told : List Tree
+  pub printed : List Tree
   pub right : IsRight (net_of v.domain flow)
   pub accepted : IsAccepted (net_of v.domain flow) list
   pub headline : HeadlineHolds (net_of v.domain flow) (length list)
-  pub spelled : lines ≡ right_told o (is_whole v) v.domain.topology told flow f list
-      (wanting (facts v.domain) flow)
+  pub spelled : lines ≡ right_flow_lines o (is_whole v) v.domain.topology printed flow f list
+      (lans_wanting (facts v.domain) flow)
 
 -- The lines say that the flow has no certificate, and what is found, and so it is: the flow isn't
 -- right, and that is found by a run of its net: the travel of a packet with the told TTL. What
 -- explains it is told of the flights that were made.
-pub record SaysWhatIsFound (v : NotedValue) (o : AuditOptions) (flow : ℕ) (f : Flow)
+pub record SaysWhatIsFound (v : AuditedValue) (o : AuditOptions) (flow : ℕ) (f : Flow)
     (lines : List ℕ) : Type 0 where
   pub ttl : ℕ
   pub travel : Travel
-  pub flown : Flown
+  pub flown : ExaminedFlights
   pub explanation : Explanation
   pub wrong : ¬ IsRight (net_of v.domain flow)
-  pub runs : IsTravelOfFirst v.domain flow ttl travel
+  pub runs : IsFirstPickTravel v.domain flow ttl travel
   pub fault : FindsFault travel
-  pub ttl_told : IsTtlOfFault v.domain flow ttl
-  pub flies : IsFlown v.domain flow flown
-  pub explained : IsExplanation v.domain v.notes (left_out v) (is_whole v) flow flown
+  pub ttl_shown : IsTtlOfFault v.domain flow ttl
+  pub flies : HasExaminedFlights v.domain flow flown
+  pub explained : IsExplanation v.domain v.summary (excluded v) (is_whole v) flow flown
       explanation
-  pub spelled : lines ≡ wrong_told o (facts v.domain) v.notes flow f ttl travel explanation
+  pub spelled : lines ≡ wrong_flow_lines o (facts v.domain) v.summary flow f ttl travel explanation
 
 -- This is written of the domain: for each flow in order lines that say the one or the other of it,
 -- and the line that says whether all are certified.
-pub record TellsOfEach (v : NotedValue) (o : AuditOptions) (all : Bool) (written : List ℕ)
+pub record WritesOfEach (v : AuditedValue) (o : AuditOptions) (all : Bool) (written : List ℕ)
     : Type 0 where
   pub begin : List ℕ
   pub lines : List (List ℕ)
@@ -202,33 +202,33 @@ pub record TellsOfEach (v : NotedValue) (o : AuditOptions) (all : Bool) (written
   pub each : (flow : ℕ) (f : Flow) (ls : List ℕ) → slice_get v.domain.topology.flows flow ≡ Some f
       → slice_get lines flow ≡ Some ls
       → SaysYesOf v o flow f ls ⊎ SaysWhatIsFound v o flow f ls
-  pub spelled : written ≡ begin ++ (flat_map (λ ls. ls) lines ++ (end ++ verdict_told o.json all))
+  pub spelled : written ≡ begin ++ (flat_map (λ ls. ls) lines ++ (end ++ verdict_line o.json all))
 
 -- the files mean a domain of which that is written
 abbrev pub SaysOfEach : AuditOptions → (names : List (List ℕ)) → List FileText → Bool → List ℕ
     → Type 0
 SaysOfEach o names files all written =
-    OfDomain (MeansNoted o names) (λ v. TellsOfEach v o all written) files
+    MeansDomainWhere (MeansAudited o names) (λ v. WritesOfEach v o all written) files
 
 -- ---- what is found with routers left out
 
 -- The lines say what is found of the flow at a TTL from its own to 255. Where that is a second copy on
 -- a LAN, or one that leaves, the flow isn't right either in the domain that these files mean with no
 -- router left out, if they mean one.
-pub record IsFoundInWhole (v : NotedValue) (o : AuditOptions) (files : List FileText) (flow : ℕ)
+pub record IsFoundInWhole (v : AuditedValue) (o : AuditOptions) (files : List FileText) (flow : ℕ)
     (f : Flow) (lines : List ℕ) : Type 0 where
   pub ttl : ℕ
   pub travel : Travel
   pub explanation : Explanation
   pub least : ttl_of v.domain flow ≤ ttl
   pub greatest : ttl ≤ 255
-  pub runs : IsTravelOfFirst v.domain flow ttl travel
-  pub spelled : lines ≡ wrong_told o (facts v.domain) v.notes flow f ttl travel explanation
-  pub wrong : IsUnclean (finding_value travel.finding) → (whole : DomainValue)
-      → MeansFiles files whole → ¬ IsRight (net_of whole flow)
+  pub runs : IsFirstPickTravel v.domain flow ttl travel
+  pub spelled : lines ≡ wrong_flow_lines o (facts v.domain) v.summary flow f ttl travel explanation
+  pub wrong : IsSecondCopyOrStray (finding_value travel.finding) → (whole : DomainValue)
+      → FilesMeanDomain files whole → ¬ IsRight (net_of whole flow)
 
 -- This is written of the domain: for each flow in order lines that say yes to it, or that.
-pub record FindsInWhole (v : NotedValue) (o : AuditOptions) (files : List FileText) (all : Bool)
+pub record WritesOfEachInWhole (v : AuditedValue) (o : AuditOptions) (files : List FileText) (all : Bool)
     (written : List ℕ) : Type 0 where
   pub begin : List ℕ
   pub lines : List (List ℕ)
@@ -237,25 +237,25 @@ pub record FindsInWhole (v : NotedValue) (o : AuditOptions) (files : List FileTe
   pub each : (flow : ℕ) (f : Flow) (ls : List ℕ) → slice_get v.domain.topology.flows flow ≡ Some f
       → slice_get lines flow ≡ Some ls
       → SaysYesOf v o flow f ls ⊎ IsFoundInWhole v o files flow f ls
-  pub spelled : written ≡ begin ++ (flat_map (λ ls. ls) lines ++ (end ++ verdict_told o.json all))
+  pub spelled : written ≡ begin ++ (flat_map (λ ls. ls) lines ++ (end ++ verdict_line o.json all))
 
 -- the files mean a domain, without these routers, of which that is written
 abbrev pub AreFoundInWhole : AuditOptions → (names : List (List ℕ)) → List FileText → Bool
     → List ℕ → Type 0
 AreFoundInWhole o names files all written =
-    OfDomain (MeansNoted o names) (λ v. FindsInWhole v o files all written) files
+    MeansDomainWhere (MeansAudited o names) (λ v. WritesOfEachInWhole v o files all written) files
 
 -- ---- the headline
 
 -- Each of the domain's flows has a list for which the headline holds.
-pub record KeepsByLists (d : DomainValue) : Type 0 where
+pub record KeepsHeadlineByLists (d : DomainValue) : Type 0 where
   pub examined : List Examined
   pub are_examined : AreExamined d examined
-  pub keeps : KeepsHeadline d (lists_of examined)
+  pub keeps : KeepsHeadline d (certified_lists examined)
 
 -- the files mean a domain of which that holds
-abbrev pub HeadlineOf : List FileText → Type 0
-HeadlineOf = OfDomain MeansFiles KeepsByLists
+abbrev pub FilesKeepHeadline : List FileText → Type 0
+FilesKeepHeadline = MeansDomainWhere FilesMeanDomain KeepsHeadlineByLists
 
 -- ---- the line that says yes
 

@@ -1,17 +1,17 @@
 -- What `mcaudit audit` writes of a flow as text: that it is right and which LANs want it, or what is
 -- found, what explains that, and where that is asked for the travel that shows it.
 use Rattle.std.specs.Prelude.{ℕ, Bool, true, false, List, [], ◌++◌, Option, Some, None, codes, decimal}
-use Rattle.mc_tables.specs.Notes.{NotesText}
+use Rattle.mc_tables.specs.Summary.{SummaryValue}
 use Rattle.mc_topology.specs.declared.flow.Flow.{Flow}
 use Rattle.mc_topology.specs.Topology.{TopologyValue}
 use Rattle.mc_forward.specs.ListedTables.{DomainFacts}
 use Rattle.mc_check.specs.declared.verdict.Verdict.TheVariants.{Yes}
 use Rattle.mc_replay.specs.declared.travel.Travel.{Travel}
-use Rattle.mc_explain.specs.ExplanationText.{told_lines}
+use Rattle.mc_explain.specs.ExplanationText.{causes_text}
 use Rattle.mc_explain.specs.SearchText.{search_text}
-use Rattle.mc_explain.specs.WantedText.{missed_too_text, wanted_text}
+use Rattle.mc_explain.specs.WantedText.{also_missed_text, wanted_text}
 use Rattle.mc_explain.specs.declared.searching.LanSearch.{LanSearch}
-use Rattle.mc_explain.specs.declared.told.Told.{Told}
+use Rattle.mc_explain.specs.declared.causes.Cause.{Cause}
 use Rattle.mc_run.specs.MakeRun.{found_lines}
 use Rattle.mc_run.specs.ReplayRun.{event_lines}
 use Rattle.mc_run.specs.VerdictText.{flow_line, flow_words}
@@ -34,31 +34,31 @@ right_lines whole t f copies wanted = right_line whole t f copies ++ wanted_text
 -- What explains a finding: the lines on it, the search where a LAN is missed at TTL 255, and which
 -- LANs are missed besides.
 pub record Explanation : Type 0 where
-  pub told : List Told
+  pub printed : List Cause
   pub search : Option LanSearch
   pub also : List ℕ
 
-abbrev pub searched_lines : DomainFacts → List NotesText → (number : ℕ) → Flow → Option LanSearch
+abbrev pub searched_lines : DomainFacts → List SummaryValue → (number : ℕ) → Flow → Option LanSearch
     → List ℕ
-searched_lines d notes number f None = []
-searched_lines d notes number f (Some found) =
-    search_text d notes number f found.lines.items found.reach.sent_on.items
+searched_lines d summary number f None = []
+searched_lines d summary number f (Some found) =
+    search_text d summary number f found.lines.items found.reach.sent_on.items
     found.reach.took_none.items
 
-abbrev pub explanation_lines : DomainFacts → List NotesText → (number : ℕ) → Flow → Explanation
+abbrev pub explanation_lines : DomainFacts → List SummaryValue → (number : ℕ) → Flow → Explanation
     → List ℕ
-explanation_lines d notes number f x =
-    told_lines d notes number f x.told
-    ++ (searched_lines d notes number f x.search ++ missed_too_text d.topology x.also)
+explanation_lines d summary number f x =
+    causes_text d summary number f x.printed
+    ++ (searched_lines d summary number f x.search ++ also_missed_text d.topology x.also)
 
 -- the events of a travel, where travels are to be shown
-abbrev pub events_told : (travels : Bool) → TopologyValue → Travel → List ℕ
-events_told true t travel = event_lines t travel.events.items
-events_told false t travel = []
+abbrev pub events_if_shown : (travels : Bool) → TopologyValue → Travel → List ℕ
+events_if_shown true t travel = event_lines t travel.events.items
+events_if_shown false t travel = []
 
 -- what is found, what explains that, and the travel that shows it
-abbrev pub wrong_lines : (travels : Bool) → DomainFacts → List NotesText → (number : ℕ) → Flow
+abbrev pub wrong_lines : (travels : Bool) → DomainFacts → List SummaryValue → (number : ℕ) → Flow
     → (ttl : ℕ) → Travel → Explanation → List ℕ
-wrong_lines travels d notes number f ttl travel x =
+wrong_lines travels d summary number f ttl travel x =
     found_lines d.topology f ttl travel.finding
-    ++ (explanation_lines d notes number f x ++ events_told travels d.topology travel)
+    ++ (explanation_lines d summary number f x ++ events_if_shown travels d.topology travel)

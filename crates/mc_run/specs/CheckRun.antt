@@ -6,7 +6,7 @@ use Rattle.mc_forward.specs.Domains.{DomainValue, net_of}
 use Rattle.mc_cert.specs.Certificate.{Tree, tree_at}
 use Rattle.mc_check.specs.declared.verdict.Verdict.{Verdict}
 use Rattle.mc_run.specs.declared.fault.RunFault.{RunFault}
-use Rattle.mc_domain.specs.Meaning.{OfDomain}
+use Rattle.mc_domain.specs.Meaning.{MeansDomainWhere}
 use Rattle.mc_run.specs.InputMeaning.{MeansWithLists}
 use Rattle.mc_run.specs.VerdictText.{AreVerdicts, are_yes, check_text}
 
@@ -25,7 +25,7 @@ pub record IsTextOfVerdicts (d : DomainValue) (lists : List Tree) (all : Bool) (
 -- flows, and whether all are yes.
 abbrev pub IsVerdictText : List ℕ → Bool → List ℕ → Type 0
 IsVerdictText text all written =
-    OfDomain MeansWithLists (λ c. IsTextOfVerdicts c.domain c.lists all written) text
+    MeansDomainWhere MeansWithLists (λ c. IsTextOfVerdicts c.domain c.lists all written) text
 
 -- ---- the headline
 
@@ -57,5 +57,5 @@ KeepsHeadline d lists =
     → HeadlineHolds (net_of d flow) (length (tree_at lists flow))
 
 -- the text means a domain and a certificate for which that holds
-abbrev pub HeadlineOf : List ℕ → Type 0
-HeadlineOf = OfDomain MeansWithLists (λ c. KeepsHeadline c.domain c.lists)
+abbrev pub BundleKeepsHeadline : List ℕ → Type 0
+BundleKeepsHeadline = MeansDomainWhere MeansWithLists (λ c. KeepsHeadline c.domain c.lists)

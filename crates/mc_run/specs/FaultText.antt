@@ -99,13 +99,13 @@ fault_text Memory = too_large_text
 -- ---- the line that it stands in
 
 -- a line by its number, counted from 1; 0 means none
-abbrev pub line_numbered : ℕ → Option ℕ
-line_numbered line = if line == 0 then None else Some line
+abbrev pub line_or_none : ℕ → Option ℕ
+line_or_none line = if line == 0 then None else Some line
 
 abbrev pub line_of_fault : InputFault → Option ℕ
-line_of_fault (Vif name fault) = line_numbered fault.line
-line_of_fault (Cache name fault) = line_numbered fault.line
-line_of_fault (Reports name fault) = line_numbered fault.line
+line_of_fault (Vif name fault) = line_or_none fault.line
+line_of_fault (Cache name fault) = line_or_none fault.line
+line_of_fault (Reports name fault) = line_or_none fault.line
 line_of_fault (Topology fault) = None
 line_of_fault (Bundle fault) = None
 line_of_fault (Parts place) = None

@@ -2,15 +2,15 @@
 -- bundle, or a folder's files, are refused.
 use Rattle.std.specs.Prelude.{◌≡◌, ℕ, Bool, IsTrue, List, Some, Err, ⊤}
 use Rattle.mc_forward.specs.Domains.{DomainValue}
-use Rattle.mc_forward.specs.ListedTables.{SaysTheSame}
+use Rattle.mc_forward.specs.ListedTables.{HaveSameFacts}
 use Rattle.mc_cert.specs.Certificate.{Tree}
-use Rattle.mc_cert.specs.Stands.{CertificateStands}
-use Rattle.mc_cert.specs.Reading.{reading_of}
+use Rattle.mc_cert.specs.Denotation.{DenotesCertificate}
+use Rattle.mc_cert.specs.Reading.{parse_certificate}
 use Rattle.mc_cert.specs.declared.fault.CertFault.{CertFault}
 use Rattle.mc_layout.specs.Files.{FileText}
-use Rattle.mc_domain.specs.InputReading.{input_of}
+use Rattle.mc_domain.specs.InputReading.{input_of_bundle}
 use Rattle.mc_domain.specs.Meaning.{MeansDomain}
-use Rattle.mc_domain.specs.LeftOut.{files_without}
+use Rattle.mc_domain.specs.ExcludedRouters.{input_of_files_without}
 use Rattle.mc_domain.specs.declared.without_fault.WithoutFault.{WithoutFault}
 use Rattle.mc_domain.specs.declared.fault.InputFault.TheVariants as input
 use Rattle.mc_run.specs.declared.fault.RunFault.{RunFault}
@@ -18,7 +18,7 @@ use Rattle.mc_run.specs.declared.fault.RunFault.TheVariants.{Bundle, Parts, Topo
 use Rattle.mc_run.specs.declared.fault.RunFault.TheVariants.{PartReports, Reports, Certificate}
 use Rattle.mc_run.specs.declared.fault.RunFault.TheVariants.{NoSuchFlow, NoSuchRouter, Read, Write}
 use Rattle.mc_run.specs.declared.fault.RunFault.TheVariants.{Memory}
-use Rattle.mc_run.specs.RunFault.{of_without}
+use Rattle.mc_run.specs.RunFault.{from_without_fault}
 
 -- ---- what it means
 
@@ -27,7 +27,7 @@ use Rattle.mc_run.specs.RunFault.{of_without}
 pub record MeansCertified (text : List ℕ) (d : DomainValue) (lists : List Tree) : Type 0 where
   pub certificate : List ℕ
   pub domain : MeansDomain text (Some certificate) d
-  pub lists_stand : CertificateStands d.topology certificate lists
+  pub lists_denoted : DenotesCertificate d.topology certificate lists
 
 -- a domain, and a list of entries for each of its flows,
 pub record CertifiedDomain : Type 0 where
@@ -41,7 +41,7 @@ MeansWithLists text c = MeansCertified text c.domain c.lists
 -- It means a domain with these lists that says of each flow what this one says.
 abbrev pub MeansListedWith : List ℕ → DomainValue → List Tree → Type 0
 MeansListedWith text d lists =
-    (whole : DomainValue) × MeansCertified text whole lists × SaysTheSame whole d
+    (whole : DomainValue) × MeansCertified text whole lists × HaveSameFacts whole d
 
 -- ---- why it is refused
 
@@ -49,20 +49,20 @@ MeansListedWith text d lists =
 abbrev pub HasBadCertificate : List ℕ → CertFault → Type 0
 HasBadCertificate text fault =
     (certificate : List ℕ) × (d : DomainValue) × MeansDomain text (Some certificate) d
-    × (reading_of d.topology certificate ≡ Err fault)
+    × (parse_certificate d.topology certificate ≡ Err fault)
 
 -- A run that reads a bundle, with a certificate or without, answers this of the text: the bundle's
 -- first fault, the parts in the order in which they are judged, and the certificate last. What
 -- devices do and lack of memory say nothing of a text.
 abbrev pub IsRefusedFor : (certified : Bool) → List ℕ → RunFault → Type 0
-IsRefusedFor certified text (Bundle fault) = input_of certified text ≡ Err (input.Bundle fault)
-IsRefusedFor certified text (Parts place) = input_of certified text ≡ Err (input.Parts place)
-IsRefusedFor certified text (Topology fault) = input_of certified text ≡ Err (input.Topology fault)
-IsRefusedFor certified text (Vif part fault) = input_of certified text ≡ Err (input.Vif part fault)
-IsRefusedFor certified text (Cache part fault) = input_of certified text
+IsRefusedFor certified text (Bundle fault) = input_of_bundle certified text ≡ Err (input.Bundle fault)
+IsRefusedFor certified text (Parts place) = input_of_bundle certified text ≡ Err (input.Parts place)
+IsRefusedFor certified text (Topology fault) = input_of_bundle certified text ≡ Err (input.Topology fault)
+IsRefusedFor certified text (Vif part fault) = input_of_bundle certified text ≡ Err (input.Vif part fault)
+IsRefusedFor certified text (Cache part fault) = input_of_bundle certified text
     ≡ Err (input.Cache part fault)
 IsRefusedFor certified text (PartReports part fault) =
-    input_of certified text ≡ Err (input.Reports part fault)
+    input_of_bundle certified text ≡ Err (input.Reports part fault)
 IsRefusedFor certified text (Certificate fault) = IsTrue certified × HasBadCertificate text fault
 -- no report list stands alone here, no flow is asked for, and no router is left out
 IsRefusedFor certified text (Reports fault) = ⊥
@@ -80,4 +80,4 @@ AreRefusedWithout names files Read = ⊤
 AreRefusedWithout names files Write = ⊤
 AreRefusedWithout names files Memory = ⊤
 AreRefusedWithout names files fault =
-    (cause : WithoutFault) × (files_without names files ≡ Err cause) × (fault ≡ of_without cause)
+    (cause : WithoutFault) × (input_of_files_without names files ≡ Err cause) × (fault ≡ from_without_fault cause)

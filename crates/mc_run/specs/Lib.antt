@@ -4,7 +4,7 @@ pub mod AuditPieces
 pub mod AuditReasons
 pub mod AuditRun
 pub mod AuditText
-pub mod AuditTold
+pub mod AuditFlowText
 pub mod CheckRun
 pub mod Failures
 pub mod FaultText
@@ -16,7 +16,7 @@ pub mod PackingRun
 pub mod RefusalText
 pub mod ReplayRun
 pub mod RunFault
-pub mod Said
+pub mod RunOutput
 pub mod Task
 pub mod TaskRuns
 pub mod VerdictText
@@ -43,7 +43,7 @@ pub use Rattle.mc_layout.specs.UnreadText
 pub use Rattle.mc_forward.specs.Domains
 pub use Rattle.mc_forward.specs.Assembling
 pub use Rattle.mc_cert.specs.Certificate
-pub use Rattle.mc_cert.specs.Stands
+pub use Rattle.mc_cert.specs.Denotation
 pub use Rattle.mc_check.specs.ReasonText
 pub use Rattle.mc_check.specs.Verdicts
 pub use Rattle.mc_domain.specs.Input

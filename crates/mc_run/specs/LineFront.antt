@@ -9,25 +9,25 @@ use Rattle.mc_run.specs.declared.line_front.LineFront.{LineFront}
 
 -- the bytes of the line behind so many line feeds, without the one that ends it; none where there is
 -- no such line
-abbrev pub line_behind : (feeds : ℕ) → List ℕ → List ℕ
-line_behind feeds text = slice_index_or (slice_split (λ b. b == 10) text) feeds []
+abbrev pub line_after_feeds : (feeds : ℕ) → List ℕ → List ℕ
+line_after_feeds feeds text = slice_index_or (slice_split (λ b. b == 10) text) feeds []
 
 -- at most 100 bytes are shown
-abbrev pub shown_of : List ℕ → List ℕ
-shown_of bytes = take 100 bytes
+abbrev pub first_100_bytes : List ℕ → List ℕ
+first_100_bytes bytes = take 100 bytes
 
 -- the front of the line with this number, counted from 1
 abbrev pub line_front : (line : ℕ) → List ℕ → List ℕ
-line_front line text = shown_of (line_behind (line - 1) text)
+line_front line text = first_100_bytes (line_after_feeds (line - 1) text)
 
 -- ---- as it is looked for
 
 -- what is found in the end if these bytes come
-abbrev pub front_if : LineFront → (more : List ℕ) → List ℕ
-front_if s more = shown_of (s.front.items ++ line_behind s.before more)
+abbrev pub front_after_more : LineFront → (more : List ℕ) → List ℕ
+front_after_more s more = first_100_bytes (s.front.items ++ line_after_feeds s.before more)
 
 -- A piece of the text came: the front is found, whatever comes now, or what comes now decides as it
 -- would have with the piece before it.
-abbrev pub Takes : (old new : LineFront) → (piece : List ℕ) → (found : Bool) → Type 0
-Takes old new piece found =
-    (more : List ℕ) → front_if old (piece ++ more) ≡ (if found then new.front.items else front_if new more)
+abbrev pub TakesPiece : (old new : LineFront) → (piece : List ℕ) → (found : Bool) → Type 0
+TakesPiece old new piece found =
+    (more : List ℕ) → front_after_more old (piece ++ more) ≡ (if found then new.front.items else front_after_more new more)

@@ -8,12 +8,12 @@ use Rattle.mc_topology.specs.declared.flow.Flow.{Flow}
 use Rattle.mc_topology.specs.Topology.{TopologyValue}
 use Rattle.mc_theory.specs.Certificates.{IsAccepted, IsRight}
 use Rattle.mc_forward.specs.Domains.{DomainValue, net_of}
-use Rattle.mc_domain.specs.Meaning.{MeansUncertified, OfDomain}
-use Rattle.mc_cert.specs.Certificate.{Tree, IsEntryOf, IsList}
+use Rattle.mc_domain.specs.Meaning.{MeansUncertifiedDomain, MeansDomainWhere}
+use Rattle.mc_cert.specs.Certificate.{Tree, IsEntryOf, IsWritableTree}
 use Rattle.mc_cert.specs.CertificateText.{certificate_text}
 use Rattle.mc_replay.specs.TravelText.{finding_text}
 use Rattle.mc_replay.specs.declared.finding.Finding.{Finding}
-use Rattle.mc_maker.specs.Examined.{FindsFault, IfCertified, IfFound, IsOfTravel, IsTravelOfFirst}
+use Rattle.mc_maker.specs.Examined.{FindsFault, IfCertified, IfFound, AreEntriesOfCleanTravel, IsFirstPickTravel}
 use Rattle.mc_maker.specs.Examined.{IsTtlOfFault, is_certified}
 use Rattle.mc_maker.specs.declared.examination.Examined.{Examined}
 use Rattle.mc_maker.specs.declared.examination.Examined.TheVariants.{Certified, Found}
@@ -28,11 +28,11 @@ pub record IsExamined (d : DomainValue) (flow : ℕ) (x : Examined) : Type 0 whe
   pub accepted : IfCertified (IsAccepted (net_of d flow)) x
   pub ascending : IfCertified (λ es. IsStrictlyIncreasing (map (λ e. e.lan) es)) x
   pub listed : IfCertified (All (IsEntryOf d.topology)) x
-  pub list : IfCertified IsList x
-  pub made : IfCertified (IsOfTravel d flow) x
+  pub list : IfCertified IsWritableTree x
+  pub made : IfCertified (AreEntriesOfCleanTravel d flow) x
   -- Else: the travel at its TTL in which the first waiting copy is handled each time, which finds a
   -- fault; the TTL is 255 if a fault is found there, and else the flow's.
-  pub travel : IfFound (IsTravelOfFirst d flow) x
+  pub travel : IfFound (IsFirstPickTravel d flow) x
   pub fault : IfFound (λ ttl travel. FindsFault travel) x
   pub ttl : IfFound (λ ttl travel. IsTtlOfFault d flow ttl) x
   -- The flow is certified exactly if it is right.
@@ -46,10 +46,10 @@ pub record AreExamined (d : DomainValue) (xs : List Examined) : Type 0 where
 -- ---- the text
 
 -- the lists of the flows that are certified, in order
-abbrev pub lists_of : List Examined → List Tree
-lists_of [] = []
-lists_of (Certified entries ∷ xs) = entries.items ∷ lists_of xs
-lists_of (Found ttl travel ∷ xs) = lists_of xs
+abbrev pub certified_lists : List Examined → List Tree
+certified_lists [] = []
+certified_lists (Certified entries ∷ xs) = entries.items ∷ certified_lists xs
+certified_lists (Found ttl travel ∷ xs) = certified_lists xs
 
 -- the two lines of a flow for which something is found
 abbrev pub no_certificate_line : Flow → List ℕ
@@ -63,14 +63,14 @@ abbrev pub found_lines : TopologyValue → Flow → ℕ → Finding → List ℕ
 found_lines t f ttl finding = no_certificate_line f ++ found_line t ttl finding
 
 -- the lines of a flow: a certified one has none
-abbrev pub lines_of_flow : TopologyValue → Flow → Examined → List ℕ
-lines_of_flow t f (Certified entries) = []
-lines_of_flow t f (Found ttl travel) = found_lines t f ttl travel.finding
+abbrev pub found_lines_if_any : TopologyValue → Flow → Examined → List ℕ
+found_lines_if_any t f (Certified entries) = []
+found_lines_if_any t f (Found ttl travel) = found_lines t f ttl travel.finding
 
 -- the lines of flows, in order
-abbrev pub lines_of : TopologyValue → List Flow → List Examined → List ℕ
-lines_of t (f ∷ fs) (x ∷ xs) = lines_of_flow t f x ++ lines_of t fs xs
-lines_of t _ _ = []
+abbrev pub found_lines_of_flows : TopologyValue → List Flow → List Examined → List ℕ
+found_lines_of_flows t (f ∷ fs) (x ∷ xs) = found_lines_if_any t f x ++ found_lines_of_flows t fs xs
+found_lines_of_flows t _ _ = []
 
 -- whether every flow is certified
 abbrev pub are_certified : List Examined → Bool
@@ -78,20 +78,20 @@ are_certified xs = list_all is_certified xs
 
 -- the certificate with a line feed where every flow is certified, and else the lines
 abbrev pub made_text : (certified : Bool) → TopologyValue → List Examined → List ℕ
-made_text true t xs = certificate_text t (lists_of xs) ++ codes "\n"
-made_text false t xs = lines_of t t.flows xs
+made_text true t xs = certificate_text t (certified_lists xs) ++ codes "\n"
+made_text false t xs = found_lines_of_flows t t.flows xs
 
 -- The lists and the lines of a domain's flows.
-pub record AreMade (d : DomainValue) (lists : List Tree) (lines : List ℕ) : Type 0 where
+pub record AreMadeListsAndLines (d : DomainValue) (lists : List Tree) (lines : List ℕ) : Type 0 where
   pub examined : List Examined
   pub are_examined : AreExamined d examined
-  pub lists_are : lists ≡ lists_of examined
-  pub lines_are : lines ≡ lines_of d.topology d.topology.flows examined
+  pub lists_are : lists ≡ certified_lists examined
+  pub lines_are : lines ≡ found_lines_of_flows d.topology d.topology.flows examined
 
 -- ---- answers
 
 -- What is written of the examinations of a domain's flows, and whether that is a certificate.
-pub record IsTextOfMade (d : DomainValue) (certified : Bool) (written : List ℕ) : Type 0 where
+pub record IsMakeOutput (d : DomainValue) (certified : Bool) (written : List ℕ) : Type 0 where
   pub examined : List Examined
   pub are_examined : AreExamined d examined
   pub answer : certified ≡ are_certified examined
@@ -101,7 +101,7 @@ pub record IsTextOfMade (d : DomainValue) (certified : Bool) (written : List ℕ
 -- is a certificate.
 abbrev pub IsMadeText : List ℕ → Bool → List ℕ → Type 0
 IsMadeText text certified written =
-    OfDomain MeansUncertified (λ d. IsTextOfMade d certified written) text
+    MeansDomainWhere MeansUncertifiedDomain (λ d. IsMakeOutput d certified written) text
 
 -- this says whether every flow that the domain's topology lists is right
 abbrev pub AreRight : DomainValue → Bool → Type 0
@@ -110,4 +110,4 @@ AreRight d all =
 
 -- the text means a domain of which this says so
 abbrev pub SaysAllRight : List ℕ → Bool → Type 0
-SaysAllRight text all = OfDomain MeansUncertified (λ d. AreRight d all) text
+SaysAllRight text all = MeansDomainWhere MeansUncertifiedDomain (λ d. AreRight d all) text

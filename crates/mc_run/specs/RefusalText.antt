@@ -5,10 +5,10 @@ use Rattle.std.specs.Prelude.{List, [], ◌∷◌, ◌++◌, length, take, flat_
 use Rattle.std.specs.Prelude.{Option, Some, None, IfSome, unwrap_or, Result, Ok, Err}
 use Rattle.std.specs.Prelude.{if◌then◌else◌, string_bytes}
 use Rattle.std.specs.Io.KnownBytes.{Appends}
-use Rattle.mc_text.specs.Device.{AppendsPart}
+use Rattle.mc_text.specs.Device.{AppendsProperPrefix}
 use Rattle.mc_layout.specs.Files.{FileText, file_named}
 use Rattle.mc_layout.specs.UnreadText.{unread_text}
-use Rattle.mc_domain.specs.RefusedFiles.{AreMissing, AreRefused, failures_with, refused_of, seen}
+use Rattle.mc_domain.specs.RefusedFiles.{AreUnreadFilesMissing, AreRefusedFiles, saturating_failures, refused_files_of, as_judged_file}
 use Rattle.mc_domain.specs.RefusedFiles.{unread_count}
 use Rattle.mc_domain.specs.declared.each_file.RefusedFile.{RefusedFile}
 use Rattle.mc_domain.specs.declared.each_file.Refusal.{Refusal}
@@ -37,49 +37,49 @@ quoted bytes = flat_map quoted_byte bytes
 
 -- This is the front of the line in the file that a source has by this name, as far as a part of a
 -- bundle may go. Of a source that doesn't tell its files only how much is shown is known.
-pub record IsFrontIn (told : Option (List FileText)) (name : List ℕ) (line : ℕ) (front : List ℕ)
+pub record IsFrontInFile (contents : Option (List FileText)) (name : List ℕ) (line : ℕ) (front : List ℕ)
     : Type 0 where
   pub few : length front ≤ 100
-  pub known : (files : List FileText) → told ≡ Some files →
+  pub known : (files : List FileText) → contents ≡ Some files →
       (bytes : List ℕ) × (file_named files name ≡ Some bytes) × (front ≡ line_front line (take 16777216 bytes))
 
 -- how many calls of a source fail where it gives this front, or none
-abbrev pub lost_count : Option (List ℕ) → ℕ
-lost_count (Some front) = 0
-lost_count None = 1
+abbrev pub lost_calls : Option (List ℕ) → ℕ
+lost_calls (Some front) = 0
+lost_calls None = 1
 
 -- What stands behind a fault's words: nothing where the fault is in no line, else the quoted front of
 -- that line, which is empty where the source fails to give the file once more.
 abbrev pub IsFrontText : Option (List FileText) → (name : List ℕ) → (line : Option ℕ) → (lost : ℕ)
     → (text : List ℕ) → Type 0
-IsFrontText told name None lost text = (lost ≡ 0) × (text ≡ [])
-IsFrontText told name (Some line) lost text =
-    (front : Option (List ℕ)) × IfSome front (IsFrontIn told name line) × (lost ≡ lost_count front)
+IsFrontText contents name None lost text = (lost ≡ 0) × (text ≡ [])
+IsFrontText contents name (Some line) lost text =
+    (front : Option (List ℕ)) × IfSome front (IsFrontInFile contents name line) × (lost ≡ lost_calls front)
     × (text ≡ codes ": \"" ++ (quoted (unwrap_or front []) ++ codes "\""))
 
 -- ---- the lines
 
 -- Why a file is refused, in words. What the system says of a file that it doesn't open is said in its
 -- own words.
-abbrev pub AreWords : Option (List FileText) → (name : List ℕ) → Refusal → (lost : ℕ)
+abbrev pub IsRefusalReason : Option (List FileText) → (name : List ℕ) → Refusal → (lost : ℕ)
     → (words : List ℕ) → Type 0
-AreWords told name (Unread unread) lost words =
+IsRefusalReason contents name (Unread unread) lost words =
     (lost ≡ 0) × IfSome (unread_text unread) (λ known. words ≡ known)
-AreWords told name (Fault fault) lost words =
-    (front : List ℕ) × IsFrontText told name (line_of_fault fault) lost front
+IsRefusalReason contents name (Fault fault) lost words =
+    (front : List ℕ) × IsFrontText contents name (line_of_fault fault) lost front
     × (words ≡ fault_text fault ++ front)
 
 -- the line of a file that is refused, with how many calls of the source failed meanwhile
-abbrev pub IsLine : Option (List FileText) → RefusedFile → (lost : ℕ) → (line : List ℕ) → Type 0
-IsLine told file lost line =
-    (words : List ℕ) × AreWords told (string_bytes file.name) file.refusal lost words
+abbrev pub IsRefusedFileLine : Option (List FileText) → RefusedFile → (lost : ℕ) → (line : List ℕ) → Type 0
+IsRefusedFileLine contents file lost line =
+    (words : List ℕ) × IsRefusalReason contents (string_bytes file.name) file.refusal lost words
     × (line ≡ codes "  " ++ (string_bytes file.name ++ (codes ": " ++ (words ++ codes "\n"))))
 
 -- the lines of files, in order
-abbrev pub AreLines : Option (List FileText) → List RefusedFile → (lost : ℕ) → (text : List ℕ) → Type 0
-AreLines told [] lost text = (lost ≡ 0) × (text ≡ [])
-AreLines told (file ∷ files) lost text =
-    (one more : ℕ) × (line rest : List ℕ) × IsLine told file one line × AreLines told files more rest
+abbrev pub AreRefusedFileLines : Option (List FileText) → List RefusedFile → (lost : ℕ) → (text : List ℕ) → Type 0
+AreRefusedFileLines contents [] lost text = (lost ≡ 0) × (text ≡ [])
+AreRefusedFileLines contents (file ∷ files) lost text =
+    (one more : ℕ) × (line rest : List ℕ) × IsRefusedFileLine contents file one line × AreRefusedFileLines contents files more rest
     × (lost ≡ one + more) × (text ≡ line ++ rest)
 
 -- how many files more are refused
@@ -88,40 +88,40 @@ more_line zero = []
 more_line (suc more) = codes "  and " ++ (decimal (suc more) ++ codes " more\n")
 
 -- the lines of the first 50 files, and how many more there are
-abbrev pub AreFirstLines : Option (List FileText) → List RefusedFile → (lost : ℕ) → (text : List ℕ)
+abbrev pub AreFirst50Lines : Option (List FileText) → List RefusedFile → (lost : ℕ) → (text : List ℕ)
     → Type 0
-AreFirstLines told files lost text =
-    (lines : List ℕ) × AreLines told (take 50 files) lost lines
+AreFirst50Lines contents files lost text =
+    (lines : List ℕ) × AreRefusedFileLines contents (take 50 files) lost lines
     × (text ≡ lines ++ more_line (length files - 50))
 
 -- The text: the lines of the files that are refused, as the source gives the files. The source failed
 -- at each that can't be read, and wherever it didn't give the front of a line.
-pub record IsRefusalText (names : List (List ℕ)) (told : Option (List FileText)) (before after : ℕ)
+pub record IsRefusalText (names : List (List ℕ)) (contents : Option (List FileText)) (before after : ℕ)
     (text : List ℕ) : Type 0 where
   pub refused : List RefusedFile
-  pub listed : (files : List FileText) → told ≡ Some files → AreRefused names files (map seen refused)
-  pub exact : (files : List FileText) → told ≡ Some files → AreMissing files (map seen refused)
-      → map seen refused ≡ refused_of names files
+  pub listed : (files : List FileText) → contents ≡ Some files → AreRefusedFiles names files (map as_judged_file refused)
+  pub exact : (files : List FileText) → contents ≡ Some files → AreUnreadFilesMissing files (map as_judged_file refused)
+      → map as_judged_file refused ≡ refused_files_of names files
   pub lost : ℕ
-  pub lines : AreFirstLines told refused lost text
-  pub failures : after ≡ failures_with (unread_count (map seen refused) + lost) before
+  pub lines : AreFirst50Lines contents refused lost text
+  pub failures : after ≡ saturating_failures (unread_count (map as_judged_file refused) + lost) before
 
 -- ---- as it is written
 
 -- What was put behind a text is right for so many failures of a source's calls as came meanwhile.
-pub record Adds (IsRight : (lost : ℕ) → (added : List ℕ) → Type 0) (old new : List ℕ) (before after : ℕ)
+pub record AppendsWithFailures (IsRight : (lost : ℕ) → (added : List ℕ) → Type 0) (old new : List ℕ) (before after : ℕ)
     : Type 0 where
   pub lost : ℕ
   pub added : List ℕ
   pub right : IsRight lost added
   pub whole : new ≡ old ++ added
-  pub failures : after ≡ failures_with lost before
+  pub failures : after ≡ saturating_failures lost before
 
 -- What becomes of the text: it is written whole, or a part of it where the output fails. Where memory
 -- runs out nothing is written.
-abbrev pub IsTold : (IsText : List ℕ → Type 0) → Result (Unit {0}) RunFault → Option (List ℕ)
+abbrev pub IsTextWritten : (IsText : List ℕ → Type 0) → Result (Unit {0}) RunFault → Option (List ℕ)
     → Option (List ℕ) → Type 0
-IsTold IsText (Ok done) old new = (text : List ℕ) × IsText text × Appends old new text
-IsTold IsText (Err Write) old new = (text : List ℕ) × IsText text × AppendsPart old new text
-IsTold IsText (Err Memory) old new = new ≡ old
-IsTold IsText (Err fault) old new = ⊥
+IsTextWritten IsText (Ok done) old new = (text : List ℕ) × IsText text × Appends old new text
+IsTextWritten IsText (Err Write) old new = (text : List ℕ) × IsText text × AppendsProperPrefix old new text
+IsTextWritten IsText (Err Memory) old new = new ≡ old
+IsTextWritten IsText (Err fault) old new = ⊥

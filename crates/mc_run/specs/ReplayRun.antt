@@ -16,7 +16,7 @@ use Rattle.mc_replay.specs.declared.finding.Finding.TheVariants.{Missed}
 use Rattle.mc_replay.specs.declared.travel.Travel.{Travel}
 use Rattle.mc_run.specs.declared.fault.RunFault.{RunFault}
 use Rattle.mc_run.specs.declared.fault.RunFault.TheVariants.{Memory, NoSuchFlow}
-use Rattle.mc_domain.specs.Meaning.{MeansUncertified, OfDomain}
+use Rattle.mc_domain.specs.Meaning.{MeansUncertifiedDomain, MeansDomainWhere}
 use Rattle.mc_run.specs.InputMeaning.{IsRefusedFor}
 
 -- ---- the text
@@ -61,7 +61,7 @@ pub record IsTextOfTravel (d : DomainValue) (flow ttl : ℕ) (choices : Choices)
   pub listed : Flow
   pub travel : Travel
   pub counted : flow ≡ place + 1
-  pub stands : slice_get d.topology.flows place ≡ Some listed
+  pub matches : slice_get d.topology.flows place ≡ Some listed
   pub runs : IsRunOfChoices (replay_of d place ttl choices) travel
   pub answer : clean ≡ is_clean travel.finding
   pub spelled : written ≡ replay_text d.topology listed ttl travel
@@ -75,12 +75,12 @@ HasNoTravel d flow fault =
 -- The text means a domain, of which this is the text of that travel, and whether it is clean.
 abbrev pub IsTravelText : (flow ttl : ℕ) → Choices → List ℕ → Bool → List ℕ → Type 0
 IsTravelText flow ttl choices text clean written =
-    OfDomain MeansUncertified (λ d. IsTextOfTravel d flow ttl choices clean written) text
+    MeansDomainWhere MeansUncertifiedDomain (λ d. IsTextOfTravel d flow ttl choices clean written) text
 
 -- The text means a domain, whose topology lists no flow with this number, counted from 1.
 abbrev pub HasNoFlow : (flow : ℕ) → List ℕ → Type 0
 HasNoFlow flow =
-    OfDomain MeansUncertified (λ d. (flow ≡ 0) ⊎ (length d.topology.flows < flow))
+    MeansDomainWhere MeansUncertifiedDomain (λ d. (flow ≡ 0) ⊎ (length d.topology.flows < flow))
 
 -- the text's first fault, or that its topology lists no such flow
 abbrev pub IsReplayRefused : (flow : ℕ) → List ℕ → RunFault → Type 0

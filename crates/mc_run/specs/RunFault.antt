@@ -18,42 +18,42 @@ use Rattle.mc_run.specs.declared.fault.RunFault.TheVariants.{Bundle, Parts, Topo
 use Rattle.mc_run.specs.declared.fault.RunFault.TheVariants.{PartReports, Reports, Certificate}
 use Rattle.mc_run.specs.declared.fault.RunFault.TheVariants.{NoSuchRouter, Read, Memory}
 
-abbrev pub of_reading : ReadFault → RunFault
-of_reading reading.Read = Read
-of_reading reading.Memory = Memory
+abbrev pub from_read_fault : ReadFault → RunFault
+from_read_fault reading.Read = Read
+from_read_fault reading.Memory = Memory
 
 -- lack of memory is the run's own, and every other fault is the list's
-abbrev pub of_list_kind : ListFault → ListFaultKind → RunFault
-of_list_kind fault list.Memory = Memory
-of_list_kind fault _ = Reports fault
+abbrev pub from_list_fault_kind : ListFault → ListFaultKind → RunFault
+from_list_fault_kind fault list.Memory = Memory
+from_list_fault_kind fault _ = Reports fault
 
-abbrev pub of_list : ListFault → RunFault
-of_list fault = of_list_kind fault fault.kind
+abbrev pub from_list_fault : ListFault → RunFault
+from_list_fault fault = from_list_fault_kind fault fault.kind
 
 -- and so with a bundle's faults,
-abbrev pub of_input : InputFault → RunFault
-of_input (input.Bundle fault) = Bundle fault
-of_input (input.Parts place) = Parts place
-of_input (input.Topology fault) = Topology fault
-of_input (input.Vif part fault) = Vif part fault
-of_input (input.Cache part fault) = Cache part fault
-of_input (input.Reports part fault) = PartReports part fault
-of_input input.Memory = Memory
+abbrev pub from_input_fault : InputFault → RunFault
+from_input_fault (input.Bundle fault) = Bundle fault
+from_input_fault (input.Parts place) = Parts place
+from_input_fault (input.Topology fault) = Topology fault
+from_input_fault (input.Vif part fault) = Vif part fault
+from_input_fault (input.Cache part fault) = Cache part fault
+from_input_fault (input.Reports part fault) = PartReports part fault
+from_input_fault input.Memory = Memory
 
 -- with those of what a domain is read of,
-abbrev pub of_source : SourceFault → RunFault
-of_source (source.Input fault) = of_input fault
-of_source source.Read = Read
+abbrev pub from_source_fault : SourceFault → RunFault
+from_source_fault (source.Input fault) = from_input_fault fault
+from_source_fault source.Read = Read
 
 -- of a folder's files without some routers,
-abbrev pub of_without : WithoutFault → RunFault
-of_without (without.Source fault) = of_source fault
-of_without (without.NoSuchRouter place) = NoSuchRouter place
+abbrev pub from_without_fault : WithoutFault → RunFault
+from_without_fault (without.Source fault) = from_source_fault fault
+from_without_fault (without.NoSuchRouter place) = NoSuchRouter place
 
 -- and with those of a certificate
 abbrev pub of_certificate_kind : CertFault → CertFaultKind → RunFault
 of_certificate_kind fault certificate.Memory = Memory
 of_certificate_kind fault _ = Certificate fault
 
-abbrev pub of_certificate : CertFault → RunFault
-of_certificate fault = of_certificate_kind fault fault.kind
+abbrev pub from_cert_fault : CertFault → RunFault
+from_cert_fault fault = of_certificate_kind fault fault.kind

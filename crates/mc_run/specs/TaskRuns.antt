@@ -3,36 +3,36 @@ use Rattle.std.specs.Prelude.{◌≡◌, ◌==◌, ◌+◌, ◌&&◌, ◌||◌, 
 use Rattle.std.specs.Prelude.{Option, Some, Result, Ok, Err, IfErr, IfOk, IfSome, OnErr, OnOk}
 use Rattle.std.specs.Io.KnownBytes.{Appends}
 use Rattle.mc_text.specs.Bundle.{PartText, max_input}
-use Rattle.mc_text.specs.Device.{AppendsPart}
+use Rattle.mc_text.specs.Device.{AppendsProperPrefix}
 use Rattle.mc_text.specs.Lines.{max_text}
 use Rattle.mc_text.specs.ReadFault.{ConsumesUpTo}
 use Rattle.mc_theory.specs.Findings.{Choices}
 use Rattle.mc_layout.specs.Files.{FileText}
 use Rattle.mc_layout.specs.Packing.{IsPacked}
-use Rattle.mc_layout.specs.PackRun.{WritesPacked, WritesPartOfPacked}
-use Rattle.mc_domain.specs.Meaning.{OfDomain}
+use Rattle.mc_layout.specs.PackRun.{WritesPackedBundle, WritesPackedPrefix}
+use Rattle.mc_domain.specs.Meaning.{MeansDomainWhere}
 use Rattle.mc_words.specs.declared.audit_words.AuditWords.{AuditWords}
 use Rattle.mc_words.specs.declared.audit_words.AuditOptions.{AuditOptions as WordsOptions}
 use Rattle.mc_run.specs.AuditPieces.{yes_of}
-use Rattle.mc_run.specs.AuditRun.{AuditSaysYes, HasUnwanted, HeadlineOf as HeadlineOfFiles}
-use Rattle.mc_run.specs.AuditRun.{IsAuditText, MeansNoted, SaysOfEach, SaysWhichAreRight}
-use Rattle.mc_run.specs.CheckRun.{HeadlineOf, IsVerdictText, SaysYes}
+use Rattle.mc_run.specs.AuditRun.{AuditSaysYes, HasUnwanted, FilesKeepHeadline}
+use Rattle.mc_run.specs.AuditRun.{IsAuditText, MeansAudited, SaysOfEach, SaysWhichAreRight}
+use Rattle.mc_run.specs.CheckRun.{BundleKeepsHeadline, IsVerdictText, SaysYes}
 use Rattle.mc_run.specs.InputMeaning.{AreRefusedWithout, IsRefusedFor}
 use Rattle.mc_run.specs.MakeRun.{IsMadeText, SaysAllRight}
-use Rattle.mc_run.specs.PackingRun.{AnswersPack, IsOfDevices}
+use Rattle.mc_run.specs.PackingRun.{IsPackRunAnswer, IsDeviceOrMemoryFault}
 use Rattle.mc_run.specs.ReplayRun.{IsReplayRefused, IsTravelText}
-use Rattle.mc_run.specs.Said.{Answers, Writes, WritesPart}
-use Rattle.mc_run.specs.WantsRun.{answer_line, Answers as AnswersWants}
-use Rattle.mc_run.specs.WantsRun.{WritesPart as WritesPartOfLine}
+use Rattle.mc_run.specs.RunOutput.{Answers, Writes, WritesPart}
+use Rattle.mc_run.specs.WantsRun.{answer_line, AnswersWants}
+use Rattle.mc_run.specs.WantsRun.{WritesPartOfLine}
 use Rattle.mc_run.specs.declared.audit_options.AuditOptions.{AuditOptions}
-use Rattle.mc_run.specs.declared.audit_said.AuditAnswer.{AuditAnswer}
+use Rattle.mc_run.specs.declared.audit_output.AuditAnswer.{AuditAnswer}
 use Rattle.mc_run.specs.declared.fault.RunFault.{RunFault}
 use Rattle.mc_run.specs.declared.fault.RunFault.TheVariants.{Write}
 
 -- Of what the run was given, where a contract can see it: the answer is right, with some text, or
 -- this is why there is none; and the text that goes with it was written whole, or a part of it where
 -- the output failed.
-pub record IsRun {X : Type 0} (Says : X → Bool → List ℕ → Type 0) (Refuses : X → RunFault → Type 0)
+pub record IsRunResult {X : Type 0} (Says : X → Bool → List ℕ → Type 0) (Refuses : X → RunFault → Type 0)
     (given : Option X) (result : Result Bool RunFault) (old new : Option (List ℕ)) : Type 0 where
   pub answer : IfSome given (λ x. Answers Says Refuses x result)
   pub written : IfOk result (λ yes. IfSome given (λ x. Writes Says x yes old new))
@@ -51,14 +51,14 @@ pub record IsWantsRun (group source : ℕ) (remaining left : Option (List ℕ))
 -- `check`: the verdicts, by the bundle's certificate; where it says yes, the headline holds
 pub record IsCheckRun (remaining left : Option (List ℕ)) (result : Result Bool RunFault)
     (old new : Option (List ℕ)) : Type 0 where
-  pub run : IsRun IsVerdictText (IsRefusedFor true) remaining result old new
+  pub run : IsRunResult IsVerdictText (IsRefusedFor true) remaining result old new
   pub consumed : ConsumesUpTo max_input remaining left
-  pub headline : SaysYes result old new → IfSome remaining HeadlineOf
+  pub headline : SaysYes result old new → IfSome remaining BundleKeepsHeadline
 
 -- `make`: the certificate, or what is found; it is made exactly where every flow is right
 pub record IsMakeRun (remaining left : Option (List ℕ)) (result : Result Bool RunFault)
     (old new : Option (List ℕ)) : Type 0 where
-  pub run : IsRun IsMadeText (IsRefusedFor false) remaining result old new
+  pub run : IsRunResult IsMadeText (IsRefusedFor false) remaining result old new
   pub consumed : ConsumesUpTo max_input remaining left
   pub right : IfOk result (λ certified. IfSome remaining (λ text. SaysAllRight text certified))
 
@@ -70,27 +70,27 @@ choices_of last = record { numbers = []; last = last }
 -- order
 pub record IsReplayRun (flow ttl : ℕ) (last : Bool) (remaining left : Option (List ℕ))
     (result : Result Bool RunFault) (old new : Option (List ℕ)) : Type 0 where
-  pub run : IsRun (IsTravelText flow ttl (choices_of last)) (IsReplayRefused flow) remaining
+  pub run : IsRunResult (IsTravelText flow ttl (choices_of last)) (IsReplayRefused flow) remaining
       result old new
   pub consumed : ConsumesUpTo max_input remaining left
 
 -- ---- over the files of a folder
 
 -- that a bundle is written, without the yes
-abbrev pub packed_of : Result Bool RunFault → Result (Unit {0}) RunFault
-packed_of (Ok done) = Ok tt
-packed_of (Err fault) = Err fault
+abbrev pub packed_without_yes : Result Bool RunFault → Result (Unit {0}) RunFault
+packed_without_yes (Ok done) = Ok tt
+packed_without_yes (Err fault) = Err fault
 
 -- `pack`: the bundle of the files, and then yes
 pub record IsPackRun (certificate : Bool) (contents : Option (List FileText))
     (result : Result Bool RunFault) (old new : Option (List ℕ)) : Type 0 where
   pub yes : IfOk result (λ yes. yes ≡ true)
-  pub answer : IfSome contents (λ files. AnswersPack certificate files (packed_of result))
+  pub answer : IfSome contents (λ files. IsPackRunAnswer certificate files (packed_without_yes result))
   pub only : (files : List FileText) (parts : List PartText) → contents ≡ Some files
-      → IsPacked files certificate parts → IfErr result IsOfDevices
-  pub written : OnOk result (IfSome contents (λ files. WritesPacked certificate files old new))
+      → IsPacked files certificate parts → IfErr result IsDeviceOrMemoryFault
+  pub written : OnOk result (IfSome contents (λ files. WritesPackedBundle certificate files old new))
   pub part : result ≡ Err Write
-      → IfSome contents (λ files. WritesPartOfPacked certificate files old new)
+      → IfSome contents (λ files. WritesPackedPrefix certificate files old new)
 
 -- The answer of an audit is enough: it is yes and, where it has to be strict, no flow is wanted by
 -- nobody.
@@ -112,12 +112,12 @@ options_of words = record {
 }
 
 -- the names of the routers that the words leave out
-abbrev pub names_of : AuditWords → List (List ℕ)
-names_of words = map (λ name. name.now) words.without.items
+abbrev pub excluded_names : AuditWords → List (List ℕ)
+excluded_names words = map (λ name. name.now) words.without.items
 
 -- What an audit answers and writes of the files, with these options and without the routers of
 -- these names.
-pub record IsAnswered (o : AuditOptions) (names : List (List ℕ)) (contents : Option (List FileText))
+pub record IsAuditResult (o : AuditOptions) (names : List (List ℕ)) (contents : Option (List FileText))
     (audited : Result AuditAnswer RunFault) (old new : Option (List ℕ)) : Type 0 where
   pub answer : IfSome contents
       (λ files. Answers (IsAuditText o names) (AreRefusedWithout names) files (yes_of audited))
@@ -128,19 +128,19 @@ pub record IsAnswered (o : AuditOptions) (names : List (List ℕ)) (contents : O
   pub right : IfOk (yes_of audited)
       (λ all. IfSome contents (λ files. Writes (SaysWhichAreRight o names) files all old new))
   pub unwanted : IfOk audited (λ answer. IfSome contents
-      (OfDomain (MeansNoted o names) (λ v. HasUnwanted v o answer.unwanted)))
+      (MeansDomainWhere (MeansAudited o names) (λ v. HasUnwanted v o answer.unwanted)))
   pub each : IfOk (yes_of audited)
       (λ all. IfSome contents (λ files. Writes (SaysOfEach o names) files all old new))
   pub each_in_part : audited ≡ Err Write
       → IfSome contents (λ files. WritesPart (SaysOfEach o names) files old new)
-  pub headline : AuditSaysYes (yes_of audited) old new → IfSome contents HeadlineOfFiles
+  pub headline : AuditSaysYes (yes_of audited) old new → IfSome contents FilesKeepHeadline
 
 -- `audit`: whether the answer is enough that the audit gives with the options of the words, and
 -- without the routers that they name
 pub record IsAuditRun (words : AuditWords) (contents : Option (List FileText))
     (result : Result Bool RunFault) (old new : Option (List ℕ)) : Type 0 where
   pub audited : Result AuditAnswer RunFault
-  pub answered : IsAnswered (options_of words.options) (names_of words) contents audited old new
+  pub answered : IsAuditResult (options_of words.options) (excluded_names words) contents audited old new
   pub enough : result ≡ enough_of words.options.strict audited
 
 -- ---- over nothing
@@ -150,5 +150,5 @@ pub record IsTextRun (text : List ℕ) (result : Result Bool RunFault) (old new 
     : Type 0 where
   pub yes : IfOk result (λ yes. yes ≡ true)
   pub written : OnOk result (Appends old new text)
-  pub part : OnErr result (AppendsPart old new text)
+  pub part : OnErr result (AppendsProperPrefix old new text)
   pub only : IfErr result (λ fault. fault ≡ Write)

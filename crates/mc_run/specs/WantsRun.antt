@@ -5,7 +5,7 @@ use Rattle.mc_igmp.specs.declared.record.Record.{Record}
 use Rattle.mc_igmp.specs.ReportList.{IsReportList}
 use Rattle.mc_igmp.specs.ReadingList.{read_list}
 use Rattle.mc_igmp.specs.Wants.{Wants}
-use Rattle.mc_text.specs.Device.{AppendsPart}
+use Rattle.mc_text.specs.Device.{AppendsProperPrefix}
 use Rattle.mc_run.specs.declared.fault.RunFault.{RunFault}
 use Rattle.mc_run.specs.declared.fault.RunFault.TheVariants.{Reports, Read, Write, Memory}
 
@@ -15,24 +15,24 @@ answer_line true = codes "wanted" ++ 10 ∷ []
 answer_line false = codes "not wanted" ++ 10 ∷ []
 
 -- the text is a report list, and this says whether its LAN wants what the source sends to the group
-abbrev pub IsAnswer : List ℕ → ℕ → ℕ → Bool → Type 0
-IsAnswer text group source wanted =
+abbrev pub IsWantsAnswer : List ℕ → ℕ → ℕ → Bool → Type 0
+IsWantsAnswer text group source wanted =
     (records : List Record) × IsReportList text records
     × (IsTrue wanted ↔ Wants records group source)
 
 -- The answer is right. A list is refused only for the first fault that stands in it. The other
 -- faults are those of the devices, and lack of memory.
-abbrev pub Answers : List ℕ → ℕ → ℕ → Result Bool RunFault → Type 0
-Answers text group source (Ok wanted) = IsAnswer text group source wanted
-Answers text group source (Err (Reports fault)) = read_list text ≡ Err fault
-Answers text group source (Err Read) = ⊤
-Answers text group source (Err Write) = ⊤
-Answers text group source (Err Memory) = ⊤
+abbrev pub AnswersWants : List ℕ → ℕ → ℕ → Result Bool RunFault → Type 0
+AnswersWants text group source (Ok wanted) = IsWantsAnswer text group source wanted
+AnswersWants text group source (Err (Reports fault)) = read_list text ≡ Err fault
+AnswersWants text group source (Err Read) = ⊤
+AnswersWants text group source (Err Write) = ⊤
+AnswersWants text group source (Err Memory) = ⊤
 -- no bundle is read
-Answers text group source (Err _) = ⊥
+AnswersWants text group source (Err _) = ⊥
 
 -- a proper part of the right answer's line was written, from its front
-abbrev pub WritesPart : Option (List ℕ) → ℕ → ℕ → Option (List ℕ) → Option (List ℕ) → Type 0
-WritesPart told group source old new =
-    (wanted : Bool) × IfSome told (λ text. IsAnswer text group source wanted)
-    × AppendsPart old new (answer_line wanted)
+abbrev pub WritesPartOfLine : Option (List ℕ) → ℕ → ℕ → Option (List ℕ) → Option (List ℕ) → Type 0
+WritesPartOfLine contents group source old new =
+    (wanted : Bool) × IfSome contents (λ text. IsWantsAnswer text group source wanted)
+    × AppendsProperPrefix old new (answer_line wanted)

@@ -8,19 +8,19 @@ use Rattle.mc_igmp.specs.ListSoFar.{ListSoFar, list_if}
 use Rattle.mc_igmp.specs.Wants.{Wants}
 
 -- the records that were looked at stand before those that reading ends with
-abbrev pub behind : List Record → Result (List Record) ListFault → Result (List Record) ListFault
-behind seen read = read >>= λ rest. Ok (seen ++ rest)
+abbrev pub prepend_records : List Record → Result (List Record) ListFault → Result (List Record) ListFault
+prepend_records seen read = read >>= λ rest. Ok (seen ++ rest)
 
 -- These bytes came. Records of theirs were looked at and forgotten, and this says whether one of
 -- them wants what the source sends to the group.
-pub record Looks (old new : ListSoFar) (bytes : List ℕ) (group source : ℕ) (wanted : Bool)
+pub record ReadsPiece (old new : ListSoFar) (bytes : List ℕ) (group source : ℕ) (wanted : Bool)
     : Type 0 where
   pub seen : List Record
-  pub goes_on : (more : List ℕ) → list_if old (bytes ++ more) ≡ behind seen (list_if new more)
+  pub goes_on : (more : List ℕ) → list_if old (bytes ++ more) ≡ prepend_records seen (list_if new more)
   pub wants : IsTrue wanted ↔ Wants seen group source
 
 -- the same of the bytes that an input gave
-abbrev pub LooksThrough : Option (List ℕ) → Option (List ℕ) → ListSoFar → ListSoFar → ℕ → ℕ → Bool
+abbrev pub ReadsPieces : Option (List ℕ) → Option (List ℕ) → ListSoFar → ListSoFar → ℕ → ℕ → Bool
     → Type 0
-LooksThrough told left old new group source wanted =
-    (bytes : List ℕ) × Consumes told left bytes × Looks old new bytes group source wanted
+ReadsPieces contents left old new group source wanted =
+    (bytes : List ℕ) × Consumes contents left bytes × ReadsPiece old new bytes group source wanted

@@ -5,28 +5,28 @@ ghost use Rattle.std.specs.Prelude.{◌≡◌, ◌≢◌, ◌<◌, ◌==◌, ◌
 ghost use Rattle.std.specs.Prelude.{length, map};
 ghost use Rattle.std.specs.String.{string_bytes};
 ghost use Rattle.mc_cert.specs.Certificate.{Tree};
-ghost use Rattle.mc_run.specs.AuditPieces.{AreFlowsPushed, IsReady, noted, said_of, yes_of};
-ghost use Rattle.mc_run.specs.AuditRun.{AreFoundInWhole, AuditSaysYes, HasUnwanted, HeadlineOf};
+ghost use Rattle.mc_run.specs.AuditPieces.{AreFlowsPushed, HasItsMarksAndInterfaces, audited_value, output_of, yes_of};
+ghost use Rattle.mc_run.specs.AuditRun.{AreFoundInWhole, AuditSaysYes, HasUnwanted, FilesKeepHeadline};
 ghost use Rattle.mc_run.specs.AuditRun.{IsAudited, IsAuditText};
-ghost use Rattle.mc_run.specs.AuditRun.{MeansNoted, SaysOfEach, SaysWhichAreRight};
-ghost use Rattle.mc_domain.specs.Meaning.{OfDomain};
-ghost use Rattle.mc_text.specs.Device.{counted};
+ghost use Rattle.mc_run.specs.AuditRun.{MeansAudited, SaysOfEach, SaysWhichAreRight};
+ghost use Rattle.mc_domain.specs.Meaning.{MeansDomainWhere};
+ghost use Rattle.mc_text.specs.Device.{failures_after};
 ghost use Rattle.mc_run.specs.Failures.{is_read, is_write};
 ghost use Rattle.mc_run.specs.Faults.{IsFaultOfAudit};
 ghost use Rattle.mc_run.specs.InputMeaning.{AreRefusedWithout};
-ghost use Rattle.mc_run.specs.Said.{Answers, Writes, WritesPart};
+ghost use Rattle.mc_run.specs.RunOutput.{Answers, Writes, WritesPart};
 
 use crate::audit_end::{begin_lines, push_end};
 use crate::audit_flow::push_flow;
 use crate::audit_options::AuditOptions;
-use crate::audit_said::{AuditAnswer, AuditSaid, with_unwanted};
+use crate::audit_output::{AuditAnswer, AuditOutput, with_unwanted};
 use crate::audited_domain::AuditedDomain;
 use crate::fault::RunFault;
-use crate::left_out::left_out_marks;
-use crate::said::{Said, say};
-use crate::standing::Standings;
-use mc_cert::DifferentTrees;
-use mc_domain::{NotedDomain, noted_domain_without};
+use crate::excluded::excluded_marks;
+use crate::run_output::{RunOutput, write_output};
+use crate::flow_status::FlowCounts;
+use mc_cert::DistinctTrees;
+use mc_domain::{FolderDomain, read_folder_domain};
 use mc_explain::InterfacesOfLans;
 use mc_layout::PieceSource;
 use mc_text::{Memory as NoMemory, Output};
@@ -39,27 +39,27 @@ fn push_flows(
     audited: &AuditedDomain<'_>,
     options: AuditOptions,
     text: &mut String,
-) -> Result<Standings, NoMemory>
-    requires { IsReady audited.now }
-    ensures { IfOk result (λ standings. (told : List Tree) × AreFlowsPushed (noted audited.now) options
-        (length (noted audited.now).domain.topology.flows) standings told (string_bytes text.old)
+) -> Result<FlowCounts, NoMemory>
+    requires { HasItsMarksAndInterfaces audited.now }
+    ensures { IfOk result (λ flow_counts. (printed : List Tree) × AreFlowsPushed (audited_value audited.now) options
+        (length (audited_value audited.now).domain.topology.flows) flow_counts printed (string_bytes text.old)
         (string_bytes text.new)) }
 {
-    let mut ways = DifferentTrees::new(alloc);
-    let mut standings = Standings::none();
+    let mut shown_trees = DistinctTrees::new(alloc);
+    let mut flow_counts = FlowCounts::none();
     for flow in 0..audited.domain.topology().flows() {
-        let standing = push_flow(alloc, audited, flow, options, &mut ways, text)?;
-        standings = standings.with(standing);
+        let flow_status = push_flow(alloc, audited, flow, options, &mut shown_trees, text)?;
+        flow_counts = flow_counts.with(flow_status);
     }
-    let _ways = ways.trees();
-    Ok(standings)
+    let _shown_trees = shown_trees.trees();
+    Ok(flow_counts)
 }
 
 /// Whether all flows of a domain are right, of which so many stand how, and no router is left out.
-fn is_yes(audited: &AuditedDomain<'_>, standings: Standings) -> bool
-    ensures { result ≡ ((length audited.now.without.now == 0) && (standings.wrong == 0)) }
+fn is_yes(audited: &AuditedDomain<'_>, flow_counts: FlowCounts) -> bool
+    ensures { result ≡ ((length audited.now.without.now == 0) && (flow_counts.wrong == 0)) }
 {
-    audited.without.is_empty() && standings.are_right()
+    audited.without.is_empty() && flow_counts.are_right()
 }
 
 /// What is written of a domain: its flows, what stands in the caches besides, and the verdict, which is
@@ -68,75 +68,75 @@ fn audit_all(
     alloc: Global,
     audited: &AuditedDomain<'_>,
     options: AuditOptions,
-) -> Result<AuditSaid, NoMemory>
-    requires { IsReady audited.now }
-    ensures text { IfOk result (λ audit. IsAudited (noted audited.now) options audit.said.yes
-        (string_bytes audit.said.text)) }
-    ensures unwanted { IfOk result (λ audit. HasUnwanted (noted audited.now) options audit.unwanted) }
+) -> Result<AuditOutput, NoMemory>
+    requires { HasItsMarksAndInterfaces audited.now }
+    ensures text { IfOk result (λ audit. IsAudited (audited_value audited.now) options audit.run_output.yes
+        (string_bytes audit.run_output.text)) }
+    ensures unwanted { IfOk result (λ audit. HasUnwanted (audited_value audited.now) options audit.unwanted) }
 {
-    let mut text = begin_lines(alloc, audited.domain, options, audited.left_out)?;
-    let standings = push_flows(alloc, audited, options, &mut text)?;
-    let yes = is_yes(audited, standings);
-    push_end(alloc, &mut text, audited, options, standings, yes)?;
-    Ok(AuditSaid {
-        said: Said { text, yes },
-        unwanted: standings.unwanted,
+    let mut text = begin_lines(alloc, audited.domain, options, audited.excluded)?;
+    let flow_counts = push_flows(alloc, audited, options, &mut text)?;
+    let yes = is_yes(audited, flow_counts);
+    push_end(alloc, &mut text, audited, options, flow_counts, yes)?;
+    Ok(AuditOutput {
+        run_output: RunOutput { text, yes },
+        unwanted: flow_counts.unwanted,
     })
 }
 
 /// What is written of a domain that was read, of whose routers these are left out.
-fn audit_read(
+fn audit_domain(
     alloc: Global,
-    read: &NotedDomain,
+    read: &FolderDomain,
     options: AuditOptions,
     without: &[&str],
-) -> Result<AuditSaid, NoMemory>
+) -> Result<AuditOutput, NoMemory>
     ensures text { IfOk result (λ audit. IsAudited (record {
       domain = read.now.domain;
-      notes = read.now.notes.items;
+      summary = read.now.summary.items;
       without = map (λ name. name.now) without.now;
-    }) options audit.said.yes (string_bytes audit.said.text)) }
+    }) options audit.run_output.yes (string_bytes audit.run_output.text)) }
     ensures unwanted { IfOk result (λ audit. HasUnwanted (record {
       domain = read.now.domain;
-      notes = read.now.notes.items;
+      summary = read.now.summary.items;
       without = map (λ name. name.now) without.now;
     }) options audit.unwanted) }
 {
     let interfaces = InterfacesOfLans::new(alloc, &read.domain)?;
-    let left_out = left_out_marks(alloc, read.domain.topology(), without)?;
+    let excluded = excluded_marks(alloc, read.domain.topology(), without)?;
     let audited = AuditedDomain {
         domain: &read.domain,
-        notes: &read.notes,
+        summary: &read.summary,
         interfaces: &interfaces,
         without,
-        left_out: &left_out,
+        excluded: &excluded,
     };
     audit_all(alloc, &audited, options)
 }
 
 /// What is written of the domain that a folder's files tell, without these routers.
-fn audit_of<F: PieceSource>(
+fn audit_files<F: PieceSource>(
     alloc: Global,
     files: &mut F,
     options: AuditOptions,
     without: &[&str],
-) -> Result<AuditSaid, RunFault>
+) -> Result<AuditOutput, RunFault>
     requires { F.failed files.old < u64.MAX }
-    ensures same { F.names files.new ≡ F.names files.old }
-    ensures text { IfOk result (λ audit. IfSome (F.told files.old) (λ files.
-        IsAuditText options (map (λ name. name.now) without.now) files audit.said.yes
-        (string_bytes audit.said.text))) }
-    ensures unwanted { IfOk result (λ audit. IfSome (F.told files.old)
-        (OfDomain (MeansNoted options (map (λ name. name.now) without.now))
+    ensures same { F.borrows files.new ≡ F.borrows files.old }
+    ensures text { IfOk result (λ audit. IfSome (F.contents files.old) (λ files.
+        IsAuditText options (map (λ name. name.now) without.now) files audit.run_output.yes
+        (string_bytes audit.run_output.text))) }
+    ensures unwanted { IfOk result (λ audit. IfSome (F.contents files.old)
+        (MeansDomainWhere (MeansAudited options (map (λ name. name.now) without.now))
         (λ v. HasUnwanted v options audit.unwanted))) }
-    ensures refused { IfErr result (λ fault. IfSome (F.told files.old) (λ files.
+    ensures refused { IfErr result (λ fault. IfSome (F.contents files.old) (λ files.
         AreRefusedWithout (map (λ name. name.now) without.now) files fault)) }
     ensures no_write { IfErr result (λ fault. is_write fault ≡ false) }
     ensures faults { IfErr result IsFaultOfAudit }
-    ensures failures { F.failed files.new ≡ counted is_read result (F.failed files.old) }
+    ensures failures { F.failed files.new ≡ failures_after is_read result (F.failed files.old) }
 {
-    let read = noted_domain_without(alloc, files, without, options.unlisted)?;
-    let audit = audit_read(alloc, &read, options, without);
+    let read = read_folder_domain(alloc, files, without, options.unlisted)?;
+    let audit = audit_domain(alloc, &read, options, without);
     drop(read);
     match audit {
         Ok(audit) => Ok(audit),
@@ -165,52 +165,52 @@ pub fn run_audit<F: PieceSource, W: Output>(
 ) -> Result<AuditAnswer, RunFault>
     requires reads { F.failed files.old < u64.MAX }
     requires writes { W.failed output.old < u64.MAX }
-    ensures files_same { F.names files.new ≡ F.names files.old }
-    ensures output_same { W.names output.new ≡ W.names output.old }
+    ensures files_same { F.borrows files.new ≡ F.borrows files.old }
+    ensures output_same { W.borrows output.new ≡ W.borrows output.old }
     // The answer is that of the definition, or the first fault of the files.
-    ensures answer { IfSome (F.told files.old) (λ told.
+    ensures answer { IfSome (F.contents files.old) (λ contents.
         Answers (IsAuditText options (map (λ name. name.now) without.now))
-        (AreRefusedWithout (map (λ name. name.now) without.now)) told (yes_of result)) }
+        (AreRefusedWithout (map (λ name. name.now) without.now)) contents (yes_of result)) }
     // The text is written whole, or a part of it where the output failed, or else nothing.
-    ensures written { IfOk (yes_of result) (λ all. IfSome (F.told files.old) (λ told.
-        Writes (IsAuditText options (map (λ name. name.now) without.now)) told all
-        (W.took output.old) (W.took output.new))) }
+    ensures written { IfOk (yes_of result) (λ all. IfSome (F.contents files.old) (λ contents.
+        Writes (IsAuditText options (map (λ name. name.now) without.now)) contents all
+        (W.written output.old) (W.written output.new))) }
     // Its lines say of a flow that it has no certificate exactly where the flow isn't right, and it
     // ends with yes exactly where every listed flow is right and no router is left out.
-    ensures right { IfOk (yes_of result) (λ all. IfSome (F.told files.old) (λ told.
-        Writes (SaysWhichAreRight options (map (λ name. name.now) without.now)) told all
-        (W.took output.old) (W.took output.new))) }
+    ensures right { IfOk (yes_of result) (λ all. IfSome (F.contents files.old) (λ contents.
+        Writes (SaysWhichAreRight options (map (λ name. name.now) without.now)) contents all
+        (W.written output.old) (W.written output.new))) }
     // So many flows are right, and wanted by no LAN.
-    ensures unwanted { IfOk result (λ answer. IfSome (F.told files.old)
-        (OfDomain (MeansNoted options (map (λ name. name.now) without.now))
+    ensures unwanted { IfOk result (λ answer. IfSome (F.contents files.old)
+        (MeansDomainWhere (MeansAudited options (map (λ name. name.now) without.now))
         (λ v. HasUnwanted v options answer.unwanted))) }
-    ensures part { result ≡ Err RunFault.Write → IfSome (F.told files.old) (λ told.
-        WritesPart (IsAuditText options (map (λ name. name.now) without.now)) told
-        (W.took output.old) (W.took output.new)) }
+    ensures part { result ≡ Err RunFault.Write → IfSome (F.contents files.old) (λ contents.
+        WritesPart (IsAuditText options (map (λ name. name.now) without.now)) contents
+        (W.written output.old) (W.written output.new)) }
     // Of each flow whose lines were written, in the whole or in the part, they are so: a yes of the
     // checker, for which the headline holds, or what a run of its net finds, and what explains it.
-    ensures each { IfOk (yes_of result) (λ all. IfSome (F.told files.old) (λ told.
-        Writes (SaysOfEach options (map (λ name. name.now) without.now)) told all
-        (W.took output.old) (W.took output.new))) }
-    ensures each_in_part { result ≡ Err RunFault.Write → IfSome (F.told files.old) (λ told.
-        WritesPart (SaysOfEach options (map (λ name. name.now) without.now)) told
-        (W.took output.old) (W.took output.new)) }
+    ensures each { IfOk (yes_of result) (λ all. IfSome (F.contents files.old) (λ contents.
+        Writes (SaysOfEach options (map (λ name. name.now) without.now)) contents all
+        (W.written output.old) (W.written output.new))) }
+    ensures each_in_part { result ≡ Err RunFault.Write → IfSome (F.contents files.old) (λ contents.
+        WritesPart (SaysOfEach options (map (λ name. name.now) without.now)) contents
+        (W.written output.old) (W.written output.new)) }
     // What is found of a flow with routers left out, if it is a second copy on a LAN or a copy that
     // leaves, is so whatever these have: it isn't right in the domain that the files mean with them.
-    ensures left_out { IfOk (yes_of result) (λ all. IfSome (F.told files.old) (λ told.
-        Writes (AreFoundInWhole options (map (λ name. name.now) without.now)) told all
-        (W.took output.old) (W.took output.new))) }
+    ensures excluded { IfOk (yes_of result) (λ all. IfSome (F.contents files.old) (λ contents.
+        Writes (AreFoundInWhole options (map (λ name. name.now) without.now)) contents all
+        (W.written output.old) (W.written output.new))) }
     ensures unwritten { IfErr result (λ fault. fault ≢ RunFault.Write → output.new ≡ output.old) }
     // No other fault is answered than one of a folder's files or of the names to be left out, or that
     // a device failed or memory ran out.
     ensures faults { IfErr result IsFaultOfAudit }
     // Read and Write come only where the device's failures rose in the call.
-    ensures read_failures { F.failed files.new ≡ counted is_read result (F.failed files.old) }
-    ensures write_failures { W.failed output.new ≡ counted is_write result (W.failed output.old) }
+    ensures read_failures { F.failed files.new ≡ failures_after is_read result (F.failed files.old) }
+    ensures write_failures { W.failed output.new ≡ failures_after is_write result (W.failed output.old) }
     // Where the run says yes, the headline holds of what it read.
-    ensures headline { AuditSaysYes (yes_of result) (W.took output.old) (W.took output.new)
-        → IfSome (F.told files.old) HeadlineOf }
+    ensures headline { AuditSaysYes (yes_of result) (W.written output.old) (W.written output.new)
+        → IfSome (F.contents files.old) FilesKeepHeadline }
 {
-    let (said, unwanted) = AuditSaid::parts(audit_of(alloc, files, options, without));
-    with_unwanted(say(said, output), unwanted)
+    let (run_output, unwanted) = AuditOutput::parts(audit_files(alloc, files, options, without));
+    with_unwanted(write_output(run_output, output), unwanted)
 }

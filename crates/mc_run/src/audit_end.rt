@@ -3,19 +3,19 @@
 ghost use Rattle.std.specs.Prelude.{◌≡◌, ◌++◌, IfOk, OnOk, flat_map, length, map};
 ghost use Rattle.std.specs.String.{string_bytes};
 ghost use Rattle.mc_forward.specs.ListedTables.{facts};
-ghost use Rattle.mc_run.specs.AuditEnd.{begin_lines, end_by, end_objects, end_text, option_words};
-ghost use Rattle.mc_run.specs.AuditEnd.{strict_lines, summary_by, verdict_told, word_if, words_of_router};
-ghost use Rattle.mc_run.specs.AuditPieces.{noted};
+ghost use Rattle.mc_run.specs.AuditEnd.{begin_lines, end_text_or_objects, end_objects, end_text, option_words};
+ghost use Rattle.mc_run.specs.AuditEnd.{strict_lines, summary_line, verdict_line, word_if_asked, without_words};
+ghost use Rattle.mc_run.specs.AuditPieces.{audited_value};
 
 use crate::audit_options::AuditOptions;
 use crate::audited_domain::AuditedDomain;
-use crate::standing::Standings;
-use crate::verdict_text::push_last;
-use mc_explain::{push_left_out, push_unlisted, push_without};
+use crate::flow_status::FlowCounts;
+use crate::verdict_text::push_overall_verdict;
+use mc_explain::{push_excluded, push_unlisted, push_without_lines};
 use mc_forward::Domain;
 use mc_json::{
     push_domain_line, push_summary_line, push_unlisted_lines, push_verdict_line, push_without_line,
-    routers_left_out,
+    list_excluded_routers,
 };
 use mc_text::Memory as NoMemory;
 use mc_topology::{RouterNo, Topology};
@@ -24,14 +24,14 @@ use std::alloc::Global;
 // ---- before
 
 /// Adds a word, if it is asked for.
-fn push_word(
+fn push_option_word(
     alloc: Global,
     words: &mut Vec<String>,
     asked: bool,
     word: &str,
 ) -> Result<(), NoMemory>
     ensures { OnOk result (map string_bytes words.new.items
-        ≡ map string_bytes words.old.items ++ word_if asked word.now) }
+        ≡ map string_bytes words.old.items ++ word_if_asked asked word.now) }
 {
     if asked {
         words.push(String::from_str(alloc, word)?)?;
@@ -40,14 +40,14 @@ fn push_word(
 }
 
 /// Adds the words that leave a router out.
-fn push_words_of_router(
+fn push_without_words(
     alloc: Global,
     words: &mut Vec<String>,
     topology: &Topology,
     router: RouterNo,
 ) -> Result<(), NoMemory>
     ensures { OnOk result (map string_bytes words.new.items
-        ≡ map string_bytes words.old.items ++ words_of_router topology.now router) }
+        ≡ map string_bytes words.old.items ++ without_words topology.now router) }
 {
     words.push(String::from_str(alloc, "--without")?)?;
     let name = topology.router_name_or_empty(router);
@@ -56,17 +56,17 @@ fn push_words_of_router(
 }
 
 /// Adds those that leave these routers out.
-fn push_left_out_words(
+fn push_all_without_words(
     alloc: Global,
     words: &mut Vec<String>,
     topology: &Topology,
     routers: &[RouterNo],
 ) -> Result<(), NoMemory>
     ensures { OnOk result (map string_bytes words.new.items ≡ map string_bytes words.old.items
-        ++ flat_map (words_of_router topology.now) routers.now) }
+        ++ flat_map (without_words topology.now) routers.now) }
 {
     for router in routers {
-        push_words_of_router(alloc, words, topology, *router)?;
+        push_without_words(alloc, words, topology, *router)?;
     }
     Ok(())
 }
@@ -76,19 +76,19 @@ fn option_words(
     alloc: Global,
     topology: &Topology,
     options: AuditOptions,
-    left_out: &[bool],
+    excluded: &[bool],
 ) -> Result<Vec<String>, NoMemory>
     ensures { IfOk result (λ words.
-        map string_bytes words.items ≡ option_words options topology.now left_out.now) }
+        map string_bytes words.items ≡ option_words options topology.now excluded.now) }
 {
     let mut words = Vec::new(alloc);
-    push_word(alloc, &mut words, options.travels, "--travel")?;
-    push_word(alloc, &mut words, options.faults, "--faults")?;
-    push_word(alloc, &mut words, options.unlisted, "--unlisted")?;
-    push_word(alloc, &mut words, options.strict, "--strict")?;
-    push_word(alloc, &mut words, options.json, "--json")?;
-    let routers = routers_left_out(alloc, topology, left_out)?;
-    push_left_out_words(alloc, &mut words, topology, &routers)?;
+    push_option_word(alloc, &mut words, options.travels, "--travel")?;
+    push_option_word(alloc, &mut words, options.faults, "--faults")?;
+    push_option_word(alloc, &mut words, options.unlisted, "--unlisted")?;
+    push_option_word(alloc, &mut words, options.strict, "--strict")?;
+    push_option_word(alloc, &mut words, options.json, "--json")?;
+    let routers = list_excluded_routers(alloc, topology, excluded)?;
+    push_all_without_words(alloc, &mut words, topology, &routers)?;
     Ok(words)
 }
 
@@ -97,14 +97,14 @@ pub(crate) fn begin_lines(
     alloc: Global,
     domain: &Domain,
     options: AuditOptions,
-    left_out: &[bool],
+    excluded: &[bool],
 ) -> Result<String, NoMemory>
     ensures { IfOk result (λ text.
-        string_bytes text ≡ begin_lines options (facts domain.now) left_out.now) }
+        string_bytes text ≡ begin_lines options (facts domain.now) excluded.now) }
 {
     let mut text = String::new(alloc);
     if options.json {
-        let words = option_words(alloc, domain.topology(), options, left_out)?;
+        let words = option_words(alloc, domain.topology(), options, excluded)?;
         push_domain_line(alloc, &mut text, domain, &words)?;
     }
     Ok(text)
@@ -113,15 +113,15 @@ pub(crate) fn begin_lines(
 // ---- behind, as text
 
 /// Writes how many flows there are, and how many of them stand how.
-fn push_summary(text: &mut String, flows: u32, standings: Standings) -> Result<(), NoMemory>
+fn push_summary(text: &mut String, flows: u32, flow_counts: FlowCounts) -> Result<(), NoMemory>
     ensures { OnOk result (string_bytes text.new ≡ string_bytes text.old
-        ++ summary_by flows standings.right standings.wrong standings.unwanted) }
+        ++ summary_line flows flow_counts.right flow_counts.wrong flow_counts.unwanted) }
 {
-    let Standings {
+    let FlowCounts {
         right,
         wrong,
         unwanted,
-    } = standings;
+    } = flow_counts;
     writeln!(
         text,
         "summary flows {flows} right {right} wrong {wrong} unwanted {unwanted}"
@@ -150,20 +150,20 @@ fn push_end_text(
     text: &mut String,
     audited: &AuditedDomain<'_>,
     options: AuditOptions,
-    standings: Standings,
+    flow_counts: FlowCounts,
     all: bool,
 ) -> Result<(), NoMemory>
     ensures { OnOk result (string_bytes text.new ≡ string_bytes text.old
-        ++ end_text options (noted audited.now).domain.topology (noted audited.now).notes
-        audited.now.left_out.now all (length (noted audited.now).domain.topology.flows)
-        standings.right standings.wrong standings.unwanted) }
+        ++ end_text options (audited_value audited.now).domain.topology (audited_value audited.now).summary
+        audited.now.excluded.now all (length (audited_value audited.now).domain.topology.flows)
+        flow_counts.right flow_counts.wrong flow_counts.unwanted) }
 {
     let topology = audited.domain.topology();
-    push_unlisted(alloc, text, topology, audited.notes, options.unlisted)?;
-    push_without(text, topology, audited.left_out)?;
-    push_summary(text, topology.flows(), standings)?;
-    push_left_out(text, topology, audited.left_out)?;
-    push_strict(text, options.strict, all, standings.unwanted)
+    push_unlisted(alloc, text, topology, audited.summary, options.unlisted)?;
+    push_without_lines(text, topology, audited.excluded)?;
+    push_summary(text, topology.flows(), flow_counts)?;
+    push_excluded(text, topology, audited.excluded)?;
+    push_strict(text, options.strict, all, flow_counts.unwanted)
 }
 
 // ---- in JSON
@@ -174,20 +174,20 @@ fn push_end_objects(
     text: &mut String,
     audited: &AuditedDomain<'_>,
     options: AuditOptions,
-    standings: Standings,
+    flow_counts: FlowCounts,
 ) -> Result<(), NoMemory>
     ensures { OnOk result (string_bytes text.new ≡ string_bytes text.old
-        ++ end_objects options (noted audited.now).domain.topology (noted audited.now).notes
-        audited.now.left_out.now standings.right standings.wrong standings.unwanted) }
+        ++ end_objects options (audited_value audited.now).domain.topology (audited_value audited.now).summary
+        audited.now.excluded.now flow_counts.right flow_counts.wrong flow_counts.unwanted) }
 {
     let topology = audited.domain.topology();
-    let Standings {
+    let FlowCounts {
         right,
         wrong,
         unwanted,
-    } = standings;
-    push_unlisted_lines(alloc, text, topology, audited.notes, options.unlisted)?;
-    push_without_line(alloc, text, topology, audited.left_out)?;
+    } = flow_counts;
+    push_unlisted_lines(alloc, text, topology, audited.summary, options.unlisted)?;
+    push_without_line(alloc, text, topology, audited.excluded)?;
     push_summary_line(alloc, text, right, unwanted, wrong)
 }
 
@@ -199,19 +199,19 @@ pub(crate) fn push_end(
     text: &mut String,
     audited: &AuditedDomain<'_>,
     options: AuditOptions,
-    standings: Standings,
+    flow_counts: FlowCounts,
     all: bool,
 ) -> Result<(), NoMemory>
     ensures { OnOk result (string_bytes text.new ≡ string_bytes text.old
-        ++ (end_by options (noted audited.now).domain.topology (noted audited.now).notes
-        audited.now.left_out.now all (length (noted audited.now).domain.topology.flows)
-        standings.right standings.wrong standings.unwanted ++ verdict_told options.json all)) }
+        ++ (end_text_or_objects options (audited_value audited.now).domain.topology (audited_value audited.now).summary
+        audited.now.excluded.now all (length (audited_value audited.now).domain.topology.flows)
+        flow_counts.right flow_counts.wrong flow_counts.unwanted ++ verdict_line options.json all)) }
 {
     if options.json {
-        push_end_objects(alloc, text, audited, options, standings)?;
+        push_end_objects(alloc, text, audited, options, flow_counts)?;
         push_verdict_line(alloc, text, all)
     } else {
-        push_end_text(alloc, text, audited, options, standings, all)?;
-        push_last(text, all)
+        push_end_text(alloc, text, audited, options, flow_counts, all)?;
+        push_overall_verdict(text, all)
     }
 }

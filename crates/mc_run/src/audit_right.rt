@@ -8,20 +8,20 @@ ghost use Rattle.mc_theory.specs.Headline.{HeadlineHolds};
 ghost use Rattle.mc_topology.specs.declared.flow.Flow.{Flow as FlowValue};
 ghost use Rattle.mc_forward.specs.Domains.{net_of};
 ghost use Rattle.mc_forward.specs.ListedTables.{facts};
-ghost use Rattle.mc_cert.specs.Distinct.{place_of, with_tree};
+ghost use Rattle.mc_cert.specs.Distinct.{tree_number_of, with_tree};
 ghost use Rattle.mc_check.specs.declared.verdict.Verdict.TheVariants.{Yes as is_yes};
-ghost use Rattle.mc_explain.specs.WantedText.{wanting};
-ghost use Rattle.mc_run.specs.AuditObjects.{right_objects, way_line};
-ghost use Rattle.mc_run.specs.AuditPieces.{noted};
+ghost use Rattle.mc_explain.specs.WantedText.{lans_wanting};
+ghost use Rattle.mc_run.specs.AuditObjects.{right_objects, tree_line};
+ghost use Rattle.mc_run.specs.AuditPieces.{audited_value};
 ghost use Rattle.mc_run.specs.AuditRun.{is_whole};
 ghost use Rattle.mc_run.specs.AuditText.{right_line, right_lines};
-ghost use Rattle.mc_run.specs.AuditTold.{is_left_out, right_told, standing_of_right, with_way};
+ghost use Rattle.mc_run.specs.AuditFlowText.{is_hidden, right_flow_lines, status_of_right, with_shown_tree};
 
 use crate::audit_options::AuditOptions;
 use crate::audited_domain::AuditedDomain;
-use crate::standing::Standing;
-use crate::verdict_text::{FlowWords, push_line};
-use mc_cert::{DifferentTrees, Reached};
+use crate::flow_status::FlowStatus;
+use crate::verdict_text::{FlowWords, push_flow_verdict};
+use mc_cert::{DistinctTrees, Reached};
 use mc_check::{Verdict, check_flow};
 use mc_explain::{count_wanted, push_wanted};
 use mc_forward::Domain;
@@ -33,7 +33,7 @@ use std::alloc::Global;
 // ---- as text
 
 /// Writes the checker's yes with so many copies, or where the whole domain isn't known that no fault is.
-fn push_certified(
+fn push_certified_line(
     text: &mut String,
     topology: &Topology,
     flow: &Flow,
@@ -44,7 +44,7 @@ fn push_certified(
         string_bytes text.old ++ right_line whole topology.now flow.now copies) }
 {
     if whole {
-        return push_line(text, topology, flow, Verdict::Yes { copies });
+        return push_flow_verdict(text, topology, flow, Verdict::Yes { copies });
     }
     let words = FlowWords { flow };
     writeln!(text, "{words} no fault known copies {copies}").map_err(|_| NoMemory)
@@ -56,59 +56,59 @@ fn push_right_lines(
     audited: &AuditedDomain<'_>,
     flow: u32,
     copies: u32,
-) -> Result<Standing, NoMemory>
-    requires { flow < length (noted audited.now).domain.topology.flows }
-    ensures standing { IfOk result (λ standing.
-        standing ≡ standing_of_right (wanting (facts (noted audited.now).domain) flow)) }
+) -> Result<FlowStatus, NoMemory>
+    requires { flow < length (audited_value audited.now).domain.topology.flows }
+    ensures flow_status { IfOk result (λ flow_status.
+        flow_status ≡ status_of_right (lans_wanting (facts (audited_value audited.now).domain) flow)) }
     ensures lines { OnOk result ((listed : FlowValue) →
-        slice_get (noted audited.now).domain.topology.flows flow ≡ Some listed →
-        string_bytes text.new ≡ string_bytes text.old ++ right_lines (is_whole (noted audited.now))
-        (noted audited.now).domain.topology listed copies
-        (wanting (facts (noted audited.now).domain) flow)) }
+        slice_get (audited_value audited.now).domain.topology.flows flow ≡ Some listed →
+        string_bytes text.new ≡ string_bytes text.old ++ right_lines (is_whole (audited_value audited.now))
+        (audited_value audited.now).domain.topology listed copies
+        (lans_wanting (facts (audited_value audited.now).domain) flow)) }
 {
     let topology = audited.domain.topology();
     let whole = audited.without.is_empty();
-    push_certified(text, topology, topology.flow(flow), copies, whole)?;
+    push_certified_line(text, topology, topology.flow(flow), copies, whole)?;
     if push_wanted(text, audited.domain, flow)? == 0 {
-        Ok(Standing::Unwanted)
+        Ok(FlowStatus::Unwanted)
     } else {
-        Ok(Standing::Wanted)
+        Ok(FlowStatus::Wanted)
     }
 }
 
 // ---- in JSON
 
 /// Writes the way of a flow, if it is none of those that were told before, and answers its number.
-fn push_way(
+fn push_tree_once(
     alloc: Global,
     text: &mut String,
     topology: &Topology,
-    ways: &mut DifferentTrees,
+    shown_trees: &mut DistinctTrees,
     entries: &[Reached],
 ) -> Result<u32, NoMemory>
-    requires { length ways.old < 4096 }
-    ensures ways { OnOk result (ways.new ≡ with_tree ways.old entries.now) }
-    ensures number { IfOk result (λ number. number ≡ place_of ways.new entries.now) }
+    requires { length shown_trees.old < 4096 }
+    ensures shown_trees { OnOk result (shown_trees.new ≡ with_tree shown_trees.old entries.now) }
+    ensures number { IfOk result (λ number. number ≡ tree_number_of shown_trees.new entries.now) }
     ensures line { OnOk result (string_bytes text.new ≡
-        string_bytes text.old ++ way_line topology.now ways.old entries.now) }
+        string_bytes text.old ++ tree_line topology.now shown_trees.old entries.now) }
 {
-    let told = ways.trees().len();
-    let number = ways.number_of(Vec::from_slice(alloc, entries)?)?;
-    if ways.trees().len() > told {
-        push_tree_line(alloc, text, topology, entries, told as u32)?;
+    let printed = shown_trees.trees().len();
+    let number = shown_trees.number_of(Vec::from_slice(alloc, entries)?)?;
+    if shown_trees.trees().len() > printed {
+        push_tree_line(alloc, text, topology, entries, printed as u32)?;
     }
     Ok(number)
 }
 
 /// How a flow that is right stands.
-fn standing_of(domain: &Domain, flow: u32) -> Standing
+fn status_of(domain: &Domain, flow: u32) -> FlowStatus
     requires { flow < length domain.now.topology.flows }
-    ensures { result ≡ standing_of_right (wanting (facts domain.now) flow) }
+    ensures { result ≡ status_of_right (lans_wanting (facts domain.now) flow) }
 {
     if count_wanted(domain, flow) == 0 {
-        Standing::Unwanted
+        FlowStatus::Unwanted
     } else {
-        Standing::Wanted
+        FlowStatus::Wanted
     }
 }
 
@@ -121,25 +121,25 @@ fn push_right_objects(
     flow: u32,
     entries: &[Reached],
     copies: u32,
-    ways: &mut DifferentTrees,
-) -> Result<Standing, NoMemory>
-    requires flow { flow < length (noted audited.now).domain.topology.flows }
+    shown_trees: &mut DistinctTrees,
+) -> Result<FlowStatus, NoMemory>
+    requires flow { flow < length (audited_value audited.now).domain.topology.flows }
     requires copies { copies ≡ length entries.now }
-    requires few { length ways.old < 4096 }
-    ensures standing { IfOk result (λ standing.
-        standing ≡ standing_of_right (wanting (facts (noted audited.now).domain) flow)) }
-    ensures ways { OnOk result (ways.new ≡ with_tree ways.old entries.now) }
+    requires few { length shown_trees.old < 4096 }
+    ensures flow_status { IfOk result (λ flow_status.
+        flow_status ≡ status_of_right (lans_wanting (facts (audited_value audited.now).domain) flow)) }
+    ensures shown_trees { OnOk result (shown_trees.new ≡ with_tree shown_trees.old entries.now) }
     ensures lines { OnOk result ((listed : FlowValue) →
-        slice_get (noted audited.now).domain.topology.flows flow ≡ Some listed →
-        string_bytes text.new ≡ string_bytes text.old ++ right_objects (is_whole (noted audited.now))
-        (noted audited.now).domain.topology ways.old flow listed entries.now
-        (wanting (facts (noted audited.now).domain) flow)) }
+        slice_get (audited_value audited.now).domain.topology.flows flow ≡ Some listed →
+        string_bytes text.new ≡ string_bytes text.old ++ right_objects (is_whole (audited_value audited.now))
+        (audited_value audited.now).domain.topology shown_trees.old flow listed entries.now
+        (lans_wanting (facts (audited_value audited.now).domain) flow)) }
 {
     let domain = audited.domain;
     let whole = audited.without.is_empty();
-    let number = push_way(alloc, text, domain.topology(), ways, entries)?;
+    let number = push_tree_once(alloc, text, domain.topology(), shown_trees, entries)?;
     push_right_line(alloc, text, domain, whole, flow, copies as usize, number)?;
-    Ok(standing_of(domain, flow))
+    Ok(status_of(domain, flow))
 }
 
 // ---- both
@@ -153,64 +153,64 @@ fn push_right(
     entries: &[Reached],
     copies: u32,
     options: AuditOptions,
-    ways: &mut DifferentTrees,
+    shown_trees: &mut DistinctTrees,
     text: &mut String,
-) -> Result<Standing, NoMemory>
-    requires flow { flow < length (noted audited.now).domain.topology.flows }
+) -> Result<FlowStatus, NoMemory>
+    requires flow { flow < length (audited_value audited.now).domain.topology.flows }
     requires copies { copies ≡ length entries.now }
-    requires few { length ways.old < 4096 }
-    ensures standing { IfOk result (λ standing.
-        standing ≡ standing_of_right (wanting (facts (noted audited.now).domain) flow)) }
-    ensures ways { OnOk result (ways.new ≡ with_way options.json
-        (is_left_out options.faults (wanting (facts (noted audited.now).domain) flow)) ways.old
+    requires few { length shown_trees.old < 4096 }
+    ensures flow_status { IfOk result (λ flow_status.
+        flow_status ≡ status_of_right (lans_wanting (facts (audited_value audited.now).domain) flow)) }
+    ensures shown_trees { OnOk result (shown_trees.new ≡ with_shown_tree options.json
+        (is_hidden options.faults (lans_wanting (facts (audited_value audited.now).domain) flow)) shown_trees.old
         entries.now) }
     ensures lines { OnOk result ((listed : FlowValue) →
-        slice_get (noted audited.now).domain.topology.flows flow ≡ Some listed →
-        string_bytes text.new ≡ string_bytes text.old ++ right_told options
-        (is_whole (noted audited.now)) (noted audited.now).domain.topology ways.old flow listed
-        entries.now (wanting (facts (noted audited.now).domain) flow)) }
+        slice_get (audited_value audited.now).domain.topology.flows flow ≡ Some listed →
+        string_bytes text.new ≡ string_bytes text.old ++ right_flow_lines options
+        (is_whole (audited_value audited.now)) (audited_value audited.now).domain.topology shown_trees.old flow listed
+        entries.now (lans_wanting (facts (audited_value audited.now).domain) flow)) }
 {
     if options.faults && count_wanted(audited.domain, flow) != 0 {
-        return Ok(Standing::Wanted);
+        return Ok(FlowStatus::Wanted);
     }
     if options.json {
-        push_right_objects(alloc, text, audited, flow, entries, copies, ways)
+        push_right_objects(alloc, text, audited, flow, entries, copies, shown_trees)
     } else {
         push_right_lines(text, audited, flow, copies)
     }
 }
 
 /// Writes this with the checker's yes. It says none but that to a list that is accepted.
-fn push_answer(
+fn push_with_verdict(
     alloc: Global,
     audited: &AuditedDomain<'_>,
     flow: u32,
     entries: &[Reached],
     answer: Result<Verdict, NoMemory>,
     options: AuditOptions,
-    ways: &mut DifferentTrees,
+    shown_trees: &mut DistinctTrees,
     text: &mut String,
-) -> Result<Standing, NoMemory>
-    requires flow { flow < length (noted audited.now).domain.topology.flows }
-    requires few { length ways.old < 4096 }
+) -> Result<FlowStatus, NoMemory>
+    requires flow { flow < length (audited_value audited.now).domain.topology.flows }
+    requires few { length shown_trees.old < 4096 }
     requires accepted { IfOk answer (λ verdict. verdict ≡ is_yes (length entries.now)) }
     ensures answered { OnOk result (IsOkAnd answer (λ verdict. verdict ≡ is_yes (length entries.now))) }
-    ensures standing { IfOk result (λ standing.
-        standing ≡ standing_of_right (wanting (facts (noted audited.now).domain) flow)) }
-    ensures ways { OnOk result (ways.new ≡ with_way options.json
-        (is_left_out options.faults (wanting (facts (noted audited.now).domain) flow)) ways.old
+    ensures flow_status { IfOk result (λ flow_status.
+        flow_status ≡ status_of_right (lans_wanting (facts (audited_value audited.now).domain) flow)) }
+    ensures shown_trees { OnOk result (shown_trees.new ≡ with_shown_tree options.json
+        (is_hidden options.faults (lans_wanting (facts (audited_value audited.now).domain) flow)) shown_trees.old
         entries.now) }
     ensures lines { OnOk result ((listed : FlowValue) →
-        slice_get (noted audited.now).domain.topology.flows flow ≡ Some listed →
-        string_bytes text.new ≡ string_bytes text.old ++ right_told options
-        (is_whole (noted audited.now)) (noted audited.now).domain.topology ways.old flow listed
-        entries.now (wanting (facts (noted audited.now).domain) flow)) }
+        slice_get (audited_value audited.now).domain.topology.flows flow ≡ Some listed →
+        string_bytes text.new ≡ string_bytes text.old ++ right_flow_lines options
+        (is_whole (audited_value audited.now)) (audited_value audited.now).domain.topology shown_trees.old flow listed
+        entries.now (lans_wanting (facts (audited_value audited.now).domain) flow)) }
 {
     match answer {
         Ok(Verdict::Yes { copies }) => {
-            push_right(alloc, audited, flow, entries, copies, options, ways, text)
+            push_right(alloc, audited, flow, entries, copies, options, shown_trees, text)
         }
-        Ok(Verdict::No(_)) => Ok(Standing::Wrong),
+        Ok(Verdict::No(_)) => Ok(FlowStatus::Wrong),
         Err(_) => Err(NoMemory),
     }
 }
@@ -223,26 +223,26 @@ pub(crate) fn push_checked(
     flow: u32,
     entries: &[Reached],
     options: AuditOptions,
-    ways: &mut DifferentTrees,
+    shown_trees: &mut DistinctTrees,
     text: &mut String,
-) -> Result<Standing, NoMemory>
-    requires flow { flow < length (noted audited.now).domain.topology.flows }
-    requires few { length ways.old < 4096 }
-    requires lans { All (λ e. e.lan < length (noted audited.now).domain.topology.lans) entries.now }
-    requires accepted { IsAccepted (net_of (noted audited.now).domain flow) entries.now }
+) -> Result<FlowStatus, NoMemory>
+    requires flow { flow < length (audited_value audited.now).domain.topology.flows }
+    requires few { length shown_trees.old < 4096 }
+    requires lans { All (λ e. e.lan < length (audited_value audited.now).domain.topology.lans) entries.now }
+    requires accepted { IsAccepted (net_of (audited_value audited.now).domain flow) entries.now }
     ensures headline { OnOk result
-        (HeadlineHolds (net_of (noted audited.now).domain flow) (length entries.now)) }
-    ensures standing { IfOk result (λ standing.
-        standing ≡ standing_of_right (wanting (facts (noted audited.now).domain) flow)) }
-    ensures ways { OnOk result (ways.new ≡ with_way options.json
-        (is_left_out options.faults (wanting (facts (noted audited.now).domain) flow)) ways.old
+        (HeadlineHolds (net_of (audited_value audited.now).domain flow) (length entries.now)) }
+    ensures flow_status { IfOk result (λ flow_status.
+        flow_status ≡ status_of_right (lans_wanting (facts (audited_value audited.now).domain) flow)) }
+    ensures shown_trees { OnOk result (shown_trees.new ≡ with_shown_tree options.json
+        (is_hidden options.faults (lans_wanting (facts (audited_value audited.now).domain) flow)) shown_trees.old
         entries.now) }
     ensures lines { OnOk result ((listed : FlowValue) →
-        slice_get (noted audited.now).domain.topology.flows flow ≡ Some listed →
-        string_bytes text.new ≡ string_bytes text.old ++ right_told options
-        (is_whole (noted audited.now)) (noted audited.now).domain.topology ways.old flow listed
-        entries.now (wanting (facts (noted audited.now).domain) flow)) }
+        slice_get (audited_value audited.now).domain.topology.flows flow ≡ Some listed →
+        string_bytes text.new ≡ string_bytes text.old ++ right_flow_lines options
+        (is_whole (audited_value audited.now)) (audited_value audited.now).domain.topology shown_trees.old flow listed
+        entries.now (lans_wanting (facts (audited_value audited.now).domain) flow)) }
 {
     let answer = check_flow(alloc, audited.domain, flow, entries);
-    push_answer(alloc, audited, flow, entries, answer, options, ways, text)
+    push_with_verdict(alloc, audited, flow, entries, answer, options, shown_trees, text)
 }

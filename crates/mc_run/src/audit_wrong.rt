@@ -4,38 +4,38 @@ ghost use Rattle.std.specs.Prelude.{◌≡◌, ◌<◌, ◌++◌, IfOk, OnOk, So
 ghost use Rattle.std.specs.String.{string_bytes};
 ghost use Rattle.mc_topology.specs.declared.flow.Flow.{Flow as FlowValue};
 ghost use Rattle.mc_forward.specs.ListedTables.{facts};
-ghost use Rattle.mc_maker.specs.Flown.{HasEnded};
-ghost use Rattle.mc_explain.specs.WantedText.{missed_besides, missed_too_text};
-ghost use Rattle.mc_run.specs.AuditPieces.{IsReady, explanation_in, noted};
-ghost use Rattle.mc_run.specs.AuditReasons.{IsSearchOn, search_by};
-ghost use Rattle.mc_run.specs.AuditRun.{left_out};
+ghost use Rattle.mc_maker.specs.ExaminedFlights.{IsFinishedTravelOf};
+ghost use Rattle.mc_explain.specs.WantedText.{missed_besides, also_missed_text};
+ghost use Rattle.mc_run.specs.AuditPieces.{HasItsMarksAndInterfaces, explanation_in, audited_value};
+ghost use Rattle.mc_run.specs.AuditReasons.{IsSearchIfMissed, search_context};
+ghost use Rattle.mc_run.specs.AuditRun.{excluded};
 ghost use Rattle.mc_run.specs.AuditObjects.{wrong_object};
-ghost use Rattle.mc_run.specs.AuditText.{events_told, explanation_lines, searched_lines, wrong_lines};
-ghost use Rattle.mc_run.specs.AuditTold.{wrong_told};
+ghost use Rattle.mc_run.specs.AuditText.{events_if_shown, explanation_lines, searched_lines, wrong_lines};
+ghost use Rattle.mc_run.specs.AuditFlowText.{wrong_flow_lines};
 
 use crate::audit_options::AuditOptions;
 use crate::audited_domain::AuditedDomain;
-use crate::found_text::push_found;
+use crate::found_text::push_found_lines;
 use crate::travel_text::push_events;
-use mc_explain::{LanSearch, Told, push_also_missed, push_search, push_told, search};
+use mc_explain::{LanSearch, Cause, push_also_missed, push_search, push_causes, search};
 use mc_json::{push_missed_line, push_wrong_line};
-use mc_replay::{Ended, Finding, Travel};
+use mc_replay::{FinishedTravel, Finding, Travel};
 use mc_text::Memory as NoMemory;
 use mc_topology::Topology;
 use std::alloc::Global;
 
 /// Searches for the LAN that a packet of TTL 255 missed, if it missed one.
-pub(crate) fn searched(
+pub(crate) fn search_if_missed(
     alloc: Global,
     audited: &AuditedDomain<'_>,
     flow: u32,
-    ended: &Ended<'_>,
+    ended: &FinishedTravel<'_>,
 ) -> Result<Option<LanSearch>, NoMemory>
-    requires flow { flow < length (noted audited.now).domain.topology.flows }
-    requires ready { IsReady audited.now }
-    requires ended { HasEnded (noted audited.now).domain flow 255 ended.now }
-    ensures { IfOk result (IsSearchOn (search_by (facts (noted audited.now).domain)
-        (noted audited.now).notes (left_out (noted audited.now)) flow ended.now.flight.flight.carried)
+    requires flow { flow < length (audited_value audited.now).domain.topology.flows }
+    requires ready { HasItsMarksAndInterfaces audited.now }
+    requires ended { IsFinishedTravelOf (audited_value audited.now).domain flow 255 ended.now }
+    ensures { IfOk result (IsSearchIfMissed (search_context (facts (audited_value audited.now).domain)
+        (audited_value audited.now).summary (excluded (audited_value audited.now)) flow ended.now.flight.flight.carried)
         ended.now.travel.events.items ended.now.travel.finding) }
 {
     let Finding::Missed(lan) = ended.travel.finding else {
@@ -44,8 +44,8 @@ pub(crate) fn searched(
     let found = search(
         alloc,
         audited.domain,
-        audited.notes,
-        audited.left_out,
+        audited.summary,
+        audited.excluded,
         audited.interfaces,
         &ended.flight,
         &ended.travel.events,
@@ -58,29 +58,29 @@ pub(crate) fn searched(
 // ---- as text
 
 /// Writes a search, if there was one.
-fn push_searched(
+fn push_search_if_any(
     text: &mut String,
     audited: &AuditedDomain<'_>,
     flow: u32,
     found: &Option<LanSearch>,
 ) -> Result<(), NoMemory>
-    requires { flow < length (noted audited.now).domain.topology.flows }
+    requires { flow < length (audited_value audited.now).domain.topology.flows }
     ensures { OnOk result ((listed : FlowValue) →
-        slice_get (noted audited.now).domain.topology.flows flow ≡ Some listed →
+        slice_get (audited_value audited.now).domain.topology.flows flow ≡ Some listed →
         string_bytes text.new ≡ string_bytes text.old
-        ++ searched_lines (facts (noted audited.now).domain) (noted audited.now).notes flow listed
+        ++ searched_lines (facts (audited_value audited.now).domain) (audited_value audited.now).summary flow listed
         found.now) }
 {
     match found {
-        Some(found) => push_search(text, audited.domain, audited.notes, flow, found),
+        Some(found) => push_search(text, audited.domain, audited.summary, flow, found),
         None => Ok(()),
     }
 }
 
 /// Writes which LANs a packet missed besides the one that was found, if it missed one.
-fn push_missed_besides(text: &mut String, ended: &Ended<'_>) -> Result<(), NoMemory>
+fn push_other_missed_lans(text: &mut String, ended: &FinishedTravel<'_>) -> Result<(), NoMemory>
     ensures { OnOk result (string_bytes text.new ≡ string_bytes text.old
-        ++ missed_too_text ended.now.flight.domain.topology
+        ++ also_missed_text ended.now.flight.domain.topology
         (missed_besides (facts ended.now.flight.domain) ended.now.flight.flow
         ended.now.flight.flight.carried ended.now.travel.finding)) }
 {
@@ -95,21 +95,21 @@ fn push_explanation(
     text: &mut String,
     audited: &AuditedDomain<'_>,
     flow: u32,
-    ended: &Ended<'_>,
-    told: &[Told],
+    ended: &FinishedTravel<'_>,
+    causes: &[Cause],
     found: &Option<LanSearch>,
 ) -> Result<(), NoMemory>
-    requires flow { flow < length (noted audited.now).domain.topology.flows }
-    requires domain { ended.now.flight.domain ≡ (noted audited.now).domain }
+    requires flow { flow < length (audited_value audited.now).domain.topology.flows }
+    requires domain { ended.now.flight.domain ≡ (audited_value audited.now).domain }
     ensures { OnOk result ((listed : FlowValue) →
-        slice_get (noted audited.now).domain.topology.flows flow ≡ Some listed →
+        slice_get (audited_value audited.now).domain.topology.flows flow ≡ Some listed →
         string_bytes text.new ≡ string_bytes text.old
-        ++ explanation_lines (facts (noted audited.now).domain) (noted audited.now).notes flow listed
-        (explanation_in ended.now told.now found.now)) }
+        ++ explanation_lines (facts (audited_value audited.now).domain) (audited_value audited.now).summary flow listed
+        (explanation_in ended.now causes.now found.now)) }
 {
-    push_told(text, audited.domain, audited.notes, flow, told)?;
-    push_searched(text, audited, flow, found)?;
-    push_missed_besides(text, ended)
+    push_causes(text, audited.domain, audited.summary, flow, causes)?;
+    push_search_if_any(text, audited, flow, found)?;
+    push_other_missed_lans(text, ended)
 }
 
 /// Writes the events of a travel, where travels are to be shown.
@@ -120,7 +120,7 @@ fn push_travel(
     travel: &Travel,
 ) -> Result<(), NoMemory>
     ensures { OnOk result (string_bytes text.new ≡
-        string_bytes text.old ++ events_told travels topology.now travel.now) }
+        string_bytes text.old ++ events_if_shown travels topology.now travel.now) }
 {
     if travels {
         push_events(text, topology, &travel.events)?;
@@ -134,29 +134,29 @@ fn push_wrong_lines(
     text: &mut String,
     audited: &AuditedDomain<'_>,
     flow: u32,
-    ended: &Ended<'_>,
+    ended: &FinishedTravel<'_>,
     ttl: u8,
     travels: bool,
-    told: &[Told],
+    causes: &[Cause],
     found: &Option<LanSearch>,
 ) -> Result<(), NoMemory>
-    requires flow { flow < length (noted audited.now).domain.topology.flows }
-    requires domain { ended.now.flight.domain ≡ (noted audited.now).domain }
+    requires flow { flow < length (audited_value audited.now).domain.topology.flows }
+    requires domain { ended.now.flight.domain ≡ (audited_value audited.now).domain }
     ensures { OnOk result ((listed : FlowValue) →
-        slice_get (noted audited.now).domain.topology.flows flow ≡ Some listed →
+        slice_get (audited_value audited.now).domain.topology.flows flow ≡ Some listed →
         string_bytes text.new ≡ string_bytes text.old
-        ++ wrong_lines travels (facts (noted audited.now).domain) (noted audited.now).notes flow listed
-        ttl ended.now.travel (explanation_in ended.now told.now found.now)) }
+        ++ wrong_lines travels (facts (audited_value audited.now).domain) (audited_value audited.now).summary flow listed
+        ttl ended.now.travel (explanation_in ended.now causes.now found.now)) }
 {
     let topology = audited.domain.topology();
-    push_found(
+    push_found_lines(
         text,
         topology,
         topology.flow(flow),
         ttl,
         ended.travel.finding,
     )?;
-    push_explanation(text, audited, flow, ended, told, found)?;
+    push_explanation(text, audited, flow, ended, causes, found)?;
     push_travel(text, topology, travels, &ended.travel)
 }
 
@@ -168,26 +168,26 @@ fn push_wrong_object(
     text: &mut String,
     audited: &AuditedDomain<'_>,
     flow: u32,
-    ended: &Ended<'_>,
+    ended: &FinishedTravel<'_>,
     ttl: u8,
     travels: bool,
-    told: &[Told],
+    causes: &[Cause],
     found: &Option<LanSearch>,
 ) -> Result<(), NoMemory>
-    requires flow { flow < length (noted audited.now).domain.topology.flows }
-    requires domain { ended.now.flight.domain ≡ (noted audited.now).domain }
+    requires flow { flow < length (audited_value audited.now).domain.topology.flows }
+    requires domain { ended.now.flight.domain ≡ (audited_value audited.now).domain }
     ensures { OnOk result ((listed : FlowValue) →
-        slice_get (noted audited.now).domain.topology.flows flow ≡ Some listed →
+        slice_get (audited_value audited.now).domain.topology.flows flow ≡ Some listed →
         string_bytes text.new ≡ string_bytes text.old
-        ++ wrong_object travels (facts (noted audited.now).domain) (noted audited.now).notes flow
-        listed ttl ended.now.travel (explanation_in ended.now told.now found.now)) }
+        ++ wrong_object travels (facts (audited_value audited.now).domain) (audited_value audited.now).summary flow
+        listed ttl ended.now.travel (explanation_in ended.now causes.now found.now)) }
 {
-    let AuditedDomain { domain, notes, .. } = *audited;
+    let AuditedDomain { domain, summary, .. } = *audited;
     match found {
         Some(found) => push_missed_line(
-            alloc, text, domain, notes, flow, ended, ttl, travels, told, found,
+            alloc, text, domain, summary, flow, ended, ttl, travels, causes, found,
         ),
-        None => push_wrong_line(alloc, text, domain, notes, flow, ended, ttl, travels, told),
+        None => push_wrong_line(alloc, text, domain, summary, flow, ended, ttl, travels, causes),
     }
 }
 
@@ -198,25 +198,25 @@ pub(crate) fn push_wrong(
     alloc: Global,
     audited: &AuditedDomain<'_>,
     flow: u32,
-    ended: &Ended<'_>,
+    ended: &FinishedTravel<'_>,
     ttl: u8,
     options: AuditOptions,
-    told: &[Told],
+    causes: &[Cause],
     found: &Option<LanSearch>,
     text: &mut String,
 ) -> Result<(), NoMemory>
-    requires flow { flow < length (noted audited.now).domain.topology.flows }
-    requires domain { ended.now.flight.domain ≡ (noted audited.now).domain }
+    requires flow { flow < length (audited_value audited.now).domain.topology.flows }
+    requires domain { ended.now.flight.domain ≡ (audited_value audited.now).domain }
     ensures { OnOk result ((listed : FlowValue) →
-        slice_get (noted audited.now).domain.topology.flows flow ≡ Some listed →
+        slice_get (audited_value audited.now).domain.topology.flows flow ≡ Some listed →
         string_bytes text.new ≡ string_bytes text.old
-        ++ wrong_told options (facts (noted audited.now).domain) (noted audited.now).notes flow listed
-        ttl ended.now.travel (explanation_in ended.now told.now found.now)) }
+        ++ wrong_flow_lines options (facts (audited_value audited.now).domain) (audited_value audited.now).summary flow listed
+        ttl ended.now.travel (explanation_in ended.now causes.now found.now)) }
 {
     let travels = options.travels;
     if options.json {
-        push_wrong_object(alloc, text, audited, flow, ended, ttl, travels, told, found)
+        push_wrong_object(alloc, text, audited, flow, ended, ttl, travels, causes, found)
     } else {
-        push_wrong_lines(text, audited, flow, ended, ttl, travels, told, found)
+        push_wrong_lines(text, audited, flow, ended, ttl, travels, causes, found)
     }
 }

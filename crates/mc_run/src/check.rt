@@ -8,22 +8,22 @@ ghost use Rattle.mc_text.specs.Bundle.{max_input};
 ghost use Rattle.mc_text.specs.ReadFault.{ConsumesUpTo};
 ghost use Rattle.mc_cert.specs.Certificate.{BelongsTo};
 ghost use Rattle.mc_forward.specs.Domains.{IsDomain};
-ghost use Rattle.mc_domain.specs.InputView.{text_seen};
-ghost use Rattle.mc_domain.specs.Meaning.{MeansListed};
+ghost use Rattle.mc_domain.specs.InputView.{certificate_text};
+ghost use Rattle.mc_domain.specs.Meaning.{MeansDomainAsListed};
 ghost use Rattle.mc_run.specs.InputMeaning.{IsRefusedFor, MeansListedWith};
-ghost use Rattle.mc_run.specs.CheckRun.{HeadlineOf, IsTextOfVerdicts, IsVerdictText};
+ghost use Rattle.mc_run.specs.CheckRun.{BundleKeepsHeadline, IsTextOfVerdicts, IsVerdictText};
 ghost use Rattle.mc_run.specs.CheckRun.{KeepsHeadline, SaysYes};
-ghost use Rattle.mc_text.specs.Device.{counted};
+ghost use Rattle.mc_text.specs.Device.{failures_after};
 ghost use Rattle.mc_run.specs.Failures.{IsNoDeviceFault, is_read, is_write};
 ghost use Rattle.mc_run.specs.Faults.{IsFaultOfCheck};
-ghost use Rattle.mc_run.specs.Said.{Answers, Writes, WritesPart};
+ghost use Rattle.mc_run.specs.RunOutput.{Answers, Writes, WritesPart};
 
 use crate::fault::RunFault;
-use crate::said::{Said, say};
+use crate::run_output::{RunOutput, write_output};
 use crate::verdict_text::{are_yes, check_text};
 use mc_cert::Certificate;
 use mc_check::check_all;
-use mc_domain::{DomainRead, domain_in};
+use mc_domain::{BundleDomain, read_bundle_domain};
 use mc_forward::Domain;
 use mc_text::{Input, Memory as NoMemory, Output};
 use std::alloc::Global;
@@ -36,20 +36,20 @@ struct Certified {
 }
 
 /// A domain that was read, with its certificate.
-fn with_certificate(alloc: Global, read: DomainRead) -> Result<Certified, RunFault>
+fn with_certificate(alloc: Global, read: BundleDomain) -> Result<Certified, RunFault>
     requires rules { IsDomain read.domain }
     requires certified { is_some read.certificate ≡ true }
     ensures means { (text : List ℕ) →
-        MeansListed text (text_seen read.certificate) read.domain →
+        MeansDomainAsListed text (certificate_text read.certificate) read.domain →
         IfOk result (λ read. MeansListedWith text read.domain read.certificate) }
     ensures belongs { IfOk result (λ read. BelongsTo read.domain.topology read.certificate) }
     ensures refused { (text : List ℕ) →
-        MeansListed text (text_seen read.certificate) read.domain →
+        MeansDomainAsListed text (certificate_text read.certificate) read.domain →
         IfErr result (IsRefusedFor true text) }
     ensures no_device { IfErr result IsNoDeviceFault }
     ensures faults { IfErr result IsFaultOfCheck }
 {
-    let DomainRead {
+    let BundleDomain {
         domain,
         certificate,
     } = read;
@@ -67,55 +67,55 @@ fn with_certificate(alloc: Global, read: DomainRead) -> Result<Certified, RunFau
 /// bundle says.
 fn read_certified<R: Input>(alloc: Global, input: &mut R) -> Result<Certified, RunFault>
     requires { R.failed input.old < u64.MAX }
-    ensures same { R.names input.new ≡ R.names input.old }
-    ensures means { IfOk result (λ read. IfSome (R.told input.old) (λ text.
+    ensures same { R.borrows input.new ≡ R.borrows input.old }
+    ensures means { IfOk result (λ read. IfSome (R.remaining input.old) (λ text.
         MeansListedWith text read.domain read.certificate)) }
     ensures belongs { IfOk result (λ read. BelongsTo read.domain.topology read.certificate) }
     ensures refused { IfErr result (λ fault.
-        IfSome (R.told input.old) (λ text. IsRefusedFor true text fault)) }
-    ensures consumed { ConsumesUpTo max_input (R.told input.old) (R.told input.new) }
+        IfSome (R.remaining input.old) (λ text. IsRefusedFor true text fault)) }
+    ensures consumed { ConsumesUpTo max_input (R.remaining input.old) (R.remaining input.new) }
     ensures no_write { IfErr result (λ fault. is_write fault ≡ false) }
     ensures faults { IfErr result IsFaultOfCheck }
-    ensures failures { R.failed input.new ≡ counted is_read result (R.failed input.old) }
+    ensures failures { R.failed input.new ≡ failures_after is_read result (R.failed input.old) }
 {
-    let read = domain_in(alloc, input, true)?;
+    let read = read_bundle_domain(alloc, input, true)?;
     with_certificate(alloc, read)
 }
 
 /// The text of the verdicts on the flows of a domain, by its certificate, and whether all are yes.
-fn verdicts_of(alloc: Global, read: &Certified) -> Result<Said, NoMemory>
+fn verdicts_of_domain(alloc: Global, read: &Certified) -> Result<RunOutput, NoMemory>
     requires { BelongsTo read.now.domain.topology read.now.certificate }
-    ensures text { IfOk result (λ said. IsTextOfVerdicts read.now.domain read.now.certificate
-        said.yes (string_bytes said.text)) }
-    ensures headline { IfOk result (λ said.
-        IsTrue said.yes → KeepsHeadline read.now.domain read.now.certificate) }
+    ensures text { IfOk result (λ run_output. IsTextOfVerdicts read.now.domain read.now.certificate
+        run_output.yes (string_bytes run_output.text)) }
+    ensures headline { IfOk result (λ run_output.
+        IsTrue run_output.yes → KeepsHeadline read.now.domain read.now.certificate) }
 {
     let verdicts = check_all(alloc, &read.domain, &read.certificate)?;
     let text = check_text(alloc, read.domain.topology(), &verdicts)?;
     let yes = are_yes(&verdicts);
-    Ok(Said { text, yes })
+    Ok(RunOutput { text, yes })
 }
 
 /// The verdicts on the flows of the domain that an input's bundle tells, by its certificate.
-fn verdicts_on<R: Input>(alloc: Global, input: &mut R) -> Result<Said, RunFault>
+fn verdicts_of_input<R: Input>(alloc: Global, input: &mut R) -> Result<RunOutput, RunFault>
     requires { R.failed input.old < u64.MAX }
-    ensures same { R.names input.new ≡ R.names input.old }
-    ensures text { IfOk result (λ said. IfSome (R.told input.old) (λ text.
-        IsVerdictText text said.yes (string_bytes said.text))) }
-    ensures headline { IfOk result (λ said.
-        IsTrue said.yes → IfSome (R.told input.old) HeadlineOf) }
+    ensures same { R.borrows input.new ≡ R.borrows input.old }
+    ensures text { IfOk result (λ run_output. IfSome (R.remaining input.old) (λ text.
+        IsVerdictText text run_output.yes (string_bytes run_output.text))) }
+    ensures headline { IfOk result (λ run_output.
+        IsTrue run_output.yes → IfSome (R.remaining input.old) BundleKeepsHeadline) }
     ensures refused { IfErr result (λ fault.
-        IfSome (R.told input.old) (λ text. IsRefusedFor true text fault)) }
-    ensures consumed { ConsumesUpTo max_input (R.told input.old) (R.told input.new) }
+        IfSome (R.remaining input.old) (λ text. IsRefusedFor true text fault)) }
+    ensures consumed { ConsumesUpTo max_input (R.remaining input.old) (R.remaining input.new) }
     ensures no_write { IfErr result (λ fault. is_write fault ≡ false) }
     ensures faults { IfErr result IsFaultOfCheck }
-    ensures failures { R.failed input.new ≡ counted is_read result (R.failed input.old) }
+    ensures failures { R.failed input.new ≡ failures_after is_read result (R.failed input.old) }
 {
     let read = read_certified(alloc, input)?;
-    let said = verdicts_of(alloc, &read);
+    let run_output = verdicts_of_domain(alloc, &read);
     drop(read);
-    match said {
-        Ok(said) => Ok(said),
+    match run_output {
+        Ok(run_output) => Ok(run_output),
         Err(_) => Err(RunFault::Memory),
     }
 }
@@ -130,28 +130,28 @@ pub fn run_check<R: Input, W: Output>(
 ) -> Result<bool, RunFault>
     requires reads { R.failed input.old < u64.MAX }
     requires writes { W.failed output.old < u64.MAX }
-    ensures input_same { R.names input.new ≡ R.names input.old }
-    ensures output_same { W.names output.new ≡ W.names output.old }
+    ensures input_same { R.borrows input.new ≡ R.borrows input.old }
+    ensures output_same { W.borrows output.new ≡ W.borrows output.old }
     // The answer is that of the definition, or the bundle's first fault.
-    ensures answer { IfSome (R.told input.old) (λ text.
+    ensures answer { IfSome (R.remaining input.old) (λ text.
         Answers IsVerdictText (IsRefusedFor true) text result) }
     // No more is read than the greatest bundle and a line, whatever the answer.
-    ensures consumed { ConsumesUpTo max_input (R.told input.old) (R.told input.new) }
+    ensures consumed { ConsumesUpTo max_input (R.remaining input.old) (R.remaining input.new) }
     // The verdict text is written whole, or a part of it where the output failed, or else nothing.
-    ensures written { IfOk result (λ all. IfSome (R.told input.old) (λ text.
-        Writes IsVerdictText text all (W.took output.old) (W.took output.new))) }
-    ensures part { result ≡ Err RunFault.Write → IfSome (R.told input.old) (λ text.
-        WritesPart IsVerdictText text (W.took output.old) (W.took output.new)) }
+    ensures written { IfOk result (λ all. IfSome (R.remaining input.old) (λ text.
+        Writes IsVerdictText text all (W.written output.old) (W.written output.new))) }
+    ensures part { result ≡ Err RunFault.Write → IfSome (R.remaining input.old) (λ text.
+        WritesPart IsVerdictText text (W.written output.old) (W.written output.new)) }
     ensures unwritten { IfErr result (λ fault. fault ≢ RunFault.Write → output.new ≡ output.old) }
     // No other fault is answered than one of a bundle with a certificate, or that a device failed or
     // memory ran out.
     ensures faults { IfErr result IsFaultOfCheck }
     // Read and Write come only where the device's failures rose in the call.
-    ensures read_failures { R.failed input.new ≡ counted is_read result (R.failed input.old) }
-    ensures write_failures { W.failed output.new ≡ counted is_write result (W.failed output.old) }
+    ensures read_failures { R.failed input.new ≡ failures_after is_read result (R.failed input.old) }
+    ensures write_failures { W.failed output.new ≡ failures_after is_write result (W.failed output.old) }
     // Where the run says yes, the headline holds of what it read.
-    ensures headline { SaysYes result (W.took output.old) (W.took output.new)
-        → IfSome (R.told input.old) HeadlineOf }
+    ensures headline { SaysYes result (W.written output.old) (W.written output.new)
+        → IfSome (R.remaining input.old) BundleKeepsHeadline }
 {
-    say(verdicts_on(alloc, input), output)
+    write_output(verdicts_of_input(alloc, input), output)
 }

@@ -3,14 +3,14 @@
 ghost use Rattle.std.specs.Prelude.{◌≡◌, ◌<◌, IfErr, IfOk, IfSome, None, false};
 ghost use Rattle.mc_text.specs.ReadFault.{ConsumesUpTo};
 ghost use Rattle.mc_text.specs.Bundle.{max_input};
-ghost use Rattle.mc_text.specs.Device.{counted};
-ghost use Rattle.mc_domain.specs.Meaning.{MeansListed};
+ghost use Rattle.mc_text.specs.Device.{failures_after};
+ghost use Rattle.mc_domain.specs.Meaning.{MeansDomainAsListed};
 ghost use Rattle.mc_run.specs.InputMeaning.{IsRefusedFor};
 ghost use Rattle.mc_run.specs.Failures.{is_read, is_write};
 ghost use Rattle.mc_run.specs.Faults.{IsFaultOfMake};
 
 use crate::fault::RunFault;
-use mc_domain::domain_in;
+use mc_domain::read_bundle_domain;
 use mc_forward::Domain;
 use mc_text::Input;
 use std::alloc::Global;
@@ -19,16 +19,16 @@ use std::alloc::Global;
 /// bundle says.
 pub(crate) fn read_domain<R: Input>(alloc: Global, input: &mut R) -> Result<Domain, RunFault>
     requires { R.failed input.old < u64.MAX }
-    ensures same { R.names input.new ≡ R.names input.old }
+    ensures same { R.borrows input.new ≡ R.borrows input.old }
     ensures means { IfOk result (λ domain.
-        IfSome (R.told input.old) (λ text. MeansListed text None domain)) }
+        IfSome (R.remaining input.old) (λ text. MeansDomainAsListed text None domain)) }
     ensures refused { IfErr result (λ fault.
-        IfSome (R.told input.old) (λ text. IsRefusedFor false text fault)) }
-    ensures consumed { ConsumesUpTo max_input (R.told input.old) (R.told input.new) }
+        IfSome (R.remaining input.old) (λ text. IsRefusedFor false text fault)) }
+    ensures consumed { ConsumesUpTo max_input (R.remaining input.old) (R.remaining input.new) }
     ensures no_write { IfErr result (λ fault. is_write fault ≡ false) }
     ensures faults { IfErr result IsFaultOfMake }
-    ensures failures { R.failed input.new ≡ counted is_read result (R.failed input.old) }
+    ensures failures { R.failed input.new ≡ failures_after is_read result (R.failed input.old) }
 {
-    let read = domain_in(alloc, input, false)?;
+    let read = read_bundle_domain(alloc, input, false)?;
     Ok(read.domain)
 }

@@ -2,9 +2,9 @@
 
 ghost use Rattle.std.specs.Prelude.{◌≡◌};
 ghost use Rattle.mc_run.specs.declared.fault.RunFault.TheVariants.{Memory};
-ghost use Rattle.mc_run.specs.PackingRun.{of_packing};
-ghost use Rattle.mc_run.specs.RunFault.{of_certificate, of_source, of_input, of_list, of_reading};
-ghost use Rattle.mc_run.specs.RunFault.{of_without};
+ghost use Rattle.mc_run.specs.PackingRun.{from_pack_fault};
+ghost use Rattle.mc_run.specs.RunFault.{from_cert_fault, from_source_fault, from_input_fault, from_list_fault, from_read_fault};
+ghost use Rattle.mc_run.specs.RunFault.{from_without_fault};
 
 use mc_cert::{CertFault, CertFaultKind};
 use mc_domain::{InputFault, SourceFault, WithoutFault};
@@ -63,7 +63,7 @@ pub enum RunFault {
 
 /// A bundle is refused. Want of memory is the run's own.
 impl From<InputFault> for RunFault {
-    ghost from_gives = { λ input fault. fault ≡ of_input input };
+    ghost from_gives = { λ input fault. fault ≡ from_input_fault input };
 
     fn from(fault: InputFault) -> RunFault {
         match fault {
@@ -80,7 +80,7 @@ impl From<InputFault> for RunFault {
 
 /// A bundle, or a folder's files, are refused.
 impl From<SourceFault> for RunFault {
-    ghost from_gives = { λ files fault. fault ≡ of_source files };
+    ghost from_gives = { λ files fault. fault ≡ from_source_fault files };
 
     fn from(fault: SourceFault) -> RunFault {
         match fault {
@@ -92,7 +92,7 @@ impl From<SourceFault> for RunFault {
 
 /// A folder's files without some routers are refused.
 impl From<WithoutFault> for RunFault {
-    ghost from_gives = { λ files fault. fault ≡ of_without files };
+    ghost from_gives = { λ files fault. fault ≡ from_without_fault files };
 
     fn from(fault: WithoutFault) -> RunFault {
         match fault {
@@ -104,7 +104,7 @@ impl From<WithoutFault> for RunFault {
 
 /// Nothing is packed. What is too large for a bundle is told of the bundle.
 impl From<PackFault> for RunFault {
-    ghost from_gives = { λ packing fault. fault ≡ of_packing packing };
+    ghost from_gives = { λ packing fault. fault ≡ from_pack_fault packing };
 
     fn from(fault: PackFault) -> RunFault {
         match fault {
@@ -119,7 +119,7 @@ impl From<PackFault> for RunFault {
 
 /// A certificate is refused. Want of memory is the run's own.
 impl From<CertFault> for RunFault {
-    ghost from_gives = { λ certificate fault. fault ≡ of_certificate certificate };
+    ghost from_gives = { λ certificate fault. fault ≡ from_cert_fault certificate };
 
     fn from(fault: CertFault) -> RunFault {
         match fault.kind {
@@ -131,7 +131,7 @@ impl From<CertFault> for RunFault {
 
 /// A report list is refused. Want of memory is the run's own.
 impl From<ListFault> for RunFault {
-    ghost from_gives = { λ list fault. fault ≡ of_list list };
+    ghost from_gives = { λ list fault. fault ≡ from_list_fault list };
 
     fn from(fault: ListFault) -> RunFault {
         match fault.kind {
@@ -150,7 +150,7 @@ impl From<NoMemory> for RunFault {
 }
 
 impl From<ReadFault> for RunFault {
-    ghost from_gives = { λ read fault. fault ≡ of_reading read };
+    ghost from_gives = { λ read fault. fault ≡ from_read_fault read };
 
     fn from(fault: ReadFault) -> RunFault {
         match fault {

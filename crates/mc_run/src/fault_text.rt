@@ -1,7 +1,7 @@
 //! Why a file is refused for what stands in it, in words.
 
 ghost use Rattle.std.specs.Prelude.{◌≡◌, Some};
-ghost use Rattle.mc_run.specs.FaultText.{fault_text, line_numbered, line_of_fault, list_fault_text};
+ghost use Rattle.mc_run.specs.FaultText.{fault_text, line_or_none, line_of_fault, list_fault_text};
 ghost use Rattle.mc_run.specs.FaultText.{list_word as word_of_list, table_fault_text};
 ghost use Rattle.mc_run.specs.FaultText.{table_word as word_of_table, topology_fault_text};
 ghost use Rattle.mc_run.specs.FaultText.{topology_word as word_of_topology};
@@ -150,8 +150,8 @@ impl<'f> fmt::Display for ShownFault<'f> {
 }
 
 /// The line with this number, counted from 1; 0 means none.
-fn line_numbered(line: u32) -> Option<u32>
-    ensures { result ≡ line_numbered line }
+fn line_or_none(line: u32) -> Option<u32>
+    ensures { result ≡ line_or_none line }
 {
     if line == 0 { None } else { Some(line) }
 }
@@ -161,8 +161,8 @@ pub(crate) fn line_of_fault(fault: &InputFault) -> Option<u32>
     ensures { result ≡ line_of_fault fault.now }
 {
     match fault {
-        InputFault::Vif(_, fault) | InputFault::Cache(_, fault) => line_numbered(fault.line),
-        InputFault::Reports(_, fault) => line_numbered(fault.line),
+        InputFault::Vif(_, fault) | InputFault::Cache(_, fault) => line_or_none(fault.line),
+        InputFault::Reports(_, fault) => line_or_none(fault.line),
         _ => None,
     }
 }

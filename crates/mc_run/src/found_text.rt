@@ -34,7 +34,7 @@ fn push_finding(
 
 /// Writes the two lines of a flow without a certificate, of which a packet with this time to live
 /// meets this.
-pub(crate) fn push_found(
+pub(crate) fn push_found_lines(
     text: &mut String,
     topology: &Topology,
     flow: &Flow,

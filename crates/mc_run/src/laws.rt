@@ -8,42 +8,42 @@ ghost use Rattle.mc_layout.specs.Files.{FileText};
 ghost use Rattle.mc_forward.specs.Domains.{DomainValue, net_of};
 ghost use Rattle.mc_domain.specs.Input.{with_certificate};
 ghost use Rattle.mc_cert.specs.Certificate.{Tree};
-ghost use Rattle.mc_cert.specs.Reading.{reading_of};
+ghost use Rattle.mc_cert.specs.Reading.{parse_certificate};
 ghost use Rattle.mc_run.specs.AuditRun.{IsAuditText, yes_object};
 ghost use Rattle.mc_run.specs.declared.audit_options.AuditOptions.{AuditOptions};
-ghost use Rattle.mc_domain.specs.Meaning.{MeansDomain, MeansFiles};
+ghost use Rattle.mc_domain.specs.Meaning.{MeansDomain, FilesMeanDomain};
 ghost use Rattle.mc_run.specs.InputMeaning.{MeansCertified};
 ghost use Rattle.mc_run.specs.CheckRun.{IsLineStart, IsVerdictText, WroteAtStart, WroteYes};
-ghost use Rattle.mc_run.specs.MakeRun.{IsMadeText, lists_of};
+ghost use Rattle.mc_run.specs.MakeRun.{IsMadeText, certified_lists};
 
-use mc_domain::notes_are_determined;
+use mc_domain::summaries_are_unique;
 
 /// What `make` writes where it answers true, `check` says yes to.
-pub fn made_certificates_are_accepted()
+pub fn check_accepts_made_certificates()
     // If it has at most 16,777,216 bytes, it is read as the lists that were made, line feed and
     // all,
     ensures read { (text written : List ℕ) (made : IsMadeText text true written) →
         length written ≤ 16777216 →
-        reading_of made.domain.topology written ≡ Ok (lists_of made.holds.examined) }
+        parse_certificate made.domain.topology written ≡ Ok (certified_lists made.holds.examined) }
     // and each of them is accepted.
     ensures accepted { (text written : List ℕ) (made : IsMadeText text true written)
-        (flow : ℕ) (es : Tree) → slice_get (lists_of made.holds.examined) flow ≡ Some es →
+        (flow : ℕ) (es : Tree) → slice_get (certified_lists made.holds.examined) flow ≡ Some es →
         IsAccepted (net_of made.domain flow) es }
     // So the bundle that has the certificate as one part more has a verdict text that says yes,
     ensures yes { (text written bundle : List ℕ) (parts : List PartText)
         → IsMadeText text true written →
         IsBundle text parts → IsBundle bundle (with_certificate parts written) →
-        (told : List ℕ) × IsVerdictText bundle true told }
+        (printed : List ℕ) × IsVerdictText bundle true printed }
     // and none that says no.
     ensures only { (text written bundle : List ℕ) (parts : List PartText) (all : Bool)
-        (told : List ℕ) →
+        (printed : List ℕ) →
         IsMadeText text true written → IsBundle text parts →
-        IsBundle bundle (with_certificate parts written) → IsVerdictText bundle all told
+        IsBundle bundle (with_certificate parts written) → IsVerdictText bundle all printed
         → all ≡ true }
 {}
 
 /// The text of a bundle, and the files of a folder, mean one domain at most.
-pub fn one_domain_at_most()
+pub fn input_means_one_domain_at_most()
     // Of a bundle without a certificate, or with one, the domain and the certificate's text,
     ensures bundle { (text : List ℕ) (a b : Option (List ℕ)) (d e : DomainValue)
         → is_some b ≡ is_some a → MeansDomain text a d → MeansDomain text b e → (d ≡ e) × (a ≡ b) }
@@ -52,22 +52,22 @@ pub fn one_domain_at_most()
         → MeansCertified text d xs → MeansCertified text e ys → (d ≡ e) × (xs ≡ ys) }
     // of a folder's files the domain.
     ensures files { (files : List FileText) (d e : DomainValue)
-        → MeansFiles files d → MeansFiles files e → d ≡ e }
+        → FilesMeanDomain files d → FilesMeanDomain files e → d ≡ e }
 {}
 
 /// Of one folder's files, and of one call's words, `audit` writes one text and gives one answer: what it
 /// says is a function of them, down to each line that explains a fault.
-pub fn an_audit_says_one_thing()
+pub fn audit_of_same_files_is_the_same()
     ensures { (names : List (List ℕ)) (files : List FileText) (o : AuditOptions) (all every : Bool)
         (text other : List ℕ) → IsAuditText o names files all text
         → IsAuditText o names files every other → (all ≡ every) × (text ≡ other) }
 {
-    notes_are_determined();
+    summaries_are_unique();
 }
 
 /// The line `verdict yes`, by which a reader knows a yes, stands in what is written exactly where
 /// every flow's list is accepted, and in an audit where no router is left out.
-pub fn the_line_that_says_yes()
+pub fn verdict_yes_line_only_where_all_right()
     // Where all are, `check` writes it at a line's start.
     ensures says { (text written old : List ℕ) → IsVerdictText text true written
         → WroteYes (Some old) (Some (old ++ written)) }

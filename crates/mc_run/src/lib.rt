@@ -6,7 +6,7 @@ mod audit_end;
 mod audit_flow;
 mod audit_options;
 mod audit_right;
-mod audit_said;
+mod audit_output;
 mod audit_wrong;
 mod audited_domain;
 mod check;
@@ -15,15 +15,15 @@ mod fault;
 mod fault_text;
 mod found_text;
 mod laws;
-mod left_out;
+mod excluded;
 mod line_front;
 mod make;
 mod pack;
 mod quoted;
 mod refusal_text;
 mod replay;
-mod said;
-mod standing;
+mod run_output;
+mod flow_status;
 mod task;
 mod task_files;
 mod task_input;
@@ -34,16 +34,16 @@ mod wants;
 
 pub use audit::run_audit;
 pub use audit_options::AuditOptions;
-pub use audit_said::AuditAnswer;
+pub use audit_output::AuditAnswer;
 pub use check::run_check;
 pub use fault::RunFault;
 pub use laws::{
-    an_audit_says_one_thing, made_certificates_are_accepted, one_domain_at_most,
-    the_line_that_says_yes,
+    audit_of_same_files_is_the_same, check_accepts_made_certificates, input_means_one_domain_at_most,
+    verdict_yes_line_only_where_all_right,
 };
 pub use make::run_make;
 pub use pack::run_pack;
-pub use refusal_text::{refusal_lines, tell_refused_files};
+pub use refusal_text::{refusal_lines, print_refused_files};
 pub use replay::run_replay;
 pub use task::run_task;
 pub use wants::run_wants;

@@ -2,11 +2,11 @@
 
 ghost use Rattle.std.specs.Prelude.{◌≡◌, ◌≢◌, ◌<◌, ◌≤◌, ◌∷◌, ℕ, List, [], Some, IfErr, IfOk, IfSome};
 ghost use Rattle.std.specs.Prelude.{OnOk, length, option_map, take, vec_len};
-ghost use Rattle.mc_text.specs.Device.{counted};
+ghost use Rattle.mc_text.specs.Device.{failures_after};
 ghost use Rattle.mc_layout.specs.Files.{is_failure};
-ghost use Rattle.mc_domain.specs.RefusedFiles.{failures_with};
-ghost use Rattle.mc_run.specs.LineFront.{Takes, front_if, line_front};
-ghost use Rattle.mc_run.specs.RefusalText.{IsFrontIn, lost_count};
+ghost use Rattle.mc_domain.specs.RefusedFiles.{saturating_failures};
+ghost use Rattle.mc_run.specs.LineFront.{TakesPiece, front_after_more, line_front};
+ghost use Rattle.mc_run.specs.RefusalText.{IsFrontInFile, lost_calls};
 
 use mc_layout::{FileFault, PieceSource};
 use mc_text::{MAX_PART, Memory as NoMemory};
@@ -28,7 +28,7 @@ impl LineFront {
     /// That of the line with this number, counted from 1, of which nothing is found yet.
     fn new(alloc: Global, line: u32) -> LineFront
         ensures few { vec_len result.front ≤ MAX_SHOWN }
-        ensures front { (text : List ℕ) → front_if result text ≡ line_front line text }
+        ensures front { (text : List ℕ) → front_after_more result text ≡ line_front line text }
     {
         LineFront {
             before: line.saturating_sub(1),
@@ -41,7 +41,7 @@ impl LineFront {
         requires here { self.old.before ≡ 0 }
         requires few { vec_len self.old.front ≤ MAX_SHOWN }
         ensures few { vec_len self.new.front ≤ MAX_SHOWN }
-        ensures takes { IfOk result (Takes self.old self.new (byte ∷ [])) }
+        ensures takes { IfOk result (TakesPiece self.old self.new (byte ∷ [])) }
     {
         if byte == b'\n' {
             return Ok(true);
@@ -57,7 +57,7 @@ impl LineFront {
     fn take_byte(&mut self, byte: u8) -> Result<bool, NoMemory>
         requires few { vec_len self.old.front ≤ MAX_SHOWN }
         ensures few { vec_len self.new.front ≤ MAX_SHOWN }
-        ensures takes { IfOk result (Takes self.old self.new (byte ∷ [])) }
+        ensures takes { IfOk result (TakesPiece self.old self.new (byte ∷ [])) }
     {
         if self.before == 0 {
             return self.take_shown(byte);
@@ -72,7 +72,7 @@ impl LineFront {
     fn take(&mut self, piece: &[u8]) -> Result<bool, NoMemory>
         requires few { vec_len self.old.front ≤ MAX_SHOWN }
         ensures few { vec_len self.new.front ≤ MAX_SHOWN }
-        ensures takes { IfOk result (Takes self.old self.new piece.now) }
+        ensures takes { IfOk result (TakesPiece self.old self.new piece.now) }
     {
         for byte in piece {
             if self.take_byte(*byte)? {
@@ -100,13 +100,13 @@ fn seek_front<F: PieceSource>(
     requires reads { F.failed files.old < u64.MAX }
     requires room { 0 < length buffer.old }
     requires few { vec_len sought.old.front ≤ MAX_SHOWN }
-    ensures same { F.names files.new ≡ F.names files.old }
-    ensures kept { F.told files.new ≡ F.told files.old }
+    ensures same { F.borrows files.new ≡ F.borrows files.old }
+    ensures kept { F.contents files.new ≡ F.contents files.old }
     ensures few { vec_len sought.new.front ≤ MAX_SHOWN }
     ensures front { (text : List ℕ) → F.left files.old ≡ Some text →
-        OnOk result (sought.new.front.items ≡ front_if sought.old (take MAX_PART text)) }
+        OnOk result (sought.new.front.items ≡ front_after_more sought.old (take MAX_PART text)) }
     ensures fault { IfErr result (λ fault. fault ≢ FileFault.TooLarge) }
-    ensures failures { F.failed files.new ≡ counted is_failure result (F.failed files.old) }
+    ensures failures { F.failed files.new ≡ failures_after is_failure result (F.failed files.old) }
 {
     let mut left = MAX_PART;
     'reading: while 0 < left {
@@ -128,7 +128,7 @@ fn seek_front<F: PieceSource>(
 }
 
 /// The front of a line of the open file, which is closed then; none where the source fails to give it.
-fn front_in_open<F: PieceSource>(
+fn front_in_open_file<F: PieceSource>(
     alloc: Global,
     files: &mut F,
     buffer: &mut [u8],
@@ -136,13 +136,13 @@ fn front_in_open<F: PieceSource>(
 ) -> Result<Option<Vec<u8>>, NoMemory>
     requires reads { F.failed files.old < u64.MAX }
     requires room { 0 < length buffer.old }
-    ensures same { F.names files.new ≡ F.names files.old }
-    ensures kept { F.told files.new ≡ F.told files.old }
+    ensures same { F.borrows files.new ≡ F.borrows files.old }
+    ensures kept { F.contents files.new ≡ F.contents files.old }
     ensures few { IfOk result (λ found. IfSome found (λ front. length front.items ≤ MAX_SHOWN)) }
     ensures front { (text : List ℕ) → F.left files.old ≡ Some text → IfOk result (λ found.
         IfSome found (λ front. front.items ≡ line_front line (take MAX_PART text))) }
     ensures failures { IfOk result (λ found. F.failed files.new
-        ≡ failures_with (lost_count (option_map (λ front. front.items) found)) (F.failed files.old)) }
+        ≡ saturating_failures (lost_calls (option_map (λ front. front.items) found)) (F.failed files.old)) }
 {
     let mut sought = LineFront::new(alloc, line);
     let found = seek_front(files, buffer, &mut sought);
@@ -168,18 +168,18 @@ pub(crate) fn front_of_line<F: PieceSource>(
     line: u32,
 ) -> Result<Option<Vec<u8>>, NoMemory>
     requires room { 0 < length buffer.old }
-    ensures same { F.names files.new ≡ F.names files.old }
-    ensures kept { F.told files.new ≡ F.told files.old }
+    ensures same { F.borrows files.new ≡ F.borrows files.old }
+    ensures kept { F.contents files.new ≡ F.contents files.old }
     ensures front { IfOk result (λ found. IfSome (option_map (λ front. front.items) found)
-        (IsFrontIn (F.told files.old) name.now line)) }
+        (IsFrontInFile (F.contents files.old) name.now line)) }
     ensures failures { IfOk result (λ found. F.failed files.new
-        ≡ failures_with (lost_count (option_map (λ front. front.items) found)) (F.failed files.old)) }
+        ≡ saturating_failures (lost_calls (option_map (λ front. front.items) found)) (F.failed files.old)) }
 {
     if files.failures() == u64::MAX {
         return Ok(None);
     }
     match files.open(alloc, name) {
-        Ok(()) => front_in_open(alloc, files, buffer, line),
+        Ok(()) => front_in_open_file(alloc, files, buffer, line),
         Err(FileFault::Memory) => Err(NoMemory),
         Err(_) => Ok(None),
     }

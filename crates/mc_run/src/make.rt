@@ -8,16 +8,16 @@ ghost use Rattle.mc_text.specs.ReadFault.{ConsumesUpTo};
 ghost use Rattle.mc_cert.specs.Certificate.{BelongsTo};
 ghost use Rattle.mc_cert.specs.CertificateText.{certificate_text as text_of_certificate};
 ghost use Rattle.mc_run.specs.InputMeaning.{IsRefusedFor};
-ghost use Rattle.mc_text.specs.Device.{counted};
+ghost use Rattle.mc_text.specs.Device.{failures_after};
 ghost use Rattle.mc_run.specs.Failures.{is_read, is_write};
 ghost use Rattle.mc_run.specs.Faults.{IsFaultOfMake};
-ghost use Rattle.mc_run.specs.MakeRun.{AreMade, IsMadeText, IsTextOfMade, SaysAllRight};
-ghost use Rattle.mc_run.specs.Said.{Answers, Writes, WritesPart};
+ghost use Rattle.mc_run.specs.MakeRun.{AreMadeListsAndLines, IsMadeText, IsMakeOutput, SaysAllRight};
+ghost use Rattle.mc_run.specs.RunOutput.{Answers, Writes, WritesPart};
 
 use crate::domain_input::read_domain;
 use crate::fault::RunFault;
-use crate::found_text::push_found;
-use crate::said::{Said, say};
+use crate::found_text::push_found_lines;
+use crate::run_output::{RunOutput, write_output};
 use mc_cert::Trees;
 use mc_forward::Domain;
 use mc_maker::{Examined, examine};
@@ -27,14 +27,14 @@ use std::alloc::Global;
 
 /// The lists of the flows that have one, and the lines of those that have none.
 #[derive(Drop)]
-struct Made {
+struct MadeLists {
     lists: Trees,
     lines: String,
 }
 
 /// Examines each flow of a domain, in order.
-fn make_all(alloc: Global, domain: &Domain) -> Result<Made, NoMemory>
-    ensures { IfOk result (λ made. AreMade domain.now made.lists (string_bytes made.lines)) }
+fn examine_all(alloc: Global, domain: &Domain) -> Result<MadeLists, NoMemory>
+    ensures { IfOk result (λ made. AreMadeListsAndLines domain.now made.lists (string_bytes made.lines)) }
 {
     let topology = domain.topology();
     let mut lists = Trees::new(alloc);
@@ -43,7 +43,7 @@ fn make_all(alloc: Global, domain: &Domain) -> Result<Made, NoMemory>
         match examine(alloc, domain, flow)? {
             Examined::Certified(entries) => lists.push(entries)?,
             Examined::Found { ttl, travel } => {
-                push_found(
+                push_found_lines(
                     &mut lines,
                     topology,
                     topology.flow(flow),
@@ -53,7 +53,7 @@ fn make_all(alloc: Global, domain: &Domain) -> Result<Made, NoMemory>
             }
         }
     }
-    Ok(Made { lists, lines })
+    Ok(MadeLists { lists, lines })
 }
 
 /// The text of the certificate of these lists, one for each flow of the topology, and a line feed.
@@ -68,38 +68,38 @@ fn certificate_text(alloc: Global, topology: &Topology, lists: Trees) -> Result<
 }
 
 /// What is written of a domain, and whether it is a certificate.
-fn made_for(alloc: Global, domain: &Domain) -> Result<Said, NoMemory>
-    ensures { IfOk result (λ said. IsTextOfMade domain.now said.yes (string_bytes said.text)) }
+fn make_for_domain(alloc: Global, domain: &Domain) -> Result<RunOutput, NoMemory>
+    ensures { IfOk result (λ run_output. IsMakeOutput domain.now run_output.yes (string_bytes run_output.text)) }
 {
-    let made = make_all(alloc, domain)?;
+    let made = examine_all(alloc, domain)?;
     if !made.lines.is_empty() {
-        return Ok(Said {
+        return Ok(RunOutput {
             text: made.lines,
             yes: false,
         });
     }
     let text = certificate_text(alloc, domain.topology(), made.lists)?;
-    Ok(Said { text, yes: true })
+    Ok(RunOutput { text, yes: true })
 }
 
 /// What is written of the domain that an input's bundle tells.
-fn made_of<R: Input>(alloc: Global, input: &mut R) -> Result<Said, RunFault>
+fn make_for_input<R: Input>(alloc: Global, input: &mut R) -> Result<RunOutput, RunFault>
     requires { R.failed input.old < u64.MAX }
-    ensures same { R.names input.new ≡ R.names input.old }
-    ensures text { IfOk result (λ said. IfSome (R.told input.old) (λ text.
-        IsMadeText text said.yes (string_bytes said.text))) }
+    ensures same { R.borrows input.new ≡ R.borrows input.old }
+    ensures text { IfOk result (λ run_output. IfSome (R.remaining input.old) (λ text.
+        IsMadeText text run_output.yes (string_bytes run_output.text))) }
     ensures refused { IfErr result (λ fault.
-        IfSome (R.told input.old) (λ text. IsRefusedFor false text fault)) }
-    ensures consumed { ConsumesUpTo max_input (R.told input.old) (R.told input.new) }
+        IfSome (R.remaining input.old) (λ text. IsRefusedFor false text fault)) }
+    ensures consumed { ConsumesUpTo max_input (R.remaining input.old) (R.remaining input.new) }
     ensures no_write { IfErr result (λ fault. is_write fault ≡ false) }
     ensures faults { IfErr result IsFaultOfMake }
-    ensures failures { R.failed input.new ≡ counted is_read result (R.failed input.old) }
+    ensures failures { R.failed input.new ≡ failures_after is_read result (R.failed input.old) }
 {
     let domain = read_domain(alloc, input)?;
-    let said = made_for(alloc, &domain);
+    let run_output = make_for_domain(alloc, &domain);
     drop(domain);
-    match said {
-        Ok(said) => Ok(said),
+    match run_output {
+        Ok(run_output) => Ok(run_output),
         Err(_) => Err(RunFault::Memory),
     }
 }
@@ -116,29 +116,29 @@ pub fn run_make<R: Input, W: Output>(
 ) -> Result<bool, RunFault>
     requires reads { R.failed input.old < u64.MAX }
     requires writes { W.failed output.old < u64.MAX }
-    ensures input_same { R.names input.new ≡ R.names input.old }
-    ensures output_same { W.names output.new ≡ W.names output.old }
+    ensures input_same { R.borrows input.new ≡ R.borrows input.old }
+    ensures output_same { W.borrows output.new ≡ W.borrows output.old }
     // The answer is that of the definition, or the bundle's first fault.
-    ensures answer { IfSome (R.told input.old) (λ text.
+    ensures answer { IfSome (R.remaining input.old) (λ text.
         Answers IsMadeText (IsRefusedFor false) text result) }
     // It is true exactly where every listed flow is right.
     ensures right { IfOk result (λ certified.
-        IfSome (R.told input.old) (λ text. SaysAllRight text certified)) }
+        IfSome (R.remaining input.old) (λ text. SaysAllRight text certified)) }
     // No more is read than the greatest bundle and a line, whatever the answer.
-    ensures consumed { ConsumesUpTo max_input (R.told input.old) (R.told input.new) }
+    ensures consumed { ConsumesUpTo max_input (R.remaining input.old) (R.remaining input.new) }
     // The certificate or the lines are written whole, or a part where the output failed, or else
     // nothing.
-    ensures written { IfOk result (λ certified. IfSome (R.told input.old) (λ text.
-        Writes IsMadeText text certified (W.took output.old) (W.took output.new))) }
-    ensures part { result ≡ Err RunFault.Write → IfSome (R.told input.old) (λ text.
-        WritesPart IsMadeText text (W.took output.old) (W.took output.new)) }
+    ensures written { IfOk result (λ certified. IfSome (R.remaining input.old) (λ text.
+        Writes IsMadeText text certified (W.written output.old) (W.written output.new))) }
+    ensures part { result ≡ Err RunFault.Write → IfSome (R.remaining input.old) (λ text.
+        WritesPart IsMadeText text (W.written output.old) (W.written output.new)) }
     ensures unwritten { IfErr result (λ fault. fault ≢ RunFault.Write → output.new ≡ output.old) }
     // No other fault is answered than one of a bundle without a certificate, or that a device failed
     // or memory ran out.
     ensures faults { IfErr result IsFaultOfMake }
     // Read and Write come only where the device's failures rose in the call.
-    ensures read_failures { R.failed input.new ≡ counted is_read result (R.failed input.old) }
-    ensures write_failures { W.failed output.new ≡ counted is_write result (W.failed output.old) }
+    ensures read_failures { R.failed input.new ≡ failures_after is_read result (R.failed input.old) }
+    ensures write_failures { W.failed output.new ≡ failures_after is_write result (W.failed output.old) }
 {
-    say(made_of(alloc, input), output)
+    write_output(make_for_input(alloc, input), output)
 }

@@ -4,11 +4,11 @@ ghost use Rattle.std.specs.Prelude.{◌≡◌, ◌≢◌, ◌<◌, List, Some, I
 ghost use Rattle.mc_text.specs.Bundle.{PartText};
 ghost use Rattle.mc_layout.specs.Files.{FileText};
 ghost use Rattle.mc_layout.specs.Packing.{IsPacked};
-ghost use Rattle.mc_layout.specs.PackRun.{WritesPacked, WritesPartOfPacked};
-ghost use Rattle.mc_text.specs.Device.{counted};
+ghost use Rattle.mc_layout.specs.PackRun.{WritesPackedBundle, WritesPackedPrefix};
+ghost use Rattle.mc_text.specs.Device.{failures_after};
 ghost use Rattle.mc_run.specs.Failures.{is_read, is_write};
 ghost use Rattle.mc_run.specs.Faults.{IsFaultOfPack};
-ghost use Rattle.mc_run.specs.PackingRun.{AnswersPack, IsOfDevices};
+ghost use Rattle.mc_run.specs.PackingRun.{IsPackRunAnswer, IsDeviceOrMemoryFault};
 
 use crate::fault::RunFault;
 use mc_layout::FileSource;
@@ -26,26 +26,26 @@ pub fn run_pack<F: FileSource, W: Output>(
 ) -> Result<(), RunFault>
     requires reads { F.failed files.old < u64.MAX }
     requires writes { W.failed output.old < u64.MAX }
-    ensures files_same { F.names files.new ≡ F.names files.old }
-    ensures output_same { W.names output.new ≡ W.names output.old }
-    ensures kept { F.told files.new ≡ F.told files.old }
+    ensures files_same { F.borrows files.new ≡ F.borrows files.old }
+    ensures output_same { W.borrows output.new ≡ W.borrows output.old }
+    ensures kept { F.contents files.new ≡ F.contents files.old }
     // There is a bundle of the files, or the answer is the first reason why there is none.
-    ensures answer { IfSome (F.told files.old) (λ told. AnswersPack certificate told result) }
+    ensures answer { IfSome (F.contents files.old) (λ contents. IsPackRunAnswer certificate contents result) }
     // Where there is one, only a device or lack of memory keeps it from being written.
-    ensures only { (told : List FileText) (parts : List PartText) → F.told files.old ≡ Some told
-        → IsPacked told certificate parts → IfErr result IsOfDevices }
+    ensures only { (contents : List FileText) (parts : List PartText) → F.contents files.old ≡ Some contents
+        → IsPacked contents certificate parts → IfErr result IsDeviceOrMemoryFault }
     // The bundle is written whole, or a part of it where the output failed, or else nothing.
-    ensures written { IfOk result (λ _. IfSome (F.told files.old) (λ told.
-        WritesPacked certificate told (W.took output.old) (W.took output.new))) }
-    ensures part { result ≡ Err RunFault.Write → IfSome (F.told files.old) (λ told.
-        WritesPartOfPacked certificate told (W.took output.old) (W.took output.new)) }
+    ensures written { IfOk result (λ _. IfSome (F.contents files.old) (λ contents.
+        WritesPackedBundle certificate contents (W.written output.old) (W.written output.new))) }
+    ensures part { result ≡ Err RunFault.Write → IfSome (F.contents files.old) (λ contents.
+        WritesPackedPrefix certificate contents (W.written output.old) (W.written output.new)) }
     ensures unwritten { IfErr result (λ fault. fault ≢ RunFault.Write → output.new ≡ output.old) }
     // No other fault is answered than the topology's, that something is too large for a bundle, or
     // that a device failed or memory ran out.
     ensures faults { IfErr result IsFaultOfPack }
     // Read and Write come only where the device's failures rose in the call.
-    ensures read_failures { F.failed files.new ≡ counted is_read result (F.failed files.old) }
-    ensures write_failures { W.failed output.new ≡ counted is_write result (W.failed output.old) }
+    ensures read_failures { F.failed files.new ≡ failures_after is_read result (F.failed files.old) }
+    ensures write_failures { W.failed output.new ≡ failures_after is_write result (W.failed output.old) }
 {
     mc_layout::pack(alloc, files, certificate, output)?;
     Ok(())

@@ -4,12 +4,12 @@
 ghost use Rattle.std.specs.Prelude.{◌≡◌, ◌≢◌, ◌<◌, ◌++◌, ℕ, List, [], IfErr, IfOk, IfSome, OnOk};
 ghost use Rattle.std.specs.Prelude.{codes, length, map, option_map, unwrap_or};
 ghost use Rattle.std.specs.String.{string_bytes};
-ghost use Rattle.mc_text.specs.Device.{counted};
+ghost use Rattle.mc_text.specs.Device.{failures_after};
 ghost use Rattle.mc_layout.specs.UnreadText.{unread_text};
 ghost use Rattle.mc_domain.specs.declared.each_file.Refusal.TheVariants.{Fault};
 ghost use Rattle.mc_run.specs.Failures.{is_write};
-ghost use Rattle.mc_run.specs.RefusalText.{Adds, AreFirstLines, AreLines, AreWords};
-ghost use Rattle.mc_run.specs.RefusalText.{IsFrontText, IsLine, IsRefusalText, IsTold};
+ghost use Rattle.mc_run.specs.RefusalText.{AppendsWithFailures, AreFirst50Lines, AreRefusedFileLines, IsRefusalReason};
+ghost use Rattle.mc_run.specs.RefusalText.{IsFrontText, IsRefusedFileLine, IsRefusalText, IsTextWritten};
 ghost use Rattle.mc_run.specs.RefusalText.{more_line, quoted};
 
 use crate::fault::RunFault;
@@ -22,7 +22,7 @@ use mc_text::{Memory as NoMemory, Output, write_all};
 use std::alloc::Global;
 
 /// How many files are told of at most.
-const MAX_TOLD: usize = 50;
+const MAX_SHOWN_FILES: usize = 50;
 
 /// Writes the front of a line in quotes, an empty one where there is none.
 fn push_quoted(text: &mut String, front: &Option<Vec<u8>>) -> Result<(), NoMemory>
@@ -39,7 +39,7 @@ fn push_quoted(text: &mut String, front: &Option<Vec<u8>>) -> Result<(), NoMemor
 }
 
 /// Writes the front of the line that a fault of a file stands in, where it stands in one.
-fn push_front<F: PieceSource>(
+fn push_line_front<F: PieceSource>(
     alloc: Global,
     files: &mut F,
     buffer: &mut [u8],
@@ -48,9 +48,9 @@ fn push_front<F: PieceSource>(
     text: &mut String,
 ) -> Result<(), NoMemory>
     requires room { 0 < length buffer.old }
-    ensures same { F.names files.new ≡ F.names files.old }
-    ensures kept { F.told files.new ≡ F.told files.old }
-    ensures adds { OnOk result (Adds (IsFrontText (F.told files.old) name.now line)
+    ensures same { F.borrows files.new ≡ F.borrows files.old }
+    ensures kept { F.contents files.new ≡ F.contents files.old }
+    ensures adds { OnOk result (AppendsWithFailures (IsFrontText (F.contents files.old) name.now line)
         (string_bytes text.old) (string_bytes text.new) (F.failed files.old) (F.failed files.new)) }
 {
     let Some(line) = line else {
@@ -70,14 +70,14 @@ fn push_fault<F: PieceSource>(
     text: &mut String,
 ) -> Result<(), NoMemory>
     requires room { 0 < length buffer.old }
-    ensures same { F.names files.new ≡ F.names files.old }
-    ensures kept { F.told files.new ≡ F.told files.old }
-    ensures adds { OnOk result (Adds (AreWords (F.told files.old) name.now (Fault fault.now))
+    ensures same { F.borrows files.new ≡ F.borrows files.old }
+    ensures kept { F.contents files.new ≡ F.contents files.old }
+    ensures adds { OnOk result (AppendsWithFailures (IsRefusalReason (F.contents files.old) name.now (Fault fault.now))
         (string_bytes text.old) (string_bytes text.new) (F.failed files.old) (F.failed files.new)) }
 {
     let shown = ShownFault { fault };
     write!(text, "{shown}")?;
-    push_front(alloc, files, buffer, name, line_of_fault(fault), text)
+    push_line_front(alloc, files, buffer, name, line_of_fault(fault), text)
 }
 
 /// Writes why a file can't be read.
@@ -92,7 +92,7 @@ fn push_unread(alloc: Global, text: &mut String, unread: &Unread) -> Result<(), 
 }
 
 /// Writes why a file is refused.
-fn push_words<F: PieceSource>(
+fn push_refusal<F: PieceSource>(
     alloc: Global,
     files: &mut F,
     buffer: &mut [u8],
@@ -100,10 +100,10 @@ fn push_words<F: PieceSource>(
     text: &mut String,
 ) -> Result<(), NoMemory>
     requires room { 0 < length buffer.old }
-    ensures same { F.names files.new ≡ F.names files.old }
-    ensures kept { F.told files.new ≡ F.told files.old }
-    ensures adds { OnOk result (Adds
-        (AreWords (F.told files.old) (string_bytes refused.now.name) refused.now.refusal)
+    ensures same { F.borrows files.new ≡ F.borrows files.old }
+    ensures kept { F.contents files.new ≡ F.contents files.old }
+    ensures adds { OnOk result (AppendsWithFailures
+        (IsRefusalReason (F.contents files.old) (string_bytes refused.now.name) refused.now.refusal)
         (string_bytes text.old) (string_bytes text.new) (F.failed files.old) (F.failed files.new)) }
 {
     let name = refused.name.as_str();
@@ -114,7 +114,7 @@ fn push_words<F: PieceSource>(
 }
 
 /// Writes the line of a file that is refused.
-fn push_refused<F: PieceSource>(
+fn push_refused_file<F: PieceSource>(
     alloc: Global,
     files: &mut F,
     buffer: &mut [u8],
@@ -122,20 +122,20 @@ fn push_refused<F: PieceSource>(
     text: &mut String,
 ) -> Result<(), NoMemory>
     requires room { 0 < length buffer.old }
-    ensures same { F.names files.new ≡ F.names files.old }
-    ensures kept { F.told files.new ≡ F.told files.old }
-    ensures adds { OnOk result (Adds (IsLine (F.told files.old) refused.now)
+    ensures same { F.borrows files.new ≡ F.borrows files.old }
+    ensures kept { F.contents files.new ≡ F.contents files.old }
+    ensures adds { OnOk result (AppendsWithFailures (IsRefusedFileLine (F.contents files.old) refused.now)
         (string_bytes text.old) (string_bytes text.new) (F.failed files.old) (F.failed files.new)) }
 {
     let name = refused.name.as_str();
     write!(text, "  {name}: ")?;
-    push_words(alloc, files, buffer, refused, text)?;
+    push_refusal(alloc, files, buffer, refused, text)?;
     text.push_str("\n")?;
     Ok(())
 }
 
 /// Writes a line for each of the files.
-fn push_lines<F: PieceSource>(
+fn push_refused_files<F: PieceSource>(
     alloc: Global,
     files: &mut F,
     buffer: &mut [u8],
@@ -143,19 +143,19 @@ fn push_lines<F: PieceSource>(
     text: &mut String,
 ) -> Result<(), NoMemory>
     requires room { 0 < length buffer.old }
-    ensures same { F.names files.new ≡ F.names files.old }
-    ensures kept { F.told files.new ≡ F.told files.old }
-    ensures adds { OnOk result (Adds (AreLines (F.told files.old) refused.now)
+    ensures same { F.borrows files.new ≡ F.borrows files.old }
+    ensures kept { F.contents files.new ≡ F.contents files.old }
+    ensures adds { OnOk result (AppendsWithFailures (AreRefusedFileLines (F.contents files.old) refused.now)
         (string_bytes text.old) (string_bytes text.new) (F.failed files.old) (F.failed files.new)) }
 {
     for file in refused {
-        push_refused(alloc, files, buffer, file, text)?;
+        push_refused_file(alloc, files, buffer, file, text)?;
     }
     Ok(())
 }
 
 /// Writes how many files more are refused, where there are more.
-fn push_more(text: &mut String, more: usize) -> Result<(), NoMemory>
+fn push_more_files(text: &mut String, more: usize) -> Result<(), NoMemory>
     ensures { OnOk result (string_bytes text.new ≡ string_bytes text.old ++ more_line more) }
 {
     if more == 0 {
@@ -165,21 +165,21 @@ fn push_more(text: &mut String, more: usize) -> Result<(), NoMemory>
 }
 
 /// Writes a line for each of the first 50 files, and how many more there are.
-fn push_files<F: PieceSource>(
+fn push_first_files<F: PieceSource>(
     alloc: Global,
     files: &mut F,
     refused: &[RefusedFile],
     text: &mut String,
 ) -> Result<(), NoMemory>
-    ensures same { F.names files.new ≡ F.names files.old }
-    ensures kept { F.told files.new ≡ F.told files.old }
-    ensures adds { OnOk result (Adds (AreFirstLines (F.told files.old) refused.now)
+    ensures same { F.borrows files.new ≡ F.borrows files.old }
+    ensures kept { F.contents files.new ≡ F.contents files.old }
+    ensures adds { OnOk result (AppendsWithFailures (AreFirst50Lines (F.contents files.old) refused.now)
         (string_bytes text.old) (string_bytes text.new) (F.failed files.old) (F.failed files.new)) }
 {
     let mut buffer = Vec::from_elem(alloc, 0u8, PIECE)?;
-    let first = refused.len().min(MAX_TOLD);
-    push_lines(alloc, files, &mut buffer, &refused[..first], text)?;
-    push_more(text, refused.len() - first)
+    let first = refused.len().min(MAX_SHOWN_FILES);
+    push_refused_files(alloc, files, &mut buffer, &refused[..first], text)?;
+    push_more_files(text, refused.len() - first)
 }
 
 /// A line for each file of a folder that is refused, in the order of a domain's files, with the
@@ -195,16 +195,16 @@ pub fn refusal_lines<F: PieceSource>(
     files: &mut F,
     without: &[&str],
 ) -> Result<String, NoMemory>
-    ensures same { F.names files.new ≡ F.names files.old }
-    ensures kept { F.told files.new ≡ F.told files.old }
+    ensures same { F.borrows files.new ≡ F.borrows files.old }
+    ensures kept { F.contents files.new ≡ F.contents files.old }
     // A line for each file that is refused, by its own first fault, with the front of the fault's line
     // in the text that the source has of the file.
     ensures text { IfOk result (λ text. IsRefusalText (map (λ n. n.now) without.now)
-        (F.told files.old) (F.failed files.old) (F.failed files.new) (string_bytes text)) }
+        (F.contents files.old) (F.failed files.old) (F.failed files.new) (string_bytes text)) }
 {
     let refused = refused_files(alloc, files, without)?;
     let mut text = String::new(alloc);
-    push_files(alloc, files, &refused, &mut text)?;
+    push_first_files(alloc, files, &refused, &mut text)?;
     Ok(text)
 }
 
@@ -214,22 +214,22 @@ pub fn refusal_lines<F: PieceSource>(
 ///
 /// `Memory` where memory ran out before anything was written, and `Write` where the output failed, or
 /// took no byte of a text that has one: a part of the lines was taken then, from their front.
-pub fn tell_refused_files<F: PieceSource, W: Output>(
+pub fn print_refused_files<F: PieceSource, W: Output>(
     alloc: Global,
     files: &mut F,
     without: &[&str],
     output: &mut W,
 ) -> Result<(), RunFault>
     requires writes { W.failed output.old < u64.MAX }
-    ensures files_same { F.names files.new ≡ F.names files.old }
-    ensures output_same { W.names output.new ≡ W.names output.old }
-    ensures kept { F.told files.new ≡ F.told files.old }
+    ensures files_same { F.borrows files.new ≡ F.borrows files.old }
+    ensures output_same { W.borrows output.new ≡ W.borrows output.old }
+    ensures kept { F.contents files.new ≡ F.contents files.old }
     // The lines are written whole, or a part of them where the output failed, or else nothing.
-    ensures told { IsTold (IsRefusalText (map (λ n. n.now) without.now)
-        (F.told files.old) (F.failed files.old) (F.failed files.new))
-        result (W.took output.old) (W.took output.new) }
+    ensures printed { IsTextWritten (IsRefusalText (map (λ n. n.now) without.now)
+        (F.contents files.old) (F.failed files.old) (F.failed files.new))
+        result (W.written output.old) (W.written output.new) }
     ensures unwritten { IfErr result (λ fault. fault ≢ RunFault.Write → output.new ≡ output.old) }
-    ensures failures { W.failed output.new ≡ counted is_write result (W.failed output.old) }
+    ensures failures { W.failed output.new ≡ failures_after is_write result (W.failed output.old) }
 {
     let Ok(lines) = refusal_lines(alloc, files, without) else {
         return Err(RunFault::Memory);

@@ -5,16 +5,16 @@ ghost use Rattle.std.specs.Prelude.{length};
 ghost use Rattle.std.specs.String.{string_bytes};
 ghost use Rattle.mc_text.specs.Bundle.{max_input};
 ghost use Rattle.mc_text.specs.ReadFault.{ConsumesUpTo};
-ghost use Rattle.mc_text.specs.Device.{counted};
+ghost use Rattle.mc_text.specs.Device.{failures_after};
 ghost use Rattle.mc_run.specs.Failures.{is_read, is_write};
 ghost use Rattle.mc_run.specs.Faults.{IsFaultOfReplay};
 ghost use Rattle.mc_run.specs.ReplayRun.{HasNoTravel, IsReplayRefused, IsTextOfTravel};
 ghost use Rattle.mc_run.specs.ReplayRun.{IsTravelText};
-ghost use Rattle.mc_run.specs.Said.{Answers, Writes, WritesPart};
+ghost use Rattle.mc_run.specs.RunOutput.{Answers, Writes, WritesPart};
 
 use crate::domain_input::read_domain;
 use crate::fault::RunFault;
-use crate::said::{Said, say};
+use crate::run_output::{RunOutput, write_output};
 use crate::travel_text::{is_clean, travel_text};
 use mc_forward::Domain;
 use mc_replay::{Picker, replay};
@@ -22,7 +22,7 @@ use mc_text::{Input, Output};
 use std::alloc::Global;
 
 /// The place, from 0, of the flow with this number, counted from 1.
-fn place_of(domain: &Domain, flow: u32) -> Result<u32, RunFault>
+fn flow_index(domain: &Domain, flow: u32) -> Result<u32, RunFault>
     ensures counted { IfOk result (λ place. flow ≡ place + 1) }
     ensures listed { IfOk result (λ place. place < length domain.now.topology.flows) }
     ensures fault { IfErr result (λ fault. fault ≡ RunFault.NoSuchFlow flow) }
@@ -35,49 +35,49 @@ fn place_of(domain: &Domain, flow: u32) -> Result<u32, RunFault>
 }
 
 /// The text of the travel of a packet through a domain, and whether it is clean.
-fn travel_of<P: Picker>(
+fn travel_in_domain<P: Picker>(
     alloc: Global,
     domain: &Domain,
     flow: u32,
     ttl: u8,
     picker: &mut P,
-) -> Result<Said, RunFault>
+) -> Result<RunOutput, RunFault>
     requires { 0 < ttl }
-    ensures text { IfOk result (λ said. IsTextOfTravel domain.now flow ttl (P.choices picker.old)
-        said.yes (string_bytes said.text)) }
+    ensures text { IfOk result (λ run_output. IsTextOfTravel domain.now flow ttl (P.choices picker.old)
+        run_output.yes (string_bytes run_output.text)) }
     ensures none { IfErr result (HasNoTravel domain.now flow) }
     ensures faults { IfErr result (IsFaultOfReplay flow) }
 {
-    let place = place_of(domain, flow)?;
+    let place = flow_index(domain, flow)?;
     let travel = replay(alloc, domain, place, ttl, picker)?;
     let topology = domain.topology();
     let text = travel_text(alloc, topology, topology.flow(place), ttl, &travel)?;
     let clean = is_clean(travel.finding);
-    Ok(Said { text, yes: clean })
+    Ok(RunOutput { text, yes: clean })
 }
 
 /// The travel of a packet through the domain that an input's bundle tells.
-fn travel_in<P: Picker, R: Input>(
+fn travel_of_input<P: Picker, R: Input>(
     alloc: Global,
     flow: u32,
     ttl: u8,
     picker: &mut P,
     input: &mut R,
-) -> Result<Said, RunFault>
+) -> Result<RunOutput, RunFault>
     requires ttl { 0 < ttl }
     requires reads { R.failed input.old < u64.MAX }
-    ensures same { R.names input.new ≡ R.names input.old }
-    ensures text { IfOk result (λ said. IfSome (R.told input.old) (λ text. IsTravelText flow ttl
-        (P.choices picker.old) text said.yes (string_bytes said.text))) }
+    ensures same { R.borrows input.new ≡ R.borrows input.old }
+    ensures text { IfOk result (λ run_output. IfSome (R.remaining input.old) (λ text. IsTravelText flow ttl
+        (P.choices picker.old) text run_output.yes (string_bytes run_output.text))) }
     ensures refused { IfErr result (λ fault.
-        IfSome (R.told input.old) (λ text. IsReplayRefused flow text fault)) }
-    ensures consumed { ConsumesUpTo max_input (R.told input.old) (R.told input.new) }
+        IfSome (R.remaining input.old) (λ text. IsReplayRefused flow text fault)) }
+    ensures consumed { ConsumesUpTo max_input (R.remaining input.old) (R.remaining input.new) }
     ensures no_write { IfErr result (λ fault. is_write fault ≡ false) }
     ensures faults { IfErr result (IsFaultOfReplay flow) }
-    ensures failures { R.failed input.new ≡ counted is_read result (R.failed input.old) }
+    ensures failures { R.failed input.new ≡ failures_after is_read result (R.failed input.old) }
 {
     let domain = read_domain(alloc, input)?;
-    travel_of(alloc, &domain, flow, ttl, picker)
+    travel_in_domain(alloc, &domain, flow, ttl, picker)
 }
 
 /// Reads a bundle without a certificate from the input, at most 268,435,552 bytes, and writes the
@@ -95,28 +95,28 @@ pub fn run_replay<P: Picker, R: Input, W: Output>(
     requires ttl { 0 < ttl }
     requires reads { R.failed input.old < u64.MAX }
     requires writes { W.failed output.old < u64.MAX }
-    ensures input_same { R.names input.new ≡ R.names input.old }
-    ensures output_same { W.names output.new ≡ W.names output.old }
+    ensures input_same { R.borrows input.new ≡ R.borrows input.old }
+    ensures output_same { W.borrows output.new ≡ W.borrows output.old }
     // The answer is that of the definition, or the bundle's first fault, or that it lists no such
     // flow.
-    ensures answer { IfSome (R.told input.old) (λ text.
+    ensures answer { IfSome (R.remaining input.old) (λ text.
         Answers (IsTravelText flow ttl (P.choices picker.old)) (IsReplayRefused flow) text result) }
     // No more is read than the greatest bundle and a line, whatever the answer.
-    ensures consumed { ConsumesUpTo max_input (R.told input.old) (R.told input.new) }
+    ensures consumed { ConsumesUpTo max_input (R.remaining input.old) (R.remaining input.new) }
     // The travel's text is written whole, or a part of it where the output failed, or else nothing.
     ensures written { IfOk result
-        (λ clean. IfSome (R.told input.old) (λ text. Writes (IsTravelText flow ttl
-        (P.choices picker.old)) text clean (W.took output.old) (W.took output.new))) }
-    ensures part { result ≡ Err RunFault.Write → IfSome (R.told input.old) (λ text.
+        (λ clean. IfSome (R.remaining input.old) (λ text. Writes (IsTravelText flow ttl
+        (P.choices picker.old)) text clean (W.written output.old) (W.written output.new))) }
+    ensures part { result ≡ Err RunFault.Write → IfSome (R.remaining input.old) (λ text.
         WritesPart (IsTravelText flow ttl (P.choices picker.old)) text
-        (W.took output.old) (W.took output.new)) }
+        (W.written output.old) (W.written output.new)) }
     ensures unwritten { IfErr result (λ fault. fault ≢ RunFault.Write → output.new ≡ output.old) }
     // No other fault is answered than one of a bundle without a certificate, that it lists no flow
     // with this number, or that a device failed or memory ran out.
     ensures faults { IfErr result (IsFaultOfReplay flow) }
     // Read and Write come only where the device's failures rose in the call.
-    ensures read_failures { R.failed input.new ≡ counted is_read result (R.failed input.old) }
-    ensures write_failures { W.failed output.new ≡ counted is_write result (W.failed output.old) }
+    ensures read_failures { R.failed input.new ≡ failures_after is_read result (R.failed input.old) }
+    ensures write_failures { W.failed output.new ≡ failures_after is_write result (W.failed output.old) }
 {
-    say(travel_in(alloc, flow, ttl, picker, input), output)
+    write_output(travel_of_input(alloc, flow, ttl, picker, input), output)
 }

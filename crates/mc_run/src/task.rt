@@ -1,7 +1,7 @@
 //! What the program's words ask for, done: each task runs its own run, with its own arguments.
 
 ghost use Rattle.std.specs.Prelude.{◌≡◌, ◌≢◌, ◌<◌, IfErr, true, false};
-ghost use Rattle.mc_text.specs.Device.{counted};
+ghost use Rattle.mc_text.specs.Device.{failures_after};
 ghost use Rattle.mc_words.specs.Task.{IsAllowed};
 ghost use Rattle.mc_run.specs.Failures.{is_read, is_write};
 ghost use Rattle.mc_run.specs.Task.{IfAudit, IfCheck, IfHelp, IfMake, IfPack, IfReplay, IfVersion};
@@ -22,7 +22,7 @@ use std::alloc::Global;
 /// of its folder, or over neither, as the task is. It answers what the run answers; of an audit, whether
 /// the answer is enough: it is yes and, where the words want it strict, no flow is wanted by nobody.
 /// `pack`, `help` and `--version` answer yes once all is written. What the runs promise as `faults` and
-/// `left_out` is said at each run alone.
+/// `excluded` is said at each run alone.
 pub fn run_task<R: Input, F: PieceSource, W: Output>(
     alloc: Global,
     task: &Task<'_>,
@@ -34,45 +34,45 @@ pub fn run_task<R: Input, F: PieceSource, W: Output>(
     requires reads { R.failed input.old < u64.MAX }
     requires reads_files { F.failed files.old < u64.MAX }
     requires writes { W.failed output.old < u64.MAX }
-    ensures input_same { R.names input.new ≡ R.names input.old }
-    ensures files_same { F.names files.new ≡ F.names files.old }
-    ensures output_same { W.names output.new ≡ W.names output.old }
+    ensures input_same { R.borrows input.new ≡ R.borrows input.old }
+    ensures files_same { F.borrows files.new ≡ F.borrows files.old }
+    ensures output_same { W.borrows output.new ≡ W.borrows output.old }
     // What `run_wants` promises, with the group and the source of the task.
     ensures wants { IfWants task.now (λ group source. IsWantsRun group source
-        (R.told input.old) (R.told input.new) result (W.took output.old) (W.took output.new)) }
+        (R.remaining input.old) (R.remaining input.new) result (W.written output.old) (W.written output.new)) }
     // What `run_check` promises.
     ensures check { IfCheck task.now (IsCheckRun
-        (R.told input.old) (R.told input.new) result (W.took output.old) (W.took output.new)) }
+        (R.remaining input.old) (R.remaining input.new) result (W.written output.old) (W.written output.new)) }
     // What `run_make` promises.
     ensures make { IfMake task.now (IsMakeRun
-        (R.told input.old) (R.told input.new) result (W.took output.old) (W.took output.new)) }
+        (R.remaining input.old) (R.remaining input.new) result (W.written output.old) (W.written output.new)) }
     // What `run_replay` promises, with the flow, the time to live and the order of the task.
     ensures replay { IfReplay task.now (λ flow ttl last. IsReplayRun flow ttl last
-        (R.told input.old) (R.told input.new) result (W.took output.old) (W.took output.new)) }
+        (R.remaining input.old) (R.remaining input.new) result (W.written output.old) (W.written output.new)) }
     // What `run_pack` promises, with the certificate where the task wants it, and yes where the bundle
     // is written.
     ensures pack { IfPack task.now (λ certificate. IsPackRun certificate
-        (F.told files.old) result (W.took output.old) (W.took output.new)) }
+        (F.contents files.old) result (W.written output.old) (W.written output.new)) }
     // What `run_audit` promises, with the options of the words and without the routers that they name;
     // and the answer is whether its answer is enough.
     ensures audit { IfAudit task.now (λ words. IsAuditRun words
-        (F.told files.old) result (W.took output.old) (W.took output.new)) }
+        (F.contents files.old) result (W.written output.old) (W.written output.new)) }
     // The text of the help is written.
     ensures help { IfHelp task.now (λ text. IsTextRun text
-        result (W.took output.old) (W.took output.new)) }
+        result (W.written output.old) (W.written output.new)) }
     // The line with the version is written.
     ensures version { IfVersion task.now (IsTextRun VERSION_LINE.now
-        result (W.took output.old) (W.took output.new)) }
+        result (W.written output.old) (W.written output.new)) }
     // Of the two that are read from, only the task's own is.
     ensures input_unread { reads_input task.now ≡ false → input.new ≡ input.old }
     ensures files_unread { reads_files task.now ≡ false → files.new ≡ files.old }
     ensures unwritten { IfErr result (λ fault. fault ≢ RunFault.Write → output.new ≡ output.old) }
     // Read and Write come only where the device's failures rose in the call.
     ensures input_failures { reads_input task.now ≡ true
-        → R.failed input.new ≡ counted is_read result (R.failed input.old) }
+        → R.failed input.new ≡ failures_after is_read result (R.failed input.old) }
     ensures files_failures { reads_files task.now ≡ true
-        → F.failed files.new ≡ counted is_read result (F.failed files.old) }
-    ensures write_failures { W.failed output.new ≡ counted is_write result (W.failed output.old) }
+        → F.failed files.new ≡ failures_after is_read result (F.failed files.old) }
+    ensures write_failures { W.failed output.new ≡ failures_after is_write result (W.failed output.old) }
 {
     match task {
         Task::Wants { group, source } => wants_task(alloc, *group, *source, input, output),

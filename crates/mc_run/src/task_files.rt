@@ -1,14 +1,14 @@
 //! The tasks that read the files of a folder: each runs its own run, with its own arguments.
 
 ghost use Rattle.std.specs.Prelude.{◌≡◌, ◌≢◌, ◌<◌, IfErr};
-ghost use Rattle.mc_text.specs.Device.{counted};
+ghost use Rattle.mc_text.specs.Device.{failures_after};
 ghost use Rattle.mc_run.specs.Failures.{is_read, is_write};
-ghost use Rattle.mc_run.specs.TaskRuns.{IsAnswered, IsAuditRun, IsPackRun, enough_of, is_enough};
-ghost use Rattle.mc_run.specs.TaskRuns.{names_of, options_of};
+ghost use Rattle.mc_run.specs.TaskRuns.{IsAuditResult, IsAuditRun, IsPackRun, enough_of, is_enough};
+ghost use Rattle.mc_run.specs.TaskRuns.{excluded_names, options_of};
 
 use crate::audit::run_audit;
 use crate::audit_options::AuditOptions;
-use crate::audit_said::AuditAnswer;
+use crate::audit_output::AuditAnswer;
 use crate::fault::RunFault;
 use crate::pack::run_pack;
 use mc_layout::PieceSource;
@@ -25,13 +25,13 @@ pub(crate) fn pack_task<F: PieceSource, W: Output>(
 ) -> Result<bool, RunFault>
     requires reads { F.failed files.old < u64.MAX }
     requires writes { W.failed output.old < u64.MAX }
-    ensures files_same { F.names files.new ≡ F.names files.old }
-    ensures output_same { W.names output.new ≡ W.names output.old }
-    ensures run { IsPackRun certificate (F.told files.old) result
-        (W.took output.old) (W.took output.new) }
+    ensures files_same { F.borrows files.new ≡ F.borrows files.old }
+    ensures output_same { W.borrows output.new ≡ W.borrows output.old }
+    ensures run { IsPackRun certificate (F.contents files.old) result
+        (W.written output.old) (W.written output.new) }
     ensures unwritten { IfErr result (λ fault. fault ≢ RunFault.Write → output.new ≡ output.old) }
-    ensures read_failures { F.failed files.new ≡ counted is_read result (F.failed files.old) }
-    ensures write_failures { W.failed output.new ≡ counted is_write result (W.failed output.old) }
+    ensures read_failures { F.failed files.new ≡ failures_after is_read result (F.failed files.old) }
+    ensures write_failures { W.failed output.new ≡ failures_after is_write result (W.failed output.old) }
 {
     match run_pack(alloc, files, certificate, output) {
         Ok(()) => Ok(true),
@@ -71,7 +71,7 @@ fn enough_of(audited: Result<AuditAnswer, RunFault>, strict: bool) -> Result<boo
 }
 
 /// `mcaudit audit`, without whether its answer is enough.
-fn audit_as_asked<F: PieceSource, W: Output>(
+fn audit_with_words<F: PieceSource, W: Output>(
     alloc: Global,
     words: &AuditWords<'_>,
     files: &mut F,
@@ -79,13 +79,13 @@ fn audit_as_asked<F: PieceSource, W: Output>(
 ) -> Result<AuditAnswer, RunFault>
     requires reads { F.failed files.old < u64.MAX }
     requires writes { W.failed output.old < u64.MAX }
-    ensures files_same { F.names files.new ≡ F.names files.old }
-    ensures output_same { W.names output.new ≡ W.names output.old }
-    ensures answered { IsAnswered (options_of words.now.options) (names_of words.now)
-        (F.told files.old) result (W.took output.old) (W.took output.new) }
+    ensures files_same { F.borrows files.new ≡ F.borrows files.old }
+    ensures output_same { W.borrows output.new ≡ W.borrows output.old }
+    ensures answered { IsAuditResult (options_of words.now.options) (excluded_names words.now)
+        (F.contents files.old) result (W.written output.old) (W.written output.new) }
     ensures unwritten { IfErr result (λ fault. fault ≢ RunFault.Write → output.new ≡ output.old) }
-    ensures read_failures { F.failed files.new ≡ counted is_read result (F.failed files.old) }
-    ensures write_failures { W.failed output.new ≡ counted is_write result (W.failed output.old) }
+    ensures read_failures { F.failed files.new ≡ failures_after is_read result (F.failed files.old) }
+    ensures write_failures { W.failed output.new ≡ failures_after is_write result (W.failed output.old) }
 {
     let options = options_of(&words.options);
     run_audit(alloc, files, options, &words.without, output)
@@ -100,14 +100,14 @@ pub(crate) fn audit_task<F: PieceSource, W: Output>(
 ) -> Result<bool, RunFault>
     requires reads { F.failed files.old < u64.MAX }
     requires writes { W.failed output.old < u64.MAX }
-    ensures files_same { F.names files.new ≡ F.names files.old }
-    ensures output_same { W.names output.new ≡ W.names output.old }
-    ensures run { IsAuditRun words.now (F.told files.old) result
-        (W.took output.old) (W.took output.new) }
+    ensures files_same { F.borrows files.new ≡ F.borrows files.old }
+    ensures output_same { W.borrows output.new ≡ W.borrows output.old }
+    ensures run { IsAuditRun words.now (F.contents files.old) result
+        (W.written output.old) (W.written output.new) }
     ensures unwritten { IfErr result (λ fault. fault ≢ RunFault.Write → output.new ≡ output.old) }
-    ensures read_failures { F.failed files.new ≡ counted is_read result (F.failed files.old) }
-    ensures write_failures { W.failed output.new ≡ counted is_write result (W.failed output.old) }
+    ensures read_failures { F.failed files.new ≡ failures_after is_read result (F.failed files.old) }
+    ensures write_failures { W.failed output.new ≡ failures_after is_write result (W.failed output.old) }
 {
-    let audited = audit_as_asked(alloc, words, files, output);
+    let audited = audit_with_words(alloc, words, files, output);
     enough_of(audited, words.options.strict)
 }

@@ -1,7 +1,7 @@
 //! The tasks that read an input: each runs its own run, with its own arguments.
 
 ghost use Rattle.std.specs.Prelude.{◌≡◌, ◌≢◌, ◌<◌, IfErr};
-ghost use Rattle.mc_text.specs.Device.{counted};
+ghost use Rattle.mc_text.specs.Device.{failures_after};
 ghost use Rattle.mc_run.specs.Failures.{is_read, is_write};
 ghost use Rattle.mc_run.specs.TaskRuns.{IsCheckRun, IsMakeRun, IsReplayRun, IsWantsRun};
 
@@ -24,13 +24,13 @@ pub(crate) fn wants_task<R: Input, W: Output>(
 ) -> Result<bool, RunFault>
     requires reads { R.failed input.old < u64.MAX }
     requires writes { W.failed output.old < u64.MAX }
-    ensures input_same { R.names input.new ≡ R.names input.old }
-    ensures output_same { W.names output.new ≡ W.names output.old }
-    ensures run { IsWantsRun group source (R.told input.old) (R.told input.new) result
-        (W.took output.old) (W.took output.new) }
+    ensures input_same { R.borrows input.new ≡ R.borrows input.old }
+    ensures output_same { W.borrows output.new ≡ W.borrows output.old }
+    ensures run { IsWantsRun group source (R.remaining input.old) (R.remaining input.new) result
+        (W.written output.old) (W.written output.new) }
     ensures unwritten { IfErr result (λ fault. fault ≢ RunFault.Write → output.new ≡ output.old) }
-    ensures read_failures { R.failed input.new ≡ counted is_read result (R.failed input.old) }
-    ensures write_failures { W.failed output.new ≡ counted is_write result (W.failed output.old) }
+    ensures read_failures { R.failed input.new ≡ failures_after is_read result (R.failed input.old) }
+    ensures write_failures { W.failed output.new ≡ failures_after is_write result (W.failed output.old) }
 {
     run_wants(alloc, group, source, input, output)
 }
@@ -43,13 +43,13 @@ pub(crate) fn check_task<R: Input, W: Output>(
 ) -> Result<bool, RunFault>
     requires reads { R.failed input.old < u64.MAX }
     requires writes { W.failed output.old < u64.MAX }
-    ensures input_same { R.names input.new ≡ R.names input.old }
-    ensures output_same { W.names output.new ≡ W.names output.old }
-    ensures run { IsCheckRun (R.told input.old) (R.told input.new) result
-        (W.took output.old) (W.took output.new) }
+    ensures input_same { R.borrows input.new ≡ R.borrows input.old }
+    ensures output_same { W.borrows output.new ≡ W.borrows output.old }
+    ensures run { IsCheckRun (R.remaining input.old) (R.remaining input.new) result
+        (W.written output.old) (W.written output.new) }
     ensures unwritten { IfErr result (λ fault. fault ≢ RunFault.Write → output.new ≡ output.old) }
-    ensures read_failures { R.failed input.new ≡ counted is_read result (R.failed input.old) }
-    ensures write_failures { W.failed output.new ≡ counted is_write result (W.failed output.old) }
+    ensures read_failures { R.failed input.new ≡ failures_after is_read result (R.failed input.old) }
+    ensures write_failures { W.failed output.new ≡ failures_after is_write result (W.failed output.old) }
 {
     run_check(alloc, input, output)
 }
@@ -62,13 +62,13 @@ pub(crate) fn make_task<R: Input, W: Output>(
 ) -> Result<bool, RunFault>
     requires reads { R.failed input.old < u64.MAX }
     requires writes { W.failed output.old < u64.MAX }
-    ensures input_same { R.names input.new ≡ R.names input.old }
-    ensures output_same { W.names output.new ≡ W.names output.old }
-    ensures run { IsMakeRun (R.told input.old) (R.told input.new) result
-        (W.took output.old) (W.took output.new) }
+    ensures input_same { R.borrows input.new ≡ R.borrows input.old }
+    ensures output_same { W.borrows output.new ≡ W.borrows output.old }
+    ensures run { IsMakeRun (R.remaining input.old) (R.remaining input.new) result
+        (W.written output.old) (W.written output.new) }
     ensures unwritten { IfErr result (λ fault. fault ≢ RunFault.Write → output.new ≡ output.old) }
-    ensures read_failures { R.failed input.new ≡ counted is_read result (R.failed input.old) }
-    ensures write_failures { W.failed output.new ≡ counted is_write result (W.failed output.old) }
+    ensures read_failures { R.failed input.new ≡ failures_after is_read result (R.failed input.old) }
+    ensures write_failures { W.failed output.new ≡ failures_after is_write result (W.failed output.old) }
 {
     run_make(alloc, input, output)
 }
@@ -85,13 +85,13 @@ pub(crate) fn replay_task<R: Input, W: Output>(
     requires ttl { 0 < ttl }
     requires reads { R.failed input.old < u64.MAX }
     requires writes { W.failed output.old < u64.MAX }
-    ensures input_same { R.names input.new ≡ R.names input.old }
-    ensures output_same { W.names output.new ≡ W.names output.old }
-    ensures run { IsReplayRun flow ttl last (R.told input.old) (R.told input.new) result
-        (W.took output.old) (W.took output.new) }
+    ensures input_same { R.borrows input.new ≡ R.borrows input.old }
+    ensures output_same { W.borrows output.new ≡ W.borrows output.old }
+    ensures run { IsReplayRun flow ttl last (R.remaining input.old) (R.remaining input.new) result
+        (W.written output.old) (W.written output.new) }
     ensures unwritten { IfErr result (λ fault. fault ≢ RunFault.Write → output.new ≡ output.old) }
-    ensures read_failures { R.failed input.new ≡ counted is_read result (R.failed input.old) }
-    ensures write_failures { W.failed output.new ≡ counted is_write result (W.failed output.old) }
+    ensures read_failures { R.failed input.new ≡ failures_after is_read result (R.failed input.old) }
+    ensures write_failures { W.failed output.new ≡ failures_after is_write result (W.failed output.old) }
 {
     if last {
         run_replay(alloc, flow, ttl, &mut Last, input, output)

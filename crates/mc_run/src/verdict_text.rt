@@ -37,7 +37,7 @@ pub(crate) fn are_yes(verdicts: &[Verdict]) -> bool
 }
 
 /// Writes the line of a flow and of its verdict.
-pub(crate) fn push_line(
+pub(crate) fn push_flow_verdict(
     text: &mut String,
     topology: &Topology,
     flow: &Flow,
@@ -52,7 +52,7 @@ pub(crate) fn push_line(
 }
 
 /// Writes the last line.
-pub(crate) fn push_last(text: &mut String, yes: bool) -> Result<(), NoMemory>
+pub(crate) fn push_overall_verdict(text: &mut String, yes: bool) -> Result<(), NoMemory>
     ensures { OnOk result (string_bytes text.new ≡ string_bytes text.old ++ last_line yes) }
 {
     let last = if yes { "verdict yes\n" } else { "verdict no\n" };
@@ -71,8 +71,8 @@ pub(crate) fn check_text(
     let mut text = String::new(alloc);
     for flow in 0..topology.flows() {
         let verdict = verdicts[flow as usize];
-        push_line(&mut text, topology, topology.flow(flow), verdict)?;
+        push_flow_verdict(&mut text, topology, topology.flow(flow), verdict)?;
     }
-    push_last(&mut text, are_yes(verdicts))?;
+    push_overall_verdict(&mut text, are_yes(verdicts))?;
     Ok(text)
 }

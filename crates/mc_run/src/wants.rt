@@ -5,11 +5,11 @@ ghost use Rattle.std.specs.Prelude.{length, min};
 ghost use Rattle.std.specs.Io.KnownBytes.{Appends, IsAtEnd};
 ghost use Rattle.mc_text.specs.Lines.{max_text};
 ghost use Rattle.mc_text.specs.ReadFault.{ConsumesUpTo};
-ghost use Rattle.mc_text.specs.Device.{counted};
+ghost use Rattle.mc_text.specs.Device.{failures_after};
 ghost use Rattle.mc_run.specs.Failures.{is_read, is_write};
 ghost use Rattle.mc_run.specs.Faults.{IsFaultOfWants};
-ghost use Rattle.mc_run.specs.WantsRun.{answer_line, Answers, WritesPart};
-ghost use Rattle.mc_run.specs.WantsSoFar.{Looks, LooksThrough};
+ghost use Rattle.mc_run.specs.WantsRun.{answer_line, AnswersWants, WritesPartOfLine};
+ghost use Rattle.mc_run.specs.WantsSoFar.{ReadsPiece, ReadsPieces};
 
 use crate::fault::RunFault;
 use mc_filter::is_wanted;
@@ -22,14 +22,14 @@ const PIECE: usize = 65_536;
 
 /// Looks at the records of the lines that end in a piece, and tells whether one of them wants what
 /// the source sends to the group.
-fn look_at(
+fn wanted_in_piece(
     reader: &mut ListReader,
     piece: &[u8],
     group: Addr,
     source: Addr,
 ) -> Result<bool, NoMemory>
-    ensures looks { IfOk result (λ wanted.
-        Looks reader.old reader.new piece.now group source wanted) }
+    ensures pieces_read { IfOk result (λ wanted.
+        ReadsPiece reader.old reader.new piece.now group source wanted) }
     ensures size { OnOk result
         (reader.new.size ≡ min (reader.old.size + length piece.now) (max_text + 1)) }
 {
@@ -40,7 +40,7 @@ fn look_at(
 }
 
 /// Looks at the records of all lines that end, until the input ends or the list is too large.
-fn look_through<R: Input>(
+fn wanted_in_pieces<R: Input>(
     input: &mut R,
     buffer: &mut [u8],
     reader: &mut ListReader,
@@ -50,21 +50,21 @@ fn look_through<R: Input>(
     requires room { 0 < length buffer.old }
     requires start { reader.old.size ≡ 0 }
     requires failures { R.failed input.old < u64.MAX }
-    ensures same { R.names input.new ≡ R.names input.old }
-    ensures looks { IfOk result (λ wanted. LooksThrough (R.told input.old) (R.told input.new)
+    ensures same { R.borrows input.new ≡ R.borrows input.old }
+    ensures pieces_read { IfOk result (λ wanted. ReadsPieces (R.remaining input.old) (R.remaining input.new)
         reader.old reader.new group source wanted) }
-    ensures end { OnOk result (reader.new.size < max_text + 1 → IsAtEnd (R.told input.new)) }
-    ensures consumed { ConsumesUpTo (max_text + 1) (R.told input.old) (R.told input.new) }
+    ensures end { OnOk result (reader.new.size < max_text + 1 → IsAtEnd (R.remaining input.new)) }
+    ensures consumed { ConsumesUpTo (max_text + 1) (R.remaining input.old) (R.remaining input.new) }
     ensures kind { IfErr result (λ fault.
         (fault ≡ RunFault.Read) ⊎ (fault ≡ RunFault.Memory)) }
-    ensures failures { R.failed input.new ≡ counted is_read result (R.failed input.old) }
+    ensures failures { R.failed input.new ≡ failures_after is_read result (R.failed input.old) }
 {
     let mut wanted = false;
     'reading: while 0 < reader.room() {
         let room = buffer.len().min(reader.room());
         match input.read(&mut buffer[..room]) {
             Ok(0) => return Ok(wanted),
-            Ok(count) => wanted |= look_at(reader, &buffer[..count], group, source)?,
+            Ok(count) => wanted |= wanted_in_piece(reader, &buffer[..count], group, source)?,
             Err(_) => return Err(RunFault::Read),
         }
     }
@@ -72,32 +72,32 @@ fn look_through<R: Input>(
 }
 
 /// Whether some record of the list that the input has wants what the source sends to the group.
-fn wanted_in<R: Input>(
+fn wanted_in_input<R: Input>(
     alloc: Global,
     group: Addr,
     source: Addr,
     input: &mut R,
 ) -> Result<bool, RunFault>
     requires { R.failed input.old < u64.MAX }
-    ensures same { R.names input.new ≡ R.names input.old }
-    ensures answer { IfSome (R.told input.old) (λ text. Answers text group source result) }
-    ensures consumed { ConsumesUpTo (max_text + 1) (R.told input.old) (R.told input.new) }
+    ensures same { R.borrows input.new ≡ R.borrows input.old }
+    ensures answer { IfSome (R.remaining input.old) (λ text. AnswersWants text group source result) }
+    ensures consumed { ConsumesUpTo (max_text + 1) (R.remaining input.old) (R.remaining input.new) }
     ensures kind { IfErr result (λ fault. fault ≢ RunFault.Write) }
     ensures faults { IfErr result IsFaultOfWants }
-    ensures failures { R.failed input.new ≡ counted is_read result (R.failed input.old) }
+    ensures failures { R.failed input.new ≡ failures_after is_read result (R.failed input.old) }
 {
     let Ok(mut buffer) = Vec::from_elem(alloc, 0u8, PIECE) else {
         return Err(RunFault::Memory);
     };
     let mut reader = ListReader::new(alloc);
-    let wanted = look_through(input, &mut buffer, &mut reader, group, source)?;
+    let wanted = wanted_in_pieces(input, &mut buffer, &mut reader, group, source)?;
     let last = reader.finish()?;
     let wanted_by_last = is_wanted(last.records(), group, source);
     Ok(wanted | wanted_by_last)
 }
 
 /// The line that tells the answer.
-fn line_of(wanted: bool) -> &'static str
+fn answer_text(wanted: bool) -> &'static str
     ensures { result.now ≡ answer_line wanted }
 {
     if wanted { "wanted\n" } else { "not wanted\n" }
@@ -115,26 +115,26 @@ pub fn run_wants<R: Input, W: Output>(
 ) -> Result<bool, RunFault>
     requires reads { R.failed input.old < u64.MAX }
     requires writes { W.failed output.old < u64.MAX }
-    ensures input_same { R.names input.new ≡ R.names input.old }
-    ensures output_same { W.names output.new ≡ W.names output.old }
+    ensures input_same { R.borrows input.new ≡ R.borrows input.old }
+    ensures output_same { W.borrows output.new ≡ W.borrows output.old }
     // The answer is that of the definition, or the list's first fault.
-    ensures answer { IfSome (R.told input.old) (λ text. Answers text group source result) }
+    ensures answer { IfSome (R.remaining input.old) (λ text. AnswersWants text group source result) }
     // No more is read than the greatest list and one byte, whatever the answer.
-    ensures consumed { ConsumesUpTo (max_text + 1) (R.told input.old) (R.told input.new) }
+    ensures consumed { ConsumesUpTo (max_text + 1) (R.remaining input.old) (R.remaining input.new) }
     // The answer's line is written whole, or a part of it where the output failed, or else nothing.
     ensures written { IfOk result (λ wanted.
-        Appends (W.took output.old) (W.took output.new) (answer_line wanted)) }
+        Appends (W.written output.old) (W.written output.new) (answer_line wanted)) }
     ensures part { result ≡ Err RunFault.Write
-        → WritesPart (R.told input.old) group source (W.took output.old) (W.took output.new) }
+        → WritesPartOfLine (R.remaining input.old) group source (W.written output.old) (W.written output.new) }
     ensures unwritten { IfErr result (λ fault. fault ≢ RunFault.Write → output.new ≡ output.old) }
     // No other fault is answered than the list's, or that a device failed or memory ran out.
     ensures faults { IfErr result IsFaultOfWants }
     // Read and Write come only where the device's failures rose in the call.
-    ensures read_failures { R.failed input.new ≡ counted is_read result (R.failed input.old) }
-    ensures write_failures { W.failed output.new ≡ counted is_write result (W.failed output.old) }
+    ensures read_failures { R.failed input.new ≡ failures_after is_read result (R.failed input.old) }
+    ensures write_failures { W.failed output.new ≡ failures_after is_write result (W.failed output.old) }
 {
-    let wanted = wanted_in(alloc, group, source, input)?;
-    match write_all(output, line_of(wanted).as_bytes()) {
+    let wanted = wanted_in_input(alloc, group, source, input)?;
+    match write_all(output, answer_text(wanted).as_bytes()) {
         Ok(()) => Ok(wanted),
         Err(_) => Err(RunFault::Write),
     }

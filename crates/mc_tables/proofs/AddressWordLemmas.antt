@@ -9,69 +9,69 @@ use Rattle.mc_text.specs.Hex.{is_hex_digit, decode_of}
 use Rattle.mc_text.specs.Lines.{words_of}
 use Rattle.mc_text.specs.declared.text.addr.Order.{Order}
 use Rattle.mc_text.specs.AddressReading.{octets_in_order}
-use Rattle.mc_text.specs.DigitPairs.{pairs_of}
-use Rattle.mc_text.proofs.DigitLaneLemmas.{digits_decoded, all_front, all_back}
+use Rattle.mc_text.specs.DigitPairs.{bytes_of_pairs}
+use Rattle.mc_text.proofs.DigitLaneLemmas.{decode_of-digits, list_all-take, list_all-drop}
 use Rattle.mc_tables.specs.TableWords.{address_in}
 use Rattle.mc_tables.specs.RowWords.{HasAddresses}
-use Rattle.mc_tables.proofs.PlainLemmas.{address_first}
+use Rattle.mc_tables.proofs.PlainRowLemmas.{words_of-address}
 
 -- a word that decodes to four bytes shows the address of them
-address_decoded : (order : Order) (word bytes : List ℕ) → length bytes ≡ 4 → decode_of word ≡ Ok bytes
+address_in-decoded : (order : Order) (word bytes : List ℕ) → length bytes ≡ 4 → decode_of word ≡ Ok bytes
     → address_in order word ≡ Some (from_be_bytes w32 (octets_in_order order bytes))
-address_decoded order word bytes four decoded = rw (decoded, four) refl
+address_in-decoded order word bytes four decoded = rw (decoded, four) refl
 
 -- the halves of sixteen digits, with others behind them
-halves_read : (order : Order) (a b more bytes : List ℕ) → length a ≡ 8 → length b ≡ 8
-    → list_all is_hex_digit ((a ++ b) ++ more) ≡ true → bytes ≡ pairs_of ((a ++ b) ++ more)
+address_in-digit_halves : (order : Order) (a b more bytes : List ℕ) → length a ≡ 8 → length b ≡ 8
+    → list_all is_hex_digit ((a ++ b) ++ more) ≡ true → bytes ≡ bytes_of_pairs ((a ++ b) ++ more)
     → (address_in order a ≡ Some (from_be_bytes w32 (octets_in_order order
     (pick_l 0 (bytes ++ bytes) (range_with_len 0 4)))))
     × (address_in order b ≡ Some (from_be_bytes w32 (octets_in_order order
     (pick_l 0 (bytes ++ bytes) (range_with_len 4 4)))))
-halves_read order
+address_in-digit_halves order
     (a0 ∷ a1 ∷ a2 ∷ a3 ∷ a4 ∷ a5 ∷ a6 ∷ a7 ∷ []) (b0 ∷ b1 ∷ b2 ∷ b3 ∷ b4 ∷ b5 ∷ b6 ∷ b7 ∷ []) more bytes
     eight_a eight_b digits is =
     let a = a0 ∷ a1 ∷ a2 ∷ a3 ∷ a4 ∷ a5 ∷ a6 ∷ a7 ∷ [] in
     let b = b0 ∷ b1 ∷ b2 ∷ b3 ∷ b4 ∷ b5 ∷ b6 ∷ b7 ∷ [] in
-    let of_a = digits_decoded 4 a refl (all_front is_hex_digit 8 ((a ++ b) ++ more) digits) in
-    let behind = all_back is_hex_digit 8 ((a ++ b) ++ more) digits in
-    let of_b = digits_decoded 4 b refl (all_front is_hex_digit 8 (b ++ more) behind) in (
-      address_decoded order a (pairs_of a) refl of_a
+    let of_a = decode_of-digits 4 a refl (list_all-take is_hex_digit 8 ((a ++ b) ++ more) digits) in
+    let behind = list_all-drop is_hex_digit 8 ((a ++ b) ++ more) digits in
+    let of_b = decode_of-digits 4 b refl (list_all-take is_hex_digit 8 (b ++ more) behind) in (
+      address_in-decoded order a (bytes_of_pairs a) refl of_a
           ∙ ap (λ (bs : List ℕ). Some (from_be_bytes w32 (octets_in_order order
           (pick_l 0 (bs ++ bs) (range_with_len 0 4))))) (sym is),
-      address_decoded order b (pairs_of b) refl of_b
+      address_in-decoded order b (bytes_of_pairs b) refl of_b
           ∙ ap (λ (bs : List ℕ). Some (from_be_bytes w32 (octets_in_order order
           (pick_l 0 (bs ++ bs) (range_with_len 4 4))))) (sym is),
     )
-halves_read order _ _ more bytes eight_a eight_b digits is = grind arith
+address_in-digit_halves order _ _ more bytes eight_a eight_b digits is = grind arith
 
 -- the words of both addresses, of whose digits the lanes are made
-pub both_read : (order : Order) (line text bytes : List ℕ) → 25 ≤ length line
+pub address_in-both_words : (order : Order) (line text bytes : List ℕ) → 25 ≤ length line
     → text ≡ (take 8 line ++ take 8 (drop 9 line)) ++ (take 8 line ++ take 8 (drop 9 line))
-    → list_all is_hex_digit text ≡ true → bytes ≡ pairs_of text
+    → list_all is_hex_digit text ≡ true → bytes ≡ bytes_of_pairs text
     → (address_in order (take 8 line) ≡ Some (from_be_bytes w32 (octets_in_order order
     (pick_l 0 (bytes ++ bytes) (range_with_len 0 4)))))
     × (address_in order (take 8 (drop 9 line)) ≡ Some (from_be_bytes w32 (octets_in_order order
     (pick_l 0 (bytes ++ bytes) (range_with_len 4 4)))))
-both_read order line text bytes long parts digits is =
+address_in-both_words order line text bytes long parts digits is =
     let a = take 8 line in
     let b = take 8 (drop 9 line) in
     let size = length-drop 9 line in
-    halves_read order a b (a ++ b) bytes (length-take-le 8 line (omega (arith, long)))
+    address_in-digit_halves order a b (a ++ b) bytes (length-take-le 8 line (omega (arith, long)))
     (length-take-le 8 (drop 9 line) (omega (arith, long, size)))
-    (subst (λ t. list_all is_hex_digit t ≡ true) parts digits) (is ∙ ap pairs_of parts)
+    (subst (λ t. list_all is_hex_digit t ≡ true) parts digits) (is ∙ ap bytes_of_pairs parts)
 
 -- two words in their places, with a space behind each, are a line's first words
-pub both_first : (order : Order) (line : List ℕ) (group origin : ℕ) → 18 ≤ length line
+pub has_addresses-from_words : (order : Order) (line : List ℕ) (group origin : ℕ) → 18 ≤ length line
     → get_or line 8 0 ≡ 32 → get_or line 17 0 ≡ 32 → address_in order (take 8 line) ≡ Some group
     → address_in order (take 8 (drop 9 line)) ≡ Some origin → HasAddresses order line group origin
-both_first order line group origin long first second of_group of_origin =
+has_addresses-from_words order line group origin long first second of_group of_origin =
     let rest = drop 9 line in
     let size = length-drop 9 line in
     let space : get_or rest 8 0 ≡ 32 = get_or-drop 9 line 8 0 ∙ second in
-    let words = address_first order rest origin (omega (arith, size, long)) space of_origin in
+    let words = words_of-address order rest origin (omega (arith, size, long)) space of_origin in
     record {
       long = long;
-      words = address_first order line group (omega (arith, long)) first of_group
+      words = words_of-address order line group (omega (arith, long)) first of_group
           ∙ ap (λ (ws : List (List ℕ)). take 8 line ∷ ws)
           (words ∙ ap (λ (r : List ℕ). take 8 rest ∷ words_of r) (drop-drop 9 9 line));
       group_read = of_group;

@@ -15,22 +15,22 @@ use Rattle.std.proofs.lemmas.Map.Keys.{IsStrictlyIncreasing-from_sorted}
 use Rattle.mc_text.specs.declared.text.addr.Order.{Order}
 use Rattle.mc_text.specs.Lines.{LineText, words_of}
 use Rattle.mc_tables.specs.declared.entry.Oif.{Oif}
-use Rattle.mc_tables.specs.CacheTable.{EntryText}
-use Rattle.mc_tables.specs.TableLines.{EachTells}
-use Rattle.mc_tables.specs.CacheTable.{to_oif, by_vif, WritesOif, WriteOifs, WriteEntry, RowText}
-use Rattle.mc_tables.specs.CacheTable.{WordsTellRow}
-use Rattle.mc_tables.specs.CacheTable.{LineTellsRow, key_cmp, same_key, exact_entry, IsEntry}
+use Rattle.mc_tables.specs.CacheTable.{EntryValue}
+use Rattle.mc_tables.specs.TableLines.{EachDenotes}
+use Rattle.mc_tables.specs.CacheTable.{to_oif, oifs_by_vif, WordDenotesOif, WordsDenoteOifs, WordsDenoteEntry, RowValue}
+use Rattle.mc_tables.specs.CacheTable.{WordsDenoteRow}
+use Rattle.mc_tables.specs.CacheTable.{LineDenotesRow, key_cmp, same_key, exact_entry, IsValidEntry}
 use Rattle.mc_tables.specs.CacheReading.{oifs_in}
-use Rattle.mc_tables.proofs.OifLemmas.{oifs_found}
+use Rattle.mc_tables.proofs.OifLemmas.{oifs_in-denotes}
 
 -- ---- what stands in a map of what has P has P
 
 module _ (P : ℕ × ℕ → Type 0) where
   -- one more that has P leaves all with P
-  put_has : (vif threshold : ℕ) (es : List (ℕ × ℕ)) → P (vif, threshold) → AllByRecursion P es
+  put-keeps_all : (vif threshold : ℕ) (es : List (ℕ × ℕ)) → P (vif, threshold) → AllByRecursion P es
       → AllByRecursion P (fin.put nat_cmp vif threshold es)
-  put_has vif threshold [] new all = (new, tt)
-  put_has vif threshold (e ∷ es) new all =
+  put-keeps_all vif threshold [] new all = (new, tt)
+  put-keeps_all vif threshold (e ∷ es) new all =
       elim (nat_cmp vif e.0) as
       (λ r. nat_cmp vif e.0 ≡ r
       → AllByRecursion P (by_order r ((vif, threshold) ∷ e ∷ es) ((e.0, threshold) ∷ es)
@@ -40,60 +40,60 @@ module _ (P : ℕ × ℕ → Type 0) where
           subst (λ v. P (v, threshold)) (fin.nat_cmp-IsAntisymmetric vif e.0 is) new,
           all.1,
         )
-        | Greater ↦ λ is. (all.0, put_has vif threshold es new all.1)
+        | Greater ↦ λ is. (all.0, put-keeps_all vif threshold es new all.1)
       ] refl
 
   -- all of nothing have P
-  none_there : (es : List (ℕ × ℕ)) → length es ≡ 0 → AllByRecursion P es
-  none_there [] e = tt
-  none_there (oif ∷ es) e = absurd (omega arith)
+  all-of_empty : (es : List (ℕ × ℕ)) → length es ≡ 0 → AllByRecursion P es
+  all-of_empty [] e = tt
+  all-of_empty (oif ∷ es) e = absurd (omega arith)
 
   -- all of the empty map have P
-  no_entries : AllByRecursion P (fin.entries (fin.empty {K = ℕ} {X = ℕ} {R = nat_cmp}))
-  no_entries = none_there (fin.entries (fin.empty {K = ℕ} {X = ℕ} {R = nat_cmp}))
+  all_entries-empty : AllByRecursion P (fin.entries (fin.empty {K = ℕ} {X = ℕ} {R = nat_cmp}))
+  all_entries-empty = all-of_empty (fin.entries (fin.empty {K = ℕ} {X = ℕ} {R = nat_cmp}))
       (sym (fin.len-entries (fin.empty {K = ℕ} {X = ℕ} {R = nat_cmp})) ∙ fin.len-empty nat_cmp ℕ)
 
   -- a map of pairs that have P has such entries alone
-  entries_have : (told : List (ℕ × ℕ)) → AllByRecursion P told
-      → AllByRecursion P (fin.entries (fin.from_entries {R = nat_cmp} told))
-  entries_have [] all = no_entries
-  entries_have (oif ∷ told) all =
-      let m = fin.from_entries {R = nat_cmp} told in
+  all_entries-from_entries : (denoted : List (ℕ × ℕ)) → AllByRecursion P denoted
+      → AllByRecursion P (fin.entries (fin.from_entries {R = nat_cmp} denoted))
+  all_entries-from_entries [] all = all_entries-empty
+  all_entries-from_entries (oif ∷ denoted) all =
+      let m = fin.from_entries {R = nat_cmp} denoted in
       subst (AllByRecursion P) (sym (fin.entries-insert nat_cmp_total m oif.0 oif.1))
-      (put_has oif.0 oif.1 (fin.entries m) all.0 (entries_have told all.1))
+      (put-keeps_all oif.0 oif.1 (fin.entries m) all.0 (all_entries-from_entries denoted all.1))
 
 -- ---- the vifs of a map ascend
 
 -- an order that passes as less is Less
-is_less : (r : Ordering) → T (is_lt r) → r ≡ Less
-is_less Less h = refl
-is_less Equal h = absurd h
-is_less Greater h = absurd h
+is_lt-less : (r : Ordering) → T (is_lt r) → r ≡ Less
+is_lt-less Less h = refl
+is_lt-less Equal h = absurd h
+is_lt-less Greater h = absurd h
 
 -- a conjunction that holds has both parts
-both_of : (a b : Bool) → T (a && b) → T a × T b
-both_of true b h = (tt, h)
-both_of false b h = absurd h
+and-parts : (a b : Bool) → T (a && b) → T a × T b
+and-parts true b h = (tt, h)
+and-parts false b h = absurd h
 
 -- the vifs after one below them all are greater
-vifs_above : (vif : ℕ) (es : List (ℕ × ℕ)) → T (below_all nat_cmp vif es)
+below_all-vifs : (vif : ℕ) (es : List (ℕ × ℕ)) → T (below_all nat_cmp vif es)
     → AllByRecursion (λ v. nat_cmp vif v ≡ Less) (map (λ oif. oif.vif) (map to_oif es))
-vifs_above vif [] h = tt
-vifs_above vif (e ∷ es) h = let p = both_of _ _ h in (is_less _ p.0, vifs_above vif es p.1)
+below_all-vifs vif [] h = tt
+below_all-vifs vif (e ∷ es) h = let p = and-parts _ _ h in (is_lt-less _ p.0, below_all-vifs vif es p.1)
 
 -- the vifs of sorted entries ascend
-vifs_sorted : (es : List (ℕ × ℕ)) → T (is_sorted nat_cmp es)
+is_sorted-vifs : (es : List (ℕ × ℕ)) → T (is_sorted nat_cmp es)
     → IsStrictlySortedBy nat_cmp (map (λ oif. oif.vif) (map to_oif es))
 unfolding IsStrictlySortedBy
-vifs_sorted [] h = tt
-vifs_sorted (e ∷ es) h = let p = both_of _ _ h in (vifs_above e.0 es p.0, vifs_sorted es p.1)
+is_sorted-vifs [] h = tt
+is_sorted-vifs (e ∷ es) h = let p = and-parts _ _ h in (below_all-vifs e.0 es p.0, is_sorted-vifs es p.1)
 
 -- so those of a map do
-vifs_ascend : (thresholds : fin.FinMap nat_cmp ℕ)
-    → IsStrictlyIncreasing (map (λ oif. oif.vif) (by_vif thresholds))
-vifs_ascend thresholds =
+oifs_by_vif-ascends : (thresholds : fin.FinMap nat_cmp ℕ)
+    → IsStrictlyIncreasing (map (λ oif. oif.vif) (oifs_by_vif thresholds))
+oifs_by_vif-ascends thresholds =
     IsStrictlyIncreasing-from_sorted _
-    (vifs_sorted (fin.entries thresholds) (fin.entries_sorted thresholds))
+    (is_sorted-vifs (fin.entries thresholds) (fin.entries_sorted thresholds))
 
 -- ---- the entry of a line
 
@@ -102,50 +102,50 @@ abbrev InRange : ℕ × ℕ → Type 0
 InRange oif = (oif.0 ≤ 31) × (1 ≤ oif.1) × (oif.1 ≤ 254)
 
 -- words write outgoing vifs in range
-told_in_range : (words : List (List ℕ)) (told : List (ℕ × ℕ)) → EachTells WritesOif words told
-    → AllByRecursion InRange told
-told_in_range [] [] each = tt
-told_in_range [] (oif ∷ told) each = absurd each
-told_in_range (word ∷ words) [] each = absurd each
-told_in_range (word ∷ words) (oif ∷ told) each = (
+denoted_oifs-in_range : (words : List (List ℕ)) (denoted : List (ℕ × ℕ)) → EachDenotes WordDenotesOif words denoted
+    → AllByRecursion InRange denoted
+denoted_oifs-in_range [] [] each = tt
+denoted_oifs-in_range [] (oif ∷ denoted) each = absurd each
+denoted_oifs-in_range (word ∷ words) [] each = absurd each
+denoted_oifs-in_range (word ∷ words) (oif ∷ denoted) each = (
   (each.0.vif_number.2, each.0.threshold_number.1, each.0.threshold_number.2),
-  told_in_range words told each.1,
+  denoted_oifs-in_range words denoted each.1,
 )
 
 -- and the list of them is in range
-as_oifs : (es : List (ℕ × ℕ)) → AllByRecursion InRange es
+to_oif-in_range : (es : List (ℕ × ℕ)) → AllByRecursion InRange es
     → AllByRecursion (λ oif. (oif.vif ≤ 31) × (1 ≤ oif.threshold) × (oif.threshold ≤ 254))
     (map to_oif es)
-as_oifs [] all = tt
-as_oifs (e ∷ es) all = (all.0, as_oifs es all.1)
+to_oif-in_range [] all = tt
+to_oif-in_range (e ∷ es) all = (all.0, to_oif-in_range es all.1)
 
 -- outgoing vifs that words write make one, with an incoming vif up to 31
-oifs_stand : (outgoing : List (List ℕ)) (entry : EntryText) → entry.iif ≤ 31
-    → WriteOifs outgoing entry.oifs → IsEntry entry
-oifs_stand outgoing entry iif h =
-    let told = told_in_range outgoing h.told h.each in
+oifs-valid_entry : (outgoing : List (List ℕ)) (entry : EntryValue) → entry.iif ≤ 31
+    → WordsDenoteOifs outgoing entry.oifs → IsValidEntry entry
+oifs-valid_entry outgoing entry iif h =
+    let denoted = denoted_oifs-in_range outgoing h.denoted h.each in
     let same = sym h.ascending in
     record {
       incoming = iif;
       ascending = subst (λ (oifs : List Oif). IsStrictlyIncreasing (map (λ oif. oif.vif) oifs)) same
-          (vifs_ascend (fin.from_entries h.told));
+          (oifs_by_vif-ascends (fin.from_entries h.denoted));
       ranges = subst (AllByRecursion
           (λ oif. (oif.vif ≤ 31) × (1 ≤ oif.threshold) × (oif.threshold ≤ 254))) same
-          (as_oifs (fin.entries (fin.from_entries h.told)) (entries_have InRange h.told told));
+          (to_oif-in_range (fin.entries (fin.from_entries h.denoted)) (all_entries-from_entries InRange h.denoted denoted));
     }
 
 -- the entry that words write is one
-entry_stands : (iif : List ℕ) (outgoing : List (List ℕ)) (entry : Option EntryText)
-    → WriteEntry iif outgoing entry → IfSome entry IsEntry
-entry_stands iif outgoing None h = tt
-entry_stands iif outgoing (Some entry) h = oifs_stand outgoing entry h.0.2 h.1
+entry-is_valid : (iif : List ℕ) (outgoing : List (List ℕ)) (entry : Option EntryValue)
+    → WordsDenoteEntry iif outgoing entry → IfSome entry IsValidEntry
+entry-is_valid iif outgoing None h = tt
+entry-is_valid iif outgoing (Some entry) h = oifs-valid_entry outgoing entry h.0.2 h.1
 
 -- so is that of a row that words tell
-pub row_stands : (order : Order) (words : List (List ℕ)) (row : RowText) → WordsTellRow order words row
-    → IfSome row.entry IsEntry
-row_stands order (group ∷ origin ∷ iif ∷ packets ∷ bytes ∷ wrong ∷ outgoing) row h =
-    entry_stands iif outgoing row.entry h.5
-row_stands order words row h = absurd h
+pub row_entry-is_valid : (order : Order) (words : List (List ℕ)) (row : RowValue) → WordsDenoteRow order words row
+    → IfSome row.entry IsValidEntry
+row_entry-is_valid order (group ∷ origin ∷ iif ∷ packets ∷ bytes ∷ wrong_if ∷ outgoing) row h =
+    entry-is_valid iif outgoing row.entry h.5
+row_entry-is_valid order words row h = absurd h
 
 -- ---- how many outgoing vifs there are
 
@@ -162,71 +162,71 @@ AreInRange oifs =
     AllByRecursion (λ oif. (oif.vif ≤ 31) × (1 ≤ oif.threshold) × (oif.threshold ≤ 254)) oifs
 
 -- vifs that ascend from the first up to 31
-room : (oif : Oif) (oifs : List Oif) → IsStrictlyIncreasing (map (λ (o : Oif). o.vif) (oif ∷ oifs))
+length_oifs-from_vif : (oif : Oif) (oifs : List Oif) → IsStrictlyIncreasing (map (λ (o : Oif). o.vif) (oif ∷ oifs))
     → AreInRange (oif ∷ oifs) → oif.vif + length (oif ∷ oifs) ≤ 32
-room oif [] up within = omega (arith, within.0.0)
-room oif (next ∷ oifs) up within =
+length_oifs-from_vif oif [] up within = omega (arith, within.0.0)
+length_oifs-from_vif oif (next ∷ oifs) up within =
     let first : oif.vif < next.vif = up 0 (omega arith) in
-    let rest = room next oifs (tail-ascends oif.vif (map (λ (o : Oif). o.vif) (next ∷ oifs)) up)
+    let rest = length_oifs-from_vif next oifs (tail-ascends oif.vif (map (λ (o : Oif). o.vif) (next ∷ oifs)) up)
     within.1 in
     omega (arith, first, rest)
 
-few : (oifs : List Oif) → IsStrictlyIncreasing (map (λ (o : Oif). o.vif) oifs) → AreInRange oifs
+length_oifs-at_most_32 : (oifs : List Oif) → IsStrictlyIncreasing (map (λ (o : Oif). o.vif) oifs) → AreInRange oifs
     → length oifs ≤ 32
-few [] up within = omega arith
-few (oif ∷ oifs) up within = let h = room oif oifs up within in omega (arith, h)
+length_oifs-at_most_32 [] up within = omega arith
+length_oifs-at_most_32 (oif ∷ oifs) up within = let h = length_oifs-from_vif oif oifs up within in omega (arith, h)
 
 -- an entry has at most one outgoing vif for each of the numbers 0 to 31
-pub few-oifs : (entry : EntryText) → IsEntry entry → length entry.oifs ≤ 32
-few-oifs entry ok = few entry.oifs ok.ascending ok.ranges
+pub length_entry_oifs-at_most_32 : (entry : EntryValue) → IsValidEntry entry → length entry.oifs ≤ 32
+length_entry_oifs-at_most_32 entry ok = length_oifs-at_most_32 entry.oifs ok.ascending ok.ranges
 
 -- so have words that are read as outgoing vifs
-pub few_read : (words : List (List ℕ)) (oifs : List Oif) → oifs_in words ≡ Ok oifs
+pub oifs_in_gives_at_most_32 : (words : List (List ℕ)) (oifs : List Oif) → oifs_in words ≡ Ok oifs
     → length oifs ≤ 32
-few_read words oifs e =
-    let entry : EntryText = record { iif = 0; oifs = oifs } in
-    few-oifs entry (oifs_stand words entry (omega arith) (oifs_found words oifs e))
+oifs_in_gives_at_most_32 words oifs e =
+    let entry : EntryValue = record { iif = 0; oifs = oifs } in
+    length_entry_oifs-at_most_32 entry (oifs-valid_entry words entry (omega arith) (oifs_in-denotes words oifs e))
 
 -- ---- the entries of a table
 
 -- the entry of each resolved row is one
-abbrev pub HaveEntries : List RowText → Type 0
-HaveEntries rows = AllByRecursion (λ row. IfSome row.entry IsEntry) rows
+abbrev pub HaveValidEntries : List RowValue → Type 0
+HaveValidEntries rows = AllByRecursion (λ row. IfSome row.entry IsValidEntry) rows
 
 -- lines tell rows with such entries
-pub rows_stand : (order : Order) (lines : List LineText) (rows : List RowText)
-    → EachTells (LineTellsRow order) lines rows → HaveEntries rows
-rows_stand order [] [] told = tt
-rows_stand order [] (row ∷ rows) told = absurd told
-rows_stand order (line ∷ lines) [] told = absurd told
-rows_stand order (line ∷ lines) (row ∷ rows) told =
-    (row_stands order (words_of line.bytes) row told.0.words, rows_stand order lines rows told.1)
+pub rows-have_valid_entries : (order : Order) (lines : List LineText) (rows : List RowValue)
+    → EachDenotes (LineDenotesRow order) lines rows → HaveValidEntries rows
+rows-have_valid_entries order [] [] denoted = tt
+rows-have_valid_entries order [] (row ∷ rows) denoted = absurd denoted
+rows-have_valid_entries order (line ∷ lines) [] denoted = absurd denoted
+rows-have_valid_entries order (line ∷ lines) (row ∷ rows) denoted =
+    (row_entry-is_valid order (words_of line.bytes) row denoted.0.words, rows-have_valid_entries order lines rows denoted.1)
 
 -- what is found is the first entry, or one of the others
-find_stands : (key : ℕ × ℕ) (o : Option ((ℕ × ℕ) × EntryText)) (rest : List ((ℕ × ℕ) × EntryText))
-    → IfSome o (λ exact. IsEntry exact.1) → IfSome (fin.find key_cmp key rest) IsEntry
-    → IfSome (fin.find key_cmp key (cons_option o rest)) IsEntry
-find_stands key None rest stands others = others
-find_stands key (Some exact) rest stands others =
+find-valid_entry_cons : (key : ℕ × ℕ) (o : Option ((ℕ × ℕ) × EntryValue)) (rest : List ((ℕ × ℕ) × EntryValue))
+    → IfSome o (λ exact. IsValidEntry exact.1) → IfSome (fin.find key_cmp key rest) IsValidEntry
+    → IfSome (fin.find key_cmp key (cons_option o rest)) IsValidEntry
+find-valid_entry_cons key None rest valid others = others
+find-valid_entry_cons key (Some exact) rest valid others =
     elim (same_key key exact.0) as
-    (λ b. IfSome (cond b (Some exact.1) (fin.find key_cmp key rest)) IsEntry) [
-      | true ↦ stands
+    (λ b. IfSome (cond b (Some exact.1) (fin.find key_cmp key rest)) IsValidEntry) [
+      | true ↦ valid
       | false ↦ others
     ]
 
 -- a row for one source has its entry, and one for every source none
-exact_stands : (b : Bool) (key : ℕ × ℕ) (entry : Option EntryText) → IfSome entry IsEntry
-    → IfSome {T = (ℕ × ℕ) × EntryText} (cond b None (option_map (λ e. (key, e)) entry))
-    (λ exact. IsEntry exact.1)
-exact_stands true key entry stands = tt
-exact_stands false key None stands = tt
-exact_stands false key (Some entry) stands = stands
+exact_entry-is_valid : (b : Bool) (key : ℕ × ℕ) (entry : Option EntryValue) → IfSome entry IsValidEntry
+    → IfSome {T = (ℕ × ℕ) × EntryValue} (cond b None (option_map (λ e. (key, e)) entry))
+    (λ exact. IsValidEntry exact.1)
+exact_entry-is_valid true key entry valid = tt
+exact_entry-is_valid false key None valid = tt
+exact_entry-is_valid false key (Some entry) valid = valid
 
 -- what is found among the entries of the rows is an entry
-pub found_stands : (key : ℕ × ℕ) (rows : List RowText) → HaveEntries rows
-    → IfSome (fin.find key_cmp key (filter_map exact_entry rows)) IsEntry
-found_stands key [] stands = tt
-found_stands key (row ∷ rows) stands =
-    find_stands key (exact_entry row) (filter_map exact_entry rows)
-    (exact_stands (row.origin == 0) (row.origin, row.group) row.entry stands.0)
-    (found_stands key rows stands.1)
+pub find-valid_entry : (key : ℕ × ℕ) (rows : List RowValue) → HaveValidEntries rows
+    → IfSome (fin.find key_cmp key (filter_map exact_entry rows)) IsValidEntry
+find-valid_entry key [] valid = tt
+find-valid_entry key (row ∷ rows) valid =
+    find-valid_entry_cons key (exact_entry row) (filter_map exact_entry rows)
+    (exact_entry-is_valid (row.origin == 0) (row.origin, row.group) row.entry valid.0)
+    (find-valid_entry key rows valid.1)

@@ -16,13 +16,13 @@ use Rattle.std.proofs.lemmas.Str.{IsUtf8-from_ascii, digit_value_digit}
 use Rattle.std.proofs.lemmas.Str.Ascii.{IsAscii-from_all}
 
 -- a byte that passes the test of a range is in it
-in_range : (low high c : ℕ) → is_in_range low high c ≡ true → (low ≤ c) × (c ≤ high)
-in_range low high c e = let p = and_parts (nat_le low c) (nat_le c high) e in
+is_in_range-bounds : (low high c : ℕ) → is_in_range low high c ≡ true → (low ≤ c) × (c ≤ high)
+is_in_range-bounds low high c e = let p = and_parts (nat_le low c) (nat_le c high) e in
     (leb-true low c p.0, leb-true c high p.1)
 
 -- the digits A to F are below 16
-upper_small : (c : ℕ) → 65 ≤ c → c ≤ 70 → digit_value c < 16
-upper_small c low high =
+digit_value-upper : (c : ℕ) → 65 ≤ c → c ≤ 70 → digit_value c < 16
+digit_value-upper c low high =
     let a : ltb c 48 ≡ false = le-ltb c 48 (omega arith) in
     let b : ltb c 58 ≡ false = le-ltb c 58 (omega arith) in
     let d : ltb c 65 ≡ false = le-ltb c 65 (omega arith) in
@@ -30,8 +30,8 @@ upper_small c low high =
     rw (a, b, d, f) (omega arith)
 
 -- and so are a to f
-lower_small : (c : ℕ) → 97 ≤ c → c ≤ 102 → digit_value c < 16
-lower_small c low high =
+digit_value-lower : (c : ℕ) → 97 ≤ c → c ≤ 102 → digit_value c < 16
+digit_value-lower c low high =
     let a : ltb c 48 ≡ false = le-ltb c 48 (omega arith) in
     let b : ltb c 58 ≡ false = le-ltb c 58 (omega arith) in
     let d : ltb c 65 ≡ false = le-ltb c 65 (omega arith) in
@@ -41,65 +41,65 @@ lower_small c low high =
     rw (a, b, d, f, g, h) (omega arith)
 
 -- each hexadecimal digit is
-digit_small : (c : ℕ) → is_ascii_hexdigit c ≡ true → digit_value c < 16
-digit_small c e =
+digit_value-hexadecimal : (c : ℕ) → is_ascii_hexdigit c ≡ true → digit_value c < 16
+digit_value-hexadecimal c e =
     elim (cases_Bool (is_in_range 48 57 c)) [
-      | inl decimal ↦ let r = in_range 48 57 c decimal in
+      | inl decimal ↦ let r = is_in_range-bounds 48 57 c decimal in
           omega (arith, r.0, r.1, digit_value_digit c r)
       | inr other ↦ elim (cases_Bool (is_in_range 65 70 c)) [
-        | inl upper ↦ let r = in_range 65 70 c upper in upper_small c r.0 r.1
-        | inr neither ↦ let r = in_range 97 102 c (rw (other, neither) at e) in
-            lower_small c r.0 r.1
+        | inl upper ↦ let r = is_in_range-bounds 65 70 c upper in digit_value-upper c r.0 r.1
+        | inr neither ↦ let r = is_in_range-bounds 97 102 c (rw (other, neither) at e) in
+            digit_value-lower c r.0 r.1
       ]
     ]
 
 -- and is ASCII, from `0` on
-digit_ascii : (c : ℕ) → is_ascii_hexdigit c ≡ true → (48 ≤ c) × (c < 128)
-digit_ascii c e = grind (arith)
+is_ascii_hexdigit-ascii : (c : ℕ) → is_ascii_hexdigit c ≡ true → (48 ≤ c) × (c < 128)
+is_ascii_hexdigit-ascii c e = grind (arith)
 
 -- digits that pass the test are digits to the base 16
-all_digits : (word : List ℕ) → list_all is_ascii_hexdigit word ≡ true → AllDigits 16 word
-all_digits [] e = tt
-all_digits (c ∷ cs) e = let p = and_parts (is_ascii_hexdigit c) _ e in
-    (digit_small c p.0, all_digits cs p.1)
+all_digits-hexadecimal : (word : List ℕ) → list_all is_ascii_hexdigit word ≡ true → AllDigits 16 word
+all_digits-hexadecimal [] e = tt
+all_digits-hexadecimal (c ∷ cs) e = let p = and_parts (is_ascii_hexdigit c) _ e in
+    (digit_value-hexadecimal c p.0, all_digits-hexadecimal cs p.1)
 
 -- and ASCII
-all_ascii : (word : List ℕ) → list_all is_ascii_hexdigit word ≡ true
+all_hexdigits-ascii : (word : List ℕ) → list_all is_ascii_hexdigit word ≡ true
     → AllByRecursion (λ b. b < 128) word
-all_ascii [] e = tt
-all_ascii (c ∷ cs) e = let p = and_parts (is_ascii_hexdigit c) _ e in
-    ((digit_ascii c p.0).1, all_ascii cs p.1)
+all_hexdigits-ascii [] e = tt
+all_hexdigits-ascii (c ∷ cs) e = let p = and_parts (is_ascii_hexdigit c) _ e in
+    ((is_ascii_hexdigit-ascii c p.0).1, all_hexdigits-ascii cs p.1)
 
 -- so they are a text
-pub digits_are_text : (word : List ℕ) → list_all is_ascii_hexdigit word ≡ true → IsUtf8 word
-digits_are_text word e =
+pub is_utf8-hexadecimal : (word : List ℕ) → list_all is_ascii_hexdigit word ≡ true → IsUtf8 word
+is_utf8-hexadecimal word e =
     IsUtf8-from_ascii word
-    (IsAscii-from_all word (All-from_recursion (λ b. b < 128) word (all_ascii word e)))
+    (IsAscii-from_all word (All-from_recursion (λ b. b < 128) word (all_hexdigits-ascii word e)))
 
 -- they have no `+` at the front
-no_plus : (word : List ℕ) → list_all is_ascii_hexdigit word ≡ true
+without_leading_plus-hexadecimal : (word : List ℕ) → list_all is_ascii_hexdigit word ≡ true
     → without_leading_plus word ≡ word
-no_plus [] e = refl
-no_plus (c ∷ cs) e =
+without_leading_plus-hexadecimal [] e = refl
+without_leading_plus-hexadecimal (c ∷ cs) e =
     let p = and_parts (is_ascii_hexdigit c) _ e in
     let other : (c == 43)
-    ≡ false = ne_eqb c 43 (λ is. absurd (omega (arith, is, (digit_ascii c p.0).0))) in
+    ≡ false = ne_eqb c 43 (λ is. absurd (omega (arith, is, (is_ascii_hexdigit-ascii c p.0).0))) in
     rw other refl
 
 -- up to eight of them write a number of 32 bits
-fits : (word : List ℕ) → length word ≤ 8 → list_all is_ascii_hexdigit word ≡ true
+digits_value-fits_32_bits : (word : List ℕ) → length word ≤ 8 → list_all is_ascii_hexdigit word ≡ true
     → digits_value 16 word < 2 ^ 32
-fits word few e =
+digits_value-fits_32_bits word few e =
     let most : 16 ^ length word ≤ 16 ^ 8 = pow-le-pow_right (lit< tt) few in
-    omega (arith, most, digits_value-lt 16 word (all_digits word e))
+    omega (arith, most, digits_value-lt 16 word (all_digits-hexadecimal word e))
 
 -- what the library reads of them is the number that they write
-pub parsed_is : {E : Type 0} (word : List ℕ) (read : Result ℕ E) → 1 ≤ length word → length word ≤ 8
+pub parse-hexadecimal : {E : Type 0} (word : List ℕ) (read : Result ℕ E) → 1 ≤ length word → length word ≤ 8
     → list_all is_ascii_hexdigit word ≡ true → ParsesUnsigned 32 16 word read
     → read ≡ Ok (digits_value 16 word)
-parsed_is word (Ok n) some few e h = ap Ok (h.1 ∙ ap (digits_value 16) (no_plus word e))
-parsed_is word (Err error) some few e h =
+parse-hexadecimal word (Ok n) some few e h = ap Ok (h.1 ∙ ap (digits_value 16) (without_leading_plus-hexadecimal word e))
+parse-hexadecimal word (Err error) some few e h =
     let numeral : IsNumeral 16 word × (digits_value 16 word < 2 ^ 32) =
-    ((some, all_digits word e), fits word few e) in
+    ((some, all_digits-hexadecimal word e), digits_value-fits_32_bits word few e) in
     absurd (h (subst (λ (w : List ℕ). IsNumeral 16 w × (digits_value 16 w < 2 ^ 32))
-    (sym (no_plus word e)) numeral))
+    (sym (without_leading_plus-hexadecimal word e)) numeral))

@@ -5,99 +5,99 @@ use Rattle.std.specs.Prelude.{not, filter}
 use Rattle.std.specs.List.{filter_map, cons_option, list_any}
 use Rattle.std.specs.Option.{option_map}
 use Rattle.std.proofs.lemmas.Bool.{cases_Bool}
-use Rattle.mc_tables.specs.CacheTable.{EntryText, RowText, same_key, key_of}
+use Rattle.mc_tables.specs.CacheTable.{EntryValue, RowValue, same_key, key_of}
 use Rattle.mc_tables.specs.TableLines.{is_among}
 use Rattle.mc_tables.specs.ListedRows.{Listed, is_listed, is_kept_key, is_kept, kept_rows}
-use Rattle.mc_tables.proofs.OtherRowLemmas.{same_is}
+use Rattle.mc_tables.proofs.UnlistedRowLemmas.{same_key-equal}
 
 -- ---- sources and groups
 
 -- no test is its opposite
-no_opposite : (b : Bool) → b ≡ not b → ⊥
-no_opposite true e = cc
-no_opposite false e = cc
+not-differs : (b : Bool) → b ≡ not b → ⊥
+not-differs true e = cc
+not-differs false e = cc
 
 -- of two of which one alone is listed, each is another
-pub differ : (listed : Listed) (x y : ℕ × ℕ) (b : Bool) → is_listed listed x ≡ b
+pub same_key-listed_differs : (listed : Listed) (x y : ℕ × ℕ) (b : Bool) → is_listed listed x ≡ b
     → is_listed listed y ≡ not b → same_key x y ≡ false
-differ listed x y b of_x of_y =
+same_key-listed_differs listed x y b of_x of_y =
     elim (cases_Bool (same_key x y)) [
       | inr other ↦ other
       | inl same ↦
-          let one = ap (is_listed listed) (same_is x y same) in
+          let one = ap (is_listed listed) (same_key-equal x y same) in
           let wrong : b ≡ not b = sym of_x ∙ one ∙ of_y in
-          absurd (no_opposite b wrong)
+          absurd (not-differs b wrong)
     ]
 
 -- ---- the rows that are kept, and the others
 
 -- the sources and groups of the others
-abbrev pub other_keys : Listed → List RowText → List (ℕ × ℕ)
-other_keys listed rows = filter_map key_of (filter (λ row. not (is_kept listed row)) rows)
+abbrev pub unlisted_row_keys : Listed → List RowValue → List (ℕ × ℕ)
+unlisted_row_keys listed rows = filter_map key_of (filter (λ row. not (is_kept listed row)) rows)
 
 -- one row more to look for a listed source and group in
-kept_step : (listed : Listed) (key : ℕ × ℕ) (row : RowText) (kept rows : List RowText)
+any_key-kept_more : (listed : Listed) (key : ℕ × ℕ) (row : RowValue) (kept rows : List RowValue)
     (own : Option (ℕ × ℕ)) → key_of row ≡ own → is_listed listed key ≡ true
     → list_any (same_key key) (filter_map key_of kept)
     ≡ list_any (same_key key) (filter_map key_of rows)
     → list_any (same_key key) (filter_map key_of (cond (is_kept_key listed own) (row ∷ kept) kept))
     ≡ list_any (same_key key) (cons_option own (filter_map key_of rows))
-kept_step listed key row kept rows None own is rest = rw own rest
-kept_step listed key row kept rows (Some other) own is rest =
+any_key-kept_more listed key row kept rows None own is rest = rw own rest
+any_key-kept_more listed key row kept rows (Some other) own is rest =
     elim (cases_Bool (is_listed listed other)) [
       | inl has ↦ rw (has, own, rest) refl
-      | inr none ↦ rw (none, differ listed key other true is none) rest
+      | inr none ↦ rw (none, same_key-listed_differs listed key other true is none) rest
     ]
 
 -- a source and a group that are listed are among the rows' where they are among those of the rows
 -- that are kept
-kept_among : (listed : Listed) (key : ℕ × ℕ) (rows : List RowText) → is_listed listed key ≡ true
+any_key-kept_rows : (listed : Listed) (key : ℕ × ℕ) (rows : List RowValue) → is_listed listed key ≡ true
     → list_any (same_key key) (filter_map key_of (kept_rows listed rows))
     ≡ list_any (same_key key) (filter_map key_of rows)
-kept_among listed key [] is = refl
-kept_among listed key (row ∷ rows) is =
-    kept_step listed key row (kept_rows listed rows) rows (key_of row) refl is
-    (kept_among listed key rows is)
+any_key-kept_rows listed key [] is = refl
+any_key-kept_rows listed key (row ∷ rows) is =
+    any_key-kept_more listed key row (kept_rows listed rows) rows (key_of row) refl is
+    (any_key-kept_rows listed key rows is)
 
 -- one row more to look for another source and group in
-other_step : (listed : Listed) (key : ℕ × ℕ) (row : RowText) (others rows : List RowText)
+any_key-unlisted_more : (listed : Listed) (key : ℕ × ℕ) (row : RowValue) (others rows : List RowValue)
     (own : Option (ℕ × ℕ)) → key_of row ≡ own → is_listed listed key ≡ false
     → list_any (same_key key) (filter_map key_of others)
     ≡ list_any (same_key key) (filter_map key_of rows)
     → list_any (same_key key)
     (filter_map key_of (cond (not (is_kept_key listed own)) (row ∷ others) others))
     ≡ list_any (same_key key) (cons_option own (filter_map key_of rows))
-other_step listed key row others rows None own is rest = rest
-other_step listed key row others rows (Some other) own is rest =
+any_key-unlisted_more listed key row others rows None own is rest = rest
+any_key-unlisted_more listed key row others rows (Some other) own is rest =
     elim (cases_Bool (is_listed listed other)) [
-      | inl has ↦ rw (has, differ listed key other false is has) rest
+      | inl has ↦ rw (has, same_key-listed_differs listed key other false is has) rest
       | inr none ↦ rw (none, own, rest) refl
     ]
 
 -- and others where they are among those of the others
-pub other_among : (listed : Listed) (key : ℕ × ℕ) (rows : List RowText) → is_listed listed key ≡ false
-    → list_any (same_key key) (other_keys listed rows)
+pub any_key-unlisted_rows : (listed : Listed) (key : ℕ × ℕ) (rows : List RowValue) → is_listed listed key ≡ false
+    → list_any (same_key key) (unlisted_row_keys listed rows)
     ≡ list_any (same_key key) (filter_map key_of rows)
-other_among listed key [] is = refl
-other_among listed key (row ∷ rows) is =
-    other_step listed key row (filter (λ r. not (is_kept listed r)) rows) rows (key_of row) refl is
-    (other_among listed key rows is)
+any_key-unlisted_rows listed key [] is = refl
+any_key-unlisted_rows listed key (row ∷ rows) is =
+    any_key-unlisted_more listed key row (filter (λ r. not (is_kept listed r)) rows) rows (key_of row) refl is
+    (any_key-unlisted_rows listed key rows is)
 
 -- a row that is kept repeats an earlier one where it repeats one that is kept
-pub kept_repeats : (listed : Listed) (rows : List RowText) (own : Option (ℕ × ℕ))
+pub is_among-kept_rows : (listed : Listed) (rows : List RowValue) (own : Option (ℕ × ℕ))
     → is_kept_key listed own ≡ true
     → is_among same_key own (filter_map key_of (kept_rows listed rows))
     ≡ is_among same_key own (filter_map key_of rows)
-kept_repeats listed rows None is = refl
-kept_repeats listed rows (Some key) is = kept_among listed key rows is
+is_among-kept_rows listed rows None is = refl
+is_among-kept_rows listed rows (Some key) is = any_key-kept_rows listed key rows is
 
 -- a row that isn't kept has a source and a group
-pub other_key : (listed : Listed) (row : RowText) (b : Bool) (entry : Option EntryText)
-    → is_kept_key listed (option_map (λ (exact : (ℕ × ℕ) × EntryText). exact.0)
+pub key_of-unlisted_row : (listed : Listed) (row : RowValue) (b : Bool) (entry : Option EntryValue)
+    → is_kept_key listed (option_map (λ (exact : (ℕ × ℕ) × EntryValue). exact.0)
     (cond b None (option_map (λ e. ((row.origin, row.group), e)) entry))) ≡ false
-    → (option_map (λ (exact : (ℕ × ℕ) × EntryText). exact.0)
+    → (option_map (λ (exact : (ℕ × ℕ) × EntryValue). exact.0)
     (cond b None (option_map (λ e. ((row.origin, row.group), e)) entry))
     ≡ Some (row.origin, row.group)) × (is_listed listed (row.origin, row.group) ≡ false)
-other_key listed row true entry e = absurd cc
-other_key listed row false None e = absurd cc
-other_key listed row false (Some entry) e = (refl, e)
+key_of-unlisted_row listed row true entry e = absurd cc
+key_of-unlisted_row listed row false None e = absurd cc
+key_of-unlisted_row listed row false (Some entry) e = (refl, e)

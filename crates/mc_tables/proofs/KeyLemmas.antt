@@ -8,30 +8,30 @@ use Rattle.std.proofs.lemmas.Map.Keys.{IsDistinct-head, IsDistinct-tail, IsDisti
 use Rattle.mc_tables.specs.TableLines.{is_among}
 
 -- what all have, the one in the middle has
-holds_at : {K : Type 0} (P : K → Type 0) (xs : List K) (y : K) (ys : List K)
+all-middle : {K : Type 0} (P : K → Type 0) (xs : List K) (y : K) (ys : List K)
     → AllByRecursion P (xs ++ y ∷ ys) → P y
-holds_at P [] y ys all = all.0
-holds_at P (x ∷ xs) y ys all = holds_at P xs y ys all.1
+all-middle P [] y ys all = all.0
+all-middle P (x ∷ xs) y ys all = all-middle P xs y ys all.1
 
 module _ {K : Type 0} {same : K → K → Bool} (laws : IsEquivalence same) where
   -- a key in the middle is none of those before it
-  pub new_in_distinct : (xs : List K) (y : K) (ys : List K) → IsDistinct same (xs ++ y ∷ ys)
+  pub list_any-distinct_middle : (xs : List K) (y : K) (ys : List K) → IsDistinct same (xs ++ y ∷ ys)
       → list_any (same y) xs ≡ false
-  new_in_distinct [] y ys distinct = refl
-  new_in_distinct (x ∷ xs) y ys distinct =
-      let apart = holds_at (λ z. same x z ≡ false) xs y ys
+  list_any-distinct_middle [] y ys distinct = refl
+  list_any-distinct_middle (x ∷ xs) y ys distinct =
+      let apart = all-middle (λ z. same x z ≡ false) xs y ys
       (IsDistinct-head same x (xs ++ y ∷ ys) distinct) in
       or_from (same y x) (list_any (same y) xs) (laws.symm y x ∙ apart)
-      (new_in_distinct xs y ys (IsDistinct-tail same x (xs ++ y ∷ ys) distinct))
+      (list_any-distinct_middle xs y ys (IsDistinct-tail same x (xs ++ y ∷ ys) distinct))
 
   -- keys that differ and one that is new, if it is one, differ
-  pub distinct_grows : (xs : List K) (key : Option K) → IsDistinct same xs
+  pub is_distinct-push_key : (xs : List K) (key : Option K) → IsDistinct same xs
       → is_among same key xs ≡ false → IsDistinct same (xs ++ cons_option key [])
-  distinct_grows xs None distinct new = rw append-nil distinct
-  distinct_grows xs (Some y) distinct new = IsDistinct-push laws xs y distinct new
+  is_distinct-push_key xs None distinct new = rw append-nil distinct
+  is_distinct-push_key xs (Some y) distinct new = IsDistinct-push laws xs y distinct new
 
   -- a key in the middle, if it is one, is new
-  pub distinct_follows : (xs : List K) (key : Option K) (ys : List K)
+  pub is_among-distinct_before : (xs : List K) (key : Option K) (ys : List K)
       → IsDistinct same (xs ++ cons_option key ys) → is_among same key xs ≡ false
-  distinct_follows xs None ys distinct = refl
-  distinct_follows xs (Some y) ys distinct = new_in_distinct xs y ys distinct
+  is_among-distinct_before xs None ys distinct = refl
+  is_among-distinct_before xs (Some y) ys distinct = list_any-distinct_middle xs y ys distinct

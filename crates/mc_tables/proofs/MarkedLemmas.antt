@@ -20,22 +20,22 @@ use Rattle.std.proofs.lemmas.Nat.Bits.{bit_at-lt, bit_at_and, bit_at_or, bit_at-
 use lib.Count.{count_trailing_zeros}
 use Rattle.mc_text.specs.Lines.{words_of}
 use Rattle.mc_tables.specs.Counters.{AreMarks, AreLastDigits, HasCounters}
-use Rattle.mc_tables.specs.TableWords.{is_counter, is_decimal}
-use Rattle.mc_tables.proofs.PlainLemmas.{counter_behind}
+use Rattle.mc_tables.specs.TableWords.{is_counter, is_decimal_word}
+use Rattle.mc_tables.proofs.PlainRowLemmas.{counter_is_first_word}
 
 -- the lane of a bit that is set
-pub set_is_true : (b : Bool) → cond {A = ℕ} b 1 0 ≡ 1 → b ≡ true
-set_is_true true e = refl
-set_is_true false e = absurd (omega (arith, e))
+pub cond-one : (b : Bool) → cond {A = ℕ} b 1 0 ≡ 1 → b ≡ true
+cond-one true e = refl
+cond-one false e = absurd (omega (arith, e))
 
 -- a bit of the mask of lanes that were tested
-lane_passes : (test : ℕ → Bool) (v : List ℕ) (k : ℕ) → bit_at (mask_l (map test v)) k ≡ 1
+mask-lane_passes : (test : ℕ → Bool) (v : List ℕ) (k : ℕ) → bit_at (mask_l (map test v)) k ≡ 1
     → (k < length v) × (test (get_or v k 0) ≡ true)
-lane_passes test v k set =
+mask-lane_passes test v k set =
     elim (cases_lt k (length v)) [
       | inl within ↦ (
         within,
-        set_is_true (test (get_or v k 0))
+        cond-one (test (get_or v k 0))
             (ap (λ b. cond b 1 0) (sym (get_or-map test v k 0 false within))
             ∙ sym (bit_mask_l (map test v) k) ∙ set),
       )
@@ -50,11 +50,11 @@ lane_passes test v k set =
         omega (arith, set, none, bit)
 
 -- the mask of a line's first bytes marks those that pass
-pub marked : (test passes : ℕ → Bool) (line : List ℕ) (m : ℕ) → 32 ≤ length line
+pub mask-are_marks : (test passes : ℕ → Bool) (line : List ℕ) (m : ℕ) → 32 ≤ length line
     → ((k : ℕ) → Fits w8 (get_or line k 0)) → m ≡ mask_l (map test (chunk 0 32 line))
     → agree_below test passes 256 ≡ true → AreMarks passes line m
-marked test passes line m long fits is agree k set =
-    let lane = lane_passes test (chunk 0 32 line) k (ap (λ n. bit_at n k) (sym is) ∙ set) in
+mask-are_marks test passes line m long fits is agree k set =
+    let lane = mask-lane_passes test (chunk 0 32 line) k (ap (λ n. bit_at n k) (sym is) ∙ set) in
     let size = length-chunk 0 32 line long in
     let within : k < 32 = omega (arith, lane.0, size) in
     let byte = get_or-chunk 0 32 line k 0 within in
@@ -65,8 +65,8 @@ marked test passes line m long fits is agree k set =
     )
 
 -- `trailing_ones` is a run of bits that are set
-pub run_set : (n r k : ℕ) → n < 2 ^ 64 → r ≡ trailing_ones w64 n → k < r → bit_at n k ≡ 1
-run_set n r k fits is less =
+pub trailing_ones-set : (n r k : ℕ) → n < 2 ^ 64 → r ≡ trailing_ones w64 n → k < r → bit_at n k ≡ 1
+trailing_ones-set n r k fits is less =
     elim (cases_lt (n + 1) (2 ^ 64)) [
       | inl small ↦ (bit_at-trailing_ones w64 n small).2 k (omega (arith, less, is))
       | inr whole ↦
@@ -76,90 +76,90 @@ run_set n r k fits is less =
     ]
 
 -- the marks of what stands behind a line's front
-marks_behind : (passes : ℕ → Bool) (line : List ℕ) (m n : ℕ) → AreMarks passes line m
+are_marks-drop : (passes : ℕ → Bool) (line : List ℕ) (m n : ℕ) → AreMarks passes line m
     → AreMarks passes (drop n line) (m / 2 ^ n)
-marks_behind passes line m n marks k set =
+are_marks-drop passes line m n marks k set =
     let at = marks (n + k) (sym (ap (λ x. x % 2) (shr-shr m n k)) ∙ set) in
     (omega (arith, at.0, length-drop n line), ap passes (get_or-drop n line k 0) ∙ at.1)
 
 -- a run of marks is within the line
-pub run_within : (passes : ℕ → Bool) (line : List ℕ) (m n : ℕ) → AreMarks passes line m
+pub marks_run-within_line : (passes : ℕ → Bool) (line : List ℕ) (m n : ℕ) → AreMarks passes line m
     → ((k : ℕ) → k < n → bit_at m k ≡ 1) → n ≤ length line
-run_within passes line m zero marks run = omega arith
-run_within passes line m (suc n) marks run =
+marks_run-within_line passes line m zero marks run = omega arith
+marks_run-within_line passes line m (suc n) marks run =
     let last = marks n (run n (omega arith)) in omega (arith, last.0)
 
 -- and its bytes pass
-run_passes : (passes : ℕ → Bool) (line : List ℕ) (m n : ℕ) → AreMarks passes line m
+marks_run-passes : (passes : ℕ → Bool) (line : List ℕ) (m n : ℕ) → AreMarks passes line m
     → ((k : ℕ) → k < n → bit_at m k ≡ 1) → list_all passes (take n line) ≡ true
-run_passes passes line m n marks run =
-    let size = length-take-le n line (run_within passes line m n marks run) in
+marks_run-passes passes line m n marks run =
+    let size = length-take-le n line (marks_run-within_line passes line m n marks run) in
     list_all-from_AllPass passes (take n line)
     (All-from_get_or (λ b. passes b ≡ true) (take n line) 0 (λ k within.
     let below : k < n = omega (arith, within, size) in
     rw (get_or-take n line k 0 below) (marks k (run k below)).1))
 
 -- a line has the words that it has behind spaces
-behind_spaces : (n : ℕ) (line : List ℕ) → list_all (λ b. b == 32) (take n line) ≡ true
+words_of-drop_spaces : (n : ℕ) (line : List ℕ) → list_all (λ b. b == 32) (take n line) ≡ true
     → words_of (drop n line) ≡ words_of line
-behind_spaces zero line e = refl
-behind_spaces (suc n) [] e = refl
-behind_spaces (suc n) (b ∷ line) e =
+words_of-drop_spaces zero line e = refl
+words_of-drop_spaces (suc n) [] e = refl
+words_of-drop_spaces (suc n) (b ∷ line) e =
     let p = and_parts (b == 32) _ e in
-    behind_spaces n line p.1 ∙ ap (λ x. words_of (x ∷ line)) (sym (eqb-true b 32 p.0))
+    words_of-drop_spaces n line p.1 ∙ ap (λ x. words_of (x ∷ line)) (sym (eqb-true b 32 p.0))
 
-pub spaces_behind : (line : List ℕ) (m n : ℕ) → AreMarks (λ b. b == 32) line m
+pub words_of-drop_marked_spaces : (line : List ℕ) (m n : ℕ) → AreMarks (λ b. b == 32) line m
     → ((k : ℕ) → k < n → bit_at m k ≡ 1) → words_of (drop n line) ≡ words_of line
-spaces_behind line m n marks run =
-    behind_spaces n line (run_passes (λ b. b == 32) line m n marks run)
+words_of-drop_marked_spaces line m n marks run =
+    words_of-drop_spaces n line (marks_run-passes (λ b. b == 32) line m n marks run)
 
 -- digits and a space behind them are a line's first word
-pub counter_marked : (line : List ℕ) (digits spaces n : ℕ) → AreMarks is_ascii_digit line digits
+pub words_of-marked_counter : (line : List ℕ) (digits spaces n : ℕ) → AreMarks is_ascii_digit line digits
     → AreMarks (λ b. b == 32) line spaces → ((k : ℕ) → k < n → bit_at digits k ≡ 1)
     → bit_at spaces n ≡ 1 → 0 < n → n ≤ 20 → (word : List ℕ)
     × (words_of line ≡ word ∷ words_of (drop n line)) × (is_counter word ≡ true)
-counter_marked line digits spaces n of_digits of_spaces run space some few =
+words_of-marked_counter line digits spaces n of_digits of_spaces run space some few =
     let word = take n line in
-    let all = run_passes is_ascii_digit line digits n of_digits run in
-    let size = length-take-le n line (run_within is_ascii_digit line digits n of_digits run) in
+    let all = marks_run-passes is_ascii_digit line digits n of_digits run in
+    let size = length-take-le n line (marks_run-within_line is_ascii_digit line digits n of_digits run) in
     let at = of_spaces n space in
-    let decimal : is_decimal word ≡ true =
+    let decimal : is_decimal_word word ≡ true =
     and_from (nat_le 1 (length word)) _ (le-leb 1 (length word) (omega (arith, size, some))) all in
-    counter_behind line n decimal few at.0 (eqb-true (get_or line n 0) 32 at.1)
+    counter_is_first_word line n decimal few at.0 (eqb-true (get_or line n 0) 32 at.1)
 
 -- ---- counters and the spaces before them
 
 -- `trailing_zeros` is the place of the lowest bit that is set
-pub lowest_set : (n k : ℕ) → n < 2 ^ 64 → k < trailing_zeros w64 n → bit_at n k ≡ 0
-lowest_set zero k fits less = bit_at-zero k
-lowest_set (suc n) k fits less = (bit_at-trailing_zeros w64 (suc n) (omega arith) fits).2 k less
+pub trailing_zeros-unset : (n k : ℕ) → n < 2 ^ 64 → k < trailing_zeros w64 n → bit_at n k ≡ 0
+trailing_zeros-unset zero k fits less = bit_at-zero k
+trailing_zeros-unset (suc n) k fits less = (bit_at-trailing_zeros w64 (suc n) (omega arith) fits).2 k less
 
-none_set : trailing_zeros w64 0 ≡ 64
+trailing_zeros-zero : trailing_zeros w64 0 ≡ 64
 unfolding count_trailing_zeros
-none_set = refl
+trailing_zeros-zero = refl
 
-pub set_there : (n : ℕ) → n < 2 ^ 64 → trailing_zeros w64 n < 64
+pub trailing_zeros-set : (n : ℕ) → n < 2 ^ 64 → trailing_zeros w64 n < 64
     → bit_at n (trailing_zeros w64 n) ≡ 1
-set_there zero fits few = absurd (omega (arith, few, none_set))
-set_there (suc n) fits few = (bit_at-trailing_zeros w64 (suc n) (omega arith) fits).1
+trailing_zeros-set zero fits few = absurd (omega (arith, few, trailing_zeros-zero))
+trailing_zeros-set (suc n) fits few = (bit_at-trailing_zeros w64 (suc n) (omega arith) fits).1
 
-pub are_last_digits : (digits spaces : ℕ)
+pub last_digits-are_marks : (digits spaces : ℕ)
     → AreLastDigits digits spaces (bit_and digits (spaces / 2))
-are_last_digits digits spaces k =
+last_digits-are_marks digits spaces k =
     let next : 1 + k ≡ k + 1 = omega arith in
     bit_at_and digits (spaces / 2) k
     ∙ ap (min (bit_at digits k)) (ap (λ x. x % 2) (shr-shr spaces 1 k) ∙ ap (bit_at spaces) next)
 
 -- each byte at the front is a digit or a space
-abbrev pub AreKnown : ℕ → ℕ → ℕ → Type 0
-AreKnown digits spaces n = (k : ℕ) → k < n → (bit_at digits k ≡ 1) ⊎ (bit_at spaces k ≡ 1)
+abbrev pub AreDigitsOrSpaces : ℕ → ℕ → ℕ → Type 0
+AreDigitsOrSpaces digits spaces n = (k : ℕ) → k < n → (bit_at digits k ≡ 1) ⊎ (bit_at spaces k ≡ 1)
 
 -- no digit before a place has a space behind it
-abbrev HasNoEnd : ℕ → ℕ → ℕ → Type 0
-HasNoEnd digits spaces n = (k : ℕ) → k < n → bit_at digits k ≡ 1 → bit_at spaces (k + 1) ≡ 1 → ⊥
+abbrev HasNoLastDigitBefore : ℕ → ℕ → ℕ → Type 0
+HasNoLastDigitBefore digits spaces n = (k : ℕ) → k < n → bit_at digits k ≡ 1 → bit_at spaces (k + 1) ≡ 1 → ⊥
 
 -- from a place on there are spaces, and then digits to the last one
-record Split (digits spaces from last : ℕ) : Type 0 where
+record SpacesThenDigits (digits spaces from last : ℕ) : Type 0 where
   first : ℕ
   after : from ≤ first
   within : first ≤ last
@@ -167,9 +167,9 @@ record Split (digits spaces from last : ℕ) : Type 0 where
   are_digits : (k : ℕ) → first ≤ k → k ≤ last → bit_at digits k ≡ 1
 
 -- a digit before them is one more digit
-digit_before : (digits spaces from last : ℕ) → from < last → HasNoEnd digits spaces last
-    → bit_at digits from ≡ 1 → Split digits spaces (from + 1) last → Split digits spaces from last
-digit_before digits spaces from last below no_end digit split =
+spaces_then_digits-digit : (digits spaces from last : ℕ) → from < last → HasNoLastDigitBefore digits spaces last
+    → bit_at digits from ≡ 1 → SpacesThenDigits digits spaces (from + 1) last → SpacesThenDigits digits spaces from last
+spaces_then_digits-digit digits spaces from last below no_end digit split =
     elim (cases_lt (from + 1) split.first) [
       | inl space ↦ absurd (no_end from below digit (split.are_spaces (from + 1) (omega arith) space))
       | inr none ↦ record {
@@ -186,9 +186,9 @@ digit_before digits spaces from last below no_end digit split =
     ]
 
 -- and a space one more space
-space_before : (digits spaces from last : ℕ) → bit_at spaces from ≡ 1
-    → Split digits spaces (from + 1) last → Split digits spaces from last
-space_before digits spaces from last space split =
+spaces_then_digits-space : (digits spaces from last : ℕ) → bit_at spaces from ≡ 1
+    → SpacesThenDigits digits spaces (from + 1) last → SpacesThenDigits digits spaces from last
+spaces_then_digits-space digits spaces from last space split =
     record {
       first = split.first;
       after = omega (arith, split.after);
@@ -201,9 +201,9 @@ space_before digits spaces from last space split =
       are_digits = split.are_digits;
     }
 
-split_from : (d digits spaces from last : ℕ) → from + d ≡ last → HasNoEnd digits spaces last
-    → AreKnown digits spaces last → bit_at digits last ≡ 1 → Split digits spaces from last
-split_from zero digits spaces from last sum no_end known digit =
+spaces_then_digits-from : (d digits spaces from last : ℕ) → from + d ≡ last → HasNoLastDigitBefore digits spaces last
+    → AreDigitsOrSpaces digits spaces last → bit_at digits last ≡ 1 → SpacesThenDigits digits spaces from last
+spaces_then_digits-from zero digits spaces from last sum no_end known digit =
     record {
       first = last;
       after = omega (arith, sum);
@@ -212,91 +212,91 @@ split_from zero digits spaces from last sum no_end known digit =
       are_digits = λ k at most. (let is : last ≡ k = omega (arith, at, most) in
           subst (λ i. bit_at digits i ≡ 1) is digit);
     }
-split_from (suc d) digits spaces from last sum no_end known digit =
-    let others = split_from d digits spaces (from + 1) last (omega (arith, sum)) no_end known digit in
+spaces_then_digits-from (suc d) digits spaces from last sum no_end known digit =
+    let others = spaces_then_digits-from d digits spaces (from + 1) last (omega (arith, sum)) no_end known digit in
     let below : from < last = omega (arith, sum) in
     elim (known from below) [
-      | inl is_digit ↦ digit_before digits spaces from last below no_end is_digit others
-      | inr is_space ↦ space_before digits spaces from last is_space others
+      | inl is_digit ↦ spaces_then_digits-digit digits spaces from last below no_end is_digit others
+      | inr is_space ↦ spaces_then_digits-space digits spaces from last is_space others
     ]
 
 -- the least of two bits is 1 where both are
-both_set : (a b : ℕ) → a < 2 → b < 2 → min a b ≡ 1 → (a ≡ 1) × (b ≡ 1)
-both_set a b few_a few_b is = (omega (arith, few_a, few_b, is), omega (arith, few_a, few_b, is))
+min-one : (a b : ℕ) → a < 2 → b < 2 → min a b ≡ 1 → (a ≡ 1) × (b ≡ 1)
+min-one a b few_a few_b is = (omega (arith, few_a, few_b, is), omega (arith, few_a, few_b, is))
 
 -- spaces, digits to the last one and a space behind it begin with a counter
-counter_from : (line : List ℕ) (digits spaces n more end : ℕ) → AreMarks is_ascii_digit line digits
+words_of-counter_after_spaces : (line : List ℕ) (digits spaces n more end : ℕ) → AreMarks is_ascii_digit line digits
     → AreMarks (λ b. b == 32) line spaces → n + more ≡ end → 0 < more → more ≤ 20
     → ((k : ℕ) → k < n → bit_at spaces k ≡ 1) → ((k : ℕ) → k < more → bit_at digits (n + k) ≡ 1)
     → bit_at spaces end ≡ 1 → (word : List ℕ)
     × (words_of line ≡ word ∷ words_of (drop end line)) × (is_counter word ≡ true)
-counter_from line digits spaces n more end of_digits of_spaces sum some few are_spaces are_digits
+words_of-counter_after_spaces line digits spaces n more end of_digits of_spaces sum some few are_spaces are_digits
     space =
-    let found = counter_marked (drop n line) (digits / 2 ^ n) (spaces / 2 ^ n) more
-    (marks_behind is_ascii_digit line digits n of_digits)
-    (marks_behind (λ b. b == 32) line spaces n of_spaces)
+    let found = words_of-marked_counter (drop n line) (digits / 2 ^ n) (spaces / 2 ^ n) more
+    (are_marks-drop is_ascii_digit line digits n of_digits)
+    (are_marks-drop (λ b. b == 32) line spaces n of_spaces)
     (λ k less. ap (λ x. x % 2) (shr-shr digits n k) ∙ are_digits k less)
     (ap (λ x. x % 2) (shr-shr spaces n more) ∙ ap (bit_at spaces) sum ∙ space) some few in
     let behind = drop-drop more n line ∙ ap (λ i. drop i line) sum in (
       found.0,
-      sym (spaces_behind line spaces n of_spaces are_spaces) ∙ found.1
+      sym (words_of-drop_marked_spaces line spaces n of_spaces are_spaces) ∙ found.1
           ∙ ap (λ (r : List ℕ). found.0 ∷ words_of r) behind,
       found.2,
     )
 
-counter_split : (line : List ℕ) (digits spaces last : ℕ) → AreMarks is_ascii_digit line digits
-    → AreMarks (λ b. b == 32) line spaces → last < 20 → Split digits spaces 0 last
+words_of-spaces_then_digits : (line : List ℕ) (digits spaces last : ℕ) → AreMarks is_ascii_digit line digits
+    → AreMarks (λ b. b == 32) line spaces → last < 20 → SpacesThenDigits digits spaces 0 last
     → bit_at spaces (last + 1) ≡ 1 → (word : List ℕ)
     × (words_of line ≡ word ∷ words_of (drop (last + 1) line)) × (is_counter word ≡ true)
-counter_split line digits spaces last of_digits of_spaces few split space =
-    counter_from line digits spaces split.first (last + 1 - split.first) (last + 1) of_digits of_spaces
+words_of-spaces_then_digits line digits spaces last of_digits of_spaces few split space =
+    words_of-counter_after_spaces line digits spaces split.first (last + 1 - split.first) (last + 1) of_digits of_spaces
     (omega (arith, split.within)) (omega (arith, split.within)) (omega (arith, few))
     (λ k less. split.are_spaces k (omega arith) less)
     (λ k less. split.are_digits (split.first + k) (omega arith) (omega (arith, less, split.within)))
     space
 
-no_end_before : (digits spaces ends last : ℕ) → AreLastDigits digits spaces ends
-    → ((k : ℕ) → k < last → bit_at ends k ≡ 0) → HasNoEnd digits spaces last
-no_end_before digits spaces ends last are_ends lowest k less digit space =
+no_last_digit-from_lowest : (digits spaces ends last : ℕ) → AreLastDigits digits spaces ends
+    → ((k : ℕ) → k < last → bit_at ends k ≡ 0) → HasNoLastDigitBefore digits spaces last
+no_last_digit-from_lowest digits spaces ends last are_ends lowest k less digit space =
     let both : min 1 1 ≡ 0 = ap₂ min (sym digit) (sym space) ∙ sym (are_ends k) ∙ lowest k less in
     omega (arith, both)
 
 -- the first word is the counter that ends with the first digit that has a space behind it
-one_counter : (line : List ℕ) (digits spaces ends last : ℕ) → AreMarks is_ascii_digit line digits
+words_of-first_counter : (line : List ℕ) (digits spaces ends last : ℕ) → AreMarks is_ascii_digit line digits
     → AreMarks (λ b. b == 32) line spaces → AreLastDigits digits spaces ends
-    → AreKnown digits spaces (last + 1) → ((k : ℕ) → k < last → bit_at ends k ≡ 0)
+    → AreDigitsOrSpaces digits spaces (last + 1) → ((k : ℕ) → k < last → bit_at ends k ≡ 0)
     → bit_at ends last ≡ 1 → last < 20 → (word : List ℕ)
     × (words_of line ≡ word ∷ words_of (drop (last + 1) line)) × (is_counter word ≡ true)
-one_counter line digits spaces ends last of_digits of_spaces are_ends known lowest set few =
-    let both = both_set _ _ (bit_at-lt digits last) (bit_at-lt spaces (last + 1))
+words_of-first_counter line digits spaces ends last of_digits of_spaces are_ends known lowest set few =
+    let both = min-one _ _ (bit_at-lt digits last) (bit_at-lt spaces (last + 1))
     (sym (are_ends last) ∙ set) in
-    counter_split line digits spaces last of_digits of_spaces few
-    (split_from last digits spaces 0 last (omega arith)
-    (no_end_before digits spaces ends last are_ends lowest)
+    words_of-spaces_then_digits line digits spaces last of_digits of_spaces few
+    (spaces_then_digits-from last digits spaces 0 last (omega arith)
+    (no_last_digit-from_lowest digits spaces ends last are_ends lowest)
     (λ k less. known k (omega (arith, less))) both.0) both.1
 
 -- ---- what stands behind it, likewise
 
-ends_behind : (digits spaces ends n : ℕ) → AreLastDigits digits spaces ends
+last_digits-shift : (digits spaces ends n : ℕ) → AreLastDigits digits spaces ends
     → AreLastDigits (digits / 2 ^ n) (spaces / 2 ^ n) (ends / 2 ^ n)
-ends_behind digits spaces ends n are_ends k =
+last_digits-shift digits spaces ends n are_ends k =
     let next : n + k + 1 ≡ n + (k + 1) = omega arith in
     ap (λ x. x % 2) (shr-shr ends n k) ∙ are_ends (n + k)
     ∙ ap₂ min (sym (ap (λ x. x % 2) (shr-shr digits n k)))
     (ap (bit_at spaces) next ∙ sym (ap (λ x. x % 2) (shr-shr spaces n (k + 1))))
 
-known_behind : (digits spaces n m : ℕ) → AreKnown digits spaces (n + m)
-    → AreKnown (digits / 2 ^ n) (spaces / 2 ^ n) m
-known_behind digits spaces n m known k less =
+digits_or_spaces-shift : (digits spaces n m : ℕ) → AreDigitsOrSpaces digits spaces (n + m)
+    → AreDigitsOrSpaces (digits / 2 ^ n) (spaces / 2 ^ n) m
+digits_or_spaces-shift digits spaces n m known k less =
     elim (known (n + k) (omega (arith, less))) [
       | inl digit ↦ inl (ap (λ x. x % 2) (shr-shr digits n k) ∙ digit)
       | inr space ↦ inr (ap (λ x. x % 2) (shr-shr spaces n k) ∙ space)
     ]
 
 -- each byte in a run of marks is a digit or a space
-pub run_known : (digits spaces n : ℕ) → ((k : ℕ) → k < n → bit_at (bit_or digits spaces) k ≡ 1)
-    → AreKnown digits spaces n
-run_known digits spaces n run k less =
+pub digits_or_spaces-run : (digits spaces n : ℕ) → ((k : ℕ) → k < n → bit_at (bit_or digits spaces) k ≡ 1)
+    → AreDigitsOrSpaces digits spaces n
+digits_or_spaces-run digits spaces n run k less =
     let is = sym (bit_at_or digits spaces k) ∙ run k less in
     elim (cases_lt 0 (bit_at digits k)) [
       | inl digit ↦ inl (omega (arith, digit, bit_at-lt digits k))
@@ -304,55 +304,55 @@ run_known digits spaces n run k less =
     ]
 
 -- they stand within the line
-pub known_within : (line : List ℕ) (digits spaces n : ℕ) → AreMarks is_ascii_digit line digits
-    → AreMarks (λ b. b == 32) line spaces → AreKnown digits spaces n → n ≤ length line
-known_within line digits spaces zero of_digits of_spaces known = omega arith
-known_within line digits spaces (suc n) of_digits of_spaces known =
+pub digits_or_spaces-within : (line : List ℕ) (digits spaces n : ℕ) → AreMarks is_ascii_digit line digits
+    → AreMarks (λ b. b == 32) line spaces → AreDigitsOrSpaces digits spaces n → n ≤ length line
+digits_or_spaces-within line digits spaces zero of_digits of_spaces known = omega arith
+digits_or_spaces-within line digits spaces (suc n) of_digits of_spaces known =
     elim (known n (omega arith)) [
       | inl digit ↦ (let at = of_digits n digit in omega (arith, at.0))
       | inr space ↦ (let at = of_spaces n space in omega (arith, at.0))
     ]
 
 -- three counters are a line's first words
-pub three_counters : (line : List ℕ) (digits spaces ends a b c : ℕ)
+pub has_counters-from_marks : (line : List ℕ) (digits spaces ends a b c : ℕ)
     → AreMarks is_ascii_digit line digits → AreMarks (λ b. b == 32) line spaces
-    → AreLastDigits digits spaces ends → AreKnown digits spaces (a + 1 + (b + 1) + (c + 1))
+    → AreLastDigits digits spaces ends → AreDigitsOrSpaces digits spaces (a + 1 + (b + 1) + (c + 1))
     → ((k : ℕ) → k < a → bit_at ends k ≡ 0) → bit_at ends a ≡ 1 → a < 20
     → ((k : ℕ) → k < b → bit_at (ends / 2 ^ (a + 1)) k ≡ 0) → bit_at (ends / 2 ^ (a + 1)) b ≡ 1 → b < 20
     → ((k : ℕ) → k < c → bit_at (ends / 2 ^ (a + 1) / 2 ^ (b + 1)) k ≡ 0)
     → bit_at (ends / 2 ^ (a + 1) / 2 ^ (b + 1)) c ≡ 1 → c < 20
     → HasCounters line (drop (a + 1 + (b + 1) + (c + 1)) line)
-three_counters line digits spaces ends a b c of_digits of_spaces are_ends known low_a set_a few_a low_b
+has_counters-from_marks line digits spaces ends a b c of_digits of_spaces are_ends known low_a set_a few_a low_b
     set_b few_b low_c set_c few_c =
-    let first = one_counter line digits spaces ends a of_digits of_spaces are_ends
+    let first = words_of-first_counter line digits spaces ends a of_digits of_spaces are_ends
     (λ k less. known k (omega (arith, less))) low_a set_a few_a in
     let line1 = drop (a + 1) line in
     let digits1 = digits / 2 ^ (a + 1) in
     let spaces1 = spaces / 2 ^ (a + 1) in
     let ends1 = ends / 2 ^ (a + 1) in
-    let of_digits1 = marks_behind is_ascii_digit line digits (a + 1) of_digits in
-    let of_spaces1 = marks_behind (λ b. b == 32) line spaces (a + 1) of_spaces in
-    let are_ends1 = ends_behind digits spaces ends (a + 1) are_ends in
-    let known1 = known_behind digits spaces (a + 1) (b + 1 + (c + 1))
+    let of_digits1 = are_marks-drop is_ascii_digit line digits (a + 1) of_digits in
+    let of_spaces1 = are_marks-drop (λ b. b == 32) line spaces (a + 1) of_spaces in
+    let are_ends1 = last_digits-shift digits spaces ends (a + 1) are_ends in
+    let known1 = digits_or_spaces-shift digits spaces (a + 1) (b + 1 + (c + 1))
     (λ k less. known k (omega (arith, less))) in
-    let second = one_counter line1 digits1 spaces1 ends1 b of_digits1 of_spaces1 are_ends1
+    let second = words_of-first_counter line1 digits1 spaces1 ends1 b of_digits1 of_spaces1 are_ends1
     (λ k less. known1 k (omega (arith, less))) low_b set_b few_b in
-    let known2 = known_behind digits1 spaces1 (b + 1) (c + 1) known1 in
-    let third = one_counter (drop (b + 1) line1) (digits1 / 2 ^ (b + 1)) (spaces1 / 2 ^ (b + 1))
-    (ends1 / 2 ^ (b + 1)) c (marks_behind is_ascii_digit line1 digits1 (b + 1) of_digits1)
-    (marks_behind (λ b. b == 32) line1 spaces1 (b + 1) of_spaces1)
-    (ends_behind digits1 spaces1 ends1 (b + 1) are_ends1) known2 low_c set_c few_c in
+    let known2 = digits_or_spaces-shift digits1 spaces1 (b + 1) (c + 1) known1 in
+    let third = words_of-first_counter (drop (b + 1) line1) (digits1 / 2 ^ (b + 1)) (spaces1 / 2 ^ (b + 1))
+    (ends1 / 2 ^ (b + 1)) c (are_marks-drop is_ascii_digit line1 digits1 (b + 1) of_digits1)
+    (are_marks-drop (λ b. b == 32) line1 spaces1 (b + 1) of_spaces1)
+    (last_digits-shift digits1 spaces1 ends1 (b + 1) are_ends1) known2 low_c set_c few_c in
     let end : drop (c + 1) (drop (b + 1) line1) ≡ drop (a + 1 + (b + 1) + (c + 1)) line =
     drop-drop (c + 1) (b + 1) line1 ∙ drop-drop (b + 1 + (c + 1)) (a + 1) line
     ∙ ap (λ n. drop n line) (omega arith) in
     record {
       packets = first.0;
       bytes = second.0;
-      wrong = third.0;
+      wrong_if = third.0;
       words = first.1 ∙ ap (λ (ws : List (List ℕ)). first.0 ∷ ws)
           (second.1 ∙ ap (λ (ws : List (List ℕ)). second.0 ∷ ws)
           (third.1 ∙ ap (λ (r : List ℕ). third.0 ∷ words_of r) end));
       packets_count = first.2;
       bytes_count = second.2;
-      wrong_count = third.2;
+      wrong_if_count = third.2;
     }

@@ -26,63 +26,63 @@ use Rattle.mc_tables.specs.declared.fault.TableFaultKind.TheVariants.{RepeatedOi
 use Rattle.mc_tables.specs.TableWords.{number_in}
 use Rattle.mc_text.specs.Steps.{◌>>=◌}
 use Rattle.mc_tables.specs.Steps.{demand}
-use Rattle.mc_tables.specs.TableLines.{EachTells, rows_after}
-use Rattle.mc_tables.specs.CacheTable.{WritesOif, WriteOifs, to_oif, by_vif}
+use Rattle.mc_tables.specs.TableLines.{EachDenotes, rows_after}
+use Rattle.mc_tables.specs.CacheTable.{WordDenotesOif, WordsDenoteOifs, to_oif, oifs_by_vif}
 use Rattle.mc_tables.specs.CacheReading.{oif_in_parts, oif_in, oif_repeats, oif_after, oifs_in}
-use Rattle.mc_tables.specs.OutgoingSteps.{has_vif, with_oif, oifs_with, oifs_after}
-use Rattle.mc_text.proofs.StepLemmas.{bind_ok, ok_or_ok, ok_is}
-use Rattle.mc_tables.proofs.StepLemmas.{demand_then}
-use Rattle.mc_tables.proofs.WordLemmas.{number_found, number_only}
-use Rattle.mc_tables.proofs.KeyLemmas.{new_in_distinct}
-use Rattle.mc_tables.proofs.RowLemmas.{ReadsRows, rows_told, rows_read}
+use Rattle.mc_tables.specs.OutgoingSteps.{has_vif, insert_oif, oifs_with_word, oifs_after_words}
+use Rattle.mc_text.proofs.StepLemmas.{bind_ok, ok_or_ok, ok_injective}
+use Rattle.mc_tables.proofs.StepLemmas.{demand-bind_ok}
+use Rattle.mc_tables.proofs.WordLemmas.{number_in-denotes, number_in-from_denotes}
+use Rattle.mc_tables.proofs.KeyLemmas.{list_any-distinct_middle}
+use Rattle.mc_tables.proofs.RowLemmas.{ReadsRows, rows_after-denotes, rows_after-from_denotes}
 
 -- ---- one word
 
 -- no decimal digit is a colon
-pub digits_no_colon : (word : List ℕ) → AllDigits 10 word
+pub all_digits-no_colon : (word : List ℕ) → AllDigits 10 word
     → AllByRecursion (λ b. (b == 58) ≡ false) word
-digits_no_colon [] h = tt
-digits_no_colon (c ∷ cs) h = (
+all_digits-no_colon [] h = tt
+all_digits-no_colon (c ∷ cs) h = (
   elim (cases_eq c 58) [
     | inl is ↦ let digit : digit_value 58 < 10 = subst (λ b. digit_value b < 10) is h.0 in
         absurd (omega (arith, digit))
     | inr other ↦ ne_eqb c 58 other
   ],
-  digits_no_colon cs h.1,
+  all_digits-no_colon cs h.1,
 )
 
 -- what the parts of a word give is what the word writes
-parts_found : (word : List ℕ) (parts : List (List ℕ)) (oif : ℕ × ℕ)
-    → slice_split (λ b. b == 58) word ≡ parts → oif_in_parts parts ≡ Ok oif → WritesOif word oif
+oif_in_parts-denotes : (word : List ℕ) (parts : List (List ℕ)) (oif : ℕ × ℕ)
+    → slice_split (λ b. b == 58) word ≡ parts → oif_in_parts parts ≡ Ok oif → WordDenotesOif word oif
 unfolding oif_in_parts
-parts_found word (vif ∷ threshold ∷ []) oif split e =
+oif_in_parts-denotes word (vif ∷ threshold ∷ []) oif split e =
     let v = bind_ok (ok_or (number_in 0 31 vif) BadOif) _ oif e in
     let t = bind_ok (ok_or (number_in 1 254 threshold) BadThreshold) _ oif v.2 in
     let made : ℕ × ℕ = (v.0, t.0) in
-    let same : made ≡ oif = ok_is made oif t.2 in
-    let writes : WritesOif word made = record {
+    let same : made ≡ oif = ok_injective made oif t.2 in
+    let writes : WordDenotesOif word made = record {
       vif = vif;
       threshold = threshold;
       colon = sym (join_with_byte-slice_split 58 word) ∙ ap (join_with_byte 58) split;
-      vif_number = number_found 0 31 vif v.0 (ok_or_ok (number_in 0 31 vif) BadOif v.0 v.1);
-      threshold_number = number_found 1 254 threshold t.0
+      vif_number = number_in-denotes 0 31 vif v.0 (ok_or_ok (number_in 0 31 vif) BadOif v.0 v.1);
+      threshold_number = number_in-denotes 1 254 threshold t.0
           (ok_or_ok (number_in 1 254 threshold) BadThreshold t.0 t.1);
     } in
-    subst (WritesOif word) same writes
-parts_found word parts oif split e = absurd cc
+    subst (WordDenotesOif word) same writes
+oif_in_parts-denotes word parts oif split e = absurd cc
 
 -- the outgoing vif that is read is what the word writes
-oif_found : (word : List ℕ) (oif : ℕ × ℕ) → oif_in word ≡ Ok oif → WritesOif word oif
-oif_found word oif e = parts_found word (slice_split (λ b. b == 58) word) oif refl e
+oif_in-denotes : (word : List ℕ) (oif : ℕ × ℕ) → oif_in word ≡ Ok oif → WordDenotesOif word oif
+oif_in-denotes word oif e = oif_in_parts-denotes word (slice_split (λ b. b == 58) word) oif refl e
 
 -- the outgoing vif that the word writes is read
-pub oif_only : (word : List ℕ) (oif : ℕ × ℕ) → WritesOif word oif → oif_in word ≡ Ok oif
+pub oif_in-from_denotes : (word : List ℕ) (oif : ℕ × ℕ) → WordDenotesOif word oif → oif_in word ≡ Ok oif
 unfolding oif_in_parts
-oif_only word oif h =
+oif_in-from_denotes word oif h =
     let one = All-from_recursion (λ b. (b == 58) ≡ false) h.vif
-    (digits_no_colon h.vif h.vif_number.0.0.1) in
+    (all_digits-no_colon h.vif h.vif_number.0.0.1) in
     let none = All-from_recursion (λ b. (b == 58) ≡ false) h.threshold
-    (digits_no_colon h.threshold h.threshold_number.0.0.1) in
+    (all_digits-no_colon h.threshold h.threshold_number.0.0.1) in
     let split : slice_split (λ b. b == 58) word ≡ h.vif ∷ h.threshold ∷ [] =
     ap (slice_split (λ b. b == 58)) h.colon
     ∙ slice_split_at (λ b. b == 58) h.vif 58 h.threshold one refl
@@ -90,122 +90,122 @@ oif_only word oif h =
     (slice_split_none (λ b. b == 58) h.threshold none) in
     ap oif_in_parts split
     ∙ rw (
-      number_only 0 31 h.vif oif.0 h.vif_number,
-      number_only 1 254 h.threshold oif.1 h.threshold_number,
+      number_in-from_denotes 0 31 h.vif oif.0 h.vif_number,
+      number_in-from_denotes 1 254 h.threshold oif.1 h.threshold_number,
     ) refl
 
 -- ---- the list by vif, and the map
 
 -- the vifs of pairs with thresholds
-abbrev vifs : List (ℕ × ℕ) → List ℕ
-vifs told = map (λ oif. oif.0) told
+abbrev vifs_of_pairs : List (ℕ × ℕ) → List ℕ
+vifs_of_pairs denoted = map (λ oif. oif.0) denoted
 
 -- a map finds a vif where it is among those told
-find_is : (told : List (ℕ × ℕ)) (vif : ℕ)
-    → is_some (fin.find nat_cmp vif told) ≡ list_any (nat_eq vif) (vifs told)
-find_is [] vif = refl
-find_is (oif ∷ told) vif =
+is_some_find-vifs : (denoted : List (ℕ × ℕ)) (vif : ℕ)
+    → is_some (fin.find nat_cmp vif denoted) ≡ list_any (nat_eq vif) (vifs_of_pairs denoted)
+is_some_find-vifs [] vif = refl
+is_some_find-vifs (oif ∷ denoted) vif =
     let tied = unsigned_tied vif oif.0 in
     elim (cases_Bool (nat_eq vif oif.0)) [
       | inl is ↦ rw (tied, is) refl
-      | inr is ↦ rw (tied, is) (find_is told vif)
+      | inr is ↦ rw (tied, is) (is_some_find-vifs denoted vif)
     ]
 
 -- a list of outgoing vifs has a vif where it is among the vifs
-has_key : (es : List (ℕ × ℕ)) (vif : ℕ)
-    → has_vif (map to_oif es) vif ≡ list_any (eq_by_cmp nat_cmp vif) (vifs es)
-has_key [] vif = refl
-has_key (e ∷ es) vif = rw (unsigned_tied vif e.0, nat_eq_equiv.symm vif e.0, has_key es vif) refl
+has_vif-to_oif : (es : List (ℕ × ℕ)) (vif : ℕ)
+    → has_vif (map to_oif es) vif ≡ list_any (eq_by_cmp nat_cmp vif) (vifs_of_pairs es)
+has_vif-to_oif [] vif = refl
+has_vif-to_oif (e ∷ es) vif = rw (unsigned_tied vif e.0, nat_eq_equiv.symm vif e.0, has_vif-to_oif es vif) refl
 
 -- the list by vif has a vif where it is among those told
-has_told : (told : List (ℕ × ℕ)) (vif : ℕ)
-    → has_vif (by_vif (fin.from_entries told)) vif ≡ list_any (nat_eq vif) (vifs told)
-has_told told vif =
-    has_key (fin.entries (fin.from_entries told)) vif
-    ∙ sym (fin.contains_key-keys (fin.from_entries told) vif)
-    ∙ ap is_some (fin.get-from_entries nat_cmp_total told vif) ∙ find_is told vif
+has_vif-oifs_by_vif : (denoted : List (ℕ × ℕ)) (vif : ℕ)
+    → has_vif (oifs_by_vif (fin.from_entries denoted)) vif ≡ list_any (nat_eq vif) (vifs_of_pairs denoted)
+has_vif-oifs_by_vif denoted vif =
+    has_vif-to_oif (fin.entries (fin.from_entries denoted)) vif
+    ∙ sym (fin.contains_key-keys (fin.from_entries denoted) vif)
+    ∙ ap is_some (fin.get-from_entries nat_cmp_total denoted vif) ∙ is_some_find-vifs denoted vif
 
 -- what is not there is None
-no_find : (o : Option ℕ) → is_some o ≡ false → o ≡ None
-no_find None e = refl
-no_find (Some n) e = absurd cc
+is_some-false_find : (o : Option ℕ) → is_some o ≡ false → o ≡ None
+is_some-false_find None e = refl
+is_some-false_find (Some n) e = absurd cc
 
 -- a lesser vif is put before a greater one
-put_below : (vif threshold : ℕ) (e : ℕ × ℕ) (es : List (ℕ × ℕ)) → ltb vif e.0 ≡ true
+put-lesser_vif : (vif threshold : ℕ) (e : ℕ × ℕ) (es : List (ℕ × ℕ)) → ltb vif e.0 ≡ true
     → fin.put nat_cmp vif threshold (e ∷ es) ≡ (vif, threshold) ∷ e ∷ es
-put_below vif threshold e es below = rw below refl
+put-lesser_vif vif threshold e es below = rw below refl
 
 -- a greater vif is put among those after a lesser one
-put_above : (vif threshold : ℕ) (e : ℕ × ℕ) (es : List (ℕ × ℕ)) → ltb vif e.0 ≡ false
+put-greater_vif : (vif threshold : ℕ) (e : ℕ × ℕ) (es : List (ℕ × ℕ)) → ltb vif e.0 ≡ false
     → nat_eq vif e.0 ≡ false → fin.put nat_cmp vif threshold (e ∷ es) ≡ e
     ∷ fin.put nat_cmp vif threshold es
-put_above vif threshold e es below other = rw (below, other) refl
+put-greater_vif vif threshold e es below other = rw (below, other) refl
 
 -- and so into the list of outgoing vifs
-with_below : (oif : ℕ × ℕ) (first : Oif) (oifs : List Oif) → ltb oif.0 first.vif ≡ true
-    → with_oif (first ∷ oifs) oif ≡ to_oif oif ∷ first ∷ oifs
-with_below oif first oifs below = rw below refl
+insert_oif-lesser : (oif : ℕ × ℕ) (first : Oif) (oifs : List Oif) → ltb oif.0 first.vif ≡ true
+    → insert_oif (first ∷ oifs) oif ≡ to_oif oif ∷ first ∷ oifs
+insert_oif-lesser oif first oifs below = rw below refl
 
 -- and so into that list
-with_above : (oif : ℕ × ℕ) (first : Oif) (oifs : List Oif) → ltb oif.0 first.vif ≡ false
-    → with_oif (first ∷ oifs) oif ≡ first ∷ with_oif oifs oif
-with_above oif first oifs below =
+insert_oif-greater : (oif : ℕ × ℕ) (first : Oif) (oifs : List Oif) → ltb oif.0 first.vif ≡ false
+    → insert_oif (first ∷ oifs) oif ≡ first ∷ insert_oif oifs oif
+insert_oif-greater oif first oifs below =
     let next : 1 + position_or_len (λ other. ltb oif.0 other.vif) oifs
     ≡ suc (position_or_len (λ other. ltb oif.0 other.vif) oifs) = omega arith in
     rw (below, next) refl
 
 -- a vif greater than all is none of them
-above_new : (oifs : List Oif) (vif : ℕ) → list_all (λ other. ltb other.vif vif) oifs ≡ true
+has_vif-above_all : (oifs : List Oif) (vif : ℕ) → list_all (λ other. ltb other.vif vif) oifs ≡ true
     → has_vif oifs vif ≡ false
-above_new [] vif e = refl
-above_new (first ∷ oifs) vif e =
+has_vif-above_all [] vif e = refl
+has_vif-above_all (first ∷ oifs) vif e =
     let p = and_parts (ltb first.vif vif) _ e in
     let less : first.vif < vif = ltb-true first.vif vif p.0 in
     let other : nat_eq first.vif vif ≡ false =
     ne_eqb first.vif vif (λ is. absurd (omega (arith, is, less))) in
-    rw (other, above_new oifs vif p.1) refl
+    rw (other, has_vif-above_all oifs vif p.1) refl
 
 -- and its place is the last
-above_last : (oifs : List Oif) (oif : ℕ × ℕ) → list_all (λ other. ltb other.vif oif.0) oifs ≡ true
-    → with_oif oifs oif ≡ oifs ++ to_oif oif ∷ []
-above_last [] oif e = refl
-above_last (first ∷ oifs) oif e =
+insert_oif-last : (oifs : List Oif) (oif : ℕ × ℕ) → list_all (λ other. ltb other.vif oif.0) oifs ≡ true
+    → insert_oif oifs oif ≡ oifs ++ to_oif oif ∷ []
+insert_oif-last [] oif e = refl
+insert_oif-last (first ∷ oifs) oif e =
     let p = and_parts (ltb first.vif oif.0) _ e in
     let less : first.vif < oif.0 = ltb-true first.vif oif.0 p.0 in
-    with_above oif first oifs (le-ltb oif.0 first.vif (omega (arith, less)))
-    ∙ ap (λ (os : List Oif). first ∷ os) (above_last oifs oif p.1)
+    insert_oif-greater oif first oifs (le-ltb oif.0 first.vif (omega (arith, less)))
+    ∙ ap (λ (os : List Oif). first ∷ os) (insert_oif-last oifs oif p.1)
 
 -- so it is added at the end
-pub added_last : (oifs : List Oif) (word : List ℕ) (vif threshold : ℕ)
+pub oifs_with_word-last : (oifs : List Oif) (word : List ℕ) (vif threshold : ℕ)
     → oif_in word ≡ Ok (vif, threshold) → list_all (λ other. ltb other.vif vif) oifs ≡ true
-    → oifs_with oifs word ≡ Ok (oifs ++ to_oif (vif, threshold) ∷ [])
-added_last oifs word vif threshold read above =
-    rw (read, above_new oifs vif above) (ap Ok (above_last oifs (vif, threshold) above))
+    → oifs_with_word oifs word ≡ Ok (oifs ++ to_oif (vif, threshold) ∷ [])
+oifs_with_word-last oifs word vif threshold read above =
+    rw (read, has_vif-above_all oifs vif above) (ap Ok (insert_oif-last oifs (vif, threshold) above))
 
 -- a new vif has its place in the list where the map puts it
-with_is_put : (es : List (ℕ × ℕ)) (vif threshold : ℕ) → has_vif (map to_oif es) vif ≡ false
-    → with_oif (map to_oif es) (vif, threshold) ≡ map to_oif (fin.put nat_cmp vif threshold es)
-with_is_put [] vif threshold new = refl
-with_is_put (e ∷ es) vif threshold new =
+insert_oif-put : (es : List (ℕ × ℕ)) (vif threshold : ℕ) → has_vif (map to_oif es) vif ≡ false
+    → insert_oif (map to_oif es) (vif, threshold) ≡ map to_oif (fin.put nat_cmp vif threshold es)
+insert_oif-put [] vif threshold new = refl
+insert_oif-put (e ∷ es) vif threshold new =
     let parts = or_parts (nat_eq e.0 vif) _ new in
     let other : nat_eq vif e.0 ≡ false = nat_eq_equiv.symm vif e.0 ∙ parts.0 in
     elim (cases_Bool (ltb vif e.0)) [
-      | inl below ↦ with_below (vif, threshold) (to_oif e) (map to_oif es) below
-          ∙ sym (ap (map to_oif) (put_below vif threshold e es below))
-      | inr above ↦ with_above (vif, threshold) (to_oif e) (map to_oif es) above
-          ∙ ap (λ (os : List Oif). to_oif e ∷ os) (with_is_put es vif threshold parts.1)
-          ∙ sym (ap (map to_oif) (put_above vif threshold e es above other))
+      | inl below ↦ insert_oif-lesser (vif, threshold) (to_oif e) (map to_oif es) below
+          ∙ sym (ap (map to_oif) (put-lesser_vif vif threshold e es below))
+      | inr above ↦ insert_oif-greater (vif, threshold) (to_oif e) (map to_oif es) above
+          ∙ ap (λ (os : List Oif). to_oif e ∷ os) (insert_oif-put es vif threshold parts.1)
+          ∙ sym (ap (map to_oif) (put-greater_vif vif threshold e es above other))
     ]
 
 -- one more outgoing vif at the end of those told is one more at its place
-by_vif_push : (told : List (ℕ × ℕ)) (oif : ℕ × ℕ) → list_any (nat_eq oif.0) (vifs told) ≡ false
-    → with_oif (by_vif (fin.from_entries told)) oif ≡ by_vif (fin.from_entries (told ++ oif ∷ []))
-by_vif_push told oif new =
-    let m = fin.from_entries {R = nat_cmp} told in
-    let absent : fin.find nat_cmp oif.0 told ≡ None = no_find _ (find_is told oif.0 ∙ new) in
-    with_is_put (fin.entries m) oif.0 oif.1 (has_told told oif.0 ∙ new)
+oifs_by_vif-push : (denoted : List (ℕ × ℕ)) (oif : ℕ × ℕ) → list_any (nat_eq oif.0) (vifs_of_pairs denoted) ≡ false
+    → insert_oif (oifs_by_vif (fin.from_entries denoted)) oif ≡ oifs_by_vif (fin.from_entries (denoted ++ oif ∷ []))
+oifs_by_vif-push denoted oif new =
+    let m = fin.from_entries {R = nat_cmp} denoted in
+    let absent : fin.find nat_cmp oif.0 denoted ≡ None = is_some-false_find _ (is_some_find-vifs denoted oif.0 ∙ new) in
+    insert_oif-put (fin.entries m) oif.0 oif.1 (has_vif-oifs_by_vif denoted oif.0 ∙ new)
     ∙ sym (ap (map to_oif) (fin.entries-insert nat_cmp_total m oif.0 oif.1))
-    ∙ sym (ap by_vif (fin.from_entries_push nat_cmp_total fin.nat_cmp-IsAntisymmetric told oif.0
+    ∙ sym (ap oifs_by_vif (fin.from_entries_push nat_cmp_total fin.nat_cmp-IsAntisymmetric denoted oif.0
     oif.1 absent))
 
 -- ---- all words
@@ -215,111 +215,111 @@ abbrev MayFollow : List (ℕ × ℕ) → ℕ × ℕ → Type 0
 MayFollow earlier oif = oif_repeats earlier oif ≡ false
 
 -- the vifs differ
-abbrev MayStand : List (ℕ × ℕ) → Type 0
-MayStand told = IsDistinct nat_eq (vifs told)
+abbrev AreValid : List (ℕ × ℕ) → Type 0
+AreValid denoted = IsDistinct nat_eq (vifs_of_pairs denoted)
 
 -- an outgoing vif that is read is written, and no earlier word has its vif
-after_found : (earlier : List (ℕ × ℕ)) (word : List ℕ) (oif : ℕ × ℕ)
-    → oif_after earlier word ≡ Ok oif → WritesOif word oif × MayFollow earlier oif
-after_found earlier word oif e =
+oif_after-denotes : (earlier : List (ℕ × ℕ)) (word : List ℕ) (oif : ℕ × ℕ)
+    → oif_after earlier word ≡ Ok oif → WordDenotesOif word oif × MayFollow earlier oif
+oif_after-denotes earlier word oif e =
     let o = bind_ok (oif_in word) _ oif e in
-    let d = demand_then (not (oif_repeats earlier o.0)) RepeatedOif _ oif o.2 in
-    let both : WritesOif word o.0 × MayFollow earlier o.0 =
-    (oif_found word o.0 o.1, not-true _ d.0) in
-    subst (λ (x : ℕ × ℕ). WritesOif word x × MayFollow earlier x) (ok_is o.0 oif d.1) both
+    let d = demand-bind_ok (not (oif_repeats earlier o.0)) RepeatedOif _ oif o.2 in
+    let both : WordDenotesOif word o.0 × MayFollow earlier o.0 =
+    (oif_in-denotes word o.0 o.1, not-true _ d.0) in
+    subst (λ (x : ℕ × ℕ). WordDenotesOif word x × MayFollow earlier x) (ok_injective o.0 oif d.1) both
 
 -- one that is written and whose vif no earlier word has is read
-after_only : (earlier : List (ℕ × ℕ)) (word : List ℕ) (oif : ℕ × ℕ) → WritesOif word oif
+oif_after-from_denotes : (earlier : List (ℕ × ℕ)) (word : List ℕ) (oif : ℕ × ℕ) → WordDenotesOif word oif
     → MayFollow earlier oif → oif_after earlier word ≡ Ok oif
-after_only earlier word oif writes new = rw (oif_only word oif writes, new) refl
+oif_after-from_denotes earlier word oif writes new = rw (oif_in-from_denotes word oif writes, new) refl
 
 -- vifs that differ and a new one differ
-oifs_grow : (earlier : List (ℕ × ℕ)) (oif : ℕ × ℕ) → MayStand earlier → MayFollow earlier oif
-    → MayStand (earlier ++ oif ∷ [])
-oifs_grow earlier oif stands new = rw map-append (IsDistinct-push nat_eq_equiv _ oif.0 stands new)
+oifs-valid_push : (earlier : List (ℕ × ℕ)) (oif : ℕ × ℕ) → AreValid earlier → MayFollow earlier oif
+    → AreValid (earlier ++ oif ∷ [])
+oifs-valid_push earlier oif valid new = rw map-append (IsDistinct-push nat_eq_equiv _ oif.0 valid new)
 
 -- in vifs that differ each is new after those before it
-oifs_follow : (earlier : List (ℕ × ℕ)) (oif : ℕ × ℕ) (later : List (ℕ × ℕ))
-    → MayStand (earlier ++ oif ∷ later) → MayFollow earlier oif
-oifs_follow earlier oif later stands =
-    new_in_distinct nat_eq_equiv _ oif.0 _ (rw map-append at stands)
+oifs-may_follow : (earlier : List (ℕ × ℕ)) (oif : ℕ × ℕ) (later : List (ℕ × ℕ))
+    → AreValid (earlier ++ oif ∷ later) → MayFollow earlier oif
+oifs-may_follow earlier oif later valid =
+    list_any-distinct_middle nat_eq_equiv _ oif.0 _ (rw map-append at valid)
 
 -- so words are read as outgoing vifs
-reads_oifs : ReadsRows oif_after WritesOif MayFollow MayStand
-reads_oifs = record {
-  found = after_found;
-  only = after_only;
-  grows = oifs_grow;
-  follows = oifs_follow;
+oif_after-reads_rows : ReadsRows oif_after WordDenotesOif MayFollow AreValid
+oif_after-reads_rows = record {
+  found = oif_after-denotes;
+  only = oif_after-from_denotes;
+  grows = oifs-valid_push;
+  follows = oifs-may_follow;
 }
 
 -- the vifs of the empty list differ
-nothing_differs : MayStand []
+oifs-valid_none : AreValid []
 unfolding IsDistinct
-nothing_differs = tt
+oifs-valid_none = tt
 
 -- the outgoing vifs that are read are what the words write
-pub oifs_found : (words : List (List ℕ)) (oifs : List Oif) → oifs_in words ≡ Ok oifs
-    → WriteOifs words oifs
-oifs_found words oifs e =
+pub oifs_in-denotes : (words : List (List ℕ)) (oifs : List Oif) → oifs_in words ≡ Ok oifs
+    → WordsDenoteOifs words oifs
+oifs_in-denotes words oifs e =
     let b = bind_ok (rows_after oif_after [] words)
-    (λ told. Ok (by_vif (fin.from_entries told))) oifs e in
-    let t = rows_told oif_after WritesOif MayFollow MayStand reads_oifs words [] b.0 nothing_differs
+    (λ denoted. Ok (oifs_by_vif (fin.from_entries denoted))) oifs e in
+    let t = rows_after-denotes oif_after WordDenotesOif MayFollow AreValid oif_after-reads_rows words [] b.0 oifs-valid_none
     b.1 in
     record {
-      told = b.0;
-      each = subst (EachTells WritesOif words) t.1 t.2;
+      denoted = b.0;
+      each = subst (EachDenotes WordDenotesOif words) t.1 t.2;
       vifs_differ = t.3;
-      ascending = sym (ok_is (by_vif (fin.from_entries b.0)) oifs b.2);
+      ascending = sym (ok_injective (oifs_by_vif (fin.from_entries b.0)) oifs b.2);
     }
 
 -- the outgoing vifs that the words write are read
-pub oifs_only : (words : List (List ℕ)) (oifs : List Oif) → WriteOifs words oifs
+pub oifs_in-from_denotes : (words : List (List ℕ)) (oifs : List Oif) → WordsDenoteOifs words oifs
     → oifs_in words ≡ Ok oifs
-oifs_only words oifs h =
-    rw (rows_read oif_after WritesOif MayFollow MayStand reads_oifs words [] h.told h.each
+oifs_in-from_denotes words oifs h =
+    rw (rows_after-from_denotes oif_after WordDenotesOif MayFollow AreValid oif_after-reads_rows words [] h.denoted h.each
     h.vifs_differ) (ap Ok (sym h.ascending))
 
 -- ---- the steps
 
 -- no entries make no outgoing vifs
-nothing_at : (es : List (ℕ × ℕ)) → length es ≡ 0 → map to_oif es ≡ []
-nothing_at [] e = refl
-nothing_at (x ∷ es) e = absurd (omega arith)
+map_to_oif-none : (es : List (ℕ × ℕ)) → length es ≡ 0 → map to_oif es ≡ []
+map_to_oif-none [] e = refl
+map_to_oif-none (x ∷ es) e = absurd (omega arith)
 
 -- the empty map makes none
-none_yet : by_vif (fin.from_entries {R = nat_cmp} []) ≡ []
-none_yet = nothing_at (fin.entries (fin.empty {K = ℕ} {X = ℕ} {R = nat_cmp}))
+oifs_by_vif-none : oifs_by_vif (fin.from_entries {R = nat_cmp} []) ≡ []
+oifs_by_vif-none = map_to_oif-none (fin.entries (fin.empty {K = ℕ} {X = ℕ} {R = nat_cmp}))
     (sym (fin.len-entries (fin.empty {K = ℕ} {X = ℕ} {R = nat_cmp})) ∙ fin.len-empty nat_cmp ℕ)
 
 -- what was read, by vif
-abbrev Sorted : Result (List (ℕ × ℕ)) TableFaultKind → Result (List Oif) TableFaultKind
-Sorted read = read >>= λ told. Ok (by_vif (fin.from_entries told))
+abbrev SortedReading : Result (List (ℕ × ℕ)) TableFaultKind → Result (List Oif) TableFaultKind
+SortedReading read = read >>= λ denoted. Ok (oifs_by_vif (fin.from_entries denoted))
 
 -- to keep them in order is to put them in order at the end
-step_sorts : (told : List (ℕ × ℕ)) (words : List (List ℕ)) (read : Result (ℕ × ℕ) TableFaultKind)
+oifs_after_words-sorted_more : (denoted : List (ℕ × ℕ)) (words : List (List ℕ)) (read : Result (ℕ × ℕ) TableFaultKind)
     → ((more : List (ℕ × ℕ))
-    → oifs_after (by_vif (fin.from_entries more)) words ≡ Sorted (rows_after oif_after more words))
+    → oifs_after_words (oifs_by_vif (fin.from_entries more)) words ≡ SortedReading (rows_after oif_after more words))
     → ((read >>= λ oif. demand
-    (not (has_vif (by_vif (fin.from_entries told)) oif.0)) RepeatedOif >>= λ _. Ok
-    (with_oif (by_vif (fin.from_entries told)) oif)) >>= λ more. oifs_after more words)
-    ≡ Sorted ((read >>= λ oif. demand (not (oif_repeats told oif)) RepeatedOif >>= λ _. Ok oif) >>=
-    λ oif. rows_after oif_after (told ++ oif ∷ []) words)
-step_sorts told words (Err fault) later = refl
-step_sorts told words (Ok oif) later =
-    elim (cases_Bool (oif_repeats told oif)) [
-      | inl old ↦ rw (has_told told oif.0, old) refl
-      | inr new ↦ rw (has_told told oif.0, new)
-          (ap (λ oifs. oifs_after oifs words) (by_vif_push told oif new) ∙ later (told ++ oif ∷ []))
+    (not (has_vif (oifs_by_vif (fin.from_entries denoted)) oif.0)) RepeatedOif >>= λ _. Ok
+    (insert_oif (oifs_by_vif (fin.from_entries denoted)) oif)) >>= λ more. oifs_after_words more words)
+    ≡ SortedReading ((read >>= λ oif. demand (not (oif_repeats denoted oif)) RepeatedOif >>= λ _. Ok oif) >>=
+    λ oif. rows_after oif_after (denoted ++ oif ∷ []) words)
+oifs_after_words-sorted_more denoted words (Err fault) later = refl
+oifs_after_words-sorted_more denoted words (Ok oif) later =
+    elim (cases_Bool (oif_repeats denoted oif)) [
+      | inl old ↦ rw (has_vif-oifs_by_vif denoted oif.0, old) refl
+      | inr new ↦ rw (has_vif-oifs_by_vif denoted oif.0, new)
+          (ap (λ oifs. oifs_after_words oifs words) (oifs_by_vif-push denoted oif new) ∙ later (denoted ++ oif ∷ []))
     ]
 
 -- and so for all words after those told
-steps_sort : (words : List (List ℕ)) (told : List (ℕ × ℕ))
-    → oifs_after (by_vif (fin.from_entries told)) words ≡ Sorted (rows_after oif_after told words)
-steps_sort [] told = refl
-steps_sort (word ∷ words) told = step_sorts told words (oif_in word) (steps_sort words)
+oifs_after_words-sorted : (words : List (List ℕ)) (denoted : List (ℕ × ℕ))
+    → oifs_after_words (oifs_by_vif (fin.from_entries denoted)) words ≡ SortedReading (rows_after oif_after denoted words)
+oifs_after_words-sorted [] denoted = refl
+oifs_after_words-sorted (word ∷ words) denoted = oifs_after_words-sorted_more denoted words (oif_in word) (oifs_after_words-sorted words)
 
 -- keeping the outgoing vifs of all words in order is reading them
-pub steps_are_read : (words : List (List ℕ)) → oifs_after [] words ≡ oifs_in words
-steps_are_read words =
-    subst (λ oifs. oifs_after oifs words ≡ oifs_in words) none_yet (steps_sort words [])
+pub oifs_in_by_steps : (words : List (List ℕ)) → oifs_after_words [] words ≡ oifs_in words
+oifs_in_by_steps words =
+    subst (λ oifs. oifs_after_words oifs words ≡ oifs_in words) oifs_by_vif-none (oifs_after_words-sorted words [])

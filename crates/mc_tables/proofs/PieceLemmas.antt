@@ -18,51 +18,51 @@ use Rattle.mc_tables.specs.declared.fault.TableFaultKind.TheVariants.{TooLarge}
 use Rattle.mc_tables.specs.Steps.{fault_at}
 use Rattle.mc_text.specs.Steps.{◌>>=◌}
 use Rattle.mc_tables.specs.Steps.{at_line}
-use Rattle.mc_tables.specs.TableLines.{header_in}
-use Rattle.mc_tables.specs.LinesSoFar.{LinesSoFar, AreLinesSoFar, WithoutLineFeed, with_begun}
+use Rattle.mc_tables.specs.TableLines.{lines_after_header}
+use Rattle.mc_tables.specs.LinesSoFar.{LinesSoFar, IsValidLinesSoFar, HasNoLineFeed, with_begun}
 use Rattle.mc_tables.specs.LinesSoFar.{with_ended, line_begun, lines_to_come, read_after, header_line}
-use Rattle.mc_tables.specs.LinesSoFar.{line_after, end_of, ReadsInSteps}
+use Rattle.mc_tables.specs.LinesSoFar.{line_after, check_end_of_lines, ReadsInSteps}
 
 -- ---- line feeds
 
 -- two stretches without one have none together
-pub without_both : (xs ys : List ℕ) → WithoutLineFeed xs → WithoutLineFeed ys
-    → WithoutLineFeed (xs ++ ys)
-without_both [] ys a b = b
-without_both (x ∷ xs) ys a b = (a.0, without_both xs ys a.1 b)
+pub no_line_feed-append : (xs ys : List ℕ) → HasNoLineFeed xs → HasNoLineFeed ys
+    → HasNoLineFeed (xs ++ ys)
+no_line_feed-append [] ys a b = b
+no_line_feed-append (x ∷ xs) ys a b = (a.0, no_line_feed-append xs ys a.1 b)
 
 -- a list none of whose bytes is one
-without_each : (xs : List ℕ) → ((k : ℕ) → k < length xs → eqb (get_or xs k 0) 10 ≡ false)
-    → WithoutLineFeed xs
-without_each [] none = tt
-without_each (x ∷ xs) none =
-    (none 0 (omega arith), without_each xs (λ k lt. none (suc k) (omega (arith, lt))))
+no_line_feed-each : (xs : List ℕ) → ((k : ℕ) → k < length xs → eqb (get_or xs k 0) 10 ≡ false)
+    → HasNoLineFeed xs
+no_line_feed-each [] none = tt
+no_line_feed-each (x ∷ xs) none =
+    (none 0 (omega arith), no_line_feed-each xs (λ k lt. none (suc k) (omega (arith, lt))))
 
 -- where none is found there is none
-pub without_none : (xs : List ℕ) → position (λ b. eqb b 10) xs ≡ None → WithoutLineFeed xs
-without_none xs none =
+pub no_line_feed-not_found : (xs : List ℕ) → position (λ b. eqb b 10) xs ≡ None → HasNoLineFeed xs
+no_line_feed-not_found xs none =
     let past : length xs ≤ position_or_len (λ b. eqb b 10) xs = grind (arith, nat_tests) in
-    without_each xs (λ k lt. fails_before_first (λ b. eqb b 10) xs k 0 (omega (arith, past)))
+    no_line_feed-each xs (λ k lt. fails_before_first (λ b. eqb b 10) xs k 0 (omega (arith, past)))
 
 -- before the first there is none
-pub without_before : (xs : List ℕ) (end : ℕ) → position (λ b. eqb b 10) xs ≡ Some end
-    → WithoutLineFeed (take end xs)
-without_before xs end found =
+pub no_line_feed-before_first : (xs : List ℕ) (end : ℕ) → position (λ b. eqb b 10) xs ≡ Some end
+    → HasNoLineFeed (take end xs)
+no_line_feed-before_first xs end found =
     let at = position-Some (λ b. eqb b 10) xs end 0 found in
-    without_each (take end xs) (λ k lt.
+    no_line_feed-each (take end xs) (λ k lt.
     let before : k < end = omega (arith, lt, length-take end xs) in
     ap (λ b. eqb b 10) (get_or-take end xs k 0 before) ∙ at.2 k before)
 
 -- it stands within the text
-pub end_within : (xs : List ℕ) (end : ℕ) → position (λ b. eqb b 10) xs ≡ Some end
+pub position-within : (xs : List ℕ) (end : ℕ) → position (λ b. eqb b 10) xs ≡ Some end
     → end + 1 ≤ length xs
-end_within xs end found =
+position-within xs end found =
     let at = position-Some (λ b. eqb b 10) xs end 0 found in omega (arith, at.0)
 
 -- a text at its first line feed
-pub parted_at : (xs : List ℕ) (end : ℕ) → position (λ b. eqb b 10) xs ≡ Some end
+pub split-at_line_feed : (xs : List ℕ) (end : ℕ) → position (λ b. eqb b 10) xs ≡ Some end
     → xs ≡ take end xs ++ 10 ∷ drop (end + 1) xs
-parted_at xs end found =
+split-at_line_feed xs end found =
     let at = position-Some (λ b. eqb b 10) xs end 0 found in
     let feed : get_or xs end 0 ≡ 10 = eqb-true (get_or xs end 0) 10 at.1 in
     sym (take-append-drop end xs)
@@ -70,149 +70,149 @@ parted_at xs end found =
     ∙ ap (λ b. take end xs ++ b ∷ drop (end + 1) xs) feed
 
 -- what a stretch has taken keeps the rules
-pub begun_keeps : (lines : LinesSoFar) (size : ℕ) (bytes : List ℕ) → AreLinesSoFar lines
-    → lines.size + size ≤ 16777216 → length bytes ≤ size → WithoutLineFeed bytes
-    → AreLinesSoFar (with_begun lines size bytes)
-begun_keeps lines size bytes is within fewer without = record {
+pub lines_so_far-with_begun : (lines : LinesSoFar) (size : ℕ) (bytes : List ℕ) → IsValidLinesSoFar lines
+    → lines.size + size ≤ 16777216 → length bytes ≤ size → HasNoLineFeed bytes
+    → IsValidLinesSoFar (with_begun lines size bytes)
+lines_so_far-with_begun lines size bytes is within fewer without = record {
   within = within;
   numbers = omega (arith, is.numbers, length-append lines.begun bytes);
-  begun = without_both lines.begun bytes is.begun without;
+  begun = no_line_feed-append lines.begun bytes is.begun without;
 }
 
 -- ---- lines
 
 -- a part with parts after it is an ended line
-numbered_more : (n : ℕ) (part : List ℕ) (parts : List (List ℕ)) → 0 < length parts
+numbered-cons : (n : ℕ) (part : List ℕ) (parts : List (List ℕ)) → 0 < length parts
     → numbered n (part ∷ parts) ≡ record { number = n; bytes = part; ended = true }
     ∷ numbered (n + 1) parts
-numbered_more n part parts some = grind arith
+numbered-cons n part parts some = grind arith
 
 -- a line without a line feed, and one after it
-line_then : (n : ℕ) (line rest : List ℕ) → WithoutLineFeed line
+lines_from-line : (n : ℕ) (line rest : List ℕ) → HasNoLineFeed line
     → lines_from n (line ++ 10 ∷ rest)
     ≡ record { number = n; bytes = line; ended = true } ∷ lines_from (n + 1) rest
-line_then n line rest without =
+lines_from-line n line rest without =
     let parts = slice_split_at (λ b. eqb b 10) line 10 rest
     (All-from_recursion (λ b. eqb b 10 ≡ false) line without) refl in
     let more = length-slice_split (λ b. eqb b 10) rest in
     ap (numbered n) parts
-    ∙ numbered_more n line (slice_split (λ b. eqb b 10) rest) (omega (arith, more))
+    ∙ numbered-cons n line (slice_split (λ b. eqb b 10) rest) (omega (arith, more))
 
 -- a part without a line feed is one line that none ends, if it has a byte
-pub line_alone : (n : ℕ) (line : List ℕ) → WithoutLineFeed line → eqb (length line) 0 ≡ false
+pub lines_from-last_line : (n : ℕ) (line : List ℕ) → HasNoLineFeed line → eqb (length line) 0 ≡ false
     → lines_from n line ≡ record { number = n; bytes = line; ended = false } ∷ []
-line_alone n line without some =
+lines_from-last_line n line without some =
     let one = slice_split_none (λ b. eqb b 10) line
     (All-from_recursion (λ b. eqb b 10 ≡ false) line without) in
     rw (one, some) refl
 
 -- the first of the lines to come, where a line feed stands in the next bytes
-pub first_to_come : (lines : LinesSoFar) (rest more : List ℕ) (end : ℕ)
-    → WithoutLineFeed lines.begun → position (λ b. eqb b 10) rest ≡ Some end
+pub lines_to_come-first : (lines : LinesSoFar) (rest more : List ℕ) (end : ℕ)
+    → HasNoLineFeed lines.begun → position (λ b. eqb b 10) rest ≡ Some end
     → lines_to_come lines (rest ++ more)
     ≡ line_begun (with_begun lines (end + 1) (take end rest))
     ∷ lines_to_come (with_ended (with_begun lines (end + 1) (take end rest)))
     (drop (end + 1) rest ++ more)
-first_to_come lines rest more end without found =
+lines_to_come-first lines rest more end without found =
     let parted : lines.begun ++ (rest ++ more)
     ≡ (lines.begun ++ take end rest) ++ 10 ∷ (drop (end + 1) rest ++ more) =
-    ap (λ r. lines.begun ++ (r ++ more)) (parted_at rest end found)
+    ap (λ r. lines.begun ++ (r ++ more)) (split-at_line_feed rest end found)
     ∙ ap (λ r. lines.begun ++ r) (append_assoc (take end rest) (10 ∷ drop (end + 1) rest) more)
     ∙ sym (append_assoc lines.begun (take end rest) (10 ∷ (drop (end + 1) rest ++ more))) in
     ap (lines_from (lines.ended + 1)) parted
-    ∙ line_then (lines.ended + 1) (lines.begun ++ take end rest) (drop (end + 1) rest ++ more)
-    (without_both lines.begun (take end rest) without (without_before rest end found))
+    ∙ lines_from-line (lines.ended + 1) (lines.begun ++ take end rest) (drop (end + 1) rest ++ more)
+    (no_line_feed-append lines.begun (take end rest) without (no_line_feed-before_first rest end found))
 
 -- ---- reading them
 
 -- where the header is judged, the others are read from the state on
-header_steps : {S A : Type 0} (read : S → List LineText → Result A TableFault)
+lines_after_header-steps : {S A : Type 0} (read : S → List LineText → Result A TableFault)
     (state : S) (lines : List LineText) (judged : Result (Unit {0}) TableFaultKind)
     → ((at_line 1 judged >>= λ _. Ok lines) >>= read state)
     ≡ ((at_line 1 judged >>= λ _. Ok state) >>= λ more. read more lines)
-header_steps read state lines (Ok u) = refl
-header_steps read state lines (Err kind) = refl
+lines_after_header-steps read state lines (Ok u) = refl
+lines_after_header-steps read state lines (Err kind) = refl
 
 -- the line that has begun, by what was answered of it
-pub judged_as : {R : Type 0} (judge : ℕ → LineText → R) (begun now : LinesSoFar) (ended : ℕ)
+pub judge-begun_line : {R : Type 0} (judge : ℕ → LineText → R) (begun now : LinesSoFar) (ended : ℕ)
     (line : LineText) → now ≡ begun → ended ≡ now.ended → line ≡ line_begun now
     → judge begun.ended (line_begun begun) ≡ judge ended line
-judged_as judge begun now ended line is number text =
+judge-begun_line judge begun now ended line is number text =
     ap (λ (l : LinesSoFar). judge l.ended (line_begun l)) (sym is)
     ∙ ap (λ n. judge n (line_begun now)) (sym number) ∙ ap (judge ended) (sym text)
 
 -- what follows a step may be said otherwise
-bind_same : {A B E : Type 0} (r : Result A E) (f g : A → Result B E) → ((x : A) → f x ≡ g x)
+bind-same : {A B E : Type 0} (r : Result A E) (f g : A → Result B E) → ((x : A) → f x ≡ g x)
     → (r >>= f) ≡ (r >>= g)
-bind_same (Ok x) f g same = same x
-bind_same (Err e) f g same = refl
+bind-same (Ok x) f g same = same x
+bind-same (Err e) f g same = refl
 
 -- a list without an element
-empty_is : (xs : List ℕ) → eqb (length xs) 0 ≡ true → xs ≡ []
-empty_is [] none = refl
-empty_is (x ∷ xs) none = absurd (let wrong = eqb-true (length (x ∷ xs)) 0 none in omega arith)
+length-zero_test : (xs : List ℕ) → eqb (length xs) 0 ≡ true → xs ≡ []
+length-zero_test [] none = refl
+length-zero_test (x ∷ xs) none = absurd (let wrong = eqb-true (length (x ∷ xs)) 0 none in omega arith)
 
 module _ {S A : Type 0} (first : List ℕ) (read : S → List LineText → Result A TableFault)
     (step : S → LineText → Result S TableFault) (steps : ReadsInSteps read step) where
   -- a line after a state, of which the first is the header
-  one_line : (ended : ℕ) (state : S) (line : LineText) (lines : List LineText)
-      → cond (eqb ended 0) (header_in first (line ∷ lines) >>= read state) (read state (line ∷ lines))
+  lines_after_header-one_line : (ended : ℕ) (state : S) (line : LineText) (lines : List LineText)
+      → cond (eqb ended 0) (lines_after_header first (line ∷ lines) >>= read state) (read state (line ∷ lines))
       ≡ (line_after first (step state) state ended line >>= λ new. read new lines)
-  one_line ended state line lines = elim (cases_Bool (eqb ended 0)) [
-    | inl none ↦ rw none (header_steps read state lines (header_line first line))
+  lines_after_header-one_line ended state line lines = elim (cases_Bool (eqb ended 0)) [
+    | inl none ↦ rw none (lines_after_header-steps read state lines (header_line first line))
     | inr some ↦ rw some (steps.line state line lines)
   ]
 
   -- once a line has ended, the others are read
-  once_ended : (lines : LinesSoFar) (state : S) (more : List ℕ)
+  read_after-with_ended : (lines : LinesSoFar) (state : S) (more : List ℕ)
       → read_after first (read state) (with_ended lines) more
       ≡ read state (lines_to_come (with_ended lines) more)
-  once_ended lines state more =
+  read_after-with_ended lines state more =
       let some : eqb (lines.ended + 1) 0 ≡ false = grind (arith, nat_tests) in
       rw some refl
 
   -- a line that ends is read, and the others after it
-  pub read_line : (lines : LinesSoFar) (state : S) (rest more : List ℕ) (end : ℕ)
-      → WithoutLineFeed lines.begun → position (λ b. eqb b 10) rest ≡ Some end
+  pub read_after-line : (lines : LinesSoFar) (state : S) (rest more : List ℕ) (end : ℕ)
+      → HasNoLineFeed lines.begun → position (λ b. eqb b 10) rest ≡ Some end
       → read_after first (read state) lines (rest ++ more)
       ≡ (line_after first (step state) state lines.ended
       (line_begun (with_begun lines (end + 1) (take end rest))) >>= λ new.
       read_after first (read new) (with_ended (with_begun lines (end + 1) (take end rest)))
       (drop (end + 1) rest ++ more))
-  read_line lines state rest more end without found =
+  read_after-line lines state rest more end without found =
       let begun = with_begun lines (end + 1) (take end rest) in
       let later = drop (end + 1) rest ++ more in
-      ap (λ all. cond (eqb lines.ended 0) (header_in first all >>= read state) (read state all))
-      (first_to_come lines rest more end without found)
-      ∙ one_line lines.ended state (line_begun begun) (lines_to_come (with_ended begun) later)
-      ∙ bind_same (line_after first (step state) state lines.ended (line_begun begun))
+      ap (λ all. cond (eqb lines.ended 0) (lines_after_header first all >>= read state) (read state all))
+      (lines_to_come-first lines rest more end without found)
+      ∙ lines_after_header-one_line lines.ended state (line_begun begun) (lines_to_come (with_ended begun) later)
+      ∙ bind-same (line_after first (step state) state lines.ended (line_begun begun))
       (λ new. read new (lines_to_come (with_ended begun) later))
       (λ new. read_after first (read new) (with_ended begun) later)
-      (λ new. sym (once_ended begun new later))
+      (λ new. sym (read_after-with_ended begun new later))
 
   -- a line that was taken
-  pub read_taken : (lines : LinesSoFar) (state new : S) (rest more : List ℕ) (end : ℕ)
-      → WithoutLineFeed lines.begun → position (λ b. eqb b 10) rest ≡ Some end
+  pub read_after-taken : (lines : LinesSoFar) (state new : S) (rest more : List ℕ) (end : ℕ)
+      → HasNoLineFeed lines.begun → position (λ b. eqb b 10) rest ≡ Some end
       → line_after first (step state) state lines.ended
       (line_begun (with_begun lines (end + 1) (take end rest))) ≡ Ok new
       → read_after first (read state) lines (rest ++ more)
       ≡ read_after first (read new) (with_ended (with_begun lines (end + 1) (take end rest)))
       (drop (end + 1) rest ++ more)
-  read_taken lines state new rest more end without found taken =
+  read_after-taken lines state new rest more end without found taken =
       let begun = with_begun lines (end + 1) (take end rest) in
-      read_line lines state rest more end without found
+      read_after-line lines state rest more end without found
       ∙ ap (λ r. r >>= λ new.
       read_after first (read new) (with_ended begun) (drop (end + 1) rest ++ more)) taken
 
   -- a line that was refused
-  pub read_refused : (lines : LinesSoFar) (state : S) (fault : TableFault) (rest more : List ℕ)
-      (end : ℕ) → WithoutLineFeed lines.begun → position (λ b. eqb b 10) rest ≡ Some end
+  pub read_after-refused : (lines : LinesSoFar) (state : S) (fault : TableFault) (rest more : List ℕ)
+      (end : ℕ) → HasNoLineFeed lines.begun → position (λ b. eqb b 10) rest ≡ Some end
       → line_after first (step state) state lines.ended
       (line_begun (with_begun lines (end + 1) (take end rest))) ≡ Err fault
       → read_after first (read state) lines (rest ++ more) ≡ Err fault
-  read_refused lines state fault rest more end without found refused =
+  read_after-refused lines state fault rest more end without found refused =
       let begun = with_begun lines (end + 1) (take end rest) in
-      read_line lines state rest more end without found
+      read_after-line lines state rest more end without found
       ∙ ap (λ r. r >>= λ new.
       read_after first (read new) (with_ended begun) (drop (end + 1) rest ++ more)) refused
 
@@ -223,50 +223,50 @@ abbrev pub last_line : LinesSoFar → LineText
 last_line lines = record { number = lines.ended + 1; bytes = lines.begun; ended = false }
 
 -- where a line has begun, it is the last one
-left_begun : (lines : LinesSoFar) → WithoutLineFeed lines.begun
+lines_to_come-begun : (lines : LinesSoFar) → HasNoLineFeed lines.begun
     → eqb (length lines.begun) 0 ≡ false → lines_to_come lines [] ≡ last_line lines ∷ []
-left_begun lines without some =
+lines_to_come-begun lines without some =
     ap (lines_from (lines.ended + 1)) (append-nil lines.begun)
-    ∙ line_alone (lines.ended + 1) lines.begun without some
+    ∙ lines_from-last_line (lines.ended + 1) lines.begun without some
 
 -- and else there is none
-pub left_none : (lines : LinesSoFar) → eqb (length lines.begun) 0 ≡ true → lines_to_come lines [] ≡ []
-left_none lines none =
-    ap (lines_from (lines.ended + 1)) (append-nil lines.begun ∙ empty_is lines.begun none)
+pub lines_to_come-none : (lines : LinesSoFar) → eqb (length lines.begun) 0 ≡ true → lines_to_come lines [] ≡ []
+lines_to_come-none lines none =
+    ap (lines_from (lines.ended + 1)) (append-nil lines.begun ∙ length-zero_test lines.begun none)
 
 module _ {A : Type 0} (first : List ℕ) (read : List LineText → Result A TableFault) where
   -- a text that ends in its header
-  pub header_missing : (lines : LinesSoFar) (then : Result A TableFault)
-      → WithoutLineFeed lines.begun → eqb lines.ended 0 ≡ true
-      → read_after first read lines [] ≡ (end_of lines >>= λ _. then)
-  header_missing lines then without none =
+  pub read_after-no_header : (lines : LinesSoFar) (then : Result A TableFault)
+      → HasNoLineFeed lines.begun → eqb lines.ended 0 ≡ true
+      → read_after first read lines [] ≡ (check_end_of_lines lines >>= λ _. then)
+  read_after-no_header lines then without none =
       let zero_is : lines.ended ≡ 0 = eqb-true lines.ended 0 none in
       elim (cases_Bool (eqb (length lines.begun) 0)) [
         | inl empty ↦
-            ap (λ all. cond (eqb lines.ended 0) (header_in first all >>= read) (read all))
-            (left_none lines empty)
+            ap (λ all. cond (eqb lines.ended 0) (lines_after_header first all >>= read) (read all))
+            (lines_to_come-none lines empty)
             ∙ rw (empty, none) refl
         | inr begun ↦
-            ap (λ all. cond (eqb lines.ended 0) (header_in first all >>= read) (read all))
-            (left_begun lines without begun)
+            ap (λ all. cond (eqb lines.ended 0) (lines_after_header first all >>= read) (read all))
+            (lines_to_come-begun lines without begun)
             ∙ rw (begun, none, zero_is) refl
       ]
 
   -- one that ends in a later line
-  pub ends_in_line : (lines : LinesSoFar) → WithoutLineFeed lines.begun → eqb lines.ended 0 ≡ false
+  pub read_after-end_in_line : (lines : LinesSoFar) → HasNoLineFeed lines.begun → eqb lines.ended 0 ≡ false
       → eqb (length lines.begun) 0 ≡ false
       → read_after first read lines [] ≡ read (last_line lines ∷ [])
-  ends_in_line lines without later begun =
-      ap (λ all. cond (eqb lines.ended 0) (header_in first all >>= read) (read all))
-      (left_begun lines without begun)
+  read_after-end_in_line lines without later begun =
+      ap (λ all. cond (eqb lines.ended 0) (lines_after_header first all >>= read) (read all))
+      (lines_to_come-begun lines without begun)
       ∙ rw later refl
 
   -- and one that ends after a line
-  pub ends_after_line : (lines : LinesSoFar) → eqb lines.ended 0 ≡ false
+  pub read_after-end_after_line : (lines : LinesSoFar) → eqb lines.ended 0 ≡ false
       → eqb (length lines.begun) 0 ≡ true → read_after first read lines [] ≡ read []
-  ends_after_line lines later none =
-      ap (λ all. cond (eqb lines.ended 0) (header_in first all >>= read) (read all))
-      (left_none lines none)
+  read_after-end_after_line lines later none =
+      ap (λ all. cond (eqb lines.ended 0) (lines_after_header first all >>= read) (read all))
+      (lines_to_come-none lines none)
       ∙ rw later refl
 
 -- ---- a text in one piece

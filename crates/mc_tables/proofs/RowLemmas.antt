@@ -10,42 +10,42 @@ use Rattle.mc_tables.specs.declared.fault.TableFault.{TableFault}
 use Rattle.mc_tables.specs.declared.fault.TableFaultKind.TheVariants.{NoHeader, Unended, TooLarge}
 use Rattle.mc_text.specs.Steps.{◌>>=◌}
 use Rattle.mc_tables.specs.Steps.{demand, at_line}
-use Rattle.mc_tables.specs.TableLines.{begins_with, HasHeader, EachTells, header_in, lines_in}
+use Rattle.mc_tables.specs.TableLines.{begins_with, HasHeader, EachDenotes, lines_after_header, lines_in}
 use Rattle.mc_tables.specs.TableLines.{rows_after}
-use Rattle.mc_text.proofs.StepLemmas.{bind_ok, ok_is}
-use Rattle.mc_tables.proofs.StepLemmas.{demand_ok, demand_then, at_line_ok}
+use Rattle.mc_text.proofs.StepLemmas.{bind_ok, ok_injective}
+use Rattle.mc_tables.proofs.StepLemmas.{demand-ok, demand-bind_ok, at_line-ok}
 
 -- the lines that are read follow a header that ends and begins as it has to
-header_found : (first : List ℕ) (all lines : List LineText) → header_in first all ≡ Ok lines
+lines_after_header-ok : (first : List ℕ) (all lines : List LineText) → lines_after_header first all ≡ Ok lines
     → (header : LineText) × (all ≡ header ∷ lines) × IsTrue header.ended
     × IsTrue (begins_with first (words_of header.bytes))
-header_found first [] lines e = absurd cc
-header_found first (header ∷ rest) lines e =
+lines_after_header-ok first [] lines e = absurd cc
+lines_after_header-ok first (header ∷ rest) lines e =
     let b = bind_ok (at_line 1
     (demand header.ended Unended >>= λ _. demand
     (begins_with first (words_of header.bytes)) NoHeader)) (λ _. Ok rest) lines e in
-    let d = demand_then header.ended Unended
+    let d = demand-bind_ok header.ended Unended
     (λ _. demand (begins_with first (words_of header.bytes)) NoHeader) b.0
-    (at_line_ok 1 _ b.0 b.1) in (
+    (at_line-ok 1 _ b.0 b.1) in (
       header,
-      ap (λ (ls : List LineText). header ∷ ls) (ok_is rest lines b.2),
+      ap (λ (ls : List LineText). header ∷ ls) (ok_injective rest lines b.2),
       d.0,
-      demand_ok (begins_with first (words_of header.bytes)) NoHeader b.0 d.1,
+      demand-ok (begins_with first (words_of header.bytes)) NoHeader b.0 d.1,
     )
 
 -- what is read of a text was read within the limit
-fits_found : {A : Type 0} (b : Bool) (d : TableFault) (r : Result A TableFault) (y : A)
+cond-err_else : {A : Type 0} (b : Bool) (d : TableFault) (r : Result A TableFault) (y : A)
     → cond b (Err d) r ≡ Ok y → (b ≡ false) × (r ≡ Ok y)
-fits_found true d r y e = absurd cc
-fits_found false d r y e = (refl, e)
+cond-err_else true d r y e = absurd cc
+cond-err_else false d r y e = (refl, e)
 
 -- the lines after the header
-pub lines_found : (first text : List ℕ) (lines : List LineText) → lines_in first text ≡ Ok lines
+pub lines_in-has_header : (first text : List ℕ) (lines : List LineText) → lines_in first text ≡ Ok lines
     → HasHeader first text lines
-lines_found first text lines e =
-    let f = fits_found (ltb 16777216 (length text)) (record { line = 0; kind = TooLarge })
-    (header_in first (lines_of text)) lines e in
-    let h = header_found first (lines_of text) lines f.1 in
+lines_in-has_header first text lines e =
+    let f = cond-err_else (ltb 16777216 (length text)) (record { line = 0; kind = TooLarge })
+    (lines_after_header first (lines_of text)) lines e in
+    let h = lines_after_header-ok first (lines_of text) lines f.1 in
     record {
       size = ltb-false 16777216 (length text) f.0;
       header = h.0;
@@ -55,54 +55,54 @@ lines_found first text lines e =
     }
 
 -- the lines of a text with its header are read
-pub lines_only : (first text : List ℕ) (lines : List LineText) → HasHeader first text lines
+pub lines_in-from_header : (first text : List ℕ) (lines : List LineText) → HasHeader first text lines
     → lines_in first text ≡ Ok lines
-lines_only first text lines h =
+lines_in-from_header first text lines h =
     let size : ltb 16777216 (length text) ≡ false = le-ltb 16777216 (length text) h.size in
     rw (size, h.whole, h.ended, h.begins) refl
 
 -- A line is read as the row that it tells, if the row may follow the earlier ones. Lists that may
 -- stand grow by such rows.
-pub record ReadsRows {L R E : Type 0} (row_in : List R → L → Result R E) (Tells : L → R → Type 0)
-    (MayFollow : List R → R → Type 0) (MayStand : List R → Type 0) : Type 0 where
+pub record ReadsRows {L R E : Type 0} (row_in : List R → L → Result R E) (Denotes : L → R → Type 0)
+    (MayFollow : List R → R → Type 0) (AreValid : List R → Type 0) : Type 0 where
   pub found : (earlier : List R) (line : L) (row : R) → row_in earlier line ≡ Ok row
-      → Tells line row × MayFollow earlier row
-  pub only : (earlier : List R) (line : L) (row : R) → Tells line row → MayFollow earlier row
+      → Denotes line row × MayFollow earlier row
+  pub only : (earlier : List R) (line : L) (row : R) → Denotes line row → MayFollow earlier row
       → row_in earlier line ≡ Ok row
-  pub grows : (earlier : List R) (row : R) → MayStand earlier → MayFollow earlier row
-      → MayStand (earlier ++ row ∷ [])
-  pub follows : (earlier : List R) (row : R) (later : List R) → MayStand (earlier ++ row ∷ later)
+  pub grows : (earlier : List R) (row : R) → AreValid earlier → MayFollow earlier row
+      → AreValid (earlier ++ row ∷ [])
+  pub follows : (earlier : List R) (row : R) (later : List R) → AreValid (earlier ++ row ∷ later)
       → MayFollow earlier row
 
-module _ {L R E : Type 0} (row_in : List R → L → Result R E) (Tells : L → R → Type 0)
-    (MayFollow : List R → R → Type 0) (MayStand : List R → Type 0)
-    (reads : ReadsRows row_in Tells MayFollow MayStand) where
+module _ {L R E : Type 0} (row_in : List R → L → Result R E) (Denotes : L → R → Type 0)
+    (MayFollow : List R → R → Type 0) (AreValid : List R → Type 0)
+    (reads : ReadsRows row_in Denotes MayFollow AreValid) where
   -- what is read is told
-  pub rows_told : (lines : List L) (earlier all : List R) → MayStand earlier
+  pub rows_after-denotes : (lines : List L) (earlier all : List R) → AreValid earlier
       → rows_after row_in earlier lines ≡ Ok all
-      → (rows : List R) × (earlier ++ rows ≡ all) × EachTells Tells lines rows × MayStand all
-  rows_told [] earlier all stands e =
+      → (rows : List R) × (earlier ++ rows ≡ all) × EachDenotes Denotes lines rows × AreValid all
+  rows_after-denotes [] earlier all valid e =
       let same : earlier ≡ all = cc in
-      ([], append-nil earlier ∙ same, tt, subst MayStand same stands)
-  rows_told (line ∷ lines) earlier all stands e =
+      ([], append-nil earlier ∙ same, tt, subst AreValid same valid)
+  rows_after-denotes (line ∷ lines) earlier all valid e =
       let b = bind_ok (row_in earlier line)
       (λ row. rows_after row_in (earlier ++ row ∷ []) lines) all e in
       let row = b.0 in
       let f = reads.found earlier line row b.1 in
-      let rest = rows_told lines (earlier ++ row ∷ []) all
-      (reads.grows earlier row stands f.1) b.2 in
+      let rest = rows_after-denotes lines (earlier ++ row ∷ []) all
+      (reads.grows earlier row valid f.1) b.2 in
       (row ∷ rest.0, sym (append_assoc earlier (row ∷ []) rest.0) ∙ rest.1, (f.0, rest.2), rest.3)
 
   -- what is told is read
-  pub rows_read : (lines : List L) (earlier rows : List R) → EachTells Tells lines rows
-      → MayStand (earlier ++ rows)
+  pub rows_after-from_denotes : (lines : List L) (earlier rows : List R) → EachDenotes Denotes lines rows
+      → AreValid (earlier ++ rows)
       → rows_after row_in earlier lines ≡ Ok (earlier ++ rows)
-  rows_read [] earlier [] told stands = ap Ok (sym (append-nil earlier))
-  rows_read [] earlier (row ∷ rows) told stands = absurd told
-  rows_read (line ∷ lines) earlier [] told stands = absurd told
-  rows_read (line ∷ lines) earlier (row ∷ rows) told stands =
+  rows_after-from_denotes [] earlier [] denoted valid = ap Ok (sym (append-nil earlier))
+  rows_after-from_denotes [] earlier (row ∷ rows) denoted valid = absurd denoted
+  rows_after-from_denotes (line ∷ lines) earlier [] denoted valid = absurd denoted
+  rows_after-from_denotes (line ∷ lines) earlier (row ∷ rows) denoted valid =
       let regrouped = append_assoc earlier (row ∷ []) rows in
-      let first = reads.only earlier line row told.0 (reads.follows earlier row rows stands) in
-      let rest = rows_read lines (earlier ++ row ∷ []) rows told.1
-      (subst MayStand (sym regrouped) stands) in
+      let first = reads.only earlier line row denoted.0 (reads.follows earlier row rows valid) in
+      let rest = rows_after-from_denotes lines (earlier ++ row ∷ []) rows denoted.1
+      (subst AreValid (sym regrouped) valid) in
       rw first (rest ∙ ap Ok regrouped)

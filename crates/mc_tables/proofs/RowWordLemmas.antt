@@ -14,77 +14,77 @@ use Rattle.mc_text.specs.Steps.{◌>>=◌}
 use Rattle.mc_tables.specs.TableWords.{number_in}
 use Rattle.mc_tables.specs.CacheReading.{oif_in_parts, oif_in, row_in_words}
 use Rattle.mc_tables.specs.OutgoingSteps.{threshold_in, oif_in_turn}
-use Rattle.mc_tables.proofs.WordLemmas.{number_found}
-use Rattle.mc_tables.proofs.ColonLemmas.{split_none, split_some, none_from, some_from}
-use Rattle.mc_tables.proofs.OifLemmas.{digits_no_colon}
+use Rattle.mc_tables.proofs.WordLemmas.{number_in-denotes}
+use Rattle.mc_tables.proofs.ColonLemmas.{slice_split-none, slice_split-some, is_some-none_from, is_some-some_from}
+use Rattle.mc_tables.proofs.OifLemmas.{all_digits-no_colon}
 
 -- a word without a colon is no outgoing vif
-pub no_colon : (word : List ℕ) → slice_split (λ b. b == 58) word ≡ word ∷ []
+pub oif_in_without_colon : (word : List ℕ) → slice_split (λ b. b == 58) word ≡ word ∷ []
     → oif_in word ≡ Err BadOif
 unfolding oif_in_parts
-no_colon word e = rw e refl
+oif_in_without_colon word e = rw e refl
 
 -- whatever the vif is, other than one part after the colon is refused alike
-refused : (vif : Option ℕ) → (let none : Result (ℕ × ℕ) TableFaultKind = Err BadOif in
+bind-same_err : (vif : Option ℕ) → (let none : Result (ℕ × ℕ) TableFaultKind = Err BadOif in
     none ≡ (ok_or vif BadOif >>= λ _. none))
-refused None = refl
-refused (Some v) = refl
+bind-same_err None = refl
+bind-same_err (Some v) = refl
 
 -- the vif is read first, and then the threshold
-in_turn : (vif : List ℕ) (after : List (List ℕ))
+oif_in_parts-in_turn : (vif : List ℕ) (after : List (List ℕ))
     → oif_in_parts (vif ∷ after) ≡ oif_in_turn vif after
 unfolding oif_in_parts
-in_turn vif (threshold ∷ []) = refl
-in_turn vif [] = refused (number_in 0 31 vif)
-in_turn vif (threshold ∷ more ∷ parts) = refused (number_in 0 31 vif)
+oif_in_parts-in_turn vif (threshold ∷ []) = refl
+oif_in_parts-in_turn vif [] = bind-same_err (number_in 0 31 vif)
+oif_in_parts-in_turn vif (threshold ∷ more ∷ parts) = bind-same_err (number_in 0 31 vif)
 
 -- a word with a colon is read by what stands before and after its first one
-pub parted : (word vif : List ℕ) (after : List (List ℕ))
+pub oif_in_at_first_colon : (word vif : List ℕ) (after : List (List ℕ))
     → slice_split (λ b. b == 58) word ≡ vif ∷ after → oif_in word ≡ oif_in_turn vif after
-parted word vif after e = ap oif_in_parts e ∙ in_turn vif after
+oif_in_at_first_colon word vif after e = ap oif_in_parts e ∙ oif_in_parts-in_turn vif after
 
 -- a word that writes a threshold has no colon
-pub threshold_found : (word : List ℕ) (t : ℕ) → number_in 1 254 word ≡ Some t
+pub threshold_in_number : (word : List ℕ) (t : ℕ) → number_in 1 254 word ≡ Some t
     → threshold_in (slice_split (λ b. b == 58) word) ≡ Ok t
-threshold_found word t e =
-    let writes = number_found 1 254 word t e in
+threshold_in_number word t e =
+    let writes = number_in-denotes 1 254 word t e in
     let none = All-from_recursion (λ b. (b == 58) ≡ false) word
-    (digits_no_colon word writes.0.0.1) in
+    (all_digits-no_colon word writes.0.0.1) in
     ap threshold_in (slice_split_none (λ b. b == 58) word none)
     ∙ ap (λ o. ok_or o BadThreshold) e
 
 -- two parts and more are no threshold
-more_refused : (first : List ℕ) (parts : List (List ℕ)) (n : ℕ) → length parts ≡ n + 1
+threshold_in-more_parts : (first : List ℕ) (parts : List (List ℕ)) (n : ℕ) → length parts ≡ n + 1
     → threshold_in (first ∷ parts) ≡ Err BadOif
-more_refused first [] n e = absurd (omega (arith, e))
-more_refused first (second ∷ parts) n e = refl
+threshold_in-more_parts first [] n e = absurd (omega (arith, e))
+threshold_in-more_parts first (second ∷ parts) n e = refl
 
 -- so a word with a colon is none
-pub colon_refused : (word : List ℕ) → is_some (position (λ b. b == 58) word) ≡ true
+pub threshold_in-colon : (word : List ℕ) → is_some (position (λ b. b == 58) word) ≡ true
     → threshold_in (slice_split (λ b. b == 58) word) ≡ Err BadOif
-colon_refused word e =
-    let first = some_from (λ (b : ℕ). b == 58) (position (λ b. b == 58) word) e in
+threshold_in-colon word e =
+    let first = is_some-some_from (λ (b : ℕ). b == 58) (position (λ b. b == 58) word) e in
     let rest = drop (first.0 + 1) word in
-    ap threshold_in (split_some (λ b. b == 58) word 0 first.0 first.1)
-    ∙ more_refused (take first.0 word) (slice_split (λ b. b == 58) rest)
+    ap threshold_in (slice_split-some (λ b. b == 58) word 0 first.0 first.1)
+    ∙ threshold_in-more_parts (take first.0 word) (slice_split (λ b. b == 58) rest)
     (count_by (λ b. b == 58) rest) (length-slice_split (λ b. b == 58) rest)
 
 -- one without a colon that writes no number from 1 to 254 is a bad one
-pub threshold_refused : (word : List ℕ) → number_in 1 254 word ≡ None
+pub threshold_in-no_number : (word : List ℕ) → number_in 1 254 word ≡ None
     → is_some (position (λ b. b == 58) word) ≡ false
     → threshold_in (slice_split (λ b. b == 58) word) ≡ Err BadThreshold
-threshold_refused word none e =
-    let nowhere = none_from (λ (b : ℕ). b == 58) (position (λ b. b == 58) word) e in
-    ap threshold_in (split_none (λ b. b == 58) word nowhere)
+threshold_in-no_number word none e =
+    let nowhere = is_some-none_from (λ (b : ℕ). b == 58) (position (λ b. b == 58) word) e in
+    ap threshold_in (slice_split-none (λ b. b == 58) word nowhere)
     ∙ ap (λ o. ok_or o BadThreshold) none
 
 -- both faults of a threshold
-pub ruleset refusals = (colon_refused, threshold_refused)
+pub ruleset threshold_refusals = (threshold_in-colon, threshold_in-no_number)
 
 -- fewer than six words are no row
-pub few_words : (order : Order) (words : List (List ℕ)) → length words < 6
+pub row_in_too_few_words : (order : Order) (words : List (List ℕ)) → length words < 6
     → row_in_words order words ≡ Err WordCount
 unfolding row_in_words
-few_words order (group ∷ origin ∷ iif ∷ packets ∷ bytes ∷ wrong ∷ outgoing) few =
+row_in_too_few_words order (group ∷ origin ∷ iif ∷ packets ∷ bytes ∷ wrong_if ∷ outgoing) few =
     absurd (omega arith)
-few_words order words few = refl
+row_in_too_few_words order words few = refl

@@ -6,18 +6,18 @@ use Rattle.mc_text.specs.Steps.{◌>>=◌}
 use Rattle.mc_tables.specs.Steps.{demand, at_line}
 
 -- a test that was met
-pub demand_ok : {E : Type 0} (b : Bool) (d : E) (u : Unit {0}) → demand b d ≡ Ok u → b ≡ true
-demand_ok true d u e = refl
-demand_ok false d u e = absurd cc
+pub demand-ok : {E : Type 0} (b : Bool) (d : E) (u : Unit {0}) → demand b d ≡ Ok u → b ≡ true
+demand-ok true d u e = refl
+demand-ok false d u e = absurd cc
 
 -- and the step after it
-pub demand_then : {B E : Type 0} (b : Bool) (d : E) (f : Unit {0} → Result B E) (y : B)
+pub demand-bind_ok : {B E : Type 0} (b : Bool) (d : E) (f : Unit {0} → Result B E) (y : B)
     → (demand b d >>= f) ≡ Ok y → (b ≡ true) × (f tt ≡ Ok y)
-demand_then true d f y e = (refl, e)
-demand_then false d f y e = absurd cc
+demand-bind_ok true d f y e = (refl, e)
+demand-bind_ok false d f y e = absurd cc
 
 -- a line's number changes no value
-pub at_line_ok : {A : Type 0} (n : ℕ) (r : Result A TableFaultKind) (x : A) → at_line n r ≡ Ok x
+pub at_line-ok : {A : Type 0} (n : ℕ) (r : Result A TableFaultKind) (x : A) → at_line n r ≡ Ok x
     → r ≡ Ok x
-at_line_ok n (Ok y) x e = cc
-at_line_ok n (Err k) x e = absurd cc
+at_line-ok n (Ok y) x e = cc
+at_line-ok n (Err k) x e = absurd cc

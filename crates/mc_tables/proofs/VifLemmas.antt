@@ -23,35 +23,35 @@ use Rattle.mc_tables.specs.declared.fault.TableFaultKind.TheVariants.{RepeatedIn
 use Rattle.mc_tables.specs.declared.fault.TableFault.{TableFault}
 use Rattle.mc_tables.specs.Steps.{out_of_memory}
 use Rattle.mc_tables.specs.TableWords.{is_counter, is_hexadecimal, number_in}
-use Rattle.mc_tables.specs.TableLines.{EachTells, lines_in, rows_after}
-use Rattle.mc_tables.specs.VifTable.{VifText, is_tunnel, is_register, device_of, WordsTellVif}
-use Rattle.mc_tables.specs.VifTable.{LineTellsVif, AreVifRows, StandsForVifs}
+use Rattle.mc_tables.specs.TableLines.{EachDenotes, lines_in, rows_after}
+use Rattle.mc_tables.specs.VifTable.{VifValue, is_tunnel, is_register, device_of, WordsDenoteVif}
+use Rattle.mc_tables.specs.VifTable.{LineDenotesVif, DenotesVifRows, DenotesVifs}
 use Rattle.mc_tables.specs.VifReading.{device_in, flags_in, vif_in_words, index_repeats}
-use Rattle.mc_tables.specs.VifReading.{device_repeats, vif_in_line, vif_at, vif_rows_in, vifs_in}
-use Rattle.mc_text.proofs.StepLemmas.{bind_ok, if_ok, ok_or_ok, ok_is}
-use Rattle.mc_tables.proofs.StepLemmas.{demand_then, at_line_ok}
-use Rattle.mc_tables.proofs.WordLemmas.{number_found, number_only}
-use Rattle.mc_tables.proofs.KeyLemmas.{new_in_distinct, distinct_grows, distinct_follows}
-use Rattle.mc_tables.proofs.RowLemmas.{lines_found, lines_only, ReadsRows, rows_told, rows_read}
+use Rattle.mc_tables.specs.VifReading.{device_repeats, vif_in_line, vif_at_line, vif_rows_in, vifs_in}
+use Rattle.mc_text.proofs.StepLemmas.{bind_ok, if_ok, ok_or_ok, ok_injective}
+use Rattle.mc_tables.proofs.StepLemmas.{demand-bind_ok, at_line-ok}
+use Rattle.mc_tables.proofs.WordLemmas.{number_in-denotes, number_in-from_denotes}
+use Rattle.mc_tables.proofs.KeyLemmas.{list_any-distinct_middle, is_distinct-push_key, is_among-distinct_before}
+use Rattle.mc_tables.proofs.RowLemmas.{lines_in-has_header, lines_in-from_header, ReadsRows, rows_after-denotes, rows_after-from_denotes}
 
 -- the vif that is read is what the words tell
-pub words_found : (words : List (List ℕ)) (row : ℕ × VifText) → vif_in_words words ≡ Ok row
-    → WordsTellVif words row
+pub vif_in_words-denotes : (words : List (List ℕ)) (row : ℕ × VifValue) → vif_in_words words ≡ Ok row
+    → WordsDenoteVif words row
 unfolding vif_in_words
-words_found (index ∷ device ∷ bytes_in ∷ packets_in ∷ bytes_out ∷ packets_out ∷ flags ∷ local
+vif_in_words-denotes (index ∷ device ∷ bytes_in ∷ packets_in ∷ bytes_out ∷ packets_out ∷ flags ∷ local
     ∷ remote ∷ []) row e =
     let i = bind_ok (ok_or (number_in 0 31 index) BadIndex) _ row e in
     let d = bind_ok (device_in device) _ row i.2 in
-    let c1 = demand_then (is_counter bytes_in) BadCounter _ row d.2 in
-    let c2 = demand_then (is_counter packets_in) BadCounter _ row c1.1 in
-    let c3 = demand_then (is_counter bytes_out) BadCounter _ row c2.1 in
-    let c4 = demand_then (is_counter packets_out) BadCounter _ row c3.1 in
+    let c1 = demand-bind_ok (is_counter bytes_in) BadCounter _ row d.2 in
+    let c2 = demand-bind_ok (is_counter packets_in) BadCounter _ row c1.1 in
+    let c3 = demand-bind_ok (is_counter bytes_out) BadCounter _ row c2.1 in
+    let c4 = demand-bind_ok (is_counter packets_out) BadCounter _ row c3.1 in
     let f = bind_ok (flags_in flags) _ row c4.1 in
-    let l = demand_then (is_hexadecimal 8 8 local) BadAddress _ row f.2 in
-    let r = demand_then (is_hexadecimal 8 8 remote) BadAddress _ row l.1 in
+    let l = demand-bind_ok (is_hexadecimal 8 8 local) BadAddress _ row f.2 in
+    let r = demand-bind_ok (is_hexadecimal 8 8 remote) BadAddress _ row l.1 in
     let name = if_ok (is_device_name device) BadDevice device d.0 d.1 in
     let bits = if_ok (is_hexadecimal 5 8 flags) BadFlags (digits_value 16 flags) f.0 f.1 in
-    let made : ℕ × VifText = (
+    let made : ℕ × VifValue = (
       i.0,
       record {
         device = d.0;
@@ -59,9 +59,9 @@ words_found (index ∷ device ∷ bytes_in ∷ packets_in ∷ bytes_out ∷ pack
         register = is_register f.0;
       },
     ) in
-    let same : made ≡ row = ok_is made row r.1 in
-    let number = number_found 0 31 index i.0 (ok_or_ok (number_in 0 31 index) BadIndex i.0 i.1) in
-    let all : WordsTellVif
+    let same : made ≡ row = ok_injective made row r.1 in
+    let number = number_in-denotes 0 31 index i.0 (ok_or_ok (number_in 0 31 index) BadIndex i.0 i.1) in
+    let all : WordsDenoteVif
     (index ∷ device ∷ bytes_in ∷ packets_in ∷ bytes_out ∷ packets_out ∷ flags ∷ local ∷ remote ∷ [])
     made = (
       number,
@@ -78,18 +78,18 @@ words_found (index ∷ device ∷ bytes_in ∷ packets_in ∷ bytes_out ∷ pack
       l.0,
       r.0,
     ) in
-    subst (λ (x : ℕ × VifText). WordsTellVif
+    subst (λ (x : ℕ × VifValue). WordsDenoteVif
     (index ∷ device ∷ bytes_in ∷ packets_in ∷ bytes_out ∷ packets_out ∷ flags ∷ local ∷ remote ∷ [])
     x) same all
-words_found words row e = absurd cc
+vif_in_words-denotes words row e = absurd cc
 
 -- the vif that the words tell is read
-pub words_only : (words : List (List ℕ)) (row : ℕ × VifText) → WordsTellVif words row
+pub vif_in_words-from_denotes : (words : List (List ℕ)) (row : ℕ × VifValue) → WordsDenoteVif words row
     → vif_in_words words ≡ Ok row
 unfolding vif_in_words
-words_only (index ∷ device ∷ bytes_in ∷ packets_in ∷ bytes_out ∷ packets_out ∷ flags ∷ local
+vif_in_words-from_denotes (index ∷ device ∷ bytes_in ∷ packets_in ∷ bytes_out ∷ packets_out ∷ flags ∷ local
     ∷ remote ∷ []) row h =
-    let number = number_only 0 31 index row.0 h.0 in
+    let number = number_in-from_denotes 0 31 index row.0 h.0 in
     rw (
       number,
       h.1.0,
@@ -104,144 +104,144 @@ words_only (index ∷ device ∷ bytes_in ∷ packets_in ∷ bytes_out ∷ packe
       ← h.6.tunnel,
       ← h.6.register,
     ) refl
-words_only words row h = absurd h
+vif_in_words-from_denotes words row h = absurd h
 
 -- the row repeats neither index nor device of an earlier one
-abbrev pub MayFollow : List (ℕ × VifText) → ℕ × VifText → Type 0
+abbrev pub MayFollow : List (ℕ × VifValue) → ℕ × VifValue → Type 0
 MayFollow earlier row = (index_repeats earlier row ≡ false) × (device_repeats earlier row ≡ false)
 
 -- indexes and devices differ
-abbrev pub MayStand : List (ℕ × VifText) → Type 0
-MayStand rows = IsDistinct nat_eq (map (λ row. row.0) rows)
+abbrev pub AreValid : List (ℕ × VifValue) → Type 0
+AreValid rows = IsDistinct nat_eq (map (λ row. row.0) rows)
     × IsDistinct bytes_eq (filter_map device_of rows)
 
 -- a line that is read as a vif tells it, and the vif may follow the earlier ones
-line_found : (earlier : List (ℕ × VifText)) (line : LineText) (row : ℕ × VifText)
-    → vif_in_line earlier line ≡ Ok row → LineTellsVif line row × MayFollow earlier row
+vif_in_line-denotes : (earlier : List (ℕ × VifValue)) (line : LineText) (row : ℕ × VifValue)
+    → vif_in_line earlier line ≡ Ok row → LineDenotesVif line row × MayFollow earlier row
 unfolding vif_in_line
-line_found earlier line row e =
-    let d = demand_then line.ended Unended _ row e in
+vif_in_line-denotes earlier line row e =
+    let d = demand-bind_ok line.ended Unended _ row e in
     let w = bind_ok (vif_in_words (words_of line.bytes)) _ row d.1 in
-    let i = demand_then (not (index_repeats earlier w.0)) RepeatedIndex _ row w.2 in
-    let v = demand_then (not (device_repeats earlier w.0)) RepeatedDevice _ row i.1 in
-    let same : w.0 ≡ row = ok_is w.0 row v.1 in
-    let told : LineTellsVif line w.0 = record {
+    let i = demand-bind_ok (not (index_repeats earlier w.0)) RepeatedIndex _ row w.2 in
+    let v = demand-bind_ok (not (device_repeats earlier w.0)) RepeatedDevice _ row i.1 in
+    let same : w.0 ≡ row = ok_injective w.0 row v.1 in
+    let denoted : LineDenotesVif line w.0 = record {
       ended = d.0;
-      words = words_found (words_of line.bytes) w.0 w.1;
+      words = vif_in_words-denotes (words_of line.bytes) w.0 w.1;
     } in
-    subst (λ (x : ℕ × VifText). LineTellsVif line x × MayFollow earlier x) same
-    (told, (not-true _ i.0, not-true _ v.0))
+    subst (λ (x : ℕ × VifValue). LineDenotesVif line x × MayFollow earlier x) same
+    (denoted, (not-true _ i.0, not-true _ v.0))
 
 -- a vif that a line tells and that may follow the earlier ones is read
-line_only : (earlier : List (ℕ × VifText)) (line : LineText) (row : ℕ × VifText)
-    → LineTellsVif line row → MayFollow earlier row → vif_in_line earlier line ≡ Ok row
+vif_in_line-from_denotes : (earlier : List (ℕ × VifValue)) (line : LineText) (row : ℕ × VifValue)
+    → LineDenotesVif line row → MayFollow earlier row → vif_in_line earlier line ≡ Ok row
 unfolding vif_in_line
-line_only earlier line row told new =
-    rw (told.ended, words_only (words_of line.bytes) row told.words, new.0, new.1) refl
+vif_in_line-from_denotes earlier line row denoted new =
+    rw (denoted.ended, vif_in_words-from_denotes (words_of line.bytes) row denoted.words, new.0, new.1) refl
 
 -- vifs stay ones that may stand when one that may follow is added
-rows_grow : (earlier : List (ℕ × VifText)) (row : ℕ × VifText) → MayStand earlier
-    → MayFollow earlier row → MayStand (earlier ++ row ∷ [])
-rows_grow earlier row stands new = (
-  rw map-append (IsDistinct-push nat_eq_equiv _ row.0 stands.0 new.0),
-  rw filter_map-append (distinct_grows nat_list_eq_equiv _ (device_of row) stands.1 new.1),
+rows-valid_push : (earlier : List (ℕ × VifValue)) (row : ℕ × VifValue) → AreValid earlier
+    → MayFollow earlier row → AreValid (earlier ++ row ∷ [])
+rows-valid_push earlier row valid new = (
+  rw map-append (IsDistinct-push nat_eq_equiv _ row.0 valid.0 new.0),
+  rw filter_map-append (is_distinct-push_key nat_list_eq_equiv _ (device_of row) valid.1 new.1),
 )
 
 -- in vifs that may stand each may follow those before it
-rows_follow : (earlier : List (ℕ × VifText)) (row : ℕ × VifText) (later : List (ℕ × VifText))
-    → MayStand (earlier ++ row ∷ later) → MayFollow earlier row
-rows_follow earlier row later stands = (
-  new_in_distinct nat_eq_equiv _ row.0 _ (rw map-append at stands.0),
-  distinct_follows nat_list_eq_equiv _ (device_of row) _ (rw filter_map-append at stands.1),
+rows-may_follow : (earlier : List (ℕ × VifValue)) (row : ℕ × VifValue) (later : List (ℕ × VifValue))
+    → AreValid (earlier ++ row ∷ later) → MayFollow earlier row
+rows-may_follow earlier row later valid = (
+  list_any-distinct_middle nat_eq_equiv _ row.0 _ (rw map-append at valid.0),
+  is_among-distinct_before nat_list_eq_equiv _ (device_of row) _ (rw filter_map-append at valid.1),
 )
 
 -- what is read with the line's number is told
-at_found : (earlier : List (ℕ × VifText)) (line : LineText) (row : ℕ × VifText)
-    → vif_at earlier line ≡ Ok row → LineTellsVif line row × MayFollow earlier row
-at_found earlier line row e =
-    line_found earlier line row (at_line_ok line.number (vif_in_line earlier line) row e)
+vif_at_line-denotes : (earlier : List (ℕ × VifValue)) (line : LineText) (row : ℕ × VifValue)
+    → vif_at_line earlier line ≡ Ok row → LineDenotesVif line row × MayFollow earlier row
+vif_at_line-denotes earlier line row e =
+    vif_in_line-denotes earlier line row (at_line-ok line.number (vif_in_line earlier line) row e)
 
 -- what is told is read with the line's number
-at_only : (earlier : List (ℕ × VifText)) (line : LineText) (row : ℕ × VifText)
-    → LineTellsVif line row → MayFollow earlier row → vif_at earlier line ≡ Ok row
-at_only earlier line row told new = rw (line_only earlier line row told new) refl
+vif_at_line-from_denotes : (earlier : List (ℕ × VifValue)) (line : LineText) (row : ℕ × VifValue)
+    → LineDenotesVif line row → MayFollow earlier row → vif_at_line earlier line ≡ Ok row
+vif_at_line-from_denotes earlier line row denoted new = rw (vif_in_line-from_denotes earlier line row denoted new) refl
 
 -- the empty list may stand
-nothing_stands : MayStand []
+rows-valid_none : AreValid []
 unfolding IsDistinct
-nothing_stands = (tt, tt)
+rows-valid_none = (tt, tt)
 
 -- so lines are read as vifs
-pub reads_vifs : ReadsRows vif_at LineTellsVif MayFollow MayStand
-reads_vifs = record { found = at_found; only = at_only; grows = rows_grow; follows = rows_follow }
+pub vif_at_line-reads_rows : ReadsRows vif_at_line LineDenotesVif MayFollow AreValid
+vif_at_line-reads_rows = record { found = vif_at_line-denotes; only = vif_at_line-from_denotes; grows = rows-valid_push; follows = rows-may_follow }
 
 -- the vifs that are read are those of the text
-rows_of : (text : List ℕ) (rows : List (ℕ × VifText)) → vif_rows_in text ≡ Ok rows
-    → AreVifRows text rows
-rows_of text rows e =
-    let b = bind_ok (lines_in (codes "Interface") text) (rows_after vif_at []) rows e in
-    let t = rows_told vif_at LineTellsVif MayFollow MayStand reads_vifs b.0 [] rows nothing_stands
+vif_rows_in-denotes : (text : List ℕ) (rows : List (ℕ × VifValue)) → vif_rows_in text ≡ Ok rows
+    → DenotesVifRows text rows
+vif_rows_in-denotes text rows e =
+    let b = bind_ok (lines_in (codes "Interface") text) (rows_after vif_at_line []) rows e in
+    let t = rows_after-denotes vif_at_line LineDenotesVif MayFollow AreValid vif_at_line-reads_rows b.0 [] rows rows-valid_none
     b.2 in
     record {
       lines = b.0;
-      header = lines_found (codes "Interface") text b.0 b.1;
-      told = subst (EachTells LineTellsVif b.0) t.1 t.2;
+      header = lines_in-has_header (codes "Interface") text b.0 b.1;
+      denoted = subst (EachDenotes LineDenotesVif b.0) t.1 t.2;
       indexes_differ = t.3.0;
       devices_differ = t.3.1;
     }
 
 -- the vifs of the text are read
-of_rows : (text : List ℕ) (rows : List (ℕ × VifText)) → AreVifRows text rows
+vif_rows_in-from_denotes : (text : List ℕ) (rows : List (ℕ × VifValue)) → DenotesVifRows text rows
     → vif_rows_in text ≡ Ok rows
-of_rows text rows h =
-    let e = lines_only (codes "Interface") text h.lines h.header in
-    rw e (rows_read vif_at LineTellsVif MayFollow MayStand reads_vifs h.lines [] rows h.told
+vif_rows_in-from_denotes text rows h =
+    let e = lines_in-from_header (codes "Interface") text h.lines h.header in
+    rw e (rows_after-from_denotes vif_at_line LineDenotesVif MayFollow AreValid vif_at_line-reads_rows h.lines [] rows h.denoted
     (h.indexes_differ, h.devices_differ))
 
 -- what is read is what the text stands for
-pub vifs_found : (text : List ℕ) (vifs : FinMap nat_cmp VifText) → vifs_in text ≡ Ok vifs
-    → StandsForVifs text vifs
-vifs_found text vifs e =
+pub vifs_in-denotes : (text : List ℕ) (vifs : FinMap nat_cmp VifValue) → vifs_in text ≡ Ok vifs
+    → DenotesVifs text vifs
+vifs_in-denotes text vifs e =
     let b = bind_ok (vif_rows_in text) (λ rows. Ok (from_entries rows)) vifs e in
     record {
       rows = b.0;
-      lines = rows_of text b.0 b.1;
-      as_map = sym (ok_is (from_entries b.0) vifs b.2);
+      lines = vif_rows_in-denotes text b.0 b.1;
+      as_map = sym (ok_injective (from_entries b.0) vifs b.2);
     }
 
 -- what the text stands for is read
-pub vifs_only : (text : List ℕ) (vifs : FinMap nat_cmp VifText) → StandsForVifs text vifs
+pub vifs_in-from_denotes : (text : List ℕ) (vifs : FinMap nat_cmp VifValue) → DenotesVifs text vifs
     → vifs_in text ≡ Ok vifs
-vifs_only text vifs h = rw (of_rows text h.rows h.lines, h.as_map) refl
+vifs_in-from_denotes text vifs h = rw (vif_rows_in-from_denotes text h.rows h.lines, h.as_map) refl
 
 -- other than nine words are no vif
-pub not_nine : (words : List (List ℕ)) → (length words ≡ 9 → ⊥) → vif_in_words words ≡ Err WordCount
+pub vif_needs_nine_words : (words : List (List ℕ)) → (length words ≡ 9 → ⊥) → vif_in_words words ≡ Err WordCount
 unfolding vif_in_words
-not_nine (index ∷ device ∷ bytes_in ∷ packets_in ∷ bytes_out ∷ packets_out ∷ flags ∷ local ∷ remote
+vif_needs_nine_words (index ∷ device ∷ bytes_in ∷ packets_in ∷ bytes_out ∷ packets_out ∷ flags ∷ local ∷ remote
     ∷ []) other = absurd (other refl)
-not_nine words other = refl
+vif_needs_nine_words words other = refl
 
 -- the index that words tell is 31 at most
-words_to_31 : (words : List (List ℕ)) (row : ℕ × VifText) → WordsTellVif words row → row.0 ≤ 31
-words_to_31 (index ∷ device ∷ bytes_in ∷ packets_in ∷ bytes_out ∷ packets_out ∷ flags ∷ local
+denoted_vif-at_most_31 : (words : List (List ℕ)) (row : ℕ × VifValue) → WordsDenoteVif words row → row.0 ≤ 31
+denoted_vif-at_most_31 (index ∷ device ∷ bytes_in ∷ packets_in ∷ bytes_out ∷ packets_out ∷ flags ∷ local
     ∷ remote ∷ []) row h = h.0.2
-words_to_31 words row h = absurd h
+denoted_vif-at_most_31 words row h = absurd h
 
 -- the indexes are 0 to 31
-abbrev pub AreNumbered : List (ℕ × VifText) → Type 0
-AreNumbered rows = AllByRecursion (λ row. row.0 ≤ 31) rows
+abbrev pub HaveIndexesTo31 : List (ℕ × VifValue) → Type 0
+HaveIndexesTo31 rows = AllByRecursion (λ row. row.0 ≤ 31) rows
 
 -- lines tell such indexes alone
-pub told_to_31 : (lines : List LineText) (rows : List (ℕ × VifText))
-    → EachTells LineTellsVif lines rows → AreNumbered rows
-told_to_31 [] [] told = tt
-told_to_31 [] (row ∷ rows) told = absurd told
-told_to_31 (line ∷ lines) [] told = absurd told
-told_to_31 (line ∷ lines) (row ∷ rows) told =
-    (words_to_31 (words_of line.bytes) row told.0.words, told_to_31 lines rows told.1)
+pub denoted_vifs-at_most_31 : (lines : List LineText) (rows : List (ℕ × VifValue))
+    → EachDenotes LineDenotesVif lines rows → HaveIndexesTo31 rows
+denoted_vifs-at_most_31 [] [] denoted = tt
+denoted_vifs-at_most_31 [] (row ∷ rows) denoted = absurd denoted
+denoted_vifs-at_most_31 (line ∷ lines) [] denoted = absurd denoted
+denoted_vifs-at_most_31 (line ∷ lines) (row ∷ rows) denoted =
+    (denoted_vif-at_most_31 (words_of line.bytes) row denoted.0.words, denoted_vifs-at_most_31 lines rows denoted.1)
 
 -- what is read, unless memory runs out, is what the text stands for
-pub read_is_found : (text : List ℕ) (read : Result (FinMap nat_cmp VifText) TableFault)
-    → ((read ≡ Err out_of_memory → ⊥) → read ≡ vifs_in text) → IfOk read (StandsForVifs text)
-read_is_found text (Ok vifs) exact = vifs_found text vifs (sym (exact (λ e. absurd cc)))
-read_is_found text (Err fault) exact = tt
+pub vifs_result-denotes : (text : List ℕ) (read : Result (FinMap nat_cmp VifValue) TableFault)
+    → ((read ≡ Err out_of_memory → ⊥) → read ≡ vifs_in text) → IfOk read (DenotesVifs text)
+vifs_result-denotes text (Ok vifs) exact = vifs_in-denotes text vifs (sym (exact (λ e. absurd cc)))
+vifs_result-denotes text (Err fault) exact = tt

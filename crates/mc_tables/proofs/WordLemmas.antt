@@ -9,7 +9,7 @@ use Rattle.std.proofs.lemmas.Bool.{and_parts, and_from, leb-true, le-leb}
 use Rattle.std.proofs.lemmas.Str.{digit_value_digit}
 use Rattle.std.proofs.lemmas.Str.Parse.{digit_from_value}
 use Rattle.mc_text.specs.Number.{IsDecimal}
-use Rattle.mc_tables.specs.TableWords.{WritesNumber, is_decimal, number_in}
+use Rattle.mc_tables.specs.TableWords.{WordDenotesNumber, is_decimal_word, number_in}
 
 -- a result that is found and only found where P holds is the answer that has P
 pub option_from_clauses : {A : Type 0} (P : A → Type 0) (r o : Option A) → IfSome r P
@@ -20,14 +20,14 @@ option_from_clauses P None None found only holds gives = refl
 option_from_clauses P None (Some x) found only holds gives = only x (holds x refl)
 
 -- a value under a test
-pub guarded_is : {A : Type 0} (b : Bool) (x y : A) → cond b (Some x) None ≡ Some y → (b ≡ true)
+pub cond-some : {A : Type 0} (b : Bool) (x y : A) → cond b (Some x) None ≡ Some y → (b ≡ true)
     × (x ≡ y)
-guarded_is true x y e = (refl, cc)
-guarded_is false x y e = absurd cc
+cond-some true x y e = (refl, cc)
+cond-some false x y e = absurd cc
 
 -- a digit that passes the test is below 10
-digit_small : (c : ℕ) → is_ascii_digit c ≡ true → digit_value c < 10
-digit_small c e =
+digit_value-decimal : (c : ℕ) → is_ascii_digit c ≡ true → digit_value c < 10
+digit_value-decimal c e =
     let p = and_parts (nat_le 48 c) (nat_le c 57) e in
     omega (
       arith,
@@ -37,51 +37,51 @@ digit_small c e =
     )
 
 -- a digit below 10 passes the test
-digit_passes : (c : ℕ) → digit_value c < 10 → is_ascii_digit c ≡ true
-digit_passes c h = let r = digit_from_value c h in
+is_ascii_digit-decimal : (c : ℕ) → digit_value c < 10 → is_ascii_digit c ≡ true
+is_ascii_digit-decimal c h = let r = digit_from_value c h in
     and_from (nat_le 48 c) (nat_le c 57) (le-leb 48 c r.0) (le-leb c 57 r.1)
 
 -- digits that pass the test are digits to the base 10
-all_digits : (word : List ℕ) → list_all is_ascii_digit word ≡ true → AllDigits 10 word
-all_digits [] e = tt
-all_digits (c ∷ cs) e = let p = and_parts (is_ascii_digit c) _ e in
-    (digit_small c p.0, all_digits cs p.1)
+all_digits-decimal : (word : List ℕ) → list_all is_ascii_digit word ≡ true → AllDigits 10 word
+all_digits-decimal [] e = tt
+all_digits-decimal (c ∷ cs) e = let p = and_parts (is_ascii_digit c) _ e in
+    (digit_value-decimal c p.0, all_digits-decimal cs p.1)
 
 -- and digits to that base pass it
-digits_pass : (word : List ℕ) → AllDigits 10 word → list_all is_ascii_digit word ≡ true
-digits_pass [] h = refl
-digits_pass (c ∷ cs) h = and_from (is_ascii_digit c) _ (digit_passes c h.0) (digits_pass cs h.1)
+list_all-decimal_digits : (word : List ℕ) → AllDigits 10 word → list_all is_ascii_digit word ≡ true
+list_all-decimal_digits [] h = refl
+list_all-decimal_digits (c ∷ cs) h = and_from (is_ascii_digit c) _ (is_ascii_digit-decimal c h.0) (list_all-decimal_digits cs h.1)
 
 -- the number that is read is what the word writes
-pub number_found : (least most : ℕ) (word : List ℕ) (n : ℕ) → number_in least most word ≡ Some n
-    → WritesNumber least most word n
-number_found least most word n e =
-    let g = guarded_is _ (digits_value 10 word) n e in
-    let p = and_parts (is_decimal word) _ g.0 in
+pub number_in-denotes : (least most : ℕ) (word : List ℕ) (n : ℕ) → number_in least most word ≡ Some n
+    → WordDenotesNumber least most word n
+number_in-denotes least most word n e =
+    let g = cond-some _ (digits_value 10 word) n e in
+    let p = and_parts (is_decimal_word word) _ g.0 in
     let d = and_parts (nat_le 1 (length word)) _ p.0 in
     let r = and_parts (nat_le least (digits_value 10 word)) _ p.1 in
     let low : least ≤ digits_value 10 word = leb-true _ _ r.0 in
     let high : digits_value 10 word ≤ most = leb-true _ _ r.1 in (
-      ((leb-true 1 (length word) d.0, all_digits word d.1), g.1),
+      ((leb-true 1 (length word) d.0, all_digits-decimal word d.1), g.1),
       omega (arith, g.1),
       omega (arith, g.1),
     )
 
 -- the number that the word writes is read
-pub number_only : (least most : ℕ) (word : List ℕ) (n : ℕ) → WritesNumber least most word n
+pub number_in-from_denotes : (least most : ℕ) (word : List ℕ) (n : ℕ) → WordDenotesNumber least most word n
     → number_in least most word ≡ Some n
-number_only least most word n h =
+number_in-from_denotes least most word n h =
     let is = h.0.1 in
-    let d : is_decimal word ≡ true =
+    let d : is_decimal_word word ≡ true =
     and_from (nat_le 1 (length word)) _ (le-leb 1 (length word) h.0.0.0)
-    (digits_pass word h.0.0.1) in
+    (list_all-decimal_digits word h.0.0.1) in
     let low : nat_le least (digits_value 10 word) ≡ true = le-leb _ _ (omega (arith, is, h.1)) in
     let high : nat_le (digits_value 10 word) most ≡ true = le-leb _ _ (omega (arith, is, h.2)) in
     rw (d, low, high) (ap Some is)
 
 -- a word that writes no number up to the greatest one
-pub number_none : (least most : ℕ) (word : List ℕ) (decimal : Option ℕ) → decimal ≡ None
+pub number_in-none : (least most : ℕ) (word : List ℕ) (decimal : Option ℕ) → decimal ≡ None
     → ((n : ℕ) → IsDecimal word n → n ≤ most → decimal ≡ Some n) → None ≡ number_in least most word
-number_none least most word decimal none only =
-    option_from_clauses (WritesNumber least most word) None (number_in least most word) tt
-    (λ n h. sym none ∙ only n h.0 h.2) (number_found least most word) (number_only least most word)
+number_in-none least most word decimal none only =
+    option_from_clauses (WordDenotesNumber least most word) None (number_in least most word) tt
+    (λ n h. sym none ∙ only n h.0 h.2) (number_in-denotes least most word) (number_in-from_denotes least most word)

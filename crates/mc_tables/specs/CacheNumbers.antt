@@ -5,74 +5,74 @@ use Rattle.std.specs.Option.{option_map}
 use Rattle.std.specs.List.{filter_map}
 use Rattle.std.specs.BTreeMap.{is_at}
 use Rattle.std.specs.Map.{lookup}
-use Rattle.mc_tables.specs.CacheTable.{EntryText, CacheText, key_cmp}
-use Rattle.mc_tables.specs.declared.listed_numbers.Numbered.{Numbered}
-use Rattle.mc_tables.specs.declared.listed_numbers.Numbered.TheVariants.{New, Repeated, Unlisted}
-use Rattle.mc_tables.specs.ListedRows.{ListedSet, is_in}
+use Rattle.mc_tables.specs.CacheTable.{EntryValue, CacheValue, key_cmp}
+use Rattle.mc_tables.specs.declared.listed_entry_numbers.Inserted.{Inserted}
+use Rattle.mc_tables.specs.declared.listed_entry_numbers.Inserted.TheVariants.{New, Repeated, Unlisted}
+use Rattle.mc_tables.specs.ListedRows.{ListedSet, set_has_key}
 
 -- the entry of a number, with the source and the group that have the number
-abbrev pub numbered_entry : List EntryText → (ℕ × ℕ) × ℕ → Option ((ℕ × ℕ) × EntryText)
+abbrev pub numbered_entry : List EntryValue → (ℕ × ℕ) × ℕ → Option ((ℕ × ℕ) × EntryValue)
 numbered_entry entries p = option_map (λ entry. (p.0, entry)) (slice_get entries p.1)
 
 -- the entries by source and group
-abbrev pub entries_by : List ((ℕ × ℕ) × ℕ) → List EntryText → List ((ℕ × ℕ) × EntryText)
-entries_by numbers entries = filter_map (numbered_entry entries) numbers
+abbrev pub entries_by_key : List ((ℕ × ℕ) × ℕ) → List EntryValue → List ((ℕ × ℕ) × EntryValue)
+entries_by_key numbers entries = filter_map (numbered_entry entries) numbers
 
 -- the number of a source and a group
-abbrev pub number_in : List ((ℕ × ℕ) × ℕ) → ℕ × ℕ → Option ℕ
-number_in numbers key = lookup (is_at (key_cmp key)) numbers
+abbrev pub number_of_key : List ((ℕ × ℕ) × ℕ) → ℕ × ℕ → Option ℕ
+number_of_key numbers key = lookup (is_at (key_cmp key)) numbers
 
 -- each number is of an entry
-abbrev pub AreNumbers : List ((ℕ × ℕ) × ℕ) → List EntryText → Type 0
-AreNumbers numbers entries =
-    (key : ℕ × ℕ) → IfSome (number_in numbers key) (λ number. number < length entries)
+abbrev pub AreEntryNumbers : List ((ℕ × ℕ) × ℕ) → List EntryValue → Type 0
+AreEntryNumbers numbers entries =
+    (key : ℕ × ℕ) → IfSome (number_of_key numbers key) (λ number. number < length entries)
 
 -- ---- numbers of some sources and groups
 
 -- which sources and groups can have a number, and those that have one
-pub record KeysText : Type 0 where
+pub record EntryNumbersValue : Type 0 where
   pub listed : ListedSet
   pub numbers : List ((ℕ × ℕ) × ℕ)
 
 -- A list says at the place of each key one more than its number, or 0; a key past its end has none.
-abbrev pub filled : List (ℕ × ℕ) → List ℕ → List ((ℕ × ℕ) × ℕ)
-filled (key ∷ keys) (zero ∷ ns) = filled keys ns
-filled (key ∷ keys) (suc n ∷ ns) = (key, n) ∷ filled keys ns
-filled _ _ = []
+abbrev pub numbers_at_places : List (ℕ × ℕ) → List ℕ → List ((ℕ × ℕ) × ℕ)
+numbers_at_places (key ∷ keys) (zero ∷ ns) = numbers_at_places keys ns
+numbers_at_places (key ∷ keys) (suc n ∷ ns) = (key, n) ∷ numbers_at_places keys ns
+numbers_at_places _ _ = []
 
 -- the number that a place says
-abbrev pub number_of_next : ℕ → Option ℕ
-number_of_next zero = None
-number_of_next (suc n) = Some n
+abbrev pub decoded_number : ℕ → Option ℕ
+decoded_number zero = None
+decoded_number (suc n) = Some n
 
 -- the key stands at this place
 abbrev pub IsPlaceOf : List (ℕ × ℕ) → ℕ × ℕ → ℕ → Type 0
 IsPlaceOf keys key place = (place < length keys) × (get_or keys place key ≡ key)
 
 -- those that are listed, with their numbers, or all
-abbrev pub keys_of : Option KeysText → List ((ℕ × ℕ) × ℕ) → KeysText
-keys_of (Some keys) all = keys
-keys_of None all = record { listed = None; numbers = all }
+abbrev pub listed_or_all : Option EntryNumbersValue → List ((ℕ × ℕ) × ℕ) → EntryNumbersValue
+listed_or_all (Some keys) all = keys
+listed_or_all None all = record { listed = None; numbers = all }
 
 -- numbers with one more
-abbrev pub MoreNumbers : (key : ℕ × ℕ) (number : ℕ) (numbers more : List ((ℕ × ℕ) × ℕ)) → Type 0
-MoreNumbers key number numbers more =
-    (q : ℕ × ℕ) → number_in more q ≡ cond (is_at (key_cmp key) q) (Some number) (number_in numbers q)
+abbrev pub AddsNumber : (key : ℕ × ℕ) (number : ℕ) (numbers more : List ((ℕ × ℕ) × ℕ)) → Type 0
+AddsNumber key number numbers more =
+    (q : ℕ × ℕ) → number_of_key more q ≡ cond (is_at (key_cmp key) q) (Some number) (number_of_key numbers q)
 
 -- what became of a key that was to get a number
-abbrev pub IsNumbered : (key : ℕ × ℕ) (number : ℕ) (old new : KeysText) → Numbered → Type 0
-IsNumbered key number old new New =
-    (is_in old.listed key ≡ true) × (number_in old.numbers key ≡ None) × (new.listed ≡ old.listed)
-    × MoreNumbers key number old.numbers new.numbers
-IsNumbered key number old new Repeated =
-    (is_in old.listed key ≡ true) × (is_some (number_in old.numbers key) ≡ true) × (new ≡ old)
-IsNumbered key number old new Unlisted = (is_in old.listed key ≡ false) × (new ≡ old)
+abbrev pub IsNumberInserted : (key : ℕ × ℕ) (number : ℕ) (old new : EntryNumbersValue) → Inserted → Type 0
+IsNumberInserted key number old new New =
+    (set_has_key old.listed key ≡ true) × (number_of_key old.numbers key ≡ None) × (new.listed ≡ old.listed)
+    × AddsNumber key number old.numbers new.numbers
+IsNumberInserted key number old new Repeated =
+    (set_has_key old.listed key ≡ true) × (is_some (number_of_key old.numbers key) ≡ true) × (new ≡ old)
+IsNumberInserted key number old new Unlisted = (set_has_key old.listed key ≡ false) × (new ≡ old)
 
 -- ---- the rows that are kept
 
 -- the table of the rows that are kept, which rows are, and the groups of those for every source, as
 -- they stand
-pub record KeptText : Type 0 where
-  pub table : CacheText
+pub record KeptRowsValue : Type 0 where
+  pub table : CacheValue
   pub listed : ListedSet
   pub groups : List ℕ

@@ -8,7 +8,7 @@ use Rattle.std.specs.Str.{bytes_eq}
 use Rattle.mc_text.specs.declared.text.addr.Order.{Order}
 use Rattle.mc_text.specs.Lines.{LineText, words_of}
 use Rattle.mc_tables.specs.declared.entry.Oif.{Oif}
-use Rattle.mc_tables.specs.CacheTable.{EntryText}
+use Rattle.mc_tables.specs.CacheTable.{EntryValue}
 use Rattle.mc_tables.specs.declared.fault.TableFault.{TableFault}
 use Rattle.mc_tables.specs.declared.fault.TableFaultKind.{TableFaultKind}
 use Rattle.mc_tables.specs.declared.fault.TableFaultKind.TheVariants.{Unended, WordCount}
@@ -20,7 +20,7 @@ use Rattle.mc_text.specs.Steps.{◌>>=◌}
 use Rattle.mc_tables.specs.Steps.{demand, at_line}
 use Rattle.mc_tables.specs.TableWords.{is_counter, number_in, address_in}
 use Rattle.mc_tables.specs.TableLines.{is_among, lines_in, rows_after}
-use Rattle.mc_tables.specs.CacheTable.{RowText, CacheText, by_vif, same_key, key_of, table_of}
+use Rattle.mc_tables.specs.CacheTable.{RowValue, CacheValue, oifs_by_vif, same_key, key_of, table_of}
 
 -- ---- the outgoing words
 
@@ -48,7 +48,7 @@ oif_after earlier word = do
 
 -- the outgoing vifs, which are read in the order of the words, by ascending vif
 abbrev pub oifs_in : List (List ℕ) → Result (List Oif) TableFaultKind
-oifs_in words = rows_after oif_after [] words >>= λ told. Ok (by_vif (from_entries told))
+oifs_in words = rows_after oif_after [] words >>= λ denoted. Ok (oifs_by_vif (from_entries denoted))
 
 -- ---- a line
 
@@ -61,29 +61,29 @@ abbrev pub incoming_in : List ℕ → Result (Option ℕ) TableFaultKind
 incoming_in word =
     if bytes_eq word (codes "-1") then Ok None else incoming_number (number_in 0 31 word)
 
-abbrev pub entry_in : Option ℕ → List (List ℕ) → Result (Option EntryText) TableFaultKind
+abbrev pub entry_in : Option ℕ → List (List ℕ) → Result (Option EntryValue) TableFaultKind
 entry_in None [] = Ok None
 entry_in None (word ∷ words) = Err BadOif
 entry_in (Some iif) words = oifs_in words >>= λ oifs. Ok (Some (record { iif = iif; oifs = oifs }))
 
 -- the words from the left
-unfoldable pub row_in_words : Order → List (List ℕ) → Result RowText TableFaultKind
-row_in_words order (group ∷ origin ∷ iif ∷ packets ∷ bytes ∷ wrong ∷ outgoing) = do
+unfoldable pub row_in_words : Order → List (List ℕ) → Result RowValue TableFaultKind
+row_in_words order (group ∷ origin ∷ iif ∷ packets ∷ bytes ∷ wrong_if ∷ outgoing) = do
   g ← ok_or (address_in order group) BadAddress
   o ← ok_or (address_in order origin) BadAddress
   i ← incoming_in iif
   _ ← demand (is_counter packets) BadCounter
   _ ← demand (is_counter bytes) BadCounter
-  _ ← demand (is_counter wrong) BadCounter
+  _ ← demand (is_counter wrong_if) BadCounter
   e ← entry_in i outgoing
   Ok (record { group = g; origin = o; entry = e })
 row_in_words order words = Err WordCount
 
 -- an earlier row has the source and the group
-abbrev pub entry_repeats : List RowText → RowText → Bool
+abbrev pub entry_repeats : List RowValue → RowValue → Bool
 entry_repeats earlier row = is_among same_key (key_of row) (filter_map key_of earlier)
 
-unfoldable pub row_in_line : Order → List RowText → LineText → Result RowText TableFaultKind
+unfoldable pub row_in_line : Order → List RowValue → LineText → Result RowValue TableFaultKind
 row_in_line order earlier line = do
   _ ← demand line.ended Unended
   _ ← demand (nat_lt (length earlier) 65536) TooLarge
@@ -91,14 +91,14 @@ row_in_line order earlier line = do
   _ ← demand (not (entry_repeats earlier row)) RepeatedEntry
   Ok row
 
-abbrev pub row_at : Order → List RowText → LineText → Result RowText TableFault
-row_at order earlier line = at_line line.number (row_in_line order earlier line)
+abbrev pub row_at_line : Order → List RowValue → LineText → Result RowValue TableFault
+row_at_line order earlier line = at_line line.number (row_in_line order earlier line)
 
 -- ---- the text
 
 -- the rows in the order of the lines
-abbrev pub cache_rows_in : Order → List ℕ → Result (List RowText) TableFault
-cache_rows_in order text = lines_in (codes "Group") text >>= rows_after (row_at order) []
+abbrev pub cache_rows_in : Order → List ℕ → Result (List RowValue) TableFault
+cache_rows_in order text = lines_in (codes "Group") text >>= rows_after (row_at_line order) []
 
-abbrev pub cache_in : Order → List ℕ → Result CacheText TableFault
+abbrev pub cache_in : Order → List ℕ → Result CacheValue TableFault
 cache_in order text = cache_rows_in order text >>= λ rows. Ok (table_of rows)

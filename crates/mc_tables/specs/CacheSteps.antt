@@ -6,48 +6,48 @@ use Rattle.std.specs.FinSet as set
 use Rattle.std.specs.Ordering.{nat_cmp}
 use Rattle.mc_text.specs.declared.text.addr.Order.{Order}
 use Rattle.mc_text.specs.Lines.{LineText, words_of}
-use Rattle.mc_tables.specs.CacheTable.{EntryText}
+use Rattle.mc_tables.specs.CacheTable.{EntryValue}
 use Rattle.mc_tables.specs.declared.fault.TableFaultKind.{TableFaultKind}
 use Rattle.mc_tables.specs.declared.fault.TableFaultKind.TheVariants.{Unended, TooLarge}
 use Rattle.mc_tables.specs.declared.fault.TableFaultKind.TheVariants.{RepeatedEntry}
 use Rattle.mc_text.specs.Steps.{◌>>=◌}
 use Rattle.mc_tables.specs.Steps.{demand}
-use Rattle.mc_tables.specs.CacheTable.{RowText, CacheText, key_cmp, exact_entry, wildcard_of}
+use Rattle.mc_tables.specs.CacheTable.{RowValue, CacheValue, key_cmp, exact_entry, wildcard_group}
 use Rattle.mc_tables.specs.CacheReading.{row_in_words}
 
 -- the map has the entry's key, if it is one
-abbrev pub has_key : map.FinMap key_cmp EntryText → Option ((ℕ × ℕ) × EntryText) → Bool
+abbrev pub has_key : map.FinMap key_cmp EntryValue → Option ((ℕ × ℕ) × EntryValue) → Bool
 has_key entries None = false
 has_key entries (Some exact) = is_some (map.get entries exact.0)
 
 -- one entry more, if it is one
-abbrev pub with_exact : map.FinMap key_cmp EntryText → Option ((ℕ × ℕ) × EntryText)
-    → map.FinMap key_cmp EntryText
-with_exact entries None = entries
-with_exact entries (Some exact) = map.insert entries exact.0 exact.1
+abbrev pub with_exact_entry : map.FinMap key_cmp EntryValue → Option ((ℕ × ℕ) × EntryValue)
+    → map.FinMap key_cmp EntryValue
+with_exact_entry entries None = entries
+with_exact_entry entries (Some exact) = map.insert entries exact.0 exact.1
 
 -- one entry more by number, if it is one
-abbrev pub with_number : List EntryText → Option ((ℕ × ℕ) × EntryText) → List EntryText
-with_number entries None = entries
-with_number entries (Some exact) = entries ++ exact.1 ∷ []
+abbrev pub with_numbered_entry : List EntryValue → Option ((ℕ × ℕ) × EntryValue) → List EntryValue
+with_numbered_entry entries None = entries
+with_numbered_entry entries (Some exact) = entries ++ exact.1 ∷ []
 
 -- one group more, if it is one
-abbrev pub with_wildcard : set.FinSet nat_cmp → Option ℕ → set.FinSet nat_cmp
-with_wildcard groups None = groups
-with_wildcard groups (Some group) = set.insert groups group
+abbrev pub with_wildcard_group : set.FinSet nat_cmp → Option ℕ → set.FinSet nat_cmp
+with_wildcard_group groups None = groups
+with_wildcard_group groups (Some group) = set.insert groups group
 
 -- a row more, if its source and group are new
-abbrev pub row_added : CacheText → RowText → Result CacheText TableFaultKind
+abbrev pub row_added : CacheValue → RowValue → Result CacheValue TableFaultKind
 row_added table row = do
   _ ← demand (not (has_key table.entries (exact_entry row))) RepeatedEntry
   Ok (record {
-    entries = with_exact table.entries (exact_entry row);
-    numbered = with_number table.numbered (exact_entry row);
-    wildcards = with_wildcard table.wildcards (wildcard_of row);
+    entries = with_exact_entry table.entries (exact_entry row);
+    numbered = with_numbered_entry table.numbered (exact_entry row);
+    wildcards = with_wildcard_group table.wildcards (wildcard_group row);
   })
 
 -- an entry more, if its source and group are new
-abbrev pub entry_added : CacheText → ℕ × ℕ → EntryText → Result CacheText TableFaultKind
+abbrev pub entry_added : CacheValue → ℕ × ℕ → EntryValue → Result CacheValue TableFaultKind
 entry_added table key entry = do
   _ ← demand (not (is_some (map.get table.entries key))) RepeatedEntry
   Ok (record {
@@ -57,7 +57,7 @@ entry_added table key entry = do
   })
 
 -- a group more
-abbrev pub group_added : CacheText → ℕ → CacheText
+abbrev pub group_added : CacheValue → ℕ → CacheValue
 group_added table group = record {
   entries = table.entries;
   numbered = table.numbered;
@@ -65,7 +65,7 @@ group_added table group = record {
 }
 
 -- the row of a line after so many others
-abbrev pub row_with_room : Order → ℕ → LineText → Result RowText TableFaultKind
+abbrev pub row_with_room : Order → ℕ → LineText → Result RowValue TableFaultKind
 row_with_room order count line = do
   _ ← demand line.ended Unended
   _ ← demand (nat_lt count 65536) TooLarge

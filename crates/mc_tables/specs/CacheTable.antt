@@ -14,64 +14,64 @@ use Rattle.std.specs.FinSet as set
 use Rattle.mc_text.specs.declared.text.addr.Order.{Order}
 use Rattle.mc_text.specs.Lines.{LineText, words_of}
 use Rattle.mc_tables.specs.declared.entry.Oif.{Oif}
-use Rattle.mc_tables.specs.TableWords.{is_counter, WritesNumber, WritesAddress}
-use Rattle.mc_tables.specs.TableLines.{HasHeader, EachTells}
+use Rattle.mc_tables.specs.TableWords.{is_counter, WordDenotesNumber, WordDenotesAddress}
+use Rattle.mc_tables.specs.TableLines.{HasHeader, EachDenotes}
 
 -- ---- the lines
 
 -- `n:t` writes an outgoing vif and its threshold
-pub record WritesOif (word : List ℕ) (oif : ℕ × ℕ) : Type 0 where
+pub record WordDenotesOif (word : List ℕ) (oif : ℕ × ℕ) : Type 0 where
   pub vif : List ℕ
   pub threshold : List ℕ
   pub colon : word ≡ vif ++ 58 ∷ threshold
-  pub vif_number : WritesNumber 0 31 vif oif.0
-  pub threshold_number : WritesNumber 1 254 threshold oif.1
+  pub vif_number : WordDenotesNumber 0 31 vif oif.0
+  pub threshold_number : WordDenotesNumber 1 254 threshold oif.1
 
 -- a map from vifs to thresholds, as the list of outgoing vifs by ascending vif
 abbrev pub to_oif : ℕ × ℕ → Oif
 to_oif o = record { vif = o.0; threshold = o.1 }
 
-abbrev pub by_vif : map.FinMap nat_cmp ℕ → List Oif
-by_vif thresholds = map_list to_oif (map.entries thresholds)
+abbrev pub oifs_by_vif : map.FinMap nat_cmp ℕ → List Oif
+oifs_by_vif thresholds = map_list to_oif (map.entries thresholds)
 
 -- words that write outgoing vifs, each vif once
-pub record WriteOifs (words : List (List ℕ)) (oifs : List Oif) : Type 0 where
-  pub told : List (ℕ × ℕ)
-  pub each : EachTells WritesOif words told
-  pub vifs_differ : IsDistinct nat_eq (map_list (λ oif. oif.0) told)
-  pub ascending : oifs ≡ by_vif (map.from_entries told)
+pub record WordsDenoteOifs (words : List (List ℕ)) (oifs : List Oif) : Type 0 where
+  pub denoted : List (ℕ × ℕ)
+  pub each : EachDenotes WordDenotesOif words denoted
+  pub vifs_differ : IsDistinct nat_eq (map_list (λ oif. oif.0) denoted)
+  pub ascending : oifs ≡ oifs_by_vif (map.from_entries denoted)
 
 -- what a resolved row says: the incoming vif, and the outgoing ones by ascending vif
-pub record EntryText : Type 0 where
+pub record EntryValue : Type 0 where
   pub iif : ℕ
   pub oifs : List Oif
 
 -- the word of an incoming vif and the outgoing words: `-1` alone in an unresolved row
-abbrev pub WriteEntry : List ℕ → List (List ℕ) → Option EntryText → Type 0
-WriteEntry iif outgoing None = (iif ≡ codes "-1") × (outgoing ≡ [])
-WriteEntry iif outgoing (Some entry) =
-    WritesNumber 0 31 iif entry.iif × WriteOifs outgoing entry.oifs
+abbrev pub WordsDenoteEntry : List ℕ → List (List ℕ) → Option EntryValue → Type 0
+WordsDenoteEntry iif outgoing None = (iif ≡ codes "-1") × (outgoing ≡ [])
+WordsDenoteEntry iif outgoing (Some entry) =
+    WordDenotesNumber 0 31 iif entry.iif × WordsDenoteOifs outgoing entry.oifs
 
 -- a row: a group, an origin, which is 0 in a row for every source, and an entry unless the row is
 -- unresolved
-pub record RowText : Type 0 where
+pub record RowValue : Type 0 where
   pub group : ℕ
   pub origin : ℕ
-  pub entry : Option EntryText
+  pub entry : Option EntryValue
 
 -- Words tell a row: group, origin, incoming vif, packets, bytes, packets from a wrong vif, and the
 -- outgoing vifs.
-abbrev pub WordsTellRow : Order → List (List ℕ) → RowText → Type 0
-WordsTellRow order (group ∷ origin ∷ iif ∷ packets ∷ bytes ∷ wrong ∷ outgoing) row =
-    WritesAddress order group row.group × WritesAddress order origin row.origin
-    × IsTrue (is_counter packets) × IsTrue (is_counter bytes) × IsTrue (is_counter wrong)
-    × WriteEntry iif outgoing row.entry
-WordsTellRow order words row = ⊥
+abbrev pub WordsDenoteRow : Order → List (List ℕ) → RowValue → Type 0
+WordsDenoteRow order (group ∷ origin ∷ iif ∷ packets ∷ bytes ∷ wrong_if ∷ outgoing) row =
+    WordDenotesAddress order group row.group × WordDenotesAddress order origin row.origin
+    × IsTrue (is_counter packets) × IsTrue (is_counter bytes) × IsTrue (is_counter wrong_if)
+    × WordsDenoteEntry iif outgoing row.entry
+WordsDenoteRow order words row = ⊥
 
 -- a line that a line feed ends
-pub record LineTellsRow (order : Order) (line : LineText) (row : RowText) : Type 0 where
+pub record LineDenotesRow (order : Order) (line : LineText) (row : RowValue) : Type 0 where
   pub ended : IsTrue line.ended
-  pub words : WordsTellRow order (words_of line.bytes) row
+  pub words : WordsDenoteRow order (words_of line.bytes) row
 
 -- ---- the rows
 
@@ -83,23 +83,23 @@ abbrev pub same_key : ℕ × ℕ → ℕ × ℕ → Bool
 same_key = eq_by_cmp key_cmp
 
 -- the source, the group and the entry of a resolved row whose source isn't 0.0.0.0
-abbrev pub exact_entry : RowText → Option ((ℕ × ℕ) × EntryText)
+abbrev pub exact_entry : RowValue → Option ((ℕ × ℕ) × EntryValue)
 exact_entry row =
     if row.origin == 0 then None
     else option_map (λ entry. ((row.origin, row.group), entry)) row.entry
 
-abbrev pub key_of : RowText → Option (ℕ × ℕ)
+abbrev pub key_of : RowValue → Option (ℕ × ℕ)
 key_of row = option_map (λ exact. exact.0) (exact_entry row)
 
 -- the group of a resolved row for every source
-abbrev pub wildcard_of : RowText → Option ℕ
-wildcard_of row = if row.origin == 0 then option_map (λ _. row.group) row.entry else None
+abbrev pub wildcard_group : RowValue → Option ℕ
+wildcard_group row = if row.origin == 0 then option_map (λ _. row.group) row.entry else None
 
 -- a text of these rows, in the order of its lines
-pub record AreCacheRows (order : Order) (text : List ℕ) (rows : List RowText) : Type 0 where
+pub record DenotesCacheRows (order : Order) (text : List ℕ) (rows : List RowValue) : Type 0 where
   pub lines : List LineText
   pub header : HasHeader (codes "Group") text lines
-  pub told : EachTells (LineTellsRow order) lines rows
+  pub denoted : EachDenotes (LineDenotesRow order) lines rows
   pub count : length rows ≤ 65536
   pub keys_differ : IsDistinct same_key (filter_map key_of rows)
 
@@ -107,21 +107,21 @@ pub record AreCacheRows (order : Order) (text : List ℕ) (rows : List RowText) 
 
 -- the entries by source and group, the same entries in the order of their lines, so that each has a
 -- number, and the groups of the rows for every source
-pub record CacheText : Type 0 where
-  pub entries : map.FinMap key_cmp EntryText
-  pub numbered : List EntryText
+pub record CacheValue : Type 0 where
+  pub entries : map.FinMap key_cmp EntryValue
+  pub numbered : List EntryValue
   pub wildcards : set.FinSet nat_cmp
 
-abbrev pub table_of : List RowText → CacheText
+abbrev pub table_of : List RowValue → CacheValue
 table_of rows = record {
   entries = map.from_entries (filter_map exact_entry rows);
   numbered = map_list (λ exact. exact.1) (filter_map exact_entry rows);
-  wildcards = set.from_list (filter_map wildcard_of rows);
+  wildcards = set.from_list (filter_map wildcard_group rows);
 }
 
 -- What each entry of a table is: vifs from 0 to 31, of which the outgoing ones ascend, so that none
 -- stands twice, and thresholds from 1 to 254.
-pub record IsEntry (entry : EntryText) : Type 0 where
+pub record IsValidEntry (entry : EntryValue) : Type 0 where
   pub incoming : entry.iif ≤ 31
   pub ascending : IsStrictlyIncreasing (map_list (λ oif. oif.vif) entry.oifs)
   pub ranges : AllByRecursion
@@ -129,14 +129,14 @@ pub record IsEntry (entry : EntryText) : Type 0 where
 
 -- What every table keeps, whatever text it was read from: each entry stands as above, and none is
 -- for the source 0.0.0.0.
-pub record IsCache (table : CacheText) : Type 0 where
-  pub entries : (key : ℕ × ℕ) → IfSome (map.get table.entries key) IsEntry
+pub record IsValidCache (table : CacheValue) : Type 0 where
+  pub entries : (key : ℕ × ℕ) → IfSome (map.get table.entries key) IsValidEntry
   pub sources : (group : ℕ) → map.get table.entries (0, group) ≡ None
 
 -- a text stands for a table
-pub record StandsForCache (order : Order) (text : List ℕ) (table : CacheText) : Type 0 where
-  pub rows : List RowText
-  pub lines : AreCacheRows order text rows
+pub record DenotesCache (order : Order) (text : List ℕ) (table : CacheValue) : Type 0 where
+  pub rows : List RowValue
+  pub lines : DenotesCacheRows order text rows
   pub as_table : table ≡ table_of rows
 
 -- a table is stored as its fields
@@ -145,14 +145,14 @@ oif_code =
     code_by (ℕ × ℕ) (coded× coded_ℕ coded_ℕ) (λ o. (o.vif, o.threshold))
     (λ p. record { vif = p.0; threshold = p.1 }) (λ _. refl)
 
-abbrev pub entry_code : Coded EntryText
+abbrev pub entry_code : Coded EntryValue
 entry_code =
     code_by (ℕ × List Oif) (coded× coded_ℕ (coded_list oif_code)) (λ e. (e.iif, e.oifs))
     (λ p. record { iif = p.0; oifs = p.1 }) (λ _. refl)
 
-abbrev pub cache_code : Coded CacheText
+abbrev pub cache_code : Coded CacheValue
 cache_code =
-    code_by (map.FinMap key_cmp EntryText × (List EntryText × set.FinSet nat_cmp))
+    code_by (map.FinMap key_cmp EntryValue × (List EntryValue × set.FinSet nat_cmp))
     (coded× (map.code (coded× coded_ℕ coded_ℕ) entry_code)
     (coded× (coded_list entry_code) (set.code coded_ℕ)))
     (λ t. (t.entries, (t.numbered, t.wildcards)))

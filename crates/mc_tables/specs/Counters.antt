@@ -10,11 +10,11 @@ use Rattle.mc_tables.specs.declared.marked_line.MarkedLine.{MarkedLine}
 pub record HasCounters (line after : List ℕ) : Type 0 where
   pub packets : List ℕ
   pub bytes : List ℕ
-  pub wrong : List ℕ
-  pub words : words_of line ≡ packets ∷ bytes ∷ wrong ∷ words_of after
+  pub wrong_if : List ℕ
+  pub words : words_of line ≡ packets ∷ bytes ∷ wrong_if ∷ words_of after
   pub packets_count : is_counter packets ≡ true
   pub bytes_count : is_counter bytes ≡ true
-  pub wrong_count : is_counter wrong ≡ true
+  pub wrong_if_count : is_counter wrong_if ≡ true
 
 -- where a bit is set, a byte stands at its place, and passes
 abbrev pub AreMarks : (ℕ → Bool) → List ℕ → ℕ → Type 0

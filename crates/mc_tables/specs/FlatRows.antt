@@ -6,29 +6,29 @@ use Rattle.std.specs.List.{AllByRecursion}
 use Rattle.mc_tables.specs.declared.cache_row.CacheRow.{CacheRow}
 use Rattle.mc_tables.specs.declared.entry.Oif.{Oif}
 use Rattle.mc_tables.specs.declared.flat_oifs.FlatList.{FlatList}
-use Rattle.mc_tables.specs.CacheTable.{EntryText, RowText}
+use Rattle.mc_tables.specs.CacheTable.{EntryValue, RowValue}
 
 -- ---- one row
 
 -- the entry of an incoming vif, if there is one, and outgoing ones
-abbrev pub entry_with : Option ℕ → List Oif → Option EntryText
+abbrev pub entry_with : Option ℕ → List Oif → Option EntryValue
 entry_with iif oifs = option_map (λ i. record { iif = i; oifs = oifs }) iif
 
 -- the row with these outgoing vifs
-abbrev pub row_with : CacheRow → List Oif → RowText
-row_with row oifs =
+abbrev pub row_with_oifs : CacheRow → List Oif → RowValue
+row_with_oifs row oifs =
     record { group = row.group; origin = row.origin; entry = entry_with row.iif oifs }
 
 -- ---- lists
 
 -- the heads with their lists, and for how many more lists and outgoing vifs there is room
-pub record FlatText (H : Type 0) : Type 0 where
+pub record FlatListsValue (H : Type 0) : Type 0 where
   pub lists : List (H × List Oif)
   pub lists_left : ℕ
   pub oifs_left : ℕ
 
 -- there is room for one list more, of so many outgoing vifs
-abbrev pub HasRoom : {H : Type 0} → FlatText H → ℕ → Type 0
+abbrev pub HasRoom : {H : Type 0} → FlatListsValue H → ℕ → Type 0
 HasRoom s oifs = (0 < s.lists_left) × (oifs ≤ s.oifs_left)
 
 -- the head and the outgoing vifs of a list
@@ -39,13 +39,13 @@ abbrev pub lists_of : {H : Type 0} → List (FlatList H) → List Oif → List (
 lists_of ls oifs = map (list_of oifs) ls
 
 -- each list's outgoing vifs are among those of all, and no list has more than 32
-pub record AreFlat {H : Type 0} (ls : List (FlatList H)) (oifs : List Oif) : Type 0 where
+pub record AreFlatLists {H : Type 0} (ls : List (FlatList H)) (oifs : List Oif) : Type 0 where
   pub within : AllByRecursion (λ l. l.start + l.count ≤ length oifs) ls
   pub few : length oifs ≤ 32 * length ls
 
 -- the entries of lists of which the heads are the incoming vifs
-abbrev pub entry_of : ℕ × List Oif → EntryText
+abbrev pub entry_of : ℕ × List Oif → EntryValue
 entry_of list = record { iif = list.0; oifs = list.1 }
 
-abbrev pub entries_of : List (ℕ × List Oif) → List EntryText
+abbrev pub entries_of : List (ℕ × List Oif) → List EntryValue
 entries_of lists = map entry_of lists

@@ -11,7 +11,7 @@ abbrev pub is_within : ℕ → ℕ → ℕ → Bool
 is_within least most byte = nat_le least byte && nat_le byte most
 
 -- a line begins with one
-pub record IsPrinted (line : List ℕ) : Type 0 where
+pub record StartsWithPrintedOif (line : List ℕ) : Type 0 where
   pub before : slice_index line 0 ≡ 32
   pub tens : (slice_index line 1 == 32 || is_within 49 51 (slice_index line 1)) ≡ true
   pub units : is_ascii_digit (slice_index line 2) ≡ true
@@ -21,16 +21,16 @@ pub record IsPrinted (line : List ℕ) : Type 0 where
   pub last : slice_index line 6 ≡ 32
 
 -- it begins with four
-pub record ArePrinted (line : List ℕ) : Type 0 where
-  pub first : IsPrinted line
-  pub second : IsPrinted (drop 7 line)
-  pub third : IsPrinted (drop 14 line)
-  pub fourth : IsPrinted (drop 21 line)
+pub record StartsWithFourOifs (line : List ℕ) : Type 0 where
+  pub first : StartsWithPrintedOif line
+  pub second : StartsWithPrintedOif (drop 7 line)
+  pub third : StartsWithPrintedOif (drop 14 line)
+  pub fourth : StartsWithPrintedOif (drop 21 line)
 
 -- words write outgoing vifs that ascend from a number on, and the number next to the last
-abbrev pub Ascend : ℕ → List (List ℕ) → List Oif → ℕ → Type 0
-Ascend next [] [] end = end ≡ next
-Ascend next (word ∷ words) (oif ∷ oifs) end =
+abbrev pub DenoteAscendingOifs : ℕ → List (List ℕ) → List Oif → ℕ → Type 0
+DenoteAscendingOifs next [] [] end = end ≡ next
+DenoteAscendingOifs next (word ∷ words) (oif ∷ oifs) end =
     (oif_in word ≡ Ok (oif.vif, oif.threshold)) × (next ≤ oif.vif)
-    × Ascend (oif.vif + 1) words oifs end
-Ascend next words oifs end = ⊥
+    × DenoteAscendingOifs (oif.vif + 1) words oifs end
+DenoteAscendingOifs next words oifs end = ⊥

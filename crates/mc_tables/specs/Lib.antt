@@ -16,12 +16,12 @@ pub mod FourOifs
 pub mod CacheSteps
 pub mod CacheNumbers
 pub mod ListedRows
-pub mod OtherRows
-pub mod Apart
+pub mod UnlistedRows
+pub mod Distinct
 pub mod RowsSoFar
-pub mod Notes
-pub mod NotesSoFar
-pub mod NotedReading
+pub mod Summary
+pub mod SummarySoFar
+pub mod SummaryReading
 pub use Rattle.mc_text.specs.Addr
 pub use Rattle.mc_text.specs.AddressReading
 pub use Rattle.mc_text.specs.DeviceName

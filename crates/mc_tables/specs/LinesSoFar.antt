@@ -9,7 +9,7 @@ use Rattle.mc_tables.specs.declared.fault.TableFaultKind.{TableFaultKind}
 use Rattle.mc_tables.specs.declared.fault.TableFaultKind.TheVariants.{NoHeader, Unended}
 use Rattle.mc_text.specs.Steps.{◌>>=◌}
 use Rattle.mc_tables.specs.Steps.{demand, at_line}
-use Rattle.mc_tables.specs.TableLines.{begins_with, header_in}
+use Rattle.mc_tables.specs.TableLines.{begins_with, lines_after_header}
 
 -- how many lines have ended, how many bytes have come, and those after the last line feed
 pub record LinesSoFar : Type 0 where
@@ -18,18 +18,18 @@ pub record LinesSoFar : Type 0 where
   pub begun : List ℕ
 
 -- nothing has come
-abbrev pub no_lines : LinesSoFar
-no_lines = record { ended = 0; size = 0; begun = [] }
+abbrev pub lines_start : LinesSoFar
+lines_start = record { ended = 0; size = 0; begun = [] }
 
 -- no line feed stands there
-abbrev pub WithoutLineFeed : List ℕ → Type 0
-WithoutLineFeed bytes = AllByRecursion (λ b. (b == 10) ≡ false) bytes
+abbrev pub HasNoLineFeed : List ℕ → Type 0
+HasNoLineFeed bytes = AllByRecursion (λ b. (b == 10) ≡ false) bytes
 
 -- what has come is within the limit, and no line feed stands in the line that has begun
-pub record AreLinesSoFar (lines : LinesSoFar) : Type 0 where
+pub record IsValidLinesSoFar (lines : LinesSoFar) : Type 0 where
   pub within : lines.size ≤ max_text
   pub numbers : lines.ended + length lines.begun ≤ lines.size
-  pub begun : WithoutLineFeed lines.begun
+  pub begun : HasNoLineFeed lines.begun
 
 -- so many bytes more, of which these stand after the last line feed
 abbrev pub with_begun : LinesSoFar → ℕ → List ℕ → LinesSoFar
@@ -45,8 +45,8 @@ abbrev pub line_begun : LinesSoFar → LineText
 line_begun lines = record { number = lines.ended + 1; bytes = lines.begun; ended = true }
 
 -- a text that ends here: each line has ended, and there is one
-abbrev pub end_of : LinesSoFar → Result (Unit {0}) TableFault
-end_of lines =
+abbrev pub check_end_of_lines : LinesSoFar → Result (Unit {0}) TableFault
+check_end_of_lines lines =
     if not (length lines.begun == 0)
     then Err (record { line = lines.ended + 1; kind = Unended })
     else (if lines.ended == 0 then Err (record { line = 1; kind = NoHeader }) else Ok tt)
@@ -60,7 +60,7 @@ lines_to_come lines more = lines_from (lines.ended + 1) (lines.begun ++ more)
 abbrev pub read_after : {A : Type 0} → List ℕ → (List LineText → Result A TableFault) → LinesSoFar
     → List ℕ → Result A TableFault
 read_after first read lines more =
-    if lines.ended == 0 then (header_in first (lines_to_come lines more) >>= read)
+    if lines.ended == 0 then (lines_after_header first (lines_to_come lines more) >>= read)
     else read (lines_to_come lines more)
 
 -- a header is a line that ends and has this word first

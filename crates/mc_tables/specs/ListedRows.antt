@@ -8,7 +8,7 @@ use Rattle.std.specs.FinSet as set
 use Rattle.mc_text.specs.declared.text.addr.Order.{Order}
 use Rattle.mc_tables.specs.declared.fault.TableFault.{TableFault}
 use Rattle.mc_text.specs.Steps.{◌>>=◌}
-use Rattle.mc_tables.specs.CacheTable.{RowText, CacheText, key_cmp, key_of, table_of}
+use Rattle.mc_tables.specs.CacheTable.{RowValue, CacheValue, key_cmp, key_of, table_of}
 use Rattle.mc_tables.specs.CacheReading.{cache_rows_in}
 
 -- the sources and groups that are listed, or all
@@ -25,14 +25,14 @@ abbrev pub is_kept_key : Listed → Option (ℕ × ℕ) → Bool
 is_kept_key listed None = true
 is_kept_key listed (Some key) = is_listed listed key
 
-abbrev pub is_kept : Listed → RowText → Bool
+abbrev pub is_kept : Listed → RowValue → Bool
 is_kept listed row = is_kept_key listed (key_of row)
 
-abbrev pub kept_rows : Listed → List RowText → List RowText
+abbrev pub kept_rows : Listed → List RowValue → List RowValue
 kept_rows listed rows = filter (is_kept listed) rows
 
 -- the table of the rows that are kept
-abbrev pub listed_in : Order → Listed → List ℕ → Result CacheText TableFault
+abbrev pub listed_in : Order → Listed → List ℕ → Result CacheValue TableFault
 listed_in order listed text =
     cache_rows_in order text >>= λ rows. Ok (table_of (kept_rows listed rows))
 
@@ -43,8 +43,8 @@ abbrev pub ListedSet : Type 0
 ListedSet = Option (set.FinSet key_cmp)
 
 -- a set is stored as its keys
-abbrev pub pairs_code : Coded (set.FinSet key_cmp)
-pairs_code = set.code (coded× coded_ℕ coded_ℕ)
+abbrev pub key_set_code : Coded (set.FinSet key_cmp)
+key_set_code = set.code (coded× coded_ℕ coded_ℕ)
 
 -- the set of a list
 abbrev pub listed_set : Listed → ListedSet
@@ -52,23 +52,23 @@ listed_set None = None
 listed_set (Some keys) = Some (set.from_list keys)
 
 -- the set has a source and a group
-abbrev pub is_in : ListedSet → ℕ × ℕ → Bool
-is_in None key = true
-is_in (Some keys) key = set.contains keys key
+abbrev pub set_has_key : ListedSet → ℕ × ℕ → Bool
+set_has_key None key = true
+set_has_key (Some keys) key = set.contains keys key
 
 -- whether a row is kept whole, by the set
-abbrev pub is_kept_key_by : ListedSet → Option (ℕ × ℕ) → Bool
-is_kept_key_by listed None = true
-is_kept_key_by listed (Some key) = is_in listed key
+abbrev pub is_key_kept_by_set : ListedSet → Option (ℕ × ℕ) → Bool
+is_key_kept_by_set listed None = true
+is_key_kept_by_set listed (Some key) = set_has_key listed key
 
-abbrev pub is_kept_by : ListedSet → RowText → Bool
-is_kept_by listed row = is_kept_key_by listed (key_of row)
+abbrev pub is_kept_by_set : ListedSet → RowValue → Bool
+is_kept_by_set listed row = is_key_kept_by_set listed (key_of row)
 
 -- ---- the listed part
 
 -- A table has of another one the entries of the listed sources and groups and no other entry, and
 -- all groups of rows for every source.
-pub record IsListedPart (listed : Listed) (part whole : CacheText) : Type 0 where
+pub record IsListedPart (listed : Listed) (part whole : CacheValue) : Type 0 where
   pub entries : (key : ℕ × ℕ) → is_listed listed key ≡ true
       → map.get part.entries key ≡ map.get whole.entries key
   pub others : (key : ℕ × ℕ) → is_listed listed key ≡ false → map.get part.entries key ≡ None

@@ -29,17 +29,17 @@ abbrev pub has_vif : List Oif → ℕ → Bool
 has_vif oifs vif = list_any (λ other. other.vif == vif) oifs
 
 -- one more at its place by vif
-abbrev pub with_oif : List Oif → ℕ × ℕ → List Oif
-with_oif oifs oif =
+abbrev pub insert_oif : List Oif → ℕ × ℕ → List Oif
+insert_oif oifs oif =
     insert oifs (position_or_len (λ other. nat_lt oif.0 other.vif) oifs) (to_oif oif)
 
 -- that of the word more
-abbrev pub oifs_with : List Oif → List ℕ → Result (List Oif) TableFaultKind
-oifs_with oifs word = do
+abbrev pub oifs_with_word : List Oif → List ℕ → Result (List Oif) TableFaultKind
+oifs_with_word oifs word = do
   oif ← oif_in word
   _ ← demand (not (has_vif oifs oif.0)) RepeatedOif
-  Ok (with_oif oifs oif)
+  Ok (insert_oif oifs oif)
 
-abbrev pub oifs_after : List Oif → List (List ℕ) → Result (List Oif) TableFaultKind
-oifs_after oifs [] = Ok oifs
-oifs_after oifs (word ∷ words) = oifs_with oifs word >>= λ more. oifs_after more words
+abbrev pub oifs_after_words : List Oif → List (List ℕ) → Result (List Oif) TableFaultKind
+oifs_after_words oifs [] = Ok oifs
+oifs_after_words oifs (word ∷ words) = oifs_with_word oifs word >>= λ more. oifs_after_words more words

@@ -13,15 +13,15 @@ counters_before w rest =
     w.bytes_in.now ∷ w.packets_in.now ∷ w.bytes_out.now ∷ w.packets_out.now ∷ rest
 
 -- the nine of a vif
-abbrev pub word_list : VifWords → List (List ℕ)
-word_list w =
+abbrev pub vif_word_list : VifWords → List (List ℕ)
+vif_word_list w =
     w.index.now ∷ w.device.now
     ∷ counters_before w.counters (w.flags.now ∷ w.local.now ∷ w.remote.now ∷ [])
 
 -- those of a row before its outgoing ones
-abbrev pub words_before : CacheWords → List (List ℕ) → List (List ℕ)
-words_before w outgoing =
-    w.group.now ∷ w.origin.now ∷ w.iif.now ∷ w.packets.now ∷ w.bytes.now ∷ w.wrong.now ∷ outgoing
+abbrev pub row_words_before : CacheWords → List (List ℕ) → List (List ℕ)
+row_words_before w outgoing =
+    w.group.now ∷ w.origin.now ∷ w.iif.now ∷ w.packets.now ∷ w.bytes.now ∷ w.wrong_if.now ∷ outgoing
 
 -- a row's first two words are eight digits each, with a space behind each (`%08X %08X ` of
 -- ipmr_mfc_seq_show in net/ipv4/ipmr.c), and show these addresses

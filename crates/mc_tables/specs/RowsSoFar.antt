@@ -8,127 +8,127 @@ use Rattle.mc_tables.specs.declared.fault.TableFault.{TableFault}
 use Rattle.mc_tables.specs.declared.fault.TableFaultKind.{TableFaultKind}
 use Rattle.mc_text.specs.Steps.{◌>>=◌}
 use Rattle.mc_tables.specs.Steps.{at_line, unless_fault}
-use Rattle.mc_tables.specs.LinesSoFar.{LinesSoFar, no_lines, end_of, read_after}
-use Rattle.mc_tables.specs.CacheTable.{RowText, CacheText, cache_code, table_of}
-use Rattle.mc_tables.specs.ListedRows.{Listed, ListedSet, listed_set, is_kept_by}
-use Rattle.mc_tables.specs.OtherRows.{OtherRow, without_repeat}
+use Rattle.mc_tables.specs.LinesSoFar.{LinesSoFar, lines_start, check_end_of_lines, read_after}
+use Rattle.mc_tables.specs.CacheTable.{RowValue, CacheValue, cache_code, table_of}
+use Rattle.mc_tables.specs.ListedRows.{Listed, ListedSet, listed_set, is_kept_by_set}
+use Rattle.mc_tables.specs.UnlistedRows.{UnlistedRow, without_repeat}
 use Rattle.mc_tables.specs.CacheSteps.{row_with_room, row_added}
 
 -- ---- row by row
 
 -- the table of the rows that are kept, the others, and how many rows there are in all
 pub record RowsSoFar : Type 0 where
-  pub table : CacheText
-  pub others : List OtherRow
+  pub table : CacheValue
+  pub others : List UnlistedRow
   pub count : ℕ
 
 -- they are stored as their fields
 abbrev pub rows_code : Coded RowsSoFar
 rows_code =
-    code_by (CacheText × (List OtherRow × ℕ))
+    code_by (CacheValue × (List UnlistedRow × ℕ))
     (coded× cache_code (coded× (coded_list (coded× (coded× coded_ℕ coded_ℕ) coded_ℕ)) coded_ℕ))
     (λ r. (r.table, (r.others, r.count)))
     (λ p. record { table = p.0; others = p.1.0; count = p.1.1 }) (λ _. refl)
 
 -- a row more, of a source and a group that are not listed, which may be those of an earlier one
-abbrev pub other_added : RowsSoFar → ℕ × ℕ → ℕ → RowsSoFar
-other_added rows key line = record {
+abbrev pub unlisted_added : RowsSoFar → ℕ × ℕ → ℕ → RowsSoFar
+unlisted_added rows key line = record {
   table = rows.table;
   others = rows.others ++ (key, line) ∷ [];
   count = rows.count + 1;
 }
 
 -- a row more that is kept
-abbrev pub kept_added : RowsSoFar → RowText → Result RowsSoFar TableFaultKind
+abbrev pub kept_added : RowsSoFar → RowValue → Result RowsSoFar TableFaultKind
 kept_added rows row =
     row_added rows.table row >>= λ table.
     Ok (record { table = table; others = rows.others; count = rows.count + 1 })
 
 -- the row of a line more
-abbrev pub one_added : ListedSet → RowsSoFar → RowText → ℕ → Result RowsSoFar TableFaultKind
-one_added listed rows row line =
-    if is_kept_by listed row then kept_added rows row
-    else Ok (other_added rows (row.origin, row.group) line)
+abbrev pub any_row_added : ListedSet → RowsSoFar → RowValue → ℕ → Result RowsSoFar TableFaultKind
+any_row_added listed rows row line =
+    if is_kept_by_set listed row then kept_added rows row
+    else Ok (unlisted_added rows (row.origin, row.group) line)
 
 -- ---- line by line
 
 -- the rows so far of a router whose addresses are written in this order, where these sources and
 -- groups are listed
-pub record ListedSoFar : Type 0 where
+pub record ListedRowsSoFar : Type 0 where
   pub order : Order
   pub listed : ListedSet
   pub rows : RowsSoFar
 
 -- no rows have come
-abbrev pub no_rows : Order → ListedSet → ListedSoFar
-no_rows order listed = record {
+abbrev pub rows_start : Order → ListedSet → ListedRowsSoFar
+rows_start order listed = record {
   order = order;
   listed = listed;
   rows = record { table = table_of []; others = []; count = 0 };
 }
 
 -- the row of a line more
-abbrev pub listed_added : ListedSoFar → RowText → ℕ → Result ListedSoFar TableFaultKind
-listed_added so_far row line =
-    one_added so_far.listed so_far.rows row line >>= λ rows.
+abbrev pub row_added_so_far : ListedRowsSoFar → RowValue → ℕ → Result ListedRowsSoFar TableFaultKind
+row_added_so_far so_far row line =
+    any_row_added so_far.listed so_far.rows row line >>= λ rows.
     Ok (record { order = so_far.order; listed = so_far.listed; rows = rows })
 
 -- the row of a line more, which is read first
-abbrev pub line_added : ListedSoFar → LineText → Result ListedSoFar TableFaultKind
+abbrev pub line_added : ListedRowsSoFar → LineText → Result ListedRowsSoFar TableFaultKind
 line_added so_far line =
     row_with_room so_far.order so_far.rows.count line >>= λ row.
-    listed_added so_far row line.number
+    row_added_so_far so_far row line.number
 
 -- a fault counts where no row before it repeats another, and else that of the first that does
-abbrev pub first_fault : {A : Type 0} → List OtherRow → Result A TableFault → Result A TableFault
+abbrev pub first_fault : {A : Type 0} → List UnlistedRow → Result A TableFault → Result A TableFault
 first_fault others (Ok x) = Ok x
 first_fault others (Err fault) = without_repeat others >>= λ _. Err fault
 
 -- the first fault, where a line has one of this kind
-abbrev pub first_refusal : Result (Unit {0}) TableFault → TableFault → TableFault
-first_refusal (Ok u) fault = fault
-first_refusal (Err first) fault = first
+abbrev pub first_of_faults : Result (Unit {0}) TableFault → TableFault → TableFault
+first_of_faults (Ok u) fault = fault
+first_of_faults (Err first) fault = first
 
-abbrev pub refused : List OtherRow → ℕ → TableFaultKind → TableFault
-refused others line kind =
-    first_refusal (without_repeat others) (record { line = line; kind = kind })
+abbrev pub refusal_at : List UnlistedRow → ℕ → TableFaultKind → TableFault
+refusal_at others line kind =
+    first_of_faults (without_repeat others) (record { line = line; kind = kind })
 
 -- a line more, or the first fault
-abbrev pub row_step : ListedSoFar → LineText → Result ListedSoFar TableFault
+abbrev pub row_step : ListedRowsSoFar → LineText → Result ListedRowsSoFar TableFault
 row_step so_far line = first_fault so_far.rows.others (at_line line.number (line_added so_far line))
 
 -- the table of these rows and those of the lines after them, or the first fault
-abbrev pub table_from : ListedSoFar → List LineText → Result CacheText TableFault
+abbrev pub table_from : ListedRowsSoFar → List LineText → Result CacheValue TableFault
 table_from so_far [] = without_repeat so_far.rows.others >>= λ _. Ok so_far.rows.table
 table_from so_far (line ∷ lines) = row_step so_far line >>= λ more. table_from more lines
 
 -- the table if these bytes come
-abbrev pub cache_after : LinesSoFar → ListedSoFar → List ℕ → Result CacheText TableFault
+abbrev pub cache_after : LinesSoFar → ListedRowsSoFar → List ℕ → Result CacheValue TableFault
 cache_after lines so_far more = read_after (codes "Group") (table_from so_far) lines more
 
 -- a text that ends here: once the header has ended no row repeats another, and each line has ended
-abbrev pub rows_end : LinesSoFar → ListedSoFar → Result (Unit {0}) TableFault
+abbrev pub rows_end : LinesSoFar → ListedRowsSoFar → Result (Unit {0}) TableFault
 rows_end lines so_far =
-    if lines.ended == 0 then end_of lines
-    else (without_repeat so_far.rows.others >>= λ _. end_of lines)
+    if lines.ended == 0 then check_end_of_lines lines
+    else (without_repeat so_far.rows.others >>= λ _. check_end_of_lines lines)
 
 -- ---- how far reading has come
 
 -- the lines, the rows, and the fault if one was answered
 pub record CacheSoFar : Type 0 where
   pub lines : LinesSoFar
-  pub rows : ListedSoFar
+  pub rows : ListedRowsSoFar
   pub fault : Option TableFault
 
 -- nothing has come
-abbrev pub nothing_so_far : Order → ListedSet → CacheSoFar
-nothing_so_far order listed =
-    record { lines = no_lines; rows = no_rows order listed; fault = None }
+abbrev pub cache_start_for_set : Order → ListedSet → CacheSoFar
+cache_start_for_set order listed =
+    record { lines = lines_start; rows = rows_start order listed; fault = None }
 
 -- nothing has come, and these are listed
-abbrev pub no_cache : Order → Listed → CacheSoFar
-no_cache order listed = nothing_so_far order (listed_set listed)
+abbrev pub cache_start : Order → Listed → CacheSoFar
+cache_start order listed = cache_start_for_set order (listed_set listed)
 
 -- what reading ends with if these bytes come: the table, or the first fault
-abbrev pub cache_if : CacheSoFar → List ℕ → Result CacheText TableFault
+abbrev pub cache_if : CacheSoFar → List ℕ → Result CacheValue TableFault
 cache_if cache more = unless_fault cache.fault (cache_after cache.lines cache.rows more)

@@ -27,11 +27,11 @@ pub record HasHeader (first : List ℕ) (text : List ℕ) (lines : List LineText
   pub begins : IsTrue (begins_with first (words_of header.bytes))
 
 -- each line tells its row, in order
-abbrev pub EachTells : {L R : Type 0} → (L → R → Type 0) → List L → List R → Type 0
-EachTells Tells [] [] = Unit {0}
-EachTells Tells [] (row ∷ rows) = ⊥
-EachTells Tells (line ∷ lines) [] = ⊥
-EachTells Tells (line ∷ lines) (row ∷ rows) = Tells line row × EachTells Tells lines rows
+abbrev pub EachDenotes : {L R : Type 0} → (L → R → Type 0) → List L → List R → Type 0
+EachDenotes Denotes [] [] = Unit {0}
+EachDenotes Denotes [] (row ∷ rows) = ⊥
+EachDenotes Denotes (line ∷ lines) [] = ⊥
+EachDenotes Denotes (line ∷ lines) (row ∷ rows) = Denotes line row × EachDenotes Denotes lines rows
 
 -- what the row has is among what the earlier rows have
 abbrev pub is_among : {K : Type 0} → (K → K → Bool) → Option K → List K → Bool
@@ -41,16 +41,16 @@ is_among same (Some key) earlier = list_any (same key) earlier
 -- ---- what reading gives
 
 -- the lines after the header
-abbrev pub header_in : List ℕ → List LineText → Result (List LineText) TableFault
-header_in first [] = Err (record { line = 1; kind = NoHeader })
-header_in first (header ∷ lines) =
+abbrev pub lines_after_header : List ℕ → List LineText → Result (List LineText) TableFault
+lines_after_header first [] = Err (record { line = 1; kind = NoHeader })
+lines_after_header first (header ∷ lines) =
     at_line 1 (demand header.ended Unended >>= λ _.
     demand (begins_with first (words_of header.bytes)) NoHeader) >>= λ _. Ok lines
 
 abbrev pub lines_in : List ℕ → List ℕ → Result (List LineText) TableFault
 lines_in first text =
     if nat_lt 16777216 (length text) then Err (record { line = 0; kind = TooLarge })
-    else header_in first (lines_of text)
+    else lines_after_header first (lines_of text)
 
 -- the rows of the lines, each of which is read after the earlier ones
 abbrev pub rows_after : {L R E : Type 0} → (List R → L → Result R E) → List R → List L

@@ -14,14 +14,14 @@ use Rattle.mc_text.specs.Number.{IsDecimal}
 -- ---- words whose value is not used
 
 -- the digits after a `-`, if one stands first
-abbrev pub unsigned : List ℕ → List ℕ
-unsigned word = if slice_index word 0 == 45 then drop 1 word else word
+abbrev pub without_sign : List ℕ → List ℕ
+without_sign word = if slice_index word 0 == 45 then drop 1 word else word
 
 -- one to twenty decimal digits, with one `-` before them allowed
 abbrev pub is_counter : List ℕ → Bool
 is_counter word =
-    (nat_le 1 (length (unsigned word)) && nat_le (length (unsigned word)) 20)
-    && list_all is_ascii_digit (unsigned word)
+    (nat_le 1 (length (without_sign word)) && nat_le (length (without_sign word)) 20)
+    && list_all is_ascii_digit (without_sign word)
 
 -- so many hexadecimal digits of either case, and nothing else
 abbrev pub is_hexadecimal : ℕ → ℕ → List ℕ → Bool
@@ -31,16 +31,16 @@ is_hexadecimal least most word =
 -- ---- numbers
 
 -- the word writes in decimal the number n, from least to most
-abbrev pub WritesNumber : ℕ → ℕ → List ℕ → ℕ → Type 0
-WritesNumber least most word n = IsDecimal word n × (least ≤ n) × (n ≤ most)
+abbrev pub WordDenotesNumber : ℕ → ℕ → List ℕ → ℕ → Type 0
+WordDenotesNumber least most word n = IsDecimal word n × (least ≤ n) × (n ≤ most)
 
-abbrev pub is_decimal : List ℕ → Bool
-is_decimal word = nat_le 1 (length word) && list_all is_ascii_digit word
+abbrev pub is_decimal_word : List ℕ → Bool
+is_decimal_word word = nat_le 1 (length word) && list_all is_ascii_digit word
 
 -- the number that it writes
 abbrev pub number_in : ℕ → ℕ → List ℕ → Option ℕ
 number_in least most word =
-    if is_decimal word
+    if is_decimal_word word
     && (nat_le least (digits_value 10 word) && nat_le (digits_value 10 word) most)
     then Some (digits_value 10 word)
     else None
@@ -48,8 +48,8 @@ number_in least most word =
 -- ---- addresses
 
 -- the word shows the address a
-abbrev pub WritesAddress : Order → List ℕ → ℕ → Type 0
-WritesAddress order word a = IsAddr a × IsAddressWord order word a
+abbrev pub WordDenotesAddress : Order → List ℕ → ℕ → Type 0
+WordDenotesAddress order word a = IsAddr a × IsAddressWord order word a
 
 -- the address that the word shows
 abbrev pub address_in : Order → List ℕ → Option ℕ

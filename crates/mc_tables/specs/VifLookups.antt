@@ -5,25 +5,25 @@ use Rattle.std.specs.Option.{option_map}
 use Rattle.std.specs.Ordering.{nat_cmp}
 use Rattle.std.specs.Str.{bytes_eq}
 use Rattle.std.specs.FinMap.{FinMap, get, entries}
-use Rattle.mc_tables.specs.VifTable.{VifText, no_device}
+use Rattle.mc_tables.specs.VifTable.{VifValue, no_device}
 
 -- the vif of this index has this device
-abbrev pub HasDevice : FinMap nat_cmp VifText → ℕ → List ℕ → Type 0
+abbrev pub HasDevice : FinMap nat_cmp VifValue → ℕ → List ℕ → Type 0
 HasDevice vifs index device = IsSomeAnd (get vifs index) (λ vif. vif.device ≡ device)
 
 -- What every table keeps, whatever text it was read from: indexes are 0 to 31, and two vifs have
 -- one device only where it is `none`.
-pub record IsVifTable (vifs : FinMap nat_cmp VifText) : Type 0 where
+pub record IsValidVifTable (vifs : FinMap nat_cmp VifValue) : Type 0 where
   pub numbered : (index : ℕ) → IsSome (get vifs index) → index ≤ 31
   pub devices_differ : (device : List ℕ) (i j : ℕ) → device ≢ no_device →
       HasDevice vifs i device → HasDevice vifs j device → i ≡ j
 
 -- the index of the first row with this device
-abbrev pub first_index_with : List ℕ → List (ℕ × VifText) → Option ℕ
+abbrev pub first_index_with : List ℕ → List (ℕ × VifValue) → Option ℕ
 first_index_with device rows =
     option_map (λ row. row.0) (find (λ row. bytes_eq row.1.device device) rows)
 
 -- the index that is answered for a device, of which there is none for `none`
-abbrev pub index_of : FinMap nat_cmp VifText → List ℕ → Option ℕ
+abbrev pub index_of : FinMap nat_cmp VifValue → List ℕ → Option ℕ
 index_of vifs device =
     if bytes_eq device no_device then None else first_index_with device (entries vifs)

@@ -20,7 +20,7 @@ use Rattle.mc_text.specs.Steps.{◌>>=◌}
 use Rattle.mc_tables.specs.Steps.{demand, at_line}
 use Rattle.mc_tables.specs.TableWords.{is_counter, is_hexadecimal, number_in}
 use Rattle.mc_tables.specs.TableLines.{is_among, lines_in, rows_after}
-use Rattle.mc_tables.specs.VifTable.{VifText, is_tunnel, is_register, device_of}
+use Rattle.mc_tables.specs.VifTable.{VifValue, is_tunnel, is_register, device_of}
 
 -- the device's name that the word is
 abbrev pub device_in : List ℕ → Result (List ℕ) TableFaultKind
@@ -31,7 +31,7 @@ abbrev pub flags_in : List ℕ → Result ℕ TableFaultKind
 flags_in word = if is_hexadecimal 5 8 word then Ok (digits_value 16 word) else Err BadFlags
 
 -- the words from the left
-unfoldable pub vif_in_words : List (List ℕ) → Result (ℕ × VifText) TableFaultKind
+unfoldable pub vif_in_words : List (List ℕ) → Result (ℕ × VifValue) TableFaultKind
 vif_in_words (index ∷ device ∷ bytes_in ∷ packets_in ∷ bytes_out ∷ packets_out ∷ flags ∷ local
     ∷ remote ∷ []) = do
       i ← ok_or (number_in 0 31 index) BadIndex
@@ -47,14 +47,14 @@ vif_in_words (index ∷ device ∷ bytes_in ∷ packets_in ∷ bytes_out ∷ pac
 vif_in_words words = Err WordCount
 
 -- an earlier row has the index
-abbrev pub index_repeats : List (ℕ × VifText) → ℕ × VifText → Bool
+abbrev pub index_repeats : List (ℕ × VifValue) → ℕ × VifValue → Bool
 index_repeats earlier row = list_any (nat_eq row.0) (map (λ other. other.0) earlier)
 
 -- an earlier row has the device, if it is one
-abbrev pub device_repeats : List (ℕ × VifText) → ℕ × VifText → Bool
+abbrev pub device_repeats : List (ℕ × VifValue) → ℕ × VifValue → Bool
 device_repeats earlier row = is_among bytes_eq (device_of row) (filter_map device_of earlier)
 
-unfoldable pub vif_in_line : List (ℕ × VifText) → LineText → Result (ℕ × VifText) TableFaultKind
+unfoldable pub vif_in_line : List (ℕ × VifValue) → LineText → Result (ℕ × VifValue) TableFaultKind
 vif_in_line earlier line = do
   _ ← demand line.ended Unended
   row ← vif_in_words (words_of line.bytes)
@@ -62,13 +62,13 @@ vif_in_line earlier line = do
   _ ← demand (not (device_repeats earlier row)) RepeatedDevice
   Ok row
 
-abbrev pub vif_at : List (ℕ × VifText) → LineText → Result (ℕ × VifText) TableFault
-vif_at earlier line = at_line line.number (vif_in_line earlier line)
+abbrev pub vif_at_line : List (ℕ × VifValue) → LineText → Result (ℕ × VifValue) TableFault
+vif_at_line earlier line = at_line line.number (vif_in_line earlier line)
 
 -- the vifs with their indexes, in the order of the lines
-abbrev pub vif_rows_in : List ℕ → Result (List (ℕ × VifText)) TableFault
-vif_rows_in text = lines_in (codes "Interface") text >>= rows_after vif_at []
+abbrev pub vif_rows_in : List ℕ → Result (List (ℕ × VifValue)) TableFault
+vif_rows_in text = lines_in (codes "Interface") text >>= rows_after vif_at_line []
 
 -- the vifs by their indexes
-abbrev pub vifs_in : List ℕ → Result (FinMap nat_cmp VifText) TableFault
+abbrev pub vifs_in : List ℕ → Result (FinMap nat_cmp VifValue) TableFault
 vifs_in text = vif_rows_in text >>= λ rows. Ok (from_entries rows)

@@ -11,17 +11,17 @@ use Rattle.std.specs.FinMap.{FinMap, from_entries}
 use Rattle.mc_text.specs.Lines.{LineText}
 use Rattle.mc_text.specs.Lines.{words_of}
 use Rattle.mc_text.specs.DeviceName.{is_device_name}
-use Rattle.mc_tables.specs.TableWords.{is_counter, is_hexadecimal, WritesNumber}
-use Rattle.mc_tables.specs.TableLines.{HasHeader, EachTells}
+use Rattle.mc_tables.specs.TableWords.{is_counter, is_hexadecimal, WordDenotesNumber}
+use Rattle.mc_tables.specs.TableLines.{HasHeader, EachDenotes}
 
 -- a virtual interface of the kernel: its device, and whether it is a tunnel or a register interface
-pub record VifText : Type 0 where
+pub record VifValue : Type 0 where
   pub device : List ℕ
   pub tunnel : Bool
   pub register : Bool
 
 -- a vif is stored as its fields
-abbrev pub vif_code : Coded VifText
+abbrev pub vif_code : Coded VifValue
 vif_code =
     code_by (List ℕ × (Bool × Bool)) (coded× (coded_list coded_ℕ) (coded× coded_bool coded_bool))
     (λ v. (v.device, (v.tunnel, v.register)))
@@ -39,49 +39,49 @@ abbrev pub no_device : List ℕ
 no_device = codes "none"
 
 -- the flags in hexadecimal (`%05X`), of which the other bits are not used
-pub record WritesFlags (word : List ℕ) (vif : VifText) : Type 0 where
+pub record WordDenotesFlags (word : List ℕ) (vif : VifValue) : Type 0 where
   pub digits : IsTrue (is_hexadecimal 5 8 word)
   pub tunnel : vif.tunnel ≡ is_tunnel (digits_value 16 word)
   pub register : vif.register ≡ is_register (digits_value 16 word)
 
 -- Nine words tell a vif and its index: index, device, bytes in, packets in, bytes out, packets out,
 -- flags, local address (or interface index) and remote address.
-abbrev pub WordsTellVif : List (List ℕ) → ℕ × VifText → Type 0
-WordsTellVif (index ∷ device ∷ bytes_in ∷ packets_in ∷ bytes_out ∷ packets_out ∷ flags ∷ local
+abbrev pub WordsDenoteVif : List (List ℕ) → ℕ × VifValue → Type 0
+WordsDenoteVif (index ∷ device ∷ bytes_in ∷ packets_in ∷ bytes_out ∷ packets_out ∷ flags ∷ local
     ∷ remote ∷ []) row =
-    WritesNumber 0 31 index row.0 × (IsTrue (is_device_name device) × (row.1.device ≡ device))
+    WordDenotesNumber 0 31 index row.0 × (IsTrue (is_device_name device) × (row.1.device ≡ device))
     × IsTrue (is_counter bytes_in) × IsTrue (is_counter packets_in)
     × IsTrue (is_counter bytes_out) × IsTrue (is_counter packets_out)
-    × WritesFlags flags row.1
+    × WordDenotesFlags flags row.1
     × IsTrue (is_hexadecimal 8 8 local) × IsTrue (is_hexadecimal 8 8 remote)
-WordsTellVif words row = ⊥
+WordsDenoteVif words row = ⊥
 
 -- a line that a line feed ends
-pub record LineTellsVif (line : LineText) (row : ℕ × VifText) : Type 0 where
+pub record LineDenotesVif (line : LineText) (row : ℕ × VifValue) : Type 0 where
   pub ended : IsTrue line.ended
-  pub words : WordsTellVif (words_of line.bytes) row
+  pub words : WordsDenoteVif (words_of line.bytes) row
 
 -- the device of a vif that has one
-abbrev pub device_of : ℕ × VifText → Option (List ℕ)
+abbrev pub device_of : ℕ × VifValue → Option (List ℕ)
 device_of row = if bytes_eq row.1.device no_device then None else Some row.1.device
 
 -- the rows of a table: indexes and devices differ, and the indexes are 0 to 31
-abbrev pub AreVifs : List (ℕ × VifText) → Type 0
-AreVifs rows =
+abbrev pub AreValidVifRows : List (ℕ × VifValue) → Type 0
+AreValidVifRows rows =
     IsDistinct nat_eq (map (λ row. row.0) rows)
     × IsDistinct bytes_eq (filter_map device_of rows)
     × AllByRecursion (λ row. row.0 ≤ 31) rows
 
 -- a text of these vifs with their indexes, in the order of its lines
-pub record AreVifRows (text : List ℕ) (rows : List (ℕ × VifText)) : Type 0 where
+pub record DenotesVifRows (text : List ℕ) (rows : List (ℕ × VifValue)) : Type 0 where
   pub lines : List LineText
   pub header : HasHeader (codes "Interface") text lines
-  pub told : EachTells LineTellsVif lines rows
+  pub denoted : EachDenotes LineDenotesVif lines rows
   pub indexes_differ : IsDistinct nat_eq (map (λ row. row.0) rows)
   pub devices_differ : IsDistinct bytes_eq (filter_map device_of rows)
 
 -- a text stands for a map from indexes to vifs
-pub record StandsForVifs (text : List ℕ) (vifs : FinMap nat_cmp VifText) : Type 0 where
-  pub rows : List (ℕ × VifText)
-  pub lines : AreVifRows text rows
+pub record DenotesVifs (text : List ℕ) (vifs : FinMap nat_cmp VifValue) : Type 0 where
+  pub rows : List (ℕ × VifValue)
+  pub lines : DenotesVifRows text rows
   pub as_map : vifs ≡ from_entries rows

@@ -9,36 +9,36 @@ use Rattle.mc_tables.specs.declared.fault.TableFaultKind.{TableFaultKind}
 use Rattle.mc_text.specs.Steps.{◌>>=◌}
 use Rattle.mc_tables.specs.Steps.{at_line, unless_fault}
 use Rattle.mc_tables.specs.TableLines.{rows_after}
-use Rattle.mc_tables.specs.LinesSoFar.{LinesSoFar, no_lines, read_after}
-use Rattle.mc_tables.specs.VifTable.{VifText}
-use Rattle.mc_tables.specs.VifReading.{vif_in_line, vif_at}
+use Rattle.mc_tables.specs.LinesSoFar.{LinesSoFar, lines_start, read_after}
+use Rattle.mc_tables.specs.VifTable.{VifValue}
+use Rattle.mc_tables.specs.VifReading.{vif_in_line, vif_at_line}
 
 -- one line more
-abbrev pub vif_added : List (ℕ × VifText) → LineText → Result (List (ℕ × VifText)) TableFaultKind
+abbrev pub vif_added : List (ℕ × VifValue) → LineText → Result (List (ℕ × VifValue)) TableFaultKind
 vif_added rows line = vif_in_line rows line >>= λ row. Ok (rows ++ row ∷ [])
 
-abbrev pub vif_step : List (ℕ × VifText) → LineText → Result (List (ℕ × VifText)) TableFault
+abbrev pub vif_step : List (ℕ × VifValue) → LineText → Result (List (ℕ × VifValue)) TableFault
 vif_step rows line = at_line line.number (vif_added rows line)
 
 -- the table of these rows and those of the lines after them
-abbrev pub vifs_of : List (ℕ × VifText) → List LineText → Result (FinMap nat_cmp VifText) TableFault
-vifs_of rows lines = rows_after vif_at rows lines >>= λ all. Ok (from_entries all)
+abbrev pub vifs_from_lines : List (ℕ × VifValue) → List LineText → Result (FinMap nat_cmp VifValue) TableFault
+vifs_from_lines rows lines = rows_after vif_at_line rows lines >>= λ all. Ok (from_entries all)
 
 -- the table if these bytes come
-abbrev pub vifs_after : LinesSoFar → List (ℕ × VifText) → List ℕ
-    → Result (FinMap nat_cmp VifText) TableFault
-vifs_after lines rows more = read_after (codes "Interface") (vifs_of rows) lines more
+abbrev pub vifs_after : LinesSoFar → List (ℕ × VifValue) → List ℕ
+    → Result (FinMap nat_cmp VifValue) TableFault
+vifs_after lines rows more = read_after (codes "Interface") (vifs_from_lines rows) lines more
 
 -- how far reading has come: the lines, the rows, and the fault if one was answered
 pub record VifsSoFar : Type 0 where
   pub lines : LinesSoFar
-  pub rows : List (ℕ × VifText)
+  pub rows : List (ℕ × VifValue)
   pub fault : Option TableFault
 
 -- nothing has come
-abbrev pub no_vifs : VifsSoFar
-no_vifs = record { lines = no_lines; rows = []; fault = None }
+abbrev pub vifs_start : VifsSoFar
+vifs_start = record { lines = lines_start; rows = []; fault = None }
 
 -- what reading ends with if these bytes come: the table, or the first fault
-abbrev pub vifs_if : VifsSoFar → List ℕ → Result (FinMap nat_cmp VifText) TableFault
+abbrev pub vifs_if : VifsSoFar → List ℕ → Result (FinMap nat_cmp VifValue) TableFault
 vifs_if vifs more = unless_fault vifs.fault (vifs_after vifs.lines vifs.rows more)

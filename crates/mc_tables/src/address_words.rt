@@ -47,7 +47,7 @@ fn addresses_together(line: &[u8], order: Order) -> Option<(Addr, Addr)>
 }
 
 /// The address of eight bytes and a space with which a line begins.
-#[tactic(auto, using(crate::proofs::PlainLemmas::address_words))]
+#[tactic(auto, using(crate::proofs::PlainRowLemmas::address_is_first_word))]
 fn address_at_front(line: &[u8], order: Order) -> Option<Addr>
     ensures long { IfSome result (λ address. 9 ≤ length line.now) }
     ensures words { IfSome result (λ address.
@@ -63,7 +63,7 @@ fn address_at_front(line: &[u8], order: Order) -> Option<Addr>
 }
 
 /// What stands behind an address and its space.
-#[tactic(auto, using(crate::proofs::PlainLemmas::rest_of))]
+#[tactic(auto, using(crate::proofs::PlainRowLemmas::drop_as_take_drop))]
 fn after_address(line: &[u8]) -> &[u8]
     requires { 9 ≤ length line.now }
     ensures { result.now ≡ drop 9 line.now }
@@ -93,7 +93,7 @@ pub fn addresses_at_front(line: &[u8], order: Order) -> Option<(Addr, Addr)>
 
 /// What stands behind both addresses and their spaces.
 #[inline(always)]
-#[tactic(auto, using(crate::proofs::PlainLemmas::rest_of))]
+#[tactic(auto, using(crate::proofs::PlainRowLemmas::drop_as_take_drop))]
 pub fn after_addresses(line: &[u8]) -> &[u8]
     requires { 18 ≤ length line.now }
     ensures { result.now ≡ drop 18 line.now }

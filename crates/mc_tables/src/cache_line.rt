@@ -7,14 +7,14 @@ ghost use Rattle.mc_text.specs.Lines.{words_of};
 ghost use Rattle.mc_tables.specs.declared.fault.TableFaultKind.TheVariants.{Memory, BadAddress};
 ghost use Rattle.mc_tables.specs.TableWords.{address_in};
 ghost use Rattle.mc_tables.specs.CacheReading.{incoming_in, entry_in, row_in_words};
-ghost use Rattle.mc_tables.specs.FlatRows.{entry_with, row_with};
-ghost use Rattle.mc_tables.specs.RowWords.{words_before};
+ghost use Rattle.mc_tables.specs.FlatRows.{entry_with, row_with_oifs};
+ghost use Rattle.mc_tables.specs.RowWords.{row_words_before};
 
 use crate::cache_row::CacheRow;
 use crate::entry::Oif;
 use crate::fault::TableFaultKind;
 use crate::outgoing::read_oifs;
-use crate::plain_row::{read_ascending, row_at_front};
+use crate::plain_row::{read_ascending_oifs, row_at_front};
 use crate::table_words::{MAX_VIF, check_counter, number, three_words};
 use mc_text::{Addr, Order, Words};
 
@@ -29,12 +29,12 @@ pub struct CacheWords<'a> {
     pub iif: &'a [u8],
     pub packets: &'a [u8],
     pub bytes: &'a [u8],
-    pub wrong: &'a [u8],
+    pub wrong_if: &'a [u8],
 }
 
 /// Reads a row, and puts it and its outgoing vifs by ascending vif in the place of those that were
 /// there. A row that is answered would be copied from where it was put together.
-#[tactic(auto, using(crate::proofs::EntryLemmas::few_read))]
+#[tactic(auto, using(crate::proofs::EntryLemmas::oifs_in_gives_at_most_32))]
 pub fn read_row(
     line: &[u8],
     order: Order,
@@ -43,56 +43,56 @@ pub fn read_row(
 ) -> Result<(), TableFaultKind>
     ensures few { OnOk result (length oifs.new.items ≤ 32) }
     ensures read { OnOk result
-        (row_in_words order (words_of line.now) ≡ Ok (row_with row.new oifs.new.items)) }
+        (row_in_words order (words_of line.now) ≡ Ok (row_with_oifs row.new oifs.new.items)) }
     ensures fault { IfErr result (λ fault. fault ≢ Memory →
         row_in_words order (words_of line.now) ≡ Err fault) }
 {
     oifs.clear();
     if let Some((front, outgoing)) = row_at_front(line, order) {
-        if read_ascending(outgoing, oifs)? {
+        if read_ascending_oifs(outgoing, oifs)? {
             *row = front;
             return Ok(());
         }
         oifs.clear();
     }
-    *row = read_words_of(line, order, oifs)?;
+    *row = read_row_by_words(line, order, oifs)?;
     Ok(())
 }
 
 /// Reads a row word by word.
-#[tactic(auto, using(crate::proofs::RowWordLemmas::few_words))]
-fn read_words_of(line: &[u8], order: Order, oifs: &mut Vec<Oif>) -> Result<CacheRow, TableFaultKind>
+#[tactic(auto, using(crate::proofs::RowWordLemmas::row_in_too_few_words))]
+fn read_row_by_words(line: &[u8], order: Order, oifs: &mut Vec<Oif>) -> Result<CacheRow, TableFaultKind>
     requires { oifs.old.items ≡ [] }
     ensures few { OnOk result (length oifs.new.items ≤ 32) }
     ensures read { IfOk result (λ row.
-        row_in_words order (words_of line.now) ≡ Ok (row_with row oifs.new.items)) }
+        row_in_words order (words_of line.now) ≡ Ok (row_with_oifs row oifs.new.items)) }
     ensures fault { IfErr result (λ fault. fault ≢ Memory →
         row_in_words order (words_of line.now) ≡ Err fault) }
 {
     let mut words = Words::new(line);
-    let first = first_words(&mut words).ok_or(TableFaultKind::WordCount)?;
-    read_words(&first, words, order, oifs)
+    let first = words_before_oifs(&mut words).ok_or(TableFaultKind::WordCount)?;
+    read_cache_words(&first, words, order, oifs)
 }
 
 /// The six words before the outgoing ones, if they are there.
-fn first_words<'a>(words: &mut Words<'a>) -> Option<CacheWords<'a>>
-    ensures found { IfSome result (λ first. words.old ≡ words_before first words.new) }
+fn words_before_oifs<'a>(words: &mut Words<'a>) -> Option<CacheWords<'a>>
+    ensures found { IfSome result (λ first. words.old ≡ row_words_before first words.new) }
     ensures only { IfNone result (length words.old < 6) }
 {
     let (group, origin, iif) = three_words(words)?;
-    let (packets, bytes, wrong) = three_words(words)?;
+    let (packets, bytes, wrong_if) = three_words(words)?;
     Some(CacheWords {
         group,
         origin,
         iif,
         packets,
         bytes,
-        wrong,
+        wrong_if,
     })
 }
 
 #[tactic(auto, unfolding(crate::specs::CacheReading::row_in_words))]
-fn read_words(
+fn read_cache_words(
     first: &CacheWords<'_>,
     outgoing: Words<'_>,
     order: Order,
@@ -101,17 +101,17 @@ fn read_words(
     requires { oifs.old.items ≡ [] }
     ensures few { OnOk result (length oifs.new.items ≤ 32) }
     ensures read { IfOk result (λ row.
-        row_in_words order (words_before first.now outgoing.entry)
-        ≡ Ok (row_with row oifs.new.items)) }
+        row_in_words order (row_words_before first.now outgoing.entry)
+        ≡ Ok (row_with_oifs row oifs.new.items)) }
     ensures fault { IfErr result (λ fault. fault ≢ Memory →
-        row_in_words order (words_before first.now outgoing.entry) ≡ Err fault) }
+        row_in_words order (row_words_before first.now outgoing.entry) ≡ Err fault) }
 {
     let group = address(first.group, order)?;
     let origin = address(first.origin, order)?;
     let iif = incoming_vif(first.iif)?;
     check_counter(first.packets)?;
     check_counter(first.bytes)?;
-    check_counter(first.wrong)?;
+    check_counter(first.wrong_if)?;
     read_entry(iif, outgoing, oifs)?;
     Ok(CacheRow { group, origin, iif })
 }

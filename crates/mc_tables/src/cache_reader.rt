@@ -5,16 +5,16 @@ ghost use Rattle.std.specs.Prelude.{Ok, Err, OnOk, IfErr, IfSome};
 ghost use Rattle.mc_text.specs.Lines.{max_text};
 ghost use Rattle.mc_tables.specs.declared.fault.TableFaultKind.TheVariants.{TooLarge};
 ghost use Rattle.mc_tables.specs.Steps.{out_of_memory, fault_at};
-ghost use Rattle.mc_tables.specs.LinesSoFar.{AreLinesSoFar};
+ghost use Rattle.mc_tables.specs.LinesSoFar.{IsValidLinesSoFar};
 ghost use Rattle.mc_tables.specs.ListedRows.{listed_in};
-ghost use Rattle.mc_tables.specs.RowsSoFar.{nothing_so_far, no_cache, rows_end, cache_if};
+ghost use Rattle.mc_tables.specs.RowsSoFar.{cache_start_for_set, cache_start, rows_end, cache_if};
 
 use crate::cache_table::CacheTable;
 use crate::fault::TableFault;
-use crate::key_numbers::KeyNumbers;
+use crate::entry_numbers::EntryNumbers;
 use crate::listed_pairs::ListedPairs;
-use crate::listed_rows::ListedRows;
-use crate::piece_lines::PieceLines;
+use crate::cache_row_reader::CacheRowReader;
+use crate::line_buffer::LineBuffer;
 use crate::rows::read_piece;
 use mc_text::Order;
 use std::alloc::Global;
@@ -26,8 +26,8 @@ use std::marker::Model;
 /// before it answers another fault, or where the text ends.
 #[derive(Debug, Drop)]
 pub struct CacheReader {
-    lines: PieceLines,
-    rows: ListedRows,
+    lines: LineBuffer,
+    rows: CacheRowReader,
     fault: Option<TableFault>,
 }
 
@@ -36,48 +36,48 @@ impl Model for CacheReader {
     ghost use Rattle.std.specs.Coded.{codes};
     ghost use Rattle.mc_text.specs.contracts.text.addr.Order as orders;
     ghost use Rattle.mc_tables.specs.contracts.fault.TableFault as faults;
-    ghost use Rattle.mc_tables.specs.CacheTable.{IsCache};
-    ghost use Rattle.mc_tables.specs.ListedRows.{pairs_code};
+    ghost use Rattle.mc_tables.specs.CacheTable.{IsValidCache};
+    ghost use Rattle.mc_tables.specs.ListedRows.{key_set_code};
     ghost use Rattle.mc_tables.specs.RowsSoFar.{CacheSoFar, rows_code};
 
     ghost Value = { CacheSoFar };
 
     ghost coded = { Prim.hlevel
-        (codes, pairs_code, rows_code, orders.the_row.coded, faults.the_row.coded) };
+        (codes, key_set_code, rows_code, orders.the_row.coded, faults.the_row.coded) };
 
     ghost view = { λ s. record { lines = s.lines; rows = s.rows; fault = s.fault } };
 
-    ghost invariant = { λ s. s.fault ≡ None → IsCache s.rows.rows.table };
+    ghost invariant = { λ s. s.fault ≡ None → IsValidCache s.rows.rows.table };
 }
 
 impl CacheReader {
     /// A reader that was fed nothing, for a router whose machine has this byte order. It keeps the
     /// rows of these sources and groups.
     pub fn new(alloc: Global, order: Order, listed: ListedPairs) -> CacheReader
-        ensures start { result ≡ no_cache order (Some listed) }
+        ensures start { result ≡ cache_start order (Some listed) }
         // A text of any bytes ends with what the whole text is read as.
         ensures reads { (text : List ℕ) → length text ≤ max_text →
             cache_if result text ≡ listed_in order (Some listed) text }
     {
-        CacheReader::of_numbers(alloc, order, KeyNumbers::of_listed(alloc, listed))
+        CacheReader::with_numbers(alloc, order, EntryNumbers::for_listed_pairs(alloc, listed))
     }
 
     /// A reader that keeps all rows.
-    pub(crate) fn of_all(alloc: Global, order: Order) -> CacheReader
-        ensures start { result ≡ no_cache order None }
+    pub(crate) fn for_all_pairs(alloc: Global, order: Order) -> CacheReader
+        ensures start { result ≡ cache_start order None }
         ensures reads { (text : List ℕ) → length text ≤ max_text →
             cache_if result text ≡ listed_in order None text }
     {
-        CacheReader::of_numbers(alloc, order, KeyNumbers::of_all(alloc))
+        CacheReader::with_numbers(alloc, order, EntryNumbers::for_all_pairs(alloc))
     }
 
-    fn of_numbers(alloc: Global, order: Order, numbers: KeyNumbers) -> CacheReader
+    fn with_numbers(alloc: Global, order: Order, numbers: EntryNumbers) -> CacheReader
         requires { numbers.numbers ≡ [] }
-        ensures { result ≡ nothing_so_far order numbers.listed }
+        ensures { result ≡ cache_start_for_set order numbers.listed }
     {
         CacheReader {
-            lines: PieceLines::new(alloc),
-            rows: ListedRows::new(alloc, order, numbers),
+            lines: LineBuffer::new(alloc),
+            rows: CacheRowReader::new(alloc, order, numbers),
             fault: None,
         }
     }
@@ -90,7 +90,7 @@ impl CacheReader {
     /// of the lines that have ended; or `Memory`. That of a repeated row whose source and group
     /// aren't listed waits for the first other fault of a line, or for `finish`. Each later call
     /// answers the same.
-    #[tactic(auto, using(crate::proofs::RowsSoFarLemmas::row_steps))]
+    #[tactic(auto, using(crate::proofs::RowsSoFarLemmas::table_reads_in_steps))]
     pub fn feed(&mut self, piece: &[u8]) -> Result<(), TableFault>
         // Whatever bytes come then, reading ends as it would have with this piece before them.
         ensures goes_on { (more : List ℕ) → result ≢ Err out_of_memory →
@@ -141,12 +141,12 @@ impl CacheReader {
 }
 
 /// Refuses a text that ends here: a row that repeats one, and then its last line.
-pub(crate) fn check_end(lines: &PieceLines, rows: &mut ListedRows) -> Result<(), TableFault>
+pub(crate) fn check_end(lines: &LineBuffer, rows: &mut CacheRowReader) -> Result<(), TableFault>
     ensures end { result ≡ rows_end lines.now rows.old }
     ensures table { rows.new.rows.table ≡ rows.old.rows.table }
     ensures listed { rows.new.listed ≡ rows.old.listed }
     ensures count { rows.new.rows.count ≡ rows.old.rows.count }
-    ensures rules { AreLinesSoFar lines.now }
+    ensures rules { IsValidLinesSoFar lines.now }
 {
     // Before the header has ended there are no rows.
     if lines.ended() == 0 {

@@ -10,17 +10,17 @@ ghost use Rattle.std.specs.Ordering.{nat_cmp};
 ghost use Rattle.mc_tables.specs.declared.fault.TableFaultKind.TheVariants.{Memory};
 ghost use Rattle.mc_tables.specs.CacheTable.{table_of};
 ghost use Rattle.mc_tables.specs.CacheSteps.{row_added, entry_added, group_added};
-ghost use Rattle.mc_tables.specs.FlatRows.{row_with};
-ghost use Rattle.mc_tables.specs.ListedRows.{is_in, is_kept_by};
-ghost use Rattle.mc_tables.specs.NotesSoFar.{IsEntered, first_added};
+ghost use Rattle.mc_tables.specs.FlatRows.{row_with_oifs};
+ghost use Rattle.mc_tables.specs.ListedRows.{set_has_key, is_kept_by_set};
+ghost use Rattle.mc_tables.specs.SummarySoFar.{IsEntryInserted, with_entry_if_new};
 
 use crate::cache_row::CacheRow;
 use crate::digit_sort::sort_by_digits;
 use crate::entry::{Entry, Oif};
 use crate::fault::TableFaultKind;
 use crate::flat_oifs::FlatOifs;
-use crate::key_numbers::KeyNumbers;
-use crate::listed_numbers::Numbered;
+use crate::entry_numbers::EntryNumbers;
+use crate::listed_entry_numbers::Inserted;
 use mc_text::Addr;
 use std::alloc::Global;
 use std::marker::Model;
@@ -32,7 +32,7 @@ use std::marker::Model;
 pub struct CacheRows {
     // by incoming vif
     entries: FlatOifs<u8>,
-    numbers: KeyNumbers,
+    numbers: EntryNumbers,
     // as their lines come, until they are put in order
     groups: Vec<Addr>,
 }
@@ -53,18 +53,18 @@ impl Model for CacheRows {
     ghost use Rattle.std.specs.FinMap as map;
     ghost use Rattle.std.specs.FinSet as set;
     ghost use Rattle.mc_tables.specs.CacheTable.{cache_code};
-    ghost use Rattle.mc_tables.specs.CacheNumbers.{entries_by, AreNumbers, KeptText};
+    ghost use Rattle.mc_tables.specs.CacheNumbers.{entries_by_key, AreEntryNumbers, KeptRowsValue};
     ghost use Rattle.mc_tables.specs.FlatRows.{entries_of};
-    ghost use Rattle.mc_tables.specs.ListedRows.{pairs_code};
+    ghost use Rattle.mc_tables.specs.ListedRows.{key_set_code};
 
-    ghost Value = { KeptText };
+    ghost Value = { KeptRowsValue };
 
-    ghost coded = { Prim.hlevel (codes, pairs_code, cache_code) };
+    ghost coded = { Prim.hlevel (codes, key_set_code, cache_code) };
 
     ghost view = { λ rows. record {
       table = record {
         entries = map.from_entries
-            (entries_by rows.numbers.numbers (entries_of rows.entries.lists));
+            (entries_by_key rows.numbers.numbers (entries_of rows.entries.lists));
         numbered = entries_of rows.entries.lists;
         wildcards = set.from_list rows.groups.items;
       };
@@ -72,12 +72,12 @@ impl Model for CacheRows {
       groups = rows.groups.items;
     } };
 
-    ghost invariant = { λ rows. AreNumbers rows.numbers.numbers (entries_of rows.entries.lists) };
+    ghost invariant = { λ rows. AreEntryNumbers rows.numbers.numbers (entries_of rows.entries.lists) };
 }
 
 impl CacheRows {
     /// No rows. Those of the numbers' sources and groups are kept.
-    pub fn new(alloc: Global, numbers: KeyNumbers) -> CacheRows
+    pub fn new(alloc: Global, numbers: EntryNumbers) -> CacheRows
         requires { numbers.numbers ≡ [] }
         ensures { result ≡ record { table = table_of []; listed = numbers.listed; groups = [] } }
     {
@@ -94,13 +94,13 @@ impl CacheRows {
         requires room { length self.old.table.numbered < 65536 }
         requires few { length oifs.now ≤ 32 }
         ensures kept { IfOk result (λ kept.
-            kept ≡ is_kept_by self.old.listed (row_with row.now oifs.now)) }
+            kept ≡ is_kept_by_set self.old.listed (row_with_oifs row.now oifs.now)) }
         ensures added { IfOk result (λ kept. kept ≡ true →
-            row_added self.old.table (row_with row.now oifs.now) ≡ Ok self.new.table) }
+            row_added self.old.table (row_with_oifs row.now oifs.now) ≡ Ok self.new.table) }
         ensures other { IfOk result (λ kept. kept ≡ false → self.new.table ≡ self.old.table) }
         ensures fault { IfErr result (λ fault. fault ≢ Memory →
-            (is_kept_by self.old.listed (row_with row.now oifs.now) ≡ true)
-            × (row_added self.old.table (row_with row.now oifs.now) ≡ Err fault)) }
+            (is_kept_by_set self.old.listed (row_with_oifs row.now oifs.now) ≡ true)
+            × (row_added self.old.table (row_with_oifs row.now oifs.now) ≡ Err fault)) }
         ensures listed { self.new.listed ≡ self.old.listed }
         ensures room { length self.new.table.numbered ≤ length self.old.table.numbered + 1 }
         ensures refused { OnErr result (self.new.table.numbered ≡ self.old.table.numbered) }
@@ -134,27 +134,27 @@ impl CacheRows {
     ) -> Result<bool, TableFaultKind>
         requires room { length self.old.table.numbered < 65536 }
         requires few { length oifs.now ≤ 32 }
-        ensures kept { IfOk result (λ kept. kept ≡ is_in self.old.listed key.now) }
+        ensures kept { IfOk result (λ kept. kept ≡ set_has_key self.old.listed key.now) }
         ensures added { IfOk result (λ kept. kept ≡ true →
             entry_added self.old.table key.now (record { iif = iif; oifs = oifs.now })
             ≡ Ok self.new.table) }
         ensures other { IfOk result (λ kept. kept ≡ false → self.new.table ≡ self.old.table) }
         ensures fault { IfErr result (λ fault. fault ≢ Memory →
-            (is_in self.old.listed key.now ≡ true)
+            (set_has_key self.old.listed key.now ≡ true)
             × (entry_added self.old.table key.now (record { iif = iif; oifs = oifs.now })
             ≡ Err fault)) }
         ensures listed { self.new.listed ≡ self.old.listed }
         ensures refused { OnErr result (self.new.table.numbered ≡ self.old.table.numbered) }
     {
-        match self.enter(key, iif, oifs)? {
-            Numbered::New => Ok(true),
-            Numbered::Repeated => Err(TableFaultKind::RepeatedEntry),
-            Numbered::Unlisted => Ok(false),
+        match self.insert_entry(key, iif, oifs)? {
+            Inserted::New => Ok(true),
+            Inserted::Repeated => Err(TableFaultKind::RepeatedEntry),
+            Inserted::Unlisted => Ok(false),
         }
     }
 
     /// Adds an entry if its source and group can have a number and have none.
-    pub fn add_first(
+    pub fn add_first_entry(
         &mut self,
         key: &(Addr, Addr),
         iif: u8,
@@ -163,27 +163,27 @@ impl CacheRows {
         requires room { length self.old.table.numbered < 65536 }
         requires few { length oifs.now ≤ 32 }
         ensures added { OnOk result (self.new
-            ≡ first_added self.old key.now (record { iif = iif; oifs = oifs.now })) }
+            ≡ with_entry_if_new self.old key.now (record { iif = iif; oifs = oifs.now })) }
         ensures fault { IfErr result (λ fault. fault ≡ Memory) }
         ensures listed { self.new.listed ≡ self.old.listed }
         ensures room { length self.new.table.numbered ≤ length self.old.table.numbered + 1 }
     {
-        self.enter(key, iif, oifs)?;
+        self.insert_entry(key, iif, oifs)?;
         Ok(())
     }
 
     /// Adds an entry if its source and group can have a number and have none, and answers what
     /// became of it.
-    fn enter(
+    fn insert_entry(
         &mut self,
         key: &(Addr, Addr),
         iif: u8,
         oifs: &[Oif],
-    ) -> Result<Numbered, TableFaultKind>
+    ) -> Result<Inserted, TableFaultKind>
         requires room { length self.old.table.numbered < 65536 }
         requires few { length oifs.now ≤ 32 }
-        ensures entered { IfOk result
-            (IsEntered key.now (record { iif = iif; oifs = oifs.now }) self.old self.new) }
+        ensures inserted { IfOk result
+            (IsEntryInserted key.now (record { iif = iif; oifs = oifs.now }) self.old self.new) }
         ensures fault { IfErr result (λ fault. fault ≡ Memory) }
         ensures listed { self.new.listed ≡ self.old.listed }
         ensures refused { OnErr result (self.new.table.numbered ≡ self.old.table.numbered) }
@@ -191,17 +191,17 @@ impl CacheRows {
         let number = self.entries.len() as u32;
         self.entries.reserve(oifs.len())?;
         match self.numbers.add(key, number)? {
-            Numbered::New => {
+            Inserted::New => {
                 self.entries.push(iif, oifs)?;
-                Ok(Numbered::New)
+                Ok(Inserted::New)
             }
-            Numbered::Repeated => Ok(Numbered::Repeated),
-            Numbered::Unlisted => Ok(Numbered::Unlisted),
+            Inserted::Repeated => Ok(Inserted::Repeated),
+            Inserted::Unlisted => Ok(Inserted::Unlisted),
         }
     }
 
     /// The same rows, with the groups in order.
-    pub fn in_order(mut self) -> CacheRows
+    pub fn with_sorted_groups(mut self) -> CacheRows
         ensures table { result.table ≡ self.table }
         ensures order { IsSorted nat_cmp result.groups }
     {
@@ -211,12 +211,12 @@ impl CacheRows {
     }
 
     /// The number of the entry of a source and a group, whose place may be known already.
-    pub fn number_near(&self, source: Addr, group: Addr, near: &mut usize) -> Option<u32>
+    pub fn number_with_hint(&self, source: Addr, group: Addr, hint: &mut usize) -> Option<u32>
         ensures within { IfSome result (λ number. number < length self.now.table.numbered) }
         ensures entry { option_and_then (slice_get self.now.table.numbered) result
             ≡ map.get self.now.table.entries (source, group) }
     {
-        self.numbers.number_near(&(source, group), near)
+        self.numbers.number_with_hint(&(source, group), hint)
     }
 
     /// The entry with this number.
@@ -229,7 +229,7 @@ impl CacheRows {
     }
 
     /// Whether a row for every source has this group or the group 0.0.0.0.
-    pub fn wildcard(&self, group: Addr) -> bool
+    pub fn has_wildcard(&self, group: Addr) -> bool
         requires { IsSorted nat_cmp self.now.groups }
         ensures { result ≡
             (set.contains self.now.table.wildcards group || set.contains self.now.table.wildcards 0) }

@@ -5,7 +5,7 @@ ghost use Rattle.std.specs.Prelude.{length, slice_get, option_and_then};
 ghost use Rattle.std.specs.FinMap as map;
 ghost use Rattle.std.specs.FinSet as set;
 ghost use Rattle.mc_tables.specs.Steps.{out_of_memory};
-ghost use Rattle.mc_tables.specs.CacheTable.{CacheText, IsEntry, IsCache, StandsForCache};
+ghost use Rattle.mc_tables.specs.CacheTable.{CacheValue, IsValidEntry, IsValidCache, DenotesCache};
 ghost use Rattle.mc_tables.specs.CacheReading.{cache_in};
 
 use crate::cache_reader::CacheReader;
@@ -25,15 +25,15 @@ pub struct CacheTable {
 impl Model for CacheTable {
     ghost use Rattle.std.specs.List.Sorted.{IsSorted};
     ghost use Rattle.std.specs.Ordering.{nat_cmp};
-    ghost use Rattle.mc_tables.specs.CacheTable.{CacheText, IsCache, cache_code};
+    ghost use Rattle.mc_tables.specs.CacheTable.{CacheValue, IsValidCache, cache_code};
 
-    ghost Value = { CacheText };
+    ghost Value = { CacheValue };
 
     ghost coded = { cache_code };
 
     ghost view = { λ table. table.rows.table };
 
-    ghost invariant = { λ table. IsCache table.rows.table × IsSorted nat_cmp table.rows.groups };
+    ghost invariant = { λ table. IsValidCache table.rows.table × IsSorted nat_cmp table.rows.groups };
 }
 
 impl CacheTable {
@@ -47,9 +47,9 @@ impl CacheTable {
     /// left, then `RepeatedEntry`. Or `Memory`, at line 0.
     pub fn read(alloc: Global, text: &[u8], order: Order) -> Result<CacheTable, TableFault>
         // What is read is what the text stands for.
-        ensures found { IfOk result (StandsForCache order text.now) }
+        ensures found { IfOk result (DenotesCache order text.now) }
         // What the text stands for is read, unless memory runs out.
-        ensures only { (table : CacheText) → StandsForCache order text.now table →
+        ensures only { (table : CacheValue) → DenotesCache order text.now table →
             result ≢ Err out_of_memory → result ≡ Ok table }
         // Which fault it is, unless memory runs out.
         ensures fault { result ≢ Err out_of_memory → result ≡ cache_in order text.now }
@@ -61,27 +61,27 @@ impl CacheTable {
     fn from_text(alloc: Global, text: &[u8], order: Order) -> Result<CacheTable, TableFault>
         ensures { result ≢ Err out_of_memory → result ≡ cache_in order text.now }
     {
-        let mut reader = CacheReader::of_all(alloc, order);
+        let mut reader = CacheReader::for_all_pairs(alloc, order);
         reader.feed(text)?;
         reader.finish()
     }
 
     /// The table of rows that were read.
     pub(crate) fn from_rows(rows: CacheRows) -> CacheTable
-        requires { IsCache rows.table }
+        requires { IsValidCache rows.table }
         ensures { result ≡ rows.table }
     {
         CacheTable {
-            rows: rows.in_order(),
+            rows: rows.with_sorted_groups(),
         }
     }
 
     /// The entry of the resolved row of this source and this group. There is none for 0.0.0.0.
     pub fn exact(&self, source: Addr, group: Addr) -> Option<Entry<'_>>
         ensures entry { result ≡ map.get self.now.entries (source, group) }
-        ensures stands { IfSome result IsEntry }
+        ensures is_valid { IfSome result IsValidEntry }
         ensures unspecified { source ≡ 0 → result ≡ None }
-        ensures rules { IsCache self.now }
+        ensures rules { IsValidCache self.now }
     {
         match self.number_of(source, group) {
             Some(number) => Some(self.entry_at(number)),
@@ -94,38 +94,38 @@ impl CacheTable {
         ensures within { IfSome result (λ number. number < length self.now.numbered) }
         ensures entry { option_and_then (slice_get self.now.numbered) result
             ≡ map.get self.now.entries (source, group) }
-        ensures rules { IsCache self.now }
+        ensures rules { IsValidCache self.now }
     {
-        self.rows.number_near(source, group, &mut 0)
+        self.rows.number_with_hint(source, group, &mut 0)
     }
 
     /// The same, for whoever asks for the same source and group of many tables of which the rows of
-    /// the same sources and groups are kept: `near` is where they were found in the last one, or
+    /// the same sources and groups are kept: `hint` is where they were found in the last one, or
     /// any number at first. A right one saves a search.
-    pub fn number_near(&self, source: Addr, group: Addr, near: &mut usize) -> Option<u32>
+    pub fn number_with_hint(&self, source: Addr, group: Addr, hint: &mut usize) -> Option<u32>
         ensures within { IfSome result (λ number. number < length self.now.numbered) }
         ensures entry { option_and_then (slice_get self.now.numbered) result
             ≡ map.get self.now.entries (source, group) }
-        ensures rules { IsCache self.now }
+        ensures rules { IsValidCache self.now }
     {
-        self.rows.number_near(source, group, near)
+        self.rows.number_with_hint(source, group, hint)
     }
 
     /// The entry with this number.
     pub fn entry_at(&self, number: u32) -> Entry<'_>
         requires { number < length self.now.numbered }
         ensures entry { slice_get self.now.numbered number ≡ Some result }
-        ensures rules { IsCache self.now }
+        ensures rules { IsValidCache self.now }
     {
         self.rows.entry_at(number)
     }
 
     /// Whether a resolved row of source 0.0.0.0 has this group or the group 0.0.0.0.
-    pub fn wildcard(&self, group: Addr) -> bool
+    pub fn has_wildcard(&self, group: Addr) -> bool
         ensures found { result ≡
             (set.contains self.now.wildcards group || set.contains self.now.wildcards 0) }
-        ensures rules { IsCache self.now }
+        ensures rules { IsValidCache self.now }
     {
-        self.rows.wildcard(group)
+        self.rows.has_wildcard(group)
     }
 }

@@ -21,9 +21,9 @@ pub struct Entry<'a> {
 }
 
 impl<'a> Model for Entry<'a> {
-    ghost use Rattle.mc_tables.specs.CacheTable.{EntryText};
+    ghost use Rattle.mc_tables.specs.CacheTable.{EntryValue};
 
-    ghost Value = { EntryText };
+    ghost Value = { EntryValue };
 
     ghost view = { λ e. record { iif = e.iif; oifs = e.oifs.now } };
 }

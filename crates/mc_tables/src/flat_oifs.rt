@@ -31,9 +31,9 @@ pub struct FlatOifs<H: Copy> {
 
 impl<H: Copy> Model for FlatOifs<H> {
     ghost use Rattle.std.specs.Prelude.{◌-◌, vec_len, vec_capacity};
-    ghost use Rattle.mc_tables.specs.FlatRows.{FlatText, lists_of, AreFlat};
+    ghost use Rattle.mc_tables.specs.FlatRows.{FlatListsValue, lists_of, AreFlatLists};
 
-    ghost Value = { FlatText H };
+    ghost Value = { FlatListsValue H };
 
     ghost view = { λ s. record {
       lists = lists_of s.lists.items s.oifs.items;
@@ -41,7 +41,7 @@ impl<H: Copy> Model for FlatOifs<H> {
       oifs_left = vec_capacity s.oifs - vec_len s.oifs;
     } };
 
-    ghost invariant = { λ s. AreFlat s.lists.items s.oifs.items };
+    ghost invariant = { λ s. AreFlatLists s.lists.items s.oifs.items };
 }
 
 impl<H: Copy> FlatOifs<H> {
@@ -83,7 +83,7 @@ impl<H: Copy> FlatOifs<H> {
     }
 
     /// Adds a list behind the others. This can only be refused where there is no room.
-    #[tactic(auto, using(crate::proofs::FlatLemmas::lists_pushed))]
+    #[tactic(auto, using(crate::proofs::FlatLemmas::lists_of_push))]
     pub fn push(&mut self, head: H, oifs: &[Oif]) -> Result<(), AllocError>
         requires count { length self.old.lists < 65536 }
         requires few { length oifs.now ≤ 32 }

@@ -5,7 +5,7 @@ ghost use Rattle.std.specs.Prelude.{◌≡◌, ℕ, List, ◌++◌, ◌∷◌, �
 ghost use Rattle.std.specs.Prelude.{drop, length, true};
 ghost use Rattle.mc_text.specs.Lines.{words_of};
 ghost use Rattle.mc_tables.specs.CacheReading.{oif_in};
-ghost use Rattle.mc_tables.specs.FourOifs.{ArePrinted, Ascend, IsPrinted};
+ghost use Rattle.mc_tables.specs.FourOifs.{StartsWithFourOifs, DenoteAscendingOifs, StartsWithPrintedOif};
 
 use crate::entry::Oif;
 use crate::table_words::MAX_VIF;
@@ -22,9 +22,9 @@ pub const FOUR_LEN: usize = 28;
 /// Whether four outgoing vifs are printed at a line's front. Each byte is in the range of its place,
 /// or is the other one that may stand there: a space for the tens of a vif.
 #[inline(always)]
-fn are_printed(line: &[u8]) -> bool
+fn starts_with_four_oifs(line: &[u8]) -> bool
     requires { LANES ≤ length line.now }
-    ensures { result ≡ true → ArePrinted line.now }
+    ensures { result ≡ true → StartsWithFourOifs line.now }
 {
     let text = u8x32::from_slice(line);
     let least = u8x32::from_array([
@@ -48,7 +48,7 @@ fn are_printed(line: &[u8]) -> bool
 #[inline(always)]
 fn printed_oif(line: &[u8], at: usize) -> Oif
     requires long { at + 7 ≤ length line.now }
-    requires printed { IsPrinted (drop at line.now) }
+    requires printed { StartsWithPrintedOif (drop at line.now) }
     ensures { result.vif ≤ MAX_VIF → (word : List ℕ)
         × (words_of (drop at line.now) ≡ word ∷ words_of (drop (at + 7) line.now))
         × (oif_in word ≡ Ok (result.vif, result.threshold)) }
@@ -61,15 +61,15 @@ fn printed_oif(line: &[u8], at: usize) -> Oif
 /// Adds four outgoing vifs, ascending from the next on, if they are printed at a line's front, and
 /// answers the number next to the last.
 #[inline(always)]
-pub fn add_four(line: &[u8], next: u8, oifs: &mut Vec<Oif>) -> Result<Option<u8>, AllocError>
+pub fn add_four_oifs(line: &[u8], next: u8, oifs: &mut Vec<Oif>) -> Result<Option<u8>, AllocError>
     ensures added { IfOk result (λ added. IfSome added (λ after.
         (words : List (List ℕ)) × (four : List Oif)
         × (words_of line.now ≡ words ++ words_of (drop FOUR_LEN line.now))
-        × (oifs.new.items ≡ oifs.old.items ++ four) × Ascend next words four after)) }
+        × (oifs.new.items ≡ oifs.old.items ++ four) × DenoteAscendingOifs next words four after)) }
     ensures none { IfOk result (λ added. IfNone added (oifs.new.items ≡ oifs.old.items)) }
     ensures long { IfOk result (λ added. IfSome added (λ after. FOUR_LEN ≤ length line.now)) }
 {
-    if line.len() < LANES || !are_printed(line) {
+    if line.len() < LANES || !starts_with_four_oifs(line) {
         return Ok(None);
     }
     let first = printed_oif(line, 0);

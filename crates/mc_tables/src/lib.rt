@@ -3,9 +3,9 @@
 #![tactic(auto)]
 
 mod address_words;
-mod apart;
+mod distinct;
 mod cache_line;
-mod cache_notes;
+mod cache_summary;
 mod cache_reader;
 mod cache_row;
 mod cache_rows;
@@ -16,21 +16,21 @@ mod fault;
 mod flat_oifs;
 mod four_oifs;
 mod header;
-mod key_numbers;
+mod entry_numbers;
 mod laws;
-mod listed_numbers;
+mod listed_entry_numbers;
 mod listed_pairs;
-mod listed_rows;
+mod cache_row_reader;
 mod lowest_pairs;
 mod marked_line;
-mod noted_cache;
-mod noted_pairs;
-mod noted_reader;
-mod noted_rows;
-mod notes_so_far;
-mod other_rows;
+mod summarized_cache;
+mod summary_pairs;
+mod summary_reader;
+mod summarized_rows;
+mod summary_so_far;
+mod unlisted_rows;
 mod outgoing;
-mod piece_lines;
+mod line_buffer;
 mod plain_row;
 mod rows;
 mod shown_pairs;
@@ -42,22 +42,22 @@ mod vif_row;
 mod vif_rows;
 mod vif_table;
 
-pub use cache_notes::CacheNotes;
+pub use cache_summary::CacheSummary;
 pub use cache_reader::CacheReader;
 pub use cache_table::CacheTable;
 pub use entry::{Entry, Oif};
 pub use fault::{TableFault, TableFaultKind};
 pub use flat_oifs::FlatOifs;
 pub use laws::{
-    devices_have_one_vif, entries_ascend_in_range, indexes_are_of_devices,
-    listed_rows_are_part_of_the_whole, notes_change_no_table, notes_tell_of_rows,
-    tables_are_read_as_they_stand, tables_keep_their_rules, texts_stand_for_one_table,
-    vifs_are_numbered_to_31,
+    devices_have_one_vif, entries_ascend_in_range, index_answered_has_the_device,
+    listed_table_is_part_of_whole, summary_changes_no_table, summary_answers_by_rows,
+    reading_gives_denoted_table, denoted_tables_are_valid, text_denotes_one_table,
+    vif_indexes_are_at_most_31,
 };
 pub use listed_pairs::ListedPairs;
-pub use noted_cache::NotedCache;
-pub use noted_pairs::NotedPairs;
-pub use noted_reader::NotedReader;
+pub use summarized_cache::SummarizedCache;
+pub use summary_pairs::SummaryPairs;
+pub use summary_reader::SummaryReader;
 pub use vif::Vif;
 pub use vif_reader::VifReader;
 pub use vif_table::VifTable;

@@ -59,12 +59,12 @@ impl ListedPairs {
     }
 
     /// The same, where it may be known already.
-    pub(crate) fn place_near(&self, key: &(Addr, Addr), near: usize) -> Option<usize>
+    pub(crate) fn place_with_hint(&self, key: &(Addr, Addr), hint: usize) -> Option<usize>
         ensures found { IfSome result (IsPlaceOf self.now key.now) }
         ensures none { IfNone result (list_any (same_key key.now) self.now ≡ false) }
         ensures distinct { IsDistinct same_key self.now }
     {
-        self.index.place_near(pair_number(key.0, key.1), near)
+        self.index.place_with_hint(pair_number(key.0, key.1), hint)
     }
 }
 

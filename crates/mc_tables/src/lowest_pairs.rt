@@ -1,14 +1,14 @@
 //! The lowest of many pairs of addresses.
 
 ghost use Rattle.std.specs.Prelude.{◌≡◌, [], OnOk, take};
-ghost use Rattle.mc_tables.specs.NotesSoFar.{put_pair};
+ghost use Rattle.mc_tables.specs.SummarySoFar.{put_pair};
 
 use mc_text::Addr;
 use std::alloc::{AllocError, Global};
 use std::marker::Model;
 
 /// How many are kept at most.
-const MOST: usize = 20;
+const MAX_PAIRS: usize = 20;
 
 /// The lowest of the pairs that came, ascending and each once. Its value in contracts is their list.
 #[derive(Debug, Drop)]
@@ -42,12 +42,12 @@ impl LowestPairs {
     pub fn add(&mut self, pair: (Addr, Addr)) -> Result<(), AllocError>
         ensures { OnOk result (self.new ≡ take 20 (put_pair pair self.old)) }
     {
-        if self.pairs.len() >= MOST && self.pairs[MOST - 1] <= pair {
+        if self.pairs.len() >= MAX_PAIRS && self.pairs[MAX_PAIRS - 1] <= pair {
             return Ok(());
         }
         if let Err(place) = self.pairs.binary_search(&pair) {
             self.pairs.insert(place, pair)?;
-            self.pairs.truncate(MOST);
+            self.pairs.truncate(MAX_PAIRS);
         }
         Ok(())
     }

@@ -12,7 +12,7 @@ use std::simd::prelude::*;
 const LANES: usize = 32;
 
 /// How many bytes a counter may have with the spaces before it.
-const MOST: usize = 20;
+const MAX_COUNTER_WIDTH: usize = 20;
 
 /// A line, and which of the bytes at its front are decimal digits and which are spaces. The lowest
 /// bit tells of the first byte.
@@ -25,7 +25,7 @@ pub struct MarkedLine<'a> {
 
 /// Which of the first bytes are decimal digits.
 #[inline(always)]
-fn digits_of(line: &[u8]) -> u64
+fn digit_marks(line: &[u8]) -> u64
     requires { LANES ≤ length line.now }
     ensures { AreMarks is_ascii_digit line.now result }
 {
@@ -35,7 +35,7 @@ fn digits_of(line: &[u8]) -> u64
 
 /// Which of the first bytes are spaces.
 #[inline(always)]
-fn spaces_of(line: &[u8]) -> u64
+fn space_marks(line: &[u8]) -> u64
     requires { LANES ≤ length line.now }
     ensures { AreMarks (λ b. b == 32) line.now result }
 {
@@ -46,7 +46,7 @@ fn spaces_of(line: &[u8]) -> u64
 
 /// How many bits from the lowest on are set.
 #[inline(always)]
-fn front_run(marks: u64) -> usize
+fn front_run_length(marks: u64) -> usize
     ensures { (k : ℕ) → k < result → bit_at marks k ≡ 1 }
 {
     marks.trailing_ones() as usize
@@ -71,7 +71,7 @@ fn last_digits(digits: u64, spaces: u64) -> u64
 
 /// The line without so many bytes at its front.
 #[inline(always)]
-#[tactic(auto, using(crate::proofs::PlainLemmas::rest_of))]
+#[tactic(auto, using(crate::proofs::PlainRowLemmas::drop_as_take_drop))]
 fn without_front(line: &[u8], count: usize) -> &[u8]
     requires { count ≤ length line.now }
     ensures { result.now ≡ drop count line.now }
@@ -91,8 +91,8 @@ impl<'a> MarkedLine<'a> {
         }
         Some(MarkedLine {
             bytes: line,
-            digits: digits_of(line),
-            spaces: spaces_of(line),
+            digits: digit_marks(line),
+            spaces: space_marks(line),
         })
     }
 
@@ -105,21 +105,21 @@ impl<'a> MarkedLine<'a> {
     {
         let ends = last_digits(self.digits, self.spaces);
         let packets = lowest_mark(ends);
-        if packets >= MOST {
+        if packets >= MAX_COUNTER_WIDTH {
             return None;
         }
         let ends = ends >> (packets + 1);
         let bytes = lowest_mark(ends);
-        if bytes >= MOST {
+        if bytes >= MAX_COUNTER_WIDTH {
             return None;
         }
         let ends = ends >> (bytes + 1);
-        let wrong = lowest_mark(ends);
-        if wrong >= MOST {
+        let wrong_if = lowest_mark(ends);
+        if wrong_if >= MAX_COUNTER_WIDTH {
             return None;
         }
-        let end = packets + 1 + (bytes + 1) + (wrong + 1);
-        if front_run(self.digits | self.spaces) < end {
+        let end = packets + 1 + (bytes + 1) + (wrong_if + 1);
+        if front_run_length(self.digits | self.spaces) < end {
             return None;
         }
         Some(without_front(self.bytes, end))

@@ -6,7 +6,7 @@ ghost use Rattle.std.specs.List.{list_all, position_or_len, slice_split};
 ghost use Rattle.mc_tables.specs.declared.fault.TableFaultKind.TheVariants.{Memory};
 ghost use Rattle.mc_tables.specs.TableWords.{number_in};
 ghost use Rattle.mc_tables.specs.CacheReading.{oif_in, oifs_in};
-ghost use Rattle.mc_tables.specs.OutgoingSteps.{threshold_in, oif_in_turn, has_vif, oifs_with};
+ghost use Rattle.mc_tables.specs.OutgoingSteps.{threshold_in, oif_in_turn, has_vif, oifs_with_word};
 
 use crate::entry::Oif;
 use crate::fault::TableFaultKind;
@@ -17,7 +17,7 @@ use mc_text::Words;
 pub const MAX_THRESHOLD: u8 = 254;
 
 /// Reads the outgoing vifs, by ascending vif.
-#[tactic(auto, using(crate::proofs::EntryLemmas::few_read))]
+#[tactic(auto, using(crate::proofs::EntryLemmas::oifs_in_gives_at_most_32))]
 pub fn read_oifs(words: Words<'_>, oifs: &mut Vec<Oif>) -> Result<(), TableFaultKind>
     requires { oifs.old.items ≡ [] }
     ensures few { OnOk result (length oifs.new.items ≤ 32) }
@@ -32,29 +32,29 @@ pub fn read_oifs(words: Words<'_>, oifs: &mut Vec<Oif>) -> Result<(), TableFault
 
 /// Adds the outgoing vif of a word. A kernel prints them by ascending vif.
 fn add_oif(oifs: &mut Vec<Oif>, word: &[u8]) -> Result<(), TableFaultKind>
-    ensures added { OnOk result (oifs_with oifs.old.items word.now ≡ Ok oifs.new.items) }
+    ensures added { OnOk result (oifs_with_word oifs.old.items word.now ≡ Ok oifs.new.items) }
     ensures fault { IfErr result (λ fault. fault ≢ Memory →
-        oifs_with oifs.old.items word.now ≡ Err fault) }
+        oifs_with_word oifs.old.items word.now ≡ Err fault) }
 {
     let (vif, threshold) = oif_of_word(word)?;
-    if are_below(oifs.as_slice(), vif) {
+    if all_below(oifs.as_slice(), vif) {
         oifs.push(Oif { vif, threshold })?;
         return Ok(());
     }
     if has_oif(oifs.as_slice(), vif) {
         return Err(TableFaultKind::RepeatedOif);
     }
-    let place = place_of(oifs.as_slice(), vif);
+    let place = place_by_vif(oifs.as_slice(), vif);
     oifs.insert(place, Oif { vif, threshold })?;
     Ok(())
 }
 
 /// Reads `n:t`, an outgoing vif and its threshold.
-#[tactic(auto, using(crate::proofs::RowWordLemmas::no_colon, crate::proofs::RowWordLemmas::parted))]
+#[tactic(auto, using(crate::proofs::RowWordLemmas::oif_in_without_colon, crate::proofs::RowWordLemmas::oif_in_at_first_colon))]
 fn oif_of_word(word: &[u8]) -> Result<(u8, u8), TableFaultKind>
     ensures { result ≡ oif_in word.now }
 {
-    let (vif, threshold) = parts_of(word).ok_or(TableFaultKind::BadOif)?;
+    let (vif, threshold) = split_at_colon(word).ok_or(TableFaultKind::BadOif)?;
     oif_of_parts(vif, threshold)
 }
 
@@ -68,24 +68,24 @@ fn oif_of_parts(vif: &[u8], after: &[u8]) -> Result<(u8, u8), TableFaultKind>
 }
 
 /// The parts before and after the word's first colon, if it has one.
-fn parts_of(word: &[u8]) -> Option<(&[u8], &[u8])>
+fn split_at_colon(word: &[u8]) -> Option<(&[u8], &[u8])>
     ensures found { IfSome result (λ parts. slice_split (λ b. b == 58) word.now
         ≡ parts.0.now ∷ slice_split (λ b. b == 58) parts.1.now) }
     ensures only { IfNone result (slice_split (λ b. b == 58) word.now ≡ word.now ∷ []) }
 {
-    let colon = colon_in(word)?;
+    let colon = first_colon(word)?;
     Some((&word[..colon], &word[colon + 1..]))
 }
 
 /// The place of the first colon.
-fn colon_in(word: &[u8]) -> Option<usize>
+fn first_colon(word: &[u8]) -> Option<usize>
     ensures { result ≡ position (λ b. b == 58) word.now }
 {
     word.iter().position(|byte| *byte == b':')
 }
 
 /// Reads a threshold.
-#[tactic(auto, using(crate::proofs::RowWordLemmas::threshold_found))]
+#[tactic(auto, using(crate::proofs::RowWordLemmas::threshold_in_number))]
 fn threshold_of_word(word: &[u8]) -> Result<u8, TableFaultKind>
     ensures { result ≡ threshold_in (slice_split (λ b. b == 58) word.now) }
 {
@@ -96,12 +96,12 @@ fn threshold_of_word(word: &[u8]) -> Result<u8, TableFaultKind>
 }
 
 /// Why a word is no threshold: it has a second colon, or it writes none.
-#[tactic(auto, using(crate::proofs::RowWordLemmas::refusals))]
+#[tactic(auto, using(crate::proofs::RowWordLemmas::threshold_refusals))]
 fn fault_of_threshold(word: &[u8]) -> TableFaultKind
     requires { number_in 1 254 word.now ≡ None }
     ensures { threshold_in (slice_split (λ b. b == 58) word.now) ≡ Err result }
 {
-    if colon_in(word).is_some() {
+    if first_colon(word).is_some() {
         TableFaultKind::BadOif
     } else {
         TableFaultKind::BadThreshold
@@ -109,7 +109,7 @@ fn fault_of_threshold(word: &[u8]) -> TableFaultKind
 }
 
 /// Whether all vifs are less than this one.
-fn are_below(oifs: &[Oif], vif: u8) -> bool
+fn all_below(oifs: &[Oif], vif: u8) -> bool
     ensures { result ≡ list_all (λ other. nat_lt other.vif vif) oifs.now }
 {
     oifs.iter().all(|other| other.vif < vif)
@@ -122,7 +122,7 @@ fn has_oif(oifs: &[Oif], vif: u8) -> bool
 }
 
 /// The first place whose vif is greater.
-fn place_of(oifs: &[Oif], vif: u8) -> usize
+fn place_by_vif(oifs: &[Oif], vif: u8) -> usize
     ensures place { result ≡ position_or_len (λ other. nat_lt vif other.vif) oifs.now }
     ensures within { result ≤ length oifs.now }
 {

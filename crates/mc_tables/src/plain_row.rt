@@ -8,15 +8,15 @@ ghost use Rattle.std.specs.Prelude.{position, true};
 ghost use Rattle.std.specs.Char.{is_ascii_digit};
 ghost use Rattle.mc_text.specs.Lines.{words_of};
 ghost use Rattle.mc_tables.specs.declared.entry.Oif.{Oif};
-ghost use Rattle.mc_tables.specs.TableWords.{is_counter, is_decimal, number_in};
+ghost use Rattle.mc_tables.specs.TableWords.{is_counter, is_decimal_word, number_in};
 ghost use Rattle.mc_tables.specs.CacheReading.{oif_in, oifs_in, row_in_words};
-ghost use Rattle.mc_tables.specs.FlatRows.{row_with};
+ghost use Rattle.mc_tables.specs.FlatRows.{row_with_oifs};
 ghost use Rattle.mc_tables.specs.Counters.{HasCounters};
 
 use crate::address_words::{addresses_at_front, after_addresses};
 use crate::cache_row::CacheRow;
 use crate::entry::Oif;
-use crate::four_oifs::{FOUR_LEN, add_four};
+use crate::four_oifs::{FOUR_LEN, add_four_oifs};
 use crate::marked_line::MarkedLine;
 use crate::outgoing::MAX_THRESHOLD;
 use crate::table_words::{MAX_VIF, number};
@@ -31,7 +31,7 @@ fn word_start(line: &[u8]) -> Option<usize>
 }
 
 /// The line from its first byte that is no space.
-#[tactic(auto, using(crate::proofs::PlainLemmas::from_word, crate::proofs::PlainLemmas::no_word))]
+#[tactic(auto, using(crate::proofs::PlainRowLemmas::words_of_without_spaces, crate::proofs::PlainRowLemmas::words_of_spaces))]
 fn without_spaces(line: &[u8]) -> &[u8]
     ensures words { words_of result.now ≡ words_of line.now }
     ensures shorter { length result.now ≤ length line.now }
@@ -50,10 +50,10 @@ fn digits_end(line: &[u8]) -> Option<usize>
 }
 
 /// The decimal digits that a line begins with, and what stands behind this byte after them.
-#[tactic(auto, using(crate::proofs::PlainLemmas::front_digits))]
+#[tactic(auto, using(crate::proofs::PlainRowLemmas::front_digits_are_decimal))]
 fn digits_before(line: &[u8], stop: u8) -> Option<(&[u8], &[u8])>
     ensures parts { IfSome result (λ parts. line.now ≡ parts.0.now ++ stop ∷ parts.1.now) }
-    ensures digits { IfSome result (λ parts. is_decimal parts.0.now ≡ true) }
+    ensures digits { IfSome result (λ parts. is_decimal_word parts.0.now ≡ true) }
 {
     let end = digits_end(line)?;
     if end == 0 || line[end] != stop {
@@ -63,10 +63,10 @@ fn digits_before(line: &[u8], stop: u8) -> Option<(&[u8], &[u8])>
 }
 
 /// The decimal digits that are a line's first word, and what stands behind them.
-#[tactic(auto, using(crate::proofs::PlainLemmas::digits_first))]
+#[tactic(auto, using(crate::proofs::PlainRowLemmas::digits_are_first_word))]
 fn digits_at_front(line: &[u8]) -> Option<(&[u8], &[u8])>
     ensures words { IfSome result (λ parts. words_of line.now ≡ parts.0.now ∷ words_of parts.1.now) }
-    ensures digits { IfSome result (λ parts. is_decimal parts.0.now ≡ true) }
+    ensures digits { IfSome result (λ parts. is_decimal_word parts.0.now ≡ true) }
 {
     digits_before(without_spaces(line), b' ')
 }
@@ -74,10 +74,10 @@ fn digits_at_front(line: &[u8]) -> Option<(&[u8], &[u8])>
 /// An incoming vif of one digit, which is printed in three bytes, with which a line begins, and
 /// what stands behind it.
 #[inline(always)]
-#[tactic(auto, using(crate::proofs::PlainLemmas::short_iif))]
+#[tactic(auto, using(crate::proofs::PlainRowLemmas::one_digit_iif_is_first_word))]
 fn one_digit_iif_at_front(line: &[u8]) -> Option<(u8, &[u8])>
     ensures { IfSome result (λ found. (word : List ℕ)
-        × (words_of line.now ≡ word ∷ words_of found.1.now) × (is_decimal word ≡ true)
+        × (words_of line.now ≡ word ∷ words_of found.1.now) × (is_decimal_word word ≡ true)
         × (number_in 0 31 word ≡ Some found.0)) }
 {
     if line.len() < 3 || !line[0].is_ascii_digit() || line[1] != b' ' || line[2] != b' ' {
@@ -89,10 +89,10 @@ fn one_digit_iif_at_front(line: &[u8]) -> Option<(u8, &[u8])>
 
 /// The same of one of two digits.
 #[inline(always)]
-#[tactic(auto, using(crate::proofs::PlainLemmas::two_iif))]
+#[tactic(auto, using(crate::proofs::PlainRowLemmas::two_digit_iif_is_first_word))]
 fn two_digit_iif_at_front(line: &[u8]) -> Option<(u8, &[u8])>
     ensures { IfSome result (λ found. (word : List ℕ)
-        × (words_of line.now ≡ word ∷ words_of found.1.now) × (is_decimal word ≡ true)
+        × (words_of line.now ≡ word ∷ words_of found.1.now) × (is_decimal_word word ≡ true)
         × (number_in 0 31 word ≡ Some found.0)) }
 {
     if line.len() < 3 || !line[0].is_ascii_digit() || !line[1].is_ascii_digit() {
@@ -108,7 +108,7 @@ fn two_digit_iif_at_front(line: &[u8]) -> Option<(u8, &[u8])>
 /// The incoming vif that is a line's first word, and what stands behind it.
 fn iif_at_front(line: &[u8]) -> Option<(u8, &[u8])>
     ensures { IfSome result (λ found. (word : List ℕ)
-        × (words_of line.now ≡ word ∷ words_of found.1.now) × (is_decimal word ≡ true)
+        × (words_of line.now ≡ word ∷ words_of found.1.now) × (is_decimal_word word ≡ true)
         × (number_in 0 31 word ≡ Some found.0)) }
 {
     if let Some(found) = one_digit_iif_at_front(line) {
@@ -123,7 +123,7 @@ fn iif_at_front(line: &[u8]) -> Option<(u8, &[u8])>
 }
 
 /// What stands behind the digits of a counter with which a line begins, its space first.
-#[tactic(auto, using(crate::proofs::PlainLemmas::front_digits, crate::proofs::PlainLemmas::counter_behind))]
+#[tactic(auto, using(crate::proofs::PlainRowLemmas::front_digits_are_decimal, crate::proofs::PlainRowLemmas::counter_is_first_word))]
 fn after_digits(line: &[u8]) -> Option<&[u8]>
     ensures { IfSome result (λ after. (counter : List ℕ)
         × (words_of line.now ≡ counter ∷ words_of after.now) × (is_counter counter ≡ true)) }
@@ -146,7 +146,7 @@ fn after_counter(line: &[u8]) -> Option<&[u8]>
 /// What stands behind the three counters that are a line's first words, if they are near its
 /// front.
 #[inline(always)]
-fn after_near_counters(line: &[u8]) -> Option<&[u8]>
+fn after_marked_counters(line: &[u8]) -> Option<&[u8]>
     ensures { IfSome result (λ after. HasCounters line.now after.now) }
 {
     MarkedLine::of(line)?.behind_counters()
@@ -156,7 +156,7 @@ fn after_near_counters(line: &[u8]) -> Option<&[u8]>
 fn after_counters(line: &[u8]) -> Option<&[u8]>
     ensures { IfSome result (λ after. HasCounters line.now after.now) }
 {
-    if let Some(after) = after_near_counters(line) {
+    if let Some(after) = after_marked_counters(line) {
         return Some(after);
     }
     let rest = after_counter(line)?;
@@ -168,7 +168,7 @@ fn after_counters(line: &[u8]) -> Option<&[u8]>
 pub fn row_at_front(line: &[u8], order: Order) -> Option<(CacheRow, &[u8])>
     ensures { (oifs : List Oif) → IfSome result (λ found.
         oifs_in (words_of found.1.now) ≡ Ok oifs →
-        row_in_words order (words_of line.now) ≡ Ok (row_with found.0 oifs)) }
+        row_in_words order (words_of line.now) ≡ Ok (row_with_oifs found.0 oifs)) }
 {
     let (group, origin) = addresses_at_front(line, order)?;
     let (iif, rest) = iif_at_front(after_addresses(line))?;
@@ -192,7 +192,7 @@ fn is_from_1_to_9(byte: u8) -> bool
 /// An outgoing vif of one digit with a threshold of one, with which a line begins, and what stands
 /// behind it.
 #[inline(always)]
-#[tactic(auto, using(crate::proofs::PlainLemmas::short_first))]
+#[tactic(auto, using(crate::proofs::PlainRowLemmas::one_digit_oif_is_first_word))]
 fn one_digit_oif_at_front(line: &[u8]) -> Option<(Oif, &[u8])>
     ensures word { IfSome result (λ found. (word : List ℕ)
         × (words_of line.now ≡ word ∷ words_of found.1.now)
@@ -214,7 +214,7 @@ fn one_digit_oif_at_front(line: &[u8]) -> Option<(Oif, &[u8])>
 /// An outgoing vif of two digits with a threshold of one, with which a line begins, and what stands
 /// behind it.
 #[inline(always)]
-#[tactic(auto, using(crate::proofs::PlainLemmas::two_first))]
+#[tactic(auto, using(crate::proofs::PlainRowLemmas::two_digit_oif_is_first_word))]
 fn two_digit_oif_at_front(line: &[u8]) -> Option<(Oif, &[u8])>
     ensures word { IfSome result (λ found. (word : List ℕ)
         × (words_of line.now ≡ word ∷ words_of found.1.now)
@@ -238,7 +238,7 @@ fn two_digit_oif_at_front(line: &[u8]) -> Option<(Oif, &[u8])>
 
 /// The outgoing vif that a line begins with, and what stands behind it. Most are written with one
 /// digit or two, and a threshold of one.
-#[tactic(auto, using(crate::proofs::PlainLemmas::vif_in_range))]
+#[tactic(auto, using(crate::proofs::PlainRowLemmas::vif_in_range))]
 fn oif_at_front(line: &[u8]) -> Option<(Oif, &[u8])>
     ensures word { IfSome result (λ found. (word : List ℕ)
         × (words_of line.now ≡ word ∷ words_of found.1.now)
@@ -260,15 +260,15 @@ fn oif_at_front(line: &[u8]) -> Option<(Oif, &[u8])>
 }
 
 /// Reads the outgoing vifs of which a line is made, if they ascend. Whether they were read.
-#[tactic(auto, using(crate::proofs::PlainLemmas::one_ascends, crate::proofs::OifLemmas::steps_are_read))]
-pub fn read_ascending(line: &[u8], oifs: &mut Vec<Oif>) -> Result<bool, AllocError>
+#[tactic(auto, using(crate::proofs::PlainRowLemmas::greater_oif_is_appended, crate::proofs::OifLemmas::oifs_in_by_steps))]
+pub fn read_ascending_oifs(line: &[u8], oifs: &mut Vec<Oif>) -> Result<bool, AllocError>
     requires { oifs.old.items ≡ [] }
     ensures { IfOk result (λ read. read ≡ true →
         oifs_in (words_of line.now) ≡ Ok oifs.new.items) }
 {
     let mut rest = line;
     let mut next = 0;
-    'fours: while let Some(after) = add_four(rest, next, oifs)? {
+    'fours: while let Some(after) = add_four_oifs(rest, next, oifs)? {
         next = after;
         rest = &rest[FOUR_LEN..];
     }

@@ -10,11 +10,11 @@ ghost use Rattle.mc_tables.specs.Steps.{out_of_memory, fault_at};
 ghost use Rattle.mc_tables.specs.LinesSoFar.{read_after, line_after, ReadsInSteps};
 
 use crate::fault::{TableFault, TableFaultKind};
-use crate::piece_lines::PieceLines;
+use crate::line_buffer::LineBuffer;
 use mc_text::Line;
 
 /// The rows of a table, each of which is read beside the earlier ones.
-pub trait Rows {
+pub trait TableRows {
     // the table that they make
     ghost Table: { Type 0 };
 
@@ -28,7 +28,7 @@ pub trait Rows {
     ghost table: { Self → List LineText → Result Table TableFault };
 
     // what they keep
-    ghost stand: { Self → Type 0 };
+    ghost is_valid: { Self → Type 0 };
 
     /// Adds the row of a line after so many lines, the first of which is the header. The fault that
     /// is answered may be that of an earlier row. After an error the rows are of no use.
@@ -37,12 +37,12 @@ pub trait Rows {
             (line_after header (step self.old) self.old ended (line_text line.now) ≡ Ok self.new) }
         ensures fault { IfErr result (λ fault. fault ≢ out_of_memory →
             line_after header (step self.old) self.old ended (line_text line.now) ≡ Err fault) }
-        ensures stand { OnOk result (stand self.old → stand self.new) };
+        ensures is_valid { OnOk result (is_valid self.old → is_valid self.new) };
 }
 
 /// Reads the lines that end in a piece.
-pub fn read_piece<R: Rows>(
-    lines: &mut PieceLines,
+pub fn read_piece<R: TableRows>(
+    lines: &mut LineBuffer,
     rows: &mut R,
     piece: &[u8],
 ) -> Result<(), TableFault>
@@ -57,14 +57,14 @@ pub fn read_piece<R: Rows>(
         read_after R.header (R.table rows.old) lines.old (piece.now ++ more) ≡ Err fault) }
     ensures too_large { max_text < lines.old.size + length piece.now →
         result ≡ Err (fault_at 0 TooLarge) }
-    ensures stand { OnOk result (R.stand rows.old → R.stand rows.new) }
+    ensures is_valid { OnOk result (R.is_valid rows.old → R.is_valid rows.new) }
 {
     if lines.room() < piece.len() {
         return Err(TableFaultKind::TooLarge.at(0));
     }
     let mut rest = piece;
     'lines: while !rest.is_empty() {
-        match lines.end_of_whole(rest) {
+        match lines.whole_line_end(rest) {
             Some(end) => {
                 read_whole(lines, rows, rest, end)?;
                 rest = &rest[end + 1..];
@@ -79,8 +79,8 @@ pub fn read_piece<R: Rows>(
 }
 
 /// Reads the line that ends here, of which nothing came before.
-fn read_whole<R: Rows>(
-    lines: &mut PieceLines,
+fn read_whole<R: TableRows>(
+    lines: &mut LineBuffer,
     rows: &mut R,
     rest: &[u8],
     end: usize,
@@ -95,17 +95,17 @@ fn read_whole<R: Rows>(
     ensures size { OnOk result (lines.new.size ≡ lines.old.size + (end + 1)) }
     ensures fault { (more : List ℕ) → IfErr result (λ fault. fault ≢ out_of_memory →
         read_after R.header (R.table rows.old) lines.old (rest.now ++ more) ≡ Err fault) }
-    ensures stand { OnOk result (R.stand rows.old → R.stand rows.new) }
+    ensures is_valid { OnOk result (R.is_valid rows.old → R.is_valid rows.new) }
 {
     rows.add_line(lines.ended(), &lines.line_of(&rest[..end]))?;
-    lines.pass_line(end);
+    lines.skip_line(end);
     Ok(())
 }
 
 /// Reads what a line that has begun goes on with, and answers how many bytes that is: those up to
 /// its line feed, or all.
-fn read_begun<R: Rows>(
-    lines: &mut PieceLines,
+fn read_begun<R: TableRows>(
+    lines: &mut LineBuffer,
     rows: &mut R,
     rest: &[u8],
 ) -> Result<usize, TableFault>
@@ -119,12 +119,12 @@ fn read_begun<R: Rows>(
     ensures taken { IfOk result (λ taken. (0 < taken) × (taken ≤ length rest.now)) }
     ensures fault { (more : List ℕ) → IfErr result (λ fault. fault ≢ out_of_memory →
         read_after R.header (R.table rows.old) lines.old (rest.now ++ more) ≡ Err fault) }
-    ensures stand { OnOk result (R.stand rows.old → R.stand rows.new) }
+    ensures is_valid { OnOk result (R.is_valid rows.old → R.is_valid rows.new) }
 {
-    let Some(end) = lines.take_up_to_end(rest)? else {
+    let Some(end) = lines.take_to_line_feed(rest)? else {
         return Ok(rest.len());
     };
     rows.add_line(lines.ended(), &lines.line())?;
-    lines.end_line();
+    lines.begin_next_line();
     Ok(end + 1)
 }

@@ -1,8 +1,8 @@
 //! The pairs of addresses that notes keep: all that came, or the lowest.
 
 ghost use Rattle.std.specs.Prelude.{◌≡◌, [], OnOk};
-ghost use Rattle.mc_tables.specs.Notes.{in_order};
-ghost use Rattle.mc_tables.specs.NotesSoFar.{pair_kept};
+ghost use Rattle.mc_tables.specs.Summary.{in_order};
+ghost use Rattle.mc_tables.specs.SummarySoFar.{with_pair};
 
 use crate::lowest_pairs::LowestPairs;
 use mc_text::Addr;
@@ -21,8 +21,8 @@ pub struct ShownPairs {
 
 impl Model for ShownPairs {
     ghost use Rattle.std.specs.Prelude.{if◌then◌else◌};
-    ghost use Rattle.mc_tables.specs.Notes.{in_order};
-    ghost use Rattle.mc_tables.specs.NotesSoFar.{KeptPairs};
+    ghost use Rattle.mc_tables.specs.Summary.{in_order};
+    ghost use Rattle.mc_tables.specs.SummarySoFar.{KeptPairs};
 
     ghost Value = { KeptPairs };
 
@@ -46,7 +46,7 @@ impl ShownPairs {
 
     /// One more came.
     pub fn add(&mut self, pair: (Addr, Addr)) -> Result<(), AllocError>
-        ensures { OnOk result (self.new ≡ pair_kept pair self.old) }
+        ensures { OnOk result (self.new ≡ with_pair pair self.old) }
     {
         if self.all {
             self.every.push(pair)?;
@@ -61,7 +61,7 @@ impl ShownPairs {
     {
         let ShownPairs { all, every, lowest } = self;
         if all {
-            ascending(every)
+            sorted_without_repeats(every)
         } else {
             lowest.into_vec()
         }
@@ -69,7 +69,7 @@ impl ShownPairs {
 }
 
 /// Pairs in order, each once.
-fn ascending(mut pairs: Vec<(Addr, Addr)>) -> Vec<(Addr, Addr)>
+fn sorted_without_repeats(mut pairs: Vec<(Addr, Addr)>) -> Vec<(Addr, Addr)>
     ensures { result.items ≡ in_order pairs.items }
 {
     pairs.sort_unstable();

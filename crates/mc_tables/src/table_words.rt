@@ -5,7 +5,7 @@ ghost use Rattle.std.specs.List.{list_all};
 ghost use Rattle.std.specs.Char.{is_ascii_digit, is_ascii_hexdigit};
 ghost use Rattle.mc_tables.specs.declared.fault.TableFaultKind.TheVariants.{BadCounter};
 ghost use Rattle.mc_tables.specs.Steps.{demand};
-ghost use Rattle.mc_tables.specs.TableWords.{unsigned, is_counter, is_hexadecimal, number_in};
+ghost use Rattle.mc_tables.specs.TableWords.{without_sign, is_counter, is_hexadecimal, number_in};
 
 use crate::fault::TableFaultKind;
 use mc_text::{Words, decimal};
@@ -53,7 +53,7 @@ fn is_counter_word(word: &[u8]) -> bool
 
 /// The word without a `-` at its front.
 fn without_minus(word: &[u8]) -> &[u8]
-    ensures { result.now ≡ unsigned word.now }
+    ensures { result.now ≡ without_sign word.now }
 {
     match word {
         [b'-', digits @ ..] => digits,

@@ -53,9 +53,9 @@ pub struct Vif {
 }
 
 impl Model for Vif {
-    ghost use Rattle.mc_tables.specs.VifTable.{VifText};
+    ghost use Rattle.mc_tables.specs.VifTable.{VifValue};
 
-    ghost Value = { VifText };
+    ghost Value = { VifValue };
 
     ghost view = { λ vif.
         record { device = vif.device; tunnel = vif.tunnel; register = vif.register } };

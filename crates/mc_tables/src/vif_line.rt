@@ -9,7 +9,7 @@ ghost use Rattle.mc_tables.specs.declared.fault.TableFaultKind.TheVariants.{BadA
 ghost use Rattle.mc_tables.specs.Steps.{demand};
 ghost use Rattle.mc_tables.specs.TableWords.{is_hexadecimal};
 ghost use Rattle.mc_tables.specs.VifReading.{device_in, flags_in, vif_in_words};
-ghost use Rattle.mc_tables.specs.RowWords.{word_list};
+ghost use Rattle.mc_tables.specs.RowWords.{vif_word_list};
 
 use crate::fault::TableFaultKind;
 use crate::table_words::{MAX_VIF, check_counter, is_hexadecimal_word, number, three_words};
@@ -39,7 +39,7 @@ pub struct VifWords<'a> {
 }
 
 /// Reads a vif and its index.
-#[tactic(auto, using(crate::proofs::VifLemmas::not_nine))]
+#[tactic(auto, using(crate::proofs::VifLemmas::vif_needs_nine_words))]
 pub fn vif_of_line(line: &[u8]) -> Result<VifRow, TableFaultKind>
     ensures { result ≡ vif_in_words (words_of line.now) }
 {
@@ -49,7 +49,7 @@ pub fn vif_of_line(line: &[u8]) -> Result<VifRow, TableFaultKind>
 
 /// The line's words, if there are nine.
 fn vif_words<'a>(line: &'a [u8]) -> Option<VifWords<'a>>
-    ensures found { IfSome result (λ words. words_of line.now ≡ word_list words) }
+    ensures found { IfSome result (λ words. words_of line.now ≡ vif_word_list words) }
     ensures only { IfNone result (length (words_of line.now) ≢ 9) }
 {
     let mut words = Words::new(line);
@@ -76,7 +76,7 @@ fn vif_words<'a>(line: &'a [u8]) -> Option<VifWords<'a>>
 
 #[tactic(auto, unfolding(crate::specs::VifReading::vif_in_words))]
 fn vif_of_words(words: &VifWords<'_>) -> Result<VifRow, TableFaultKind>
-    ensures { result ≡ vif_in_words (word_list words.now) }
+    ensures { result ≡ vif_in_words (vif_word_list words.now) }
 {
     let index = number(words.index, 0, MAX_VIF).ok_or(TableFaultKind::BadIndex)?;
     let device = device_name(words.device)?;

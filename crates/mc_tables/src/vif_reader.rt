@@ -6,10 +6,10 @@ ghost use Rattle.mc_text.specs.Lines.{max_text};
 ghost use Rattle.mc_tables.specs.declared.fault.TableFaultKind.TheVariants.{TooLarge};
 ghost use Rattle.mc_tables.specs.Steps.{out_of_memory, fault_at};
 ghost use Rattle.mc_tables.specs.VifReading.{vifs_in};
-ghost use Rattle.mc_tables.specs.VifsSoFar.{no_vifs, vifs_if};
+ghost use Rattle.mc_tables.specs.VifsSoFar.{vifs_start, vifs_if};
 
 use crate::fault::TableFault;
-use crate::piece_lines::PieceLines;
+use crate::line_buffer::LineBuffer;
 use crate::rows::read_piece;
 use crate::vif_rows::VifRows;
 use crate::vif_table::VifTable;
@@ -19,33 +19,33 @@ use std::marker::Model;
 /// A reader of `/proc/net/ip_mr_vif` that is fed the text in pieces of any size.
 #[derive(Debug, Drop)]
 pub struct VifReader {
-    lines: PieceLines,
+    lines: LineBuffer,
     rows: VifRows,
     fault: Option<TableFault>,
 }
 
 impl Model for VifReader {
     ghost use Rattle.std.specs.Prelude.{◌≡◌, None};
-    ghost use Rattle.mc_tables.specs.VifTable.{AreVifs};
+    ghost use Rattle.mc_tables.specs.VifTable.{AreValidVifRows};
     ghost use Rattle.mc_tables.specs.VifsSoFar.{VifsSoFar};
 
     ghost Value = { VifsSoFar };
 
     ghost view = { λ s. record { lines = s.lines; rows = s.rows; fault = s.fault } };
 
-    ghost invariant = { λ s. s.fault ≡ None → AreVifs s.rows };
+    ghost invariant = { λ s. s.fault ≡ None → AreValidVifRows s.rows };
 }
 
 impl VifReader {
     /// A reader that was fed nothing.
     pub fn new(alloc: Global) -> VifReader
-        ensures start { result ≡ no_vifs }
+        ensures start { result ≡ vifs_start }
         // A text of any bytes ends with what the whole text is read as.
         ensures reads { (text : List ℕ) → length text ≤ max_text →
             vifs_if result text ≡ vifs_in text }
     {
         VifReader {
-            lines: PieceLines::new(alloc),
+            lines: LineBuffer::new(alloc),
             rows: VifRows::new(alloc),
             fault: None,
         }
@@ -57,7 +57,7 @@ impl VifReader {
     ///
     /// `TooLarge` at line 0 where the text has more than 16,777,216 bytes now; else the first fault
     /// of the lines that have ended; or `Memory`. Each later call answers the same.
-    #[tactic(auto, using(crate::proofs::VifPieceLemmas::vif_steps))]
+    #[tactic(auto, using(crate::proofs::VifPieceLemmas::vifs_read_in_steps))]
     pub fn feed(&mut self, piece: &[u8]) -> Result<(), TableFault>
         // Whatever bytes come then, reading ends as it would have with this piece before them.
         ensures goes_on { (more : List ℕ) → result ≢ Err out_of_memory →

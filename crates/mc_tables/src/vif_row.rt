@@ -12,9 +12,9 @@ pub struct VifRow {
 
 impl Model for VifRow {
     ghost use Rattle.std.specs.Prelude.{ℕ};
-    ghost use Rattle.mc_tables.specs.VifTable.{VifText};
+    ghost use Rattle.mc_tables.specs.VifTable.{VifValue};
 
-    ghost Value = { ℕ × VifText };
+    ghost Value = { ℕ × VifValue };
 
     ghost view = { λ row. (row.index, row.vif) };
 }

@@ -3,14 +3,14 @@
 ghost use Rattle.std.specs.Prelude.{◌≡◌, ◌≢◌, [], OnOk, IfErr, Ok, Err};
 ghost use Rattle.mc_text.specs.LineView.{line_text};
 ghost use Rattle.mc_tables.specs.declared.fault.TableFaultKind.TheVariants.{Memory};
-ghost use Rattle.mc_tables.specs.VifTable.{AreVifs};
+ghost use Rattle.mc_tables.specs.VifTable.{AreValidVifRows};
 ghost use Rattle.mc_tables.specs.VifsSoFar.{vif_added};
 
 use crate::fault::{TableFault, TableFaultKind};
 use crate::header::check_header;
-use crate::rows::Rows;
+use crate::rows::TableRows;
 use crate::vif_row::VifRow;
-use crate::vif_table::new_vif;
+use crate::vif_table::read_new_vif;
 use mc_text::Line;
 use std::alloc::Global;
 use std::marker::Model;
@@ -23,9 +23,9 @@ pub struct VifRows {
 
 impl Model for VifRows {
     ghost use Rattle.std.specs.Prelude.{ℕ, List};
-    ghost use Rattle.mc_tables.specs.VifTable.{VifText};
+    ghost use Rattle.mc_tables.specs.VifTable.{VifValue};
 
-    ghost Value = { List (ℕ × VifText) };
+    ghost Value = { List (ℕ × VifValue) };
 
     ghost view = { λ rows. rows.vifs.items };
 }
@@ -45,9 +45,9 @@ impl VifRows {
         ensures added { OnOk result (vif_added self.old (line_text line.now) ≡ Ok self.new) }
         ensures fault { IfErr result (λ fault. fault ≢ Memory →
             vif_added self.old (line_text line.now) ≡ Err fault) }
-        ensures stand { OnOk result (AreVifs self.old → AreVifs self.new) }
+        ensures is_valid { OnOk result (AreValidVifRows self.old → AreValidVifRows self.new) }
     {
-        let row = new_vif(self.vifs.as_slice(), line)?;
+        let row = read_new_vif(self.vifs.as_slice(), line)?;
         self.vifs.push(row)?;
         Ok(())
     }
@@ -61,22 +61,22 @@ impl VifRows {
     }
 }
 
-impl Rows for VifRows {
+impl TableRows for VifRows {
     ghost use Rattle.std.specs.Prelude.{codes};
     ghost use Rattle.std.specs.Ordering.{nat_cmp};
     ghost use Rattle.std.specs.FinMap.{FinMap};
-    ghost use Rattle.mc_tables.specs.VifTable.{VifText, AreVifs};
-    ghost use Rattle.mc_tables.specs.VifsSoFar.{vif_step, vifs_of};
+    ghost use Rattle.mc_tables.specs.VifTable.{VifValue, AreValidVifRows};
+    ghost use Rattle.mc_tables.specs.VifsSoFar.{vif_step, vifs_from_lines};
 
-    ghost Table = { FinMap nat_cmp VifText };
+    ghost Table = { FinMap nat_cmp VifValue };
 
     ghost header = { codes "Interface" };
 
     ghost step = { vif_step };
 
-    ghost table = { vifs_of };
+    ghost table = { vifs_from_lines };
 
-    ghost stand = { AreVifs };
+    ghost is_valid = { AreValidVifRows };
 
     fn add_line(&mut self, ended: u32, line: &Line<'_>) -> Result<(), TableFault> {
         if ended == 0 {

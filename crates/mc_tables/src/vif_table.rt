@@ -10,10 +10,10 @@ ghost use Rattle.std.specs.FinMap as map;
 ghost use Rattle.mc_text.specs.LineView.{line_text};
 ghost use Rattle.mc_tables.specs.Steps.{out_of_memory};
 ghost use Rattle.mc_tables.specs.TableLines.{rows_after};
-ghost use Rattle.mc_tables.specs.VifTable.{VifText, no_device, AreVifs, StandsForVifs};
+ghost use Rattle.mc_tables.specs.VifTable.{VifValue, no_device, AreValidVifRows, DenotesVifs};
 ghost use Rattle.mc_tables.specs.VifReading.{index_repeats, device_repeats, vif_in_line};
 ghost use Rattle.mc_tables.specs.VifReading.{vifs_in};
-ghost use Rattle.mc_tables.specs.VifLookups.{HasDevice, IsVifTable, first_index_with, index_of};
+ghost use Rattle.mc_tables.specs.VifLookups.{HasDevice, IsValidVifTable, first_index_with, index_of};
 
 use crate::fault::{TableFault, TableFaultKind};
 use crate::vif::Vif;
@@ -38,15 +38,15 @@ impl Model for VifTable {
     ghost use Rattle.std.specs.Ordering.{nat_cmp};
     ghost use Rattle.std.specs.Coded.{coded_ℕ};
     ghost use Rattle.std.specs.FinMap as map;
-    ghost use Rattle.mc_tables.specs.VifTable.{VifText, AreVifs, vif_code};
+    ghost use Rattle.mc_tables.specs.VifTable.{VifValue, AreValidVifRows, vif_code};
 
-    ghost Value = { map.FinMap nat_cmp VifText };
+    ghost Value = { map.FinMap nat_cmp VifValue };
 
     ghost coded = { map.code coded_ℕ vif_code };
 
     ghost view = { λ table. map.from_entries table.vifs.items };
 
-    ghost invariant = { λ table. AreVifs table.vifs.items };
+    ghost invariant = { λ table. AreValidVifRows table.vifs.items };
 }
 
 impl VifTable {
@@ -60,9 +60,9 @@ impl VifTable {
     /// `RepeatedDevice`. Or `Memory`, at line 0.
     pub fn read(alloc: Global, text: &[u8]) -> Result<VifTable, TableFault>
         // What is read is what the text stands for.
-        ensures found { IfOk result (StandsForVifs text.now) }
+        ensures found { IfOk result (DenotesVifs text.now) }
         // What the text stands for is read, unless memory runs out.
-        ensures only { (vifs : map.FinMap nat_cmp VifText) → StandsForVifs text.now vifs →
+        ensures only { (vifs : map.FinMap nat_cmp VifValue) → DenotesVifs text.now vifs →
             result ≢ Err out_of_memory → result ≡ Ok vifs }
         // Which fault it is, unless memory runs out.
         ensures fault { result ≢ Err out_of_memory → result ≡ vifs_in text.now }
@@ -81,7 +81,7 @@ impl VifTable {
 
     /// The table of rows that were read.
     pub(crate) fn from_rows(rows: VifRows) -> VifTable
-        requires { AreVifs rows }
+        requires { AreValidVifRows rows }
         ensures { result ≡ map.from_entries rows }
     {
         VifTable {
@@ -94,7 +94,7 @@ impl VifTable {
         ensures found { option_copied result ≡ map.get self.now index }
         // The indexes of the table's vifs are 0 to 31.
         ensures numbered { (i : ℕ) → IsSome (map.get self.now i) → i ≤ 31 }
-        ensures rules { IsVifTable self.now }
+        ensures rules { IsValidVifTable self.now }
     {
         vif_with_index(self.vifs.as_slice(), index)
     }
@@ -109,7 +109,7 @@ impl VifTable {
         ensures exact { (index : ℕ) → (result ≡ Some index) ↔
             ((device.now ≢ no_device) × HasDevice self.now index device.now) }
         ensures value { result ≡ index_of self.now device.now }
-        ensures rules { IsVifTable self.now }
+        ensures rules { IsValidVifTable self.now }
     {
         let vifs = self.vifs.as_slice();
         if device == NO_DEVICE {
@@ -121,7 +121,7 @@ impl VifTable {
 
 /// Reads a line after the earlier vifs.
 #[tactic(auto, unfolding(crate::specs::VifReading::vif_in_line))]
-pub(crate) fn new_vif(earlier: &[VifRow], line: &Line<'_>) -> Result<VifRow, TableFaultKind>
+pub(crate) fn read_new_vif(earlier: &[VifRow], line: &Line<'_>) -> Result<VifRow, TableFaultKind>
     ensures { result ≡ vif_in_line earlier.now (line_text line.now) }
 {
     if !line.ended {

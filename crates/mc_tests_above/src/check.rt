@@ -2,7 +2,7 @@
 //! The other lists of entries are rows of the command line's tables `check_*`.
 
 use crate::samples::{
-    CHAIN, FORWARDS, LAST_WANTS, Network, VIFS, at_last, behind, of_chain, of_source, with_domain,
+    CHAIN, FORWARDS, LAST_WANTS, Network, VIFS, retry_after_oom, entry_behind, chain_entries, source_entry, with_domain,
 };
 use mc_cert::Reached;
 use mc_check::{Reason, Verdict, check_flow};
@@ -31,7 +31,7 @@ const ROUTERS: &[(&str, &str)] = &[
 ];
 
 /// The verdict on these entries for a flow.
-fn verdict_on(
+fn verdict_of(
     rt: &impl Abort,
     alloc: Global,
     domain: &Domain,
@@ -45,7 +45,7 @@ fn verdict_on(
 }
 
 /// The verdict on these entries for a flow, as it is written.
-fn judges(
+fn assert_verdict(
     rt: &impl Abort,
     alloc: Global,
     domain: &Domain,
@@ -53,14 +53,14 @@ fn judges(
     entries: &[Reached],
     wanted: &str,
 ) -> Result<(), Fail> {
-    let verdict = verdict_on(rt, alloc, domain, flow, entries)?;
+    let verdict = verdict_of(rt, alloc, domain, flow, entries)?;
     let shown = verdict.shown(domain.topology()).to_string(alloc)?;
     assert!(rt; shown.as_str() == wanted, "{shown}");
     Ok(())
 }
 
 /// The verdict for a flow on the entry of the source's LAN with a need, that of l1 and one of l2.
-fn says(
+fn assert_verdict_of_chain(
     rt: &impl Abort,
     alloc: Global,
     domain: &Domain,
@@ -68,42 +68,42 @@ fn says(
     wanted: &str,
 ) -> Result<(), Fail> {
     let (flow, need, last) = case;
-    let entries = [of_source(need), behind(1, 2, 0, 1), last];
-    judges(rt, alloc, domain, flow, &entries, wanted)
+    let entries = [source_entry(need), entry_behind(1, 2, 0, 1), last];
+    assert_verdict(rt, alloc, domain, flow, &entries, wanted)
 }
 
 /// Needs of 0, routers that the topology hasn't, and a vif past the greatest.
-fn judges_entries(rt: &impl Abort, alloc: Global, domain: &Domain) -> Result<(), Fail> {
-    let nowhere = behind(2, 3, 2, 1);
-    let beyond = behind(2, 3, u32::MAX, 255);
-    says(
+fn assert_verdicts_of_odd_entries(rt: &impl Abort, alloc: Global, domain: &Domain) -> Result<(), Fail> {
+    let nowhere = entry_behind(2, 3, 2, 1);
+    let beyond = entry_behind(2, 3, u32::MAX, 255);
+    assert_verdict_of_chain(
         rt,
         alloc,
         domain,
-        (0, 0, behind(2, 3, 1, 1)),
+        (0, 0, entry_behind(2, 3, 1, 1)),
         "no BadSource",
     )?;
-    says(rt, alloc, domain, (0, 1, nowhere), "no Extra r2 1 l2")?;
-    says(
+    assert_verdict_of_chain(rt, alloc, domain, (0, 1, nowhere), "no Extra r2 1 l2")?;
+    assert_verdict_of_chain(
         rt,
         alloc,
         domain,
-        (0, 1, behind(2, 0, 1, 1)),
+        (0, 1, entry_behind(2, 0, 1, 1)),
         "no WrongNeed l2",
     )?;
-    says(rt, alloc, domain, (1, 1, nowhere), "no Unfed l2")?;
-    says(rt, alloc, domain, (1, 1, beyond), "no Unfed l2")?;
-    says(
+    assert_verdict_of_chain(rt, alloc, domain, (1, 1, nowhere), "no Unfed l2")?;
+    assert_verdict_of_chain(rt, alloc, domain, (1, 1, beyond), "no Unfed l2")?;
+    assert_verdict_of_chain(
         rt,
         alloc,
         domain,
-        (1, 1, behind(2, 3, 0, 255)),
+        (1, 1, entry_behind(2, 3, 0, 255)),
         "no Unfed l2",
     )
 }
 
 /// Reasons and a verdict as they are written, a line each.
-fn lines_of(alloc: Global, topology: &Topology) -> Result<String, Fail> {
+fn reasons_and_verdict_text(alloc: Global, topology: &Topology) -> Result<String, Fail> {
     let mut text = String::new(alloc);
     for reason in [
         Reason::Missed(LanNo(3)),
@@ -118,8 +118,8 @@ fn lines_of(alloc: Global, topology: &Topology) -> Result<String, Fail> {
     Ok(text)
 }
 
-fn shows_reasons(rt: &impl Abort, alloc: Global, topology: &Topology) -> Result<(), Fail> {
-    let lines = lines_of(alloc, topology)?;
+fn assert_reason_texts(rt: &impl Abort, alloc: Global, topology: &Topology) -> Result<(), Fail> {
+    let lines = reasons_and_verdict_text(alloc, topology)?;
     assert_eq!(rt;
         lines.as_str(),
         "Missed \nStray  255\nExtra  1 \nLow \nLow l0\nyes copies 1024"
@@ -128,33 +128,33 @@ fn shows_reasons(rt: &impl Abort, alloc: Global, topology: &Topology) -> Result<
 }
 
 /// The verdict on what certifies the first flow.
-fn certifies(rt: &(impl Abort + Print), alloc: Global, domain: &Domain) -> Result<(), Fail> {
-    let entries = of_chain();
-    let verdict = at_last(rt, || verdict_on(rt, alloc, domain, 0, &entries))?;
+fn assert_certified_after_retry(rt: &(impl Abort + Print), alloc: Global, domain: &Domain) -> Result<(), Fail> {
+    let entries = chain_entries();
+    let verdict = retry_after_oom(rt, || verdict_of(rt, alloc, domain, 0, &entries))?;
     assert!(rt; verdict == Verdict::Yes { copies: 3 });
     Ok(())
 }
 
 #[test]
-fn verdict_after_a_refused_growth(rt: HostRuntime) -> Result<(), Fail> {
+fn verdict_after_failed_allocation(rt: HostRuntime) -> Result<(), Fail> {
     let alloc = rt.alloc();
     with_domain(alloc, &NETWORK, ROUTERS, LAST_WANTS, |domain| {
-        certifies(&rt, alloc, domain)
+        assert_certified_after_retry(&rt, alloc, domain)
     })
 }
 
 #[test]
-fn entries_that_no_certificate_holds(rt: HostRuntime) -> Result<(), Fail> {
+fn verdicts_of_entries_no_certificate_holds(rt: HostRuntime) -> Result<(), Fail> {
     let alloc = rt.alloc();
     with_domain(alloc, &NETWORK, ROUTERS, LAST_WANTS, |domain| {
-        judges_entries(&rt, alloc, domain)
+        assert_verdicts_of_odd_entries(&rt, alloc, domain)
     })
 }
 
 #[test]
-fn names_that_the_topology_has_not(rt: HostRuntime) -> Result<(), Fail> {
+fn texts_of_numbers_without_a_name(rt: HostRuntime) -> Result<(), Fail> {
     let alloc = rt.alloc();
     with_domain(alloc, &NETWORK, ROUTERS, LAST_WANTS, |domain| {
-        shows_reasons(&rt, alloc, domain.topology())
+        assert_reason_texts(&rt, alloc, domain.topology())
     })
 }

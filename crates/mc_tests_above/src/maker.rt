@@ -1,7 +1,7 @@
 //! The entries that `make` answers for flows of a small network. What is found of flows that can
 //! have none, the command line's cases and tables show.
 
-use crate::samples::{CHAIN, LAST_WANTS, Network, VIFS, at_last, of_chain, with_domain};
+use crate::samples::{CHAIN, LAST_WANTS, Network, VIFS, retry_after_oom, chain_entries, with_domain};
 use mc_cert::Reached;
 use mc_forward::Domain;
 use mc_maker::make;
@@ -65,7 +65,7 @@ const ROUTERS: &[(&str, &str)] = &[
 
 /// The entries of each flow: a LAN, its rank and its need, and the router and its vif that send on
 /// it. A flow that isn't right has none.
-const MADE: &str = "0/0/1; 1/1/2/0/1; 2/2/3/1/1;
+const EXPECTED_ENTRIES: &str = "0/0/1; 1/1/2/0/1; 2/2/3/1/1;
 0/0/1;
 0/0/1; 1/1/255/0/1; 2/2/255/1/1;
 0/0/1; 1/1/2/0/1;
@@ -95,7 +95,7 @@ fn push_entries(text: &mut String, entries: &[Reached]) -> Result<(), Fail> {
 }
 
 /// What is made for a flow.
-fn made_for(
+fn make_entries(
     rt: &impl Abort,
     alloc: Global,
     domain: &Domain,
@@ -113,18 +113,18 @@ fn push_made(
     flow: u32,
     text: &mut String,
 ) -> Result<(), Fail> {
-    match made_for(rt, alloc, domain, flow)? {
+    match make_entries(rt, alloc, domain, flow)? {
         Some(entries) => push_entries(text, &entries),
         None => Ok(text.push_str("none\n")?),
     }
 }
 
-fn makes_each(rt: &impl Abort, alloc: Global, domain: &Domain) -> Result<(), Fail> {
+fn assert_entries_of_each_flow(rt: &impl Abort, alloc: Global, domain: &Domain) -> Result<(), Fail> {
     let mut text = String::new(alloc);
     for flow in 0..9 {
         push_made(rt, alloc, domain, flow, &mut text)?;
     }
-    assert_eq!(rt; text.as_str(), MADE);
+    assert_eq!(rt; text.as_str(), EXPECTED_ENTRIES);
     Ok(())
 }
 
@@ -132,34 +132,34 @@ fn makes_each(rt: &impl Abort, alloc: Global, domain: &Domain) -> Result<(), Fai
 fn entries_of_each_flow(rt: HostRuntime) -> Result<(), Fail> {
     let alloc = rt.alloc();
     with_domain(alloc, &NETWORK, ROUTERS, LAST_WANTS, |domain| {
-        makes_each(&rt, alloc, domain)
+        assert_entries_of_each_flow(&rt, alloc, domain)
     })
 }
 
 /// What is made for a flow is this, also where a growth was refused before.
-fn makes(
+fn assert_made(
     rt: &(impl Abort + Print),
     alloc: Global,
     domain: &Domain,
     flow: u32,
     wanted: Option<&[Reached]>,
 ) -> Result<(), Fail> {
-    let made = at_last(rt, || made_for(rt, alloc, domain, flow))?;
+    let made = retry_after_oom(rt, || make_entries(rt, alloc, domain, flow))?;
     assert!(rt; made.as_deref() == wanted);
     Ok(())
 }
 
 /// The first flow goes along the chain. Of the seventh a fault is found at its TTL, and of the eighth at 255.
-fn makes_at_last(rt: &(impl Abort + Print), alloc: Global, domain: &Domain) -> Result<(), Fail> {
-    makes(rt, alloc, domain, 0, Some(&of_chain()))?;
-    makes(rt, alloc, domain, 6, None)?;
-    makes(rt, alloc, domain, 7, None)
+fn assert_made_after_retry(rt: &(impl Abort + Print), alloc: Global, domain: &Domain) -> Result<(), Fail> {
+    assert_made(rt, alloc, domain, 0, Some(&chain_entries()))?;
+    assert_made(rt, alloc, domain, 6, None)?;
+    assert_made(rt, alloc, domain, 7, None)
 }
 
 #[test]
-fn entries_after_a_refused_growth(rt: HostRuntime) -> Result<(), Fail> {
+fn entries_after_failed_allocation(rt: HostRuntime) -> Result<(), Fail> {
     let alloc = rt.alloc();
     with_domain(alloc, &NETWORK, ROUTERS, LAST_WANTS, |domain| {
-        makes_at_last(&rt, alloc, domain)
+        assert_made_after_retry(&rt, alloc, domain)
     })
 }

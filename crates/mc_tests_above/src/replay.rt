@@ -10,7 +10,7 @@ use std::process::Abort;
 use std::test::Fail;
 
 /// The events of a travel, a line each, and what it finds.
-fn text_of(alloc: Global, topology: &Topology, travel: &Travel) -> Result<String, Fail> {
+fn travel_text(alloc: Global, topology: &Topology, travel: &Travel) -> Result<String, Fail> {
     let mut text = String::new(alloc);
     for event in &travel.events {
         writeln!(text, "{}", shown_event(*event, topology))?;
@@ -20,7 +20,7 @@ fn text_of(alloc: Global, topology: &Topology, travel: &Travel) -> Result<String
 }
 
 /// The packet of the first flow with this TTL has this travel.
-fn travels<P: Picker>(
+fn assert_travel<P: Picker>(
     rt: &impl Abort,
     alloc: Global,
     domain: &Domain,
@@ -31,16 +31,16 @@ fn travels<P: Picker>(
     assert!(rt; 0 < domain.topology().flows());
     assert!(rt; ttl > 0);
     let travel = replay(alloc, domain, 0, ttl, picker)?;
-    let text = text_of(alloc, domain.topology(), &travel)?;
+    let text = travel_text(alloc, domain.topology(), &travel)?;
     assert!(rt; text.as_str() == wanted, "{text}");
     Ok(())
 }
 
 /// Numbers pick, and then the first: with two copies waiting 7 picks the same as 1.
-fn picks(rt: &impl Abort, alloc: Global, domain: &Domain) -> Result<(), Fail> {
+fn assert_picks(rt: &impl Abort, alloc: Global, domain: &Domain) -> Result<(), Fail> {
     for number in [1, 7] {
         let mut picker = Numbers::new(vec![in alloc; number]?);
-        travels(
+        assert_travel(
             rt,
             alloc,
             domain,
@@ -53,7 +53,7 @@ r2 0 ttl 2 sent 1 strayed 0
 Duplicate l2",
         )?;
     }
-    travels(
+    assert_travel(
         rt,
         alloc,
         domain,
@@ -68,7 +68,7 @@ Clean",
 }
 
 /// r3 from l0 to l2, beside the chain of r1 and r2, and two flows.
-const BESIDE: Network<'static> = Network {
+const TWO_PATHS: Network<'static> = Network {
     routers: "r1; r2; r3",
     interfaces: "r1 eth0 l0; r1 eth1 l1; r2 eth0 l1; r2 eth1 l2; r3 eth0 l0; r3 eth1 l2",
     flows: "10.0.0.5 239.1.2.3 3; 10.0.0.5 239.1.2.4 3",
@@ -79,9 +79,9 @@ const BESIDE: Network<'static> = Network {
 const ROUTERS: &[(&str, &str)] = &[FORWARDS, FORWARDS, FORWARDS];
 
 #[test]
-fn numbers_pick_and_a_picker_is_lent(rt: HostRuntime) -> Result<(), Fail> {
+fn numbers_picker_and_borrowed_picker(rt: HostRuntime) -> Result<(), Fail> {
     let alloc = rt.alloc();
-    with_domain(alloc, &BESIDE, ROUTERS, LAST_WANTS, |domain| {
-        picks(&rt, alloc, domain)
+    with_domain(alloc, &TWO_PATHS, ROUTERS, LAST_WANTS, |domain| {
+        assert_picks(&rt, alloc, domain)
     })
 }

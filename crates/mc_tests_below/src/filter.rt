@@ -77,17 +77,17 @@ fn admits_as(filter: &Filter, wanted: &str) -> bool {
 
 // What a filter shows.
 #[derive(Drop)]
-struct Before {
+struct FilterSnapshot {
     mode: Mode,
     sources: Vec<Addr>,
 }
 
 // Merges a record. Where a growth is refused the filter is as it was, and the merge can be asked for again.
-fn merge_or_as_before(
+fn merge_or_unchanged(
     rt: &impl Abort,
     filter: &mut Filter,
     group_record: &Record<'_>,
-    before: &Before,
+    before: &FilterSnapshot,
 ) -> Result<(), Memory> {
     if filter.merge(group_record).is_ok() {
         return Ok(());
@@ -97,37 +97,37 @@ fn merge_or_as_before(
     filter.merge(group_record)
 }
 
-fn merge_at_last(
+fn merge_with_retry(
     rt: &impl Abort,
     alloc: Global,
     filter: &mut Filter,
     group_record: &Record<'_>,
 ) -> Result<(), Memory> {
-    let before = Before {
+    let before = FilterSnapshot {
         mode: filter.mode(),
         sources: filter.sources().to_vec(alloc)?,
     };
-    merge_or_as_before(rt, filter, group_record, &before)
+    merge_or_unchanged(rt, filter, group_record, &before)
 }
 
 // The filter of each record of a group, one merged after the other.
-fn merged(
+fn merged_filter(
     rt: &impl Abort,
     alloc: Global,
     list: &ReportList,
     group: Addr,
 ) -> Result<Filter, Memory> {
     let mut filter = Filter::none(alloc);
-    for told in list.records() {
-        if told.group == group {
-            merge_at_last(rt, alloc, &mut filter, &told)?;
+    for next_record in list.records() {
+        if next_record.group == group {
+            merge_with_retry(rt, alloc, &mut filter, &next_record)?;
         }
     }
     Ok(filter)
 }
 
 // The filter of all records of a group, at the second try where a growth is refused.
-fn wants_at_last(alloc: Global, list: &ReportList, group: Addr) -> Result<Filter, Memory> {
+fn wants_with_retry(alloc: Global, list: &ReportList, group: Addr) -> Result<Filter, Memory> {
     match wants_of(alloc, list, group) {
         Ok(filter) => Ok(filter),
         Err(Memory) => wants_of(alloc, list, group),
@@ -143,11 +143,11 @@ fn check_group(
     wanted: &str,
 ) -> Result<(), Memory> {
     let group = Addr::from_octets([239, 1, 2, last]);
-    let filter = merged(rt, alloc, list, group)?;
+    let filter = merged_filter(rt, alloc, list, group)?;
     assert!(rt; is_filter(&filter, wanted), "merged, of {last}");
     assert!(rt; admits_as(&filter, wanted), "admitted, of {last}");
     assert!(rt;
-        is_filter(&wants_at_last(alloc, list, group)?, wanted),
+        is_filter(&wants_with_retry(alloc, list, group)?, wanted),
         "of {last}"
     );
     Ok(())
@@ -156,7 +156,7 @@ fn check_group(
 // Sources of the groups above that are asked of together, in whatever order and the last one twice: the
 // last numbers of the source and of the group, and whether some record admits it, as the filters above say.
 // Group 11 has no record.
-const ASKED: [([u8; 2], bool); 13] = [
+const QUERIES: [([u8; 2], bool); 13] = [
     ([1, 11], false),
     ([2, 10], true),
     ([3, 9], true),
@@ -182,8 +182,8 @@ fn pair(last: [u8; 2]) -> (Addr, Addr) {
 }
 
 // Asks of one after the other.
-fn check_each(rt: &impl Abort, list: &ReportList) {
-    for (last, wanted) in &ASKED {
+fn check_each_query(rt: &impl Abort, list: &ReportList) {
+    for (last, wanted) in &QUERIES {
         let (source, group) = pair(*last);
         assert!(rt;
             is_wanted(list.records(), group, source) == *wanted,
@@ -192,33 +192,33 @@ fn check_each(rt: &impl Abort, list: &ReportList) {
     }
 }
 
-fn asked(alloc: Global) -> Result<Vec<(Addr, Addr)>, Memory> {
-    let mut pairs = Vec::with_capacity(alloc, ASKED.len())?;
-    for (last, _) in &ASKED {
+fn queried_pairs(alloc: Global) -> Result<Vec<(Addr, Addr)>, Memory> {
+    let mut pairs = Vec::with_capacity(alloc, QUERIES.len())?;
+    for (last, _) in &QUERIES {
         pairs.push(pair(*last))?;
     }
     Ok(pairs)
 }
 
 // What one walk over the list answers of these sources and groups.
-fn answers(alloc: Global, pairs: &[(Addr, Addr)], list: &ReportList) -> Result<Vec<bool>, Memory> {
+fn channel_answers(alloc: Global, pairs: &[(Addr, Addr)], list: &ReportList) -> Result<Vec<bool>, Memory> {
     Channels::of(alloc, pairs)?.wanted(alloc, list)
 }
 
 // Whether the answers are those that are wanted.
-fn are_wanted(answers: &[bool]) -> bool {
-    for (answer, (_, wanted)) in answers.iter().zip(&ASKED) {
+fn are_expected(channel_answers: &[bool]) -> bool {
+    for (answer, (_, wanted)) in channel_answers.iter().zip(&QUERIES) {
         if answer != wanted {
             return false;
         }
     }
-    answers.len() == ASKED.len()
+    channel_answers.len() == QUERIES.len()
 }
 
 // Asks of sources of many groups in one walk over the list, and of none.
 fn check_channels(rt: &impl Abort, alloc: Global, list: &ReportList) -> Result<(), Memory> {
-    assert!(rt; are_wanted(&answers(alloc, &asked(alloc)?, list)?));
-    assert!(rt; answers(alloc, &[], list)?.is_empty());
+    assert!(rt; are_expected(&channel_answers(alloc, &queried_pairs(alloc)?, list)?));
+    assert!(rt; channel_answers(alloc, &[], list)?.is_empty());
     Ok(())
 }
 
@@ -228,7 +228,7 @@ fn merges_after_a_refused_growth(rt: HostRuntime) -> Result<(), Fail> {
     for (last, wanted) in (0..11).zip(FILTERS.split(';')) {
         check_group(&rt, rt.alloc(), &list, last, wanted)?;
     }
-    check_each(&rt, &list);
+    check_each_query(&rt, &list);
     check_channels(&rt, rt.alloc(), &list)?;
     Ok(())
 }

@@ -56,8 +56,8 @@ fn is_about(kind: Kind, group: Addr, group_letter: u8, kind_letter: u8) -> bool 
 }
 
 // Whether the record says what these letters and numbers stand for.
-fn says(group_record: &Record<'_>, told: &[u8]) -> bool {
-    match told {
+fn is_record(group_record: &Record<'_>, given: &[u8]) -> bool {
+    match given {
         [group, kind, digits @ ..] => {
             is_about(group_record.kind, group_record.group, *group, *kind)
                 && are_sources(group_record.sources.iter(), digits)
@@ -68,12 +68,12 @@ fn says(group_record: &Record<'_>, told: &[u8]) -> bool {
 
 // The list has those records, and no other.
 fn check_records(rt: &impl Abort, list: &ReportList) {
-    let mut told = RECORDS.split(';');
+    let mut given = RECORDS.split(';');
     for group_record in list.records() {
-        let wanted = told.next().expect(rt, "no more records");
-        assert!(rt; says(&group_record, wanted.as_bytes()), "{wanted}");
+        let wanted = given.next().expect(rt, "no more records");
+        assert!(rt; is_record(&group_record, wanted.as_bytes()), "{wanted}");
     }
-    assert!(rt; told.next().is_none());
+    assert!(rt; given.next().is_none());
 }
 
 #[test]
@@ -84,7 +84,7 @@ fn records_of_a_list(rt: HostRuntime) -> Result<(), Fail> {
 }
 
 // The list of a text that is fed byte by byte.
-fn fed(alloc: Global, text: &[u8]) -> Result<Result<ReportList, ListFault>, Memory> {
+fn read_byte_by_byte(alloc: Global, text: &[u8]) -> Result<Result<ReportList, ListFault>, Memory> {
     let mut reader = ListReader::new(alloc);
     for byte in text {
         reader.feed(&[*byte])?;
@@ -94,22 +94,22 @@ fn fed(alloc: Global, text: &[u8]) -> Result<Result<ReportList, ListFault>, Memo
 
 // In pieces it is read as at once: its records, and the fault of a line that isn't the last.
 #[test]
-fn list_in_pieces(rt: HostRuntime) -> Result<(), Fail> {
-    check_records(&rt, &fed(rt.alloc(), LIST)??);
+fn list_is_read_in_pieces(rt: HostRuntime) -> Result<(), Fail> {
+    check_records(&rt, &read_byte_by_byte(rt.alloc(), LIST)??);
     for text in [
         b"1101ecfe0000000002000000\n1101\n11zz\n".as_slice(),
         b"11zz\n",
         b"11",
         b"",
     ] {
-        assert!(rt; fed(rt.alloc(), text)?.err() == ReportList::read(rt.alloc(), text).err());
+        assert!(rt; read_byte_by_byte(rt.alloc(), text)?.err() == ReportList::read(rt.alloc(), text).err());
     }
     Ok(())
 }
 
 // A list that is read to its end by a reader that was fed it in two pieces. Once a growth is refused, each
 // later call answers that.
-fn fed_or_refused(rt: &impl Abort, alloc: Global) -> Result<ReportList, ListFault> {
+fn read_in_two_pieces(rt: &impl Abort, alloc: Global) -> Result<ReportList, ListFault> {
     let (front, rest) = LIST.split_at(100);
     let mut reader = ListReader::new(alloc);
     if reader.feed(front).is_err() {
@@ -124,16 +124,16 @@ fn fed_or_refused(rt: &impl Abort, alloc: Global) -> Result<ReportList, ListFaul
 }
 
 // The same, by another reader where a growth is refused.
-fn fed_at_last(rt: &impl Abort, alloc: Global) -> Result<ReportList, ListFault> {
-    match fed_or_refused(rt, alloc) {
-        Err(fault) if fault.kind == ListFaultKind::Memory => fed_or_refused(rt, alloc),
+fn read_with_retry(rt: &impl Abort, alloc: Global) -> Result<ReportList, ListFault> {
+    match read_in_two_pieces(rt, alloc) {
+        Err(fault) if fault.kind == ListFaultKind::Memory => read_in_two_pieces(rt, alloc),
         answer => answer,
     }
 }
 
 #[test]
 fn list_in_pieces_after_a_refused_growth(rt: HostRuntime) -> Result<(), Fail> {
-    check_records(&rt, &fed_at_last(&rt, rt.alloc())?);
+    check_records(&rt, &read_with_retry(&rt, rt.alloc())?);
     Ok(())
 }
 
@@ -155,7 +155,7 @@ fn list_with_a_fault_in_pieces(rt: HostRuntime) -> Result<(), Fail> {
 
 // Records that were forgotten are not among those of the list.
 #[test]
-fn forgotten_records(rt: HostRuntime) -> Result<(), Fail> {
+fn records_are_forgotten(rt: HostRuntime) -> Result<(), Fail> {
     let mut reader = ListReader::new(rt.alloc());
     reader.feed(LIST)?;
     assert!(rt; reader.room() == MAX_TEXT + 1 - LIST.len());
@@ -167,20 +167,20 @@ fn forgotten_records(rt: HostRuntime) -> Result<(), Fail> {
 }
 
 // Whether the bytes are no message, for this reason.
-fn fails(bytes: &[u8], fault: MessageFault) -> bool {
-    matches!(Message::parse(bytes), Err(told) if told == fault)
+fn is_refused_with(bytes: &[u8], fault: MessageFault) -> bool {
+    matches!(Message::parse(bytes), Err(given) if given == fault)
 }
 
 // Whether the bytes are a message of this other type.
-fn is_other(bytes: &[u8], message_type: u8) -> bool {
-    matches!(Message::parse(bytes), Ok(Message::Other(told)) if told == message_type)
+fn is_other_type(bytes: &[u8], message_type: u8) -> bool {
+    matches!(Message::parse(bytes), Ok(Message::Other(given)) if given == message_type)
 }
 
 // Whether the message is a report whose one record says this.
-fn reports(bytes: &[u8], told: &[u8]) -> bool {
+fn is_report_of(bytes: &[u8], given: &[u8]) -> bool {
     match Message::parse(bytes) {
         Ok(Message::Report(mut records)) => match records.next() {
-            Some(group_record) => says(&group_record, told) && records.next().is_none(),
+            Some(group_record) => is_record(&group_record, given) && records.next().is_none(),
             None => false,
         },
         _ => false,
@@ -191,30 +191,30 @@ fn reports(bytes: &[u8], told: &[u8]) -> bool {
 // without its second one, and a cut report of version 2. Then a query and a leave; reports of versions 1
 // and 2, and one with a byte after it; and one of a change.
 #[test]
-fn messages(rt: HostRuntime) {
+fn messages_are_parsed(rt: HostRuntime) {
     let second = MessageFault::Truncated(2);
-    assert!(rt; fails(b"\x22\0\xea\xf9\0\0\0", MessageFault::Short));
-    assert!(rt; fails(b"\0\0\0\0\0\0\0\0", MessageFault::BadChecksum));
+    assert!(rt; is_refused_with(b"\x22\0\xea\xf9\0\0\0", MessageFault::Short));
+    assert!(rt; is_refused_with(b"\0\0\0\0\0\0\0\0", MessageFault::BadChecksum));
     assert!(rt;
-        fails(
+        is_refused_with(
             b"\x22\0\xea\xf8\0\0\0\x01\x02\0\0\0\xef\x01\x02\x03",
             MessageFault::BadChecksum
         )
     );
-    assert!(rt; fails(b"\x22\0\xdd\xfe\0\0\0\x01", MessageFault::Truncated(1)));
+    assert!(rt; is_refused_with(b"\x22\0\xdd\xfe\0\0\0\x01", MessageFault::Truncated(1)));
     assert!(rt;
-        fails(
+        is_refused_with(
             b"\x22\0\xe9\xf8\0\0\0\x02\x03\0\0\0\xef\x01\x02\x03",
             second
         )
     );
-    assert!(rt; fails(b"\x16\0\xf8\xfd\xef\x01\x02", MessageFault::Short));
-    assert!(rt; is_other(b"\x11\x64\xee\x9b\0\0\0\0", 17));
-    assert!(rt; is_other(b"\x17\0\xf7\xfa\xef\x01\x02\x03", 23));
-    assert!(rt; reports(b"\x12\0\xfc\xfa\xef\x01\x02\x03", b"AE"));
-    assert!(rt; reports(b"\x16\0\xf8\xfa\xef\x01\x02\x03", b"AE"));
-    assert!(rt; reports(b"\x16\0\xf7\xfa\xef\x01\x02\x03\x01", b"AE"));
-    assert!(rt; reports(b"\x22\0\xe9\xf9\0\0\0\x01\x03\0\0\0\xef\x01\x02\x03", b"AC"));
+    assert!(rt; is_refused_with(b"\x16\0\xf8\xfd\xef\x01\x02", MessageFault::Short));
+    assert!(rt; is_other_type(b"\x11\x64\xee\x9b\0\0\0\0", 17));
+    assert!(rt; is_other_type(b"\x17\0\xf7\xfa\xef\x01\x02\x03", 23));
+    assert!(rt; is_report_of(b"\x12\0\xfc\xfa\xef\x01\x02\x03", b"AE"));
+    assert!(rt; is_report_of(b"\x16\0\xf8\xfa\xef\x01\x02\x03", b"AE"));
+    assert!(rt; is_report_of(b"\x16\0\xf7\xfa\xef\x01\x02\x03\x01", b"AE"));
+    assert!(rt; is_report_of(b"\x22\0\xe9\xf9\0\0\0\x01\x03\0\0\0\xef\x01\x02\x03", b"AC"));
 }
 
 // What is printed of a message's fault.

@@ -16,49 +16,49 @@ use Rattle.mc_text.specs.Addr.{IsAddr, octets_of, dotted}
 use Rattle.mc_text.specs.AddressWord.{printed_octets}
 
 -- where four numbers are bytes, what is read at any place is one
-four_fit : (a b c d k : ℕ) → a < 256 → b < 256 → c < 256 → d < 256
+four_octets_below_256 : (a b c d k : ℕ) → a < 256 → b < 256 → c < 256 → d < 256
     → get_or (a ∷ b ∷ c ∷ d ∷ []) k 0 < 256
-four_fit a b c d k p q r s = grind arith
+four_octets_below_256 a b c d k p q r s = grind arith
 
 -- each octet of an address is below 256
-pub octets_fit : (a k : ℕ) → get_or (octets_of a) k 0 < 256
-octets_fit a k = four_fit _ _ _ _ k (omega arith) (omega arith) (omega arith) (omega arith)
+pub octets_of-below_256 : (a k : ℕ) → get_or (octets_of a) k 0 < 256
+octets_of-below_256 a k = four_octets_below_256 _ _ _ _ k (omega arith) (omega arith) (omega arith) (omega arith)
 
 -- the address of four octets has them
-pub octets_of-from : (octets : List ℕ) → length octets ≡ 4 → ((k : ℕ) → get_or octets k 0 < 256)
+pub octets_of-from_be_bytes : (octets : List ℕ) → length octets ≡ 4 → ((k : ℕ) → get_or octets k 0 < 256)
     → octets_of (from_be_bytes w32 octets) ≡ octets
-octets_of-from octets four fit = be_bytes_4 octets _ four fit refl
+octets_of-from_be_bytes octets four fit = be_bytes_4 octets _ four fit refl
 
 -- and is one of 32 bits
-pub from_octets_fits : (octets : List ℕ) → ((k : ℕ) → get_or octets k 0 < 256)
+pub from_be_bytes-below_2_32 : (octets : List ℕ) → ((k : ℕ) → get_or octets k 0 < 256)
     → IsAddr (from_be_bytes w32 octets)
-from_octets_fits octets fit = omega (arith, fit 0, fit 1, fit 2, fit 3)
+from_be_bytes-below_2_32 octets fit = omega (arith, fit 0, fit 1, fit 2, fit 3)
 
 -- a dotted text is that of the address of its octets
-pub dotted_from : (text octets : List ℕ) → IsDotted text octets
+pub dotted-from_be_bytes : (text octets : List ℕ) → IsDotted text octets
     → text ≡ dotted (from_be_bytes w32 octets)
-dotted_from text octets d =
+dotted-from_be_bytes text octets d =
     let fit : (k : ℕ) → get_or octets k 0 < 256 =
-    λ k. rw d.value (four_fit d.a d.b d.c d.d k d.fit.0 d.fit.1 d.fit.2 d.fit.3) in
-    d.spelled ∙ ap ipv4_text (sym (octets_of-from octets (ap length d.value) fit ∙ d.value))
+    λ k. rw d.value (four_octets_below_256 d.a d.b d.c d.d k d.fit.0 d.fit.1 d.fit.2 d.fit.3) in
+    d.spelled ∙ ap ipv4_text (sym (octets_of-from_be_bytes octets (ap length d.value) fit ∙ d.value))
 
 -- an address's text is the dotted text of its octets
 pub IsDotted-dotted : (a : ℕ) → IsDotted (dotted a) (octets_of a)
-IsDotted-dotted a = IsDotted-ipv4_text (octets_of a) refl (octets_fit a)
+IsDotted-dotted a = IsDotted-ipv4_text (octets_of a) refl (octets_of-below_256 a)
 
 -- a text spells one address
-pub dotted_once : (text octets : List ℕ) (a : ℕ) → IsAddr a → IsDotted text octets → text ≡ dotted a
+pub from_be_bytes-dotted : (text octets : List ℕ) (a : ℕ) → IsAddr a → IsDotted text octets → text ≡ dotted a
     → from_be_bytes w32 octets ≡ a
-dotted_once text octets a fits d e =
+from_be_bytes-dotted text octets a fits d e =
     let own : IsDotted text (octets_of a) = rw e (IsDotted-dotted a) in
     let same = IsIpv4Text_unique text (record { octets = octets })
     (record { octets = octets_of a }) d own in
     ap (λ (x : Ipv4Addr). from_be_bytes w32 x.octets) same ∙ from_be_bytes-to_be_bytes_4 a fits
 
 -- what digits are decoded to are bytes
-pub decoded_fit : (word octets : List ℕ) → decode_of word ≡ Ok octets → (k : ℕ)
+pub decode_of-below_256 : (word octets : List ℕ) → decode_of word ≡ Ok octets → (k : ℕ)
     → get_or octets k 0 < 256
-decoded_fit word octets e = (decode_of-ok word octets e).3
+decode_of-below_256 word octets e = (decode_of-ok word octets e).3
 
 -- a word's bytes are four, in either order
 pub length-printed_octets : (order : Order) (a : ℕ) → length (printed_octets order a) ≡ 4

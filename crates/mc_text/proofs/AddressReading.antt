@@ -20,121 +20,121 @@ use Rattle.mc_text.specs.Addr.{IsAddr, octets_of, dotted}
 use Rattle.mc_text.specs.AddressReading.{numbers_between_dots, address_of_text, octets_in_order}
 use Rattle.mc_text.specs.AddressReading.{address_of_octets, address_of_word}
 use Rattle.mc_text.specs.AddressWord.{printed_octets, IsAddressWord}
-use Rattle.mc_text.proofs.AddrLemmas.{octets_fit, octets_of-from, from_octets_fits, decoded_fit}
+use Rattle.mc_text.proofs.AddrLemmas.{octets_of-below_256, octets_of-from_be_bytes, from_be_bytes-below_2_32, decode_of-below_256}
 use Rattle.mc_text.proofs.AddrLemmas.{length-printed_octets}
-use Rattle.mc_text.proofs.BundleWords.{Without, Without-decimal}
+use Rattle.mc_text.proofs.BundleWords.{HasNoByte, HasNoByte-decimal}
 
 -- ---- dotted text
 
-abbrev between_dots : List ℕ → List (List ℕ)
-between_dots text = slice_split (λ b. b == 46) text
+abbrev split_at_dots : List ℕ → List (List ℕ)
+split_at_dots text = slice_split (λ b. b == 46) text
 
 -- what stands before a dot is the first of the parts between dots
-before_dot : (xs ys : List ℕ) → Without 46 xs → between_dots (xs ++ 46 ∷ ys) ≡ xs ∷ between_dots ys
-before_dot [] ys none = refl
-before_dot (x ∷ xs) ys none = rw (none.0, before_dot xs ys none.1) refl
+split_at_dots-append_dot : (xs ys : List ℕ) → HasNoByte 46 xs → split_at_dots (xs ++ 46 ∷ ys) ≡ xs ∷ split_at_dots ys
+split_at_dots-append_dot [] ys none = refl
+split_at_dots-append_dot (x ∷ xs) ys none = rw (none.0, split_at_dots-append_dot xs ys none.1) refl
 
 -- a text without a dot is the one part between dots
-without_dot : (xs : List ℕ) → Without 46 xs → between_dots xs ≡ xs ∷ []
-without_dot [] none = refl
-without_dot (x ∷ xs) none = rw (none.0, without_dot xs none.1) refl
+split_at_dots-without_dot : (xs : List ℕ) → HasNoByte 46 xs → split_at_dots xs ≡ xs ∷ []
+split_at_dots-without_dot [] none = refl
+split_at_dots-without_dot (x ∷ xs) none = rw (none.0, split_at_dots-without_dot xs none.1) refl
 
 -- a number that is written before a dot, and those after it
-number_first : (n : ℕ) (rest : List ℕ) → n < 256
+numbers_between_dots-decimal : (n : ℕ) (rest : List ℕ) → n < 256
     → numbers_between_dots (decimal n ++ 46 ∷ rest) ≡ n ∷ numbers_between_dots rest
-number_first n rest small =
+numbers_between_dots-decimal n rest small =
     let wide : n < 2 ^ 64 = omega (arith, small) in
-    let number = before_dot (decimal n) rest (Without-decimal 46 refl n wide) in
+    let number = split_at_dots-append_dot (decimal n) rest (HasNoByte-decimal 46 refl n wide) in
     rw (number, (decimal_is_IsNumeral n wide).1) refl
 
 -- the numbers of a dotted text are those that it was written of
-numbers_of-dotted : (a b c d : ℕ) → a < 256 → b < 256 → c < 256 → d < 256
+numbers_between_dots-dotted_text : (a b c d : ℕ) → a < 256 → b < 256 → c < 256 → d < 256
     → numbers_between_dots (dotted_text a b c d) ≡ a ∷ b ∷ c ∷ d ∷ []
-numbers_of-dotted a b c d a-fits b-fits c-fits d-fits =
+numbers_between_dots-dotted_text a b c d a-fits b-fits c-fits d-fits =
     let wide : d < 2 ^ 64 = omega (arith, d-fits) in
-    let last = without_dot (decimal d) (Without-decimal 46 refl d wide) in
+    let last = split_at_dots-without_dot (decimal d) (HasNoByte-decimal 46 refl d wide) in
     simp append_assoc (rw (
-      number_first a _ a-fits,
-      number_first b _ b-fits,
-      number_first c _ c-fits,
+      numbers_between_dots-decimal a _ a-fits,
+      numbers_between_dots-decimal b _ b-fits,
+      numbers_between_dots-decimal c _ c-fits,
       last,
       (decimal_is_IsNumeral d wide).1,
     ) refl)
 
 -- octets that pass the test are below 256
-each_fits : (octets : List ℕ) → list_all (λ n. ltb n 256) octets ≡ true
+list_all-below_256 : (octets : List ℕ) → list_all (λ n. ltb n 256) octets ≡ true
     → (k : ℕ) → get_or octets k 0 < 256
-each_fits [] all k = omega arith
-each_fits (x ∷ xs) all k = grind (arith, nat_tests, each_fits xs)
+list_all-below_256 [] all k = omega arith
+list_all-below_256 (x ∷ xs) all k = grind (arith, nat_tests, list_all-below_256 xs)
 
 -- what is read is written so
-pub address_of_text-found : (text : List ℕ) (a : ℕ) → address_of_text text ≡ Some a
+pub address_of_text-sound : (text : List ℕ) (a : ℕ) → address_of_text text ≡ Some a
     → IsAddr a × (text ≡ dotted a)
 unfolding address_of_text
-address_of_text-found text a e =
+address_of_text-sound text a e =
     let octets = numbers_between_dots text in
     let same = (bytes_eq-Decides (ipv4_text octets) text).0 in
-    grind (arith, nat_tests, each_fits octets, from_octets_fits octets, octets_of-from octets, same)
+    grind (arith, nat_tests, list_all-below_256 octets, from_be_bytes-below_2_32 octets, octets_of-from_be_bytes octets, same)
 
 -- what is written so is read
-pub address_of_text-again : (text : List ℕ) (a : ℕ) → IsAddr a → text ≡ dotted a
+pub address_of_text-complete : (text : List ℕ) (a : ℕ) → IsAddr a → text ≡ dotted a
     → address_of_text text ≡ Some a
 unfolding address_of_text
-address_of_text-again text a fits e =
+address_of_text-complete text a fits e =
     let numbers : numbers_between_dots (dotted a) ≡ octets_of a =
-    numbers_of-dotted _ _ _ _ (octets_fit a 0) (octets_fit a 1) (octets_fit a 2) (octets_fit a 3) in
+    numbers_between_dots-dotted_text _ _ _ _ (octets_of-below_256 a 0) (octets_of-below_256 a 1) (octets_of-below_256 a 2) (octets_of-below_256 a 3) in
     let all : list_all (λ n. ltb n 256) (octets_of a) ≡ true = grind (arith, nat_tests) in
     let same = (bytes_eq-Decides (dotted a) (dotted a)).1 refl in
     rw (e, numbers, all, same) (ap Some (from_be_bytes-to_be_bytes_4 a fits))
 
 -- two addresses with one text are one
-pub one_dotted : (a b : ℕ) → IsAddr a → IsAddr b → dotted a ≡ dotted b → a ≡ b
-one_dotted a b fits-a fits-b e = same_Some a b (sym (address_of_text-again (dotted a) a fits-a refl)
-    ∙ address_of_text-again (dotted a) b fits-b e)
+pub dotted-injective : (a b : ℕ) → IsAddr a → IsAddr b → dotted a ≡ dotted b → a ≡ b
+dotted-injective a b fits-a fits-b e = same_Some a b (sym (address_of_text-complete (dotted a) a fits-a refl)
+    ∙ address_of_text-complete (dotted a) b fits-b e)
 
 -- ---- a kernel's words
 
 -- the octets in the address's order are those of the address
-in_order-printed : (order : Order) (a : ℕ)
+octets_in_order-printed_octets : (order : Order) (a : ℕ)
     → octets_in_order order (printed_octets order a) ≡ octets_of a
-in_order-printed Big a = refl
-in_order-printed Little a = reverse-reverse (octets_of a)
+octets_in_order-printed_octets Big a = refl
+octets_in_order-printed_octets Little a = reverse-reverse (octets_of a)
 
 -- four bytes from last to first are bytes
-fit_reversed : (octets : List ℕ) → length octets ≡ 4 → ((k : ℕ) → get_or octets k 0 < 256)
+reverse-below_256 : (octets : List ℕ) → length octets ≡ 4 → ((k : ℕ) → get_or octets k 0 < 256)
     → (k : ℕ) → get_or (reverse octets) k 0 < 256
-fit_reversed octets four fit k = grind (arith, get_or-reverse, get_or_past, length-reverse)
+reverse-below_256 octets four fit k = grind (arith, get_or-reverse, get_or_past, length-reverse)
 
 -- the address of four octets is printed by them
-made_printed : (order : Order) (octets : List ℕ) (a : ℕ) → length octets ≡ 4
+printed_octets-from_octets_in_order : (order : Order) (octets : List ℕ) (a : ℕ) → length octets ≡ 4
     → ((k : ℕ) → get_or octets k 0 < 256) → from_be_bytes w32 (octets_in_order order octets) ≡ a
     → IsAddr a × (octets ≡ printed_octets order a)
-made_printed order octets a four fit e =
-    let turned = fit_reversed octets four fit in
-    let small = from_octets_fits (reverse octets) turned in
-    let back = octets_of-from (reverse octets) (length-reverse octets ∙ four) turned in
-    let own = octets_of-from octets four fit in
-    grind (arith, from_octets_fits octets fit, own, small, back, reverse-reverse octets)
+printed_octets-from_octets_in_order order octets a four fit e =
+    let turned = reverse-below_256 octets four fit in
+    let small = from_be_bytes-below_2_32 (reverse octets) turned in
+    let back = octets_of-from_be_bytes (reverse octets) (length-reverse octets ∙ four) turned in
+    let own = octets_of-from_be_bytes octets four fit in
+    grind (arith, from_be_bytes-below_2_32 octets fit, own, small, back, reverse-reverse octets)
 
 -- what is read of four octets is an address that is printed by them
-octets_found : {E : Type 0} (order : Order) (decoded : Result (List ℕ) E) (a : ℕ)
+address_of_octets-sound : {E : Type 0} (order : Order) (decoded : Result (List ℕ) E) (a : ℕ)
     → ((octets : List ℕ) → decoded ≡ Ok octets → (k : ℕ) → get_or octets k 0 < 256)
     → address_of_octets order decoded ≡ Some a
     → IsAddr a × (decoded ≡ Ok (printed_octets order a))
-octets_found order (Ok octets) a fit e =
-    grind (arith, nat_tests, made_printed order octets a, fit octets refl)
-octets_found order (Err f) a fit e = absurd cc
+address_of_octets-sound order (Ok octets) a fit e =
+    grind (arith, nat_tests, printed_octets-from_octets_in_order order octets a, fit octets refl)
+address_of_octets-sound order (Err f) a fit e = absurd cc
 
 -- what is read is shown so
-pub address_of_word-found : (order : Order) (word : List ℕ) (a : ℕ)
+pub address_of_word-sound : (order : Order) (word : List ℕ) (a : ℕ)
     → address_of_word order word ≡ Some a → IsAddr a × IsAddressWord order word a
 unfolding address_of_word
-address_of_word-found order word a e = octets_found order (decode_of word) a (decoded_fit word) e
+address_of_word-sound order word a e = address_of_octets-sound order (decode_of word) a (decode_of-below_256 word) e
 
 -- what is shown so is read
-pub address_of_word-again : (order : Order) (word : List ℕ) (a : ℕ) → IsAddr a
+pub address_of_word-complete : (order : Order) (word : List ℕ) (a : ℕ) → IsAddr a
     → IsAddressWord order word a → address_of_word order word ≡ Some a
 unfolding address_of_word
-address_of_word-again order word a fits shown =
-    rw (shown, length-printed_octets order a, in_order-printed order a)
+address_of_word-complete order word a fits shown =
+    rw (shown, length-printed_octets order a, octets_in_order-printed_octets order a)
     (ap Some (from_be_bytes-to_be_bytes_4 a fits))

@@ -12,61 +12,61 @@ use Rattle.mc_text.specs.declared.bundle.bundle_fault.BundleFault.{BundleFault}
 use Rattle.mc_text.specs.declared.bundle.bundle_fault.BundleFault.TheVariants as faults
 use Rattle.mc_text.specs.Bundle.{PartText, IsPartName, part_spelling, IsBundle, max_part}
 use Rattle.mc_text.specs.Bundle.{max_bundle, max_parts}
-use Rattle.mc_text.specs.BundleReading.{IsMemory, Gives, Place, place_of, with_next, parts_from}
+use Rattle.mc_text.specs.BundleReading.{IsMemory, Gives, BundlePlace, next_part_from, with_parts_after, parts_from}
 use Rattle.mc_text.specs.BundleReading.{bundle_of}
 use Rattle.mc_text.specs.Steps.{◌>>=◌}
-use Rattle.mc_text.proofs.StepLemmas.{bind_ok, ok_is, with_front, with_front-more}
-use Rattle.mc_text.proofs.BundlePlaces.{HasPart, IsEnd, place_takes, end_again, part_again}
+use Rattle.mc_text.proofs.StepLemmas.{bind_ok, ok_injective, with_front, with_front-more}
+use Rattle.mc_text.proofs.BundlePlaces.{HasPart, IsLastLine, next_part_from-sound, next_part_from-at_end, next_part_from-at_part}
 
 -- the parts from a place on
-abbrev pub parts_at : Place → Result (List PartText) BundleFault
+abbrev pub parts_at : BundlePlace → Result (List PartText) BundleFault
 parts_at place = parts_from place.parts place.room place.rest
 
 -- they are the part there and those after it
-one_step : (n room : ℕ) (rest : List ℕ) (found : Result (Option (PartText × Place)) BundleFault)
-    → place_of (record { parts = n; room = room; rest = rest }) ≡ found
-    → parts_from n room rest ≡ (found >>= λ f. with_next f parts_at)
+parts_from-next : (n room : ℕ) (rest : List ℕ) (found : Result (Option (PartText × BundlePlace)) BundleFault)
+    → next_part_from (record { parts = n; room = room; rest = rest }) ≡ found
+    → parts_from n room rest ≡ (found >>= λ f. with_parts_after f parts_at)
 unfolding parts_from
-one_step zero room rest (Ok found) at =
-    grind (arith, place_takes (record { parts = 0; room = room; rest = rest }) found at)
-one_step (suc n) room rest (Ok found) at =
-    grind (arith, place_takes (record { parts = suc n; room = room; rest = rest }) found at)
-one_step zero room rest (Err fault) at = rw at refl
-one_step (suc n) room rest (Err fault) at = rw at refl
+parts_from-next zero room rest (Ok found) at =
+    grind (arith, next_part_from-sound (record { parts = 0; room = room; rest = rest }) found at)
+parts_from-next (suc n) room rest (Ok found) at =
+    grind (arith, next_part_from-sound (record { parts = suc n; room = room; rest = rest }) found at)
+parts_from-next zero room rest (Err fault) at = rw at refl
+parts_from-next (suc n) room rest (Err fault) at = rw at refl
 
 -- ---- a loop over the parts
 
 -- each part leaves fewer that may come
-pub fewer : (place : Place) (part : PartText) (next : Place)
-    → place_of place ≡ Ok (Some (part, next)) → next.parts < place.parts
-fewer place part next e = omega (arith, (place_takes place (Some (part, next)) e).counted)
+pub next_part_from-fewer_parts : (place : BundlePlace) (part : PartText) (next : BundlePlace)
+    → next_part_from place ≡ Ok (Some (part, next)) → next.parts < place.parts
+next_part_from-fewer_parts place part next e = omega (arith, (next_part_from-sound place (Some (part, next)) e).counted)
 
-module _ (front : List PartText) (place : Place) (total : Result (List PartText) BundleFault) where
+module _ (front : List PartText) (place : BundlePlace) (total : Result (List PartText) BundleFault) where
   -- a part that is read moves from what comes to what was read
-  pub goes_on : (part : PartText) (next : Place) → place_of place ≡ Ok (Some (part, next))
+  pub read_parts_more : (part : PartText) (next : BundlePlace) → next_part_from place ≡ Ok (Some (part, next))
       → with_front front (parts_at place) ≡ total
       → with_front (front ++ part ∷ []) (parts_at next) ≡ total
-  goes_on part next e so_far =
+  read_parts_more part next e so_far =
       sym (with_front-more front (part ∷ []) (parts_at next))
-      ∙ ap (with_front front) (sym (one_step place.parts place.room place.rest _ e)) ∙ so_far
+      ∙ ap (with_front front) (sym (parts_from-next place.parts place.room place.rest _ e)) ∙ so_far
 
   -- at the end what was read is the whole
-  pub ends : place_of place ≡ Ok None → with_front front (parts_at place) ≡ total
+  pub read_parts_all : next_part_from place ≡ Ok None → with_front front (parts_at place) ≡ total
       → total ≡ Ok front
-  ends e so_far =
-      sym so_far ∙ ap (with_front front) (one_step place.parts place.room place.rest _ e)
+  read_parts_all e so_far =
+      sym so_far ∙ ap (with_front front) (parts_from-next place.parts place.room place.rest _ e)
       ∙ ap (λ (ps : List PartText). Ok ps) (append-nil front)
 
   -- a fault at a place is one of reading the whole
-  pub fails : (fault : BundleFault) → (¬ IsMemory fault → place_of place ≡ Err fault)
+  pub read_parts_fault : (fault : BundleFault) → (¬ IsMemory fault → next_part_from place ≡ Err fault)
       → with_front front (parts_at place) ≡ total → ¬ IsMemory fault → total ≡ Err fault
-  fails fault h so_far told =
-      sym so_far ∙ ap (with_front front) (one_step place.parts place.room place.rest _ (h told))
+  read_parts_fault fault h so_far not_oom =
+      sym so_far ∙ ap (with_front front) (parts_from-next place.parts place.room place.rest _ (h not_oom))
 
 -- ---- the parts of a place
 
 -- these parts and the line `end` stand at the place, within what may still come
-record AreParts (place : Place) (parts : List PartText) : Type 0 where
+record HasParts (place : BundlePlace) (parts : List PartText) : Type 0 where
   names : AllByRecursion (λ part. IsPartName part.name) parts
   sizes : AllByRecursion (λ part. length part.bytes ≤ max_part) parts
   count : length parts ≤ place.parts
@@ -74,82 +74,82 @@ record AreParts (place : Place) (parts : List PartText) : Type 0 where
   spelled : place.rest ≡ flat_map part_spelling parts ++ codes "end\n"
 
 -- how much a part and those after it take
-length-part_first : (part : PartText) (parts : List PartText)
+length-parts_cons : (part : PartText) (parts : List PartText)
     → length (flat_map part_spelling (part ∷ parts) ++ codes "end\n")
     ≡ length (part_spelling part) + length (flat_map part_spelling parts ++ codes "end\n")
-length-part_first part parts = simp length-append (omega arith)
+length-parts_cons part parts = simp length-append (omega arith)
 
 -- what is read at a place and after it stands there
-parts_take : (n : ℕ) (place : Place) (found : Option (PartText × Place)) (parts : List PartText)
-    → place.parts ≡ n → place_of place ≡ Ok found → with_next found parts_at ≡ Ok parts
-    → AreParts place parts
-parts_take n place None parts is at e =
-    let h : IsEnd place = place_takes place None at in
-    subst (AreParts place) (ok_is [] parts e) (grind arith)
-parts_take zero place (Some found) parts is at e =
-    absurd (omega (arith, (place_takes place (Some found) at).counted))
-parts_take (suc n) place (Some (part, next)) parts is at e =
-    let h = place_takes place (Some (part, next)) at in
+parts_at-sound : (n : ℕ) (place : BundlePlace) (found : Option (PartText × BundlePlace)) (parts : List PartText)
+    → place.parts ≡ n → next_part_from place ≡ Ok found → with_parts_after found parts_at ≡ Ok parts
+    → HasParts place parts
+parts_at-sound n place None parts is at e =
+    let h : IsLastLine place = next_part_from-sound place None at in
+    subst (HasParts place) (ok_injective [] parts e) (grind arith)
+parts_at-sound zero place (Some found) parts is at e =
+    absurd (omega (arith, (next_part_from-sound place (Some found) at).counted))
+parts_at-sound (suc n) place (Some (part, next)) parts is at e =
+    let h = next_part_from-sound place (Some (part, next)) at in
     let others = bind_ok (parts_at next) _ parts e in
-    let found = bind_ok (place_of next) _ others.0
-    (sym (one_step next.parts next.room next.rest _ refl) ∙ others.1) in
-    let more = parts_take n next found.0 others.0 (omega (arith, h.counted)) found.1 found.2 in
-    subst (AreParts place) (ok_is (part ∷ others.0) parts others.2)
-    (grind (arith, length-part_first part others.0, append_assoc))
+    let found = bind_ok (next_part_from next) _ others.0
+    (sym (parts_from-next next.parts next.room next.rest _ refl) ∙ others.1) in
+    let more = parts_at-sound n next found.0 others.0 (omega (arith, h.counted)) found.1 found.2 in
+    subst (HasParts place) (ok_injective (part ∷ others.0) parts others.2)
+    (grind (arith, length-parts_cons part others.0, append_assoc))
 
 -- the parts that stand at a place are read
-parts_again : (place : Place) (parts : List PartText) → AreParts place parts
+parts_at-complete : (place : BundlePlace) (parts : List PartText) → HasParts place parts
     → parts_at place ≡ Ok parts
-parts_again place [] h = one_step place.parts place.room place.rest _
-    (end_again place (record { room = h.size; rest = h.spelled }))
-parts_again place (part ∷ parts) h =
-    let taken = length-part_first part parts in
-    let next : Place = record {
+parts_at-complete place [] h = parts_from-next place.parts place.room place.rest _
+    (next_part_from-at_end place (record { room = h.size; rest = h.spelled }))
+parts_at-complete place (part ∷ parts) h =
+    let taken = length-parts_cons part parts in
+    let next : BundlePlace = record {
       parts = place.parts - 1;
       room = place.room - length (part_spelling part);
       rest = flat_map part_spelling parts ++ codes "end\n";
     } in
     let first : HasPart place part next = grind (arith, taken, append_assoc) in
-    let more = parts_again next parts (grind (arith, taken)) in
-    one_step place.parts place.room place.rest _ (part_again place part next first)
+    let more = parts_at-complete next parts (grind (arith, taken)) in
+    parts_from-next place.parts place.room place.rest _ (next_part_from-at_part place part next first)
     ∙ rw more refl
 
 -- ---- the whole text
 
 -- what is read as a bundle is one of these parts
-pub bundle_takes : (text : List ℕ) (parts : List PartText) → bundle_of text ≡ Ok parts
+pub bundle_of-sound : (text : List ℕ) (parts : List PartText) → bundle_of text ≡ Ok parts
     → IsBundle text parts
 unfolding bundle_of
-bundle_takes text parts e =
+bundle_of-sound text parts e =
     let magic : bytes_eq (take 17 text) (codes "mcaudit bundle 1\n") ≡ true = grind arith in
     let front = (bytes_eq-Decides (take 17 text) (codes "mcaudit bundle 1\n")).0 magic in
     let read = rw magic at e in
-    let found = bind_ok (place_of _) _ parts (sym (one_step _ _ _ _ refl) ∙ read) in
-    let all = parts_take max_parts _ found.0 parts refl found.1 found.2 in
+    let found = bind_ok (next_part_from _) _ parts (sym (parts_from-next _ _ _ _ refl) ∙ read) in
+    let all = parts_at-sound max_parts _ found.0 parts refl found.1 found.2 in
     grind (arith, take-append-drop 17 text)
 
 -- a bundle of these parts is read as them
-pub bundle_again : (text : List ℕ) (parts : List PartText) → IsBundle text parts
+pub bundle_of-complete : (text : List ℕ) (parts : List PartText) → IsBundle text parts
     → bundle_of text ≡ Ok parts
 unfolding bundle_of
-bundle_again text parts h = rw h.spelled (parts_again (record {
+bundle_of-complete text parts h = rw h.spelled (parts_at-complete (record {
   parts = max_parts;
   room = max_bundle - 17;
   rest = flat_map part_spelling parts ++ codes "end\n";
 }) parts (grind arith))
 
 -- a text is the bundle of one list of parts at most
-pub same_parts : (text : List ℕ) (ps qs : List PartText) → IsBundle text ps → IsBundle text qs
+pub bundle_has_unique_parts : (text : List ℕ) (ps qs : List PartText) → IsBundle text ps → IsBundle text qs
     → ps ≡ qs
-same_parts text ps qs p q = ok_is ps qs (sym (bundle_again text ps p) ∙ bundle_again text qs q)
+bundle_has_unique_parts text ps qs p q = ok_injective ps qs (sym (bundle_of-complete text ps p) ∙ bundle_of-complete text qs q)
 
 -- what a reader that gives what reading gives has found
-pub found_bundle : (text : List ℕ) (r : Result (List PartText) BundleFault)
+pub bundle_of-result_is_bundle : (text : List ℕ) (r : Result (List PartText) BundleFault)
     → Gives (λ parts. parts) r (bundle_of text) → IfOk r (IsBundle text)
-found_bundle text r h = grind (arith, bundle_takes text)
+bundle_of-result_is_bundle text r h = grind (arith, bundle_of-sound text)
 
 -- a bundle's parts are what such a reader answers
-pub only_bundle : (text : List ℕ) (r : Result (List PartText) BundleFault)
+pub bundle_of-result_is_parts : (text : List ℕ) (r : Result (List PartText) BundleFault)
     → Gives (λ parts. parts) r (bundle_of text)
     → (parts : List PartText) → IsBundle text parts → r ≢ Err faults.Memory → r ≡ Ok parts
-only_bundle text r h parts stands other = grind (arith, bundle_again text parts stands)
+bundle_of-result_is_parts text r h parts is_bundle other = grind (arith, bundle_of-complete text parts is_bundle)

@@ -14,46 +14,46 @@ use Rattle.std.proofs.lemmas.List.{length-append, take-append-drop, drop_more, t
 use Rattle.std.proofs.lemmas.List.{get_or-take, take_min}
 use Rattle.std.proofs.lemmas.List.Sums.{AllPass-from_list_all, list_all-from_AllPass}
 use Rattle.mc_text.specs.Bundle.{is_name_byte, IsPartName, part_line, max_line}
-use Rattle.mc_text.specs.BundleReading.{is_part_name, is_length, cut_words, words_said, part_said}
+use Rattle.mc_text.specs.BundleReading.{is_part_name, is_length, cut_words, parse_name_and_length, parse_part_line}
 use Rattle.mc_text.specs.BundleReading.{cut_line, line_at}
-use Rattle.mc_text.proofs.NumberReading.{numerals}
+use Rattle.mc_text.proofs.NumberReading.{decimal_numerals}
 use Rattle.std.proofs.Math.Seq.{take-append-add, drop-append-add}
 use Rattle.std.proofs.lemmas.List.Quantifiers.{position-Some}
 use Rattle.std.proofs.lemmas.Slice.Eq.{bytes_eq-Decides}
-use Rattle.mc_text.proofs.StepLemmas.{ok_is}
+use Rattle.mc_text.proofs.StepLemmas.{ok_injective}
 
 -- no byte of the text is this one
-abbrev pub Without : ℕ → List ℕ → Type 0
-Without c [] = Unit {0}
-Without c (x ∷ xs) = (eqb x c ≡ false) × Without c xs
+abbrev pub HasNoByte : ℕ → List ℕ → Type 0
+HasNoByte c [] = Unit {0}
+HasNoByte c (x ∷ xs) = (eqb x c ≡ false) × HasNoByte c xs
 
 -- a byte that two texts lack is not in both together
-pub Without-append : (c : ℕ) (xs ys : List ℕ) → Without c xs → Without c ys → Without c (xs ++ ys)
-Without-append c [] ys p q = q
-Without-append c (x ∷ xs) ys p q = (p.0, Without-append c xs ys p.1 q)
+pub HasNoByte-append : (c : ℕ) (xs ys : List ℕ) → HasNoByte c xs → HasNoByte c ys → HasNoByte c (xs ++ ys)
+HasNoByte-append c [] ys p q = q
+HasNoByte-append c (x ∷ xs) ys p q = (p.0, HasNoByte-append c xs ys p.1 q)
 
 -- where every byte passes a test that this one doesn't, it is not among them
-pub Without-from_list_all : (p : ℕ → Bool) (c : ℕ) → p c ≡ false → (xs : List ℕ)
-    → list_all p xs ≡ true → Without c xs
-Without-from_list_all p c fails [] h = tt
-Without-from_list_all p c fails (x ∷ xs) h =
-    (grind (arith, nat_tests), Without-from_list_all p c fails xs (grind arith))
+pub HasNoByte-from_list_all : (p : ℕ → Bool) (c : ℕ) → p c ≡ false → (xs : List ℕ)
+    → list_all p xs ≡ true → HasNoByte c xs
+HasNoByte-from_list_all p c fails [] h = tt
+HasNoByte-from_list_all p c fails (x ∷ xs) h =
+    (grind (arith, nat_tests), HasNoByte-from_list_all p c fails xs (grind arith))
 
 -- the first place of a byte that stands behind a text without it
-position_after : (c : ℕ) (xs ys : List ℕ) → Without c xs
+position_or_len-append_byte : (c : ℕ) (xs ys : List ℕ) → HasNoByte c xs
     → position_or_len (λ b. eqb b c) (xs ++ c ∷ ys) ≡ length xs
-position_after c [] ys h = grind (arith, nat_tests)
-position_after c (x ∷ xs) ys h = rw h.0 (omega (arith, position_after c xs ys h.1))
+position_or_len-append_byte c [] ys h = grind (arith, nat_tests)
+position_or_len-append_byte c (x ∷ xs) ys h = rw h.0 (omega (arith, position_or_len-append_byte c xs ys h.1))
 
 -- the place of a byte that stands behind a text without it
-pub position-Some_after : (c : ℕ) (xs ys : List ℕ) → Without c xs
+pub position-append_byte : (c : ℕ) (xs ys : List ℕ) → HasNoByte c xs
     → position (λ b. eqb b c) (xs ++ c ∷ ys) ≡ Some (length xs)
-position-Some_after c xs ys h = grind (arith, nat_tests, position_after, length-append)
+position-append_byte c xs ys h = grind (arith, nat_tests, position_or_len-append_byte, length-append)
 
 -- a text is what stands before a byte, the byte, and what stands after it
-pub cut_at : (c : ℕ) (text : List ℕ) (n : ℕ) → n < length text → eqb (get_or text n 0) c ≡ true
+pub split_at_byte : (c : ℕ) (text : List ℕ) (n : ℕ) → n < length text → eqb (get_or text n 0) c ≡ true
     → text ≡ take n text ++ c ∷ drop (n + 1) text
-cut_at c text n within here =
+split_at_byte c text n within here =
     grind (arith, nat_tests, drop_more text n 0 within, take-append-drop n text)
 
 -- ---- names
@@ -64,77 +64,77 @@ IsPartName-from_test name h =
     grind (arith, nat_tests, AllPass-from_list_all is_name_byte name)
 
 -- a name passes the test
-pub test-from_IsPartName : (name : List ℕ) → IsPartName name → is_part_name name ≡ true
-test-from_IsPartName name h =
+pub is_part_name-complete : (name : List ℕ) → IsPartName name → is_part_name name ≡ true
+is_part_name-complete name h =
     grind (arith, nat_tests, list_all-from_AllPass is_name_byte name h.bytes)
 
 -- what is refused as a name fails the test
-pub not_named : (name : List ℕ)
+pub is_part_name-false : (name : List ℕ)
     → (IsPartName name → (let none : Option (List ℕ) = None in none ≡ Some name))
     → is_part_name name ≡ false
-not_named name refused = grind (arith, IsPartName-from_test)
+is_part_name-false name refused = grind (arith, IsPartName-from_test)
 
 -- a byte that no name has is in no name
-pub Without-name : (c : ℕ) → is_name_byte c ≡ false → (name : List ℕ) → IsPartName name
-    → Without c name
-Without-name c fails name h = Without-from_list_all is_name_byte c fails name
+pub HasNoByte-name : (c : ℕ) → is_name_byte c ≡ false → (name : List ℕ) → IsPartName name
+    → HasNoByte c name
+HasNoByte-name c fails name h = HasNoByte-from_list_all is_name_byte c fails name
     (list_all-from_AllPass is_name_byte name h.bytes)
 
 -- ---- lengths
 
 -- the number of a length is written by its word
-pub decimal-length_word : (word : List ℕ) → is_length word ≡ true → digits_value 10 word < 2 ^ 64
+pub decimal-of_digits_value : (word : List ℕ) → is_length word ≡ true → digits_value 10 word < 2 ^ 64
     → decimal (digits_value 10 word) ≡ word
-decimal-length_word word h small =
-    grind (arith, nat_tests, decimal-digits_value numerals word)
+decimal-of_digits_value word h small =
+    grind (arith, nat_tests, decimal-digits_value decimal_numerals word)
 
 -- a number in decimal is a length
 pub is_length-decimal : (n : ℕ) → n < 2 ^ 64 → is_length (decimal n) ≡ true
 is_length-decimal zero small = rw (decimal_digit 0 (omega arith)) refl
 is_length-decimal (suc n) small =
-    let digits = digits_decimal numerals (suc n) small in
+    let digits = digits_decimal decimal_numerals (suc n) small in
     let some = (decimal_is_IsNumeral (suc n) small).0.0 in
     let first = first_decimal (suc n) (omega arith) small in
     grind (arith, nat_tests)
 
 -- a byte that is no digit is in no number
-pub Without-decimal : (c : ℕ) → is_ascii_digit c ≡ false → (n : ℕ) → n < 2 ^ 64
-    → Without c (decimal n)
-Without-decimal c fails n small =
-    Without-from_list_all is_ascii_digit c fails (decimal n) (digits_decimal numerals n small)
+pub HasNoByte-decimal : (c : ℕ) → is_ascii_digit c ≡ false → (n : ℕ) → n < 2 ^ 64
+    → HasNoByte c (decimal n)
+HasNoByte-decimal c fails n small =
+    HasNoByte-from_list_all is_ascii_digit c fails (decimal n) (digits_decimal decimal_numerals n small)
 
 -- ---- what a line says
 
 -- words that are a part's name and its length
-abbrev AreWords : List ℕ → List ℕ × ℕ → Type 0
-AreWords words said = said.1 < 2 ^ 64
-    → IsPartName said.0 × (words ≡ said.0 ++ (codes " " ++ decimal said.1))
+abbrev IsNameAndLength : List ℕ → List ℕ × ℕ → Type 0
+IsNameAndLength words header = header.1 < 2 ^ 64
+    → IsPartName header.0 × (words ≡ header.0 ++ (codes " " ++ decimal header.1))
 
 -- what two words say stands in them
-cut_take : (words : List ℕ) (o : Option ℕ) (said : List ℕ × ℕ) → position (λ b. eqb b 32) words ≡ o
-    → cut_words words o ≡ Some said → AreWords words said
-cut_take words o said at e =
+cut_words-sound : (words : List ℕ) (o : Option ℕ) (header : List ℕ × ℕ) → position (λ b. eqb b 32) words ≡ o
+    → cut_words words o ≡ Some header → IsNameAndLength words header
+cut_words-sound words o header at e =
     let space = position-Some (λ b. eqb b 32) words in
-    grind (arith, nat_tests, IsPartName-from_test, space, cut_at, decimal-length_word)
+    grind (arith, nat_tests, IsPartName-from_test, space, split_at_byte, decimal-of_digits_value)
 
 -- what a line says stands in it
-pub said_take : (line : List ℕ) (said : List ℕ × ℕ) → part_said line ≡ Some said → said.1 < 2 ^ 64
-    → IsPartName said.0 × (line ≡ part_line said.0 said.1)
-unfolding part_said words_said
-said_take line said e small =
+pub parse_part_line-sound : (line : List ℕ) (header : List ℕ × ℕ) → parse_part_line line ≡ Some header → header.1 < 2 ^ 64
+    → IsPartName header.0 × (line ≡ part_line header.0 header.1)
+unfolding parse_part_line parse_name_and_length
+parse_part_line-sound line header e small =
     let front = (bytes_eq-Decides (take 5 line) (codes "part ")).0 in
-    grind (arith, cut_take (drop 5 line) _ said refl, take-append-drop 5 line, front)
+    grind (arith, cut_words-sound (drop 5 line) _ header refl, take-append-drop 5 line, front)
 
 -- a part's line says its name and length
-pub said_again : (name : List ℕ) (size : ℕ) → IsPartName name → size < 2 ^ 64
-    → part_said (part_line name size) ≡ Some (name, size)
-unfolding part_said words_said
-said_again name size h small =
-    let at = position-Some_after 32 name (decimal size) (Without-name 32 refl name h) in
+pub parse_part_line-complete : (name : List ℕ) (size : ℕ) → IsPartName name → size < 2 ^ 64
+    → parse_part_line (part_line name size) ≡ Some (name, size)
+unfolding parse_part_line parse_name_and_length
+parse_part_line-complete name size h small =
+    let at = position-append_byte 32 name (decimal size) (HasNoByte-name 32 refl name h) in
     let front = take_at name (32 ∷ decimal size) (length name) refl in
     let back = drop-append-add name (32 ∷ decimal size) 1 in
     let value = (decimal_is_IsNumeral size small).1 in
-    let named = test-from_IsPartName name h in
+    let named = is_part_name-complete name h in
     grind (arith, at, front, back, value, named, is_length-decimal size small)
 
 -- ---- where a line ends
@@ -145,53 +145,53 @@ pub record IsLine (rest line after : List ℕ) : Type 0 where
   pub short : length line < max_line
 
 -- where no line feed is in sight no line is read
-no_line : (rest : List ℕ) (cut : List ℕ × List ℕ) → cut_line rest None ≡ Ok cut → ⊥
-no_line rest cut e = grind (arith, nat_tests)
+cut_line-none : (rest : List ℕ) (cut : List ℕ × List ℕ) → cut_line rest None ≡ Ok cut → ⊥
+cut_line-none rest cut e = grind (arith, nat_tests)
 
 -- a line that was cut was cut at its line feed
-cut_takes : (rest : List ℕ) (o : Option ℕ) (cut : List ℕ × List ℕ)
+cut_line-sound : (rest : List ℕ) (o : Option ℕ) (cut : List ℕ × List ℕ)
     → position (λ b. eqb b 10) (take 96 rest) ≡ o → cut_line rest o ≡ Ok cut
     → IsLine rest cut.0 cut.1
-cut_takes rest None cut at e = absurd (no_line rest cut e)
-cut_takes rest (Some n) cut at e =
+cut_line-sound rest None cut at e = absurd (cut_line-none rest cut e)
+cut_line-sound rest (Some n) cut at e =
     let (within, here, first) = position-Some (λ b. eqb b 10) (take 96 rest) n 0 at in
     let short : n < 96 = omega (arith, within, length-take 96 rest) in
     let feed : eqb (get_or rest n 0) 10 ≡ true = rw (← get_or-take 96 rest n 0 short) here in
-    subst (λ (p : List ℕ × List ℕ). IsLine rest p.0 p.1) (ok_is _ cut e) (record {
-      parts = cut_at 10 rest n (omega (arith, within, length-take 96 rest)) feed;
+    subst (λ (p : List ℕ × List ℕ). IsLine rest p.0 p.1) (ok_injective _ cut e) (record {
+      parts = split_at_byte 10 rest n (omega (arith, within, length-take 96 rest)) feed;
       short = omega (arith, short, length-take n rest);
     })
 
 -- what is read as a line stands there
-pub line_takes : (rest : List ℕ) (cut : List ℕ × List ℕ) → line_at rest ≡ Ok cut
+pub line_at-sound : (rest : List ℕ) (cut : List ℕ × List ℕ) → line_at rest ≡ Ok cut
     → IsLine rest cut.0 cut.1
 unfolding line_at
-line_takes rest cut e = cut_takes rest _ cut refl e
+line_at-sound rest cut e = cut_line-sound rest _ cut refl e
 
 -- a line that stands there is read
-pub line_again : (line after : List ℕ) → Without 10 line → length line < max_line
+pub line_at-complete : (line after : List ℕ) → HasNoByte 10 line → length line < max_line
     → line_at (line ++ (codes "\n" ++ after)) ≡ Ok (line, after)
 unfolding line_at
-line_again line after h short =
+line_at-complete line after h short =
     let left = 95 - length line in
     let sight : 96 ≡ length line + suc left = omega arith in
     let front : take 96 (line ++ 10 ∷ after) ≡ line ++ 10 ∷ take left after =
     rw sight (take-append-add line (10 ∷ after) (suc left)) in
-    let at = position-Some_after 10 line (take left after) h in
+    let at = position-append_byte 10 line (take left after) h in
     let back = drop-append-add line (10 ∷ after) 1 in
     rw (front, at, take_at line (10 ∷ after) (length line) refl, back) refl
 
 -- the line that the code finds, which looks among the next 96 bytes or those that are left
-pub line_found : (rest : List ℕ) (cut : ℕ) (o : Option ℕ) → cut ≡ min (length rest) 96
+pub line_at-cut_line : (rest : List ℕ) (cut : ℕ) (o : Option ℕ) → cut ≡ min (length rest) 96
     → o ≡ position (λ b. eqb b 10) (take cut rest) → line_at rest ≡ cut_line rest o
 unfolding line_at
-line_found rest cut o h at =
+line_at-cut_line rest cut o h at =
     grind (arith, take_min 96 rest)
 
 -- a part's line has no line feed
-pub Without-part_line : (name : List ℕ) (size : ℕ) → IsPartName name → size < 2 ^ 64
-    → Without 10 (part_line name size)
-Without-part_line name size h small =
-    let words = Without-append 10 name (codes " " ++ decimal size) (Without-name 10 refl name h)
-    (refl, Without-decimal 10 refl size small) in
+pub HasNoByte-part_line : (name : List ℕ) (size : ℕ) → IsPartName name → size < 2 ^ 64
+    → HasNoByte 10 (part_line name size)
+HasNoByte-part_line name size h small =
+    let words = HasNoByte-append 10 name (codes " " ++ decimal size) (HasNoByte-name 10 refl name h)
+    (refl, HasNoByte-decimal 10 refl size small) in
     (refl, (refl, (refl, (refl, (refl, words)))))

@@ -7,68 +7,68 @@ use Rattle.mc_text.specs.declared.bundle.bundle_fault.BundleFault.{BundleFault}
 use Rattle.mc_text.specs.declared.bundle.bundle_fault.BundleFault.TheVariants as faults
 use Rattle.mc_text.specs.Bundle.{PartText, max_line, max_parts, max_bundle}
 use Rattle.mc_text.specs.BundleFaults.{IsFramingFault}
-use Rattle.mc_text.specs.BundleReading.{Gives, Place, cut_line, line_at, part_bytes_at}
-use Rattle.mc_text.specs.BundleReading.{part_place, end_place, place_of, with_next, parts_from}
+use Rattle.mc_text.specs.BundleReading.{Gives, BundlePlace, cut_line, line_at, part_bytes_at}
+use Rattle.mc_text.specs.BundleReading.{part_for_line, end_for_line, next_part_from, with_parts_after, parts_from}
 use Rattle.mc_text.specs.BundleReading.{bundle_of}
 use Rattle.mc_text.specs.Steps.{◌>>=◌}
 
 -- a fault of two steps is one of either
-both_steps : {A B : Type 0} (read : Result A BundleFault) (next : A → Result B BundleFault)
+bind-framing_fault : {A B : Type 0} (read : Result A BundleFault) (next : A → Result B BundleFault)
     → IfErr read IsFramingFault → ((x : A) → IfErr (next x) IsFramingFault)
     → IfErr (read >>= next) IsFramingFault
-both_steps (Ok x) next first second = second x
-both_steps (Err fault) next first second = first
+bind-framing_fault (Ok x) next first second = second x
+bind-framing_fault (Err fault) next first second = first
 
 -- a fault under a test is one of either branch
-both_branches : {A : Type 0} (b : Bool) (x y : Result A BundleFault) → IfErr x IsFramingFault
+cond-framing_fault : {A : Type 0} (b : Bool) (x y : Result A BundleFault) → IfErr x IsFramingFault
     → IfErr y IsFramingFault → IfErr (cond b x y) IsFramingFault
-both_branches true x y first second = first
-both_branches false x y first second = second
+cond-framing_fault true x y first second = first
+cond-framing_fault false x y first second = second
 
-of_line_cut : (rest : List ℕ) (place : Option ℕ) → IfErr (cut_line rest place) IsFramingFault
-of_line_cut rest (Some n) = tt
-of_line_cut rest None = search both_branches
+cut_line-framing_fault : (rest : List ℕ) (place : Option ℕ) → IfErr (cut_line rest place) IsFramingFault
+cut_line-framing_fault rest (Some n) = tt
+cut_line-framing_fault rest None = search cond-framing_fault
 
-of_line : (rest : List ℕ) → IfErr (line_at rest) IsFramingFault
+line_at-framing_fault : (rest : List ℕ) → IfErr (line_at rest) IsFramingFault
 unfolding line_at
-of_line rest = of_line_cut rest (position (λ b. b == 10) (take max_line rest))
+line_at-framing_fault rest = cut_line-framing_fault rest (position (λ b. b == 10) (take max_line rest))
 
-of_part_bytes : (size : ℕ) (rest : List ℕ) → IfErr (part_bytes_at size rest) IsFramingFault
+part_bytes_at-framing_fault : (size : ℕ) (rest : List ℕ) → IfErr (part_bytes_at size rest) IsFramingFault
 unfolding part_bytes_at
-of_part_bytes size rest = search both_branches
+part_bytes_at-framing_fault size rest = search cond-framing_fault
 
-of_part : (place : Place) (line after : List ℕ) (said : Option (List ℕ × ℕ))
-    → IfErr (part_place place line after said) IsFramingFault
-of_part place line after None = tt
-of_part place line after (Some said) =
-    search (both_branches, both_steps, of_part_bytes)
+part_for_line-framing_fault : (place : BundlePlace) (line after : List ℕ) (header : Option (List ℕ × ℕ))
+    → IfErr (part_for_line place line after header) IsFramingFault
+part_for_line-framing_fault place line after None = tt
+part_for_line-framing_fault place line after (Some header) =
+    search (cond-framing_fault, bind-framing_fault, part_bytes_at-framing_fault)
 
-of_place : (place : Place) → IfErr (place_of place) IsFramingFault
-unfolding place_of
-of_place place = search (both_branches, both_steps, of_line, of_part)
+next_part_from-framing_fault : (place : BundlePlace) → IfErr (next_part_from place) IsFramingFault
+unfolding next_part_from
+next_part_from-framing_fault place = search (cond-framing_fault, bind-framing_fault, line_at-framing_fault, part_for_line-framing_fault)
 
-of_next : (found : Option (PartText × Place)) (next : Place → Result (List PartText) BundleFault)
-    → ((place : Place) → IfErr (next place) IsFramingFault)
-    → IfErr (with_next found next) IsFramingFault
-of_next None next then = tt
-of_next (Some found) next then = both_steps (next found.1) _ (then found.1) (λ _. tt)
+with_parts_after-framing_fault : (found : Option (PartText × BundlePlace)) (next : BundlePlace → Result (List PartText) BundleFault)
+    → ((place : BundlePlace) → IfErr (next place) IsFramingFault)
+    → IfErr (with_parts_after found next) IsFramingFault
+with_parts_after-framing_fault None next then = tt
+with_parts_after-framing_fault (Some found) next then = bind-framing_fault (next found.1) _ (then found.1) (λ _. tt)
 
-of_parts : (n room : ℕ) (rest : List ℕ) → IfErr (parts_from n room rest) IsFramingFault
+parts_from-framing_fault : (n room : ℕ) (rest : List ℕ) → IfErr (parts_from n room rest) IsFramingFault
 unfolding parts_from
-of_parts zero room rest = both_steps _ _ (of_place _) (λ _. tt)
-of_parts (suc n) room rest =
-    both_steps _ _ (of_place _) (λ found.
-    of_next found _ (λ place. of_parts n place.room place.rest))
+parts_from-framing_fault zero room rest = bind-framing_fault _ _ (next_part_from-framing_fault _) (λ _. tt)
+parts_from-framing_fault (suc n) room rest =
+    bind-framing_fault _ _ (next_part_from-framing_fault _) (λ found.
+    with_parts_after-framing_fault found _ (λ place. parts_from-framing_fault n place.room place.rest))
 
-of_bundle : (text : List ℕ) → IfErr (bundle_of text) IsFramingFault
+bundle_of-framing_fault : (text : List ℕ) → IfErr (bundle_of text) IsFramingFault
 unfolding bundle_of
-of_bundle text = search (both_branches, of_parts)
+bundle_of-framing_fault text = search (cond-framing_fault, parts_from-framing_fault)
 
 -- what a bundle is read as ends with one of them, or for want of memory
-pub faults_of_text : (text : List ℕ) (read : Result (List PartText) BundleFault)
+pub bundle_of-result_fault : (text : List ℕ) (read : Result (List PartText) BundleFault)
     → Gives (λ parts. parts) read (bundle_of text)
     → IfErr read (λ fault. IsFramingFault fault ⊎ (fault ≡ faults.Memory))
-faults_of_text text (Ok parts) gives = tt
-faults_of_text text (Err faults.Memory) gives = inr refl
-faults_of_text text (Err fault) gives =
-    inl (IfErr-at_err IsFramingFault (gives (λ memory. memory)) (of_bundle text))
+bundle_of-result_fault text (Ok parts) gives = tt
+bundle_of-result_fault text (Err faults.Memory) gives = inr refl
+bundle_of-result_fault text (Err fault) gives =
+    inl (IfErr-at_err IsFramingFault (gives (λ memory. memory)) (bundle_of-framing_fault text))

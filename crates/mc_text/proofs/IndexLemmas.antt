@@ -16,19 +16,19 @@ use Rattle.std.proofs.lemmas.Map.Keys.{non_decreasing_from_sorted, sorted_from_s
 use Rattle.mc_text.specs.Index.{slot_in}
 
 -- of so many slots those of the numbers are marked
-abbrev pub MarkedIn : (slots : ℕ) (marks numbers : List ℕ) → Type 0
-MarkedIn slots marks numbers = All (λ number. get_or marks (slot_in slots number) 0 ≢ 0) numbers
+abbrev pub AreMarkedInSlots : (slots : ℕ) (marks numbers : List ℕ) → Type 0
+AreMarkedInSlots slots marks numbers = All (λ number. get_or marks (slot_in slots number) 0 ≢ 0) numbers
 
 -- a number whose slot isn't marked is none of them
-pub unmarked : (slots : ℕ) (marks numbers : List ℕ) (number : ℕ) → MarkedIn slots marks numbers
+pub contains-unmarked_slot : (slots : ℕ) (marks numbers : List ℕ) (number : ℕ) → AreMarkedInSlots slots marks numbers
     → get_or marks (slot_in slots number) 0 ≡ 0 → ¬ Contains numbers number
-unmarked slots marks numbers number marked empty = λ among.
+contains-unmarked_slot slots marks numbers number marked empty = λ among.
     All-contains (λ n. get_or marks (slot_in slots n) 0 ≢ 0) numbers number marked among empty
 
 -- a slot that is marked stays so where one is marked
-stays_marked : (marks : List ℕ) (slot mark at : ℕ) → slot < length marks → mark ≢ 0
+slice_set-stays_marked : (marks : List ℕ) (slot mark at : ℕ) → slot < length marks → mark ≢ 0
     → get_or marks at 0 ≢ 0 → get_or (slice_set marks slot mark) at 0 ≢ 0
-stays_marked marks slot mark at within some marked =
+slice_set-stays_marked marks slot mark at within some marked =
     elim (cases_eq at slot) [
       | inl same ↦ λ e. some (sym (get_or-set_same marks slot mark 0 within)
           ∙ ap (λ k. get_or (slice_set marks slot mark) k 0) (sym same) ∙ e)
@@ -36,31 +36,31 @@ stays_marked marks slot mark at within some marked =
     ]
 
 -- so one more has a slot that is
-pub one_marked : (slots : ℕ) (marks numbers : List ℕ) (i mark slot d : ℕ)
-    → MarkedIn slots marks (take i numbers) → i < length numbers
+pub marked_in_slots_more : (slots : ℕ) (marks numbers : List ℕ) (i mark slot d : ℕ)
+    → AreMarkedInSlots slots marks (take i numbers) → i < length numbers
     → slot ≡ slot_in slots (get_or numbers i d) → slot < length marks → mark ≢ 0
-    → MarkedIn slots (slice_set marks slot mark) (take (i + 1) numbers)
-one_marked slots marks numbers i mark slot d marked below is within some =
-    subst (MarkedIn slots (slice_set marks slot mark)) (sym (take_more numbers i d below))
+    → AreMarkedInSlots slots (slice_set marks slot mark) (take (i + 1) numbers)
+marked_in_slots_more slots marks numbers i mark slot d marked below is within some =
+    subst (AreMarkedInSlots slots (slice_set marks slot mark)) (sym (take_more numbers i d below))
     (All-push (λ n. get_or (slice_set marks slot mark) (slot_in slots n) 0 ≢ 0) (take i numbers)
     (get_or numbers i d)
-    (λ k e less. stays_marked marks slot mark (slot_in slots (get_or (take i numbers) k e)) within
+    (λ k e less. slice_set-stays_marked marks slot mark (slot_in slots (get_or (take i numbers) k e)) within
     some (marked k e less))
     (λ e. some (sym (get_or-set_same marks slot mark 0 within)
     ∙ ap (λ k. get_or (slice_set marks slot mark) k 0) is ∙ e)))
 
 -- at last they are all
-pub all_marked : (slots : ℕ) (marks numbers : List ℕ) (i : ℕ) → length numbers ≤ i
-    → MarkedIn slots marks (take i numbers) → MarkedIn slots marks numbers
-all_marked slots marks numbers i past marked =
-    subst (MarkedIn slots marks) (take_all i numbers past) marked
+pub marked_in_slots_all : (slots : ℕ) (marks numbers : List ℕ) (i : ℕ) → length numbers ≤ i
+    → AreMarkedInSlots slots marks (take i numbers) → AreMarkedInSlots slots marks numbers
+marked_in_slots_all slots marks numbers i past marked =
+    subst (AreMarkedInSlots slots marks) (take_all i numbers past) marked
 
 -- what a search in ascending numbers doesn't find is none of them
-pub missed : (numbers : List ℕ) (number : ℕ) (r : Result ℕ ℕ) (place : Option ℕ)
+pub contains-not_found : (numbers : List ℕ) (number : ℕ) (r : Result ℕ ℕ) (place : Option ℕ)
     → IsStrictlyIncreasing numbers → IsBinarySearchResult (λ n. nat_cmp n number) numbers r
     → place ≡ result_ok r → IfNone place (¬ Contains numbers number)
-missed numbers number (Ok i) place up search is = rw is tt
-missed numbers number (Err i) place up search is =
+contains-not_found numbers number (Ok i) place up search is = rw is tt
+contains-not_found numbers number (Err i) place up search is =
     let sorted = sorted_from_strictly_increasing numbers up in
     let found = searched numbers number (Err i) search
     (λ j k. non_decreasing_from_sorted numbers sorted j k 0) in
@@ -73,9 +73,9 @@ missed numbers number (Err i) place up search is =
     ])
 
 -- each once and in order, they are the same numbers
-pub same_numbers : (numbers sorted kept : List ℕ) → IsPermutation numbers sorted
+pub contains-dedup_sorted : (numbers sorted kept : List ℕ) → IsPermutation numbers sorted
     → kept ≡ dedup eqb sorted → (number : ℕ) → Contains kept number ↔ Contains numbers number
-same_numbers numbers sorted kept moved is number = (
+contains-dedup_sorted numbers sorted kept moved is number = (
   λ among. Contains-permutation sorted numbers number (IsPermutation-sym numbers sorted moved)
       (Contains-from_dedup eqb sorted number (rw is at among)),
   λ among. rw is (Contains-dedup_nat sorted number

@@ -17,6 +17,6 @@ mod FaultLemmas
 pub mod Pieces
 pub mod PartsLemmas
 pub mod PartsMeaning
-pub mod SpendingLemmas
-pub mod ToComeLemmas
-mod FirstPlace
+pub mod PartsLimitLemmas
+pub mod RestOfBundleLemmas
+mod FindByte

@@ -14,25 +14,25 @@ use Rattle.std.proofs.lemmas.List.Quantifiers.{position-Some}
 use Rattle.std.proofs.lemmas.List.Splits.{slice_split_first, slice_split_none, length-slice_split}
 use Rattle.std.proofs.lemmas.List.Splits.{join_with_byte-slice_split}
 use Rattle.std.proofs.lemmas.List.Sums.{fails_before_first}
-use Rattle.mc_text.specs.Lines.{numbered, lines_from, lines_of, joined, HasNoLineFeed}
+use Rattle.mc_text.specs.Lines.{numbered, lines_from, lines_of, join_lines, HasNoLineFeed}
 use Rattle.mc_text.specs.Lines.{OnlyLastMayBeUnended}
 use Rattle.mc_text.specs.Lines.{words_of}
 
 -- a text with a byte is not empty
-nonempty : (text : List ℕ) → 0 < length text → eqb (length text) 0 ≡ false
-nonempty text some = grind (arith, nat_tests)
+length-not_zero : (text : List ℕ) → 0 < length text → eqb (length text) 0 ≡ false
+length-not_zero text some = grind (arith, nat_tests)
 
 -- where the byte is found, the first part ends there
-cut_first : (c : ℕ) (text : List ℕ) (end : ℕ) → position (λ b. eqb b c) text ≡ Some end
+slice_split-found : (c : ℕ) (text : List ℕ) (end : ℕ) → position (λ b. eqb b c) text ≡ Some end
     → slice_split (λ b. eqb b c) text ≡ take end text
     ∷ slice_split (λ b. eqb b c) (drop (end + 1) text)
-cut_first c text end found =
+slice_split-found c text end found =
     grind (arith, nat_tests, slice_split_first (λ b. eqb b c) text 0)
 
 -- where it is not found, the text is one part
-one_part : (c : ℕ) (text : List ℕ) → position (λ b. eqb b c) text ≡ None
+slice_split-not_found : (c : ℕ) (text : List ℕ) → position (λ b. eqb b c) text ≡ None
     → slice_split (λ b. eqb b c) text ≡ text ∷ []
-one_part c text none =
+slice_split-not_found c text none =
     let past : length text ≤ position_or_len (λ b. eqb b c) text = grind (arith, nat_tests) in
     slice_split_none _ text (All-from_get_or (λ b. eqb b c ≡ false) text 0
     (λ k lt. fails_before_first (λ b. eqb b c) text k 0 (omega (arith, past))))
@@ -40,84 +40,84 @@ one_part c text none =
 -- ---- lines
 
 -- a part with parts after it is an ended line
-numbered_more : (n : ℕ) (part : List ℕ) (parts : List (List ℕ)) → 0 < length parts
+numbered-more : (n : ℕ) (part : List ℕ) (parts : List (List ℕ)) → 0 < length parts
     → numbered n (part ∷ parts) ≡ record { number = n; bytes = part; ended = true }
     ∷ numbered (n + 1) parts
-numbered_more n part parts some = grind arith
+numbered-more n part parts some = grind arith
 
 -- where a line feed stands at `end`, and none before it, the first line ends there
-pub lines_from_ended : (n : ℕ) (text : List ℕ) (end : ℕ) → position (λ b. eqb b 10) text ≡ Some end
+pub lines_from-line_feed : (n : ℕ) (text : List ℕ) (end : ℕ) → position (λ b. eqb b 10) text ≡ Some end
     → lines_from n text ≡ record { number = n; bytes = take end text; ended = true }
     ∷ lines_from (n + 1) (drop (end + 1) text)
-lines_from_ended n text end found =
+lines_from-line_feed n text end found =
     let more = length-slice_split (λ b. eqb b 10) (drop (end + 1) text) in
-    ap (numbered n) (cut_first 10 text end found)
-    ∙ numbered_more n (take end text) _ (omega (arith, more))
+    ap (numbered n) (slice_split-found 10 text end found)
+    ∙ numbered-more n (take end text) _ (omega (arith, more))
 
 -- where there is no line feed the text is one line that none ends
-pub lines_from_unended : (n : ℕ) (text : List ℕ) → position (λ b. eqb b 10) text ≡ None
+pub lines_from-no_line_feed : (n : ℕ) (text : List ℕ) → position (λ b. eqb b 10) text ≡ None
     → 0 < length text → lines_from n text ≡ record { number = n; bytes = text; ended = false } ∷ []
-lines_from_unended n text none some = rw (one_part 10 text none, nonempty text some) refl
+lines_from-no_line_feed n text none some = rw (slice_split-not_found 10 text none, length-not_zero text some) refl
 
 -- a last part with a byte is a line that none ends
-last_line : (n b : ℕ) (part : List ℕ) → numbered n ((b ∷ part) ∷ [])
+numbered-last : (n b : ℕ) (part : List ℕ) → numbered n ((b ∷ part) ∷ [])
     ≡ record { number = n; bytes = b ∷ part; ended = false } ∷ []
-last_line n b part = rw (nonempty (b ∷ part) (omega arith)) refl
+numbered-last n b part = rw (length-not_zero (b ∷ part) (omega arith)) refl
 
 -- the lines of parts make their text
-joined-numbered : (n : ℕ) (parts : List (List ℕ))
-    → joined (numbered n parts) ≡ join_with_byte 10 parts
-joined-numbered n [] = refl
-joined-numbered n ([] ∷ []) = refl
-joined-numbered n ((b ∷ part) ∷ []) = simp (last_line, append-nil)
-joined-numbered n (part ∷ next ∷ more) =
-    let rest = joined-numbered (n + 1) (next ∷ more) in simp (flat_map-cons, append_assoc, rest)
+join_lines-numbered : (n : ℕ) (parts : List (List ℕ))
+    → join_lines (numbered n parts) ≡ join_with_byte 10 parts
+join_lines-numbered n [] = refl
+join_lines-numbered n ([] ∷ []) = refl
+join_lines-numbered n ((b ∷ part) ∷ []) = simp (numbered-last, append-nil)
+join_lines-numbered n (part ∷ next ∷ more) =
+    let rest = join_lines-numbered (n + 1) (next ∷ more) in simp (flat_map-cons, append_assoc, rest)
 
 -- the lines of a text make it
-pub joined-lines_of : (text : List ℕ) → joined (lines_of text) ≡ text
-joined-lines_of text =
-    joined-numbered 1 (slice_split (λ b. eqb b 10) text) ∙ join_with_byte-slice_split 10 text
+pub join_lines-lines_of : (text : List ℕ) → join_lines (lines_of text) ≡ text
+join_lines-lines_of text =
+    join_lines-numbered 1 (slice_split (λ b. eqb b 10) text) ∙ join_with_byte-slice_split 10 text
 
 -- a part between line feeds has none
-abbrev IsWhole : List ℕ → Type 0
-IsWhole part = AllByRecursion (λ b. b ≢ 10) part
+abbrev IsWithoutLineFeed : List ℕ → Type 0
+IsWithoutLineFeed part = AllByRecursion (λ b. b ≢ 10) part
 
 -- a byte before the first part, or a line feed before it, leaves the parts whole
-split_whole : (b : ℕ) (parts : List (List ℕ)) (t : Bool) → eqb b 10 ≡ t
-    → AllByRecursion IsWhole parts
-    → AllByRecursion IsWhole (cond t ([] ∷ parts) (onto_first b parts))
-split_whole b parts t e whole = grind (arith, nat_tests)
+split-without_line_feed : (b : ℕ) (parts : List (List ℕ)) (t : Bool) → eqb b 10 ≡ t
+    → AllByRecursion IsWithoutLineFeed parts
+    → AllByRecursion IsWithoutLineFeed (cond t ([] ∷ parts) (onto_first b parts))
+split-without_line_feed b parts t e whole = grind (arith, nat_tests)
 
 -- the parts between line feeds have none
-parts_whole : (text : List ℕ) → AllByRecursion IsWhole (slice_split (λ b. eqb b 10) text)
-parts_whole [] = (tt, tt)
-parts_whole (b ∷ text) = split_whole b _ (eqb b 10) refl (parts_whole text)
+slice_split-without_line_feed : (text : List ℕ) → AllByRecursion IsWithoutLineFeed (slice_split (λ b. eqb b 10) text)
+slice_split-without_line_feed [] = (tt, tt)
+slice_split-without_line_feed (b ∷ text) = split-without_line_feed b _ (eqb b 10) refl (slice_split-without_line_feed text)
 
 -- the lines of parts have no line feed within
-numbered_whole : (n : ℕ) (parts : List (List ℕ)) → AllByRecursion IsWhole parts
+numbered-no_line_feed : (n : ℕ) (parts : List (List ℕ)) → AllByRecursion IsWithoutLineFeed parts
     → AllByRecursion HasNoLineFeed (numbered n parts)
-numbered_whole n [] whole = tt
-numbered_whole n ([] ∷ []) whole = tt
-numbered_whole n ((b ∷ part) ∷ []) whole = rw (last_line n b part) whole
-numbered_whole n (part ∷ next ∷ more) whole =
-    (whole.0, numbered_whole (n + 1) (next ∷ more) whole.1)
+numbered-no_line_feed n [] whole = tt
+numbered-no_line_feed n ([] ∷ []) whole = tt
+numbered-no_line_feed n ((b ∷ part) ∷ []) whole = rw (numbered-last n b part) whole
+numbered-no_line_feed n (part ∷ next ∷ more) whole =
+    (whole.0, numbered-no_line_feed (n + 1) (next ∷ more) whole.1)
 
 -- nor have those of a text
-pub lines_whole : (text : List ℕ) → AllByRecursion HasNoLineFeed (lines_of text)
-lines_whole text = numbered_whole 1 _ (parts_whole text)
+pub lines_of-no_line_feed : (text : List ℕ) → AllByRecursion HasNoLineFeed (lines_of text)
+lines_of-no_line_feed text = numbered-no_line_feed 1 _ (slice_split-without_line_feed text)
 
 -- only the last line of parts may be unended
-numbered_ended : (n : ℕ) (parts : List (List ℕ)) → OnlyLastMayBeUnended (numbered n parts)
-numbered_ended n [] = tt
-numbered_ended n ([] ∷ []) = tt
-numbered_ended n ((b ∷ part) ∷ []) = rw (last_line n b part) (omega arith)
-numbered_ended n (part ∷ [] ∷ []) = tt
-numbered_ended n (part ∷ (b ∷ next) ∷ []) = rw (last_line (n + 1) b next) (refl, omega arith)
-numbered_ended n (part ∷ next ∷ third ∷ more) = (refl, numbered_ended (n + 1) (next ∷ third ∷ more))
+numbered-only_last_unended : (n : ℕ) (parts : List (List ℕ)) → OnlyLastMayBeUnended (numbered n parts)
+numbered-only_last_unended n [] = tt
+numbered-only_last_unended n ([] ∷ []) = tt
+numbered-only_last_unended n ((b ∷ part) ∷ []) = rw (numbered-last n b part) (omega arith)
+numbered-only_last_unended n (part ∷ [] ∷ []) = tt
+numbered-only_last_unended n (part ∷ (b ∷ next) ∷ []) = rw (numbered-last (n + 1) b next) (refl, omega arith)
+numbered-only_last_unended n (part ∷ next ∷ third ∷ more) = (refl, numbered-only_last_unended (n + 1) (next ∷ third ∷ more))
 
 -- and so it is of a text
-pub lines_ended : (text : List ℕ) → OnlyLastMayBeUnended (lines_of text)
-lines_ended text = numbered_ended 1 (slice_split (λ b. eqb b 10) text)
+pub lines_of-only_last_unended : (text : List ℕ) → OnlyLastMayBeUnended (lines_of text)
+lines_of-only_last_unended text = numbered-only_last_unended 1 (slice_split (λ b. eqb b 10) text)
 
 -- ---- words
 
@@ -126,33 +126,33 @@ abbrev is_in_word : ℕ → Bool
 is_in_word b = not (eqb b 32)
 
 -- a space before a line changes no word
-skips_one : (b : ℕ) (line : List ℕ) (t : Bool) → eqb b 32 ≡ t
+words_of-drop_space : (b : ℕ) (line : List ℕ) (t : Bool) → eqb b 32 ≡ t
     → words_of (drop (position_or_len is_in_word line) line) ≡ words_of line
     → words_of (drop (position_or_len is_in_word (b ∷ line)) (b ∷ line)) ≡ words_of (b ∷ line)
-skips_one b line t e later = grind (arith, nat_tests)
+words_of-drop_space b line t e later = grind (arith, nat_tests)
 
 -- spaces before a word don't matter
 words_of-drop_spaces : (line : List ℕ)
     → words_of (drop (position_or_len is_in_word line) line) ≡ words_of line
 words_of-drop_spaces [] = refl
-words_of-drop_spaces (b ∷ line) = skips_one b line (eqb b 32) refl (words_of-drop_spaces line)
+words_of-drop_spaces (b ∷ line) = words_of-drop_space b line (eqb b 32) refl (words_of-drop_spaces line)
 
 -- the first word of a line that begins with one: up to the next space, or to the end
-first_word : (line : List ℕ) (o : Option ℕ) → position (λ b. eqb b 32) line ≡ o → 0 < length line
+words_of-at_word : (line : List ℕ) (o : Option ℕ) → position (λ b. eqb b 32) line ≡ o → 0 < length line
     → eqb (get_or line 0 0) 32 ≡ false
     → words_of line ≡ take (unwrap_or o (length line)) line
     ∷ words_of (drop (unwrap_or o (length line)) line)
-first_word line None none some begins =
+words_of-at_word line None none some begins =
     let whole = take_all (length line) line (omega arith) in
     let past = drop_all (length line) line (omega arith) in
-    rw (whole, past, one_part 32 line none, nonempty line some) refl
-first_word line (Some end) at some begins =
+    rw (whole, past, slice_split-not_found 32 line none, length-not_zero line some) refl
+words_of-at_word line (Some end) at some begins =
     let space = position-Some (λ b. eqb b 32) line end 0 at in
     let rest : words_of (drop end line) ≡ words_of (drop (end + 1) line) =
     rw (drop_more line end 0 space.0, space.1) refl in
     let within : 0 < end = grind (arith, nat_tests, space) in
-    let word = nonempty (take end line) (omega (arith, space.0, length-take end line)) in
-    rw (cut_first 32 line end at, rest, word) refl
+    let word = length-not_zero (take end line) (omega (arith, space.0, length-take end line)) in
+    rw (slice_split-found 32 line end at, rest, word) refl
 
 -- the first word of a line: from the first byte that is no space up to the next space, or the end
 pub words_of-word : (line from : List ℕ) (start end : ℕ)
@@ -166,7 +166,7 @@ words_of-word line from start end found from-is end-is =
     let some : 0 < length from = rw byte (omega arith) in
     let skipped = words_of-drop_spaces line in
     rw (← skipped, (cond_some _ _ _ found).1, ← from-is, end-is)
-    (first_word from _ refl some begins)
+    (words_of-at_word from _ refl some begins)
 
 -- a line in which nothing but spaces stands has no word
 pub words_of-spaces : (line : List ℕ) → position (λ b. not (eqb b 32)) line ≡ None

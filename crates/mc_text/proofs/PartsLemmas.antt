@@ -11,31 +11,31 @@ use Rattle.std.specs.Str.{bytes_eq}
 use Rattle.std.proofs.Math.Seq.{take-append-add, take-append_seam, get_or-append_seam}
 use Rattle.std.proofs.lemmas.List.{append-nil, take-append-le, take_all, length-append}
 use Rattle.mc_text.specs.declared.bundle.bundle_fault.BundleFault.TheVariants as faults
-use Rattle.mc_text.specs.PartsReading.{Reads, magic_of, rest_of}
+use Rattle.mc_text.specs.PartsReading.{ReadsAs, magic_of, rest_of_part}
 use Rattle.mc_text.specs.Steps.{◌>>=◌}
 use Rattle.mc_text.specs.BundleReading.{line_at, part_bytes_at}
-use Rattle.mc_text.proofs.BundleWords.{Without, line_again}
-use Rattle.mc_text.proofs.BundlePlaces.{part_bytes_again}
+use Rattle.mc_text.proofs.BundleWords.{HasNoByte, line_at-complete}
+use Rattle.mc_text.proofs.BundlePlaces.{part_bytes_at-complete}
 
 -- what was read into a buffer after what it had
-pub take_filled : (xs ys rest : List ℕ) (n more : ℕ) → n ≤ length xs → more ≤ length ys
+pub take-filled_buffer : (xs ys rest : List ℕ) (n more : ℕ) → n ≤ length xs → more ≤ length ys
     → take (n + more) (take n xs ++ (ys ++ rest)) ≡ take n xs ++ take more ys
-take_filled xs ys rest n more within fits =
+take-filled_buffer xs ys rest n more within fits =
     let long : length (take n xs) ≡ n = omega (arith, length-take n xs) in
     ap (λ k. take (k + more) (take n xs ++ (ys ++ rest))) (sym long)
     ∙ take-append-add (take n xs) (ys ++ rest) more
     ∙ ap (λ l. take n xs ++ l) (take-append-le more ys rest fits)
 
 -- which is no more than the buffer has
-pub filled_within : (xs ys rest : List ℕ) (n more : ℕ) → n ≤ length xs → more ≤ length ys
+pub length-filled_buffer : (xs ys rest : List ℕ) (n more : ℕ) → n ≤ length xs → more ≤ length ys
     → n + more ≤ length (take n xs ++ (ys ++ rest))
-filled_within xs ys rest n more within fits =
+length-filled_buffer xs ys rest n more within fits =
     simp length-append (omega (arith, length-take n xs))
 
 -- the front of a text that was read up to a size, or up to its end
-pub front_is : (text taken later : List ℕ) (size : ℕ) → text ≡ taken ++ later
+pub take-read_bytes : (text taken later : List ℕ) (size : ℕ) → text ≡ taken ++ later
     → length taken ≤ size → (length taken < size → later ≡ []) → take size text ≡ taken
-front_is text taken later size is within end = elim (cases_Bool (ltb (length taken) size)) [
+take-read_bytes text taken later size is within end = elim (cases_Bool (ltb (length taken) size)) [
   | inl less ↦
       let none : later ≡ [] = end (ltb-true (length taken) size less) in
       let whole : text ≡ taken = is ∙ ap (λ l. taken ++ l) none ∙ append-nil taken in
@@ -46,131 +46,131 @@ front_is text taken later size is within end = elim (cases_Bool (ltb (length tak
 ]
 
 -- another first line is none
-pub magic_refused : (old new : Option (List ℕ)) (buffer : List ℕ) (n : ℕ) → length buffer ≡ 17
+pub reads_as-no_magic : (old new : Option (List ℕ)) (buffer : List ℕ) (n : ℕ) → length buffer ≡ 17
     → n ≤ length buffer → Consumes old new (take n buffer) → (n < length buffer → IsAtEnd new)
     → bytes_eq (take n buffer) (codes "mcaudit bundle 1\n") ≡ false
-    → Reads {X = Unit {0}} {Y = Unit {0}} (λ x. x) old new (Err faults.NoMagic) magic_of
-magic_refused None new buffer n size within taken end other = tt
-magic_refused (Some text) None buffer n size within taken end other = absurd taken
-magic_refused (Some text) (Some later) buffer n size within taken end other =
+    → ReadsAs {X = Unit {0}} {Y = Unit {0}} (λ x. x) old new (Err faults.NoMagic) magic_of
+reads_as-no_magic None new buffer n size within taken end other = tt
+reads_as-no_magic (Some text) None buffer n size within taken end other = absurd taken
+reads_as-no_magic (Some text) (Some later) buffer n size within taken end other =
     let long : length (take n buffer) ≡ n = omega (arith, length-take n buffer) in
-    let front : take 17 text ≡ take n buffer = front_is text (take n buffer) later 17 taken
+    let front : take 17 text ≡ take n buffer = take-read_bytes text (take n buffer) later 17 taken
     (omega arith) (λ less. end (omega arith)) in
     rw (front, other) refl
 
 -- ---- lines
 
 -- a byte that isn't in a text has no place there
-position_without : (c : ℕ) (xs : List ℕ) → Without c xs
+position_or_len-absent_byte : (c : ℕ) (xs : List ℕ) → HasNoByte c xs
     → position_or_len (λ b. eqb b c) xs ≡ length xs
-position_without c [] h = refl
-position_without c (x ∷ xs) h = rw h.0 (omega (arith, position_without c xs h.1))
+position_or_len-absent_byte c [] h = refl
+position_or_len-absent_byte c (x ∷ xs) h = rw h.0 (omega (arith, position_or_len-absent_byte c xs h.1))
 
 -- so no line ends there
-no_place : (xs : List ℕ) → Without 10 xs → position (λ b. eqb b 10) xs ≡ None
-no_place xs without = grind (arith, nat_tests, position_without 10 xs without)
+position-absent_byte : (xs : List ℕ) → HasNoByte 10 xs → position (λ b. eqb b 10) xs ≡ None
+position-absent_byte xs without = grind (arith, nat_tests, position_or_len-absent_byte 10 xs without)
 
 -- where the input is at its end, and no line feed came, there is no end
-no_end_at : (text : List ℕ) → Without 10 text → length text < 96 → line_at text ≡ Err faults.NoEnd
+line_at-no_end : (text : List ℕ) → HasNoByte 10 text → length text < 96 → line_at text ≡ Err faults.NoEnd
 unfolding line_at
-no_end_at text without short =
+line_at-no_end text without short =
     let whole : take 96 text ≡ text = take_all 96 text (omega arith) in
-    rw (whole, no_place text without, lt-ltb (length text) 96 short) refl
+    rw (whole, position-absent_byte text without, lt-ltb (length text) 96 short) refl
 
 -- and where 96 bytes came without one
-bad_line_at : (taken later : List ℕ) → Without 10 taken → length taken ≡ 96
+line_at-too_long : (taken later : List ℕ) → HasNoByte 10 taken → length taken ≡ 96
     → line_at (taken ++ later) ≡ Err faults.BadPartLine
 unfolding line_at
-bad_line_at taken later without long =
+line_at-too_long taken later without long =
     let front : take 96 (taken ++ later) ≡ taken =
     ap (λ n. take n (taken ++ later)) (sym long) ∙ take-append_seam taken later in
     let enough : ltb (length (taken ++ later)) 96 ≡ false =
     le-ltb (length (taken ++ later)) 96 (omega (arith, long, length-append taken later)) in
-    rw (front, no_place taken without, enough) refl
+    rw (front, position-absent_byte taken without, enough) refl
 
-pub no_end : {X : Type 0} (view : X → List ℕ) (old mid new : Option (List ℕ)) (taken : List ℕ)
-    → Consumes old mid taken → Consumes mid new [] → IsAtEnd new → Without 10 taken
-    → length taken < 96 → Reads view old new (Err faults.NoEnd) line_at
-no_end view None mid new taken first second end without short = tt
-no_end view (Some text) None new taken first second end without short = absurd first
-no_end view (Some text) (Some between) None taken first second end without short = absurd second
-no_end view (Some text) (Some between) (Some later) taken first second end without short =
+pub reads_as-no_end : {X : Type 0} (view : X → List ℕ) (old mid new : Option (List ℕ)) (taken : List ℕ)
+    → Consumes old mid taken → Consumes mid new [] → IsAtEnd new → HasNoByte 10 taken
+    → length taken < 96 → ReadsAs view old new (Err faults.NoEnd) line_at
+reads_as-no_end view None mid new taken first second end without short = tt
+reads_as-no_end view (Some text) None new taken first second end without short = absurd first
+reads_as-no_end view (Some text) (Some between) None taken first second end without short = absurd second
+reads_as-no_end view (Some text) (Some between) (Some later) taken first second end without short =
     let whole : text ≡ taken =
     first ∙ ap (λ l. taken ++ l) (second ∙ end) ∙ append-nil taken in
-    ap line_at whole ∙ no_end_at taken without short
+    ap line_at whole ∙ line_at-no_end taken without short
 
-pub bad_line : {X : Type 0} (view : X → List ℕ) (old new : Option (List ℕ)) (taken : List ℕ)
-    → Consumes old new taken → Without 10 taken → length taken ≡ 96
-    → Reads view old new (Err faults.BadPartLine) line_at
-bad_line view None new taken first without long = tt
-bad_line view (Some text) None taken first without long = absurd first
-bad_line view (Some text) (Some later) taken first without long =
-    ap line_at first ∙ bad_line_at taken later without long
+pub reads_as-line_too_long : {X : Type 0} (view : X → List ℕ) (old new : Option (List ℕ)) (taken : List ℕ)
+    → Consumes old new taken → HasNoByte 10 taken → length taken ≡ 96
+    → ReadsAs view old new (Err faults.BadPartLine) line_at
+reads_as-line_too_long view None new taken first without long = tt
+reads_as-line_too_long view (Some text) None taken first without long = absurd first
+reads_as-line_too_long view (Some text) (Some later) taken first without long =
+    ap line_at first ∙ line_at-too_long taken later without long
 
 -- a line that a line feed ends
-pub whole_line : {X : Type 0} (view : X → List ℕ) (old mid new : Option (List ℕ)) (x : X)
+pub reads_as-line : {X : Type 0} (view : X → List ℕ) (old mid new : Option (List ℕ)) (x : X)
     (taken : List ℕ) → view x ≡ taken → Consumes old mid taken → Consumes mid new (10 ∷ [])
-    → Without 10 taken → length taken < 96 → Reads view old new (Ok x) line_at
-whole_line view None mid new x taken is first second without short = tt
-whole_line view (Some text) None new x taken is first second without short = absurd first
-whole_line view (Some text) (Some between) None x taken is first second without short = absurd second
-whole_line view (Some text) (Some between) (Some later) x taken is first second without short =
-    ap line_at (first ∙ ap (λ l. taken ++ l) second) ∙ line_again taken later without short
+    → HasNoByte 10 taken → length taken < 96 → ReadsAs view old new (Ok x) line_at
+reads_as-line view None mid new x taken is first second without short = tt
+reads_as-line view (Some text) None new x taken is first second without short = absurd first
+reads_as-line view (Some text) (Some between) None x taken is first second without short = absurd second
+reads_as-line view (Some text) (Some between) (Some later) x taken is first second without short =
+    ap line_at (first ∙ ap (λ l. taken ++ l) second) ∙ line_at-complete taken later without short
     ∙ ap (λ (t : List ℕ). Ok (t, later)) (sym is)
 
 -- ---- what is left of a part
 
 -- too little is left
-truncated_at : (left : ℕ) (text : List ℕ) → length text ≤ left
-    → rest_of left text ≡ Err faults.Truncated
+rest_of_part-truncated : (left : ℕ) (text : List ℕ) → length text ≤ left
+    → rest_of_part left text ≡ Err faults.Truncated
 unfolding part_bytes_at
-truncated_at left text less = rw (le-leb (length text) left less) refl
+rest_of_part-truncated left text less = rw (le-leb (length text) left less) refl
 
-pub rest_truncated : (old mid new : Option (List ℕ)) (left : ℕ) (bytes more : List ℕ)
+pub reads_as-rest_truncated : (old mid new : Option (List ℕ)) (left : ℕ) (bytes more : List ℕ)
     → Consumes old mid bytes → Consumes mid new more → IsAtEnd new
     → length bytes + length more ≤ left
-    → Reads {X = Unit {0}} {Y = Unit {0}} (λ x. x) old new (Err faults.Truncated) (rest_of left)
-rest_truncated None mid new left bytes more first second end less = tt
-rest_truncated (Some text) None new left bytes more first second end less = absurd first
-rest_truncated (Some text) (Some between) None left bytes more first second end less = absurd second
-rest_truncated (Some text) (Some between) (Some later) left bytes more first second end less =
+    → ReadsAs {X = Unit {0}} {Y = Unit {0}} (λ x. x) old new (Err faults.Truncated) (rest_of_part left)
+reads_as-rest_truncated None mid new left bytes more first second end less = tt
+reads_as-rest_truncated (Some text) None new left bytes more first second end less = absurd first
+reads_as-rest_truncated (Some text) (Some between) None left bytes more first second end less = absurd second
+reads_as-rest_truncated (Some text) (Some between) (Some later) left bytes more first second end less =
     let whole : text ≡ bytes ++ more =
     first ∙ ap (λ l. bytes ++ l) (second ∙ ap (λ l. more ++ l) end ∙ append-nil more) in
-    truncated_at left text (rw whole (omega (arith, less, length-append bytes more)))
+    rest_of_part-truncated left text (rw whole (omega (arith, less, length-append bytes more)))
 
 -- the rest stands there
-pub rest_whole : (old mid new : Option (List ℕ)) (left : ℕ) (bytes : List ℕ) (u : Unit {0})
+pub reads_as-rest : (old mid new : Option (List ℕ)) (left : ℕ) (bytes : List ℕ) (u : Unit {0})
     → Consumes old mid bytes → Consumes mid new (10 ∷ []) → length bytes ≡ left
-    → Reads {X = Unit {0}} {Y = Unit {0}} (λ x. x) old new (Ok u) (rest_of left)
-rest_whole None mid new left bytes u first second long = tt
-rest_whole (Some text) None new left bytes u first second long = absurd first
-rest_whole (Some text) (Some between) None left bytes u first second long = absurd second
-rest_whole (Some text) (Some between) (Some later) left bytes u first second long =
+    → ReadsAs {X = Unit {0}} {Y = Unit {0}} (λ x. x) old new (Ok u) (rest_of_part left)
+reads_as-rest None mid new left bytes u first second long = tt
+reads_as-rest (Some text) None new left bytes u first second long = absurd first
+reads_as-rest (Some text) (Some between) None left bytes u first second long = absurd second
+reads_as-rest (Some text) (Some between) (Some later) left bytes u first second long =
     let whole : text ≡ bytes ++ (10 ∷ later) = first ∙ ap (λ l. bytes ++ l) second in
-    ap (rest_of left) whole ∙ ap (λ n. rest_of n (bytes ++ (10 ∷ later))) (sym long)
-    ∙ ap (λ r. r >>= λ found. Ok (tt, found.1)) (part_bytes_again bytes later)
+    ap (rest_of_part left) whole ∙ ap (λ n. rest_of_part n (bytes ++ (10 ∷ later))) (sym long)
+    ∙ ap (λ r. r >>= λ found. Ok (tt, found.1)) (part_bytes_at-complete bytes later)
 
 -- another byte than a line feed stands after it
-other_at : (bytes later : List ℕ) (b : ℕ) → eqb b 10 ≡ false
-    → rest_of (length bytes) (bytes ++ b ∷ later) ≡ Err faults.BadPartLine
+rest_of_part-other_byte : (bytes later : List ℕ) (b : ℕ) → eqb b 10 ≡ false
+    → rest_of_part (length bytes) (bytes ++ b ∷ later) ≡ Err faults.BadPartLine
 unfolding part_bytes_at
-other_at bytes later b other =
+rest_of_part-other_byte bytes later b other =
     let longer : leb (length (bytes ++ b ∷ later)) (length bytes) ≡ false =
     lt-leb (length (bytes ++ b ∷ later)) (length bytes)
     (omega (arith, length-append bytes (b ∷ later))) in
     rw (longer, get_or-append_seam bytes b later 0, other) refl
 
-pub rest_other : (old mid new : Option (List ℕ)) (left : ℕ) (bytes : List ℕ) (b : ℕ)
+pub reads_as-rest_other_byte : (old mid new : Option (List ℕ)) (left : ℕ) (bytes : List ℕ) (b : ℕ)
     → Consumes old mid bytes → Consumes mid new (b ∷ []) → length bytes ≡ left → eqb b 10 ≡ false
-    → Reads {X = Unit {0}} {Y = Unit {0}} (λ x. x) old new (Err faults.BadPartLine) (rest_of left)
-rest_other None mid new left bytes b first second long other = tt
-rest_other (Some text) None new left bytes b first second long other = absurd first
-rest_other (Some text) (Some between) None left bytes b first second long other = absurd second
-rest_other (Some text) (Some between) (Some later) left bytes b first second long other =
+    → ReadsAs {X = Unit {0}} {Y = Unit {0}} (λ x. x) old new (Err faults.BadPartLine) (rest_of_part left)
+reads_as-rest_other_byte None mid new left bytes b first second long other = tt
+reads_as-rest_other_byte (Some text) None new left bytes b first second long other = absurd first
+reads_as-rest_other_byte (Some text) (Some between) None left bytes b first second long other = absurd second
+reads_as-rest_other_byte (Some text) (Some between) (Some later) left bytes b first second long other =
     let whole : text ≡ bytes ++ (b ∷ later) = first ∙ ap (λ l. bytes ++ l) second in
-    ap (rest_of left) whole ∙ ap (λ n. rest_of n (bytes ++ (b ∷ later))) (sym long)
-    ∙ other_at bytes later b other
+    ap (rest_of_part left) whole ∙ ap (λ n. rest_of_part n (bytes ++ (b ∷ later))) (sym long)
+    ∙ rest_of_part-other_byte bytes later b other
 
 -- a number is another one, as a test
-pub differs : (a b : ℕ) → (a ≡ b → ⊥) → eqb a b ≡ false
-differs a b other = grind (arith, nat_tests)
+pub eqb-of_distinct : (a b : ℕ) → (a ≡ b → ⊥) → eqb a b ≡ false
+eqb-of_distinct a b other = grind (arith, nat_tests)

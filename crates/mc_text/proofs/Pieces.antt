@@ -13,30 +13,30 @@ use Rattle.std.proofs.lemmas.List.Folds.{flat_map-map}
 use Rattle.std.proofs.lemmas.Result.{on_err_weaker}
 use Rattle.mc_text.specs.declared.bundle.part.Part.{Part}
 use Rattle.mc_text.specs.Bundle.{PartText, IsPartName, part_spelling, bundle_spelling, max_part}
-use Rattle.mc_text.specs.Device.{AppendsPart}
+use Rattle.mc_text.specs.Device.{AppendsProperPrefix}
 use Rattle.mc_text.specs.BundleView.{part_text, part_texts}
 
 -- ---- a list's pieces
 
 module _ {X : Type 0} (f : X → List ℕ) (xs : List X) (i : ℕ) (d : X) where
   -- the pieces up to one, which is the last of them
-  pieces_more : i < length xs
+  flat_map-take_more : i < length xs
       → flat_map f (take (i + 1) xs) ≡ flat_map f (take i xs) ++ f (get_or xs i d)
-  pieces_more within = rw (take_more xs i d within) (simp (flat_map-append, append-nil))
+  flat_map-take_more within = rw (take_more xs i d within) (simp (flat_map-append, append-nil))
 
   -- the pieces before one, that one, and those after it
-  pub pieces_at : i < length xs
+  pub flat_map-split_at : i < length xs
       → flat_map f xs ≡ flat_map f (take i xs)
       ++ (f (get_or xs i d) ++ flat_map f (drop (i + 1) xs))
-  pieces_at within = ap (flat_map f) (sym (take-append-drop i xs))
+  flat_map-split_at within = ap (flat_map f) (sym (take-append-drop i xs))
       ∙ rw (drop_more xs i d within) (flat_map-append f (take i xs) _)
 
 -- ---- what was written
 
 -- the front was written, and a part of the text after it
-pub part_of : (a b c : Option (List ℕ)) (front text rest whole : List ℕ) → Appends a b front
-    → AppendsPart b c text → whole ≡ front ++ (text ++ rest) → AppendsPart a c whole
-part_of a b c front text rest whole first (k, short, taken) is =
+pub appends_prefix-after_front : (a b c : Option (List ℕ)) (front text rest whole : List ℕ) → Appends a b front
+    → AppendsProperPrefix b c text → whole ≡ front ++ (text ++ rest) → AppendsProperPrefix a c whole
+appends_prefix-after_front a b c front text rest whole first (k, short, taken) is =
     let size = simp length-append at (ap length is) in
     let cut : take (length front + k) whole ≡ front ++ take k text =
     let part = take-append-le k text rest (omega arith) in
@@ -48,59 +48,59 @@ pub OnErr-from : {X E : Type 0} (r : Result X E) (P : Type 0) → P → OnErr r 
 OnErr-from r P p = grind arith
 
 -- what a last call leaves, where its text ends the whole
-pub last_part : {X E : Type 0} (r : Result X E) (a b c : Option (List ℕ))
-    (front text whole : List ℕ) → Appends a b front → OnErr r (AppendsPart b c text)
-    → whole ≡ front ++ text → OnErr r (AppendsPart a c whole)
-last_part r a b c front text whole first h is = on_err_weaker r (λ cut. part_of a b c front text []
+pub appends_prefix-last : {X E : Type 0} (r : Result X E) (a b c : Option (List ℕ))
+    (front text whole : List ℕ) → Appends a b front → OnErr r (AppendsProperPrefix b c text)
+    → whole ≡ front ++ text → OnErr r (AppendsProperPrefix a c whole)
+appends_prefix-last r a b c front text whole first h is = on_err_weaker r (λ cut. appends_prefix-after_front a b c front text []
     whole first cut (is ∙ ap (λ (l : List ℕ). front ++ l) (sym (append-nil text)))) h
 
 -- ---- the bundle of the parts
 
 -- the parts are small and named, and the bundle of them has this size
-pub record AreSmall (texts : List PartText) (total : ℕ) : Type 0 where
+pub record IsSizeSoFar (texts : List PartText) (total : ℕ) : Type 0 where
   pub size : total ≡ 21 + length (flat_map part_spelling texts)
   pub sizes : AllByRecursion (λ part. length part.bytes ≤ max_part) texts
   pub names : AllByRecursion (λ part. IsPartName part.name) texts
 
 -- parts of which one is too long are not within the limits
-pub part_passed : (parts : List Part) (i : ℕ) (d : Part) → i < length parts
+pub part_too_large : (parts : List Part) (i : ℕ) (d : Part) → i < length parts
     → max_part < length (get_or parts i d).bytes.now
     → AllByRecursion (λ part. length part.bytes ≤ max_part) (part_texts parts) → ⊥
-part_passed [] i d within wide small = absurd (omega arith)
-part_passed (part ∷ parts) zero d within wide small = omega (arith, wide, small.0)
-part_passed (part ∷ parts) (suc i) d within wide small =
-    part_passed parts i d (omega arith) wide small.1
+part_too_large [] i d within wide small = absurd (omega arith)
+part_too_large (part ∷ parts) zero d within wide small = omega (arith, wide, small.0)
+part_too_large (part ∷ parts) (suc i) d within wide small =
+    part_too_large parts i d (omega arith) wide small.1
 
 -- how a part in memory is spelled
 abbrev pub spelled : Part → List ℕ
 spelled part = part_spelling (part_text part)
 
 -- the first line, and the first parts
-abbrev pub front_of : List Part → List ℕ
-front_of parts = codes "mcaudit bundle 1\n" ++ flat_map spelled parts
+abbrev pub front_of_bundle : List Part → List ℕ
+front_of_bundle parts = codes "mcaudit bundle 1\n" ++ flat_map spelled parts
 
 -- the bundle is the first line, all parts and the last line
-pub front_end : (parts : List Part)
-    → bundle_spelling (part_texts parts) ≡ front_of parts ++ codes "end\n"
-front_end parts = rw (flat_map-map part_spelling part_text parts) refl
+pub bundle_spelling-front_of_bundle : (parts : List Part)
+    → bundle_spelling (part_texts parts) ≡ front_of_bundle parts ++ codes "end\n"
+bundle_spelling-front_of_bundle parts = rw (flat_map-map part_spelling part_text parts) refl
 
 -- a text cut before and after one piece, with another text after it
-piece_then_last : (before text after last : List ℕ)
+append-piece_then_last : (before text after last : List ℕ)
     → (before ++ (text ++ after)) ++ last ≡ before ++ (text ++ (after ++ last))
-piece_then_last before text after last = simp append_assoc
+append-piece_then_last before text after last = simp append_assoc
 
 module _ (parts : List Part) (i : ℕ) (part : Part) where
   -- the front that one more part makes
-  pub front_more : i < length parts → part ≡ get_or parts i part
-      → front_of (take i parts) ++ spelled part ≡ front_of (take (i + 1) parts)
-  front_more within is = rw (pieces_more spelled parts i part within, ← is)
+  pub front_of_bundle_more : i < length parts → part ≡ get_or parts i part
+      → front_of_bundle (take i parts) ++ spelled part ≡ front_of_bundle (take (i + 1) parts)
+  front_of_bundle_more within is = rw (flat_map-take_more spelled parts i part within, ← is)
       (append_assoc (codes "mcaudit bundle 1\n") (flat_map spelled (take i parts)) (spelled part))
 
   -- what stands before a part, the part, and what stands after it
-  pub front_part : i < length parts → part ≡ get_or parts i part
-      → bundle_spelling (part_texts parts) ≡ front_of (take i parts)
+  pub bundle_spelling-split_at_part : i < length parts → part ≡ get_or parts i part
+      → bundle_spelling (part_texts parts) ≡ front_of_bundle (take i parts)
       ++ (spelled part ++ (flat_map spelled (drop (i + 1) parts) ++ codes "end\n"))
-  front_part within is = front_end parts
-      ∙ rw (pieces_at spelled parts i part within, ← is)
+  bundle_spelling-split_at_part within is = bundle_spelling-front_of_bundle parts
+      ∙ rw (flat_map-split_at spelled parts i part within, ← is)
       (ap (λ (l : List ℕ). codes "mcaudit bundle 1\n" ++ l)
-      (piece_then_last (flat_map spelled (take i parts)) (spelled part) _ (codes "end\n")))
+      (append-piece_then_last (flat_map spelled (take i parts)) (spelled part) _ (codes "end\n")))

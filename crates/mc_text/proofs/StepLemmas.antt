@@ -7,12 +7,12 @@ use Rattle.mc_text.specs.Steps.{◌>>=◌}
 
 module _ {A E : Type 0} where
   -- a value that was answered is the one answered
-  pub ok_is : (x y : A) → (let r : Result A E = Ok x in r) ≡ Ok y → x ≡ y
-  ok_is x y e = cc
+  pub ok_injective : (x y : A) → (let r : Result A E = Ok x in r) ≡ Ok y → x ≡ y
+  ok_injective x y e = cc
 
   -- a fault that was answered is the one answered
-  pub err_is : {x y : E} → (let r : Result A E = Err x in r) ≡ Err y → x ≡ y
-  err_is e = cc
+  pub err_injective : {x y : E} → (let r : Result A E = Err x in r) ≡ Err y → x ≡ y
+  err_injective e = cc
 
   -- the value of a first step, where the second gave one too
   pub bind_ok : {B : Type 0} (r : Result A E) (f : A → Result B E) (y : B) → (r >>= f) ≡ Ok y
@@ -30,9 +30,9 @@ module _ {A E : Type 0} where
   ok_or_ok (Some y) d x e = cc
 
   -- what follows from what an answer brings comes with it
-  pub on_ok : {P Q : Type 0} (r : Result A E) → OnOk r P → (P → Q) → OnOk r Q
-  on_ok (Ok x) there then = then there
-  on_ok (Err e) there then = tt
+  pub on_ok_map : {P Q : Type 0} (r : Result A E) → OnOk r P → (P → Q) → OnOk r Q
+  on_ok_map (Ok x) there then = then there
+  on_ok_map (Err e) there then = tt
 
   -- what was read before, and what is still read
   abbrev pub with_front : List A → Result (List A) E → Result (List A) E
@@ -50,10 +50,10 @@ module _ {A E : Type 0} where
 module _ {A : Type 0} where
   -- an answer for which P and Q hold, and which comes wherever they do, is the function's value,
   -- where that is the one value for which they hold
-  pub one_answer : (P Q : A → Type 0) (answer value : Option A) → IfSome answer P → IfSome answer Q
+  pub answer_is_value : (P Q : A → Type 0) (answer value : Option A) → IfSome answer P → IfSome answer Q
       → ((x : A) → P x → Q x → answer ≡ Some x) → ((x : A) → value ≡ Some x → P x × Q x)
       → ((x : A) → P x → Q x → value ≡ Some x) → answer ≡ value
-  one_answer P Q (Some x) value p q only found again = sym (again x p q)
-  one_answer P Q None None p q only found again = refl
-  one_answer P Q None (Some x) p q only found again =
+  answer_is_value P Q (Some x) value p q only found again = sym (again x p q)
+  answer_is_value P Q None None p q only found again = refl
+  answer_is_value P Q None (Some x) p q only found again =
       let holds = found x refl in only x holds.0 holds.1

@@ -17,15 +17,15 @@ abbrev pub numbers_between_dots : List ℕ → List ℕ
 numbers_between_dots text = map (digits_value 10) (slice_split (λ b. b == 46) text)
 
 -- the address with these octets, if they are four and the text is how they are written
-abbrev pub address_written : List ℕ → List ℕ → Option ℕ
-address_written text octets =
+abbrev pub address_if_dotted : List ℕ → List ℕ → Option ℕ
+address_if_dotted text octets =
     if (length octets == 4) && list_all (λ n. nat_lt n 256) octets
     && bytes_eq (ipv4_text octets) text
     then Some (from_be_bytes w32 octets) else None
 
 -- the address that a dotted text writes
 unfoldable pub address_of_text : List ℕ → Option ℕ
-address_of_text text = address_written text (numbers_between_dots text)
+address_of_text text = address_if_dotted text (numbers_between_dots text)
 
 -- ---- a kernel's words
 

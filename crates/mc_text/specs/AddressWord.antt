@@ -20,5 +20,5 @@ abbrev pub IsAddressWord : Order → List ℕ → ℕ → Type 0
 IsAddressWord order word a = decode_of word ≡ Ok (printed_octets order a)
 
 -- the value of a digit of either case, or 16
-abbrev pub value_or_16 : ℕ → ℕ
-value_or_16 c = unwrap_or (hex_digit_value c) 16
+abbrev pub hex_value_or_16 : ℕ → ℕ
+hex_value_or_16 c = unwrap_or (hex_digit_value c) 16

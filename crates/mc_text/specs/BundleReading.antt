@@ -56,17 +56,17 @@ cut_words words None = None
 cut_words words (Some n) = name_and_length (take n words) (drop (n + 1) words)
 
 -- the name and the length that a part line says after its `part `, parted by its first space
-unfoldable pub words_said : List ℕ → Option (List ℕ × ℕ)
-words_said words = cut_words words (position (λ b. b == 32) words)
+unfoldable pub parse_name_and_length : List ℕ → Option (List ℕ × ℕ)
+parse_name_and_length words = cut_words words (position (λ b. b == 32) words)
 
 -- the name and the length that a line says, if it is a part line
-unfoldable pub part_said : List ℕ → Option (List ℕ × ℕ)
-part_said line = if bytes_eq (take 5 line) (codes "part ") then words_said (drop 5 line) else None
+unfoldable pub parse_part_line : List ℕ → Option (List ℕ × ℕ)
+parse_part_line line = if bytes_eq (take 5 line) (codes "part ") then parse_name_and_length (drop 5 line) else None
 
 -- ---- places
 
 -- where reading stands: how many parts and how many bytes may still come, and the bytes that do
-pub record Place : Type 0 where
+pub record BundlePlace : Type 0 where
   pub parts : ℕ
   pub room : ℕ
   pub rest : List ℕ
@@ -83,51 +83,51 @@ abbrev pub part_room : List ℕ → ℕ → ℕ
 part_room line size = length line + 1 + (size + 1)
 
 -- whether no part may come, or none of this size with this line
-abbrev pub is_too_large : Place → List ℕ → ℕ → Bool
+abbrev pub is_too_large : BundlePlace → List ℕ → ℕ → Bool
 is_too_large place line size =
     (place.parts == 0) || nat_lt max_part size || nat_lt place.room (part_room line size)
 
 -- the place after a part that takes this room, where these bytes come
-abbrev pub place_after : Place → ℕ → List ℕ → Place
+abbrev pub place_after : BundlePlace → ℕ → List ℕ → BundlePlace
 place_after place taken rest =
     record { parts = place.parts - 1; room = place.room - taken; rest = rest }
 
 -- the part whose line says this name and length, and the place after it
-abbrev pub part_place : Place → List ℕ → List ℕ → Option (List ℕ × ℕ)
-    → Result (Option (PartText × Place)) BundleFault
-part_place place line after None = Err faults.BadPartLine
-part_place place line after (Some said) =
-    if is_too_large place line said.1 then Err faults.TooLarge
-    else (part_bytes_at said.1 after >>= λ found.
-    let part : PartText = record { name = said.0; bytes = found.0 } in
-    Ok (Some (part, place_after place (part_room line said.1) found.1)))
+abbrev pub part_for_line : BundlePlace → List ℕ → List ℕ → Option (List ℕ × ℕ)
+    → Result (Option (PartText × BundlePlace)) BundleFault
+part_for_line place line after None = Err faults.BadPartLine
+part_for_line place line after (Some header) =
+    if is_too_large place line header.1 then Err faults.TooLarge
+    else (part_bytes_at header.1 after >>= λ found.
+    let part : PartText = record { name = header.0; bytes = found.0 } in
+    Ok (Some (part, place_after place (part_room line header.1) found.1)))
 
 -- the end, whose line takes four bytes and is the last
-abbrev pub end_place : Place → List ℕ → Result (Option (PartText × Place)) BundleFault
-end_place place after =
+abbrev pub end_for_line : BundlePlace → List ℕ → Result (Option (PartText × BundlePlace)) BundleFault
+end_for_line place after =
     if nat_lt place.room 4 then Err faults.TooLarge
     else if length after == 0 then Ok None
     else Err faults.AfterEnd
 
 -- the part at a place, and the place after it, or nothing at the end
-unfoldable pub place_of : Place → Result (Option (PartText × Place)) BundleFault
-place_of place =
+unfoldable pub next_part_from : BundlePlace → Result (Option (PartText × BundlePlace)) BundleFault
+next_part_from place =
     line_at place.rest >>= λ cut.
-    if bytes_eq cut.0 (codes "end") then end_place place cut.1
-    else part_place place cut.0 cut.1 (part_said cut.0)
+    if bytes_eq cut.0 (codes "end") then end_for_line place cut.1
+    else part_for_line place cut.0 cut.1 (parse_part_line cut.0)
 
 -- the part at a place, and those after it
-abbrev pub with_next : Option (PartText × Place) → (Place → Result (List PartText) BundleFault)
+abbrev pub with_parts_after : Option (PartText × BundlePlace) → (BundlePlace → Result (List PartText) BundleFault)
     → Result (List PartText) BundleFault
-with_next None next = Ok []
-with_next (Some found) next = next found.1 >>= λ parts. Ok (found.0 ∷ parts)
+with_parts_after None next = Ok []
+with_parts_after (Some found) next = next found.1 >>= λ parts. Ok (found.0 ∷ parts)
 
 -- the parts from a place on, where so many parts and so many bytes may come
 unfoldable pub parts_from : ℕ → ℕ → List ℕ → Result (List PartText) BundleFault
-parts_from zero room rest = place_of (record { parts = 0; room = room; rest = rest }) >>= λ _. Ok []
+parts_from zero room rest = next_part_from (record { parts = 0; room = room; rest = rest }) >>= λ _. Ok []
 parts_from (suc n) room rest =
-    place_of (record { parts = suc n; room = room; rest = rest }) >>= λ found.
-    with_next found (λ place. parts_from n place.room place.rest)
+    next_part_from (record { parts = suc n; room = room; rest = rest }) >>= λ found.
+    with_parts_after found (λ place. parts_from n place.room place.rest)
 
 -- the parts of a bundle, which begins with a line of 17 bytes
 unfoldable pub bundle_of : List ℕ → Result (List PartText) BundleFault

@@ -7,37 +7,37 @@ use Rattle.mc_text.specs.declared.io.device.DeviceFault.{DeviceFault}
 
 pub record InputState : Type 0 where
   -- the bytes that it still gives, where the reader tells them
-  pub told : Option (List ℕ)
+  pub remaining : Option (List ℕ)
   -- how many calls failed
   pub failed : ℕ
 
 pub record OutputState : Type 0 where
   -- the bytes that it took, where the writer tells them
-  pub took : Option (List ℕ)
+  pub written : Option (List ℕ)
   -- how many calls failed
   pub failed : ℕ
 
 -- a read fails where it answers an error
-abbrev pub failed_by_read : Result ℕ DeviceFault → ℕ → ℕ
-failed_by_read (Ok n) before = before
-failed_by_read (Err e) before = before + 1
+abbrev pub failures_after_read : Result ℕ DeviceFault → ℕ → ℕ
+failures_after_read (Ok n) before = before
+failures_after_read (Err e) before = before + 1
 
 -- a write fails where it answers an error, and where it takes no byte of a text that has one
-abbrev pub failed_by_write : Result ℕ DeviceFault → List ℕ → ℕ → ℕ
-failed_by_write (Ok n) text before =
+abbrev pub failures_after_write : Result ℕ DeviceFault → List ℕ → ℕ → ℕ
+failures_after_write (Ok n) text before =
     if (n == 0) && nat_lt 0 (length text) then before + 1 else before
-failed_by_write (Err e) text before = before + 1
+failures_after_write (Err e) text before = before + 1
 
 -- A call that ends with the first failure adds one failure of the device where its fault is the
 -- device's own, and none else.
-abbrev pub counted : {X E : Type 0} → (E → Bool) → Result X E → ℕ → ℕ
-counted is_own (Ok x) before = before
-counted is_own (Err e) before = cond (is_own e) (before + 1) before
+abbrev pub failures_after : {X E : Type 0} → (E → Bool) → Result X E → ℕ → ℕ
+failures_after is_own (Ok x) before = before
+failures_after is_own (Err e) before = cond (is_own e) (before + 1) before
 
 -- each fault of a device is its own
 abbrev pub is_failure : DeviceFault → Bool
 is_failure e = true
 
 -- a proper part of the text was taken, from its front
-abbrev pub AppendsPart : Option (List ℕ) → Option (List ℕ) → List ℕ → Type 0
-AppendsPart old new text = (k : ℕ) × (k < length text) × Appends old new (take k text)
+abbrev pub AppendsProperPrefix : Option (List ℕ) → Option (List ℕ) → List ℕ → Type 0
+AppendsProperPrefix old new text = (k : ℕ) × (k < length text) × Appends old new (take k text)

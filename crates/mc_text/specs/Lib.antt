@@ -14,8 +14,8 @@ pub mod Number
 pub mod Pair
 pub mod PartName
 pub mod PartsReading
-pub mod PartsSpending
-pub mod PartsToCome
+pub mod PartsLimits
+pub mod RestOfBundle
 pub mod BundleView
 pub mod ReadFault
 pub mod Steps

@@ -36,8 +36,8 @@ abbrev pub spelling : LineText → List ℕ
 spelling line = if line.ended then line.bytes ++ 10 ∷ [] else line.bytes
 
 -- the text that the lines make
-abbrev pub joined : List LineText → List ℕ
-joined lines = flat_map spelling lines
+abbrev pub join_lines : List LineText → List ℕ
+join_lines lines = flat_map spelling lines
 
 -- a line feed never stands within a line
 abbrev pub HasNoLineFeed : LineText → Type 0

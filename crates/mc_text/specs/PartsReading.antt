@@ -11,7 +11,7 @@ use Rattle.mc_text.specs.declared.bundle.stage.Stage.TheVariants as stages
 use Rattle.mc_text.specs.declared.bundle.stage.OpenPart.{OpenPart}
 use Rattle.mc_text.specs.Steps.{◌>>=◌}
 use Rattle.mc_text.specs.Bundle.{PartText, max_part, max_parts, max_bundle}
-use Rattle.mc_text.specs.BundleReading.{line_at, part_said, part_bytes_at, is_too_large}
+use Rattle.mc_text.specs.BundleReading.{line_at, parse_part_line, part_bytes_at, is_too_large}
 use Rattle.mc_text.specs.BundleReading.{part_room, parts_from, bundle_of}
 
 -- whether the fault is a read that failed
@@ -22,13 +22,13 @@ is_read fault = false
 -- What a function answered, seen by view, and the bytes that the input gives after it, are what
 -- reading those before it gives. An input that failed says nothing of them, nor does one that
 -- doesn't tell its bytes.
-abbrev pub Reads : {X Y : Type 0} → (X → Y) → Option (List ℕ) → Option (List ℕ)
+abbrev pub ReadsAs : {X Y : Type 0} → (X → Y) → Option (List ℕ) → Option (List ℕ)
     → Result X BundleFault → (List ℕ → Result (Y × List ℕ) BundleFault) → Type 0
-Reads view None new answer read = Unit {0}
-Reads view (Some text) new (Err faults.Read) read = Unit {0}
-Reads view (Some text) new (Err fault) read = read text ≡ Err fault
-Reads view (Some text) None (Ok x) read = ⊥
-Reads view (Some text) (Some later) (Ok x) read = read text ≡ Ok (view x, later)
+ReadsAs view None new answer read = Unit {0}
+ReadsAs view (Some text) new (Err faults.Read) read = Unit {0}
+ReadsAs view (Some text) new (Err fault) read = read text ≡ Err fault
+ReadsAs view (Some text) None (Ok x) read = ⊥
+ReadsAs view (Some text) (Some later) (Ok x) read = read text ≡ Ok (view x, later)
 
 -- the first line
 abbrev pub magic_of : List ℕ → Result (Unit {0} × List ℕ) BundleFault
@@ -37,47 +37,47 @@ magic_of text =
     else Err faults.NoMagic
 
 -- the rest of a part, of which so many bytes are left, and its line feed
-abbrev pub rest_of : ℕ → List ℕ → Result (Unit {0} × List ℕ) BundleFault
-rest_of left text = part_bytes_at left text >>= λ found. Ok (tt, found.1)
+abbrev pub rest_of_part : ℕ → List ℕ → Result (Unit {0} × List ℕ) BundleFault
+rest_of_part left text = part_bytes_at left text >>= λ found. Ok (tt, found.1)
 
 -- the part whose line says this name and length, where so many parts and bytes may come
-abbrev pub part_opened : ℕ → ℕ → List ℕ → Option (List ℕ × ℕ) → Result OpenPart BundleFault
-part_opened parts room line None = Err faults.BadPartLine
-part_opened parts room line (Some said) =
-    if is_too_large (record { parts = parts; room = room; rest = [] }) line said.1
+abbrev pub opened_part : ℕ → ℕ → List ℕ → Option (List ℕ × ℕ) → Result OpenPart BundleFault
+opened_part parts room line None = Err faults.BadPartLine
+opened_part parts room line (Some header) =
+    if is_too_large (record { parts = parts; room = room; rest = [] }) line header.1
     then Err faults.TooLarge
     else Ok (record {
-      name = said.0;
-      size = said.1;
+      name = header.0;
+      size = header.1;
       parts = parts - 1;
-      room = room - part_room line said.1;
+      room = room - part_room line header.1;
     })
 
 -- the end
-abbrev pub end_opened : ℕ → List ℕ → Result (Option OpenPart × List ℕ) BundleFault
-end_opened room after =
+abbrev pub opened_end : ℕ → List ℕ → Result (Option OpenPart × List ℕ) BundleFault
+opened_end room after =
     if nat_lt room 4 then Err faults.TooLarge
     else if length after == 0 then Ok (None, after)
     else Err faults.AfterEnd
 
 -- what a line opens, and the bytes after it
-abbrev pub line_opens : ℕ → ℕ → List ℕ × List ℕ → Result (Option OpenPart × List ℕ) BundleFault
-line_opens parts room cut =
-    if bytes_eq cut.0 (codes "end") then end_opened room cut.1
-    else (part_opened parts room cut.0 (part_said cut.0) >>= λ part. Ok (Some part, cut.1))
+abbrev pub opened_by_line : ℕ → ℕ → List ℕ × List ℕ → Result (Option OpenPart × List ℕ) BundleFault
+opened_by_line parts room cut =
+    if bytes_eq cut.0 (codes "end") then opened_end room cut.1
+    else (opened_part parts room cut.0 (parse_part_line cut.0) >>= λ part. Ok (Some part, cut.1))
 
 -- what the line at the text's front opens
 abbrev pub opened_at : ℕ → ℕ → List ℕ → Result (Option OpenPart × List ℕ) BundleFault
-opened_at parts room text = line_at text >>= line_opens parts room
+opened_at parts room text = line_at text >>= opened_by_line parts room
 
 -- what comes before the line of the next part: the first line, or the rest of the present part
-abbrev pub before_next : Bool → ℕ → List ℕ → Result (Unit {0} × List ℕ) BundleFault
-before_next start left text = if start then magic_of text else rest_of left text
+abbrev pub skipped_before_next : Bool → ℕ → List ℕ → Result (Unit {0} × List ℕ) BundleFault
+skipped_before_next start left text = if start then magic_of text else rest_of_part left text
 
 -- what the next part's line opens
-abbrev pub next_of : Bool → ℕ → ℕ → ℕ → List ℕ → Result (Option OpenPart × List ℕ) BundleFault
-next_of start left parts room text =
-    before_next start left text >>= λ found. opened_at parts room found.1
+abbrev pub opened_next : Bool → ℕ → ℕ → ℕ → List ℕ → Result (Option OpenPart × List ℕ) BundleFault
+opened_next start left parts room text =
+    skipped_before_next start left text >>= λ found. opened_at parts room found.1
 
 -- ---- the parts that are still to come
 
@@ -90,72 +90,72 @@ pub record PartsState : Type 0 where
   pub name : Option (List ℕ)
   pub size : ℕ
   pub left : ℕ
-  pub told : Option (List ℕ)
+  pub remaining : Option (List ℕ)
   pub failed : ℕ
-  pub names : List GName
+  pub borrows : List GName
 
 -- the same of its fields, in their order
-abbrev pub state_of : Stage → ℕ → ℕ → Option (List ℕ) → ℕ → ℕ → Option (List ℕ) → ℕ → List GName
+abbrev pub parts_state : Stage → ℕ → ℕ → Option (List ℕ) → ℕ → ℕ → Option (List ℕ) → ℕ → List GName
     → PartsState
-state_of stage parts room name size left told failed names = record {
+parts_state stage parts room name size left remaining failed borrows = record {
   stage = stage;
   parts = parts;
   room = room;
   name = name;
   size = size;
   left = left;
-  told = told;
+  remaining = remaining;
   failed = failed;
-  names = names;
+  borrows = borrows;
 }
 
 -- the present part, of which these bytes were read and so many are left at the front of the text,
 -- and the parts after it
-abbrev pub part_and_others : List ℕ → List ℕ → ℕ → ℕ → ℕ → List ℕ
+abbrev pub part_and_rest : List ℕ → List ℕ → ℕ → ℕ → ℕ → List ℕ
     → Result (List PartText) BundleFault
-part_and_others name done left parts room text =
+part_and_rest name done left parts room text =
     part_bytes_at left text >>= λ found.
     parts_from parts room found.1 >>= λ others.
     let part : PartText = record { name = name; bytes = done ++ found.0 } in
     Ok (part ∷ others)
 
 -- The parts that the text says, where these bytes of the present part were read before it.
-abbrev pub named_and_others : Option (List ℕ) → List ℕ → ℕ → ℕ → ℕ → List ℕ
+abbrev pub current_and_rest : Option (List ℕ) → List ℕ → ℕ → ℕ → ℕ → List ℕ
     → Result (List PartText) BundleFault
-named_and_others None done left parts room text = Err faults.Failed
-named_and_others (Some name) done left parts room text =
-    part_and_others name done left parts room text
+current_and_rest None done left parts room text = Err faults.Failed
+current_and_rest (Some name) done left parts room text =
+    part_and_rest name done left parts room text
 
 abbrev pub parts_at_stage : Stage → PartsState → List ℕ → List ℕ
     → Result (List PartText) BundleFault
 parts_at_stage stages.Start state done text = bundle_of text
 parts_at_stage stages.Part state done text =
-    named_and_others state.name done state.left state.parts state.room text
+    current_and_rest state.name done state.left state.parts state.room text
 parts_at_stage stages.End state done text = Ok []
 parts_at_stage stages.Failed state done text = Err faults.Failed
 
-abbrev pub parts_if : PartsState → List ℕ → List ℕ → Result (List PartText) BundleFault
-parts_if state done text = parts_at_stage state.stage state done text
+abbrev pub parts_from_current : PartsState → List ℕ → List ℕ → Result (List PartText) BundleFault
+parts_from_current state done text = parts_at_stage state.stage state done text
 
 -- the present part, which is passed
-abbrev pub named_part : Option (List ℕ) → List ℕ → List PartText
-named_part None bytes = []
-named_part (Some name) bytes = record { name = name; bytes = bytes } ∷ []
+abbrev pub part_if_named : Option (List ℕ) → List ℕ → List PartText
+part_if_named None bytes = []
+part_if_named (Some name) bytes = record { name = name; bytes = bytes } ∷ []
 
-abbrev pub passed_at_stage : Stage → PartsState → List ℕ → List ℕ → List PartText
-passed_at_stage stages.Part state done text = named_part state.name (done ++ take state.left text)
-passed_at_stage stage state done text = []
+abbrev pub current_part_at_stage : Stage → PartsState → List ℕ → List ℕ → List PartText
+current_part_at_stage stages.Part state done text = part_if_named state.name (done ++ take state.left text)
+current_part_at_stage stage state done text = []
 
-abbrev pub passed : PartsState → List ℕ → List ℕ → List PartText
-passed state done text = passed_at_stage state.stage state done text
+abbrev pub current_part : PartsState → List ℕ → List ℕ → List PartText
+current_part state done text = current_part_at_stage state.stage state done text
 
 -- parts before others
-abbrev pub before : List PartText → Result (List PartText) BundleFault
+abbrev pub prepend_parts : List PartText → Result (List PartText) BundleFault
     → Result (List PartText) BundleFault
-before parts read = read >>= λ others. Ok (parts ++ others)
+prepend_parts parts read = read >>= λ others. Ok (parts ++ others)
 
 -- what is known of where reading stands
-pub record ArePartsSoFar (state : PartsState) : Type 0 where
+pub record IsValidPartsState (state : PartsState) : Type 0 where
   pub start : state.stage ≡ stages.Start
       → (state.parts ≡ max_parts) × (state.room ≡ max_bundle - 17)
   pub named : state.stage ≡ stages.Part → IsSome state.name
@@ -163,7 +163,7 @@ pub record ArePartsSoFar (state : PartsState) : Type 0 where
   pub size : state.size ≤ max_part
 
 -- the parts after a line that opened one, or was the end
-abbrev pub opened_rest : Option OpenPart → List ℕ → Result (List PartText) BundleFault
-opened_rest None later = Ok []
-opened_rest (Some part) later =
-    part_and_others part.name [] part.size part.parts part.room later
+abbrev pub parts_of_opened : Option OpenPart → List ℕ → Result (List PartText) BundleFault
+parts_of_opened None later = Ok []
+parts_of_opened (Some part) later =
+    part_and_rest part.name [] part.size part.parts part.room later

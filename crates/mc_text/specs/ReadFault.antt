@@ -10,9 +10,9 @@ is_read Read = true
 is_read Memory = false
 
 -- the bytes that stand after the old ones were read
-abbrev pub ReadsMore : Option (List ℕ) → Option (List ℕ) → List ℕ → List ℕ → Type 0
-ReadsMore told left old new = (bytes : List ℕ) × Consumes told left bytes × (new ≡ old ++ bytes)
+abbrev pub ReadsOnto : Option (List ℕ) → Option (List ℕ) → List ℕ → List ℕ → Type 0
+ReadsOnto remaining later old new = (bytes : List ℕ) × Consumes remaining later bytes × (new ≡ old ++ bytes)
 
 -- so many bytes were read at most
 abbrev pub ConsumesUpTo : ℕ → Option (List ℕ) → Option (List ℕ) → Type 0
-ConsumesUpTo limit told left = (bytes : List ℕ) × (length bytes ≤ limit) × Consumes told left bytes
+ConsumesUpTo limit remaining later = (bytes : List ℕ) × (length bytes ≤ limit) × Consumes remaining later bytes

@@ -8,9 +8,9 @@ Ok x >>= f = f x
 Err e >>= f = Err e
 
 -- a step whose fault is another's, with the fault as ours
-abbrev pub refused_as : {A E F : Type 0} → (E → F) → Result A E → Result A F
-refused_as as_ours (Ok x) = Ok x
-refused_as as_ours (Err e) = Err (as_ours e)
+abbrev pub map_fault : {A E F : Type 0} → (E → F) → Result A E → Result A F
+map_fault as_ours (Ok x) = Ok x
+map_fault as_ours (Err e) = Err (as_ours e)
 
 -- What a function answered, seen by view, is what the step gives. A fault that is silent says
 -- nothing of the step.

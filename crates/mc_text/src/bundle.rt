@@ -14,7 +14,7 @@ mod stage;
 
 pub use bundle::{Bundle, MAX_PART};
 pub use bundle_fault::BundleFault;
-pub use bundle_laws::{front_decides, one_list_of_parts, written_is_read};
+pub use bundle_laws::{bundle_front_decides, bundle_has_one_part_list, written_bundle_is_read};
 pub use bundle_output::write_bundle;
 pub use part::Part;
 pub use part_bytes::collect_part;

@@ -11,10 +11,10 @@ use std::marker::Model;
 
 /// What a number is multiplied by: 2^64 by the golden ratio (D. E. Knuth, The Art of Computer
 /// Programming, volume 3, section 6.4).
-const SPREAD: u64 = 0x9E37_79B9_7F4A_7C15;
+const HASH_MULTIPLIER: u64 = 0x9E37_79B9_7F4A_7C15;
 
 /// How many slots there are for each number.
-const SLOTS_EACH: usize = 32;
+const SLOTS_PER_NUMBER: usize = 32;
 
 /// How many slots there are at most: as many as 16 bits tell apart.
 const MAX_SLOTS: usize = 65_536;
@@ -25,7 +25,7 @@ fn slot_of(number: u64, slots: usize) -> usize
     ensures within { result < slots }
     ensures value { result ≡ slot_in slots number }
 {
-    (number.wrapping_mul(SPREAD) >> 48) as usize & (slots - 1)
+    (number.wrapping_mul(HASH_MULTIPLIER) >> 48) as usize & (slots - 1)
 }
 
 /// The number of slots for so many numbers: a power of two.
@@ -33,8 +33,8 @@ fn slots_for(count: usize) -> usize
     ensures { 0 < result }
 {
     count
-        .saturating_mul(SLOTS_EACH)
-        .clamp(SLOTS_EACH, MAX_SLOTS)
+        .saturating_mul(SLOTS_PER_NUMBER)
+        .clamp(SLOTS_PER_NUMBER, MAX_SLOTS)
         .next_power_of_two()
 }
 
@@ -104,7 +104,7 @@ impl Index {
     }
 
     /// Whether a number stands at a place.
-    fn stands_at(&self, number: u64, place: usize) -> bool
+    fn is_number_at(&self, number: u64, place: usize) -> bool
         ensures place { result ≡ true →
             (place < length self.now) × (get_or self.now place 0 ≡ number) }
         ensures ascending { IsStrictlyIncreasing self.now }
@@ -124,21 +124,21 @@ impl Index {
             return None;
         }
         let guess = (mark - 1) as usize;
-        if self.stands_at(number, guess) {
+        if self.is_number_at(number, guess) {
             return Some(guess);
         }
         self.numbers.binary_search(&number).ok()
     }
 
     /// The same, where the place may be known already. A right one saves a search.
-    pub fn place_near(&self, number: u64, near: usize) -> Option<usize>
+    pub fn place_with_hint(&self, number: u64, hint: usize) -> Option<usize>
         ensures found { IfSome result (λ place.
             (place < length self.now) × (get_or self.now place 0 ≡ number)) }
         ensures none { IfNone result (¬ Contains self.now number) }
         ensures ascending { IsStrictlyIncreasing self.now }
     {
-        if self.stands_at(number, near) {
-            return Some(near);
+        if self.is_number_at(number, hint) {
+            return Some(hint);
         }
         self.place_of(number)
     }

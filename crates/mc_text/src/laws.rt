@@ -7,7 +7,7 @@ ghost use Rattle.std.specs.Ordering.{nat_cmp};
 ghost use Rattle.mc_text.specs.Addr.{IsAddr, octets_of, dotted};
 ghost use Rattle.mc_text.specs.AddressReading.{address_of_text, address_of_word};
 ghost use Rattle.mc_text.specs.AddressWord.{IsAddressWord};
-ghost use Rattle.mc_text.specs.Lines.{HasNoLineFeed, OnlyLastMayBeUnended, joined, lines_of};
+ghost use Rattle.mc_text.specs.Lines.{HasNoLineFeed, OnlyLastMayBeUnended, join_lines, lines_of};
 ghost use Rattle.mc_text.specs.Lines.{max_text};
 ghost use Rattle.mc_text.specs.Number.{IsDecimal, number_up_to};
 ghost use Rattle.mc_text.specs.declared.text.addr.Order.{Order};
@@ -15,8 +15,8 @@ ghost use Rattle.mc_text.specs.declared.text.addr.Order.{Order};
 use crate::text::{Addr, MAX_TEXT};
 
 /// The bytes of the lines, each with its line feed if it has one, are the text.
-pub fn lines_make_their_text()
-    ensures { (text : List ℕ) → joined (lines_of text) ≡ text }
+pub fn lines_join_to_their_text()
+    ensures { (text : List ℕ) → join_lines (lines_of text) ≡ text }
 {}
 
 /// The greatest text that is read as lines is that of the definition: 16,777,216 bytes.

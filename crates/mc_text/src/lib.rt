@@ -14,8 +14,8 @@ mod pair;
 mod text;
 
 pub use bundle::{
-    Bundle, BundleFault, MAX_PART, Part, PartName, Parts, collect_part, front_decides,
-    one_list_of_parts, write_bundle, written_is_read,
+    Bundle, BundleFault, MAX_PART, Part, PartName, Parts, collect_part, bundle_front_decides,
+    bundle_has_one_part_list, write_bundle, written_bundle_is_read,
 };
 pub use index::Index;
 pub use io::{
@@ -25,11 +25,11 @@ pub use io::{
 pub use laws::{
     address_words_are_read, addresses_are_ordered_by_octets, decimal_numbers_are_read,
     dotted_texts_are_read, greatest_text_is_max_text, lines_end_at_line_feeds,
-    lines_make_their_text,
+    lines_join_to_their_text,
 };
 pub use memory::Memory;
 pub use pair::{pair_number, pair_numbers};
 pub use text::{
     Addr, Line, Lines, MAX_TEXT, Order, Words, are_hex_digits, bytes_of_hex_digits, decimal,
-    first_place_of, hex_digit, is_device_name,
+    find_byte, hex_digit, is_device_name,
 };

@@ -20,8 +20,8 @@ pub record Entry : Type 0 where
 -- A pair with this threshold, which takes from a LAN of this rank, sends packets of some TTL t: a
 -- copy comes to it with TTL t - rank, which is greater than the threshold for some t up to 255,
 -- the greatest TTL that there is.
-abbrev pub Live : ℕ → ℕ → Type 0
-Live rank threshold = rank + threshold + 1 ≤ 255
+abbrev pub IsLive : ℕ → ℕ → Type 0
+IsLive rank threshold = rank + threshold + 1 ≤ 255
 
 -- whether it does
 abbrev pub is_live : ℕ → ℕ → Bool
@@ -38,7 +38,7 @@ pub record Feeds (n : Net) (p : Entry) (r v h : ℕ) : Type 0 where
   pub row : n.row r ≡ Exact incoming pairs
   pub from : n.placed r incoming ≡ Some p.lan
   pub pair : In (v, h) pairs
-  pub live : Live p.rank h
+  pub live : IsLive p.rank h
 
 -- e is what comes of entry p by the pair (v, h) of router r: one router further from the source,
 -- and reached by what reaches p and passes the threshold there
@@ -102,26 +102,26 @@ pub record IsClean (f : Flight) : Type 0 where
 
 -- The copy of a packet with TTL t is as its LAN's entry says: sent by the forwarder, with TTL t
 -- less the rank, which meets the need.
-pub record Fits (t : ℕ) (e : Entry) (c : Copy) : Type 0 where
+pub record FitsEntry (t : ℕ) (e : Entry) (c : Copy) : Type 0 where
   pub lan : e.lan ≡ c.lan
   pub sender : e.forwarder ≡ c.sender
   pub ttl : c.ttl + e.rank ≡ t
   pub need : e.need ≤ t
 
 -- how many interfaces are placed on named LANs
-abbrev pub stops : Net → List Entry → ℕ
-stops n es = length (flat_map (λ e. interfaces n e.lan) es)
+abbrev pub interface_count_of_named_lans : Net → List Entry → ℕ
+interface_count_of_named_lans n es = length (flat_map (λ e. interfaces n e.lan) es)
 
 -- A run of a packet with TTL t, complete or not, with or without losses, is safe.
 pub record IsSafe (n : Net) (es : List Entry) (t : ℕ) (ps : List Pick) (f : Flight) : Type 0 where
   -- no LAN carried two copies, and there is no stray
   pub clean : IsClean f
   -- each carried copy is on a named LAN, as its entry says
-  pub named : (c : Copy) → In c f.carried → (e : Entry) × In e es × Fits t e c
+  pub named : (c : Copy) → In c f.carried → (e : Entry) × In e es × FitsEntry t e c
   -- there are no more copies than entries
   pub copies : length f.carried ≤ length es
   -- and no more steps than interfaces placed on named LANs
-  pub steps : length ps ≤ stops n es
+  pub steps : length ps ≤ interface_count_of_named_lans n es
 
 -- A LAN carried a copy exactly if it is named with a need that the TTL meets.
 abbrev pub IsDelivered : List Entry → ℕ → Flight → Type 0

@@ -23,19 +23,19 @@ pub record Event : Type 0 where
   pub outcome : Outcome
 
 -- how many pairs send a copy that came with TTL t, onto a LAN
-abbrev pub sent_onto : Net → ℕ → ℕ → List (ℕ × ℕ) → ℕ
-sent_onto n r t pairs = count_of (λ p. nat_lt p.1 t && is_some (n.placed r p.0)) pairs
+abbrev pub onto_lan_count : Net → ℕ → ℕ → List (ℕ × ℕ) → ℕ
+onto_lan_count n r t pairs = count_of (λ p. nat_lt p.1 t && is_some (n.placed r p.0)) pairs
 
 -- and how many send it out of the known domain
-abbrev pub sent_astray : Net → ℕ → ℕ → List (ℕ × ℕ) → ℕ
-sent_astray n r t pairs = count_of (λ p. nat_lt p.1 t && not (is_some (n.placed r p.0))) pairs
+abbrev pub astray_count : Net → ℕ → ℕ → List (ℕ × ℕ) → ℕ
+astray_count n r t pairs = count_of (λ p. nat_lt p.1 t && not (is_some (n.placed r p.0))) pairs
 
-abbrev pub outcome_by : Net → Waiting → Row → Outcome
-outcome_by n w open_row = Open
-outcome_by n w no_row = NoRow
-outcome_by n w (Exact incoming pairs) =
+abbrev pub outcome_by_row : Net → Waiting → Row → Outcome
+outcome_by_row n w open_row = Open
+outcome_by_row n w no_row = NoRow
+outcome_by_row n w (Exact incoming pairs) =
     if incoming == w.vif
-    then Sent (sent_onto n w.router w.ttl pairs) (sent_astray n w.router w.ttl pairs)
+    then Sent (onto_lan_count n w.router w.ttl pairs) (astray_count n w.router w.ttl pairs)
     else OtherVif
 
 -- what is seen of the handling of a waiting copy
@@ -44,18 +44,18 @@ event_of n w = record {
   router = w.router;
   vif = w.vif;
   ttl = w.ttl;
-  outcome = outcome_by n w (n.row w.router);
+  outcome = outcome_by_row n w (n.row w.router);
 }
 
 -- at the head of a list, if there is one
-abbrev pub seen_first : Net → Option Waiting → List Event → List Event
-seen_first n None es = es
-seen_first n (Some w) es = event_of n w ∷ es
+abbrev pub prepend_event : Net → Option Waiting → List Event → List Event
+prepend_event n None es = es
+prepend_event n (Some w) es = event_of n w ∷ es
 
 -- what is seen of a run without loss, whose picks these are
 abbrev pub events : Net → List ℕ → Flight → List Event
 events n [] f = []
-events n (i ∷ is) f = seen_first n (slice_get f.waiting i) (events n is (step n i f))
+events n (i ∷ is) f = prepend_event n (slice_get f.waiting i) (events n is (step n i f))
 
 -- how many copies were put on LANs, and how many left the known domain
 abbrev pub copies_in : Outcome → ℕ

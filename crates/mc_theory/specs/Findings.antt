@@ -27,15 +27,15 @@ pub data Finding : Type 0 where
 -- ---- a second copy
 
 -- a LAN's first copy
-abbrev pub copy_on : List Copy → ℕ → Option Copy
-copy_on [] l = None
-copy_on (c ∷ cs) l = if c.lan == l then Some c else copy_on cs l
+abbrev pub first_copy_on : List Copy → ℕ → Option Copy
+first_copy_on [] l = None
+first_copy_on (c ∷ cs) l = if c.lan == l then Some c else first_copy_on cs l
 
 -- the first copy that has an earlier one on its LAN
-abbrev pub double : List Copy → List Copy → Option Copy
-double earlier [] = None
-double earlier (c ∷ cs) =
-    if is_some (copy_on earlier c.lan) then Some c else double (earlier ++ c ∷ []) cs
+abbrev pub first_double : List Copy → List Copy → Option Copy
+first_double earlier [] = None
+first_double earlier (c ∷ cs) =
+    if is_some (first_copy_on earlier c.lan) then Some c else first_double (earlier ++ c ∷ []) cs
 
 -- ---- the walk back: from a copy to the LAN that its sender took it from, to that LAN's first
 -- copy, and so on to the source's copy
@@ -55,7 +55,7 @@ from_lan n (Some i) = taken_from n i.0 (n.row i.0)
 abbrev pub IsWalkBack : Net → List Copy → Copy → List Copy → Type 0
 IsWalkBack n cs c [] = c.sender ≡ None
 IsWalkBack n cs c (d ∷ ds) =
-    (from_lan n c.sender ≡ Some d.lan) × (copy_on cs d.lan ≡ Some d) × IsWalkBack n cs d ds
+    (from_lan n c.sender ≡ Some d.lan) × (first_copy_on cs d.lan ≡ Some d) × IsWalkBack n cs d ds
 
 -- the sender of a LAN's first copy
 abbrev pub sender_on : List Copy → ℕ → Option Interface
@@ -63,29 +63,29 @@ sender_on [] l = None
 sender_on (c ∷ cs) l = if c.lan == l then c.sender else sender_on cs l
 
 -- what follows a LAN on the walk, if there is one
-abbrev pub or_then : ℕ → (ℕ → Bool) → Option ℕ → Bool
-or_then l next None = false
-or_then l next (Some p) = (p == l) || next p
+abbrev pub is_lan_or : ℕ → (ℕ → Bool) → Option ℕ → Bool
+is_lan_or l next None = false
+is_lan_or l next (Some p) = (p == l) || next p
 
 -- Whether the walk back from a sender's copy, over at most so many LANs, comes by LAN l. The
 -- copy's own LAN doesn't count, unless the walk comes back to it. In the flight of a travel the
 -- walk ends at the source's copy before it has gone over as many LANs as there are carried
 -- copies.
-abbrev pub meets : Net → List Copy → ℕ → ℕ → Option Interface → Bool
-meets n cs l zero x = false
-meets n cs l (suc k) x = or_then l (λ p. meets n cs l k (sender_on cs p)) (from_lan n x)
+abbrev pub walk_visits : Net → List Copy → ℕ → ℕ → Option Interface → Bool
+walk_visits n cs l zero x = false
+walk_visits n cs l (suc k) x = is_lan_or l (λ p. walk_visits n cs l k (sender_on cs p)) (from_lan n x)
 
 -- The walk back from a copy ends at the source's copy, over fewer LANs than there are carried
--- copies. It comes by the LANs that `meets` tells.
+-- copies. It comes by the LANs that `walk_visits` tells.
 pub record WalkEnds (n : Net) (cs : List Copy) (c : Copy) : Type 0 where
   pub walk : List Copy
   pub back : IsWalkBack n cs c walk
   pub short : length walk < length cs
-  pub met : (l : ℕ) → IsTrue (meets n cs l (length cs) c.sender) ↔ In l (lans walk)
+  pub visited : (l : ℕ) → IsTrue (walk_visits n cs l (length cs) c.sender) ↔ In l (lans walk)
 
 -- This holds of each of these copies.
-abbrev pub WalksEnd : Net → List Copy → Type 0
-WalksEnd n cs = (c : Copy) → In c cs → WalkEnds n cs c
+abbrev pub AllWalksEnd : Net → List Copy → Type 0
+AllWalksEnd n cs = (c : Copy) → In c cs → WalkEnds n cs c
 
 -- ---- a LAN that was missed
 
@@ -94,7 +94,7 @@ abbrev pub missed : Net → List Copy → List ℕ → Option ℕ
 missed n cs [] = None
 missed n cs (l ∷ ls) =
     if n.wants l
-    then (if is_some (copy_on cs l) then missed n cs ls else Some l)
+    then (if is_some (first_copy_on cs l) then missed n cs ls else Some l)
     else missed n cs ls
 
 abbrev pub missed_finding : Option ℕ → Finding
@@ -118,14 +118,14 @@ abbrev pub double_finding : Net → ℕ → Flight → Option Copy → Option Fi
 double_finding n count f None = stray_finding n count f.carried f.waiting f.strays
 double_finding n count f (Some c) =
     Some (
-    if meets n f.carried c.lan (length f.carried) c.sender
+    if walk_visits n f.carried c.lan (length f.carried) c.sender
     then Loop c.lan
     else Duplicate c.lan
     )
 
 -- what the flight shows; LANs are numbered below the count
 abbrev pub finding : Net → ℕ → Flight → Option Finding
-finding n count f = double_finding n count f (double [] f.carried)
+finding n count f = double_finding n count f (first_double [] f.carried)
 
 -- ---- travels
 
@@ -141,13 +141,13 @@ choice waiting [] last = if last then waiting - 1 else 0
 choice waiting (x ∷ xs) last = x % waiting
 
 -- the numbers that are left after a choice
-abbrev pub rest : List ℕ → List ℕ
-rest [] = []
-rest (x ∷ xs) = xs
+abbrev pub numbers_left : List ℕ → List ℕ
+numbers_left [] = []
+numbers_left (x ∷ xs) = xs
 
 -- what a picker chooses by after a choice
 abbrev pub after_choice : Choices → Choices
-after_choice c = record { numbers = rest c.numbers; last = c.last }
+after_choice c = record { numbers = numbers_left c.numbers; last = c.last }
 
 -- From flight f on these picks are the picker's choices, no flight on the way shows anything, and
 -- the last one shows x.
@@ -156,15 +156,15 @@ IsTravel n count numbers last [] f x = finding n count f ≡ Some x
 IsTravel n count numbers last (i ∷ is) f x =
     (finding n count f ≡ None)
     × (i ≡ choice (length f.waiting) numbers last)
-    × IsTravel n count (rest numbers) last is (step n i f) x
+    × IsTravel n count (numbers_left numbers) last is (step n i f) x
 
 -- The same of a travel under way, whose last flight may show something or nothing yet.
-abbrev pub IsUnderWay : Net → ℕ → List ℕ → Bool → List ℕ → Flight → Type 0
-IsUnderWay n count numbers last [] f = ⊤
-IsUnderWay n count numbers last (i ∷ is) f =
+abbrev pub IsTravelUnfinished : Net → ℕ → List ℕ → Bool → List ℕ → Flight → Type 0
+IsTravelUnfinished n count numbers last [] f = ⊤
+IsTravelUnfinished n count numbers last (i ∷ is) f =
     (finding n count f ≡ None)
     × (i ≡ choice (length f.waiting) numbers last)
-    × IsUnderWay n count (rest numbers) last is (step n i f)
+    × IsTravelUnfinished n count (numbers_left numbers) last is (step n i f)
 
 -- a travel's picks as those of a run
 abbrev pub handles : List ℕ → List Pick

@@ -31,8 +31,8 @@ pub record Flight : Type 0 where
   pub strays : List Interface
 
 -- how many copies a LAN carried
-abbrev pub copies_on : List Copy → ℕ → ℕ
-copies_on cs l = count_of (λ c. c.lan == l) cs
+abbrev pub copy_count_on : List Copy → ℕ → ℕ
+copy_count_on cs l = count_of (λ c. c.lan == l) cs
 
 -- ---- a LAN carries a copy
 
@@ -82,56 +82,56 @@ sends n r t (p ∷ ps) f = sends n r t ps (send n r t p f)
 -- forwarded only if it came in by the expected vif (RFC 7761, section 4.2; `ip_mr_forward`), and
 -- then by every pair, also one of the incoming vif, as the kernel does. A row that isn't followed
 -- makes a stray (own choice). No row: nothing.
-abbrev pub handle_by : Net → Waiting → Row → Flight → Flight
-handle_by n w Open f = stray (w.router, w.vif) f
-handle_by n w NoRow f = f
-handle_by n w (Exact incoming pairs) f =
+abbrev pub handle_by_row : Net → Waiting → Row → Flight → Flight
+handle_by_row n w Open f = stray (w.router, w.vif) f
+handle_by_row n w NoRow f = f
+handle_by_row n w (Exact incoming pairs) f =
     if incoming == w.vif then sends n w.router w.ttl pairs f else f
 
 abbrev pub handle : Net → Option Waiting → Flight → Flight
 handle n None f = f
-handle n (Some w) f = handle_by n w (n.row w.router) f
+handle n (Some w) f = handle_by_row n w (n.row w.router) f
 
 -- the flight without its i-th waiting copy; the others keep their order
-abbrev pub without : ℕ → Flight → Flight
-without i f = record { carried = f.carried; waiting = remove f.waiting i; strays = f.strays }
+abbrev pub without_waiting : ℕ → Flight → Flight
+without_waiting i f = record { carried = f.carried; waiting = remove f.waiting i; strays = f.strays }
 
 -- The i-th waiting copy is taken away and handled.
 abbrev pub step : Net → ℕ → Flight → Flight
-step n i f = handle n (slice_get f.waiting i) (without i f)
+step n i f = handle n (slice_get f.waiting i) (without_waiting i f)
 
 -- ---- runs
 
 -- the source's copy of a packet with TTL t
-abbrev pub first_copy : Net → ℕ → Copy
-first_copy n t = record { lan = n.source; ttl = t; sender = None }
+abbrev pub source_copy : Net → ℕ → Copy
+source_copy n t = record { lan = n.source; ttl = t; sender = None }
 
 -- the flight in which the source's LAN carried the packet, and no router has handled it
 abbrev pub start : Net → ℕ → Flight
-start n t = put n (first_copy n t) (record { carried = []; waiting = []; strays = [] })
+start n t = put n (source_copy n t) (record { carried = []; waiting = []; strays = [] })
 
 -- What happens next: the i-th waiting copy is handled, or it is lost.
 pub data Pick : Type 0 where
   Handles : (i : ℕ) → Pick
   Loses : (i : ℕ) → Pick
 
-abbrev pub place_of : Pick → ℕ
-place_of (Handles i) = i
-place_of (Loses i) = i
+abbrev pub picked_index : Pick → ℕ
+picked_index (Handles i) = i
+picked_index (Loses i) = i
 
-abbrev pub happens : Net → Pick → Flight → Flight
-happens n (Handles i) f = step n i f
-happens n (Loses i) f = without i f
+abbrev pub apply_pick : Net → Pick → Flight → Flight
+apply_pick n (Handles i) f = step n i f
+apply_pick n (Loses i) f = without_waiting i f
 
 -- the flight after these picks
 abbrev pub run : Net → List Pick → Flight → Flight
 run n [] f = f
-run n (p ∷ ps) f = run n ps (happens n p f)
+run n (p ∷ ps) f = run n ps (apply_pick n p f)
 
 -- each pick names a copy that waits when its turn comes
 abbrev pub InRange : Net → List Pick → Flight → Type 0
 InRange n [] f = ⊤
-InRange n (p ∷ ps) f = (place_of p < length f.waiting) × InRange n ps (happens n p f)
+InRange n (p ∷ ps) f = (picked_index p < length f.waiting) × InRange n ps (apply_pick n p f)
 
 -- no pick loses a copy
 abbrev pub IsLossless : List Pick → Type 0

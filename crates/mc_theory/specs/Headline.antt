@@ -3,19 +3,19 @@
 -- if none was lost, once none waits each wanting LAN has carried exactly one.
 use Rattle.std.specs.Prelude.{◌≡◌, ℕ, ◌≤◌, true, List, [], length}
 use Rattle.mc_theory.specs.Nets.{Net}
-use Rattle.mc_theory.specs.Flights.{Flight, Pick, copies_on, IsLossless, EveryRun}
+use Rattle.mc_theory.specs.Flights.{Flight, Pick, copy_count_on, IsLossless, EveryRun}
 
 -- It is kept by the flight f that the picks ps end with, where the certificate names so many LANs.
 pub record PromiseHolds (n : Net) (named : ℕ) (ps : List Pick) (f : Flight) : Type 0 where
   -- no LAN carries two copies (the source's copy is one)
-  pub no_two_copies : (l : ℕ) → copies_on f.carried l ≤ 1
+  pub no_two_copies : (l : ℕ) → copy_count_on f.carried l ≤ 1
   -- none leaves the known domain
   pub none_leaves : f.strays ≡ []
   -- no more copies are made than the certificate names
   pub no_more_than_named : length f.carried ≤ named
   -- and, if none was lost, once none waits each wanting LAN has carried exactly one
   pub each_wanting_one : IsLossless ps → f.waiting ≡ [] →
-      (l : ℕ) → n.wants l ≡ true → copies_on f.carried l ≡ 1
+      (l : ℕ) → n.wants l ≡ true → copy_count_on f.carried l ≡ 1
 
 -- It is kept for every packet sent with at least the flow's TTL, and every order in which routers
 -- handle copies.

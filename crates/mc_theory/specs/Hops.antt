@@ -4,23 +4,23 @@ use Rattle.std.specs.Prelude.{◌≡◌, ℕ, zero, suc, ◌-◌, nat_lt, ◌==�
 use Rattle.std.specs.Prelude.{length, Option, Some, None}
 use Rattle.mc_theory.specs.Nets.{Net, Interface}
 use Rattle.mc_theory.specs.Flights.{Copy}
-use Rattle.mc_theory.specs.Findings.{copy_on, sender_on, from_lan}
-use Rattle.mc_theory.specs.Made.{threshold_of, pairs_of}
-use Rattle.mc_theory.specs.Ways.{Hop, SentBy}
+use Rattle.mc_theory.specs.Findings.{first_copy_on, sender_on, from_lan}
+use Rattle.mc_theory.specs.CertificateOfCopies.{threshold_of, row_pairs}
+use Rattle.mc_theory.specs.Paths.{Hop, IsSentByHop}
 
 -- an interface's hop onto a LAN, from the one that its router's row takes from, if that is placed
-abbrev pub hop_from : Net → Interface → ℕ → Option ℕ → Option Hop
-hop_from n i onto None = None
-hop_from n i onto (Some from) = Some (record {
+abbrev pub hop_from_lan : Net → Interface → ℕ → Option ℕ → Option Hop
+hop_from_lan n i onto None = None
+hop_from_lan n i onto (Some from) = Some (record {
   from = from;
   router = i.0;
   vif = i.1;
-  threshold = threshold_of i.1 (pairs_of (n.row i.0));
+  threshold = threshold_of i.1 (row_pairs (n.row i.0));
   onto = onto;
 })
 
 abbrev pub hop_by : Net → Interface → ℕ → Option Hop
-hop_by n i onto = hop_from n i onto (from_lan n (Some i))
+hop_by n i onto = hop_from_lan n i onto (from_lan n (Some i))
 
 -- the hop of what this sender sent onto a LAN; the source needs none
 abbrev pub hop_sent : Net → Option Interface → ℕ → Option Hop
@@ -30,22 +30,22 @@ hop_sent n (Some i) onto = hop_by n i onto
 -- ---- all hops back
 
 -- a hop, if there is one, and what follows it
-abbrev pub hop_and : (Hop → List Hop) → Option Hop → List Hop
-hop_and next None = []
-hop_and next (Some h) = h ∷ next h
+abbrev pub hop_then : (Hop → List Hop) → Option Hop → List Hop
+hop_then next None = []
+hop_then next (Some h) = h ∷ next h
 
 -- The hops back from what a sender sent onto a LAN, so many at most: on from each hop by the sender
 -- of the first copy of the LAN that it takes from.
 abbrev pub hops_back : Net → List Copy → ℕ → ℕ → Option Interface → List Hop
 hops_back n cs zero onto x = []
 hops_back n cs (suc k) onto x =
-    hop_and (λ h. hops_back n cs k h.from (sender_on cs h.from)) (hop_sent n x onto)
+    hop_then (λ h. hops_back n cs k h.from (sender_on cs h.from)) (hop_sent n x onto)
 
 -- the same, which ends where a hop takes from LAN l
 abbrev pub hops_until : Net → List Copy → ℕ → ℕ → ℕ → Option Interface → List Hop
 hops_until n cs l zero onto x = []
 hops_until n cs l (suc k) onto x =
-    hop_and (λ h. if h.from == l then [] else hops_until n cs l k h.from (sender_on cs h.from))
+    hop_then (λ h. if h.from == l then [] else hops_until n cs l k h.from (sender_on cs h.from))
     (hop_sent n x onto)
 
 -- ---- a part of the walk
@@ -53,19 +53,19 @@ hops_until n cs l (suc k) onto x =
 -- The walk back from copy c over these hops has come to copy b: each hop but the first is the one
 -- that the first copy of the LAN was sent by that the hop before takes from, and b is the first
 -- copy of the LAN that the last takes from.
-abbrev pub IsWayPart : Net → List Copy → Copy → List Hop → Copy → Type 0
-IsWayPart n cs c [] b = c ≡ b
-IsWayPart n cs c (h ∷ hs) b =
-    SentBy n c h × ((first : Copy) × (copy_on cs h.from ≡ Some first) × IsWayPart n cs first hs b)
+abbrev pub IsPathPart : Net → List Copy → Copy → List Hop → Copy → Type 0
+IsPathPart n cs c [] b = c ≡ b
+IsPathPart n cs c (h ∷ hs) b =
+    IsSentByHop n c h × ((first : Copy) × (first_copy_on cs h.from ≡ Some first) × IsPathPart n cs first hs b)
 
 -- ---- where a packet stops
 
 -- what stopped it before, or else this hop, to which it comes with what is left of its TTL
-abbrev pub stop_by : Hop → ℕ → Option (Hop × ℕ) → Option (Hop × ℕ)
-stop_by h left (Some stop) = Some stop
-stop_by h left None = if nat_lt h.threshold left then None else Some (h, left)
+abbrev pub first_stop_or_here : Hop → ℕ → Option (Hop × ℕ) → Option (Hop × ℕ)
+first_stop_or_here h left (Some stop) = Some stop
+first_stop_or_here h left None = if nat_lt h.threshold left then None else Some (h, left)
 
 -- the hop that stops a packet sent with TTL t, and what is left of its TTL there, if one does
-abbrev pub stop_of : ℕ → List Hop → Option (Hop × ℕ)
-stop_of t [] = None
-stop_of t (h ∷ hs) = stop_by h (t - length hs) (stop_of t hs)
+abbrev pub stopping_hop : ℕ → List Hop → Option (Hop × ℕ)
+stopping_hop t [] = None
+stopping_hop t (h ∷ hs) = first_stop_or_here h (t - length hs) (stopping_hop t hs)

@@ -6,10 +6,10 @@ pub mod Certificates
 pub mod Headline
 pub mod Reasons
 pub mod Findings
-pub mod Origins
-pub mod Made
-pub mod Shown
-pub mod Ways
+pub mod CopyOrigins
+pub mod CertificateOfCopies
+pub mod FindingMeaning
+pub mod Paths
 pub mod Hops
-pub mod LeftOut
-pub mod Worked
+pub mod ExcludedRouters
+pub mod ExampleNetworks

@@ -43,17 +43,17 @@ is_lan None l = false
 is_lan (Some q) l = q == l
 
 -- all vifs below a width of all routers, by router and then by vif
-abbrev pub slots : ℕ → ℕ → List Interface
-slots width routers = flat_map (λ r. map (λ v. (r, v)) (below width)) (below routers)
+abbrev pub router_vif_pairs : ℕ → ℕ → List Interface
+router_vif_pairs width routers = flat_map (λ r. map (λ v. (r, v)) (below width)) (below routers)
 
 -- The interfaces of a LAN: the vifs that are placed on it, by router and then by vif. A kernel
 -- has vifs 0 to 31 (MAXVIFS in include/uapi/linux/mroute.h).
 unfoldable pub interfaces : Net → ℕ → List Interface
-interfaces n l = filter (λ i. is_lan (n.placed i.0 i.1) l) (slots 32 n.routers)
+interfaces n l = filter (λ i. is_lan (n.placed i.0 i.1) l) (router_vif_pairs 32 n.routers)
 
 -- the interfaces of all LANs
-abbrev pub placed_vifs : Net → List Interface
-placed_vifs n = filter (λ i. is_some (n.placed i.0 i.1)) (slots 32 n.routers)
+abbrev pub placed_interfaces : Net → List Interface
+placed_interfaces n = filter (λ i. is_some (n.placed i.0 i.1)) (router_vif_pairs 32 n.routers)
 
 -- What every domain keeps. All that is proved of flights rests on these three facts and, where a
 -- law says so, on `WantsBelow` and on a TTL of 1 to 255.

@@ -111,11 +111,11 @@ pairs_reason n es r pairs None = None
 pairs_reason n es r pairs (Some p) = first_of (pair_reason n es p r) pairs
 
 -- a vif of a router whose row is open
-abbrev pub wild_at : Net → List Entry → ℕ → ℕ → Option Reason
-wild_at n es r v = unless (not (is_some (entry_at es (n.placed r v)))) (Wildcard r v)
+abbrev pub open_row_reason : Net → List Entry → ℕ → ℕ → Option Reason
+open_row_reason n es r v = unless (not (is_some (entry_at es (n.placed r v)))) (Wildcard r v)
 
 abbrev pub row_reason : Net → List Entry → ℕ → Row → Option Reason
-row_reason n es r Open = first_of (wild_at n es r) (below 32)
+row_reason n es r Open = first_of (open_row_reason n es r) (below 32)
 row_reason n es r NoRow = None
 row_reason n es r (Exact incoming pairs) =
     pairs_reason n es r pairs (entry_at es (n.placed r incoming))

@@ -26,7 +26,7 @@ pub fn every_complete_run_delivers()
 /// An accepted flow keeps the headline's promise, in every order: no LAN carries two copies, none
 /// leaves the known domain, no more copies are made than the certificate names, and, if none was
 /// lost, once none waits each wanting LAN has carried exactly one.
-pub fn the_headline_holds()
+pub fn accepted_flow_keeps_headline()
     ensures { (n : Net) (es : List Entry) → IsNet n → 1 ≤ n.ttl → IsAccepted n es
         → HeadlineHolds n (length es) }
 {}
@@ -43,13 +43,13 @@ pub fn a_right_flow_is_accepted()
 {}
 
 /// A flow has an accepted list exactly if it is right.
-pub fn a_flow_has_a_certificate_exactly_if_it_is_right()
+pub fn certificate_exists_iff_flow_is_right()
     ensures { (n : Net) → IsNet n → 1 ≤ n.ttl → n.ttl ≤ 255
         → ((es : List Entry) × IsAccepted n es) ↔ IsRight n }
 {}
 
 /// No reason is left exactly where the list is accepted.
-pub fn no_reason_is_acceptance()
+pub fn no_reason_iff_accepted()
     ensures { (n : Net) (count : ℕ) (es : List Entry) → IsNet n → WantsBelow n count
         → (first_reason n count es ≡ None) ↔ IsAccepted n es }
 {}

@@ -7,9 +7,9 @@ ghost use Rattle.mc_theory.specs.Flights.{Flight, Pick, start, run, InRange};
 ghost use Rattle.mc_theory.specs.Flights.Pick.{Handles};
 ghost use Rattle.mc_theory.specs.Certificates.{IsRight, IsSafe};
 ghost use Rattle.mc_theory.specs.Headline.{HeadlineHolds};
-ghost use Rattle.mc_theory.specs.Worked.{line, line_entries, line_end, line_with_a_leak};
-ghost use Rattle.mc_theory.specs.Worked.{line_with_an_open_row, line_that_sends_back};
-ghost use Rattle.mc_theory.specs.Worked.{diamond, closed_diamond, closed_end, fork, fork_end};
+ghost use Rattle.mc_theory.specs.ExampleNetworks.{line, line_entries, line_end, line_with_a_leak};
+ghost use Rattle.mc_theory.specs.ExampleNetworks.{line_with_an_open_row, line_that_sends_back};
+ghost use Rattle.mc_theory.specs.ExampleNetworks.{diamond, closed_diamond, closed_diamond_end, fork, fork_end};
 
 /// What the headline says of a packet sent with the flow's TTL or more, after any picks of waiting
 /// copies, in counts of what was carried.
@@ -37,7 +37,7 @@ pub fn the_headline_in_counts()
 pub fn the_line_is_right()
     // its packet's travel: l0, l1 and l2 carry one copy each, with TTL 3, 2 and 1
     ensures travel { run (line 3) (Handles 0 ∷ Handles 0 ∷ []) (start (line 3) 3) ≡ line_end }
-    ensures kept { HeadlineHolds (line 3) 3 }
+    ensures headline_holds { HeadlineHolds (line 3) 3 }
     ensures right { IsRight (line 3) }
     // with a certificate that named one LAN less it would not
     ensures too_few_named { HeadlineHolds (line 3) 2 → ⊥ }
@@ -47,13 +47,13 @@ pub fn the_line_is_right()
 {}
 
 /// With a TTL of 2 r2 doesn't send on: 1 isn't greater than its threshold 1, and l2 isn't served.
-pub fn a_lan_that_is_not_served_is_wrong()
+pub fn unserved_lan_is_wrong()
     ensures headline { (named : ℕ) → HeadlineHolds (line 2) named → ⊥ }
     ensures right { IsRight (line 2) → ⊥ }
 {}
 
 /// A copy that leaves the known domain: by a vif without a LAN, or at a row that isn't followed.
-pub fn a_copy_that_leaves_is_wrong()
+pub fn stray_copy_is_wrong()
     ensures headline { (named : ℕ) → HeadlineHolds line_with_a_leak named → ⊥ }
     ensures right { IsRight line_with_a_leak → ⊥ }
     // r2's row for every source isn't followed: the copy strays at the vif that it came in by
@@ -63,21 +63,21 @@ pub fn a_copy_that_leaves_is_wrong()
 {}
 
 /// A LAN that is served twice: by the diamond's two ways, or by a row that sends back.
-pub fn a_lan_that_is_served_twice_is_wrong()
+pub fn twice_served_lan_is_wrong()
     // the diamond is right as long as one of its ways is closed
-    ensures kept { HeadlineHolds diamond 4 }
+    ensures headline_holds { HeadlineHolds diamond 4 }
     // r3 and r4 send on l3, hear each other there, and don't forward what comes by that vif
     ensures travel { run closed_diamond (map Handles (0 ∷ 0 ∷ 0 ∷ 0 ∷ 0 ∷ 0 ∷ []))
-        (start closed_diamond 4) ≡ closed_end }
+        (start closed_diamond 4) ≡ closed_diamond_end }
     ensures headline { (named : ℕ) → HeadlineHolds closed_diamond named → ⊥ }
     ensures right { IsRight closed_diamond → ⊥ }
     // two copies are too many before the rest of the flight is over, too
-    ensures under_way { (named : ℕ) → HeadlineHolds line_that_sends_back named → ⊥ }
+    ensures in_flight { (named : ℕ) → HeadlineHolds line_that_sends_back named → ⊥ }
 {}
 
 /// The fork sends on l2 only what comes with a TTL greater than 64.
-pub fn the_fork_needs_its_threshold()
-    ensures kept { HeadlineHolds (fork 65) 3 }
+pub fn fork_needs_ttl_above_threshold()
+    ensures headline_holds { HeadlineHolds (fork 65) 3 }
     ensures travel { run (fork 65) (Handles 0 ∷ []) (start (fork 65) 65) ≡ fork_end }
     ensures headline { (named : ℕ) → HeadlineHolds (fork 64) named → ⊥ }
     ensures right { IsRight (fork 64) → ⊥ }

@@ -11,45 +11,45 @@
 mod certificate_laws;
 mod headline_laws;
 mod hop_laws;
-mod left_out_laws;
+mod excluded_laws;
 mod travel_laws;
-mod way_laws;
-mod worked_way_laws;
+mod path_laws;
+mod example_path_laws;
 
 pub use certificate_laws::{
-    a_flow_has_a_certificate_exactly_if_it_is_right, a_right_flow_is_accepted,
+    certificate_exists_iff_flow_is_right, a_right_flow_is_accepted,
     an_accepted_flow_is_right, every_complete_run_delivers, every_run_is_safe,
-    no_reason_is_acceptance, order_of_entries_does_not_matter, the_headline_holds,
+    no_reason_iff_accepted, order_of_entries_does_not_matter, accepted_flow_keeps_headline,
 };
 pub use headline_laws::{
-    a_copy_that_leaves_is_wrong, a_lan_that_is_not_served_is_wrong,
-    a_lan_that_is_served_twice_is_wrong, the_fork_needs_its_threshold, the_headline_in_counts,
+    stray_copy_is_wrong, unserved_lan_is_wrong,
+    twice_served_lan_is_wrong, fork_needs_ttl_above_threshold, the_headline_in_counts,
     the_line_is_right,
 };
 pub use hop_laws::{
-    a_hop_is_found_by_its_interface, a_packet_below_the_need_is_stopped_once,
-    a_second_copy_of_a_loop_came_from_its_lan, a_stop_is_found, a_walk_back_finds_the_hops,
-    hops_are_determined, hops_are_few, hops_are_found_one_by_one,
-    the_need_of_its_hops_is_the_least_ttl,
+    hop_is_found_by_its_interface, packet_below_need_stops_at_one_hop,
+    loop_copy_came_from_its_own_lan, stopping_hop_is_found, walk_back_finds_the_hops,
+    hops_of_a_copy_are_unique, fewer_hops_than_carried_copies, hops_are_found_one_by_one,
+    need_of_hops_is_least_ttl,
 };
-pub use left_out_laws::{
-    a_run_without_routers_is_one_with_them, r1_is_known_without_r2,
-    what_goes_wrong_without_routers_goes_wrong_with_them,
+pub use excluded_laws::{
+    run_without_routers_occurs_with_them, r1_acts_alike_without_r2,
+    fault_without_routers_is_fault_with_them,
 };
 pub use travel_laws::{
-    a_clean_travel_makes_a_tree, a_finding_says_what_the_flight_shows, a_finding_shows,
-    a_travel_ends, a_travel_under_way_is_bounded, an_event_tells_what_its_step_did,
-    clean_travels_certify, each_copy_comes_of_an_earlier_one, needs_tell_the_second_travel,
+    a_clean_travel_makes_a_tree, finding_is_what_the_flight_shows, non_clean_finding_is_not_right,
+    a_travel_ends, travel_so_far_is_bounded, event_counts_what_its_step_did,
+    clean_travels_certify, each_copy_was_sent_on_from_an_earlier_one, needs_decide_the_second_travel,
     the_walk_back_ends,
 };
-pub use way_laws::{
-    a_carried_copy_came_by_a_way, a_second_copy_came_by_another_way,
-    the_first_copy_has_the_least_rank, the_least_ttl_reaches, the_remedy_keeps_what_is_reached,
-    what_is_reached_is_carried, what_passes_is_a_matter_of_need,
+pub use path_laws::{
+    carried_copy_came_by_a_path, second_copy_came_by_another_path,
+    first_copy_has_the_least_rank, need_is_the_least_reaching_ttl, spare_interface_removal_keeps_reach,
+    complete_run_carries_reached_lans, packet_passes_iff_ttl_meets_need,
 };
-pub use worked_way_laws::{
-    a_packet_below_the_need_may_be_lost, an_interface_alone_is_taken_out,
-    by_other_choices_a_first_copy_may_be_late, hops_are_read_from_rows,
-    the_closed_diamond_has_a_remedy, the_diamond_has_an_upper_way, the_diamond_stops_low_packets,
-    the_way_back_came_from_its_lan, the_way_back_has_a_remedy,
+pub use example_path_laws::{
+    remedy_may_lose_packets_below_need, only_the_interface_is_taken_out,
+    other_choices_may_delay_a_first_copy, hops_are_read_from_rows,
+    closed_diamond_has_a_remedy, diamond_has_an_upper_path, diamond_stops_low_ttl_packets,
+    line_with_loop_copy_came_from_its_lan, line_with_loop_has_a_remedy,
 };

@@ -2,19 +2,19 @@
 
 ghost use Rattle.std.specs.Prelude.{◌+◌, slice_get, Some};
 ghost use Rattle.std.specs.Prelude.{◌≡◌, ◌≢◌, ◌↔◌, ◌≤◌, ℕ, Bool, List, [], length};
-ghost use Rattle.mc_theory.specs.Nets.{Net, IsNet, WantsBelow, placed_vifs};
+ghost use Rattle.mc_theory.specs.Nets.{Net, IsNet, WantsBelow, placed_interfaces};
 ghost use Rattle.mc_theory.specs.Flights.{Flight, Pick, Waiting, start, step, run};
 ghost use Rattle.mc_theory.specs.Certificates.{Entry, IsTree, IsServed, IsAccepted, IsRight};
-ghost use Rattle.mc_theory.specs.Findings.{Finding, IsTravel, IsUnderWay, WalksEnd, handles};
+ghost use Rattle.mc_theory.specs.Findings.{Finding, IsTravel, IsTravelUnfinished, AllWalksEnd, handles};
 ghost use Rattle.mc_theory.specs.Findings.Finding.{Clean};
-ghost use Rattle.mc_theory.specs.Made.{entries_of};
+ghost use Rattle.mc_theory.specs.CertificateOfCopies.{entries_of};
 ghost use Rattle.mc_theory.specs.Events.{event_of, copies_in, strays_in};
-ghost use Rattle.mc_theory.specs.Shown.{Shows};
-ghost use Rattle.mc_theory.specs.Origins.{IsInOrder};
+ghost use Rattle.mc_theory.specs.FindingMeaning.{Shows};
+ghost use Rattle.mc_theory.specs.CopyOrigins.{AreInSendingOrder};
 
 /// Another finding than `Clean`, of a travel at a TTL from the flow's to 255, shows that the flow
 /// isn't right.
-pub fn a_finding_shows()
+pub fn non_clean_finding_is_not_right()
     ensures { (n : Net) (count t : ℕ) (numbers : List ℕ) (last : Bool) (is : List ℕ) (x : Finding) →
         IsNet n → WantsBelow n count → n.ttl ≤ t → t ≤ 255 →
         IsTravel n count numbers last is (start n t) x → x ≢ Clean → ¬ IsRight n }
@@ -24,14 +24,14 @@ pub fn a_finding_shows()
 pub fn a_travel_ends()
     ensures { (n : Net) (count t : ℕ) (numbers : List ℕ) (last : Bool) (is : List ℕ) (x : Finding) →
         IsNet n → IsTravel n count numbers last is (start n t) x →
-        length is ≤ length (placed_vifs n) }
+        length is ≤ length (placed_interfaces n) }
 {}
 
 /// A travel under way has had at most as many events: as long as no flight shows anything, the next
 /// event is one of them too.
-pub fn a_travel_under_way_is_bounded()
+pub fn travel_so_far_is_bounded()
     ensures { (n : Net) (count t : ℕ) (numbers : List ℕ) (last : Bool) (is : List ℕ) →
-        IsUnderWay n count numbers last is (start n t) → length is ≤ length (placed_vifs n) }
+        IsTravelUnfinished n count numbers last is (start n t) → length is ≤ length (placed_interfaces n) }
 {}
 
 /// Two clean travels, one at TTL 255 and one at the flow's, give an accepted list: the entries
@@ -55,7 +55,7 @@ pub fn a_clean_travel_makes_a_tree()
 
 /// Where all conditions but the last are met, the needs tell what a travel at the flow's TTL
 /// finds: it is clean exactly if each wanting LAN is named with a need that this TTL meets.
-pub fn needs_tell_the_second_travel()
+pub fn needs_decide_the_second_travel()
     ensures { (n : Net) (count : ℕ) (es : List Entry)
         (numbers : List ℕ) (last : Bool) (is : List ℕ) (x : Finding) →
         IsNet n → WantsBelow n count → 1 ≤ n.ttl → n.ttl ≤ 255 → IsTree n es →
@@ -64,8 +64,8 @@ pub fn needs_tell_the_second_travel()
 {}
 
 /// In every run each carried copy but the source's was sent on from one that was carried before it.
-pub fn each_copy_comes_of_an_earlier_one()
-    ensures { (n : Net) (t : ℕ) (ps : List Pick) → IsInOrder n [] (run n ps (start n t)).carried }
+pub fn each_copy_was_sent_on_from_an_earlier_one()
+    ensures { (n : Net) (t : ℕ) (ps : List Pick) → AreInSendingOrder n [] (run n ps (start n t)).carried }
 {}
 
 /// In the flight that a travel ends with, the walk back from each copy ends at the source's copy,
@@ -74,11 +74,11 @@ pub fn each_copy_comes_of_an_earlier_one()
 pub fn the_walk_back_ends()
     ensures { (n : Net) (count t : ℕ) (numbers : List ℕ) (last : Bool) (is : List ℕ) (x : Finding) →
         IsTravel n count numbers last is (start n t) x →
-        WalksEnd n (run n (handles is) (start n t)).carried }
+        AllWalksEnd n (run n (handles is) (start n t)).carried }
 {}
 
 /// A travel's finding says what the flight shows that it ends with.
-pub fn a_finding_says_what_the_flight_shows()
+pub fn finding_is_what_the_flight_shows()
     ensures { (n : Net) (count t : ℕ) (numbers : List ℕ) (last : Bool) (is : List ℕ) (x : Finding) →
         WantsBelow n count → IsTravel n count numbers last is (start n t) x →
         Shows n (run n (handles is) (start n t)) x }
@@ -86,7 +86,7 @@ pub fn a_finding_says_what_the_flight_shows()
 
 /// What is told of an event is what its step did: so many copies more were carried, and so many
 /// strays more are there.
-pub fn an_event_tells_what_its_step_did()
+pub fn event_counts_what_its_step_did()
     ensures copies { (n : Net) (i : ℕ) (f : Flight) (w : Waiting) → slice_get f.waiting i ≡ Some w →
         length (step n i f).carried ≡ length f.carried + copies_in (event_of n w).outcome }
     ensures strays { (n : Net) (i : ℕ) (f : Flight) (w : Waiting) → slice_get f.waiting i ≡ Some w →

@@ -11,25 +11,25 @@ use Rattle.mc_topology.specs.Topology.{AreDistinctBy}
 
 module _ {X : Type 0} where
   -- an item of the front list has its place in the whole
-  get_front : (xs ys : List X) (i : ℕ) (x : X) → slice_get xs i ≡ Some x
+  slice_get-append_front : (xs ys : List X) (i : ℕ) (x : X) → slice_get xs i ≡ Some x
       → slice_get (xs ++ ys) i ≡ Some x
-  get_front [] ys i x e = absurd cc
-  get_front (y ∷ xs) ys zero x e = e
-  get_front (y ∷ xs) ys (suc i) x e = get_front xs ys i x e
+  slice_get-append_front [] ys i x e = absurd cc
+  slice_get-append_front (y ∷ xs) ys zero x e = e
+  slice_get-append_front (y ∷ xs) ys (suc i) x e = slice_get-append_front xs ys i x e
 
   -- the item behind the front list has the place after it
-  get_next : (xs ys : List X) (x : X) → slice_get (xs ++ x ∷ ys) (length xs) ≡ Some x
-  get_next [] ys x = refl
-  get_next (y ∷ xs) ys x = get_next xs ys x
+  slice_get-append_next : (xs ys : List X) (x : X) → slice_get (xs ++ x ∷ ys) (length xs) ≡ Some x
+  slice_get-append_next [] ys x = refl
+  slice_get-append_next (y ∷ xs) ys x = slice_get-append_next xs ys x
 
   -- what stands at a place is of the old list, or is the item that was added
-  got_pushed : (xs : List X) (y : X) (i : ℕ) (x : X) → slice_get (xs ++ y ∷ []) i ≡ Some x
+  slice_get-push : (xs : List X) (y : X) (i : ℕ) (x : X) → slice_get (xs ++ y ∷ []) i ≡ Some x
       → (slice_get xs i ≡ Some x) ⊎ ((i ≡ length xs) × (x ≡ y))
-  got_pushed [] y zero x e = inr (refl, cc)
-  got_pushed [] y (suc i) x e = absurd cc
-  got_pushed (z ∷ xs) y zero x e = inl e
-  got_pushed (z ∷ xs) y (suc i) x e =
-      elim (got_pushed xs y i x e) [
+  slice_get-push [] y zero x e = inr (refl, cc)
+  slice_get-push [] y (suc i) x e = absurd cc
+  slice_get-push (z ∷ xs) y zero x e = inl e
+  slice_get-push (z ∷ xs) y (suc i) x e =
+      elim (slice_get-push xs y i x e) [
         | inl before ↦ inl before
         | inr last ↦ inr (omega (arith, last.0), last.1)
       ]
@@ -37,58 +37,58 @@ module _ {X : Type 0} where
 module _ {X K : Type 0} (key : X → K) (test : X → X → Bool)
     (same : (y x : X) → Decides (test y x) (key y ≡ key x)) where
   -- an item of the list has the key of x
-  abbrev pub is_taken : X → List X → Bool
-  is_taken x xs = list_any (λ y. test y x) xs
+  abbrev pub is_key_taken : X → List X → Bool
+  is_key_taken x xs = list_any (λ y. test y x) xs
 
   -- an item of this key among one more: the first, or one of the rest
-  taken_first : (y : X) (xs : List X) (x : X) (b : Bool) → test y x ≡ b
-      → (is_taken x xs ≡ true → (i : ℕ) × (z : X) × (slice_get xs i ≡ Some z) × (key z ≡ key x))
-      → (b || is_taken x xs) ≡ true → (i : ℕ) × (z : X) × (slice_get (y ∷ xs) i ≡ Some z)
+  item-from_is_key_taken_first : (y : X) (xs : List X) (x : X) (b : Bool) → test y x ≡ b
+      → (is_key_taken x xs ≡ true → (i : ℕ) × (z : X) × (slice_get xs i ≡ Some z) × (key z ≡ key x))
+      → (b || is_key_taken x xs) ≡ true → (i : ℕ) × (z : X) × (slice_get (y ∷ xs) i ≡ Some z)
       × (key z ≡ key x)
-  taken_first y xs x true is later e = (0, y, refl, (same y x).0 is)
-  taken_first y xs x false is later e = let t = later e in (suc t.0, t.1, t.2, t.3)
+  item-from_is_key_taken_first y xs x true is later e = (0, y, refl, (same y x).0 is)
+  item-from_is_key_taken_first y xs x false is later e = let t = later e in (suc t.0, t.1, t.2, t.3)
 
   -- where the key is taken, an item has it
-  taken_at : (xs : List X) (x : X) → is_taken x xs ≡ true → (i : ℕ) × (z : X)
+  item-from_is_key_taken : (xs : List X) (x : X) → is_key_taken x xs ≡ true → (i : ℕ) × (z : X)
       × (slice_get xs i ≡ Some z) × (key z ≡ key x)
-  taken_at [] x e = absurd cc
-  taken_at (y ∷ xs) x e = taken_first y xs x (test y x) refl (λ h. taken_at xs x h) e
+  item-from_is_key_taken [] x e = absurd cc
+  item-from_is_key_taken (y ∷ xs) x e = item-from_is_key_taken_first y xs x (test y x) refl (λ h. item-from_is_key_taken xs x h) e
 
   -- where an item has the key, the key is taken
-  at_taken : (xs : List X) (i : ℕ) (y x : X) → slice_get xs i ≡ Some y → key y ≡ key x
-      → is_taken x xs ≡ true
-  at_taken xs i y x e k =
+  is_key_taken-from_item : (xs : List X) (i : ℕ) (y x : X) → slice_get xs i ≡ Some y → key y ≡ key x
+      → is_key_taken x xs ≡ true
+  is_key_taken-from_item xs i y x e k =
       list_any_at (λ z. test z x) xs i y (slice_get_within xs i y e)
       (ap (λ (z : X). test z x) (get_or_from_slice_get xs i y y e) ∙ (same y x).1 k)
 
   -- no items
-  pub distinct_none : AreDistinctBy key []
-  distinct_none i j x y at_i at_j k = absurd cc
+  pub AreDistinctBy-none : AreDistinctBy key []
+  AreDistinctBy-none i j x y at_i at_j k = absurd cc
 
   -- an item whose key is new is added
-  pub distinct_push : (xs : List X) (x : X) → AreDistinctBy key xs → is_taken x xs ≡ false
+  pub AreDistinctBy-push : (xs : List X) (x : X) → AreDistinctBy key xs → is_key_taken x xs ≡ false
       → AreDistinctBy key (xs ++ x ∷ [])
-  distinct_push xs x distinct new i j a b at_i at_j k =
-      elim (got_pushed xs x i a at_i) [
-        | inl before_i ↦ elim (got_pushed xs x j b at_j) [
+  AreDistinctBy-push xs x distinct new i j a b at_i at_j k =
+      elim (slice_get-push xs x i a at_i) [
+        | inl before_i ↦ elim (slice_get-push xs x j b at_j) [
           | inl before_j ↦ distinct i j a b before_i before_j k
-          | inr last_j ↦ let taken = at_taken xs i a x before_i (k ∙ ap key last_j.1) in
+          | inr last_j ↦ let taken = is_key_taken-from_item xs i a x before_i (k ∙ ap key last_j.1) in
               absurd cc
         ]
-        | inr last_i ↦ elim (got_pushed xs x j b at_j) [
-          | inl before_j ↦ let taken = at_taken xs j b x before_j (sym k ∙ ap key last_i.1) in
+        | inr last_i ↦ elim (slice_get-push xs x j b at_j) [
+          | inl before_j ↦ let taken = is_key_taken-from_item xs j b x before_j (sym k ∙ ap key last_i.1) in
               absurd cc
           | inr last_j ↦ last_i.0 ∙ sym last_j.0
         ]
       ]
 
   -- each item's key is new beside those before it
-  pub distinct_new : (xs ys : List X) (x : X) → AreDistinctBy key (xs ++ x ∷ ys)
-      → is_taken x xs ≡ false
-  distinct_new xs ys x distinct =
+  pub is_key_taken-from_distinct : (xs ys : List X) (x : X) → AreDistinctBy key (xs ++ x ∷ ys)
+      → is_key_taken x xs ≡ false
+  is_key_taken-from_distinct xs ys x distinct =
       false_from_ne_true _ (λ taken.
-      let (i, y, at, k) = taken_at xs x taken in
+      let (i, y, at, k) = item-from_is_key_taken xs x taken in
       let here : i ≡ length xs =
-      distinct i (length xs) y x (get_front xs (x ∷ ys) i y at) (get_next xs ys x) k in
+      distinct i (length xs) y x (slice_get-append_front xs (x ∷ ys) i y at) (slice_get-append_next xs ys x) k in
       let within = slice_get_within xs i y at in
       omega (arith, here, within))

@@ -10,56 +10,56 @@ use Rattle.indexmap.proofs.CallerLemmas.{insert_entry-new}
 use Rattle.mc_topology.specs.declared.flow.Flow.{Flow}
 use Rattle.mc_topology.specs.Flows.{has_flow}
 use Rattle.mc_topology.specs.Topology.{flow_key}
-use Rattle.mc_topology.proofs.Keyed.{same_number, any_of_rows, any_of_entries, none_from}
+use Rattle.mc_topology.proofs.Keyed.{nat_eq-flip, list_any-map_row, is_some_lookup-any_row, None-from_is_some_false}
 
 -- two sources and groups are the same
 abbrev pub same_pair : ℕ × ℕ → ℕ × ℕ → Bool
 same_pair x y = (x.0 == y.0) && (x.1 == y.1)
 
 -- a test of a flow's source and group is a test of its key
-flow_agrees : (source group : ℕ) (f : Flow)
+same_pair-flow_key : (source group : ℕ) (f : Flow)
     → ((f.source == source) && (f.group == group)) ≡ same_pair (source, group) (flow_key f)
-flow_agrees source group f = rw (same_number f.source source, same_number f.group group) refl
+same_pair-flow_key source group f = rw (nat_eq-flip f.source source, nat_eq-flip f.group group) refl
 
 -- a key is there exactly if a flow has it
-pub any_flow : (es : List ((ℕ × ℕ) × Flow)) (source group : ℕ)
+pub is_some-lookup_flow : (es : List ((ℕ × ℕ) × Flow)) (source group : ℕ)
     → keys_of es ≡ map flow_key (values_of es)
     → is_some (lookup (same_pair (source, group)) es) ≡ has_flow source group (values_of es)
-any_flow es source group kept =
+is_some-lookup_flow es source group kept =
     let test = same_pair (source, group) in
-    any_of_entries (λ (e : (ℕ × ℕ) × Flow). e.0) test test (λ e. refl) es
+    is_some_lookup-any_row (λ (e : (ℕ × ℕ) × Flow). e.0) test test (λ e. refl) es
     ∙ ap (list_any test) kept
-    ∙ sym (any_of_rows flow_key (λ (f : Flow). (f.source == source) && (f.group == group)) test
-    (flow_agrees source group) (values_of es))
+    ∙ sym (list_any-map_row flow_key (λ (f : Flow). (f.source == source) && (f.group == group)) test
+    (same_pair-flow_key source group) (values_of es))
 
 -- a flow with a new key goes last
-flow_added : {S : Type 0} (m : IndexMap (ℕ × ℕ) Flow S) (f : Flow)
+insert_entry-new_flow : {S : Type 0} (m : IndexMap (ℕ × ℕ) Flow S) (f : Flow)
     → keys_of m.entries ≡ map flow_key (values_of m.entries)
     → has_flow f.source f.group (values_of m.entries) ≡ false
     → insert_entry same_pair m.entries (flow_key f) f ≡ m.entries ++ (flow_key f, f) ∷ []
-flow_added m f kept new =
+insert_entry-new_flow m f kept new =
     insert_entry-new same_pair m (flow_key f) f
-    (none_from (lookup (same_pair (flow_key f)) m.entries)
-    (any_flow m.entries f.source f.group kept ∙ new))
+    (None-from_is_some_false (lookup (same_pair (flow_key f)) m.entries)
+    (is_some-lookup_flow m.entries f.source f.group kept ∙ new))
 
 -- so the flows are the old ones and it
-pub flow_pushed : {S : Type 0} (m : IndexMap (ℕ × ℕ) Flow S) (f : Flow)
+pub values_of-insert_new_flow : {S : Type 0} (m : IndexMap (ℕ × ℕ) Flow S) (f : Flow)
     → keys_of m.entries ≡ map flow_key (values_of m.entries)
     → has_flow f.source f.group (values_of m.entries) ≡ false
     → values_of (insert_entry same_pair m.entries (flow_key f) f) ≡ values_of m.entries ++ f ∷ []
-flow_pushed m f kept new =
-    ap values_of (flow_added m f kept new)
+values_of-insert_new_flow m f kept new =
+    ap values_of (insert_entry-new_flow m f kept new)
     ∙ map-append (λ (e : (ℕ × ℕ) × Flow). e.1) m.entries ((flow_key f, f) ∷ [])
 
 -- and the keys are still those of the flows
-pub flow_keys_kept : {S : Type 0} (m : IndexMap (ℕ × ℕ) Flow S) (f : Flow)
+pub keys_of-insert_new_flow : {S : Type 0} (m : IndexMap (ℕ × ℕ) Flow S) (f : Flow)
     → keys_of m.entries ≡ map flow_key (values_of m.entries)
     → has_flow f.source f.group (values_of m.entries) ≡ false
     → keys_of (insert_entry same_pair m.entries (flow_key f) f)
     ≡ map flow_key (values_of (insert_entry same_pair m.entries (flow_key f) f))
-flow_keys_kept m f kept new =
-    ap keys_of (flow_added m f kept new)
+keys_of-insert_new_flow m f kept new =
+    ap keys_of (insert_entry-new_flow m f kept new)
     ∙ map-append (λ (e : (ℕ × ℕ) × Flow). e.0) m.entries ((flow_key f, f) ∷ [])
     ∙ ap (λ (ks : List (ℕ × ℕ)). ks ++ flow_key f ∷ []) kept
     ∙ sym (map-append flow_key (values_of m.entries) (f ∷ []))
-    ∙ ap (map flow_key) (sym (flow_pushed m f kept new))
+    ∙ ap (map flow_key) (sym (values_of-insert_new_flow m f kept new))

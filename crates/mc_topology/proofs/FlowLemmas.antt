@@ -35,32 +35,32 @@ ttl_of-high (negsuc n) high = refl
 -- ---- what a test of the order tells
 
 -- an order that is less or equal says that no number is greater
-le_tells : (x y : ℤ) (r : Ordering) → r ≡ int_cmp x y → is_le r ≡ true → x ≤ℤ y
-le_tells x y Less e is = let below : x <ℤ y = int_ranked x y Less e in omega (arith, ints)
-le_tells x y Equal e is = let same : x ≡ y = int_ranked x y Equal e in omega (arith, ints)
-le_tells x y Greater e is = absurd cc
+le-from_is_le : (x y : ℤ) (r : Ordering) → r ≡ int_cmp x y → is_le r ≡ true → x ≤ℤ y
+le-from_is_le x y Less e is = let below : x <ℤ y = int_ranked x y Less e in omega (arith, ints)
+le-from_is_le x y Equal e is = let same : x ≡ y = int_ranked x y Equal e in omega (arith, ints)
+le-from_is_le x y Greater e is = absurd cc
 
 -- and one that is neither says that the second is less
-above_tells : (x y : ℤ) (r : Ordering) → r ≡ int_cmp x y → is_le r ≡ false → y <ℤ x
-above_tells x y Less e is = absurd cc
-above_tells x y Equal e is = absurd cc
-above_tells x y Greater e is = int_ranked x y Greater e
+lt-from_not_is_le : (x y : ℤ) (r : Ordering) → r ≡ int_cmp x y → is_le r ≡ false → y <ℤ x
+lt-from_not_is_le x y Less e is = absurd cc
+lt-from_not_is_le x y Equal e is = absurd cc
+lt-from_not_is_le x y Greater e is = int_ranked x y Greater e
 
 -- a number that is 1 to 255
-pub ttl_inside : (z : ℤ) → is_le (int_cmp (pos 1) z) ≡ true → is_le (int_cmp z (pos 255)) ≡ true
+pub ttl_of-from_both_tests : (z : ℤ) → is_le (int_cmp (pos 1) z) ≡ true → is_le (int_cmp z (pos 255)) ≡ true
     → ttl_of z ≡ Ok (nat_abs z)
-ttl_inside z low high =
-    ttl_of-within z (le_tells (pos 1) z _ refl low) (le_tells z (pos 255) _ refl high)
+ttl_of-from_both_tests z low high =
+    ttl_of-within z (le-from_is_le (pos 1) z _ refl low) (le-from_is_le z (pos 255) _ refl high)
 
 -- and one that isn't
-outside_by : (z : ℤ) (low high : Bool) → is_le (int_cmp (pos 1) z) ≡ low
+ttl_of-from_failed_test_by_cases : (z : ℤ) (low high : Bool) → is_le (int_cmp (pos 1) z) ≡ low
     → is_le (int_cmp z (pos 255)) ≡ high
     → (low && high) ≡ false → ttl_of z ≡ Err BadTtl
-outside_by z true true at_low at_high e = absurd cc
-outside_by z true false at_low at_high e = ttl_of-high z (above_tells z (pos 255) _ refl at_high)
-outside_by z false high at_low at_high e = ttl_of-low z (above_tells (pos 1) z _ refl at_low)
+ttl_of-from_failed_test_by_cases z true true at_low at_high e = absurd cc
+ttl_of-from_failed_test_by_cases z true false at_low at_high e = ttl_of-high z (lt-from_not_is_le z (pos 255) _ refl at_high)
+ttl_of-from_failed_test_by_cases z false high at_low at_high e = ttl_of-low z (lt-from_not_is_le (pos 1) z _ refl at_low)
 
 -- so a number that fails one of the two tests is no time to live
-pub ttl_outside : (z : ℤ) → (is_le (int_cmp (pos 1) z) && is_le (int_cmp z (pos 255))) ≡ false
+pub ttl_of-from_failed_test : (z : ℤ) → (is_le (int_cmp (pos 1) z) && is_le (int_cmp z (pos 255))) ≡ false
     → ttl_of z ≡ Err BadTtl
-ttl_outside z e = outside_by z (is_le (int_cmp (pos 1) z)) (is_le (int_cmp z (pos 255))) refl refl e
+ttl_of-from_failed_test z e = ttl_of-from_failed_test_by_cases z (is_le (int_cmp (pos 1) z)) (is_le (int_cmp z (pos 255))) refl refl e

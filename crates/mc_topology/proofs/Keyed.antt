@@ -19,19 +19,19 @@ use Rattle.indexmap.proofs.CallerLemmas.{insert_entry-new}
 -- ---- tests
 
 -- two tests of one fact are one
-same_tests : {P Q : Type 0} (r s : Bool) → Decides r P → Decides s Q → (P → Q) → (Q → P) → r ≡ s
-same_tests r s decides_p decides_q to from =
+test_eq-from_iff : {P Q : Type 0} (r s : Bool) → Decides r P → Decides s Q → (P → Q) → (Q → P) → r ≡ s
+test_eq-from_iff r s decides_p decides_q to from =
     same_from_decides r s decides_p (λ e. from (decides_q.0 e), λ p. decides_q.1 (to p))
 
 -- a test of two texts or of two numbers is the same either way
-pub same_text : (a b : List ℕ) → bytes_eq a b ≡ bytes_eq b a
-same_text a b =
-    same_tests (bytes_eq a b) (bytes_eq b a) (bytes_eq-Decides a b) (bytes_eq-Decides b a)
+pub bytes_eq-flip : (a b : List ℕ) → bytes_eq a b ≡ bytes_eq b a
+bytes_eq-flip a b =
+    test_eq-from_iff (bytes_eq a b) (bytes_eq b a) (bytes_eq-Decides a b) (bytes_eq-Decides b a)
     (λ e. sym e) (λ e. sym e)
 
-pub same_number : (a b : ℕ) → (a == b) ≡ (b == a)
-same_number a b =
-    same_tests (a == b) (b == a) (unsigned_Decides a b) (unsigned_Decides b a) (λ e. sym e)
+pub nat_eq-flip : (a b : ℕ) → (a == b) ≡ (b == a)
+nat_eq-flip a b =
+    test_eq-from_iff (a == b) (b == a) (unsigned_Decides a b) (unsigned_Decides b a) (λ e. sym e)
     (λ e. sym e)
 
 -- ---- keys alone
@@ -39,25 +39,25 @@ same_number a b =
 module _ {K R : Type 0} (row : K → R) (test : K → Bool) (same : R → Bool)
     (agree : (k : K) → test k ≡ same (row k)) where
   -- a key passes exactly if a row does
-  pub any_of_rows : (ks : List K) → list_any test ks ≡ list_any same (map row ks)
-  any_of_rows [] = refl
-  any_of_rows (k ∷ ks) = rw (agree k, any_of_rows ks) refl
+  pub list_any-map_row : (ks : List K) → list_any test ks ≡ list_any same (map row ks)
+  list_any-map_row [] = refl
+  list_any-map_row (k ∷ ks) = rw (agree k, list_any-map_row ks) refl
 
   -- as many keys fail before the first that passes as rows do
-  before_row : (ks : List K) → position_or_len test ks ≡ position_or_len same (map row ks)
-  before_row [] = refl
-  before_row (k ∷ ks) = rw (agree k, before_row ks) refl
+  position_or_len-map_row : (ks : List K) → position_or_len test ks ≡ position_or_len same (map row ks)
+  position_or_len-map_row [] = refl
+  position_or_len-map_row (k ∷ ks) = rw (agree k, position_or_len-map_row ks) refl
 
   -- the first key that passes has the place of the first row that does
-  pub place_of_row : (ks : List K) → position test ks ≡ position same (map row ks)
-  place_of_row ks = rw (before_row ks, length-map ks row) refl
+  pub position-map_row : (ks : List K) → position test ks ≡ position same (map row ks)
+  position-map_row ks = rw (position_or_len-map_row ks, length-map ks row) refl
 
 -- a new key goes last
-pub push_key : {K R : Type 0} (row : K → R) (eq : K → K → Bool) (same : R → Bool) (ks : List K)
+pub rows-insert_new_key : {K R : Type 0} (row : K → R) (eq : K → K → Bool) (same : R → Bool) (ks : List K)
     (k : K) → ((j : K) → eq k j ≡ same (row j))
     → list_any same (map row ks) ≡ false → map row (insert_key eq ks k) ≡ map row ks ++ row k ∷ []
-push_key row eq same ks k agree new =
-    let none = any_of_rows row (eq k) same agree ks ∙ new in
+rows-insert_new_key row eq same ks k agree new =
+    let none = list_any-map_row row (eq k) same agree ks ∙ new in
     rw none (map-append row ks (k ∷ []))
 
 -- ---- keys with what is kept of each
@@ -65,52 +65,52 @@ push_key row eq same ks k agree new =
 module _ {K V R : Type 0} (row : K × V → R) (test : K → Bool) (same : R → Bool)
     (agree : (e : K × V) → test e.0 ≡ same (row e)) where
   -- the first entry whose key passes is that of the first row that does
-  value_first : (value : R → V) (e : K × V) (es : List (K × V)) (b : Bool) → same (row e) ≡ b
+  lookup-first : (value : R → V) (e : K × V) (es : List (K × V)) (b : Bool) → same (row e) ≡ b
       → value (row e) ≡ e.1 → lookup test es ≡ option_map value (find same (map row es))
       → lookup test (e ∷ es) ≡ option_map value (find same (map row (e ∷ es)))
-  value_first value e es true is of later = rw (agree e, is, of) refl
-  value_first value e es false is of later = rw (agree e, is) later
+  lookup-first value e es true is of later = rw (agree e, is, of) refl
+  lookup-first value e es false is of later = rw (agree e, is) later
 
   -- the value of the first key that passes is that of the first row that does
-  pub value_of_row : (value : R → V) → ((e : K × V) → value (row e) ≡ e.1) → (es : List (K × V))
+  pub lookup-find_row : (value : R → V) → ((e : K × V) → value (row e) ≡ e.1) → (es : List (K × V))
       → lookup test es ≡ option_map value (find same (map row es))
-  value_of_row value of [] = refl
-  value_of_row value of (e ∷ es) =
-      value_first value e es (same (row e)) refl (of e) (value_of_row value of es)
+  lookup-find_row value of [] = refl
+  lookup-find_row value of (e ∷ es) =
+      lookup-first value e es (same (row e)) refl (of e) (lookup-find_row value of es)
 
   -- a key passes exactly if a row does
-  any_first : (e : K × V) (es : List (K × V)) (b : Bool) → same (row e) ≡ b
+  is_some_lookup-first : (e : K × V) (es : List (K × V)) (b : Bool) → same (row e) ≡ b
       → is_some (lookup test es) ≡ list_any same (map row es)
       → is_some (lookup test (e ∷ es)) ≡ list_any same (map row (e ∷ es))
-  any_first e es true is later = rw (agree e, is) refl
-  any_first e es false is later = rw (agree e, is) later
+  is_some_lookup-first e es true is later = rw (agree e, is) refl
+  is_some_lookup-first e es false is later = rw (agree e, is) later
 
   -- and so for all entries
-  pub any_of_entries : (es : List (K × V)) → is_some (lookup test es) ≡ list_any same (map row es)
-  any_of_entries [] = refl
-  any_of_entries (e ∷ es) = any_first e es (same (row e)) refl (any_of_entries es)
+  pub is_some_lookup-any_row : (es : List (K × V)) → is_some (lookup test es) ≡ list_any same (map row es)
+  is_some_lookup-any_row [] = refl
+  is_some_lookup-any_row (e ∷ es) = is_some_lookup-first e es (same (row e)) refl (is_some_lookup-any_row es)
 
   -- as many keys fail before the first that passes as rows do
-  before_entry : (es : List (K × V))
+  position_or_len-keys_of : (es : List (K × V))
       → position_or_len test (keys_of es) ≡ position_or_len same (map row es)
-  before_entry [] = refl
-  before_entry (e ∷ es) = rw (agree e, before_entry es) refl
+  position_or_len-keys_of [] = refl
+  position_or_len-keys_of (e ∷ es) = rw (agree e, position_or_len-keys_of es) refl
 
   -- the first key that passes has the place of the first row that does
-  pub place_of_entry : (es : List (K × V)) → position test (keys_of es) ≡ position same (map row es)
-  place_of_entry es = rw (before_entry es, length-keys_of es, length-map es row) refl
+  pub position-keys_of : (es : List (K × V)) → position test (keys_of es) ≡ position same (map row es)
+  position-keys_of es = rw (position_or_len-keys_of es, length-keys_of es, length-map es row) refl
 
 -- an option that has nothing is none
-pub none_from : {V : Type 0} (o : Option V) → is_some o ≡ false → o ≡ None
-none_from None e = refl
-none_from (Some v) e = absurd cc
+pub None-from_is_some_false : {V : Type 0} (o : Option V) → is_some o ≡ false → o ≡ None
+None-from_is_some_false None e = refl
+None-from_is_some_false (Some v) e = absurd cc
 
 -- an entry with a new key goes last
-pub push_entry : {K V R S : Type 0} (row : K × V → R) (eq : K → K → Bool) (same : R → Bool)
+pub rows-insert_new_entry : {K V R S : Type 0} (row : K × V → R) (eq : K → K → Bool) (same : R → Bool)
     (m : IndexMap K V S) (k : K) (v : V) → ((e : K × V) → eq k e.0 ≡ same (row e))
     → list_any same (map row m.entries) ≡ false
     → map row (insert_entry eq m.entries k v) ≡ map row m.entries ++ row (k, v) ∷ []
-push_entry row eq same m k v agree new =
-    let none = none_from (lookup (eq k) m.entries)
-    (any_of_entries row (eq k) same agree m.entries ∙ new) in
+rows-insert_new_entry row eq same m k v agree new =
+    let none = None-from_is_some_false (lookup (eq k) m.entries)
+    (is_some_lookup-any_row row (eq k) same agree m.entries ∙ new) in
     ap (map row) (insert_entry-new eq m k v none) ∙ map-append row m.entries ((k, v) ∷ [])

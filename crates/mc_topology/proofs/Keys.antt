@@ -7,8 +7,8 @@ use Rattle.std.specs.Str.{bytes_eq}
 use Rattle.std.proofs.lemmas.Bool.{and_parts}
 use Rattle.std.proofs.lemmas.Slice.Eq.{bytes_eq-Decides}
 use Rattle.mc_topology.specs.declared.flow.Flow.{Flow}
-use Rattle.mc_topology.specs.Rows.{RouterRow, InterfaceRow, SourceRow}
-use Rattle.mc_topology.specs.Lookup.{is_at}
+use Rattle.mc_topology.specs.SectionRows.{RouterRow, InterfaceRow, SourceRow}
+use Rattle.mc_topology.specs.Lookup.{is_interface_of}
 use Rattle.mc_topology.specs.Topology.{lan_key, router_key, interface_key, source_key, flow_key}
 
 -- two LANs have one name
@@ -29,12 +29,12 @@ same_router-Decides y x = bytes_eq-Decides y.name x.name
 
 -- two interfaces have one router and one device
 abbrev pub same_interface : InterfaceRow → InterfaceRow → Bool
-same_interface y x = is_at x.router x.device y
+same_interface y x = is_interface_of x.router x.device y
 
 -- an interface is that of a router and a device exactly if it has their key
-pub is_at-Decides : (router : ℕ) (device : List ℕ) (i : InterfaceRow)
-    → Decides (is_at router device i) (interface_key i ≡ (router, device))
-is_at-Decides router device i = (
+pub is_interface_of-Decides : (router : ℕ) (device : List ℕ) (i : InterfaceRow)
+    → Decides (is_interface_of router device i) (interface_key i ≡ (router, device))
+is_interface_of-Decides router device i = (
   λ e.
       let (same_router, same_device) = and_parts _ _ e in
       let one : i.router ≡ router = (unsigned_Decides i.router router).0 same_router in
@@ -48,7 +48,7 @@ is_at-Decides router device i = (
 
 pub same_interface-Decides : (y x : InterfaceRow)
     → Decides (same_interface y x) (interface_key y ≡ interface_key x)
-same_interface-Decides y x = is_at-Decides x.router x.device y
+same_interface-Decides y x = is_interface_of-Decides x.router x.device y
 
 -- two sources have one address
 abbrev pub same_source : SourceRow → SourceRow → Bool

@@ -1,6 +1,6 @@
 pub mod Bounds
 pub mod Distinct
-pub mod Each
+pub mod EachRow
 mod Examples
 pub mod FlowKeys
 pub mod FlowLemmas
@@ -8,13 +8,13 @@ pub mod Fields
 pub mod InterfaceKeys
 pub mod InterfaceLemmas
 pub mod Keyed
-pub mod KeptNames
+pub mod InsertedRows
 pub mod Keys
-pub mod Kept
+pub mod Validity
 pub mod NameLemmas
-pub mod Parts
+pub mod SectionParts
 pub mod Places
 pub mod ReadLemmas
-pub mod Whole
+pub mod TopologyTexts
 pub mod Steps
 pub mod Tables

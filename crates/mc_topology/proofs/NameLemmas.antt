@@ -10,7 +10,7 @@ use Rattle.std.proofs.lemmas.List.Quantifiers.{position-Some}
 use Rattle.std.proofs.lemmas.List.Sums.{position_or_len_is}
 use Rattle.std.proofs.lemmas.Option.{slice_get_within, slice_get-get_or, get_or_from_slice_get}
 use Rattle.std.proofs.lemmas.Slice.Eq.{bytes_eq-Decides}
-use Rattle.mc_topology.specs.Rows.{RouterRow}
+use Rattle.mc_topology.specs.SectionRows.{RouterRow}
 use Rattle.mc_text.specs.DeviceName.{is_device_name}
 use Rattle.mc_topology.specs.Names.{is_device, index_of}
 use Rattle.mc_topology.specs.Lookup.{router_no_of}
@@ -18,9 +18,9 @@ use Rattle.mc_topology.specs.Topology.{AreDistinctBy, lan_key, router_key}
 
 module _ {X : Type 0} where
   -- the place of an item that no earlier one is taken for
-  place_is : (p : X → Bool) (xs : List X) (k : ℕ) (x : X) → slice_get xs k ≡ Some x → p x ≡ true
+  position-first_match : (p : X → Bool) (xs : List X) (k : ℕ) (x : X) → slice_get xs k ≡ Some x → p x ≡ true
       → ((j : ℕ) → j < k → p (get_or xs j x) ≡ false) → position p xs ≡ Some k
-  place_is p xs k x e passes before =
+  position-first_match p xs k x e passes before =
       let within = slice_get_within xs k x e in
       let is : position_or_len p xs ≡ k =
       position_or_len_is p xs k x (omega (arith, within)) before
@@ -28,10 +28,10 @@ module _ {X : Type 0} where
       rw (is, lt-ltb k (length xs) within) refl
 
   -- the place of an item by its name, where no two have one
-  place_of_name : (name_of : X → List ℕ) (xs : List X) (k : ℕ) (x : X) → AreDistinctBy name_of xs
+  position-distinct_name : (name_of : X → List ℕ) (xs : List X) (k : ℕ) (x : X) → AreDistinctBy name_of xs
       → slice_get xs k ≡ Some x → position (λ y. bytes_eq (name_of y) (name_of x)) xs ≡ Some k
-  place_of_name name_of xs k x distinct e =
-      place_is (λ y. bytes_eq (name_of y) (name_of x)) xs k x e
+  position-distinct_name name_of xs k x distinct e =
+      position-first_match (λ y. bytes_eq (name_of y) (name_of x)) xs k x e
       ((bytes_eq-Decides (name_of x) (name_of x)).1 refl)
       (λ j lt.
       false_from_ne_true _ (λ same.
@@ -44,55 +44,55 @@ module _ {X : Type 0} where
 -- ---- LANs
 
 -- the number of a LAN's name is the LAN's, where no two LANs have one name
-pub number_of_lan : (lans : List (List ℕ)) (lan : ℕ) (name : List ℕ) → AreDistinctBy lan_key lans
+pub index_of-lan_name : (lans : List (List ℕ)) (lan : ℕ) (name : List ℕ) → AreDistinctBy lan_key lans
     → slice_get lans lan ≡ Some name → index_of name lans ≡ Some lan
-number_of_lan lans lan name distinct e = place_of_name lan_key lans lan name distinct e
+index_of-lan_name lans lan name distinct e = position-distinct_name lan_key lans lan name distinct e
 
 -- the LAN of a name's number has the name
-pub name_of_lan : (lans : List (List ℕ)) (lan : ℕ) (name : List ℕ) → index_of name lans ≡ Some lan
+pub lan_name-index_of : (lans : List (List ℕ)) (lan : ℕ) (name : List ℕ) → index_of name lans ≡ Some lan
     → slice_get lans lan ≡ Some name
-name_of_lan lans lan name e =
+lan_name-index_of lans lan name e =
     let at = position-Some (λ y. bytes_eq y name) lans lan name e in
     slice_get-get_or lans lan name at.0
     ∙ ap Some ((bytes_eq-Decides (get_or lans lan name) name).0 at.1)
 
 -- a name's number is below the number of LANs
-pub lan_within : (lans : List (List ℕ)) (lan : ℕ) (name : List ℕ) → index_of name lans ≡ Some lan
+pub index_of-below_length : (lans : List (List ℕ)) (lan : ℕ) (name : List ℕ) → index_of name lans ≡ Some lan
     → lan < length lans
-lan_within lans lan name e = (position-Some (λ y. bytes_eq y name) lans lan name e).0
+index_of-below_length lans lan name e = (position-Some (λ y. bytes_eq y name) lans lan name e).0
 
 -- ---- routers
 
 -- a name's number is below the number of routers
-pub router_within : (routers : List RouterRow) (router : ℕ) (name : List ℕ)
+pub router_no_of-below_length : (routers : List RouterRow) (router : ℕ) (name : List ℕ)
     → router_no_of name routers ≡ Some router → router < length routers
-router_within [] router name e = absurd cc
-router_within (r ∷ routers) router name e =
+router_no_of-below_length [] router name e = absurd cc
+router_no_of-below_length (r ∷ routers) router name e =
     (position-Some (λ y. bytes_eq y.name name) (r ∷ routers) router r e).0
 
 -- a router whose name is told
-named : (o : Option RouterRow) (name : List ℕ)
+router-from_its_name : (o : Option RouterRow) (name : List ℕ)
     → option_map (λ (r : RouterRow). r.name) o ≡ Some name → (r : RouterRow) × (o ≡ Some r)
     × (r.name ≡ name)
-named None name e = absurd cc
-named (Some r) name e = (r, refl, cc)
+router-from_its_name None name e = absurd cc
+router-from_its_name (Some r) name e = (r, refl, cc)
 
 -- the number of a router's name is the router's, where no two have one name
-pub number_of_router : (routers : List RouterRow) (router : ℕ) (name : List ℕ)
+pub router_no_of-router_name : (routers : List RouterRow) (router : ℕ) (name : List ℕ)
     → AreDistinctBy router_key routers
     → option_map (λ (r : RouterRow). r.name) (slice_get routers router) ≡ Some name
     → router_no_of name routers ≡ Some router
-number_of_router routers router name distinct e =
-    let (r, found, called) = named (slice_get routers router) name e in
+router_no_of-router_name routers router name distinct e =
+    let (r, found, called) = router-from_its_name (slice_get routers router) name e in
     subst (λ (n : List ℕ). router_no_of n routers ≡ Some router) called
-    (place_of_name router_key routers router r distinct found)
+    (position-distinct_name router_key routers router r distinct found)
 
 -- the router of a name's number has the name
-pub name_of_router : (routers : List RouterRow) (router : ℕ) (name : List ℕ)
+pub router_name-router_no_of : (routers : List RouterRow) (router : ℕ) (name : List ℕ)
     → router_no_of name routers ≡ Some router
     → option_map (λ (r : RouterRow). r.name) (slice_get routers router) ≡ Some name
-name_of_router [] router name e = absurd cc
-name_of_router (r ∷ routers) router name e =
+router_name-router_no_of [] router name e = absurd cc
+router_name-router_no_of (r ∷ routers) router name e =
     let at = position-Some (λ y. bytes_eq y.name name) (r ∷ routers) router r e in
     let found = slice_get-get_or (r ∷ routers) router r at.0 in
     ap (option_map (λ (x : RouterRow). x.name)) found
@@ -101,9 +101,9 @@ name_of_router (r ∷ routers) router name e =
 -- ---- devices
 
 -- the name of a device has at most 15 bytes
-pub device_short : (text : List ℕ) → is_device text ≡ true → length text ≤ 15
+pub device_length-at_most_15 : (text : List ℕ) → is_device text ≡ true → length text ≤ 15
 unfolding is_device
-device_short text e =
+device_length-at_most_15 text e =
     let device = and_parts (is_device_name text) (not (bytes_eq text (codes "none"))) e in
     let long = and_parts _ _ device.0 in
     let both = and_parts (nat_le 1 (length text)) (nat_le (length text) 15) long.0 in

@@ -3,8 +3,8 @@ use Rattle.std.proofs.Common.{◌≡◌, ℕ, Bool, true, false, cond, Result, O
 use Rattle.std.proofs.Common.{refl}
 use Rattle.mc_topology.specs.declared.fault.Section.{Section}
 use Rattle.mc_topology.specs.declared.fault.TopologyFaultKind.{TopologyFaultKind}
-pub use Rattle.mc_text.proofs.StepLemmas.{bind_ok, ok_or_ok, ok_is}
-use Rattle.mc_topology.specs.Answer.{place}
+pub use Rattle.mc_text.proofs.StepLemmas.{bind_ok, ok_or_ok, ok_injective}
+use Rattle.mc_topology.specs.Answer.{locate_fault}
 
 module _ {A E : Type 0} where
   -- a test that refuses
@@ -20,7 +20,7 @@ module _ {A E : Type 0} where
   test_ok false k r y e = absurd cc
 
 -- a step that was placed and not refused
-pub place_ok : {A : Type 0} (section : Section) (number : ℕ) (r : Result A TopologyFaultKind)
-    (x : A) → place section number r ≡ Ok x → r ≡ Ok x
-place_ok section number (Ok y) x e = cc
-place_ok section number (Err k) x e = absurd cc
+pub locate_fault_ok : {A : Type 0} (section : Section) (number : ℕ) (r : Result A TopologyFaultKind)
+    (x : A) → locate_fault section number r ≡ Ok x → r ≡ Ok x
+locate_fault_ok section number (Ok y) x e = cc
+locate_fault_ok section number (Err k) x e = absurd cc

@@ -20,8 +20,8 @@ list_any-now p [] = refl
 list_any-now p (t ∷ texts) = ap (λ (b : Bool). p t.now || b) (list_any-now p texts)
 
 -- the key is one of the known ones
-abbrev known_in : List (List ℕ) → List ℕ → Bool
-known_in known key = list_any (λ k. bytes_eq k key) known
+abbrev is_known_key : List (List ℕ) → List ℕ → Bool
+is_known_key known key = list_any (λ k. bytes_eq k key) known
 
 -- a test of each key of a table, with the known keys behind references
 pub has_only-now : (known : List (Bor (List ℕ))) (es : List (String Global × Value))
@@ -30,5 +30,5 @@ pub has_only-now : (known : List (Bor (List ℕ))) (es : List (String Global × 
 has_only-now known [] = refl
 has_only-now known (e ∷ es) =
     rw (list_any-now (λ k. bytes_eq k (string_bytes e.0)) known)
-    (ap (λ (b : Bool). known_in (map (λ k. k.now) known) (string_bytes e.0) && b)
+    (ap (λ (b : Bool). is_known_key (map (λ k. k.now) known) (string_bytes e.0) && b)
     (has_only-now known es))

@@ -6,14 +6,14 @@ use Rattle.mc_topology.specs.declared.fault.TopologyFaultKind.{TopologyFaultKind
 use Rattle.mc_topology.specs.declared.fault.TopologyFaultKind.TheVariants.{BadAddress}
 
 -- an address that passes
-abbrev pub passing : (ℕ → Bool) → Option ℕ → Result ℕ TopologyFaultKind
-passing p None = Err BadAddress
-passing p (Some a) = if p a then Ok a else Err BadAddress
+abbrev pub checked_address : (ℕ → Bool) → Option ℕ → Result ℕ TopologyFaultKind
+checked_address p None = Err BadAddress
+checked_address p (Some a) = if p a then Ok a else Err BadAddress
 
 -- the address of a host that may send
 unfoldable pub source_address_of : List ℕ → Result ℕ TopologyFaultKind
-source_address_of text = passing is_source (address_of_text text)
+source_address_of text = checked_address is_source (address_of_text text)
 
 -- the address of a group that routers forward
 unfoldable pub group_address_of : List ℕ → Result ℕ TopologyFaultKind
-group_address_of text = passing is_forwarded_group (address_of_text text)
+group_address_of text = checked_address is_forwarded_group (address_of_text text)

@@ -12,26 +12,26 @@ use Rattle.mc_topology.specs.declared.fault.TopologyFaultKind.TheVariants.{Memor
 use Rattle.mc_topology.specs.declared.fault.TopologyFault.{TopologyFault}
 
 -- the fault of a step of this part of a section
-abbrev pub place : {A : Type 0} → Section → ℕ → Result A TopologyFaultKind → Result A TopologyFault
-place section number (Ok x) = Ok x
-place section number (Err kind) = Err (record { section = section; number = number; kind = kind })
+abbrev pub locate_fault : {A : Type 0} → Section → ℕ → Result A TopologyFaultKind → Result A TopologyFault
+locate_fault section number (Ok x) = Ok x
+locate_fault section number (Err kind) = Err (record { section = section; number = number; kind = kind })
 
 -- what a call that takes no memory answers, seen by view
-abbrev pub Answers : {X Y E : Type 0} → (X → Y) → Result X E → Result Y E → Type 0
-Answers view (Ok x) step = step ≡ Ok (view x)
-Answers view (Err e) step = step ≡ Err e
+abbrev pub ResultsAgree : {X Y E : Type 0} → (X → Y) → Result X E → Result Y E → Type 0
+ResultsAgree view (Ok x) step = step ≡ Ok (view x)
+ResultsAgree view (Err e) step = step ≡ Err e
 
 -- the fault that may stand in place of any answer of a call that takes memory
 abbrev pub out_of_memory : TopologyFault
 out_of_memory = record { section = Top; number = 0; kind = Memory }
 
 -- The values of the parts of a section, each read beside those before it, or the first fault.
-unfoldable pub each : {D X : Type 0} → Section → (List X → D → Result X TopologyFaultKind)
+unfoldable pub each_row : {D X : Type 0} → Section → (List X → D → Result X TopologyFaultKind)
     → List X → List D → Result (List X) TopologyFault
-each section one earlier [] = Ok earlier
-each section one earlier (d ∷ ds) =
-    place section (length earlier + 1) (one earlier d) >>= λ x.
-    each section one (earlier ++ x ∷ []) ds
+each_row section one earlier [] = Ok earlier
+each_row section one earlier (d ∷ ds) =
+    locate_fault section (length earlier + 1) (one earlier d) >>= λ x.
+    each_row section one (earlier ++ x ∷ []) ds
 
 abbrev pub section_text : Section → List ℕ
 section_text Top = codes "top"

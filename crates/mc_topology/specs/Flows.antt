@@ -3,7 +3,7 @@ use Rattle.std.specs.Prelude.{ℕ, ℤ, pos, negsuc, ◌==◌, ◌&&◌, nat_le,
 use Rattle.std.specs.Prelude.{Bool, Result, Ok, Err, ok_or, if◌then◌else◌}
 use Rattle.std.specs.List.{list_any}
 use Rattle.toml.specs.Data.{Data, Members}
-use Rattle.mc_topology.specs.Rows.{SourceRow}
+use Rattle.mc_topology.specs.SectionRows.{SourceRow}
 use Rattle.mc_topology.specs.declared.flow.Flow.{Flow}
 use Rattle.mc_topology.specs.declared.fault.Section.TheVariants as section
 use Rattle.mc_topology.specs.declared.fault.TopologyFaultKind.{TopologyFaultKind}
@@ -12,7 +12,7 @@ use Rattle.mc_topology.specs.declared.fault.TopologyFaultKind.TheVariants.{Repea
 use Rattle.mc_topology.specs.declared.fault.TopologyFaultKind.TheVariants.{TooMany}
 use Rattle.mc_topology.specs.declared.fault.TopologyFault.{TopologyFault}
 use Rattle.mc_topology.specs.Addresses.{source_address_of, group_address_of}
-use Rattle.mc_topology.specs.Answer.{◌>>=◌, place, each}
+use Rattle.mc_topology.specs.Answer.{◌>>=◌, locate_fault, each_row}
 use Rattle.mc_topology.specs.Document.{known_table, text_at, number_at, optional_list_at}
 use Rattle.mc_topology.specs.Sources.{lan_of_source}
 
@@ -33,9 +33,9 @@ has_flow source group flows = list_any (λ f. (f.source == source) && (f.group =
 -- source has it (UnknownName), the second is the address of a group that routers forward
 -- (BadAddress), the third is a time to live (BadTtl), and no earlier flow has the source and the
 -- group (RepeatedFlow).
-unfoldable pub flow_with : List SourceRow → List Flow → List ℕ → List ℕ → ℤ
+unfoldable pub flow_of_values : List SourceRow → List Flow → List ℕ → List ℕ → ℤ
     → Result Flow TopologyFaultKind
-flow_with sources earlier source_text group_text number = do
+flow_of_values sources earlier source_text group_text number = do
   source ← source_address_of source_text
   lan ← ok_or (lan_of_source source sources) UnknownName
   group ← group_address_of group_text
@@ -45,14 +45,14 @@ flow_with sources earlier source_text group_text number = do
 
 -- A flow. It has to be a table (else BadKind) of no other keys (UnknownKey). Then the keys:
 -- `source`, `group` and `ttl`, in this order, each have to be there (MissingKey) and to be a text,
--- and `ttl` a whole number (BadKind). Then the values are judged, as `flow_with` says.
+-- and `ttl` a whole number (BadKind). Then the values are judged, as `flow_of_values` says.
 unfoldable pub flow_of : List SourceRow → List Flow → Data → Result Flow TopologyFaultKind
 flow_of sources earlier d = do
   table ← known_table flow_keys d
   source_text ← text_at (codes "source") table
   group_text ← text_at (codes "group") table
   number ← number_at (codes "ttl") table
-  flow_with sources earlier source_text group_text number
+  flow_of_values sources earlier source_text group_text number
 
 -- The list has to be a list (else BadKind), then of one flow at least (NoFlow), and then of at most
 -- 4,096 (TooMany).
@@ -66,5 +66,5 @@ flow_rows ms = do
 -- counted from 1.
 unfoldable pub flows_in : List SourceRow → Members → Result (List Flow) TopologyFault
 flows_in sources ms = do
-  rows ← place section.Flow 0 (flow_rows ms)
-  each section.Flow (flow_of sources) [] rows
+  rows ← locate_fault section.Flow 0 (flow_rows ms)
+  each_row section.Flow (flow_of sources) [] rows

@@ -2,13 +2,13 @@
 use Rattle.std.specs.Prelude.{ℕ, not, List, [], ◌∷◌, codes}
 use Rattle.std.specs.Prelude.{Result, Ok, Err, ok_or, if◌then◌else◌}
 use Rattle.toml.specs.Data.{Data, Members}
-use Rattle.mc_topology.specs.Rows.{RouterRow, InterfaceRow}
+use Rattle.mc_topology.specs.SectionRows.{RouterRow, InterfaceRow}
 use Rattle.mc_topology.specs.declared.fault.Section.TheVariants as section
 use Rattle.mc_topology.specs.declared.fault.TopologyFaultKind.{TopologyFaultKind}
 use Rattle.mc_topology.specs.declared.fault.TopologyFaultKind.TheVariants.{BadName, UnknownName}
 use Rattle.mc_topology.specs.declared.fault.TopologyFaultKind.TheVariants.{RepeatedInterface}
 use Rattle.mc_topology.specs.declared.fault.TopologyFault.{TopologyFault}
-use Rattle.mc_topology.specs.Answer.{◌>>=◌, place, each}
+use Rattle.mc_topology.specs.Answer.{◌>>=◌, locate_fault, each_row}
 use Rattle.mc_topology.specs.Document.{known_table, text_at, rows_at}
 use Rattle.mc_topology.specs.Names.{is_device, index_of}
 use Rattle.mc_topology.specs.Lookup.{router_no_of, has_interface}
@@ -20,9 +20,9 @@ interface_keys = codes "router" ∷ codes "device" ∷ codes "lan" ∷ []
 -- The interface of the three values: a router has the first name (UnknownName), a device can have
 -- the second (BadName), a LAN has the third (UnknownName), and no earlier interface has the router
 -- and the device (RepeatedInterface).
-unfoldable pub interface_with : List (List ℕ) → List RouterRow → List InterfaceRow → List ℕ
+unfoldable pub interface_of_values : List (List ℕ) → List RouterRow → List InterfaceRow → List ℕ
     → List ℕ → List ℕ → Result InterfaceRow TopologyFaultKind
-interface_with lans routers earlier router_name device lan_name = do
+interface_of_values lans routers earlier router_name device lan_name = do
   router ← ok_or (router_no_of router_name routers) UnknownName
   if not (is_device device) then Err BadName else do
     lan ← ok_or (index_of lan_name lans) UnknownName
@@ -31,7 +31,7 @@ interface_with lans routers earlier router_name device lan_name = do
 
 -- An interface. It has to be a table (else BadKind) of no other keys (UnknownKey). Then the keys:
 -- `router`, `device` and `lan`, in this order, each have to be there (MissingKey) and to be a text
--- (BadKind). Then the values are judged, as `interface_with` says.
+-- (BadKind). Then the values are judged, as `interface_of_values` says.
 unfoldable pub interface_of : List (List ℕ) → List RouterRow → List InterfaceRow → Data
     → Result InterfaceRow TopologyFaultKind
 interface_of lans routers earlier d = do
@@ -39,12 +39,12 @@ interface_of lans routers earlier d = do
   router_name ← text_at (codes "router") table
   device ← text_at (codes "device") table
   lan_name ← text_at (codes "lan") table
-  interface_with lans routers earlier router_name device lan_name
+  interface_of_values lans routers earlier router_name device lan_name
 
 -- The interfaces: first their list, which has to be a list (else BadKind) of at most 8,192
 -- (TooMany), at the number 0, then each interface from the front, at its number, counted from 1.
 unfoldable pub interfaces_in : List (List ℕ) → List RouterRow → Members
     → Result (List InterfaceRow) TopologyFault
 interfaces_in lans routers ms = do
-  rows ← place section.Interface 0 (rows_at (codes "interface") 8192 ms)
-  each section.Interface (interface_of lans routers) [] rows
+  rows ← locate_fault section.Interface 0 (rows_at (codes "interface") 8192 ms)
+  each_row section.Interface (interface_of lans routers) [] rows

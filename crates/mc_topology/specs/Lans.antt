@@ -9,7 +9,7 @@ use Rattle.mc_topology.specs.declared.fault.TopologyFaultKind.{TopologyFaultKind
 use Rattle.mc_topology.specs.declared.fault.TopologyFaultKind.TheVariants.{BadName, RepeatedName}
 use Rattle.mc_topology.specs.declared.fault.TopologyFaultKind.TheVariants.{TooMany}
 use Rattle.mc_topology.specs.declared.fault.TopologyFault.{TopologyFault}
-use Rattle.mc_topology.specs.Answer.{◌>>=◌, place, each}
+use Rattle.mc_topology.specs.Answer.{◌>>=◌, locate_fault, each_row}
 use Rattle.mc_topology.specs.Document.{text_of, list_at}
 use Rattle.mc_topology.specs.Names.{is_name}
 
@@ -19,8 +19,8 @@ has_lan name lans = list_any (λ lan. bytes_eq lan name) lans
 
 -- A LAN's name. It has to be a text (else BadKind), then one that can be a name (BadName), and then
 -- one that no earlier LAN has (RepeatedName).
-unfoldable pub lan_of : List (List ℕ) → Data → Result (List ℕ) TopologyFaultKind
-lan_of earlier d = do
+unfoldable pub lan_name_of : List (List ℕ) → Data → Result (List ℕ) TopologyFaultKind
+lan_name_of earlier d = do
   name ← text_of d
   if not (is_name name) then Err BadName
       else if has_lan name earlier then Err RepeatedName else Ok name
@@ -36,5 +36,5 @@ lan_rows ms = do
 -- faults have its number, counted from 1.
 unfoldable pub lans_in : Members → Result (List (List ℕ)) TopologyFault
 lans_in ms = do
-  rows ← place Lans 0 (lan_rows ms)
-  each Lans lan_of [] rows
+  rows ← locate_fault Lans 0 (lan_rows ms)
+  each_row Lans lan_name_of [] rows

@@ -9,9 +9,9 @@ pub mod Lookup
 pub mod Names
 pub mod Routers
 pub mod Reading
-pub mod Rows
+pub mod SectionRows
 pub mod Sources
-pub mod Stands
+pub mod Denotation
 pub mod Topology
 pub use Rattle.mc_text.specs.Addr
 pub use Rattle.mc_text.specs.Bundle

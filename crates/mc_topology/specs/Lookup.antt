@@ -3,7 +3,7 @@
 use Rattle.std.specs.Prelude.{ℕ, ◌≤◌, ◌==◌, ◌&&◌, List, find, position, length, Bool, Option, option_map}
 use Rattle.std.specs.List.{All, list_any}
 use Rattle.std.specs.Str.{bytes_eq}
-use Rattle.mc_topology.specs.Rows.{RouterRow, InterfaceRow}
+use Rattle.mc_topology.specs.SectionRows.{RouterRow, InterfaceRow}
 use Rattle.mc_topology.specs.declared.interfaces.InterfaceKey.{InterfaceKey}
 
 -- a router has the name
@@ -15,17 +15,17 @@ abbrev pub router_no_of : List ℕ → List RouterRow → Option ℕ
 router_no_of name routers = position (λ r. bytes_eq r.name name) routers
 
 -- the interface is that of a router and a device
-abbrev pub is_at : ℕ → List ℕ → InterfaceRow → Bool
-is_at router device i = (i.router == router) && bytes_eq i.device device
+abbrev pub is_interface_of : ℕ → List ℕ → InterfaceRow → Bool
+is_interface_of router device i = (i.router == router) && bytes_eq i.device device
 
 -- a router has an interface of the device
 abbrev pub has_interface : ℕ → List ℕ → List InterfaceRow → Bool
-has_interface router device interfaces = list_any (is_at router device) interfaces
+has_interface router device interfaces = list_any (is_interface_of router device) interfaces
 
 -- the LAN on which the interface of a router and a device lies
 abbrev pub lan_of_interface : ℕ → List ℕ → List InterfaceRow → Option ℕ
 lan_of_interface router device interfaces =
-    option_map (λ i. i.lan) (find (is_at router device) interfaces)
+    option_map (λ i. i.lan) (find (is_interface_of router device) interfaces)
 
 -- the row of a key and a LAN
 abbrev pub interface_row : InterfaceKey × ℕ → InterfaceRow

@@ -11,9 +11,9 @@ use Rattle.mc_topology.specs.declared.fault.TopologyFaultKind.{TopologyFaultKind
 use Rattle.mc_topology.specs.declared.fault.TopologyFaultKind.TheVariants.{NotToml, BadVersion}
 use Rattle.mc_topology.specs.declared.fault.TopologyFaultKind.TheVariants.{UnknownKey, TooMany}
 use Rattle.mc_topology.specs.declared.fault.TopologyFault.{TopologyFault}
-use Rattle.mc_topology.specs.Answer.{◌>>=◌, place}
+use Rattle.mc_topology.specs.Answer.{◌>>=◌, locate_fault}
 use Rattle.mc_topology.specs.Bounds.{is_bounded}
-use Rattle.mc_topology.specs.Rows.{RouterRow, InterfaceRow, SourceRow}
+use Rattle.mc_topology.specs.SectionRows.{RouterRow, InterfaceRow, SourceRow}
 use Rattle.mc_topology.specs.Document.{has_only, number_at}
 use Rattle.mc_topology.specs.Lans.{lans_in}
 use Rattle.mc_topology.specs.Routers.{routers_in}
@@ -23,21 +23,21 @@ use Rattle.mc_topology.specs.Flows.{flows_in}
 use Rattle.mc_topology.specs.Topology.{TopologyValue}
 
 -- a text is UTF-8 (else NotToml)
-unfoldable pub utf8_text : List ℕ → Result (List ℕ) TopologyFaultKind
-utf8_text text = if is_utf8 text then Ok text else Err NotToml
+unfoldable pub require_utf8 : List ℕ → Result (List ℕ) TopologyFaultKind
+require_utf8 text = if is_utf8 text then Ok text else Err NotToml
 
 -- the table that a text in UTF-8 is (else NotToml)
-unfoldable pub toml_of : List ℕ → Result Members TopologyFaultKind
-toml_of text = utf8_text text >>= λ t. ok_or (parse_document t) NotToml
+unfoldable pub parse_toml : List ℕ → Result Members TopologyFaultKind
+parse_toml text = require_utf8 text >>= λ t. ok_or (parse_document t) NotToml
 
 -- the table of a text, which has to have at most 16,777,216 bytes (else TooMany), and then to be TOML
 unfoldable pub table_of : List ℕ → Result Members TopologyFaultKind
-table_of text = if nat_le (length text) 16777216 then toml_of text else Err TooMany
+table_of text = if nat_le (length text) 16777216 then parse_toml text else Err TooMany
 
 -- the same of a text that has to be bounded too (else TooMany), before it is read as TOML
 unfoldable pub document_of : List ℕ → Result Members TopologyFaultKind
 document_of text =
-    if nat_le (length text) 16777216 && is_bounded text then toml_of text else Err TooMany
+    if nat_le (length text) 16777216 && is_bounded text then parse_toml text else Err TooMany
 
 -- the keys of a topology
 abbrev pub top_keys : List (List ℕ)
@@ -47,8 +47,8 @@ top_keys =
 
 -- The top has to have no other keys (else UnknownKey), and then `version` has to be there
 -- (MissingKey), to be a whole number (BadKind), and to be 1 (BadVersion).
-unfoldable pub version_in : Members → Result (Unit {0}) TopologyFaultKind
-version_in ms =
+unfoldable pub check_version : Members → Result (Unit {0}) TopologyFaultKind
+check_version ms =
     if has_only top_keys ms
     then (number_at (codes "version") ms >>= λ version.
     if int_eq version (pos 1) then Ok tt else Err BadVersion)
@@ -58,7 +58,7 @@ version_in ms =
 -- those that it names
 unfoldable pub topology_in : Members → Result TopologyValue TopologyFault
 topology_in ms = do
-  version ← place Top 0 (version_in ms)
+  version ← locate_fault Top 0 (check_version ms)
   lans ← lans_in ms
   routers ← routers_in ms
   interfaces ← interfaces_in lans routers ms
@@ -73,9 +73,9 @@ topology_in ms = do
   })
 
 -- the sources on these LANs, and the flows, each from one of the sources
-unfoldable pub sourced_flows_in : List (List ℕ) → Members
+unfoldable pub sources_and_flows_in : List (List ℕ) → Members
     → Result (List SourceRow × List Flow) TopologyFault
-sourced_flows_in lans ms = do
+sources_and_flows_in lans ms = do
   sources ← sources_in lans ms
   flows ← flows_in sources ms
   Ok (sources, flows)
@@ -85,13 +85,13 @@ unfoldable pub interfaces_and_flows_in : List (List ℕ) → List RouterRow → 
     → Result (List InterfaceRow × List SourceRow × List Flow) TopologyFault
 interfaces_and_flows_in lans routers ms = do
   interfaces ← interfaces_in lans routers ms
-  sourced ← sourced_flows_in lans ms
+  sourced ← sources_and_flows_in lans ms
   Ok (interfaces, sourced.0, sourced.1)
 
 -- the topology of a text: first the text as a whole, at `top` 0, and then its table
-unfoldable pub reading_of : List ℕ → Result TopologyValue TopologyFault
-reading_of text = place Top 0 (document_of text) >>= topology_in
+unfoldable pub parse_topology : List ℕ → Result TopologyValue TopologyFault
+parse_topology text = locate_fault Top 0 (document_of text) >>= topology_in
 
 -- the same without the bounds: what a text stands for, whatever it takes to read it
-unfoldable pub meaning_of : List ℕ → Result TopologyValue TopologyFault
-meaning_of text = place Top 0 (table_of text) >>= topology_in
+unfoldable pub parse_unbounded_topology : List ℕ → Result TopologyValue TopologyFault
+parse_unbounded_topology text = locate_fault Top 0 (table_of text) >>= topology_in

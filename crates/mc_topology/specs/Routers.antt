@@ -5,13 +5,13 @@ use Rattle.std.specs.Str.{bytes_eq}
 use Rattle.toml.specs.Data.{Data, Members}
 use Rattle.mc_text.specs.declared.text.addr.Order.{Order}
 use Rattle.mc_text.specs.declared.text.addr.Order.TheVariants.{Little, Big}
-use Rattle.mc_topology.specs.Rows.{RouterRow}
+use Rattle.mc_topology.specs.SectionRows.{RouterRow}
 use Rattle.mc_topology.specs.declared.fault.Section.TheVariants as section
 use Rattle.mc_topology.specs.declared.fault.TopologyFaultKind.{TopologyFaultKind}
 use Rattle.mc_topology.specs.declared.fault.TopologyFaultKind.TheVariants.{BadKind, BadName}
 use Rattle.mc_topology.specs.declared.fault.TopologyFaultKind.TheVariants.{RepeatedName}
 use Rattle.mc_topology.specs.declared.fault.TopologyFault.{TopologyFault}
-use Rattle.mc_topology.specs.Answer.{◌>>=◌, place, each}
+use Rattle.mc_topology.specs.Answer.{◌>>=◌, locate_fault, each_row}
 use Rattle.mc_topology.specs.Document.{known_table, text_at, optional_text_at, rows_at}
 use Rattle.mc_topology.specs.Lookup.{has_router}
 use Rattle.mc_topology.specs.Names.{is_name}
@@ -45,5 +45,5 @@ router_of earlier d = do
 -- the number 0, then each router from the front, at its number, counted from 1.
 unfoldable pub routers_in : Members → Result (List RouterRow) TopologyFault
 routers_in ms = do
-  rows ← place section.Router 0 (rows_at (codes "router") 256 ms)
-  each section.Router router_of [] rows
+  rows ← locate_fault section.Router 0 (rows_at (codes "router") 256 ms)
+  each_row section.Router router_of [] rows

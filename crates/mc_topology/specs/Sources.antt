@@ -3,14 +3,14 @@ use Rattle.std.specs.Prelude.{ℕ, ◌==◌, List, [], ◌∷◌, codes, find, B
 use Rattle.std.specs.Prelude.{Ok, Err, ok_or, if◌then◌else◌}
 use Rattle.std.specs.List.{list_any}
 use Rattle.toml.specs.Data.{Data, Members}
-use Rattle.mc_topology.specs.Rows.{SourceRow}
+use Rattle.mc_topology.specs.SectionRows.{SourceRow}
 use Rattle.mc_topology.specs.declared.fault.Section.TheVariants as section
 use Rattle.mc_topology.specs.declared.fault.TopologyFaultKind.{TopologyFaultKind}
 use Rattle.mc_topology.specs.declared.fault.TopologyFaultKind.TheVariants.{UnknownName}
 use Rattle.mc_topology.specs.declared.fault.TopologyFaultKind.TheVariants.{RepeatedName}
 use Rattle.mc_topology.specs.declared.fault.TopologyFault.{TopologyFault}
 use Rattle.mc_topology.specs.Addresses.{source_address_of}
-use Rattle.mc_topology.specs.Answer.{◌>>=◌, place, each}
+use Rattle.mc_topology.specs.Answer.{◌>>=◌, locate_fault, each_row}
 use Rattle.mc_topology.specs.Document.{known_table, text_at, rows_at}
 use Rattle.mc_topology.specs.Names.{index_of}
 
@@ -28,9 +28,9 @@ lan_of_source address sources = option_map (λ s. s.lan) (find (λ s. s.address 
 
 -- The source of the two values: the first is the address of a host that may send (BadAddress), a
 -- LAN has the name (UnknownName), and no earlier source has the address (RepeatedName).
-unfoldable pub source_with : List (List ℕ) → List SourceRow → List ℕ → List ℕ
+unfoldable pub source_of_values : List (List ℕ) → List SourceRow → List ℕ → List ℕ
     → Result SourceRow TopologyFaultKind
-source_with lans earlier text lan_name = do
+source_of_values lans earlier text lan_name = do
   address ← source_address_of text
   lan ← ok_or (index_of lan_name lans) UnknownName
   if has_source address earlier then Err RepeatedName
@@ -38,18 +38,18 @@ source_with lans earlier text lan_name = do
 
 -- A source. It has to be a table (else BadKind) of no other keys (UnknownKey). Then the keys:
 -- `address` and `lan`, in this order, each have to be there (MissingKey) and to be a text
--- (BadKind). Then the values are judged, as `source_with` says.
+-- (BadKind). Then the values are judged, as `source_of_values` says.
 unfoldable pub source_of : List (List ℕ) → List SourceRow → Data
     → Result SourceRow TopologyFaultKind
 source_of lans earlier d = do
   table ← known_table source_keys d
   text ← text_at (codes "address") table
   lan_name ← text_at (codes "lan") table
-  source_with lans earlier text lan_name
+  source_of_values lans earlier text lan_name
 
 -- The sources: first their list, which has to be a list (else BadKind) of at most 4,096 (TooMany),
 -- at the number 0, then each source from the front, at its number, counted from 1.
 unfoldable pub sources_in : List (List ℕ) → Members → Result (List SourceRow) TopologyFault
 sources_in lans ms = do
-  rows ← place section.Source 0 (rows_at (codes "source") 4096 ms)
-  each section.Source (source_of lans) [] rows
+  rows ← locate_fault section.Source 0 (rows_at (codes "source") 4096 ms)
+  each_row section.Source (source_of lans) [] rows

@@ -6,8 +6,8 @@ use Rattle.mc_text.specs.Addr.{IsAddr, IsSource, IsForwardedGroup}
 use Rattle.mc_topology.specs.declared.flow.Flow.{Flow}
 pub use Rattle.mc_topology.specs.Lookup.{lan_of_interface}
 use Rattle.mc_topology.specs.Names.{is_name, is_device}
-use Rattle.mc_topology.specs.Rows.{RouterRow, InterfaceRow, SourceRow, router_code, interface_code}
-use Rattle.mc_topology.specs.Rows.{source_code}
+use Rattle.mc_topology.specs.SectionRows.{RouterRow, InterfaceRow, SourceRow, router_code, interface_code}
+use Rattle.mc_topology.specs.SectionRows.{source_code}
 
 -- The names of the LANs, the routers, the interfaces, the sources and the flows, each in the order
 -- of the text.
@@ -54,20 +54,20 @@ abbrev pub IsIn : {X : Type 0} → List X → X → Type 0
 IsIn xs x = (n : ℕ) × (slice_get xs n ≡ Some x)
 
 -- a device of one of the routers, on one of the LANs
-pub record IsInterfaceAmong (t : TopologyValue) (i : InterfaceRow) : Type 0 where
+pub record IsValidInterface (t : TopologyValue) (i : InterfaceRow) : Type 0 where
   pub router : i.router < length t.routers
   pub device : IsTrue (is_device i.device)
   pub lan : i.lan < length t.lans
 
 -- the address of a host that may send, on one of the LANs
-pub record IsSourceAmong (lans : List (List ℕ)) (s : SourceRow) : Type 0 where
+pub record IsValidSource (lans : List (List ℕ)) (s : SourceRow) : Type 0 where
   pub is_address : IsAddr s.address
   pub may_send : IsSource s.address
   pub lan : s.lan < length lans
 
 -- a flow from a host that may send, on one of the LANs, to a group that routers forward, with a
 -- time to live of 1 to 255
-pub record IsFlowAmong (lans : List (List ℕ)) (f : Flow) : Type 0 where
+pub record IsValidFlow (lans : List (List ℕ)) (f : Flow) : Type 0 where
   pub lan : f.lan < length lans
   pub is_address : IsAddr f.source
   pub may_send : IsSource f.source
@@ -79,7 +79,7 @@ pub record IsFlowAmong (lans : List (List ℕ)) (f : Flow) : Type 0 where
 -- two of one name; at most 8,192 interfaces, each as above, no two of one router and one device;
 -- at most 4,096 sources, each as above, no two of one address; and 1 to 4,096 flows, each as above,
 -- no two of one source and one group.
-pub record IsTopology (t : TopologyValue) : Type 0 where
+pub record IsValidTopology (t : TopologyValue) : Type 0 where
   pub few_lans : length t.lans ≤ 1024
   pub few_routers : length t.routers ≤ 256
   pub few_interfaces : length t.interfaces ≤ 8192
@@ -88,17 +88,17 @@ pub record IsTopology (t : TopologyValue) : Type 0 where
   pub few_flows : length t.flows ≤ 4096
   pub lan_names : AreDistinctBy lan_key t.lans
   pub router_names : AreDistinctBy router_key t.routers
-  pub interfaces_differ : AreDistinctBy interface_key t.interfaces
-  pub sources_differ : AreDistinctBy source_key t.sources
-  pub flows_differ : AreDistinctBy flow_key t.flows
-  pub lans_named : (n : ℕ) (name : List ℕ) → slice_get t.lans n ≡ Some name → IsTrue (is_name name)
-  pub routers_named : (n : ℕ) (r : RouterRow) → slice_get t.routers n ≡ Some r
+  pub distinct_interfaces : AreDistinctBy interface_key t.interfaces
+  pub distinct_sources : AreDistinctBy source_key t.sources
+  pub distinct_flows : AreDistinctBy flow_key t.flows
+  pub valid_lan_names : (n : ℕ) (name : List ℕ) → slice_get t.lans n ≡ Some name → IsTrue (is_name name)
+  pub valid_router_names : (n : ℕ) (r : RouterRow) → slice_get t.routers n ≡ Some r
       → IsTrue (is_name r.name)
-  pub interfaces_among : (n : ℕ) (i : InterfaceRow) → slice_get t.interfaces n ≡ Some i
-      → IsInterfaceAmong t i
-  pub sources_among : (n : ℕ) (s : SourceRow) → slice_get t.sources n ≡ Some s
-      → IsSourceAmong t.lans s
-  pub flows_among : (n : ℕ) (f : Flow) → slice_get t.flows n ≡ Some f → IsFlowAmong t.lans f
+  pub valid_interfaces : (n : ℕ) (i : InterfaceRow) → slice_get t.interfaces n ≡ Some i
+      → IsValidInterface t i
+  pub valid_sources : (n : ℕ) (s : SourceRow) → slice_get t.sources n ≡ Some s
+      → IsValidSource t.lans s
+  pub valid_flows : (n : ℕ) (f : Flow) → slice_get t.flows n ≡ Some f → IsValidFlow t.lans f
 
 -- a topology is stored as the tuple of its fields, and so is a flow
 abbrev pub flow_code : Coded Flow

@@ -1,7 +1,7 @@
 //! Why a topology is refused.
 
 ghost use Rattle.std.specs.Prelude.{◌≡◌, Some};
-ghost use Rattle.mc_topology.specs.Answer.{out_of_memory, place};
+ghost use Rattle.mc_topology.specs.Answer.{out_of_memory, locate_fault};
 ghost use Rattle.mc_topology.specs.Answer.{section_text};
 
 use std::alloc::{AllocError, AllocFailed};
@@ -103,12 +103,12 @@ pub struct TopologyFault {
 }
 
 /// What a step of reading gives, whose fault lies in the part of a section with this number.
-pub(crate) fn place<T>(
+pub(crate) fn locate_fault<T>(
     section: Section,
     number: u32,
     step: Result<T, TopologyFaultKind>,
 ) -> Result<T, TopologyFault>
-    ensures { result ≡ place section number step }
+    ensures { result ≡ locate_fault section number step }
 {
     step.map_err(|kind| kind.at(section, number))
 }

@@ -15,7 +15,7 @@ pub struct Interface<'a> {
 }
 
 impl<'a> Model for Interface<'a> {
-    ghost use Rattle.mc_topology.specs.Rows.{InterfaceRow};
+    ghost use Rattle.mc_topology.specs.SectionRows.{InterfaceRow};
 
     ghost Value = { InterfaceRow };
 

@@ -17,13 +17,13 @@ use std::marker::Model;
 pub(crate) const MAX_INTERFACES: usize = 8192;
 
 /// The greatest length of a device's name, in bytes.
-pub(crate) const MAX_DEVICE: usize = 15;
+pub(crate) const MAX_DEVICE_NAME: usize = 15;
 
 /// What tells interfaces apart: the router and the device.
 #[derive(Debug, PartialEq, Eq, Hash, Drop)]
 pub(crate) struct InterfaceKey {
     router: RouterNo,
-    device: ArrayVec<u8, MAX_DEVICE>,
+    device: ArrayVec<u8, MAX_DEVICE_NAME>,
 }
 
 impl InterfaceKey {
@@ -46,7 +46,7 @@ pub(crate) struct Interfaces {
 
 impl Model for Interfaces {
     ghost use Rattle.std.specs.Prelude.{List, map};
-    ghost use Rattle.mc_topology.specs.Rows.{InterfaceRow};
+    ghost use Rattle.mc_topology.specs.SectionRows.{InterfaceRow};
 
     ghost Value = { List InterfaceRow };
 

@@ -2,7 +2,7 @@
 //! on which LAN, the sources and the flows.
 #![tactic(auto)]
 
-mod at;
+mod word_at;
 mod fault;
 mod flow;
 mod flows;
@@ -18,14 +18,14 @@ mod source;
 mod sources;
 mod topology;
 
-pub use at::{AtLan, AtVif};
+pub use word_at::{WordAtLan, WordAtVif};
 pub use fault::{Section, TopologyFault, TopologyFaultKind};
 pub use flow::Flow;
 pub use interface::Interface;
 pub use laws::{
-    interfaces_are_found_by_router_and_device, lan_numbers_and_names_undo_each_other,
-    lans_and_routers_are_ordered_by_number, router_numbers_and_names_undo_each_other,
-    texts_stand_for_topologies, topologies_are_read_as_they_stand,
+    interfaces_are_found_by_router_and_device, lan_numbers_and_names_are_inverse,
+    lans_and_routers_are_ordered_by_number, router_numbers_and_names_are_inverse,
+    denoted_topology_is_valid, read_gives_the_denoted_topology,
 };
 pub use name::is_name;
 pub use number::{LanNo, RouterNo};

@@ -13,14 +13,14 @@ mod sources;
 ghost use Rattle.std.specs.Prelude.{◌≡◌, ◌≢◌, ◌≤◌, length, Ok, Err, IfErr, IfOk};
 ghost use Rattle.toml.specs.View.{table_view};
 ghost use Rattle.mc_topology.specs.declared.fault.Section.TheVariants as section;
-ghost use Rattle.mc_topology.specs.Answer.{out_of_memory, place};
+ghost use Rattle.mc_topology.specs.Answer.{out_of_memory, locate_fault};
 ghost use Rattle.mc_topology.specs.Document.{has_only};
 ghost use Rattle.mc_topology.specs.Lans.{lans_in};
-ghost use Rattle.mc_topology.specs.Reading.{top_keys, document_of, version_in, sourced_flows_in};
-ghost use Rattle.mc_topology.specs.Reading.{interfaces_and_flows_in, topology_in, reading_of};
+ghost use Rattle.mc_topology.specs.Reading.{top_keys, document_of, check_version, sources_and_flows_in};
+ghost use Rattle.mc_topology.specs.Reading.{interfaces_and_flows_in, topology_in, parse_topology};
 ghost use Rattle.mc_topology.specs.Routers.{routers_in};
 
-use crate::fault::{Section, TopologyFault, TopologyFaultKind, place};
+use crate::fault::{Section, TopologyFault, TopologyFaultKind, locate_fault};
 use crate::flows::Flows;
 use crate::interfaces::Interfaces;
 use crate::lans::{Lans, MAX_LANS};
@@ -39,11 +39,11 @@ use std::alloc::Global;
 use toml::Table;
 
 /// The table that a text is, if it is within the bounds.
-#[tactic(auto, unfolding(crate::specs::Reading::document_of, crate::specs::Reading::toml_of, crate::specs::Reading::utf8_text))]
+#[tactic(auto, unfolding(crate::specs::Reading::document_of, crate::specs::Reading::parse_toml, crate::specs::Reading::require_utf8))]
 fn document_of(alloc: Global, text: &[u8]) -> Result<Table, TopologyFault>
     ensures found { IfOk result (λ table. document_of text.now ≡ Ok (table_view table)) }
     ensures fault { IfErr result (λ fault. fault ≢ out_of_memory →
-        place section.Top 0 (document_of text.now) ≡ Err fault) }
+        locate_fault section.Top 0 (document_of text.now) ≡ Err fault) }
 {
     if text.len() > MAX_TEXT || !is_bounded(text) {
         return Err(TopologyFaultKind::TooMany.at(Section::Top, 0));
@@ -56,7 +56,7 @@ fn document_of(alloc: Global, text: &[u8]) -> Result<Table, TopologyFault>
 }
 
 /// Whether the table has no key but those of a topology.
-fn has_top_keys(table: &Table) -> bool
+fn has_only_top_keys(table: &Table) -> bool
     ensures { result ≡ has_only top_keys (table_view table.now) }
 {
     has_only(
@@ -66,11 +66,11 @@ fn has_top_keys(table: &Table) -> bool
 }
 
 /// Looks at the keys and the version.
-#[tactic(auto, unfolding(crate::specs::Reading::version_in))]
-fn version_in(table: &Table) -> Result<(), TopologyFaultKind>
-    ensures { result ≡ version_in (table_view table.now) }
+#[tactic(auto, unfolding(crate::specs::Reading::check_version))]
+fn check_version(table: &Table) -> Result<(), TopologyFaultKind>
+    ensures { result ≡ check_version (table_view table.now) }
 {
-    if !has_top_keys(table) {
+    if !has_only_top_keys(table) {
         return Err(TopologyFaultKind::UnknownKey);
     }
     let version = number_at(table, "version")?;
@@ -81,15 +81,15 @@ fn version_in(table: &Table) -> Result<(), TopologyFaultKind>
 }
 
 /// The sources, and the flows, each from one of them.
-#[tactic(auto, unfolding(crate::specs::Reading::sourced_flows_in))]
-fn sourced_flows_in(
+#[tactic(auto, unfolding(crate::specs::Reading::sources_and_flows_in))]
+fn sources_and_flows_in(
     alloc: Global,
     lans: &Lans,
     table: &Table,
 ) -> Result<(Sources, Flows), TopologyFault>
     requires { length lans.now ≤ MAX_LANS }
     ensures { result ≢ Err out_of_memory →
-        result ≡ sourced_flows_in lans.now (table_view table.now) }
+        result ≡ sources_and_flows_in lans.now (table_view table.now) }
 {
     let sources = sources_in(alloc, lans, table)?;
     let flows = flows_in(alloc, &sources, table)?;
@@ -110,7 +110,7 @@ fn interfaces_and_flows_in(
         result ≡ interfaces_and_flows_in lans.now routers.now (table_view table.now) }
 {
     let interfaces = interfaces_in(alloc, lans, routers, table)?;
-    let (sources, flows) = sourced_flows_in(alloc, lans, table)?;
+    let (sources, flows) = sources_and_flows_in(alloc, lans, table)?;
     Ok((interfaces, sources, flows))
 }
 
@@ -121,7 +121,7 @@ fn topology_with(
     routers: Routers,
     table: &Table,
 ) -> Result<Topology, TopologyFault>
-    requires version { version_in (table_view table.now) ≡ Ok tt }
+    requires version { check_version (table_view table.now) ≡ Ok tt }
     requires lans { lans_in (table_view table.now) ≡ Ok lans }
     requires routers { routers_in (table_view table.now) ≡ Ok routers }
     requires few_lans { length lans ≤ MAX_LANS }
@@ -137,16 +137,16 @@ fn topology_with(
 fn topology_in(alloc: Global, table: &Table) -> Result<Topology, TopologyFault>
     ensures { result ≢ Err out_of_memory → result ≡ topology_in (table_view table.now) }
 {
-    place(Section::Top, 0, version_in(table))?;
+    locate_fault(Section::Top, 0, check_version(table))?;
     let lans = lans_in(alloc, table)?;
     let routers = routers_in(alloc, table)?;
     topology_with(alloc, lans, routers, table)
 }
 
 /// The topology of a text.
-#[tactic(auto, unfolding(crate::specs::Reading::reading_of))]
-pub(crate) fn reading_of(alloc: Global, text: &[u8]) -> Result<Topology, TopologyFault>
-    ensures { result ≢ Err out_of_memory → result ≡ reading_of text.now }
+#[tactic(auto, unfolding(crate::specs::Reading::parse_topology))]
+pub(crate) fn parse_topology(alloc: Global, text: &[u8]) -> Result<Topology, TopologyFault>
+    ensures { result ≢ Err out_of_memory → result ≡ parse_topology text.now }
 {
     let table = document_of(alloc, text)?;
     topology_in(alloc, &table)

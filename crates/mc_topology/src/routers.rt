@@ -23,7 +23,7 @@ pub(crate) struct Routers {
 
 impl Model for Routers {
     ghost use Rattle.std.specs.Prelude.{List, map};
-    ghost use Rattle.mc_topology.specs.Rows.{RouterRow, router_row};
+    ghost use Rattle.mc_topology.specs.SectionRows.{RouterRow, router_row};
 
     ghost Value = { List RouterRow };
 

@@ -16,7 +16,7 @@ pub struct Source {
 }
 
 impl Model for Source {
-    ghost use Rattle.mc_topology.specs.Rows.{SourceRow};
+    ghost use Rattle.mc_topology.specs.SectionRows.{SourceRow};
 
     ghost Value = { SourceRow };
 

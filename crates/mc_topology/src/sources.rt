@@ -24,7 +24,7 @@ pub(crate) struct Sources {
 
 impl Model for Sources {
     ghost use Rattle.std.specs.Prelude.{List, map};
-    ghost use Rattle.mc_topology.specs.Rows.{SourceRow, source_row};
+    ghost use Rattle.mc_topology.specs.SectionRows.{SourceRow, source_row};
 
     ghost Value = { List SourceRow };
 

@@ -4,8 +4,8 @@ ghost use Rattle.std.specs.Prelude.{◌≡◌, ◌<◌, ◌≤◌, length, Some,
 ghost use Rattle.std.specs.Prelude.{slice_get};
 ghost use Rattle.mc_topology.specs.Lookup.{lan_of_interface, router_no_of};
 ghost use Rattle.mc_topology.specs.Names.{is_name, index_of};
-ghost use Rattle.mc_topology.specs.Topology.{IsInterfaceAmong, IsSourceAmong, IsFlowAmong};
-ghost use Rattle.mc_topology.specs.Topology.{IsTopology, lan_name, router_name};
+ghost use Rattle.mc_topology.specs.Topology.{IsValidInterface, IsValidSource, IsValidFlow};
+ghost use Rattle.mc_topology.specs.Topology.{IsValidTopology, lan_name, router_name};
 
 use crate::fault::TopologyFault;
 use crate::flow::Flow;
@@ -14,7 +14,7 @@ use crate::interface::Interface;
 use crate::interfaces::Interfaces;
 use crate::lans::Lans;
 use crate::number::{LanNo, RouterNo};
-use crate::read::reading_of;
+use crate::read::parse_topology;
 use crate::routers::Routers;
 use crate::source::Source;
 use crate::sources::Sources;
@@ -47,7 +47,7 @@ impl Drop for Topology {
 }
 
 impl Model for Topology {
-    ghost use Rattle.mc_topology.specs.Topology.{TopologyValue, topology_code, IsTopology};
+    ghost use Rattle.mc_topology.specs.Topology.{TopologyValue, topology_code, IsValidTopology};
 
     ghost Value = { TopologyValue };
 
@@ -61,7 +61,7 @@ impl Model for Topology {
       flows = s.flows;
     } };
 
-    ghost invariant = { λ s. IsTopology (record {
+    ghost invariant = { λ s. IsValidTopology (record {
       lans = s.lans;
       routers = s.routers;
       interfaces = s.interfaces;
@@ -74,8 +74,8 @@ impl Topology {
     ghost use Rattle.std.specs.Prelude.{◌≢◌, IfOk, Ok, Err};
     ghost use Rattle.mc_topology.specs.Answer.{out_of_memory};
     ghost use Rattle.mc_topology.specs.Bounds.{is_bounded};
-    ghost use Rattle.mc_topology.specs.Reading.{reading_of};
-    ghost use Rattle.mc_topology.specs.Stands.{TopologyStands};
+    ghost use Rattle.mc_topology.specs.Reading.{parse_topology};
+    ghost use Rattle.mc_topology.specs.Denotation.{DenotesTopology};
     ghost use Rattle.mc_topology.specs.Topology.{TopologyValue};
 
     /// The topology of its sections.
@@ -86,7 +86,7 @@ impl Topology {
         sources: Sources,
         flows: Flows,
     ) -> Topology
-        requires { IsTopology (record {
+        requires { IsValidTopology (record {
           lans = lans;
           routers = routers;
           interfaces = interfaces;
@@ -120,21 +120,21 @@ impl Topology {
     /// `Memory`, at `top` 0, where a growth was refused.
     pub fn read(alloc: Global, text: &[u8]) -> Result<Topology, TopologyFault>
         // What is read is what the text stands for.
-        ensures found { IfOk result (TopologyStands text.now) }
+        ensures found { IfOk result (DenotesTopology text.now) }
         // A text that stands for a topology and is within the bounds is read as that, unless memory
         // runs out.
-        ensures only { (t : TopologyValue) → TopologyStands text.now t →
+        ensures only { (t : TopologyValue) → DenotesTopology text.now t →
             IsTrue (is_bounded text.now) → result ≢ Err out_of_memory → result ≡ Ok t }
         // Which fault it is, unless memory runs out.
-        ensures fault { result ≢ Err out_of_memory → result ≡ reading_of text.now }
+        ensures fault { result ≢ Err out_of_memory → result ≡ parse_topology text.now }
     {
-        reading_of(alloc, text)
+        parse_topology(alloc, text)
     }
 
     /// How many LANs there are, at most 1,024.
     pub fn lans(&self) -> u32
         ensures count { result ≡ length self.now.lans }
-        ensures rules { IsTopology self.now }
+        ensures rules { IsValidTopology self.now }
     {
         self.lans.len() as u32
     }
@@ -142,7 +142,7 @@ impl Topology {
     /// How many routers there are, at most 256.
     pub fn routers(&self) -> u32
         ensures count { result ≡ length self.now.routers }
-        ensures rules { IsTopology self.now }
+        ensures rules { IsValidTopology self.now }
     {
         self.routers.len() as u32
     }
@@ -150,7 +150,7 @@ impl Topology {
     /// How many interfaces there are, at most 8,192.
     pub fn interfaces(&self) -> u32
         ensures count { result ≡ length self.now.interfaces }
-        ensures rules { IsTopology self.now }
+        ensures rules { IsValidTopology self.now }
     {
         self.interfaces.len() as u32
     }
@@ -158,7 +158,7 @@ impl Topology {
     /// How many sources there are, at most 4,096.
     pub fn sources(&self) -> u32
         ensures count { result ≡ length self.now.sources }
-        ensures rules { IsTopology self.now }
+        ensures rules { IsValidTopology self.now }
     {
         self.sources.len() as u32
     }
@@ -166,7 +166,7 @@ impl Topology {
     /// How many flows there are, 1 to 4,096.
     pub fn flows(&self) -> u32
         ensures count { result ≡ length self.now.flows }
-        ensures rules { IsTopology self.now }
+        ensures rules { IsValidTopology self.now }
     {
         self.flows.len() as u32
     }
@@ -193,7 +193,7 @@ impl Topology {
     pub fn interface(&self, interface: u32) -> Interface<'_>
         requires { interface < length self.now.interfaces }
         ensures interface { slice_get self.now.interfaces interface ≡ Some result }
-        ensures among { IsInterfaceAmong self.now result }
+        ensures valid { IsValidInterface self.now result }
     {
         self.interfaces.interface(interface)
     }
@@ -202,7 +202,7 @@ impl Topology {
     pub fn source(&self, source: u32) -> Source
         requires { source < length self.now.sources }
         ensures source { slice_get self.now.sources source ≡ Some result }
-        ensures among { IsSourceAmong self.now.lans result }
+        ensures valid { IsValidSource self.now.lans result }
     {
         self.sources.source(source)
     }
@@ -211,7 +211,7 @@ impl Topology {
     pub fn flow(&self, flow: u32) -> &Flow
         requires { flow < length self.now.flows }
         ensures flow { slice_get self.now.flows flow ≡ Some result.now }
-        ensures among { IsFlowAmong self.now.lans result.now }
+        ensures valid { IsValidFlow self.now.lans result.now }
     {
         self.flows.flow(flow)
     }

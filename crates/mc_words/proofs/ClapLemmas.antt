@@ -9,45 +9,45 @@ use Rattle.clap.specs.declared.builder.command.Command.{Command}
 use Rattle.clap.specs.declared.error.Error.{Error}
 use Rattle.clap.specs.declared.error.kind.ErrorKind.TheVariants.{OutOfMemory}
 use Rattle.clap.specs.declared.parser.matches.ArgMatches.{ArgMatches}
-use Rattle.mc_words.specs.Commands.{AreTaken, IsCommand, commands, found_in}
+use Rattle.mc_words.specs.Commands.{AreAcceptedByClap, IsCommand, commands, subcommand_in}
 
 -- clap's exact clauses hold of this program
-commands_are_simple : is_simple commands ≡ true
-commands_are_simple = refl
+is_simple-commands : is_simple commands ≡ true
+is_simple-commands = refl
 
-commands_are_free : is_simple_and_free commands ≡ true
-commands_are_free = refl
+is_simple_and_free-commands : is_simple_and_free commands ≡ true
+is_simple_and_free-commands = refl
 
-pub found_subcommand : (command : Command) (words : List (List ℕ)) (matches : ArgMatches) → IsCommand commands command
-    → HasMatchesOf (app_of command) words matches → subcommand_rows_of matches ≡ found_in words
-found_subcommand command words matches is has =
+pub subcommand_rows_of-commands : (command : Command) (words : List (List ℕ)) (matches : ArgMatches) → IsCommand commands command
+    → HasMatchesOf (app_of command) words matches → subcommand_rows_of matches ≡ subcommand_in words
+subcommand_rows_of-commands command words matches is has =
     let P : App → Type 0 = λ app. HasMatchesOf app words matches in
-    (subst P is.same has commands_are_simple).1
+    (subst P is.same has is_simple-commands).1
 
-fails : {T : Type 0} (command : Command) (words : List (List ℕ)) (result : Result T Error) → IsCommand commands command
+FailsBy-commands : {T : Type 0} (command : Command) (words : List (List ℕ)) (result : Result T Error) → IsCommand commands command
     → (is_simple_and_free (app_of command) ≡ true → FailsBy (fault_of (app_of command) words) result)
     → FailsBy (fault_of commands words) result
-fails {T} command words result is by =
+FailsBy-commands {T} command words result is by =
     let P : App → Type 0 = λ app. is_simple_and_free app ≡ true → FailsBy (fault_of app words) result in
-    subst P is.same by commands_are_free
+    subst P is.same by is_simple_and_free-commands
 
-pub taken : (command : Command) (words : List (List ℕ)) (matches : ArgMatches) → IsCommand commands command
+pub AreAcceptedByClap-from_Ok : (command : Command) (words : List (List ℕ)) (matches : ArgMatches) → IsCommand commands command
     → (is_simple_and_free (app_of command) ≡ true → FailsBy (fault_of (app_of command) words) (Ok matches))
-    → AreTaken words
-taken command words matches is by = fails command words (Ok matches) is by
+    → AreAcceptedByClap words
+AreAcceptedByClap-from_Ok command words matches is by = FailsBy-commands command words (Ok matches) is by
 
-abbrev has_none : Kinds → Bool
-has_none [] = true
-has_none (kind ∷ kinds) = false
+abbrev is_empty_kinds : Kinds → Bool
+is_empty_kinds [] = true
+is_empty_kinds (kind ∷ kinds) = false
 
-no_kind : (kinds : Kinds) (error : Error) → HasKind kinds error → kinds ≡ [] → kind_of error ≡ OutOfMemory
-no_kind [] error (inl memory) none = memory
-no_kind [] error (inr among) none = absurd among
-no_kind (kind ∷ kinds) error has none = absurd (false≢true (ap (λ (kinds : Kinds). has_none kinds) none))
+OutOfMemory-from_no_kind : (kinds : Kinds) (error : Error) → HasKind kinds error → kinds ≡ [] → kind_of error ≡ OutOfMemory
+OutOfMemory-from_no_kind [] error (inl memory) none = memory
+OutOfMemory-from_no_kind [] error (inr among) none = absurd among
+OutOfMemory-from_no_kind (kind ∷ kinds) error has none = absurd (false≢true (ap (λ (kinds : Kinds). is_empty_kinds kinds) none))
 
 -- where clap takes the words, an error is that memory ran out
-pub refused : (T : Type 0) (command : Command) (words : List (List ℕ)) (error : Error) → IsCommand commands command
+pub OutOfMemory-from_clap_error : (T : Type 0) (command : Command) (words : List (List ℕ)) (error : Error) → IsCommand commands command
     → (is_simple_and_free (app_of command) ≡ true → FailsBy {T = T} (fault_of (app_of command) words) (Err error))
-    → AreTaken words → kind_of error ≡ OutOfMemory
-refused T command words error is by none =
-    no_kind (fault_of commands words) error (fails {T = T} command words (Err error) is by) none
+    → AreAcceptedByClap words → kind_of error ≡ OutOfMemory
+OutOfMemory-from_clap_error T command words error is by none =
+    OutOfMemory-from_no_kind (fault_of commands words) error (FailsBy-commands {T = T} command words (Err error) is by) none

@@ -9,63 +9,63 @@ use Rattle.std.specs.Str.{bytes_eq}
 use Rattle.std.specs.Str.Pattern.{FindsTextPrefix, StripsPrefix}
 use Rattle.std.proofs.lemmas.List.{at_drop_all, at_drop_more, take-append-drop}
 use Rattle.std.proofs.lemmas.Slice.Eq.{bytes_eq-Decides}
-use Rattle.mc_words.specs.AuditWords.{Given, joined_router}
+use Rattle.mc_words.specs.AuditWords.{Given, router_after_equals}
 use Rattle.mc_words.specs.AuditWords.{with_word, with_words}
 
 -- From a place on they give what is given with the word there and the words behind it,
-pub with_words-step : {X : Type 0} (f : X → List ℕ) (xs : List X) (i : ℕ) (d : X) (given : Given)
-    (next : Option Given) → i < length xs → with_word given.place (f (get_or xs i d)) given ≡ next
+pub with_words-more : {X : Type 0} (f : X → List ℕ) (xs : List X) (i : ℕ) (d : X) (given : Given)
+    (next : Option Given) → i < length xs → with_word given.next_word (f (get_or xs i d)) given ≡ next
     → with_words (Some given) (map f (drop i xs)) ≡ with_words next (map f (drop (i + 1) xs))
 unfolding with_words
-with_words-step f xs i d given next lt is =
+with_words-more f xs i d given next lt is =
     at_drop_more (λ rest. with_words (Some given) (map f rest)) xs i d lt
     ∙ ap (λ given. with_words given (map f (drop (i + 1) xs))) is
 
 -- nothing where that is wrong,
-pub with_words-wrong : (words : List (List ℕ)) → with_words None words ≡ None
+pub with_words-None : (words : List (List ℕ)) → with_words None words ≡ None
 unfolding with_words
-with_words-wrong words = refl
+with_words-None words = refl
 
 -- and what was given at the end.
-pub with_words-end : {X : Type 0} (f : X → List ℕ) (xs : List X) (i : ℕ) (given : Given) → length xs ≤ i
+pub with_words-all : {X : Type 0} (f : X → List ℕ) (xs : List X) (i : ℕ) (given : Given) → length xs ≤ i
     → with_words (Some given) (map f (drop i xs)) ≡ Some given
 unfolding with_words
-with_words-end f xs i given le = at_drop_all (λ rest. with_words (Some given) (map f rest)) xs i le
+with_words-all f xs i given le = at_drop_all (λ rest. with_words (Some given) (map f rest)) xs i le
 
 -- the word `--without=`
-abbrev joined : List ℕ
-joined = codes "--without="
+abbrev without_equals_text : List ℕ
+without_equals_text = codes "--without="
 
-join : (word : List ℕ) (test : Bool) → bytes_eq (take 10 word) joined ≡ test
-    → cond test (Some (drop 10 word)) None ≡ joined_router word
-join word test is = ap (λ test. cond test (Some (drop 10 word)) None) (sym is)
+router_after_equals-cond : (word : List ℕ) (test : Bool) → bytes_eq (take 10 word) without_equals_text ≡ test
+    → cond test (Some (drop 10 word)) None ≡ router_after_equals word
+router_after_equals-cond word test is = ap (λ test. cond test (Some (drop 10 word)) None) (sym is)
 
-not_joined : (word : List ℕ) (test : Bool) → bytes_eq (take 10 word) joined ≡ test
-    → ((rest : List ℕ) → word ≢ joined ++ rest) → None ≡ cond test (Some (drop 10 word)) None
-not_joined word false is lacks = refl
-not_joined word true is lacks =
-    let front = (bytes_eq-Decides (take 10 word) joined).0 is in
+router_after_equals-no_prefix : (word : List ℕ) (test : Bool) → bytes_eq (take 10 word) without_equals_text ≡ test
+    → ((rest : List ℕ) → word ≢ without_equals_text ++ rest) → None ≡ cond test (Some (drop 10 word)) None
+router_after_equals-no_prefix word false is lacks = refl
+router_after_equals-no_prefix word true is lacks =
+    let front = (bytes_eq-Decides (take 10 word) without_equals_text).0 is in
     absurd (lacks (drop 10 word) (sym (take-append-drop 10 word) ∙ ap (λ front. front ++ drop 10 word) front))
 
 -- what follows `--without=` is the router
-pub stripped : (read : Option (Bor (List ℕ))) (word : List ℕ)
-    → MatchOption read (FindsTextPrefix joined word None) (λ rest. StripsPrefix (FindsTextPrefix joined) word rest.now)
-    → option_map (λ router. router.now) read ≡ joined_router word
-stripped None word lacks =
-    not_joined word (bytes_eq (take 10 word) joined) refl lacks
-    ∙ join word (bytes_eq (take 10 word) joined) refl
-stripped (Some router) word strips =
+pub router_after_equals-strip_prefix : (read : Option (Bor (List ℕ))) (word : List ℕ)
+    → MatchOption read (FindsTextPrefix without_equals_text word None) (λ rest. StripsPrefix (FindsTextPrefix without_equals_text) word rest.now)
+    → option_map (λ router. router.now) read ≡ router_after_equals word
+router_after_equals-strip_prefix None word lacks =
+    router_after_equals-no_prefix word (bytes_eq (take 10 word) without_equals_text) refl lacks
+    ∙ router_after_equals-cond word (bytes_eq (take 10 word) without_equals_text) refl
+router_after_equals-strip_prefix (Some router) word strips =
     let whole = strips.1.1 in
     let after : strips.0 ≡ 10 = strips.1.0 in
-    let test : bytes_eq (take 10 word) joined ≡ true = ap (λ w. bytes_eq (take 10 w) joined) whole in
+    let test : bytes_eq (take 10 word) without_equals_text ≡ true = ap (λ w. bytes_eq (take 10 w) without_equals_text) whole in
     ap Some (strips.2 ∙ ap (λ n. drop n word) after)
-    ∙ join word true test
+    ∙ router_after_equals-cond word true test
 
 -- whether the next word is right
-pub next_right : (right : Bool) (next : Option Given) (given : Given) → right ≡ true → next ≡ then_some right given
+pub Some-from_IsNextGiven : (right : Bool) (next : Option Given) (given : Given) → right ≡ true → next ≡ then_some right given
     → next ≡ Some given
-next_right right next given is says = says ∙ ap (λ right. then_some right given) is
+Some-from_IsNextGiven right next given is says = says ∙ ap (λ right. then_some right given) is
 
-pub next_wrong : (right : Bool) (next : Option Given) (given : Given) → right ≡ false → next ≡ then_some right given
+pub None-from_IsNextGiven : (right : Bool) (next : Option Given) (given : Given) → right ≡ false → next ≡ then_some right given
     → next ≡ None
-next_wrong right next given is says = says ∙ ap (λ right. then_some right given) is
+None-from_IsNextGiven right next given is says = says ∙ ap (λ right. then_some right given) is

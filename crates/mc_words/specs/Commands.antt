@@ -77,19 +77,19 @@ abbrev pub IsLeaf : Shape → Command → Type 0
 IsLeaf shape = IsCommand (record { top = shape; subs = [] })
 
 -- clap finds no fault in the program's words
-abbrev pub AreTaken : List (List ℕ) → Type 0
-AreTaken words = fault_of commands words ≡ []
+abbrev pub AreAcceptedByClap : List (List ℕ) → Type 0
+AreAcceptedByClap words = fault_of commands words ≡ []
 
 -- the command that clap finds in the words, and what it finds behind it
-abbrev pub found_in : List (List ℕ) → Option (List ℕ × List Row)
-found_in = subcommand_of commands
+abbrev pub subcommand_in : List (List ℕ) → Option (List ℕ × List Row)
+subcommand_in = subcommand_of commands
 
 -- the argument's word, which is empty where there is none
 abbrev pub word_of : List Row → List ℕ → List ℕ
 word_of rows name = unwrap_or (first_of name rows) []
 
 -- the flag is set where it is found as set, and not where it is found as not set or isn't found
-pub record IsFlag (rows : List Row) (name : List ℕ) (flag : Bool) : Type 0 where
+pub record IsFlagValue (rows : List Row) (name : List ℕ) (flag : Bool) : Type 0 where
   pub set : one_of name rows ≡ Some (codes "true") → flag ≡ true
   pub unset : one_of name rows ≡ Some (codes "false") → flag ≡ false
   pub absent : one_of name rows ≡ None → flag ≡ false

@@ -4,17 +4,17 @@ use Rattle.std.specs.Prelude.{IsSomeAnd, Option, [], ◌∷◌, drop, slice_get}
 use Rattle.clap.specs.Walk.{Row}
 use Rattle.mc_text.specs.Addr.{IsForwardedGroup, IsSource, dotted}
 use Rattle.mc_text.specs.Number.{IsDecimal}
-use Rattle.mc_words.specs.AuditWords.{AreAuditWords, are_routers, is_option}
-use Rattle.mc_words.specs.Commands.{AreTaken, IsFlag, found_in, is_command, word_of}
+use Rattle.mc_words.specs.AuditWords.{AreAuditWords, are_distinct_router_names, is_option}
+use Rattle.mc_words.specs.Commands.{AreAcceptedByClap, IsFlagValue, subcommand_in, is_command, word_of}
 use Rattle.mc_words.specs.declared.audit_words.AuditWords.{AuditWords}
 use Rattle.mc_words.specs.declared.task.Task.{Task}
 use Rattle.mc_words.specs.declared.task.Task.TheVariants.{Wants, Check, Make, Replay, Pack, Audit}
 use Rattle.mc_words.specs.declared.task.Task.TheVariants.{Help, Version}
 
 -- the folder doesn't begin like an option, and what is left out are names of routers, each once
-pub record IsAudit (words : AuditWords) : Type 0 where
+pub record IsAllowedAudit (words : AuditWords) : Type 0 where
   pub folder : is_option words.folder.now ≡ false
-  pub without : are_routers (map (λ word. word.now) words.without.items) ≡ true
+  pub without : are_distinct_router_names (map (λ word. word.now) words.without.items) ≡ true
 
 abbrev pub IsAllowed : Task → Type 0
 IsAllowed (Wants group source) = IsForwardedGroup group × IsSource source
@@ -22,15 +22,15 @@ IsAllowed Check = ⊤
 IsAllowed Make = ⊤
 IsAllowed (Replay flow ttl last) = (1 ≤ flow) × (flow ≤ 4096) × (1 ≤ ttl) × (ttl ≤ 255)
 IsAllowed (Pack folder certificate) = ⊤
-IsAllowed (Audit words) = IsAudit words
+IsAllowed (Audit words) = IsAllowedAudit words
 IsAllowed (Help text) = ⊤
 IsAllowed Version = ⊤
 
 -- the words after `wants` are the group and the source of the task
-abbrev pub AreWords : List ℕ → List ℕ → Task → Type 0
-AreWords group_word source_word (Wants group source) =
+abbrev pub AreWantsWords : List ℕ → List ℕ → Task → Type 0
+AreWantsWords group_word source_word (Wants group source) =
     (group_word ≡ dotted group) × (source_word ≡ dotted source)
-AreWords group_word source_word _ = ⊥
+AreWantsWords group_word source_word _ = ⊥
 
 -- the word behind `--order`
 abbrev pub order_word : Bool → List ℕ
@@ -44,35 +44,35 @@ AreReplayWords flow_word ttl_word order (Replay flow ttl last) =
 AreReplayWords flow_word ttl_word order _ = ⊥
 
 -- the task is the one that a command asks for, of whose words these rows are found
-abbrev pub IsTaskOf : List ℕ → List Row → Task → Type 0
-IsTaskOf command rows (Wants group source) = (command ≡ codes "wants")
-    × AreWords (word_of rows (codes "group")) (word_of rows (codes "source")) (Wants group source)
-IsTaskOf command rows Check = command ≡ codes "check"
-IsTaskOf command rows Make = command ≡ codes "make"
-IsTaskOf command rows (Replay flow ttl last) = (command ≡ codes "replay")
+abbrev pub IsTaskOfCommand : List ℕ → List Row → Task → Type 0
+IsTaskOfCommand command rows (Wants group source) = (command ≡ codes "wants")
+    × AreWantsWords (word_of rows (codes "group")) (word_of rows (codes "source")) (Wants group source)
+IsTaskOfCommand command rows Check = command ≡ codes "check"
+IsTaskOfCommand command rows Make = command ≡ codes "make"
+IsTaskOfCommand command rows (Replay flow ttl last) = (command ≡ codes "replay")
     × AreReplayWords (word_of rows (codes "flow")) (word_of rows (codes "ttl"))
     (word_of rows (codes "order")) (Replay flow ttl last)
-IsTaskOf command rows (Pack folder certificate) = (command ≡ codes "pack")
-    × (folder.now ≡ word_of rows (codes "folder")) × IsFlag rows (codes "certificate") certificate
-IsTaskOf command rows (Audit words) = ⊥
-IsTaskOf command rows (Help text) = ⊥
-IsTaskOf command rows Version = ⊥
+IsTaskOfCommand command rows (Pack folder certificate) = (command ≡ codes "pack")
+    × (folder.now ≡ word_of rows (codes "folder")) × IsFlagValue rows (codes "certificate") certificate
+IsTaskOfCommand command rows (Audit words) = ⊥
+IsTaskOfCommand command rows (Help text) = ⊥
+IsTaskOfCommand command rows Version = ⊥
 
 -- the task is the one that the command which is found asks for
-abbrev pub IsNamed : Option (List ℕ × List Row) → Task → Type 0
-IsNamed found task = IsSomeAnd found (λ command. IsTaskOf command.0 command.1 task)
+abbrev pub IsTaskOfSubcommand : Option (List ℕ × List Row) → Task → Type 0
+IsTaskOfSubcommand found task = IsSomeAnd found (λ command. IsTaskOfCommand command.0 command.1 task)
 
 -- clap takes the words, and the task is that of the command which it finds in them
 abbrev pub IsClapTask : List (List ℕ) → Task → Type 0
-IsClapTask words task = AreTaken words × IsNamed (found_in words) task
+IsClapTask words task = AreAcceptedByClap words × IsTaskOfSubcommand (subcommand_in words) task
 
 -- the first word behind the program's own name
-abbrev pub IsFirst : List ℕ → List (List ℕ) → Type 0
-IsFirst word words = slice_get words 1 ≡ Some word
+abbrev pub IsFirstWord : List ℕ → List (List ℕ) → Type 0
+IsFirstWord word words = slice_get words 1 ≡ Some word
 
 -- the word behind the program's own name asks for the version
 abbrev pub AskForVersion : List (List ℕ) → Type 0
-AskForVersion words = IsFirst (codes "--version") words ⊎ IsFirst (codes "-V") words
+AskForVersion words = IsFirstWord (codes "--version") words ⊎ IsFirstWord (codes "-V") words
 
 -- the words behind `help` are none, or the name of a command
 abbrev pub is_topic : List (List ℕ) → Bool
@@ -82,7 +82,7 @@ is_topic (name ∷ other ∷ more) = false
 
 -- the words ask for help
 abbrev pub AskForHelp : List (List ℕ) → Type 0
-AskForHelp words = IsFirst (codes "help") words × (is_topic (drop 2 words) ≡ true)
+AskForHelp words = IsFirstWord (codes "help") words × (is_topic (drop 2 words) ≡ true)
 
 abbrev pub IsHelp : Task → Type 0
 IsHelp (Help text) = ⊤
@@ -97,5 +97,5 @@ IsAuditFor words other = ⊥
 abbrev pub IsAskedFor : List (List ℕ) → Task → Type 0
 IsAskedFor words Version = AskForVersion words
 IsAskedFor words (Help text) = AskForHelp words
-IsAskedFor words (Audit audit) = IsFirst (codes "audit") words × AreAuditWords (drop 2 words) audit
+IsAskedFor words (Audit audit) = IsFirstWord (codes "audit") words × AreAuditWords (drop 2 words) audit
 IsAskedFor words task = IsClapTask words task

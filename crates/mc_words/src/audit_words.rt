@@ -1,14 +1,14 @@
 //! What the words after `audit` say.
 
 ghost use Rattle.std.specs.Prelude.{◌≡◌, map, is_none, IfErr, IfOk, IfSome, IsSome};
-ghost use Rattle.mc_words.specs.AuditWords.{AreAuditWords, AreWholeWords, IsWhole, are_routers};
-ghost use Rattle.mc_words.specs.AuditWords.{given_of, is_among, is_router};
+ghost use Rattle.mc_words.specs.AuditWords.{AreAuditWords, AreCompleteAuditWords, IsCompleteDraft, are_distinct_router_names};
+ghost use Rattle.mc_words.specs.AuditWords.{given_of, is_among, is_router_expected};
 ghost use Rattle.mc_words.specs.declared.audit_words.AuditWords.{AuditWords};
 ghost use Rattle.mc_words.specs.declared.fault.WordsFault.TheVariants.{Memory};
 
 use crate::command::audit_command;
-use crate::draft::{Draft, Place, draft_of};
-use crate::fault::{FOLDER_RULE, WordsFault, explained_refusal, wrong_words};
+use crate::draft::{Draft, NextWord, draft_of};
+use crate::fault::{FOLDER_RULE, WordsFault, refusal_explained_by_clap, usage_refusal};
 use mc_topology::is_name;
 use std::alloc::{AllocError, Global};
 
@@ -55,7 +55,7 @@ fn is_among(word: &str, words: &[&str]) -> bool
 /// What is wrong with the first of the words that isn't a router's name, or stands again after
 /// itself.
 fn broken_rule(words: &[&str]) -> Option<&'static str>
-    ensures { is_none result ≡ are_routers (map (λ word. word.now) words.now) }
+    ensures { is_none result ≡ are_distinct_router_names (map (λ word. word.now) words.now) }
 {
     for at in 0..words.len() {
         if !is_name(words[at]) {
@@ -69,21 +69,21 @@ fn broken_rule(words: &[&str]) -> Option<&'static str>
 }
 
 /// Whether the next word has to be there, since `--without` is before it.
-fn is_router(place: Place) -> bool
-    ensures { result ≡ is_router place }
+fn is_router_expected(next_word: NextWord) -> bool
+    ensures { result ≡ is_router_expected next_word }
 {
-    match place {
-        Place::Router => true,
-        Place::Options | Place::Plain => false,
+    match next_word {
+        NextWord::Router => true,
+        NextWord::Options | NextWord::FolderOnly => false,
     }
 }
 
 /// What a draft of all words says, unless a word lacks.
-fn whole_of(draft: Draft<'_>) -> Option<AuditWords<'_>>
-    ensures found { IfSome result (IsWhole (given_of draft.entry)) }
-    ensures only { (audit : AuditWords) → IsWhole (given_of draft.entry) audit → IsSome result }
+fn complete_draft(draft: Draft<'_>) -> Option<AuditWords<'_>>
+    ensures found { IfSome result (IsCompleteDraft (given_of draft.entry)) }
+    ensures only { (audit : AuditWords) → IsCompleteDraft (given_of draft.entry) audit → IsSome result }
 {
-    if is_router(draft.place) {
+    if is_router_expected(draft.next_word) {
         return None;
     }
     let folder = draft.folder?;
@@ -95,17 +95,17 @@ fn whole_of(draft: Draft<'_>) -> Option<AuditWords<'_>>
 }
 
 /// What the words say, unless one of them is wrong or lacks.
-fn whole_words_of<'a>(
+fn complete_words_of<'a>(
     alloc: Global,
     words: &[&'a str],
 ) -> Result<Option<AuditWords<'a>>, AllocError>
     ensures found { IfOk result (λ whole.
-        IfSome whole (AreWholeWords (map (λ word. word.now) words.now))) }
-    ensures only { (audit : AuditWords) → AreWholeWords (map (λ word. word.now) words.now) audit
+        IfSome whole (AreCompleteAuditWords (map (λ word. word.now) words.now))) }
+    ensures only { (audit : AuditWords) → AreCompleteAuditWords (map (λ word. word.now) words.now) audit
         → IfOk result IsSome }
 {
     match draft_of(alloc, words)? {
-        Some(draft) => Ok(whole_of(draft)),
+        Some(draft) => Ok(complete_draft(draft)),
         None => Ok(None),
     }
 }
@@ -124,14 +124,14 @@ pub fn audit_words_of<'a>(
     ensures only { (audit : AuditWords) → AreAuditWords (map (λ word. word.now) words.now) audit
         → IfErr result (λ fault. fault ≡ Memory) }
 {
-    let Some(audit) = whole_words_of(alloc, words)? else {
-        return Err(explained_refusal(alloc, all));
+    let Some(audit) = complete_words_of(alloc, words)? else {
+        return Err(refusal_explained_by_clap(alloc, all));
     };
     if audit.folder.starts_with('-') {
-        return Err(wrong_words(alloc, audit_command(alloc), FOLDER_RULE));
+        return Err(usage_refusal(alloc, audit_command(alloc), FOLDER_RULE));
     }
     match broken_rule(&audit.without) {
-        Some(rule) => Err(wrong_words(alloc, audit_command(alloc), rule)),
+        Some(rule) => Err(usage_refusal(alloc, audit_command(alloc), rule)),
         None => Ok(audit),
     }
 }

@@ -1,8 +1,8 @@
 //! What the words after `audit` have given so far.
 
 ghost use Rattle.std.specs.Prelude.{◌≡◌, map, IfOk, Some, OnOk, option_map};
-ghost use Rattle.mc_words.specs.AuditWords.{IsNext, given_of, joined_router, nothing_given};
-ghost use Rattle.mc_words.specs.AuditWords.{with_folder, with_option, with_own_word, with_router};
+ghost use Rattle.mc_words.specs.AuditWords.{IsNextGiven, given_of, router_after_equals, nothing_given};
+ghost use Rattle.mc_words.specs.AuditWords.{with_folder, with_option, with_option_or_folder, with_router};
 ghost use Rattle.mc_words.specs.AuditWords.{with_word, with_words};
 
 use crate::audit_words::AuditOptions;
@@ -10,13 +10,13 @@ use std::alloc::{AllocError, Global};
 
 /// What the next word is.
 #[derive(Clone, Copy, Debug, PartialEq, Eq)]
-pub enum Place {
+pub enum NextWord {
     /// An option or the folder.
     Options,
     /// The router of the `--without` before it, whatever it begins with.
     Router,
     /// The folder, since it stands behind `--`.
-    Plain,
+    FolderOnly,
 }
 
 /// What the words up to some place have given.
@@ -29,12 +29,12 @@ pub struct Draft<'a> {
     /// The routers to be left out, in the order of the words.
     pub without: Vec<&'a str>,
     /// What the next word is.
-    pub place: Place,
+    pub next_word: NextWord,
 }
 
 /// The router of the word `--without=ROUTER`.
-fn joined_router(word: &str) -> Option<&str>
-    ensures { option_map (λ router. router.now) result ≡ joined_router word.now }
+fn router_after_equals(word: &str) -> Option<&str>
+    ensures { option_map (λ router. router.now) result ≡ router_after_equals word.now }
 {
     word.strip_prefix("--without=")
 }
@@ -83,7 +83,7 @@ impl<'a> Draft<'a> {
                 json: false,
             },
             without: Vec::new(alloc),
-            place: Place::Options,
+            next_word: NextWord::Options,
         }
     }
 
@@ -93,13 +93,13 @@ impl<'a> Draft<'a> {
             (given_of self.new ≡ with_router router.now (given_of self.old)) }
     {
         self.without.push(router)?;
-        self.place = Place::Options;
+        self.next_word = NextWord::Options;
         Ok(())
     }
 
     /// Takes the folder, and says whether the word is right.
     fn add_folder(&mut self, word: &'a str) -> bool
-        ensures { IsNext result (with_folder word.now (given_of self.old)) (given_of self.new) }
+        ensures { IsNextGiven result (with_folder word.now (given_of self.old)) (given_of self.new) }
     {
         if self.folder.is_some() {
             return false;
@@ -109,19 +109,19 @@ impl<'a> Draft<'a> {
     }
 
     /// Takes an option or the folder, and says whether the word is right.
-    fn add_own_word(&mut self, word: &'a str) -> Result<bool, AllocError>
-        ensures { IfOk result (λ right. IsNext right
-            (with_own_word word.now (given_of self.old)) (given_of self.new)) }
+    fn add_option_or_folder(&mut self, word: &'a str) -> Result<bool, AllocError>
+        ensures { IfOk result (λ right. IsNextGiven right
+            (with_option_or_folder word.now (given_of self.old)) (given_of self.new)) }
     {
         if word == "--" {
-            self.place = Place::Plain;
+            self.next_word = NextWord::FolderOnly;
             return Ok(true);
         }
         if word == "--without" {
-            self.place = Place::Router;
+            self.next_word = NextWord::Router;
             return Ok(true);
         }
-        if let Some(router) = joined_router(word) {
+        if let Some(router) = router_after_equals(word) {
             self.add_router(router)?;
             return Ok(true);
         }
@@ -137,16 +137,16 @@ impl<'a> Draft<'a> {
 
     /// Takes one word more, and says whether it is right.
     fn add_word(&mut self, word: &'a str) -> Result<bool, AllocError>
-        ensures { IfOk result (λ right. IsNext right
-            (with_word self.old.place word.now (given_of self.old)) (given_of self.new)) }
+        ensures { IfOk result (λ right. IsNextGiven right
+            (with_word self.old.next_word word.now (given_of self.old)) (given_of self.new)) }
     {
-        match self.place {
-            Place::Options => self.add_own_word(word),
-            Place::Router => {
+        match self.next_word {
+            NextWord::Options => self.add_option_or_folder(word),
+            NextWord::Router => {
                 self.add_router(word)?;
                 Ok(true)
             }
-            Place::Plain => Ok(self.add_folder(word)),
+            NextWord::FolderOnly => Ok(self.add_folder(word)),
         }
     }
 }

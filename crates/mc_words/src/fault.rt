@@ -52,7 +52,7 @@ fn explained(
 }
 
 /// A refusal of the words, with the rule that they break.
-pub fn wrong_words(
+pub fn usage_refusal(
     alloc: Global,
     command: Result<Command<'_>, AllocError>,
     rule: &str,
@@ -68,12 +68,12 @@ pub const FOLDER_RULE: &str = "<folder> doesn't begin with -; ./-x is the folder
 
 /// A refusal of the program's words, as clap explains it for the program with all commands. Of what no
 /// task has, clap takes only `-` for a folder to be audited.
-pub fn explained_refusal<'a>(alloc: Global, words: &'a [&'a str]) -> WordsFault {
+pub fn refusal_explained_by_clap<'a>(alloc: Global, words: &'a [&'a str]) -> WordsFault {
     let Ok(program) = program(alloc) else {
         return WordsFault::Memory;
     };
     match program.try_get_matches_from(words) {
-        Ok(_) => wrong_words(alloc, audit_command(alloc), FOLDER_RULE),
+        Ok(_) => usage_refusal(alloc, audit_command(alloc), FOLDER_RULE),
         Err(error) => refusal(alloc, &error),
     }
 }

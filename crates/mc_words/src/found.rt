@@ -3,7 +3,7 @@
 ghost use Rattle.std.specs.Prelude.{◌≡◌};
 ghost use Rattle.clap.specs.Matches.{found_of};
 ghost use Rattle.clap.specs.Walk.{rows_of};
-ghost use Rattle.mc_words.specs.Commands.{IsFlag, word_of};
+ghost use Rattle.mc_words.specs.Commands.{IsFlagValue, word_of};
 
 use clap::ArgMatches;
 
@@ -15,8 +15,8 @@ pub fn word_of<'a>(matches: &ArgMatches<'a>, argument: &str) -> &'a str
 }
 
 /// Whether a flag is set.
-pub fn is_set(matches: &ArgMatches<'_>, flag: &str) -> bool
-    ensures { IsFlag (rows_of (found_of matches.now)) flag.now result }
+pub fn is_flag_set(matches: &ArgMatches<'_>, flag: &str) -> bool
+    ensures { IsFlagValue (rows_of (found_of matches.now)) flag.now result }
 {
     matches.get_flag(flag)
 }

@@ -12,4 +12,4 @@ mod words;
 pub use audit_words::{AuditOptions, AuditWords};
 pub use fault::WordsFault;
 pub use task::{Task, command_of};
-pub use words::{borrowed, words_of};
+pub use words::{borrow_words, words_of};

@@ -9,16 +9,16 @@ ghost use Rattle.clap.specs.Walk.{rows_of};
 ghost use Rattle.clap.specs.declared.error.kind.ErrorKind.TheVariants.{OutOfMemory};
 ghost use Rattle.mc_text.specs.Addr.{IsForwardedGroup, IsSource, dotted};
 ghost use Rattle.mc_text.specs.Number.{IsDecimal};
-ghost use Rattle.mc_words.specs.Task.{AreReplayWords, AreWords, AskForHelp, AskForVersion, IsAllowed};
-ghost use Rattle.mc_words.specs.Task.{IsAskedFor, IsAuditFor, IsClapTask, IsFirst, IsHelp, IsNamed};
-ghost use Rattle.mc_words.specs.Task.{IsTaskOf, is_topic, order_word};
+ghost use Rattle.mc_words.specs.Task.{AreReplayWords, AreWantsWords, AskForHelp, AskForVersion, IsAllowed};
+ghost use Rattle.mc_words.specs.Task.{IsAskedFor, IsAuditFor, IsClapTask, IsFirstWord, IsHelp, IsTaskOfSubcommand};
+ghost use Rattle.mc_words.specs.Task.{IsTaskOfCommand, is_topic, order_word};
 ghost use Rattle.mc_words.specs.declared.task.Task.{Task};
 ghost use Rattle.mc_words.specs.declared.fault.WordsFault.TheVariants.{Memory};
 
 use crate::audit_words::{AuditWords, audit_words_of};
 use crate::command::{clap_program, command_named, program, replay_command, wants_command};
-use crate::fault::{WordsFault, explained_refusal, wrong_words};
-use crate::found::{is_set, word_of};
+use crate::fault::{WordsFault, refusal_explained_by_clap, usage_refusal};
+use crate::found::{is_flag_set, word_of};
 use clap::error::ErrorKind;
 use clap::{ArgMatches, Command};
 use mc_text::{Addr, decimal};
@@ -107,7 +107,7 @@ fn number_of(word: &str, greatest: u64) -> Option<u64>
 }
 
 /// Whether the word asks for the last of the waiting copies, `last`, or for the first, `first`.
-fn is_last(word: &str) -> Option<bool>
+fn read_order(word: &str) -> Option<bool>
     ensures found { IfSome result (λ last. word.now ≡ order_word last) }
     ensures only { (last : Bool) → word.now ≡ order_word last → result ≡ Some last }
 {
@@ -120,7 +120,7 @@ fn is_last(word: &str) -> Option<bool>
 
 /// A refusal of the words after `replay`, with the rule that they break.
 fn replay_refusal(alloc: Global, rule: &str) -> WordsFault {
-    wrong_words(alloc, replay_command(alloc), rule)
+    usage_refusal(alloc, replay_command(alloc), rule)
 }
 
 /// The task of the words after `replay`.
@@ -142,7 +142,7 @@ fn replay_task<'a>(
     let Some(ttl) = number_of(ttl, 255) else {
         return Err(replay_refusal(alloc, TTL_RULE));
     };
-    let Some(last) = is_last(order) else {
+    let Some(last) = read_order(order) else {
         return Err(replay_refusal(alloc, ORDER_RULE));
     };
     let flow = flow as u32;
@@ -153,16 +153,16 @@ fn replay_task<'a>(
 /// The task of the words after `wants`.
 fn wants_task<'a>(alloc: Global, group: &'a str, source: &'a str) -> Result<Task<'a>, WordsFault>
     ensures allowed { IfOk result IsAllowed }
-    ensures found { IfOk result (AreWords group.now source.now) }
+    ensures found { IfOk result (AreWantsWords group.now source.now) }
     ensures only { (g s : ℕ) → IsForwardedGroup g → IsSource s → group.now ≡ dotted g
         → source.now ≡ dotted s
         → result ≡ Ok (Task.Wants g s) }
 {
     let Some(group) = group_of(group) else {
-        return Err(wrong_words(alloc, wants_command(alloc), GROUP_RULE));
+        return Err(usage_refusal(alloc, wants_command(alloc), GROUP_RULE));
     };
     let Some(source) = source_of(source) else {
-        return Err(wrong_words(alloc, wants_command(alloc), SOURCE_RULE));
+        return Err(usage_refusal(alloc, wants_command(alloc), SOURCE_RULE));
     };
     Ok(Task::Wants { group, source })
 }
@@ -170,11 +170,11 @@ fn wants_task<'a>(alloc: Global, group: &'a str, source: &'a str) -> Result<Task
 /// The task of the words after `pack`.
 fn pack_task<'a>(matches: &ArgMatches<'a>) -> Task<'a>
     ensures allowed { IsAllowed result }
-    ensures found { IsTaskOf (codes "pack") (rows_of (found_of matches.now)) result }
+    ensures found { IsTaskOfCommand (codes "pack") (rows_of (found_of matches.now)) result }
 {
     Task::Pack {
         folder: word_of(matches, "folder"),
-        certificate: is_set(matches, "certificate"),
+        certificate: is_flag_set(matches, "certificate"),
     }
 }
 
@@ -185,9 +185,9 @@ fn named_task<'a>(
     words: &ArgMatches<'a>,
 ) -> Result<Task<'a>, WordsFault>
     ensures allowed { IfOk result IsAllowed }
-    ensures found { IfOk result (IsTaskOf command.now (rows_of (found_of words.now))) }
+    ensures found { IfOk result (IsTaskOfCommand command.now (rows_of (found_of words.now))) }
     ensures only { (task : Task) → IsAllowed task
-        → IsTaskOf command.now (rows_of (found_of words.now)) task
+        → IsTaskOfCommand command.now (rows_of (found_of words.now)) task
         → IfErr result (λ fault. fault ≡ Memory) }
 {
     match command {
@@ -201,25 +201,25 @@ fn named_task<'a>(
             word_of(words, "order"),
         ),
         "wants" => wants_task(alloc, word_of(words, "group"), word_of(words, "source")),
-        _ => Err(no_command(alloc)),
+        _ => Err(missing_command_refusal(alloc)),
     }
 }
 
 /// A refusal of words that name no command.
-fn no_command(alloc: Global) -> WordsFault {
-    wrong_words(alloc, program(alloc), "no command is given")
+fn missing_command_refusal(alloc: Global) -> WordsFault {
+    usage_refusal(alloc, program(alloc), "no command is given")
 }
 
 /// The task of the command that is found, and of the words after it.
 fn task_of<'a>(alloc: Global, matches: &ArgMatches<'a>) -> Result<Task<'a>, WordsFault>
     ensures allowed { IfOk result IsAllowed }
-    ensures found { IfOk result (IsNamed (subcommand_rows_of matches.now)) }
-    ensures only { (task : Task) → IsAllowed task → IsNamed (subcommand_rows_of matches.now) task
+    ensures found { IfOk result (IsTaskOfSubcommand (subcommand_rows_of matches.now)) }
+    ensures only { (task : Task) → IsAllowed task → IsTaskOfSubcommand (subcommand_rows_of matches.now) task
         → IfErr result (λ fault. fault ≡ Memory) }
 {
     match matches.subcommand() {
         Some((command, words)) => named_task(alloc, command, words),
-        None => Err(no_command(alloc)),
+        None => Err(missing_command_refusal(alloc)),
     }
 }
 
@@ -229,7 +229,7 @@ fn clap_refusal<'a>(alloc: Global, words: &'a [&'a str], error: &clap::Error) ->
 {
     match error.kind() {
         ErrorKind::OutOfMemory => WordsFault::Memory,
-        _ => explained_refusal(alloc, words),
+        _ => refusal_explained_by_clap(alloc, words),
     }
 }
 
@@ -297,13 +297,13 @@ fn help_task<'a>(alloc: Global, words: &'a [&'a str]) -> Result<Task<'a>, WordsF
 {
     match topic_of(alloc, words_from(words, 2)) {
         Some(command) => Ok(Task::Help(help_text(command)?)),
-        None => Err(wrong_words(alloc, program(alloc), HELP_RULE)),
+        None => Err(usage_refusal(alloc, program(alloc), HELP_RULE)),
     }
 }
 
 /// Whether this is the first word behind the program's name.
-fn is_first(word: &str, words: &[&str]) -> bool
-    ensures { IsTrue result ↔ IsFirst word.now (map (λ word. word.now) words.now) }
+fn is_first_word(word: &str, words: &[&str]) -> bool
+    ensures { IsTrue result ↔ IsFirstWord word.now (map (λ word. word.now) words.now) }
 {
     match words.get(1) {
         Some(first) => *first == word,
@@ -315,7 +315,7 @@ fn is_first(word: &str, words: &[&str]) -> bool
 fn ask_for_version(words: &[&str]) -> bool
     ensures { IsTrue result ↔ AskForVersion (map (λ word. word.now) words.now) }
 {
-    is_first("--version", words) || is_first("-V", words)
+    is_first_word("--version", words) || is_first_word("-V", words)
 }
 
 /// The task that the program's words ask for. The first word is the program's own name.
@@ -344,10 +344,10 @@ pub fn command_of<'a>(alloc: Global, words: &'a [&'a str]) -> Result<Task<'a>, W
     if ask_for_version(words) {
         return Ok(Task::Version);
     }
-    if is_first("help", words) {
+    if is_first_word("help", words) {
         return help_task(alloc, words);
     }
-    if is_first("audit", words) {
+    if is_first_word("audit", words) {
         return audit_task(alloc, words);
     }
     clap_task(alloc, words)

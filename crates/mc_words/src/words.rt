@@ -4,7 +4,7 @@ ghost use Rattle.std.specs.Prelude.{◌≡◌, map, IfOk};
 ghost use Rattle.std.specs.String.{string_bytes};
 
 use crate::command::program;
-use crate::fault::{WordsFault, wrong_words};
+use crate::fault::{WordsFault, usage_refusal};
 use std::alloc::Global;
 use std::env::{self, Env};
 use std::io;
@@ -16,13 +16,13 @@ pub fn words_of(rt: &(impl Env + AllocGlobal)) -> Result<Vec<String>, WordsFault
         Err(error) if error.kind() == io::ErrorKind::OutOfMemory => Err(WordsFault::Memory),
         Err(_) => {
             let alloc = rt.alloc();
-            Err(wrong_words(alloc, program(alloc), "a word is no text (UTF-8)"))
+            Err(usage_refusal(alloc, program(alloc), "a word is no text (UTF-8)"))
         }
     }
 }
 
 /// The words, borrowed.
-pub fn borrowed(alloc: Global, words: &[String]) -> Result<Vec<&str>, WordsFault>
+pub fn borrow_words(alloc: Global, words: &[String]) -> Result<Vec<&str>, WordsFault>
     ensures { IfOk result (λ all. map (λ word. word.now) all.items ≡ map string_bytes words.now) }
 {
     Ok(words.iter().map(|word| word.as_str()).collect(alloc)?)

@@ -3,19 +3,19 @@
 
 ghost use Rattle.std.specs.Prelude.{◌≡◌};
 ghost use Rattle.std.specs.Process.{exit_status};
-ghost use Rattle.mcaudit.specs.Status.{status_of_answer};
+ghost use Rattle.mcaudit.specs.Status.{exit_status_of_answer};
 
 use crate::failure::Failure;
 use crate::standard_error::ToStandardError;
 use mc_layout::Folder;
-use mc_run::{RunFault, tell_refused_files};
+use mc_run::{RunFault, print_refused_files};
 use mc_words::{AuditWords, Task};
 use std::process::ExitCode;
 use std::rt::Files;
 
 /// The status of an answer: 0 for yes, 1 for no, and the failure's own where there is none.
-fn code_of(answer: &Result<bool, Failure>) -> ExitCode
-    ensures { exit_status result ≡ status_of_answer answer.now }
+fn exit_code_of(answer: &Result<bool, Failure>) -> ExitCode
+    ensures { exit_status result ≡ exit_status_of_answer answer.now }
 {
     match answer {
         Ok(true) => ExitCode::SUCCESS,
@@ -26,20 +26,20 @@ fn code_of(answer: &Result<bool, Failure>) -> ExitCode
 
 /// Ends with the status of an answer. Where there is none, it writes why to standard error.
 pub(crate) fn end(rt: &impl Eprint, answer: Result<bool, Failure>) -> ExitCode
-    ensures { exit_status result ≡ status_of_answer answer }
+    ensures { exit_status result ≡ exit_status_of_answer answer }
 {
     if let Err(failure) = &answer {
         let _ = eprintln!(rt; "{failure}");
     }
-    code_of(&answer)
+    exit_code_of(&answer)
 }
 
 /// Tells on standard error which files of a folder are refused, and where. Where memory runs out,
 /// nothing more is told.
-fn tell_refused(rt: &(impl AllocGlobal + Files + Eprint), words: &AuditWords<'_>) {
+fn list_refused_files(rt: &(impl AllocGlobal + Files + Eprint), words: &AuditWords<'_>) {
     let mut files = Folder::new(rt, words.folder);
     let mut output = ToStandardError::new(rt);
-    let _ = tell_refused_files(rt.alloc(), &mut files, &words.without, &mut output);
+    let _ = print_refused_files(rt.alloc(), &mut files, &words.without, &mut output);
 }
 
 /// Writes to standard error why an audit gives no answer, with the name of a router that isn't there,
@@ -58,13 +58,13 @@ fn print_failure(
         return;
     }
     let _ = eprintln!(rt; "{failure}");
-    if is_of_input(failure) {
-        tell_refused(rt, words);
+    if is_input_failure(failure) {
+        list_refused_files(rt, words);
     }
 }
 
 /// Whether no answer is given for what was read, or for what couldn't be.
-fn is_of_input(failure: &Failure) -> bool {
+fn is_input_failure(failure: &Failure) -> bool {
     !matches!(
         failure,
         Failure::Words(_) | Failure::Run(RunFault::Write | RunFault::Memory)
@@ -78,9 +78,9 @@ fn end_audit(
     words: &AuditWords<'_>,
     answer: Result<bool, Failure>,
 ) -> ExitCode
-    ensures { exit_status result ≡ status_of_answer answer }
+    ensures { exit_status result ≡ exit_status_of_answer answer }
 {
-    let code = code_of(&answer);
+    let code = exit_code_of(&answer);
     if let Err(failure) = answer {
         print_failure(rt, words, &failure);
     }
@@ -93,7 +93,7 @@ pub(crate) fn end_task(
     task: &Task<'_>,
     answer: Result<bool, Failure>,
 ) -> ExitCode
-    ensures { exit_status result ≡ status_of_answer answer }
+    ensures { exit_status result ≡ exit_status_of_answer answer }
 {
     match task {
         Task::Audit(words) => end_audit(rt, words, answer),

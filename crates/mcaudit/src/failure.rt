@@ -2,7 +2,7 @@
 
 ghost use Rattle.std.specs.Prelude.{◌≡◌};
 ghost use Rattle.mcaudit.specs.declared.failure.Failure.TheVariants.{Words, Run};
-ghost use Rattle.mcaudit.specs.Status.{status_of};
+ghost use Rattle.mcaudit.specs.Status.{exit_status_of_failure};
 
 use mc_run::RunFault;
 use mc_words::WordsFault;
@@ -22,7 +22,7 @@ pub enum Failure {
 impl Failure {
     /// 2 for a refused input, 3 for a device that failed, 4 for lack of memory, 5 for wrong words.
     pub fn status(&self) -> u8
-        ensures { result ≡ status_of self.now }
+        ensures { result ≡ exit_status_of_failure self.now }
     {
         match self {
             Failure::Words(WordsFault::Wrong(_)) => 5,

@@ -14,7 +14,7 @@ use failure::Failure;
 use folder::folder_of;
 use mc_run::{RunFault, run_task};
 use mc_text::{FromReader, ToWriter};
-use mc_words::{Task, borrowed, command_of, words_of};
+use mc_words::{Task, borrow_words, command_of, words_of};
 use std::env::Env;
 use std::io::{self, BufReader, Input, Read};
 use std::process::ExitCode;
@@ -22,11 +22,11 @@ use std::rt::Files;
 
 /// An input over a reader that is read 8,192 bytes ahead: the lines of a bundle's parts are asked for
 /// byte by byte.
-fn read_ahead<R: Read + Drop>(
+fn buffered_input<R: Read + Drop>(
     rt: &impl AllocGlobal,
     reader: R,
 ) -> Result<FromReader<BufReader<R>>, RunFault>
-    ensures told { IfOk result (λ input. input.told ≡ R.remaining reader) }
+    ensures remaining { IfOk result (λ input. input.remaining ≡ R.remaining reader) }
     ensures failures { IfOk result (λ input. input.failed ≡ 0) }
     ensures memory { IfErr result (λ fault. fault ≡ RunFault.Memory) }
 {
@@ -50,13 +50,13 @@ fn run_unbuffered(
 }
 
 /// Does a task that reads a bundle, ahead of what is asked for.
-fn run_read_ahead(
+fn run_buffered(
     rt: &(impl AllocGlobal + Files + Input + Print),
     task: &Task<'_>,
 ) -> Result<bool, RunFault>
     requires { IsAllowed task.now }
 {
-    let mut input = read_ahead(rt, rt.reader())?;
+    let mut input = buffered_input(rt, rt.reader())?;
     let mut files = folder_of(rt, task);
     let mut output = ToWriter::new(io::writer(rt));
     run_task(rt.alloc(), task, &mut input, &mut files, &mut output)
@@ -67,14 +67,14 @@ fn run(rt: &(impl AllocGlobal + Files + Input + Print), task: &Task<'_>) -> Resu
     requires { IsAllowed task.now }
 {
     let answer = match task {
-        Task::Check | Task::Make | Task::Replay { .. } => run_read_ahead(rt, task),
+        Task::Check | Task::Make | Task::Replay { .. } => run_buffered(rt, task),
         _ => run_unbuffered(rt, task),
     };
     Ok(answer?)
 }
 
 /// Does the task that the words ask for.
-fn run_words<'a>(
+fn run_command_line<'a>(
     rt: &(impl Env + AllocGlobal + Files + Input + Print + Eprint),
     words: &'a [&'a str],
 ) -> Result<ExitCode, Failure> {
@@ -87,8 +87,8 @@ fn try_main(
     rt: &(impl Env + AllocGlobal + Files + Input + Print + Eprint),
 ) -> Result<ExitCode, Failure> {
     let words = words_of(rt)?;
-    let words = borrowed(rt.alloc(), &words)?;
-    run_words(rt, &words)
+    let words = borrow_words(rt.alloc(), &words)?;
+    run_command_line(rt, &words)
 }
 
 fn main(rt: HostRuntime) -> ExitCode {

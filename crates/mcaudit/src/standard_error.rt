@@ -20,20 +20,20 @@ impl<'r, R: Eprint> Model for ToStandardError<'r, R> {
 
     ghost Value = { OutputState };
 
-    ghost view = { λ s. record { took = None; failed = s.failures } };
+    ghost view = { λ s. record { written = None; failed = s.failures } };
 }
 
 impl<'r, R: Eprint> ToStandardError<'r, R> {
     /// An output with no failure yet.
     pub(crate) fn new(rt: &'r R) -> ToStandardError<'r, R>
-        ensures { result ≡ record { took = None; failed = 0 } }
+        ensures { result ≡ record { written = None; failed = 0 } }
     {
         ToStandardError { rt, failures: 0 }
     }
 }
 
 impl<'r, R: Eprint> Output for ToStandardError<'r, R> {
-    ghost took = { λ s. s.took };
+    ghost written = { λ s. s.written };
 
     ghost failed = { λ s. s.failed };
 

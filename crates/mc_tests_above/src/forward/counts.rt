@@ -7,7 +7,7 @@ use std::alloc::Global;
 use std::test::Fail;
 
 /// Why a domain is refused, and how many routers, tables and lists are handed back.
-fn refusal_of(answer: &Result<Domain, Refused>) -> Option<(DomainFault, u32, usize, usize)> {
+fn refused_parts_count(answer: &Result<Domain, Refused>) -> Option<(DomainFault, u32, usize, usize)> {
     match answer {
         Ok(_) => None,
         Err(refused) => Some((
@@ -20,13 +20,13 @@ fn refusal_of(answer: &Result<Domain, Refused>) -> Option<(DomainFault, u32, usi
 }
 
 /// What comes of a domain of these parts.
-fn refusal_of_parts(
+fn assemble_refused(
     alloc: Global,
     topology: Topology,
     parts: Parts,
 ) -> Option<(DomainFault, u32, usize, usize)> {
     let answer = Domain::assemble(alloc, topology, parts.0, parts.1);
-    let refusal = refusal_of(&answer);
+    let refusal = refused_parts_count(&answer);
     drop(answer);
     refusal
 }
@@ -36,7 +36,7 @@ fn one_router_too_few(rt: HostRuntime) -> Result<(), Fail> {
     let alloc = rt.alloc();
     let parts = parts_of(alloc, &[FORWARDS], LAST_WANTS)?;
     let topology = topology_of(alloc, &CHAIN)?;
-    let refusal = refusal_of_parts(alloc, topology, parts);
+    let refusal = assemble_refused(alloc, topology, parts);
     assert!(rt; refusal == Some((DomainFault::Count, 2, 1, 3)));
     Ok(())
 }

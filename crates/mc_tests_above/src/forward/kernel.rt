@@ -82,7 +82,7 @@ fn placed(rt: &impl Abort, domain: &Domain, vif: u8) -> Option<LanNo> {
 }
 
 /// Vifs 0 and 1 lie on the LANs of their devices, and no other vif on any.
-fn has_two_placed(rt: &impl Abort, domain: &Domain) {
+fn assert_two_vifs_placed(rt: &impl Abort, domain: &Domain) {
     assert!(rt; placed(rt, domain, 0) == Some(LanNo(0)));
     assert!(rt; placed(rt, domain, 1) == Some(LanNo(1)));
     for vif in [2u8, 3, 31, 32, 255] {
@@ -94,14 +94,14 @@ fn has_two_placed(rt: &impl Abort, domain: &Domain) {
 fn register_vif_lies_on_no_lan(rt: HostRuntime) -> Result<(), Fail> {
     let lans = &["", WANTED];
     with_domain(rt.alloc(), &REGISTER, REGISTER_TABLES, lans, |domain| {
-        has_two_placed(&rt, domain);
+        assert_two_vifs_placed(&rt, domain);
         Ok(())
     })
 }
 
 /// A LAN has one interface, at this vif of the first router, and it wants the flows, from the first
 /// on, as these words say. Of `-` nothing is said.
-fn has_and_wants(rt: &impl Abort, domain: &Domain, lan: u32, vif: u8, words: &str) {
+fn assert_interface_and_wants(rt: &impl Abort, domain: &Domain, lan: u32, vif: u8, words: &str) {
     assert!(rt; lan < domain.topology().lans());
     let mut interfaces = domain.interfaces(LanNo(lan));
     assert!(rt; interfaces.next() == Some((RouterNo(0), vif)));
@@ -119,9 +119,9 @@ fn has_and_wants(rt: &impl Abort, domain: &Domain, lan: u32, vif: u8, words: &st
 fn reports_of_three_hosts(rt: HostRuntime) -> Result<(), Fail> {
     let (tables, lans) = (FILTERS_TABLES, FILTERS_LANS);
     with_domain(rt.alloc(), &FILTERS, tables, lans, |domain| {
-        has_and_wants(&rt, domain, 0, 0, "no - - - no");
-        has_and_wants(&rt, domain, 1, 1, "yes yes no yes no");
-        has_and_wants(&rt, domain, 2, 2, "yes no yes no yes");
+        assert_interface_and_wants(&rt, domain, 0, 0, "no - - - no");
+        assert_interface_and_wants(&rt, domain, 1, 1, "yes yes no yes no");
+        assert_interface_and_wants(&rt, domain, 2, 2, "yes no yes no yes");
         Ok(())
     })
 }

@@ -33,16 +33,16 @@ const ROUTERS: &[(&str, &str)] = &[(
 const LANS: &[&str] = &["", "", WANTED, "", "", WANTED, WANTED, "", "", WANTED];
 
 /// The waiting copies with these indexes are handled, one after the other.
-fn handles(rt: &impl Abort, flight: &mut Flight<'_>, indexes: &[usize]) -> Result<(), Fail> {
+fn handle_in_order(rt: &impl Abort, flight: &mut Flight<'_>, indexes: &[usize]) -> Result<(), Fail> {
     for index in indexes {
-        let _event = handled(rt, flight, *index)?;
+        let _event = handle_copy(rt, flight, *index)?;
     }
     Ok(())
 }
 
 /// One copy is lost where a loss is told, copies are handled in this order, and then so many were
 /// carried on these LANs, with no stray.
-fn goes(
+fn assert_carried(
     rt: &impl Abort,
     flight: &mut Flight<'_>,
     steps: (Option<usize>, &[usize]),
@@ -52,14 +52,14 @@ fn goes(
         assert!(rt; loss < flight.waiting());
         flight.lose(loss);
     }
-    handles(rt, flight, steps.1)?;
+    handle_in_order(rt, flight, steps.1)?;
     assert!(rt; flight.strays().is_empty());
-    ends_with(rt, flight, carried);
+    assert_ends_with(rt, flight, carried);
     Ok(())
 }
 
 /// The same of a new packet.
-fn ends_after(
+fn assert_carried_by_new_flight(
     rt: &impl Abort,
     alloc: Global,
     domain: &Domain,
@@ -67,45 +67,45 @@ fn ends_after(
     steps: (Option<usize>, &[usize]),
     carried: &[(u32, u32)],
 ) -> Result<(), Fail> {
-    let mut flight = flight_of(rt, alloc, domain, packet)?;
-    let answer = goes(rt, &mut flight, steps, carried);
+    let mut flight = start_flight(rt, alloc, domain, packet)?;
+    let answer = assert_carried(rt, &mut flight, steps, carried);
     drop(flight);
     answer
 }
 
 /// A TTL of 2 is below the need of l5.
-fn branches_in_every_order(rt: &impl Abort, alloc: Global, domain: &Domain) -> Result<(), Fail> {
+fn assert_branches_in_every_order(rt: &impl Abort, alloc: Global, domain: &Domain) -> Result<(), Fail> {
     let once = [(3, 1), (4, 1), (5, 1), (6, 1)];
     let low = [(3, 1), (4, 1), (5, 0), (6, 1)];
     for indexes in [[0, 0, 0], [0, 1, 0], [1, 0, 0]] {
-        ends_after(rt, alloc, domain, (1, 3), (None, &indexes), &once)?;
-        ends_after(rt, alloc, domain, (1, 2), (None, &indexes), &low)?;
+        assert_carried_by_new_flight(rt, alloc, domain, (1, 3), (None, &indexes), &once)?;
+        assert_carried_by_new_flight(rt, alloc, domain, (1, 2), (None, &indexes), &low)?;
     }
     Ok(())
 }
 
 /// The first copy of the chain, one branch, and one of two ways.
-fn copies_are_lost(rt: &impl Abort, alloc: Global, domain: &Domain) -> Result<(), Fail> {
+fn assert_losses(rt: &impl Abort, alloc: Global, domain: &Domain) -> Result<(), Fail> {
     let first = [(0, 1), (1, 0), (2, 0)];
-    ends_after(rt, alloc, domain, (0, 3), (Some(0), &[]), &first)?;
+    assert_carried_by_new_flight(rt, alloc, domain, (0, 3), (Some(0), &[]), &first)?;
     let branch = [(3, 1), (4, 0), (5, 0), (6, 1)];
-    ends_after(rt, alloc, domain, (1, 3), (Some(0), &[0]), &branch)?;
+    assert_carried_by_new_flight(rt, alloc, domain, (1, 3), (Some(0), &[0]), &branch)?;
     let second = [(7, 1), (8, 1), (9, 1)];
-    ends_after(rt, alloc, domain, (2, 3), (Some(1), &[0, 0, 0]), &second)
+    assert_carried_by_new_flight(rt, alloc, domain, (2, 3), (Some(1), &[0, 0, 0]), &second)
 }
 
-fn flights_end(rt: &impl Abort, alloc: Global, domain: &Domain) -> Result<(), Fail> {
-    branches_in_every_order(rt, alloc, domain)?;
-    copies_are_lost(rt, alloc, domain)?;
+fn assert_orders_and_losses(rt: &impl Abort, alloc: Global, domain: &Domain) -> Result<(), Fail> {
+    assert_branches_in_every_order(rt, alloc, domain)?;
+    assert_losses(rt, alloc, domain)?;
     // with TTL 2 the chain's r2 sends no copy
     let low = [(0, 1), (1, 1), (2, 0)];
-    ends_after(rt, alloc, domain, (0, 2), (None, &[0, 0]), &low)
+    assert_carried_by_new_flight(rt, alloc, domain, (0, 2), (None, &[0, 0]), &low)
 }
 
 #[test]
 fn orders_and_losses(rt: HostRuntime) -> Result<(), Fail> {
     let alloc = rt.alloc();
     with_domain(alloc, &NETWORK, ROUTERS, LANS, |domain| {
-        flights_end(&rt, alloc, domain)
+        assert_orders_and_losses(&rt, alloc, domain)
     })
 }

@@ -4,8 +4,8 @@
 //! left.
 
 use super::network::*;
-use crate::samples::{CHAIN, Network, Parts, VIFS, WANTED, assembled, parts_of, topology_of};
-use mc_forward::{Carried, Domain, DomainFault, Event, Flight, Outcome, Refused, Stray};
+use crate::samples::{CHAIN, Network, Parts, VIFS, WANTED, assemble_domain, parts_of, topology_of};
+use mc_forward::{CarriedCopy, Domain, DomainFault, Event, Flight, Outcome, Refused, Stray};
 use mc_topology::{LanNo, Topology};
 use std::alloc::{AllocError, Global};
 use std::process::Abort;
@@ -22,7 +22,7 @@ const WIDE: Network<'static> = Network {
 };
 
 /// r1's vifs and its row, which also sends to a vif that isn't there.
-const FIRST: (&str, &str) = (
+const FIRST_ROUTER: (&str, &str) = (
     "Interface BytesIn PktsIn BytesOut PktsOut Flags Local Remote
 0 eth0 0 0 0 0 00000 00000000 00000000
 1 eth1 0 0 0 0 00000 00000000 00000000
@@ -34,23 +34,23 @@ const FIRST: (&str, &str) = (
 );
 
 /// A router that forwards from vif 0 to vif 1 and to a vif that isn't there.
-const OTHER: (&str, &str) = (
+const OTHER_ROUTER: (&str, &str) = (
     VIFS,
     "Group Origin Iif Pkts Bytes Wrong Oifs
 030201EF 0500000A 0 0 0 0 1:1 9:1
 ",
 );
 
-const ROUTERS: &[(&str, &str)] = &[FIRST, OTHER, OTHER, OTHER, OTHER, OTHER];
+const ROUTERS: &[(&str, &str)] = &[FIRST_ROUTER, OTHER_ROUTER, OTHER_ROUTER, OTHER_ROUTER, OTHER_ROUTER, OTHER_ROUTER];
 
 /// The domain of the parts that a refusal handed back.
-fn assembled_again(rt: &impl Abort, alloc: Global, refused: Refused) -> Result<Domain, Fail> {
+fn assemble_handed_back_parts(rt: &impl Abort, alloc: Global, refused: Refused) -> Result<Domain, Fail> {
     assert_eq!(rt; refused.fault, DomainFault::Memory);
-    assembled(alloc, refused.topology, (refused.tables, refused.reports))
+    assemble_domain(alloc, refused.topology, (refused.tables, refused.reports))
 }
 
 /// The domain of these parts, where need be of those that the first refusal handed back.
-fn assembled_at_last(
+fn assemble_with_retry(
     rt: &impl Abort,
     alloc: Global,
     topology: Topology,
@@ -58,29 +58,29 @@ fn assembled_at_last(
 ) -> Result<Domain, Fail> {
     match Domain::assemble(alloc, topology, parts.0, parts.1) {
         Ok(domain) => Ok(domain),
-        Err(refused) => assembled_again(rt, alloc, refused),
+        Err(refused) => assemble_handed_back_parts(rt, alloc, refused),
     }
 }
 
 /// The domain of a network and these parts, at the second try where the first is refused.
-fn assembled_over(
+fn assemble_network_with_retry(
     rt: &impl Abort,
     alloc: Global,
     network: &Network<'_>,
     parts: Parts,
 ) -> Result<Domain, Fail> {
     let topology = topology_of(alloc, network)?;
-    assembled_at_last(rt, alloc, topology, parts)
+    assemble_with_retry(rt, alloc, topology, parts)
 }
 
 /// The wide domain, of which l1 wants the flow.
-fn wide(rt: &impl Abort, alloc: Global) -> Result<Domain, Fail> {
+fn wide_domain(rt: &impl Abort, alloc: Global) -> Result<Domain, Fail> {
     let parts = parts_of(alloc, ROUTERS, &["", WANTED, ""])?;
-    assembled_over(rt, alloc, &WIDE, parts)
+    assemble_network_with_retry(rt, alloc, &WIDE, parts)
 }
 
 /// Whether a LAN wants the flow, and how many interfaces it has.
-fn lan_of(rt: &impl Abort, domain: &Domain, lan: u32) -> (bool, usize) {
+fn wants_and_interfaces(rt: &impl Abort, domain: &Domain, lan: u32) -> (bool, usize) {
     assert!(rt; domain.topology().flows() > 0);
     assert!(rt; lan < domain.topology().lans());
     (
@@ -91,17 +91,17 @@ fn lan_of(rt: &impl Abort, domain: &Domain, lan: u32) -> (bool, usize) {
 
 /// What a flight shows.
 #[derive(Drop)]
-struct Before {
+struct FlightSnapshot {
     waiting: usize,
-    copies: Vec<Carried>,
+    copies: Vec<CarriedCopy>,
     strays: Vec<Stray>,
 }
 
-fn shown_by(alloc: Global, flight: &Flight<'_>) -> Result<Before, AllocError> {
+fn snapshot_of(alloc: Global, flight: &Flight<'_>) -> Result<FlightSnapshot, AllocError> {
     let copies = flight.copies().to_vec(alloc)?;
     let strays = flight.strays().to_vec(alloc)?;
     let waiting = flight.waiting();
-    Ok(Before {
+    Ok(FlightSnapshot {
         waiting,
         copies,
         strays,
@@ -109,35 +109,35 @@ fn shown_by(alloc: Global, flight: &Flight<'_>) -> Result<Before, AllocError> {
 }
 
 /// The flight shows what it showed before.
-fn is_as_before(rt: &impl Abort, flight: &Flight<'_>, before: &Before) {
-    assert!(rt; flight.waiting() == before.waiting);
-    assert!(rt; flight.copies() == before.copies.as_slice());
-    assert!(rt; flight.strays() == before.strays.as_slice());
+fn assert_unchanged(rt: &impl Abort, flight: &Flight<'_>, snapshot: &FlightSnapshot) {
+    assert!(rt; flight.waiting() == snapshot.waiting);
+    assert!(rt; flight.copies() == snapshot.copies.as_slice());
+    assert!(rt; flight.strays() == snapshot.strays.as_slice());
 }
 
 /// The handling of the first waiting copy. Where a growth is refused the flight is as it was, and
 /// the handling can be asked for again.
-fn handled_or_as_before(
+fn handle_or_leave_unchanged(
     rt: &impl Abort,
     flight: &mut Flight<'_>,
-    before: &Before,
+    snapshot: &FlightSnapshot,
 ) -> Result<Event, Fail> {
     assert!(rt; flight.waiting() > 0);
     if let Ok(event) = flight.handle(0) {
         return Ok(event);
     }
-    is_as_before(rt, flight, before);
-    handled(rt, flight, 0)
+    assert_unchanged(rt, flight, snapshot);
+    handle_copy(rt, flight, 0)
 }
 
-fn handled_at_last(rt: &impl Abort, alloc: Global, flight: &mut Flight<'_>) -> Result<Event, Fail> {
-    let before = shown_by(alloc, flight)?;
-    handled_or_as_before(rt, flight, &before)
+fn handle_with_retry(rt: &impl Abort, alloc: Global, flight: &mut Flight<'_>) -> Result<Event, Fail> {
+    let snapshot = snapshot_of(alloc, flight)?;
+    handle_or_leave_unchanged(rt, flight, &snapshot)
 }
 
 /// What the handling with this number shows, counted from 0. r1 sends onto l1 and l2, and each of
 /// the others onto l2. The copies on l2 come to vifs that the rows don't take from.
-fn outcome_of(number: u32) -> Outcome {
+fn expected_outcome(number: u32) -> Outcome {
     match number {
         0 => Outcome::Sent {
             copies: 2,
@@ -152,40 +152,40 @@ fn outcome_of(number: u32) -> Outcome {
 }
 
 /// All handlings of a packet, one after the other.
-fn handled_all(rt: &impl Abort, alloc: Global, flight: &mut Flight<'_>) -> Result<(), Fail> {
+fn handle_all_copies(rt: &impl Abort, alloc: Global, flight: &mut Flight<'_>) -> Result<(), Fail> {
     for number in 0..36 {
-        let event = handled_at_last(rt, alloc, flight)?;
-        assert_eq!(rt; event.outcome, outcome_of(number), "handling {number}");
+        let event = handle_with_retry(rt, alloc, flight)?;
+        assert_eq!(rt; event.outcome, expected_outcome(number), "handling {number}");
     }
     Ok(())
 }
 
 /// The travel of a packet in the wide domain.
-fn travels(rt: &impl Abort, alloc: Global, domain: &Domain) -> Result<(), Fail> {
-    let mut flight = flight_of(rt, alloc, domain, (0, 5))?;
-    handled_all(rt, alloc, &mut flight)?;
-    ends_with(rt, &flight, &[(0, 1), (1, 1), (2, 6)]);
+fn assert_wide_travel(rt: &impl Abort, alloc: Global, domain: &Domain) -> Result<(), Fail> {
+    let mut flight = start_flight(rt, alloc, domain, (0, 5))?;
+    handle_all_copies(rt, alloc, &mut flight)?;
+    assert_ends_with(rt, &flight, &[(0, 1), (1, 1), (2, 6)]);
     assert_eq!(rt; flight.strays().len(), 6);
     Ok(())
 }
 
 /// Each LAN of the wide domain, whether it wants the flow, and how many interfaces it has.
-fn has_three_lans(rt: &impl Abort, domain: &Domain) {
-    assert!(rt; lan_of(rt, domain, 0) == (false, 1));
-    assert!(rt; lan_of(rt, domain, 1) == (true, 6));
-    assert!(rt; lan_of(rt, domain, 2) == (false, 6));
+fn assert_three_lans(rt: &impl Abort, domain: &Domain) {
+    assert!(rt; wants_and_interfaces(rt, domain, 0) == (false, 1));
+    assert!(rt; wants_and_interfaces(rt, domain, 1) == (true, 6));
+    assert!(rt; wants_and_interfaces(rt, domain, 2) == (false, 6));
 }
 
 /// The domain is as it is to be, and the flight goes on, whichever growth was refused.
-fn is_as_told(rt: &impl Abort, alloc: Global, domain: &Domain) -> Result<(), Fail> {
-    has_three_lans(rt, domain);
-    travels(rt, alloc, domain)
+fn assert_as_expected(rt: &impl Abort, alloc: Global, domain: &Domain) -> Result<(), Fail> {
+    assert_three_lans(rt, domain);
+    assert_wide_travel(rt, alloc, domain)
 }
 
 #[test]
-fn domain_and_flight_after_a_refused_growth(rt: HostRuntime) -> Result<(), Fail> {
-    let domain = wide(&rt, rt.alloc())?;
-    let answer = is_as_told(&rt, rt.alloc(), &domain);
+fn domain_and_flight_after_failed_allocation(rt: HostRuntime) -> Result<(), Fail> {
+    let domain = wide_domain(&rt, rt.alloc())?;
+    let answer = assert_as_expected(&rt, rt.alloc(), &domain);
     drop(domain);
     answer
 }

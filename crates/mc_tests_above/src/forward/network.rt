@@ -7,7 +7,7 @@ use std::process::Abort;
 use std::test::Fail;
 
 /// A packet, by the number of its flow and its TTL, before any handling.
-pub(super) fn flight_of<'d>(
+pub(super) fn start_flight<'d>(
     rt: &impl Abort,
     alloc: Global,
     domain: &'d Domain,
@@ -19,7 +19,7 @@ pub(super) fn flight_of<'d>(
 }
 
 /// What the handling of a waiting copy shows.
-pub(super) fn handled(
+pub(super) fn handle_copy(
     rt: &impl Abort,
     flight: &mut Flight<'_>,
     index: usize,
@@ -29,7 +29,7 @@ pub(super) fn handled(
 }
 
 /// Nothing waits, and each of these LANs carried so many copies, and no other one.
-pub(super) fn ends_with(rt: &impl Abort, flight: &Flight<'_>, carried: &[(u32, u32)]) {
+pub(super) fn assert_ends_with(rt: &impl Abort, flight: &Flight<'_>, carried: &[(u32, u32)]) {
     assert!(rt; flight.waiting() == 0);
     let mut all = 0u32;
     for (lan, count) in carried {

@@ -33,7 +33,7 @@ pub(crate) fn parts_of(
 }
 
 /// The domain of these parts. A failure names the fault alone: the parts, which come back with it, would hide it.
-pub(crate) fn assembled(alloc: Global, topology: Topology, parts: Parts) -> Result<Domain, Fail> {
+pub(crate) fn assemble_domain(alloc: Global, topology: Topology, parts: Parts) -> Result<Domain, Fail> {
     match Domain::assemble(alloc, topology, parts.0, parts.1) {
         Ok(domain) => Ok(domain),
         Err(refused) => {
@@ -51,9 +51,9 @@ pub(crate) fn topology_of(alloc: Global, network: &Network<'_>) -> Result<Topolo
 }
 
 /// The domain of a network and these parts.
-fn domain_over(alloc: Global, network: &Network<'_>, parts: Parts) -> Result<Domain, Fail> {
+fn assemble_network(alloc: Global, network: &Network<'_>, parts: Parts) -> Result<Domain, Fail> {
     let topology = topology_of(alloc, network)?;
-    assembled(alloc, topology, parts)
+    assemble_domain(alloc, topology, parts)
 }
 
 /// The domain of a network and these texts: each router's vifs and cache, which may go without its
@@ -65,7 +65,7 @@ fn domain_of(
     lans: &[&str],
 ) -> Result<Domain, Fail> {
     let parts = parts_of(alloc, routers, lans)?;
-    domain_over(alloc, network, parts)
+    assemble_network(alloc, network, parts)
 }
 
 /// What is told of the domain of a network and these texts, which is lent: the one place that drops a domain.
@@ -74,13 +74,13 @@ pub(crate) fn with_domain<F: FnOnce(&Domain) -> Result<(), Fail> + Drop>(
     network: &Network<'_>,
     routers: &[(&str, &str)],
     lans: &[&str],
-    told: F,
+    check: F,
 ) -> Result<(), Fail>
-    requires { F.IsAlwaysCallable told }
+    requires { F.IsAlwaysCallable check }
 {
     match domain_of(alloc, network, routers, lans) {
         Ok(domain) => {
-            let answer = told(&domain);
+            let answer = check(&domain);
             drop(domain);
             answer
         }

@@ -4,7 +4,7 @@ use mc_cert::Reached;
 use mc_topology::{LanNo, RouterNo};
 
 /// The entry of the source's LAN, with this need.
-pub(crate) fn of_source(need: u8) -> Reached {
+pub(crate) fn source_entry(need: u8) -> Reached {
     Reached {
         lan: LanNo(0),
         rank: 0,
@@ -14,7 +14,7 @@ pub(crate) fn of_source(need: u8) -> Reached {
 }
 
 /// The entry of another LAN, whose number is its rank.
-pub(crate) fn behind(lan: u8, need: u8, router: u32, vif: u8) -> Reached {
+pub(crate) fn entry_behind(lan: u8, need: u8, router: u32, vif: u8) -> Reached {
     Reached {
         lan: LanNo(lan.into()),
         rank: lan,
@@ -24,6 +24,6 @@ pub(crate) fn behind(lan: u8, need: u8, router: u32, vif: u8) -> Reached {
 }
 
 /// What certifies a flow along the chain.
-pub(crate) fn of_chain() -> [Reached; 3] {
-    [of_source(1), behind(1, 2, 0, 1), behind(2, 3, 1, 1)]
+pub(crate) fn chain_entries() -> [Reached; 3] {
+    [source_entry(1), entry_behind(1, 2, 0, 1), entry_behind(2, 3, 1, 1)]
 }

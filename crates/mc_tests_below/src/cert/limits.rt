@@ -1,7 +1,7 @@
 //! Certificates of a byte more than the greatest one. The program takes no such file.
 
 use super::network::{NETWORK, VERSION_ONE, VERSION_TWO};
-use crate::topology::network::on_topology;
+use crate::topology::network::with_topology;
 use mc_cert::*;
 use mc_topology::Topology;
 use std::alloc::{AllocError, Global};
@@ -16,7 +16,7 @@ fn too_long(alloc: Global, certificate: &str) -> Result<Vec<u8>, AllocError> {
 }
 
 /// Whether a text has too many bytes, over a topology.
-fn is_refused_over(alloc: Global, topology: &Topology, text: &[u8]) -> bool {
+fn is_refused_for_topology(alloc: Global, topology: &Topology, text: &[u8]) -> bool {
     let fault = CertFault {
         place: At::Top,
         kind: CertFaultKind::TooMany,
@@ -26,14 +26,14 @@ fn is_refused_over(alloc: Global, topology: &Topology, text: &[u8]) -> bool {
 
 /// The same, over the network.
 fn is_refused(alloc: Global, text: &[u8]) -> bool {
-    let found = on_topology(alloc, NETWORK.as_bytes(), |topology| {
-        is_refused_over(alloc, topology, text)
+    let found = with_topology(alloc, NETWORK.as_bytes(), |topology| {
+        is_refused_for_topology(alloc, topology, text)
     });
     matches!(found, Ok(true))
 }
 
 #[test]
-fn size(rt: HostRuntime) -> Result<(), Fail> {
+fn oversized_certificates_are_refused(rt: HostRuntime) -> Result<(), Fail> {
     for certificate in [VERSION_ONE, VERSION_TWO] {
         let text = too_long(rt.alloc(), certificate)?;
         assert!(rt; is_refused(rt.alloc(), &text));

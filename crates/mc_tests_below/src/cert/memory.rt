@@ -4,7 +4,7 @@
 ghost use Rattle.mc_cert.specs.Certificate.{BelongsTo};
 
 use super::network::TWO_FLOWS;
-use crate::topology::network::on_topology;
+use crate::topology::network::with_topology;
 use mc_cert::*;
 use mc_text::Memory;
 use mc_topology::Topology;
@@ -20,7 +20,7 @@ const TEXT: &str = concat!(
 );
 
 /// Whether the certificate is written so, at the second try where a growth is refused.
-fn is_written_at_last(
+fn is_written_with_retry(
     alloc: Global,
     topology: &Topology,
     certificate: &Certificate,
@@ -37,7 +37,7 @@ fn is_written_at_last(
 fn is_rewritten(alloc: Global, topology: &Topology) -> Result<bool, Fail> {
     texts_stand_for_certificates();
     match Certificate::read(alloc, TEXT.as_bytes(), topology) {
-        Ok(certificate) => Ok(is_written_at_last(alloc, topology, &certificate)?),
+        Ok(certificate) => Ok(is_written_with_retry(alloc, topology, &certificate)?),
         Err(fault) => Err(fault.into()),
     }
 }
@@ -45,7 +45,7 @@ fn is_rewritten(alloc: Global, topology: &Topology) -> Result<bool, Fail> {
 #[test]
 fn certificate_is_written_after_a_refused_growth(rt: HostRuntime) -> Result<(), Fail> {
     let alloc = rt.alloc();
-    let found = on_topology(alloc, TWO_FLOWS.as_bytes(), |topology| {
+    let found = with_topology(alloc, TWO_FLOWS.as_bytes(), |topology| {
         is_rewritten(alloc, topology)
     })?;
     assert!(rt; found?);

@@ -3,7 +3,7 @@
 ghost use Rattle.mc_cert.specs.Certificate.{BelongsTo};
 
 use super::network::{NETWORK, TWO_FLOWS};
-use crate::topology::network::on_topology;
+use crate::topology::network::with_topology;
 use mc_cert::*;
 use mc_topology::Topology;
 use std::alloc::{AllocError, Global};
@@ -31,7 +31,7 @@ fn is_rewritten_over(alloc: Global, topology: &Topology, text: &str, wanted: &st
 
 /// The same, over the topology of a network.
 fn is_rewritten(alloc: Global, network: &str, text: &str, wanted: &str) -> bool {
-    let found = on_topology(alloc, network.as_bytes(), |topology| {
+    let found = with_topology(alloc, network.as_bytes(), |topology| {
         is_rewritten_over(alloc, topology, text, wanted)
     });
     matches!(found, Ok(true))

@@ -7,18 +7,18 @@ use std::process::Abort;
 use std::test::Fail;
 
 /// The answers of both readers to a text that has neither table.
-fn check_both(rt: &impl Abort, alloc: Global, text: &[u8], wanted: TableFault) {
+fn check_both_readers(rt: &impl Abort, alloc: Global, text: &[u8], wanted: TableFault) {
     assert!(rt; VifTable::read(alloc, text).err() == Some(wanted));
     assert!(rt; CacheTable::read(alloc, text, Order::Little).err() == Some(wanted));
 }
 
 #[test]
-fn largest_texts(rt: HostRuntime) -> Result<(), Fail> {
+fn oversized_tables_are_refused(rt: HostRuntime) -> Result<(), Fail> {
     let long = vec![in rt.alloc(); b'\n'; 16_777_217]?;
     let (line, kind) = (0, TableFaultKind::TooLarge);
-    check_both(&rt, rt.alloc(), &long, TableFault { line, kind });
+    check_both_readers(&rt, rt.alloc(), &long, TableFault { line, kind });
     let (line, kind) = (1, TableFaultKind::NoHeader);
-    check_both(&rt, rt.alloc(), &long[1..], TableFault { line, kind });
+    check_both_readers(&rt, rt.alloc(), &long[1..], TableFault { line, kind });
     Ok(())
 }
 
@@ -32,7 +32,7 @@ fn check_memory(rt: &impl Abort, alloc: Global, fault: TableFault) -> Result<(),
 }
 
 #[test]
-fn wants_of_memory_have_no_line(rt: HostRuntime) -> Result<(), Fail> {
+fn out_of_memory_has_no_line(rt: HostRuntime) -> Result<(), Fail> {
     let refused = Vec::<u8>::with_capacity(rt.alloc(), usize::MAX).err();
     let fault = refused.map(TableFault::from).ok_or("a refusal")?;
     check_memory(&rt, rt.alloc(), fault)?;

@@ -62,7 +62,7 @@ const ROWS: &[u8] = b"Group
 ";
 
 /// Whether a growth was refused. What then is answered names no line.
-pub(super) fn wants_memory(rt: &impl Abort, fault: TableFault) -> bool {
+pub(super) fn is_out_of_memory(rt: &impl Abort, fault: TableFault) -> bool {
     if fault.kind == TableFaultKind::Memory {
         assert_eq!(rt; fault.line, 0);
         return true;
@@ -71,17 +71,17 @@ pub(super) fn wants_memory(rt: &impl Abort, fault: TableFault) -> bool {
 }
 
 /// The vifs, at the second try where a growth is refused.
-fn vifs_at_last(rt: &impl Abort, alloc: Global) -> Result<VifTable, TableFault> {
+fn vifs_with_retry(rt: &impl Abort, alloc: Global) -> Result<VifTable, TableFault> {
     match VifTable::read(alloc, VIFS) {
-        Err(fault) if wants_memory(rt, fault) => VifTable::read(alloc, VIFS),
+        Err(fault) if is_out_of_memory(rt, fault) => VifTable::read(alloc, VIFS),
         answer => answer,
     }
 }
 
 /// The rows, at the second try where a growth is refused.
-fn rows_at_last(rt: &impl Abort, alloc: Global) -> Result<CacheTable, TableFault> {
+fn rows_with_retry(rt: &impl Abort, alloc: Global) -> Result<CacheTable, TableFault> {
     match CacheTable::read(alloc, ROWS, Order::Little) {
-        Err(fault) if wants_memory(rt, fault) => CacheTable::read(alloc, ROWS, Order::Little),
+        Err(fault) if is_out_of_memory(rt, fault) => CacheTable::read(alloc, ROWS, Order::Little),
         answer => answer,
     }
 }
@@ -128,7 +128,7 @@ fn check_vifs(rt: &impl Abort, table: &VifTable) {
 
 #[test]
 fn vifs_are_read_after_a_refused_growth(rt: HostRuntime) -> Result<(), Fail> {
-    let table = vifs_at_last(&rt, rt.alloc())?;
+    let table = vifs_with_retry(&rt, rt.alloc())?;
     check_vifs(&rt, &table);
     Ok(())
 }
@@ -155,31 +155,31 @@ pub(super) fn has_entry(
 }
 
 /// Whether the table has an entry for this source and group.
-pub(super) fn has_any(table: &CacheTable, source: [u8; 4], group: [u8; 4]) -> bool {
+pub(super) fn has_entry_for(table: &CacheTable, source: [u8; 4], group: [u8; 4]) -> bool {
     table
         .exact(Addr::from_octets(source), Addr::from_octets(group))
         .is_some()
 }
 
 /// Whether the table has a row of a group for every source.
-pub(super) fn is_wildcard(table: &CacheTable, group: [u8; 4]) -> bool {
-    table.wildcard(Addr::from_octets(group))
+pub(super) fn has_wildcard_row(table: &CacheTable, group: [u8; 4]) -> bool {
+    table.has_wildcard(Addr::from_octets(group))
 }
 
 /// What the table answers of the rows behind the others.
-fn check_mixed(rt: &impl Abort, table: &CacheTable) {
+fn check_mixed_rows(rt: &impl Abort, table: &CacheTable) {
     let ascending = [oif(0, 1), oif(7, 3), oif(31, 254)];
     assert!(rt; has_entry(table, 5, [239, 1, 2, 4], 31, &ascending));
     assert!(rt; has_entry(table, 5, [239, 1, 2, 5], 0, &[]));
     assert!(rt;
-        !has_any(table, [10, 0, 0, 5], [239, 8, 0, 60]),
+        !has_entry_for(table, [10, 0, 0, 5], [239, 8, 0, 60]),
         "unresolved"
     );
-    assert!(rt; !has_any(table, [0, 0, 0, 0], [239, 1, 2, 6]));
-    assert!(rt; !has_any(table, [239, 1, 2, 3], [10, 0, 0, 5]));
-    assert!(rt; is_wildcard(table, [239, 1, 2, 6]));
-    assert!(rt; !is_wildcard(table, [239, 1, 2, 7]), "unresolved");
-    assert!(rt; !is_wildcard(table, [239, 1, 2, 3]));
+    assert!(rt; !has_entry_for(table, [0, 0, 0, 0], [239, 1, 2, 6]));
+    assert!(rt; !has_entry_for(table, [239, 1, 2, 3], [10, 0, 0, 5]));
+    assert!(rt; has_wildcard_row(table, [239, 1, 2, 6]));
+    assert!(rt; !has_wildcard_row(table, [239, 1, 2, 7]), "unresolved");
+    assert!(rt; !has_wildcard_row(table, [239, 1, 2, 3]));
 }
 
 fn check_rows(rt: &impl Abort, table: &CacheTable) {
@@ -189,14 +189,14 @@ fn check_rows(rt: &impl Abort, table: &CacheTable) {
             has_entry(table, last, [239, 1, 2, 3], 0, &oifs),
             "of {last}"
         );
-        assert!(rt; is_wildcard(table, [239, 1, 0, last]), "of {last}");
+        assert!(rt; has_wildcard_row(table, [239, 1, 0, last]), "of {last}");
     }
-    check_mixed(rt, table);
+    check_mixed_rows(rt, table);
 }
 
 #[test]
 fn rows_are_read_after_a_refused_growth(rt: HostRuntime) -> Result<(), Fail> {
-    let table = rows_at_last(&rt, rt.alloc())?;
+    let table = rows_with_retry(&rt, rt.alloc())?;
     check_rows(&rt, &table);
     Ok(())
 }

@@ -2,7 +2,7 @@
 //! granted each text is read once. `rt try --test --fail-alloc N`, for N from 1 on, refuses one
 //! growth after the other: the reader answers that again, and the text is then read by another one.
 
-use super::memory::{has_any, has_entry, has_vif, is_wildcard, oif, wants_memory};
+use super::memory::{has_entry_for, has_entry, has_vif, has_wildcard_row, oif, is_out_of_memory};
 use mc_tables::{
     CacheReader, CacheTable, ListedPairs, TableFault, TableFaultKind, VifReader, VifTable,
 };
@@ -41,9 +41,9 @@ fn vifs_of(rt: &impl Abort, alloc: Global, pieces: &str) -> Result<VifTable, Tab
 }
 
 /// The vifs, by another reader where a growth is refused.
-fn vifs_at_last(rt: &impl Abort, alloc: Global, pieces: &str) -> Result<VifTable, TableFault> {
+fn vifs_with_retry(rt: &impl Abort, alloc: Global, pieces: &str) -> Result<VifTable, TableFault> {
     match vifs_of(rt, alloc, pieces) {
-        Err(fault) if wants_memory(rt, fault) => vifs_of(rt, alloc, pieces),
+        Err(fault) if is_out_of_memory(rt, fault) => vifs_of(rt, alloc, pieces),
         answer => answer,
     }
 }
@@ -58,7 +58,7 @@ fn check_vifs(rt: &impl Abort, table: &VifTable) {
 
 #[test]
 fn vifs_are_read_in_pieces(rt: HostRuntime) -> Result<(), Fail> {
-    let table = vifs_at_last(&rt, rt.alloc(), VIFS)?;
+    let table = vifs_with_retry(&rt, rt.alloc(), VIFS)?;
     check_vifs(&rt, &table);
     Ok(())
 }
@@ -85,9 +85,9 @@ fn rows_of(rt: &impl Abort, alloc: Global, pieces: &str) -> Result<CacheTable, T
 }
 
 /// The rows, by another reader where a growth is refused.
-fn rows_at_last(rt: &impl Abort, alloc: Global, pieces: &str) -> Result<CacheTable, TableFault> {
+fn rows_with_retry(rt: &impl Abort, alloc: Global, pieces: &str) -> Result<CacheTable, TableFault> {
     match rows_of(rt, alloc, pieces) {
-        Err(fault) if wants_memory(rt, fault) => rows_of(rt, alloc, pieces),
+        Err(fault) if is_out_of_memory(rt, fault) => rows_of(rt, alloc, pieces),
         answer => answer,
     }
 }
@@ -95,15 +95,15 @@ fn rows_at_last(rt: &impl Abort, alloc: Global, pieces: &str) -> Result<CacheTab
 fn check_rows(rt: &impl Abort, table: &CacheTable) {
     let ascending = [oif(0, 1), oif(7, 3)];
     assert!(rt; has_entry(table, 5, [239, 1, 2, 4], 31, &ascending));
-    assert!(rt; !has_any(table, [10, 0, 0, 6], [239, 1, 2, 4]));
-    assert!(rt; !has_any(table, [10, 0, 0, 5], [239, 1, 2, 5]));
-    assert!(rt; is_wildcard(table, [239, 1, 2, 6]));
-    assert!(rt; !is_wildcard(table, [239, 1, 2, 4]));
+    assert!(rt; !has_entry_for(table, [10, 0, 0, 6], [239, 1, 2, 4]));
+    assert!(rt; !has_entry_for(table, [10, 0, 0, 5], [239, 1, 2, 5]));
+    assert!(rt; has_wildcard_row(table, [239, 1, 2, 6]));
+    assert!(rt; !has_wildcard_row(table, [239, 1, 2, 4]));
 }
 
 #[test]
 fn rows_are_read_in_pieces(rt: HostRuntime) -> Result<(), Fail> {
-    let table = rows_at_last(&rt, rt.alloc(), ROWS)?;
+    let table = rows_with_retry(&rt, rt.alloc(), ROWS)?;
     check_rows(&rt, &table);
     Ok(())
 }
@@ -115,7 +115,7 @@ const BAD_ADDRESS: &str = "Interface
 1|";
 
 /// Rows of which two aren't listed and are of one source and group, the second one in two pieces.
-const REPEATED: &str = "Group
+const REPEATED_ROWS: &str = "Group
 040201EF 0500000A 0 0 0 0 1:1
 040201EF 0600000A 0 0 0 0 1:1
 040201EF 06|00000A 1 0 0 0 0:1
@@ -124,10 +124,10 @@ const REPEATED: &str = "Group
 #[test]
 fn faults_of_lines_in_pieces(rt: HostRuntime) -> Result<(), Fail> {
     let (line, kind) = (3, TableFaultKind::BadAddress);
-    let fault = vifs_at_last(&rt, rt.alloc(), BAD_ADDRESS).err();
+    let fault = vifs_with_retry(&rt, rt.alloc(), BAD_ADDRESS).err();
     assert!(rt; fault == Some(TableFault { line, kind }));
     let (line, kind) = (4, TableFaultKind::RepeatedEntry);
-    let fault = rows_at_last(&rt, rt.alloc(), REPEATED).err();
+    let fault = rows_with_retry(&rt, rt.alloc(), REPEATED_ROWS).err();
     assert!(rt; fault == Some(TableFault { line, kind }));
     Ok(())
 }

@@ -9,12 +9,12 @@ use std::test::Fail;
 
 /// Takes every byte, and keeps only how many they were.
 #[derive(Drop)]
-struct Counter {
+struct CountingOutput {
     taken: usize,
 }
 
-impl Output for Counter {
-    ghost took = { λ _. None };
+impl Output for CountingOutput {
+    ghost written = { λ _. None };
 
     ghost failed = { λ _. 0 };
 
@@ -30,7 +30,7 @@ impl Output for Counter {
 
 /// The bundle of these parts passes a limit, and nothing of it is written.
 fn check_refused(rt: &impl Abort, parts: &[Part<'_>]) {
-    let mut output = Counter { taken: 0 };
+    let mut output = CountingOutput { taken: 0 };
     let answer = write_bundle(parts, &mut output);
     assert!(rt; answer == Err(BundleFault::TooLarge));
     assert!(rt; output.taken == 0);
@@ -38,7 +38,7 @@ fn check_refused(rt: &impl Abort, parts: &[Part<'_>]) {
 
 /// The bundle of these parts is written, and has so many bytes.
 fn check_written(rt: &impl Abort, parts: &[Part<'_>], length: usize) {
-    let mut output = Counter { taken: 0 };
+    let mut output = CountingOutput { taken: 0 };
     assert!(rt; write_bundle(parts, &mut output).is_ok());
     assert!(rt; output.taken == length);
 }
@@ -62,7 +62,7 @@ fn part_of<'a>(name: PartName, bytes: &'a [u8], length: usize) -> Part<'a> {
 
 /// A part of 16,777,217 bytes is too large, and a bundle of 268,435,457.
 #[test]
-fn the_greatest_bundle_is_written(rt: HostRuntime) -> Result<(), Fail> {
+fn largest_bundle_is_written(rt: HostRuntime) -> Result<(), Fail> {
     let name = PartName::new(b"a").ok_or("a name")?;
     let bytes = vec![in rt.alloc(); b'x'; 16_777_217]?;
     check_refused(&rt, &[part_of(name, &bytes, 16_777_217)]);
@@ -75,7 +75,7 @@ fn the_greatest_bundle_is_written(rt: HostRuntime) -> Result<(), Fail> {
 }
 
 #[test]
-fn a_bundle_is_written_up_to_where_the_output_stops(rt: HostRuntime) -> Result<(), Fail> {
+fn bundle_is_written_until_the_output_stops(rt: HostRuntime) -> Result<(), Fail> {
     let name = PartName::new(b"a").ok_or("a name")?;
     let parts = [Part { name, bytes: b"x" }];
     let whole = b"mcaudit bundle 1\npart a 1\nx\nend\n".as_slice();

@@ -42,7 +42,7 @@ fn push_parts(text: &mut String, bundle: &Bundle<'_>) -> Result<(), Fail> {
 }
 
 /// How the bytes are read.
-fn reading_of(alloc: Global, bytes: &[u8]) -> Result<String, Fail> {
+fn printed_reading(alloc: Global, bytes: &[u8]) -> Result<String, Fail> {
     let mut text = String::new(alloc);
     match Bundle::read(alloc, bytes) {
         Ok(bundle) => push_parts(&mut text, &bundle)?,
@@ -52,11 +52,11 @@ fn reading_of(alloc: Global, bytes: &[u8]) -> Result<String, Fail> {
 }
 
 #[test]
-fn bundles_and_their_faults(rt: HostRuntime) -> Result<(), Fail> {
+fn bundles_are_read_or_refused(rt: HostRuntime) -> Result<(), Fail> {
     for case in BUNDLES.lines() {
         let (text, wanted) = case.split_once(": ").ok_or("a bundle and how it is read")?;
         let bytes = bytes_of(rt.alloc(), text)?;
-        let reading = reading_of(rt.alloc(), &bytes)?;
+        let reading = printed_reading(rt.alloc(), &bytes)?;
         assert!(rt; reading.as_str() == wanted, "{text} is read as {reading}");
     }
     Ok(())
@@ -114,7 +114,7 @@ const PARTS: &str =
     igmp/l2 33;certificate 215;";
 
 /// It as it is read, at the second try where a growth is refused.
-fn chain_at_last(alloc: Global) -> Result<Bundle<'static>, BundleFault> {
+fn chain_with_retry(alloc: Global) -> Result<Bundle<'static>, BundleFault> {
     match Bundle::read(alloc, CHAIN) {
         Err(BundleFault::Memory) => Bundle::read(alloc, CHAIN),
         answer => answer,
@@ -129,8 +129,8 @@ fn has_reports(bundle: &Bundle<'_>) -> bool {
 }
 
 #[test]
-fn a_bundle_is_read_after_a_refused_growth(rt: HostRuntime) -> Result<(), Fail> {
-    let bundle = chain_at_last(rt.alloc())?;
+fn bundle_is_read_after_a_refused_growth(rt: HostRuntime) -> Result<(), Fail> {
+    let bundle = chain_with_retry(rt.alloc())?;
     assert!(rt; has_reports(&bundle));
     let mut parts = String::new(rt.alloc());
     push_parts(&mut parts, &bundle)?;
@@ -141,7 +141,7 @@ fn a_bundle_is_read_after_a_refused_growth(rt: HostRuntime) -> Result<(), Fail> 
 /// Its bytes up to each of them, by their faults: those within the first line, those within a part or
 /// before its line feed, and those at a line's place.
 #[test]
-fn a_bundle_that_is_cut(rt: HostRuntime) {
+fn cut_bundles_are_refused(rt: HostRuntime) {
     let (mut no_magic, mut truncated, mut no_end) = (0u32, 0u32, 0u32);
     for cut in 0..CHAIN.len() {
         match Bundle::read(rt.alloc(), &CHAIN[..cut]).err() {

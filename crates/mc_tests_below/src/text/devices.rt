@@ -2,7 +2,7 @@
 
 ghost use Rattle.std.specs.Prelude.{◌≡◌, ◌<◌, OnErr, OnOk};
 ghost use Rattle.std.specs.Io.KnownBytes.{Appends};
-ghost use Rattle.mc_text.specs.Device.{AppendsPart, counted, is_failure};
+ghost use Rattle.mc_text.specs.Device.{AppendsProperPrefix, failures_after, is_failure};
 ghost use Rattle.mc_text.specs.ReadFault.{ConsumesUpTo, is_read};
 
 use mc_text::*;
@@ -32,7 +32,7 @@ fn reads_an_input_to_its_end_or_the_limit(rt: HostRuntime) -> Result<(), Fail> {
 }
 
 #[test]
-fn a_read_that_fails_ends_it(rt: HostRuntime) {
+fn failed_read_ends_reading(rt: HostRuntime) {
     for before_fault in 0..TEXT.len() + 1 {
         let mut input = FaultyInput::new(TEXT, 2, before_fault);
         let fault = read_to_limit(rt.alloc(), &mut input, 100).err();
@@ -42,7 +42,7 @@ fn a_read_that_fails_ends_it(rt: HostRuntime) {
 }
 
 #[test]
-fn writes_a_text_up_to_where_the_output_stops(rt: HostRuntime) {
+fn text_is_written_until_the_output_stops(rt: HostRuntime) {
     for stop in [Stop::Error, Stop::TakesNone] {
         for before_stop in 0..TEXT.len() + 1 {
             let mut output = FaultyOutput::new(rt.alloc(), 2, before_stop, stop);
@@ -79,9 +79,9 @@ fn a_full_writer_fails(rt: HostRuntime) {
 /// its device afterwards.
 fn read_lent<R: Input>(alloc: Global, input: &mut R) -> Result<Vec<u8>, ReadFault>
     requires { R.failed input.old < u64.MAX }
-    ensures same { R.names input.new ≡ R.names input.old }
-    ensures consumed { ConsumesUpTo 4 (R.told input.old) (R.told input.new) }
-    ensures failures { R.failed input.new ≡ counted is_read result (R.failed input.old) }
+    ensures same { R.borrows input.new ≡ R.borrows input.old }
+    ensures consumed { ConsumesUpTo 4 (R.remaining input.old) (R.remaining input.new) }
+    ensures failures { R.failed input.new ≡ failures_after is_read result (R.failed input.old) }
 {
     let mut lent = &mut *input;
     read_to_limit(alloc, &mut lent, 4)
@@ -90,10 +90,10 @@ fn read_lent<R: Input>(alloc: Global, input: &mut R) -> Result<Vec<u8>, ReadFaul
 /// Writes the text through a reference to the output.
 fn write_lent<W: Output>(output: &mut W, text: &[u8]) -> Result<(), DeviceFault>
     requires { W.failed output.old < u64.MAX }
-    ensures same { W.names output.new ≡ W.names output.old }
-    ensures ok { OnOk result (Appends (W.took output.old) (W.took output.new) text.now) }
-    ensures err { OnErr result (AppendsPart (W.took output.old) (W.took output.new) text.now) }
-    ensures failures { W.failed output.new ≡ counted is_failure result (W.failed output.old) }
+    ensures same { W.borrows output.new ≡ W.borrows output.old }
+    ensures ok { OnOk result (Appends (W.written output.old) (W.written output.new) text.now) }
+    ensures err { OnErr result (AppendsProperPrefix (W.written output.old) (W.written output.new) text.now) }
+    ensures failures { W.failed output.new ≡ failures_after is_failure result (W.failed output.old) }
 {
     let mut lent = &mut *output;
     write_all(&mut lent, text)

@@ -24,7 +24,7 @@ fn fault_of<R: Input + Drop>(input: R) -> Option<BundleFault>
 }
 
 /// The same of an input that fails behind so many bytes of the text.
-fn fault_within(text: &[u8], before_fault: usize) -> Option<BundleFault> {
+fn fault_if_input_fails_after(text: &[u8], before_fault: usize) -> Option<BundleFault> {
     fault_of(FaultyInput::new(text, 7, before_fault))
 }
 
@@ -55,9 +55,9 @@ const FAULTS: &str = "\
 20 NoEnd mcaudit bundle 1~en";
 
 /// The fault is met with the last of so many bytes.
-fn is_met_with(rt: &impl Abort, text: &[u8], count: usize, fault: BundleFault) {
-    assert!(rt; fault_within(text, count) == Some(fault), "{count} {fault}");
-    let earlier = fault_within(text, count.saturating_sub(1));
+fn check_fault_at(rt: &impl Abort, text: &[u8], count: usize, fault: BundleFault) {
+    assert!(rt; fault_if_input_fails_after(text, count) == Some(fault), "{count} {fault}");
+    let earlier = fault_if_input_fails_after(text, count.saturating_sub(1));
     assert!(rt;
         earlier == Some(BundleFault::Read),
         "before {count} {fault}"
@@ -78,25 +78,25 @@ fn fault_named(name: &str) -> Option<BundleFault> {
 }
 
 /// What a line of the table says holds.
-fn holds(rt: &impl Abort, alloc: Global, line: &str) -> Result<(), Fail> {
+fn check_table_line(rt: &impl Abort, alloc: Global, line: &str) -> Result<(), Fail> {
     let (number, rest) = line.split_once(' ').ok_or("a number")?;
     let (name, text) = rest.split_once(' ').ok_or("a fault")?;
     let count = decimal(number.as_bytes(), 1000).ok_or("a small number")? as usize;
     let fault = fault_named(name).ok_or("the name of a fault")?;
-    is_met_with(rt, &bytes_of(alloc, text)?, count, fault);
+    check_fault_at(rt, &bytes_of(alloc, text)?, count, fault);
     Ok(())
 }
 
 #[test]
-fn faults_are_met_as_their_bytes_come(rt: HostRuntime) -> Result<(), Fail> {
+fn faults_are_reported_at_their_byte(rt: HostRuntime) -> Result<(), Fail> {
     for line in FAULTS.lines() {
-        holds(&rt, rt.alloc(), line)?;
+        check_table_line(&rt, rt.alloc(), line)?;
     }
     Ok(())
 }
 
 /// The bundle of so many empty parts, without its last line.
-fn many_parts(alloc: Global, count: u32) -> Result<Vec<u8>, AllocError> {
+fn many_empty_parts(alloc: Global, count: u32) -> Result<Vec<u8>, AllocError> {
     let mut text = Vec::from_slice(alloc, b"mcaudit bundle 1\n")?;
     for _ in 0..count {
         text.extend_from_slice(b"part a 0\n\n")?;
@@ -106,9 +106,9 @@ fn many_parts(alloc: Global, count: u32) -> Result<Vec<u8>, AllocError> {
 
 /// A part too many is refused with its line, which ends 9 bytes behind 1,538 parts of 10 bytes.
 #[test]
-fn a_part_too_many_is_met_with_its_line(rt: HostRuntime) -> Result<(), Fail> {
-    let text = many_parts(rt.alloc(), 1540)?;
-    is_met_with(&rt, &text, 17 + 1538 * 10 + 9, BundleFault::TooLarge);
+fn excess_part_is_refused_at_its_line(rt: HostRuntime) -> Result<(), Fail> {
+    let text = many_empty_parts(rt.alloc(), 1540)?;
+    check_fault_at(&rt, &text, 17 + 1538 * 10 + 9, BundleFault::TooLarge);
     Ok(())
 }
 
@@ -125,15 +125,15 @@ struct LongInput {
 }
 
 /// What comes between two parts of the greatest size, and what comes behind them.
-const NEXT: &[u8] = b"\npart a 16777216\n";
+const PART_LINE: &[u8] = b"\npart a 16777216\n";
 
 impl LongInput {
     /// Takes the next line where what came before it was given.
-    fn begin_line(&mut self)
+    fn start_next_line(&mut self)
         ensures { self.new.failures ≡ self.old.failures }
     {
         if self.text.is_empty() && self.left == 0 && self.lines > 0 {
-            self.text = NEXT;
+            self.text = PART_LINE;
             self.left = 16_777_216;
             self.lines -= 1;
         }
@@ -166,7 +166,7 @@ impl LongInput {
 }
 
 impl Input for LongInput {
-    ghost told = { λ _. None };
+    ghost remaining = { λ _. None };
 
     ghost failed = { λ s. s.failures };
 
@@ -175,7 +175,7 @@ impl Input for LongInput {
             self.failures += 1;
             return Err(DeviceFault);
         }
-        self.begin_line();
+        self.start_next_line();
         if self.text.is_empty() {
             Ok(self.give_byte(buffer))
         } else {
@@ -202,7 +202,7 @@ fn fault_of_greatest_parts(before_fault: usize) -> Option<BundleFault> {
 
 /// A part that would pass the greatest bundle is refused with its line, which ends 16 bytes behind 15 parts.
 #[test]
-fn a_part_past_the_greatest_bundle_is_met_with_its_line(rt: HostRuntime) {
+fn oversized_bundle_is_refused_at_its_line(rt: HostRuntime) {
     let count = 17 + 15 * (16 + 16_777_216 + 1) + 16;
     assert!(rt; fault_of_greatest_parts(count) == Some(BundleFault::TooLarge));
     assert!(rt; fault_of_greatest_parts(count - 1) == Some(BundleFault::Read));
@@ -210,7 +210,7 @@ fn a_part_past_the_greatest_bundle_is_met_with_its_line(rt: HostRuntime) {
 
 /// A line that never ends is refused, though the input never does.
 #[test]
-fn a_line_without_end_is_refused(rt: HostRuntime) {
+fn endless_line_is_refused(rt: HostRuntime) {
     let fault = fault_of(LongInput {
         text: b"mcaudit bundle 1\n",
         byte: b'a',

@@ -6,7 +6,7 @@ use std::test::Fail;
 const TEXT: &[u8] = b"mcaudit bundle 1\npart a 3\nx\ny\npart b/c 0\n\nend\n";
 
 #[test]
-fn a_bundle_is_told_part_by_part(rt: HostRuntime) -> Result<(), Fail> {
+fn bundle_is_read_part_by_part(rt: HostRuntime) -> Result<(), Fail> {
     let mut parts = Parts::new(FromReader::new(TEXT));
     let mut buffer = [0u8; 2];
     assert!(rt; parts.next()?);
@@ -26,7 +26,7 @@ fn a_bundle_is_told_part_by_part(rt: HostRuntime) -> Result<(), Fail> {
 }
 
 #[test]
-fn a_part_that_is_cut_off_ends_the_bundle(rt: HostRuntime) {
+fn cut_part_ends_the_bundle(rt: HostRuntime) {
     let mut parts = Parts::new(FaultyInput::new(&TEXT[..28], 5, 100));
     let mut buffer = [0u8; 8];
     assert!(rt; parts.next() == Ok(true));
@@ -38,7 +38,7 @@ fn a_part_that_is_cut_off_ends_the_bundle(rt: HostRuntime) {
 }
 
 #[test]
-fn a_read_that_fails_ends_a_bundle(rt: HostRuntime) {
+fn failed_read_ends_the_bundle(rt: HostRuntime) {
     let mut parts = Parts::new(FaultyInput::new(TEXT, 5, 20));
     assert!(rt; parts.next() == Err(BundleFault::Read));
     assert!(rt; parts.next() == Err(BundleFault::Failed));

@@ -73,7 +73,7 @@ fn numbers(rt: HostRuntime) {
     assert!(rt; decimal(b"18446744073709551615", u64::MAX) == Some(u64::MAX));
     assert!(rt; decimal(b"18446744073709551616", u64::MAX).is_none());
     assert!(rt; are_no_decimals("32;;-1;+1;1 ;0x1;1_0"));
-    assert!(rt; first_place_of(b':', b"1:10:2") == Some(1));
-    assert!(rt; first_place_of(b':', b"110").is_none());
-    assert!(rt; first_place_of(b':', b"").is_none());
+    assert!(rt; find_byte(b':', b"1:10:2") == Some(1));
+    assert!(rt; find_byte(b':', b"110").is_none());
+    assert!(rt; find_byte(b':', b"").is_none());
 }

@@ -26,7 +26,7 @@ fn is_refused(alloc: Global, text: &[u8]) -> bool {
 
 /// Too many bytes come before whatever else is wrong: nothing, no key, no TOML and no text.
 #[test]
-fn size(rt: HostRuntime) -> Result<(), Fail> {
+fn oversized_topologies_are_refused(rt: HostRuntime) -> Result<(), Fail> {
     for (text, byte) in [(NETWORK, b'#'), ("", b'#'), ("", b'='), ("", 0xFF)] {
         let bytes = too_long(rt.alloc(), text, byte)?;
         assert!(rt; is_refused(rt.alloc(), &bytes), "at {byte}");

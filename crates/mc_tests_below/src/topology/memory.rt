@@ -2,7 +2,7 @@
 //! granted this test reads the text once. `rt try --test --fail-alloc N`, for N from 1 on, refuses
 //! one growth after the other: the text is then read again.
 
-use super::network::on_topology;
+use super::network::with_topology;
 use mc_topology::*;
 use std::alloc::Global;
 use std::process::Abort;
@@ -58,7 +58,7 @@ flow = [
 "#;
 
 /// Whether a growth was refused. What then is answered names no part.
-fn wants_memory(rt: &impl Abort, fault: TopologyFault) -> bool {
+fn is_out_of_memory(rt: &impl Abort, fault: TopologyFault) -> bool {
     if fault.kind == TopologyFaultKind::Memory {
         assert!(rt; fault.section == Section::Top);
         assert_eq!(rt; fault.number, 0);
@@ -91,20 +91,20 @@ fn check_nine(rt: &impl Abort, topology: &Topology) {
 }
 
 /// Looks at the topology.
-fn look(rt: &impl Abort, alloc: Global) -> Result<(), TopologyFault> {
-    on_topology(alloc, NINE, |topology| check_nine(rt, topology))
+fn check_read(rt: &impl Abort, alloc: Global) -> Result<(), TopologyFault> {
+    with_topology(alloc, NINE, |topology| check_nine(rt, topology))
 }
 
 /// The same, at the second try where a growth is refused.
-fn look_at_last(rt: &impl Abort, alloc: Global) -> Result<(), TopologyFault> {
-    match look(rt, alloc) {
-        Err(fault) if wants_memory(rt, fault) => look(rt, alloc),
+fn check_read_with_retry(rt: &impl Abort, alloc: Global) -> Result<(), TopologyFault> {
+    match check_read(rt, alloc) {
+        Err(fault) if is_out_of_memory(rt, fault) => check_read(rt, alloc),
         answer => answer,
     }
 }
 
 #[test]
 fn topology_is_read_after_a_refused_growth(rt: HostRuntime) -> Result<(), Fail> {
-    look_at_last(&rt, rt.alloc())?;
+    check_read_with_retry(&rt, rt.alloc())?;
     Ok(())
 }

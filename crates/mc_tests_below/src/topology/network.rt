@@ -20,16 +20,16 @@ flow = [{source = "10.0.0.5", group = "239.1.2.3", ttl = 3}]
 "#;
 
 /// What is told of the topology of a text, which is lent.
-pub(crate) fn on_topology<R, F: FnOnce(&Topology) -> R + Drop>(
+pub(crate) fn with_topology<R, F: FnOnce(&Topology) -> R + Drop>(
     alloc: Global,
     text: &[u8],
-    told: F,
+    query: F,
 ) -> Result<R, TopologyFault>
-    requires { F.IsAlwaysCallable told }
+    requires { F.IsAlwaysCallable query }
 {
     match Topology::read(alloc, text) {
         Ok(topology) => {
-            let answer = told(&topology);
+            let answer = query(&topology);
             drop(topology);
             Ok(answer)
         }
@@ -89,8 +89,8 @@ fn has_all(n: &Topology) -> bool {
 }
 
 #[test]
-fn look_ups(rt: HostRuntime) -> Result<(), Fail> {
-    let found = on_topology(rt.alloc(), NETWORK.as_bytes(), |n| has_all(n))?;
+fn topology_lookups_answer(rt: HostRuntime) -> Result<(), Fail> {
+    let found = with_topology(rt.alloc(), NETWORK.as_bytes(), |n| has_all(n))?;
     assert!(rt; found);
     Ok(())
 }

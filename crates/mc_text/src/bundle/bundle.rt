@@ -4,14 +4,14 @@ ghost use Rattle.std.specs.Prelude.{◌≡◌, ◌≢◌, ◌-◌, ◌<◌, ◌�
 ghost use Rattle.std.specs.Prelude.{Err, Some, slice_get, option_map, None};
 ghost use Rattle.mc_text.specs.Bundle.{PartText, IsBundle, max_bundle, max_parts};
 ghost use Rattle.mc_text.specs.BundleFaults.{IsFramingFault};
-ghost use Rattle.mc_text.specs.BundleReading.{Gives, part_bytes_at as part_bytes_of, part_place};
-ghost use Rattle.mc_text.specs.BundleReading.{end_place, place_of, parts_from, bundle_of};
+ghost use Rattle.mc_text.specs.BundleReading.{Gives, part_bytes_at as part_bytes_of, part_for_line};
+ghost use Rattle.mc_text.specs.BundleReading.{end_for_line, next_part_from, parts_from, bundle_of};
 ghost use Rattle.mc_text.specs.BundleView.{part_text, part_texts};
-ghost use Rattle.mc_text.specs.BundleView.{place_text, found_text};
+ghost use Rattle.mc_text.specs.BundleView.{place_text, part_and_place_text};
 
 use crate::bundle::bundle_fault::BundleFault;
 use crate::bundle::part::Part;
-use crate::bundle::part_line::{line_at, part_said};
+use crate::bundle::part_line::{line_at, parse_part_line};
 use crate::bundle::part_name::PartName;
 use std::alloc::Global;
 use std::marker::Model;
@@ -33,7 +33,7 @@ pub(crate) const MAX_PARTS: usize = 1_538;
 
 /// Where reading stands: how many parts and how many bytes may still come, and the bytes that do.
 #[derive(Clone, Copy)]
-struct Place<'a> {
+struct BundlePlace<'a> {
     parts: usize,
     room: usize,
     rest: &'a [u8],
@@ -54,15 +54,15 @@ fn part_bytes_at(size: usize, rest: &[u8]) -> Result<(&[u8], &[u8]), BundleFault
 }
 
 /// The part whose line was read, and the place after it.
-fn part_at<'a>(
-    place: &Place<'a>,
+fn part_after_line<'a>(
+    place: &BundlePlace<'a>,
     line: &[u8],
     after: &'a [u8],
     name: PartName,
     size: u64,
-) -> Result<Option<(Part<'a>, Place<'a>)>, BundleFault>
-    ensures { Gives (option_map found_text) result
-        (part_place (place_text place.now) line.now after.now (Some (name, size))) }
+) -> Result<Option<(Part<'a>, BundlePlace<'a>)>, BundleFault>
+    ensures { Gives (option_map part_and_place_text) result
+        (part_for_line (place_text place.now) line.now after.now (Some (name, size))) }
 {
     if place.parts == 0 || size > MAX_PART as u64 {
         return Err(BundleFault::TooLarge);
@@ -73,7 +73,7 @@ fn part_at<'a>(
         return Err(BundleFault::TooLarge);
     }
     let (bytes, rest) = part_bytes_at(size, after)?;
-    let next = Place {
+    let next = BundlePlace {
         parts: place.parts - 1,
         room: place.room - room,
         rest,
@@ -82,8 +82,8 @@ fn part_at<'a>(
 }
 
 /// Nothing may follow the line `end`.
-fn end_at(place: &Place<'_>, after: &[u8]) -> Result<(), BundleFault>
-    ensures { Gives (λ _. None) result (end_place (place_text place.now) after.now) }
+fn check_end_is_last(place: &BundlePlace<'_>, after: &[u8]) -> Result<(), BundleFault>
+    ensures { Gives (λ _. None) result (end_for_line (place_text place.now) after.now) }
 {
     if place.room < END_LINE.len() {
         return Err(BundleFault::TooLarge);
@@ -95,18 +95,18 @@ fn end_at(place: &Place<'_>, after: &[u8]) -> Result<(), BundleFault>
 }
 
 /// The part at a place and the place after it, or nothing at the end.
-#[tactic(auto, unfolding(crate::specs::BundleReading::place_of))]
-fn place_at<'a>(place: &Place<'a>) -> Result<Option<(Part<'a>, Place<'a>)>, BundleFault>
-    ensures { Gives (option_map found_text) result (place_of (place_text place.now)) }
+#[tactic(auto, unfolding(crate::specs::BundleReading::next_part_from))]
+fn next_part_at<'a>(place: &BundlePlace<'a>) -> Result<Option<(Part<'a>, BundlePlace<'a>)>, BundleFault>
+    ensures { Gives (option_map part_and_place_text) result (next_part_from (place_text place.now)) }
 {
     let (line, after) = line_at(place.rest)?;
     if line == b"end".as_slice() {
-        end_at(place, after)?;
+        check_end_is_last(place, after)?;
         return Ok(None);
     }
-    match part_said(line) {
+    match parse_part_line(line) {
         None => Err(BundleFault::BadPartLine),
-        Some((name, size)) => part_at(place, line, after, name, size),
+        Some((name, size)) => part_after_line(place, line, after, name, size),
     }
 }
 
@@ -116,13 +116,13 @@ fn parts_of(alloc: Global, text: &[u8]) -> Result<Vec<Part<'_>>, BundleFault>
         (parts_from max_parts (max_bundle - 17) text.now) }
 {
     let mut parts = Vec::new(alloc);
-    let mut place = Place {
+    let mut place = BundlePlace {
         parts: MAX_PARTS,
         room: MAX_BUNDLE - MAGIC.len(),
         rest: text,
     };
     'places: loop {
-        match place_at(&place) {
+        match next_part_at(&place) {
             Ok(Some((part, next))) => {
                 if parts.push(part).is_err() {
                     return Err(BundleFault::Memory);

@@ -7,7 +7,7 @@ ghost use Rattle.std.specs.Io.KnownBytes.{Appends};
 ghost use Rattle.std.specs.List.{AllByRecursion};
 ghost use Rattle.mc_text.specs.Bundle.{IsPartName, part_spelling, bundle_spelling, AreWithinLimits};
 ghost use Rattle.mc_text.specs.Bundle.{is_write, AppendsBundle};
-ghost use Rattle.mc_text.specs.Device.{counted, is_failure, AppendsPart};
+ghost use Rattle.mc_text.specs.Device.{failures_after, is_failure, AppendsProperPrefix};
 ghost use Rattle.mc_text.specs.BundleView.{part_text, part_texts};
 
 use crate::bundle::bundle::{END_LINE, MAGIC, MAX_BUNDLE, MAX_PART, MAX_PARTS};
@@ -25,9 +25,9 @@ use itoa::Buffer;
 /// answers an error or takes no byte; a proper part of the bundle was written then, from its front.
 pub fn write_bundle<W: Output>(parts: &[Part<'_>], output: &mut W) -> Result<(), BundleFault>
     requires { W.failed output.old < u64.MAX }
-    ensures same { W.names output.new ≡ W.names output.old }
+    ensures same { W.borrows output.new ≡ W.borrows output.old }
     ensures ok { OnOk result
-        (AppendsBundle (W.took output.old) (W.took output.new) (part_texts parts.now)) }
+        (AppendsBundle (W.written output.old) (W.written output.new) (part_texts parts.now)) }
 
     // It fails for two reasons only.
     ensures faults { IfErr result
@@ -37,10 +37,10 @@ pub fn write_bundle<W: Output>(parts: &[Part<'_>], output: &mut W) -> Result<(),
     ensures unwritten { IfErr result
         (λ fault. fault ≢ BundleFault.Write → output.new ≡ output.old) }
     ensures cut { IsErrOf result BundleFault.Write
-        → AppendsPart
-        (W.took output.old) (W.took output.new) (bundle_spelling (part_texts parts.now)) }
+        → AppendsProperPrefix
+        (W.written output.old) (W.written output.new) (bundle_spelling (part_texts parts.now)) }
     ensures cut_within { IsErrOf result BundleFault.Write → AreWithinLimits (part_texts parts.now) }
-    ensures failures { W.failed output.new ≡ counted is_write result (W.failed output.old) }
+    ensures failures { W.failed output.new ≡ failures_after is_write result (W.failed output.old) }
 {
     if !are_within_limits(parts) {
         return Err(BundleFault::TooLarge);
@@ -63,13 +63,13 @@ fn are_within_limits(parts: &[Part<'_>]) -> bool
         if part.bytes.len() > MAX_PART {
             return false;
         }
-        size += size_of_part(part);
+        size += encoded_part_size(part);
     }
     size <= MAX_BUNDLE
 }
 
 /// How many bytes a part takes, with its line.
-fn size_of_part(part: &Part<'_>) -> usize
+fn encoded_part_size(part: &Part<'_>) -> usize
     requires { length part.now.bytes.now ≤ MAX_PART }
     ensures size { result ≡ length (part_spelling (part_text part.now)) }
     ensures bound { result ≤ MAX_PART + 92 }
@@ -84,12 +84,12 @@ fn size_of_part(part: &Part<'_>) -> usize
 /// Writes the bundle of the parts, whatever they are.
 fn write_parts<W: Output>(output: &mut W, parts: &[Part<'_>]) -> Result<(), DeviceFault>
     requires { W.failed output.old < u64.MAX }
-    ensures same { W.names output.new ≡ W.names output.old }
+    ensures same { W.borrows output.new ≡ W.borrows output.old }
     ensures ok { OnOk result
-        (Appends (W.took output.old) (W.took output.new) (bundle_spelling (part_texts parts.now))) }
-    ensures err { OnErr result (AppendsPart
-        (W.took output.old) (W.took output.new) (bundle_spelling (part_texts parts.now))) }
-    ensures failures { W.failed output.new ≡ counted is_failure result (W.failed output.old) }
+        (Appends (W.written output.old) (W.written output.new) (bundle_spelling (part_texts parts.now))) }
+    ensures err { OnErr result (AppendsProperPrefix
+        (W.written output.old) (W.written output.new) (bundle_spelling (part_texts parts.now))) }
+    ensures failures { W.failed output.new ≡ failures_after is_failure result (W.failed output.old) }
 {
     write_all(output, MAGIC)?;
     for part in parts {
@@ -101,20 +101,20 @@ fn write_parts<W: Output>(output: &mut W, parts: &[Part<'_>]) -> Result<(), Devi
 /// Writes a part, with its line.
 fn write_part<W: Output>(output: &mut W, part: &Part<'_>) -> Result<(), DeviceFault>
     requires { W.failed output.old < u64.MAX }
-    ensures same { W.names output.new ≡ W.names output.old }
+    ensures same { W.borrows output.new ≡ W.borrows output.old }
     ensures ok { OnOk result
-        (Appends (W.took output.old) (W.took output.new) (part_spelling (part_text part.now))) }
+        (Appends (W.written output.old) (W.written output.new) (part_spelling (part_text part.now))) }
     ensures err { OnErr result
-        (AppendsPart (W.took output.old) (W.took output.new) (part_spelling (part_text part.now))) }
-    ensures failures { W.failed output.new ≡ counted is_failure result (W.failed output.old) }
+        (AppendsProperPrefix (W.written output.old) (W.written output.new) (part_spelling (part_text part.now))) }
+    ensures failures { W.failed output.new ≡ failures_after is_failure result (W.failed output.old) }
 {
     let mut buffer = Buffer::new();
     let digits = buffer.format(part.bytes.len()).as_bytes();
-    write_pieces(output, &pieces_of(part.name.as_bytes(), digits, part.bytes))
+    write_pieces(output, &part_pieces(part.name.as_bytes(), digits, part.bytes))
 }
 
 /// The pieces of a part.
-fn pieces_of<'a>(name: &'a [u8], digits: &'a [u8], bytes: &'a [u8]) -> [&'a [u8]; 7]
+fn part_pieces<'a>(name: &'a [u8], digits: &'a [u8], bytes: &'a [u8]) -> [&'a [u8]; 7]
     ensures { flat_map (λ piece. piece.now) result
         ≡ (codes "part " ++ (name.now ++ (codes " " ++ digits.now)) ++ codes "\n")
         ++ (bytes.now ++ codes "\n") }

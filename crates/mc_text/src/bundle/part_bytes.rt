@@ -3,9 +3,9 @@
 ghost use Rattle.std.specs.Prelude.{◌≡◌, ◌≢◌, ◌<◌, ◌++◌, ◌⊎◌, ℕ, List, Some, Err, IfOk, IfErr, OnOk};
 ghost use Rattle.std.specs.Prelude.{length};
 ghost use Rattle.mc_text.specs.declared.bundle.stage.Stage.TheVariants as stages;
-ghost use Rattle.mc_text.specs.Device.{counted};
-ghost use Rattle.mc_text.specs.PartsReading.{is_read, parts_if};
-ghost use Rattle.mc_text.specs.PartsToCome.{GoesOn};
+ghost use Rattle.mc_text.specs.Device.{failures_after};
+ghost use Rattle.mc_text.specs.PartsReading.{is_read, parts_from_current};
+ghost use Rattle.mc_text.specs.RestOfBundle.{Advances};
 
 use crate::bundle::bundle_fault::BundleFault;
 use crate::bundle::parts::Parts;
@@ -27,19 +27,19 @@ pub fn collect_part<R: Input>(
     requires room { 0 < length buffer.old }
     requires failures { parts.old.failed < u64.MAX }
     // They are the bytes that come of the part, and the bundle stays what it is.
-    ensures bytes { (text done : List ℕ) → parts.old.told ≡ Some text → IfOk result (λ bytes.
-        (later : List ℕ) × (parts.new.told ≡ Some later)
-        × (parts_if parts.old done text ≡ parts_if parts.new (done ++ bytes.items) later)) }
+    ensures bytes { (text done : List ℕ) → parts.old.remaining ≡ Some text → IfOk result (λ bytes.
+        (later : List ℕ) × (parts.new.remaining ≡ Some later)
+        × (parts_from_current parts.old done text ≡ parts_from_current parts.new (done ++ bytes.items) later)) }
     ensures whole { OnOk result ((parts.new.stage ≡ stages.Part)
         × (parts.new.name ≡ parts.old.name) × (parts.new.left ≡ 0)) }
-    ensures goes_on { GoesOn parts.old parts.new }
+    ensures advances { Advances parts.old parts.new }
     // Which fault it is, unless the input failed or memory ran out.
-    ensures fault { (text done : List ℕ) → parts.old.told ≡ Some text → IfErr result
+    ensures fault { (text done : List ℕ) → parts.old.remaining ≡ Some text → IfErr result
         (λ fault. fault ≢ BundleFault.Read → fault ≢ BundleFault.Memory →
-        parts_if parts.old done text ≡ Err fault) }
+        parts_from_current parts.old done text ≡ Err fault) }
     ensures faults { IfErr result (λ fault. (fault ≡ BundleFault.Truncated)
         ⊎ ((fault ≡ BundleFault.Read) ⊎ (fault ≡ BundleFault.Memory))) }
-    ensures failures { parts.new.failed ≡ counted is_read result parts.old.failed }
+    ensures failures { parts.new.failed ≡ failures_after is_read result parts.old.failed }
 {
     let mut bytes = Vec::new(alloc);
     'pieces: loop {

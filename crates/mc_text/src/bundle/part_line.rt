@@ -5,13 +5,13 @@ ghost use Rattle.std.specs.Char.{is_ascii_digit};
 ghost use Rattle.std.specs.List.{list_all};
 ghost use Rattle.std.specs.Str.Parse.{digits_value};
 ghost use Rattle.mc_text.specs.BundleReading.{Gives, line_at as line_of};
-ghost use Rattle.mc_text.specs.BundleReading.{is_length as is_length_word, part_said as said_by};
-ghost use Rattle.mc_text.specs.BundleReading.{words_said as said_by_words};
+ghost use Rattle.mc_text.specs.BundleReading.{is_length as is_length_word, parse_part_line as part_line_of};
+ghost use Rattle.mc_text.specs.BundleReading.{parse_name_and_length as name_and_length_of};
 ghost use Rattle.mc_text.specs.Number.{is_decimal};
 
 use crate::bundle::bundle_fault::BundleFault;
 use crate::bundle::part_name::PartName;
-use crate::text::{decimal, first_place_of};
+use crate::text::{decimal, find_byte};
 
 /// The greatest length of a line with its line feed, in bytes.
 const MAX_LINE: usize = 96;
@@ -22,7 +22,7 @@ pub(crate) fn line_at(rest: &[u8]) -> Result<(&[u8], &[u8]), BundleFault>
     ensures { Gives (λ x. (x.0.now, x.1.now)) result (line_of rest.now) }
 {
     let front = &rest[..rest.len().min(MAX_LINE)];
-    match first_place_of(b'\n', front) {
+    match find_byte(b'\n', front) {
         Some(end) => Ok((&rest[..end], &rest[end + 1..])),
         None if rest.len() < MAX_LINE => Err(BundleFault::NoEnd),
         None => Err(BundleFault::BadPartLine),
@@ -31,25 +31,25 @@ pub(crate) fn line_at(rest: &[u8]) -> Result<(&[u8], &[u8]), BundleFault>
 
 /// The name and the length that a part line says. A length of more than 64 bits is told as the
 /// greatest one of 64.
-#[tactic(auto, unfolding(crate::specs::BundleReading::part_said))]
-pub(crate) fn part_said(line: &[u8]) -> Option<(PartName, u64)>
-    ensures { result ≡ option_map (λ said. (said.0, min said.1 u64.MAX)) (said_by line.now) }
+#[tactic(auto, unfolding(crate::specs::BundleReading::parse_part_line))]
+pub(crate) fn parse_part_line(line: &[u8]) -> Option<(PartName, u64)>
+    ensures { result ≡ option_map (λ header. (header.0, min header.1 u64.MAX)) (part_line_of line.now) }
 {
     let words = line.strip_prefix(b"part ")?;
-    words_said(words)
+    parse_name_and_length(words)
 }
 
 /// The same of a line without its `part `.
-fn words_said(words: &[u8]) -> Option<(PartName, u64)>
-    ensures { result ≡ option_map (λ said. (said.0, min said.1 u64.MAX)) (said_by_words words.now) }
+fn parse_name_and_length(words: &[u8]) -> Option<(PartName, u64)>
+    ensures { result ≡ option_map (λ header. (header.0, min header.1 u64.MAX)) (name_and_length_of words.now) }
 {
-    let space = first_place_of(b' ', words)?;
+    let space = find_byte(b' ', words)?;
     let name = PartName::new(&words[..space])?;
     let number = &words[space + 1..];
     if !is_length(number) {
         return None;
     }
-    Some((name, length_of(number)))
+    Some((name, length_or_max(number)))
 }
 
 /// Whether the word is decimal digits without a needless leading zero.
@@ -70,7 +70,7 @@ fn are_digits(word: &[u8]) -> bool
 
 /// The number that the digits write, or the greatest one of 64 bits.
 #[tactic(auto, using(crate::proofs::NumberReading::number_or_greatest))]
-fn length_of(digits: &[u8]) -> u64
+fn length_or_max(digits: &[u8]) -> u64
     requires { is_decimal digits.now ≡ true }
     ensures { result ≡ min (digits_value 10 digits.now) u64.MAX }
 {

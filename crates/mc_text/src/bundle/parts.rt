@@ -5,9 +5,9 @@ ghost use Rattle.std.specs.Prelude.{Ok, Err, Some, true, false, IfOk, IfErr, IsS
 ghost use Rattle.mc_text.specs.declared.bundle.stage.Stage.TheVariants as stages;
 ghost use Rattle.mc_text.specs.BundleFaults.{IsInputFault};
 ghost use Rattle.mc_text.specs.BundleReading.{bundle_of};
-ghost use Rattle.mc_text.specs.Device.{counted};
-ghost use Rattle.mc_text.specs.PartsReading.{before, is_read, parts_if, passed};
-ghost use Rattle.mc_text.specs.PartsSpending.{Spends, may_come};
+ghost use Rattle.mc_text.specs.Device.{failures_after};
+ghost use Rattle.mc_text.specs.PartsReading.{prepend_parts, is_read, parts_from_current, current_part};
+ghost use Rattle.mc_text.specs.PartsLimits.{ConsumesWithin, max_to_come};
 ghost use Rattle.mc_text.specs.Bundle.{max_bundle, max_line, max_part};
 
 use crate::bundle::bundle::{MAGIC, MAX_BUNDLE, MAX_PARTS};
@@ -31,28 +31,28 @@ pub struct Parts<R: Input> {
 }
 
 impl<R: Input> Model for Parts<R> {
-    ghost use Rattle.mc_text.specs.PartsReading.{PartsState, ArePartsSoFar, state_of};
+    ghost use Rattle.mc_text.specs.PartsReading.{PartsState, IsValidPartsState, parts_state};
 
     ghost Value = { PartsState };
 
-    ghost view = { λ s. state_of s.stage s.parts s.room s.name s.size s.left (R.told s.input)
-        (R.failed s.input) (R.names s.input) };
+    ghost view = { λ s. parts_state s.stage s.parts s.room s.name s.size s.left (R.remaining s.input)
+        (R.failed s.input) (R.borrows s.input) };
 
-    ghost invariant = { λ s. ArePartsSoFar (state_of s.stage s.parts s.room s.name s.size s.left
-        (R.told s.input) (R.failed s.input) (R.names s.input)) };
+    ghost invariant = { λ s. IsValidPartsState (parts_state s.stage s.parts s.room s.name s.size s.left
+        (R.remaining s.input) (R.failed s.input) (R.borrows s.input)) };
 }
 
 impl<R: Input> Parts<R> {
     /// The parts of the bundle that the input gives.
     pub fn new(input: R) -> Parts<R>
-        ensures told { result.told ≡ R.told input }
+        ensures remaining { result.remaining ≡ R.remaining input }
         ensures failures { result.failed ≡ R.failed input }
-        ensures same { result.names ≡ R.names input }
+        ensures same { result.borrows ≡ R.borrows input }
         ensures start { result.stage ≡ stages.Start }
         // No more is read than the greatest bundle and a line.
-        ensures most { may_come result ≡ max_bundle + max_line }
+        ensures most { max_to_come result ≡ max_bundle + max_line }
         // The parts are those of the whole text.
-        ensures parts { (text : List ℕ) → parts_if result [] text ≡ bundle_of text }
+        ensures parts { (text : List ℕ) → parts_from_current result [] text ≡ bundle_of text }
     {
         Parts {
             input,
@@ -73,19 +73,19 @@ impl<R: Input> Parts<R> {
     /// The first fault from the front, `Read` where the input failed, and `Failed` after either.
     pub fn next(&mut self) -> Result<bool, BundleFault>
         requires { self.old.failed < u64.MAX }
-        ensures names { self.new.names ≡ self.old.names }
+        ensures borrows { self.new.borrows ≡ self.old.borrows }
         // Where a part was opened, the bundle is what was passed, with the present part, and what is
         // still to come.
-        ensures opened { (text done : List ℕ) → self.old.told ≡ Some text → result ≡ Ok true →
-            (later : List ℕ) × (self.new.told ≡ Some later)
-            × (parts_if self.old done text
-            ≡ before (passed self.old done text) (parts_if self.new [] later)) }
+        ensures opened { (text done : List ℕ) → self.old.remaining ≡ Some text → result ≡ Ok true →
+            (later : List ℕ) × (self.new.remaining ≡ Some later)
+            × (parts_from_current self.old done text
+            ≡ prepend_parts (current_part self.old done text) (parts_from_current self.new [] later)) }
         // Past the last part it is what was passed.
-        ensures ended { (text done : List ℕ) → self.old.told ≡ Some text → result ≡ Ok false →
-            parts_if self.old done text ≡ Ok (passed self.old done text) }
+        ensures ended { (text done : List ℕ) → self.old.remaining ≡ Some text → result ≡ Ok false →
+            parts_from_current self.old done text ≡ Ok (current_part self.old done text) }
         // Which fault it is, unless the input failed.
-        ensures fault { (text done : List ℕ) → self.old.told ≡ Some text → IfErr result
-            (λ fault. fault ≢ BundleFault.Read → parts_if self.old done text ≡ Err fault) }
+        ensures fault { (text done : List ℕ) → self.old.remaining ≡ Some text → IfErr result
+            (λ fault. fault ≢ BundleFault.Read → parts_from_current self.old done text ≡ Err fault) }
         // Of whatever input, no other fault comes.
         ensures faults { IfErr result (λ fault. IsInputFault fault
             ⊎ ((fault ≡ BundleFault.Failed) × (self.old.stage ≡ stages.Failed))) }
@@ -102,9 +102,9 @@ impl<R: Input> Parts<R> {
             (result ≡ Err BundleFault.Failed) × (self.new ≡ self.old) }
         ensures past { self.old.stage ≡ stages.End → (result ≡ Ok false) × (self.new ≡ self.old) }
         // No more is read than may come, whatever the answer.
-        ensures consumed { Spends
-            (may_come self.old) (may_come self.new) self.old.told self.new.told }
-        ensures failures { self.new.failed ≡ counted is_read result self.old.failed }
+        ensures consumed { ConsumesWithin
+            (max_to_come self.old) (max_to_come self.new) self.old.remaining self.new.remaining }
+        ensures failures { self.new.failed ≡ failures_after is_read result self.old.failed }
     {
         let start = match self.stage {
             Stage::Failed => return Err(BundleFault::Failed),
@@ -165,13 +165,13 @@ impl<R: Input> Parts<R> {
     /// after either.
     pub fn read(&mut self, buffer: &mut [u8]) -> Result<usize, BundleFault>
         requires { self.old.failed < u64.MAX }
-        ensures names { self.new.names ≡ self.old.names }
+        ensures borrows { self.new.borrows ≡ self.old.borrows }
         ensures bound { IfOk result (λ n. n ≤ length buffer.new) }
         // The bytes that were read move from what is to come to what was read of the part, and the
         // bundle stays what it is.
-        ensures bytes { (text done : List ℕ) → self.old.told ≡ Some text → IfOk result (λ n.
-            (later : List ℕ) × (self.new.told ≡ Some later) × (text ≡ take n buffer.new ++ later)
-            × (parts_if self.old done text ≡ parts_if self.new (done ++ take n buffer.new) later)) }
+        ensures bytes { (text done : List ℕ) → self.old.remaining ≡ Some text → IfOk result (λ n.
+            (later : List ℕ) × (self.new.remaining ≡ Some later) × (text ≡ take n buffer.new ++ later)
+            × (parts_from_current self.old done text ≡ parts_from_current self.new (done ++ take n buffer.new) later)) }
         ensures left { IfOk result (λ n. self.old.stage ≡ stages.Part →
             self.new.left + n ≡ self.old.left) }
         // None are read only into an empty buffer or at the part's end.
@@ -181,8 +181,8 @@ impl<R: Input> Parts<R> {
             × (self.new.name ≡ self.old.name) × (self.new.size ≡ self.old.size)
             × (self.new.parts ≡ self.old.parts)) }
         // Which fault it is, unless the input failed.
-        ensures fault { (text done : List ℕ) → self.old.told ≡ Some text → IfErr result
-            (λ fault. fault ≢ BundleFault.Read → parts_if self.old done text ≡ Err fault) }
+        ensures fault { (text done : List ℕ) → self.old.remaining ≡ Some text → IfErr result
+            (λ fault. fault ≢ BundleFault.Read → parts_from_current self.old done text ≡ Err fault) }
         // Of whatever input, no other fault comes.
         ensures faults { IfErr result (λ fault. (fault ≡ BundleFault.Truncated)
             ⊎ ((fault ≡ BundleFault.Read)
@@ -198,9 +198,9 @@ impl<R: Input> Parts<R> {
         ensures again { self.old.stage ≡ stages.Failed →
             (result ≡ Err BundleFault.Failed) × (self.new ≡ self.old) }
         // No more is read than may come, whatever the answer.
-        ensures consumed { Spends
-            (may_come self.old) (may_come self.new) self.old.told self.new.told }
-        ensures failures { self.new.failed ≡ counted is_read result self.old.failed }
+        ensures consumed { ConsumesWithin
+            (max_to_come self.old) (max_to_come self.new) self.old.remaining self.new.remaining }
+        ensures failures { self.new.failed ≡ failures_after is_read result self.old.failed }
     {
         match self.stage {
             Stage::Failed => return Err(BundleFault::Failed),
@@ -223,9 +223,9 @@ impl<R: Input> Parts<R> {
 
     /// The input, which has the bytes that were not yet read.
     pub fn into_input(self) -> R
-        ensures told { R.told result ≡ self.told }
+        ensures remaining { R.remaining result ≡ self.remaining }
         ensures failures { R.failed result ≡ self.failed }
-        ensures same { R.names result ≡ self.names }
+        ensures same { R.borrows result ≡ self.borrows }
     {
         let Parts {
             input,

@@ -5,30 +5,30 @@ ghost use Rattle.std.specs.Prelude.{Ok, Err, Some, None, IfSome, option_map, ℕ
 ghost use Rattle.std.specs.Io.KnownBytes.{Consumes, IsAtEnd};
 ghost use Rattle.mc_text.specs.BundleFaults.{IsFramingFault, IsInputFault};
 ghost use Rattle.mc_text.specs.BundleReading.{line_at as line_of};
-ghost use Rattle.mc_text.specs.Device.{counted};
-ghost use Rattle.mc_text.specs.PartsReading.{Reads, magic_of, rest_of, end_opened, part_opened};
-ghost use Rattle.mc_text.specs.PartsReading.{is_read, next_of, opened_at};
-ghost use Rattle.mc_text.specs.PartsSpending.{Spends, before_line, may_come_in, may_come_after};
+ghost use Rattle.mc_text.specs.Device.{failures_after};
+ghost use Rattle.mc_text.specs.PartsReading.{ReadsAs, magic_of, rest_of_part, opened_end, opened_part};
+ghost use Rattle.mc_text.specs.PartsReading.{is_read, opened_next, opened_at};
+ghost use Rattle.mc_text.specs.PartsLimits.{ConsumesWithin, bytes_before_line, max_to_come_in, max_to_come_after};
 ghost use Rattle.mc_text.specs.ReadFault.{ConsumesUpTo};
 
 use crate::bundle::bundle::{MAGIC, MAX_PART};
 use crate::bundle::bundle_fault::BundleFault;
-use crate::bundle::part_line::part_said;
+use crate::bundle::part_line::parse_part_line;
 use crate::bundle::part_name::PartName;
 use crate::bundle::stage::OpenPart;
 use crate::io::Input;
 
 /// Reads until the buffer is full or the input is at its end, and answers how many bytes.
-pub(crate) fn fill<R: Input>(input: &mut R, buffer: &mut [u8]) -> Result<usize, BundleFault>
+pub(crate) fn fill_buffer<R: Input>(input: &mut R, buffer: &mut [u8]) -> Result<usize, BundleFault>
     requires { R.failed input.old < u64.MAX }
-    ensures same { R.names input.new ≡ R.names input.old }
+    ensures same { R.borrows input.new ≡ R.borrows input.old }
     ensures bound { IfOk result (λ n. n ≤ length buffer.new) }
     ensures bytes { IfOk result
-        (λ n. Consumes (R.told input.old) (R.told input.new) (take n buffer.new)) }
-    ensures end { IfOk result (λ n. n < length buffer.new → IsAtEnd (R.told input.new)) }
-    ensures consumed { ConsumesUpTo (length buffer.new) (R.told input.old) (R.told input.new) }
+        (λ n. Consumes (R.remaining input.old) (R.remaining input.new) (take n buffer.new)) }
+    ensures end { IfOk result (λ n. n < length buffer.new → IsAtEnd (R.remaining input.new)) }
+    ensures consumed { ConsumesUpTo (length buffer.new) (R.remaining input.old) (R.remaining input.new) }
     ensures fault { IfErr result (λ fault. fault ≡ BundleFault.Read) }
-    ensures failures { R.failed input.new ≡ counted is_read result (R.failed input.old) }
+    ensures failures { R.failed input.new ≡ failures_after is_read result (R.failed input.old) }
 {
     let mut count = 0;
     'filling: while count < buffer.len() {
@@ -44,14 +44,14 @@ pub(crate) fn fill<R: Input>(input: &mut R, buffer: &mut [u8]) -> Result<usize, 
 /// Reads the first line.
 pub(crate) fn read_magic<R: Input>(input: &mut R) -> Result<(), BundleFault>
     requires { R.failed input.old < u64.MAX }
-    ensures same { R.names input.new ≡ R.names input.old }
-    ensures reads { Reads (λ x. x) (R.told input.old) (R.told input.new) result magic_of }
-    ensures consumed { ConsumesUpTo 17 (R.told input.old) (R.told input.new) }
+    ensures same { R.borrows input.new ≡ R.borrows input.old }
+    ensures reads { ReadsAs (λ x. x) (R.remaining input.old) (R.remaining input.new) result magic_of }
+    ensures consumed { ConsumesUpTo 17 (R.remaining input.old) (R.remaining input.new) }
     ensures faults { IfErr result IsInputFault }
-    ensures failures { R.failed input.new ≡ counted is_read result (R.failed input.old) }
+    ensures failures { R.failed input.new ≡ failures_after is_read result (R.failed input.old) }
 {
     let mut line = [0u8; 17];
-    let count = fill(input, &mut line)?;
+    let count = fill_buffer(input, &mut line)?;
     if &line[..count] != MAGIC {
         return Err(BundleFault::NoMagic);
     }
@@ -61,14 +61,14 @@ pub(crate) fn read_magic<R: Input>(input: &mut R) -> Result<(), BundleFault>
 /// Reads the next byte, if there is one.
 fn next_byte<R: Input>(input: &mut R) -> Result<Option<u8>, BundleFault>
     requires { R.failed input.old < u64.MAX }
-    ensures same { R.names input.new ≡ R.names input.old }
+    ensures same { R.borrows input.new ≡ R.borrows input.old }
     ensures none { IfOk result (λ byte. byte ≡ None →
-        Consumes (R.told input.old) (R.told input.new) [] × IsAtEnd (R.told input.new)) }
+        Consumes (R.remaining input.old) (R.remaining input.new) [] × IsAtEnd (R.remaining input.new)) }
     ensures some { IfOk result (λ byte. IfSome byte (λ b.
-        Consumes (R.told input.old) (R.told input.new) (b ∷ []))) }
-    ensures consumed { ConsumesUpTo 1 (R.told input.old) (R.told input.new) }
+        Consumes (R.remaining input.old) (R.remaining input.new) (b ∷ []))) }
+    ensures consumed { ConsumesUpTo 1 (R.remaining input.old) (R.remaining input.new) }
     ensures fault { IfErr result (λ fault. fault ≡ BundleFault.Read) }
-    ensures failures { R.failed input.new ≡ counted is_read result (R.failed input.old) }
+    ensures failures { R.failed input.new ≡ failures_after is_read result (R.failed input.old) }
 {
     let mut byte = [0u8; 1];
     match input.read(&mut byte) {
@@ -81,14 +81,14 @@ fn next_byte<R: Input>(input: &mut R) -> Result<Option<u8>, BundleFault>
 /// Reads a line without its line feed to the buffer's front, and answers its length.
 fn read_line<R: Input>(input: &mut R, line: &mut [u8; 96]) -> Result<usize, BundleFault>
     requires { R.failed input.old < u64.MAX }
-    ensures same { R.names input.new ≡ R.names input.old }
+    ensures same { R.borrows input.new ≡ R.borrows input.old }
     ensures bound { IfOk result (λ n. n < 96) }
-    ensures reads { Reads (λ n. take n line.new) (R.told input.old) (R.told input.new) result line_of }
-    ensures consumed { ConsumesUpTo 96 (R.told input.old) (R.told input.new) }
+    ensures reads { ReadsAs (λ n. take n line.new) (R.remaining input.old) (R.remaining input.new) result line_of }
+    ensures consumed { ConsumesUpTo 96 (R.remaining input.old) (R.remaining input.new) }
     ensures taken { IfOk result
-        (λ n. ConsumesUpTo (n + 1) (R.told input.old) (R.told input.new)) }
+        (λ n. ConsumesUpTo (n + 1) (R.remaining input.old) (R.remaining input.new)) }
     ensures faults { IfErr result IsInputFault }
-    ensures failures { R.failed input.new ≡ counted is_read result (R.failed input.old) }
+    ensures failures { R.failed input.new ≡ failures_after is_read result (R.failed input.old) }
 {
     let mut count = 0;
     'bytes: while count < 96 {
@@ -107,20 +107,20 @@ fn read_line<R: Input>(input: &mut R, line: &mut [u8; 96]) -> Result<usize, Bund
 /// Passes what is left of a part, and its line feed.
 pub(crate) fn skip_rest<R: Input>(input: &mut R, left: usize) -> Result<(), BundleFault>
     requires { R.failed input.old < u64.MAX }
-    ensures same { R.names input.new ≡ R.names input.old }
-    ensures reads { Reads (λ x. x) (R.told input.old) (R.told input.new) result (rest_of left) }
-    ensures consumed { ConsumesUpTo (left + 1) (R.told input.old) (R.told input.new) }
+    ensures same { R.borrows input.new ≡ R.borrows input.old }
+    ensures reads { ReadsAs (λ x. x) (R.remaining input.old) (R.remaining input.new) result (rest_of_part left) }
+    ensures consumed { ConsumesUpTo (left + 1) (R.remaining input.old) (R.remaining input.new) }
     ensures faults { IfErr result IsInputFault }
-    ensures failures { R.failed input.new ≡ counted is_read result (R.failed input.old) }
+    ensures failures { R.failed input.new ≡ failures_after is_read result (R.failed input.old) }
 {
     let mut buffer = [0u8; 4096];
-    let mut to_come = left;
-    'skipping: while to_come > 0 {
-        let size = to_come.min(buffer.len());
-        if fill(input, &mut buffer[..size])? < size {
+    let mut unread = left;
+    'skipping: while unread > 0 {
+        let size = unread.min(buffer.len());
+        if fill_buffer(input, &mut buffer[..size])? < size {
             return Err(BundleFault::Truncated);
         }
-        to_come -= size;
+        unread -= size;
     }
     match next_byte(input)? {
         None => Err(BundleFault::Truncated),
@@ -132,11 +132,11 @@ pub(crate) fn skip_rest<R: Input>(input: &mut R, left: usize) -> Result<(), Bund
 /// Nothing may follow the line `end`.
 fn read_end<R: Input>(input: &mut R, room: usize) -> Result<(), BundleFault>
     requires { R.failed input.old < u64.MAX }
-    ensures same { R.names input.new ≡ R.names input.old }
-    ensures reads { Reads (λ _. None) (R.told input.old) (R.told input.new) result (end_opened room) }
-    ensures consumed { ConsumesUpTo 1 (R.told input.old) (R.told input.new) }
+    ensures same { R.borrows input.new ≡ R.borrows input.old }
+    ensures reads { ReadsAs (λ _. None) (R.remaining input.old) (R.remaining input.new) result (opened_end room) }
+    ensures consumed { ConsumesUpTo 1 (R.remaining input.old) (R.remaining input.new) }
     ensures faults { IfErr result IsInputFault }
-    ensures failures { R.failed input.new ≡ counted is_read result (R.failed input.old) }
+    ensures failures { R.failed input.new ≡ failures_after is_read result (R.failed input.old) }
 {
     if room < 4 {
         return Err(BundleFault::TooLarge);
@@ -152,19 +152,19 @@ fn open_part(
     parts: usize,
     room: usize,
     line: &[u8],
-    said: Option<(PartName, u64)>,
+    header: Option<(PartName, u64)>,
 ) -> Result<OpenPart, BundleFault>
     requires { length line.now < 96 }
     ensures opened { (exact : Option (List ℕ × ℕ)) →
-        said ≡ option_map (λ s. (s.0, min s.1 u64.MAX)) exact →
-        result ≡ part_opened parts room line.now exact }
+        header ≡ option_map (λ s. (s.0, min s.1 u64.MAX)) exact →
+        result ≡ opened_part parts room line.now exact }
     ensures faults { IfErr result IsFramingFault }
     ensures bound { IfOk result (λ part. part.size ≤ MAX_PART) }
     ensures fewer { IfOk result (λ part. part.parts < parts) }
     ensures room { IfOk result
-        (λ part. length line.now + 1 + may_come_in part ≡ room + 96) }
+        (λ part. length line.now + 1 + max_to_come_in part ≡ room + 96) }
 {
-    let Some((name, size)) = said else {
+    let Some((name, size)) = header else {
         return Err(BundleFault::BadPartLine);
     };
     if parts == 0 || size > MAX_PART as u64 {
@@ -190,15 +190,15 @@ pub(crate) fn open_next<R: Input>(
     room: usize,
 ) -> Result<Option<OpenPart>, BundleFault>
     requires { R.failed input.old < u64.MAX }
-    ensures same { R.names input.new ≡ R.names input.old }
-    ensures reads { Reads (λ o. o) (R.told input.old) (R.told input.new) result
+    ensures same { R.borrows input.new ≡ R.borrows input.old }
+    ensures reads { ReadsAs (λ o. o) (R.remaining input.old) (R.remaining input.new) result
         (opened_at parts room) }
     ensures bound { IfOk result (λ found. IfSome found (λ part. part.size ≤ MAX_PART)) }
     ensures fewer { IfOk result (λ found. IfSome found (λ part. part.parts < parts)) }
-    ensures consumed { Spends
-        (room + 96) (may_come_after result) (R.told input.old) (R.told input.new) }
+    ensures consumed { ConsumesWithin
+        (room + 96) (max_to_come_after result) (R.remaining input.old) (R.remaining input.new) }
     ensures faults { IfErr result IsInputFault }
-    ensures failures { R.failed input.new ≡ counted is_read result (R.failed input.old) }
+    ensures failures { R.failed input.new ≡ failures_after is_read result (R.failed input.old) }
 {
     let mut buffer = [0u8; 96];
     let count = read_line(input, &mut buffer)?;
@@ -207,7 +207,7 @@ pub(crate) fn open_next<R: Input>(
         read_end(input, room)?;
         return Ok(None);
     }
-    let open = open_part(parts, room, line, part_said(line))?;
+    let open = open_part(parts, room, line, parse_part_line(line))?;
     Ok(Some(open))
 }
 
@@ -220,15 +220,15 @@ pub(crate) fn read_next<R: Input>(
     room: usize,
 ) -> Result<Option<OpenPart>, BundleFault>
     requires { R.failed input.old < u64.MAX }
-    ensures same { R.names input.new ≡ R.names input.old }
-    ensures reads { Reads (λ o. o) (R.told input.old) (R.told input.new) result
-        (next_of start left parts room) }
+    ensures same { R.borrows input.new ≡ R.borrows input.old }
+    ensures reads { ReadsAs (λ o. o) (R.remaining input.old) (R.remaining input.new) result
+        (opened_next start left parts room) }
     ensures bound { IfOk result (λ found. IfSome found (λ part. part.size ≤ MAX_PART)) }
     ensures fewer { IfOk result (λ found. IfSome found (λ part. part.parts < parts)) }
-    ensures consumed { Spends (before_line start left + (room + 96)) (may_come_after result)
-        (R.told input.old) (R.told input.new) }
+    ensures consumed { ConsumesWithin (bytes_before_line start left + (room + 96)) (max_to_come_after result)
+        (R.remaining input.old) (R.remaining input.new) }
     ensures faults { IfErr result IsInputFault }
-    ensures failures { R.failed input.new ≡ counted is_read result (R.failed input.old) }
+    ensures failures { R.failed input.new ≡ failures_after is_read result (R.failed input.old) }
 {
     if start {
         read_magic(input)?;

@@ -5,7 +5,7 @@ ghost use Rattle.std.specs.Prelude.{◌≡◌, ◌<◌, ◌∷◌, ℕ, List, []
 ghost use Rattle.std.specs.Borrow.{GName};
 ghost use Rattle.std.specs.Io.{ReadsAtMost, WritesAtMost};
 ghost use Rattle.std.specs.Io.KnownBytes.{ReadConsumes, WriteAppends};
-ghost use Rattle.mc_text.specs.Device.{failed_by_read, failed_by_write};
+ghost use Rattle.mc_text.specs.Device.{failures_after_read, failures_after_write};
 
 use std::fmt;
 
@@ -26,23 +26,23 @@ impl std::error::Error for DeviceFault {}
 /// What bytes are read from.
 pub trait Input {
     // the bytes that it still gives, where it tells them
-    ghost told: { Self → Option (List ℕ) };
+    ghost remaining: { Self → Option (List ℕ) };
 
     // how many calls failed
     ghost failed: { Self → ℕ };
 
     // the references that it is reached through
-    ghost names: { Self → List GName } = { λ _. [] };
+    ghost borrows: { Self → List GName } = { λ _. [] };
 
     /// Puts the next bytes at the buffer's front, and answers how many. It answers 0 only at the
     /// end of the input or for an empty buffer. A call that answers an error took no byte. It may
     /// be called while the count of failures is below `u64::MAX`.
     fn read(&mut self, buffer: &mut [u8]) -> Result<usize, DeviceFault>
         requires { failed self.old < u64.MAX }
-        ensures same { names self.new ≡ names self.old }
+        ensures same { borrows self.new ≡ borrows self.old }
         ensures bound { ReadsAtMost result buffer.new }
-        ensures bytes { ReadConsumes (told self.old) (told self.new) result buffer.new }
-        ensures failures { failed self.new ≡ failed_by_read result (failed self.old) };
+        ensures bytes { ReadConsumes (remaining self.old) (remaining self.new) result buffer.new }
+        ensures failures { failed self.new ≡ failures_after_read result (failed self.old) };
 
     /// How many calls of `read` answered an error.
     fn failures(&self) -> u64
@@ -50,11 +50,11 @@ pub trait Input {
 }
 
 impl<R: Input> Input for &mut R {
-    ghost told = { λ r. R.told r.now };
+    ghost remaining = { λ r. R.remaining r.now };
 
     ghost failed = { λ r. R.failed r.now };
 
-    ghost names = { λ r. r.ghost_name ∷ R.names r.now };
+    ghost borrows = { λ r. r.ghost_name ∷ R.borrows r.now };
 
     fn read(&mut self, buffer: &mut [u8]) -> Result<usize, DeviceFault> {
         Input::read(&mut **self, buffer)
@@ -68,22 +68,22 @@ impl<R: Input> Input for &mut R {
 /// What bytes are written to.
 pub trait Output {
     // the bytes that it took, where it tells them
-    ghost took: { Self → Option (List ℕ) };
+    ghost written: { Self → Option (List ℕ) };
 
     // how many calls failed
     ghost failed: { Self → ℕ };
 
     // the references that it is reached through
-    ghost names: { Self → List GName } = { λ _. [] };
+    ghost borrows: { Self → List GName } = { λ _. [] };
 
     /// Takes bytes from the text's front, and answers how many. A call that answers an error took
     /// none. It may be called while the count of failures is below `u64::MAX`.
     fn write(&mut self, text: &[u8]) -> Result<usize, DeviceFault>
         requires { failed self.old < u64.MAX }
-        ensures same { names self.new ≡ names self.old }
+        ensures same { borrows self.new ≡ borrows self.old }
         ensures bound { WritesAtMost result text.now }
-        ensures bytes { WriteAppends (took self.old) (took self.new) result text.now }
-        ensures failures { failed self.new ≡ failed_by_write result text.now (failed self.old) };
+        ensures bytes { WriteAppends (written self.old) (written self.new) result text.now }
+        ensures failures { failed self.new ≡ failures_after_write result text.now (failed self.old) };
 
     /// How many calls of `write` answered an error, or took no byte of a text that has one.
     fn failures(&self) -> u64
@@ -91,11 +91,11 @@ pub trait Output {
 }
 
 impl<W: Output> Output for &mut W {
-    ghost took = { λ w. W.took w.now };
+    ghost written = { λ w. W.written w.now };
 
     ghost failed = { λ w. W.failed w.now };
 
-    ghost names = { λ w. w.ghost_name ∷ W.names w.now };
+    ghost borrows = { λ w. w.ghost_name ∷ W.borrows w.now };
 
     fn write(&mut self, text: &[u8]) -> Result<usize, DeviceFault> {
         Output::write(&mut **self, text)

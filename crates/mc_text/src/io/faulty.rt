@@ -22,14 +22,14 @@ impl<'a> Model for FaultyInput<'a> {
 
     ghost Value = { InputState };
 
-    ghost view = { λ s. record { told = Some s.bytes.now; failed = s.failures } };
+    ghost view = { λ s. record { remaining = Some s.bytes.now; failed = s.failures } };
 }
 
 impl<'a> FaultyInput<'a> {
     /// Gives at most `piece` of the bytes at a time, but always one, and fails once it gave
     /// `before_fault` in all.
     pub fn new(bytes: &'a [u8], piece: usize, before_fault: usize) -> FaultyInput<'a>
-        ensures { result ≡ record { told = Some bytes.now; failed = 0 } }
+        ensures { result ≡ record { remaining = Some bytes.now; failed = 0 } }
     {
         FaultyInput {
             bytes,
@@ -41,7 +41,7 @@ impl<'a> FaultyInput<'a> {
 }
 
 impl<'a> Input for FaultyInput<'a> {
-    ghost told = { λ s. s.told };
+    ghost remaining = { λ s. s.remaining };
 
     ghost failed = { λ s. s.failed };
 
@@ -92,13 +92,13 @@ impl Model for FaultyOutput {
 
     ghost Value = { OutputState };
 
-    ghost view = { λ s. record { took = Some s.taken.items; failed = s.failures } };
+    ghost view = { λ s. record { written = Some s.taken.items; failed = s.failures } };
 }
 
 impl FaultyOutput {
     /// Takes at most `piece` bytes at a time, and stops once it took `before_stop` in all.
     pub fn new(alloc: Global, piece: usize, before_stop: usize, stop: Stop) -> FaultyOutput
-        ensures { result ≡ record { took = Some []; failed = 0 } }
+        ensures { result ≡ record { written = Some []; failed = 0 } }
     {
         FaultyOutput {
             taken: Vec::new(alloc),
@@ -111,14 +111,14 @@ impl FaultyOutput {
 
     /// What it took.
     pub fn taken(&self) -> &[u8]
-        ensures { self.now.took ≡ Some result.now }
+        ensures { self.now.written ≡ Some result.now }
     {
         &self.taken
     }
 }
 
 impl Output for FaultyOutput {
-    ghost took = { λ s. s.took };
+    ghost written = { λ s. s.written };
 
     ghost failed = { λ s. s.failed };
 

@@ -19,13 +19,13 @@ impl<R: Read> Model for FromReader<R> {
 
     ghost Value = { InputState };
 
-    ghost view = { λ s. record { told = R.remaining s.reader; failed = s.failures } };
+    ghost view = { λ s. record { remaining = R.remaining s.reader; failed = s.failures } };
 }
 
 impl<R: Read> FromReader<R> {
     /// An input over the reader, with no failure yet.
     pub fn new(reader: R) -> FromReader<R>
-        ensures { result ≡ record { told = R.remaining reader; failed = 0 } }
+        ensures { result ≡ record { remaining = R.remaining reader; failed = 0 } }
     {
         FromReader {
             reader,
@@ -35,7 +35,7 @@ impl<R: Read> FromReader<R> {
 
     /// The reader, which has the bytes that were not yet read.
     pub fn into_inner(self) -> R
-        ensures { R.remaining result ≡ self.told }
+        ensures { R.remaining result ≡ self.remaining }
     {
         let FromReader {
             reader,
@@ -46,7 +46,7 @@ impl<R: Read> FromReader<R> {
 }
 
 impl<R: Read> Input for FromReader<R> {
-    ghost told = { λ s. s.told };
+    ghost remaining = { λ s. s.remaining };
 
     ghost failed = { λ s. s.failed };
 

@@ -3,14 +3,14 @@
 ghost use Rattle.std.specs.Prelude.{◌≡◌, ◌<◌, ◌≤◌, ◌-◌, length, vec_len, take, IfOk, IfSome};
 ghost use Rattle.std.specs.Prelude.{OnOk};
 ghost use Rattle.std.specs.Io.KnownBytes.{Consumes, IsAtEnd};
-ghost use Rattle.mc_text.specs.Device.{counted};
-ghost use Rattle.mc_text.specs.ReadFault.{ConsumesUpTo, is_read, ReadsMore};
+ghost use Rattle.mc_text.specs.Device.{failures_after};
+ghost use Rattle.mc_text.specs.ReadFault.{ConsumesUpTo, is_read, ReadsOnto};
 
 use crate::io::device::Input;
 use std::alloc::Global;
 
 /// How many bytes are asked of an input at once.
-const PIECE: usize = 65_536;
+const READ_SIZE: usize = 65_536;
 
 /// Why an input could not be read.
 #[derive(Clone, Copy, Debug, PartialEq, Eq)]
@@ -35,21 +35,21 @@ pub fn read_to_limit<R: Input>(
     limit: usize,
 ) -> Result<Vec<u8>, ReadFault>
     requires { R.failed input.old < u64.MAX }
-    ensures same { R.names input.new ≡ R.names input.old }
+    ensures same { R.borrows input.new ≡ R.borrows input.old }
     ensures bound { IfOk result (λ bytes. vec_len bytes ≤ limit) }
     // All that the input still had, or its first bytes as many as the limit allows.
     ensures bytes { IfOk result
-        (λ bytes. IfSome (R.told input.old) (λ text. bytes.items ≡ take limit text)) }
+        (λ bytes. IfSome (R.remaining input.old) (λ text. bytes.items ≡ take limit text)) }
     // The rest is left in the input, and where less than the limit was read there is none.
     ensures rest { IfOk result
-        (λ bytes. Consumes (R.told input.old) (R.told input.new) bytes.items) }
+        (λ bytes. Consumes (R.remaining input.old) (R.remaining input.new) bytes.items) }
     // Whatever the answer, no more than the limit was read.
-    ensures consumed { ConsumesUpTo limit (R.told input.old) (R.told input.new) }
-    ensures end { IfOk result (λ bytes. vec_len bytes < limit → IsAtEnd (R.told input.new)) }
-    ensures failures { R.failed input.new ≡ counted is_read result (R.failed input.old) }
+    ensures consumed { ConsumesUpTo limit (R.remaining input.old) (R.remaining input.new) }
+    ensures end { IfOk result (λ bytes. vec_len bytes < limit → IsAtEnd (R.remaining input.new)) }
+    ensures failures { R.failed input.new ≡ failures_after is_read result (R.failed input.old) }
 {
     // On the heap: a caller into which this is compiled would keep it on its stack all along.
-    let Ok(mut buffer) = Vec::from_elem(alloc, 0u8, PIECE) else {
+    let Ok(mut buffer) = Vec::from_elem(alloc, 0u8, READ_SIZE) else {
         return Err(ReadFault::Memory);
     };
     let mut bytes = Vec::new(alloc);
@@ -68,14 +68,14 @@ fn fill_to_limit<R: Input>(
     requires room { 0 < length buffer.old }
     requires start { vec_len bytes.old ≤ limit }
     requires failures { R.failed input.old < u64.MAX }
-    ensures same { R.names input.new ≡ R.names input.old }
+    ensures same { R.borrows input.new ≡ R.borrows input.old }
     ensures bound { OnOk result (vec_len bytes.new ≤ limit) }
     ensures bytes { OnOk result
-        (ReadsMore (R.told input.old) (R.told input.new) bytes.old.items bytes.new.items) }
+        (ReadsOnto (R.remaining input.old) (R.remaining input.new) bytes.old.items bytes.new.items) }
     ensures consumed { ConsumesUpTo
-        (limit - length bytes.old.items) (R.told input.old) (R.told input.new) }
-    ensures end { OnOk result (vec_len bytes.new < limit → IsAtEnd (R.told input.new)) }
-    ensures failures { R.failed input.new ≡ counted is_read result (R.failed input.old) }
+        (limit - length bytes.old.items) (R.remaining input.old) (R.remaining input.new) }
+    ensures end { OnOk result (vec_len bytes.new < limit → IsAtEnd (R.remaining input.new)) }
+    ensures failures { R.failed input.new ≡ failures_after is_read result (R.failed input.old) }
 {
     'reading: while bytes.len() < limit {
         let room = buffer.len().min(limit - bytes.len());

@@ -2,7 +2,7 @@
 
 ghost use Rattle.std.specs.Prelude.{◌≡◌, ◌<◌, flat_map, OnOk, OnErr};
 ghost use Rattle.std.specs.Io.KnownBytes.{Appends};
-ghost use Rattle.mc_text.specs.Device.{counted, is_failure, AppendsPart};
+ghost use Rattle.mc_text.specs.Device.{failures_after, is_failure, AppendsProperPrefix};
 
 use crate::io::device::{DeviceFault, Output};
 
@@ -15,10 +15,10 @@ use crate::io::device::{DeviceFault, Output};
 /// was taken then, from its front.
 pub fn write_all<W: Output>(output: &mut W, text: &[u8]) -> Result<(), DeviceFault>
     requires { W.failed output.old < u64.MAX }
-    ensures same { W.names output.new ≡ W.names output.old }
-    ensures ok { OnOk result (Appends (W.took output.old) (W.took output.new) text.now) }
-    ensures err { OnErr result (AppendsPart (W.took output.old) (W.took output.new) text.now) }
-    ensures failures { W.failed output.new ≡ counted is_failure result (W.failed output.old) }
+    ensures same { W.borrows output.new ≡ W.borrows output.old }
+    ensures ok { OnOk result (Appends (W.written output.old) (W.written output.new) text.now) }
+    ensures err { OnErr result (AppendsProperPrefix (W.written output.old) (W.written output.new) text.now) }
+    ensures failures { W.failed output.new ≡ failures_after is_failure result (W.failed output.old) }
 {
     let mut taken = 0;
     while taken < text.len() {
@@ -34,12 +34,12 @@ pub fn write_all<W: Output>(output: &mut W, text: &[u8]) -> Result<(), DeviceFau
 /// Writes the pieces one after the other.
 pub(crate) fn write_pieces<W: Output>(output: &mut W, pieces: &[&[u8]]) -> Result<(), DeviceFault>
     requires { W.failed output.old < u64.MAX }
-    ensures same { W.names output.new ≡ W.names output.old }
+    ensures same { W.borrows output.new ≡ W.borrows output.old }
     ensures ok { OnOk result (Appends
-        (W.took output.old) (W.took output.new) (flat_map (λ piece. piece.now) pieces.now)) }
-    ensures err { OnErr result (AppendsPart
-        (W.took output.old) (W.took output.new) (flat_map (λ piece. piece.now) pieces.now)) }
-    ensures failures { W.failed output.new ≡ counted is_failure result (W.failed output.old) }
+        (W.written output.old) (W.written output.new) (flat_map (λ piece. piece.now) pieces.now)) }
+    ensures err { OnErr result (AppendsProperPrefix
+        (W.written output.old) (W.written output.new) (flat_map (λ piece. piece.now) pieces.now)) }
+    ensures failures { W.failed output.new ≡ failures_after is_failure result (W.failed output.old) }
 {
     for piece in pieces {
         write_all(output, piece)?;

@@ -18,13 +18,13 @@ impl<W: Write> Model for ToWriter<W> {
 
     ghost Value = { OutputState };
 
-    ghost view = { λ s. record { took = W.contents s.writer; failed = s.failures } };
+    ghost view = { λ s. record { written = W.contents s.writer; failed = s.failures } };
 }
 
 impl<W: Write> ToWriter<W> {
     /// An output over the writer, with no failure yet.
     pub fn new(writer: W) -> ToWriter<W>
-        ensures { result ≡ record { took = W.contents writer; failed = 0 } }
+        ensures { result ≡ record { written = W.contents writer; failed = 0 } }
     {
         ToWriter {
             writer,
@@ -34,7 +34,7 @@ impl<W: Write> ToWriter<W> {
 
     /// The writer, with what was written.
     pub fn into_inner(self) -> W
-        ensures { W.contents result ≡ self.took }
+        ensures { W.contents result ≡ self.written }
     {
         let ToWriter {
             writer,
@@ -45,7 +45,7 @@ impl<W: Write> ToWriter<W> {
 }
 
 impl<W: Write> Output for ToWriter<W> {
-    ghost took = { λ s. s.took };
+    ghost written = { λ s. s.written };
 
     ghost failed = { λ s. s.failed };
 

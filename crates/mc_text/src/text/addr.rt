@@ -7,7 +7,7 @@ ghost use Rattle.mc_text.specs.Addr.{is_source, octets_of, dotted};
 ghost use Rattle.mc_text.specs.AddressReading.{address_of_text, address_of_word, octets_in_order};
 ghost use Rattle.mc_text.specs.AddressWord.{IsAddressWord, printed_octets};
 
-use crate::text::address_digits::four_bytes;
+use crate::text::address_digits::decode_four_bytes;
 use std::fmt;
 use std::marker::Model;
 use std::net::Ipv4Addr;
@@ -36,7 +36,7 @@ pub enum Order {
 }
 
 /// The address that a dotted text writes.
-fn address_written(text: &[u8]) -> Option<Addr>
+fn parse_dotted_address(text: &[u8]) -> Option<Addr>
     ensures found { IfSome result (λ a. text.now ≡ dotted a) }
     ensures in_range { IfSome result IsAddr }
     ensures only { (a : ℕ) → IsAddr a → text.now ≡ dotted a → result ≡ Some a }
@@ -48,12 +48,12 @@ fn address_written(text: &[u8]) -> Option<Addr>
 }
 
 /// The address that a kernel's word shows.
-fn address_shown(word: &[u8], order: Order) -> Option<Addr>
+fn parse_address_word(word: &[u8], order: Order) -> Option<Addr>
     ensures found { IfSome result (λ a. IsAddressWord order word.now a) }
     ensures in_range { IfSome result IsAddr }
     ensures only { (a : ℕ) → IsAddr a → IsAddressWord order word.now a → result ≡ Some a }
 {
-    let bytes = four_bytes(word)?;
+    let bytes = decode_four_bytes(word)?;
     Some(Addr::from_printed_octets(bytes, order))
 }
 
@@ -67,7 +67,7 @@ impl Addr {
         ensures only { (a : ℕ) → IsAddr a → text.now ≡ dotted a → result ≡ Some a }
         ensures value { result ≡ address_of_text text.now }
     {
-        address_written(text)
+        parse_dotted_address(text)
     }
 
     /// Reads an address word of `/proc/net/ip_mr_vif` and `/proc/net/ip_mr_cache`: eight
@@ -79,7 +79,7 @@ impl Addr {
         ensures only { (a : ℕ) → IsAddr a → IsAddressWord order word.now a → result ≡ Some a }
         ensures value { result ≡ address_of_word order word.now }
     {
-        address_shown(word, order)
+        parse_address_word(word, order)
     }
 
     /// The address of the four bytes that the digits of its word are, from left to right.

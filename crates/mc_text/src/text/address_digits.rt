@@ -3,7 +3,7 @@
 ghost use Rattle.std.specs.Prelude.{◌≡◌, ◌&&◌, ℕ, List, length, slice_index, false};
 ghost use Rattle.std.specs.Prelude.{IfSome, IfNone, Some, Ok};
 ghost use Rattle.hex.specs.Hex.{is_hex_digit, pair_value, decode_of};
-ghost use Rattle.mc_text.specs.AddressWord.{value_or_16};
+ghost use Rattle.mc_text.specs.AddressWord.{hex_value_or_16};
 
 /// The value of each byte that is a hexadecimal digit of either case, and 16 of each other one.
 const VALUES: &[u8; 256] = &[
@@ -21,18 +21,18 @@ const VALUES: &[u8; 256] = &[
 ];
 
 /// What the list has for a byte.
-fn value_of(byte: u8, values: &[u8; 256]) -> u8
+fn value_in_table(byte: u8, values: &[u8; 256]) -> u8
     ensures { result ≡ slice_index values.now byte }
 {
     values[byte as usize]
 }
 
 /// The value of a hexadecimal digit of either case, or 16.
-#[tactic(auto, using(crate::proofs::AddressDigitLemmas::listed))]
+#[tactic(auto, using(crate::proofs::AddressDigitLemmas::hex_value_of_table))]
 pub fn hex_digit(byte: u8) -> u8
-    ensures { result ≡ value_or_16 byte }
+    ensures { result ≡ hex_value_or_16 byte }
 {
-    value_of(byte, VALUES)
+    value_in_table(byte, VALUES)
 }
 
 /// The octet that two digits write.
@@ -50,8 +50,8 @@ fn octet(high: u8, low: u8) -> Option<u8>
 }
 
 /// The four bytes of a word of eight hexadecimal digits.
-#[tactic(auto, using(crate::proofs::AddressDigitLemmas::eight_digits))]
-pub(crate) fn four_bytes(word: &[u8]) -> Option<[u8; 4]>
+#[tactic(auto, using(crate::proofs::AddressDigitLemmas::decoded_word_has_eight_digits))]
+pub(crate) fn decode_four_bytes(word: &[u8]) -> Option<[u8; 4]>
     ensures found { IfSome result (λ bytes. decode_of word.now ≡ Ok bytes) }
     ensures only { (bytes : List ℕ) → length bytes ≡ 4
         → decode_of word.now ≡ Ok bytes → result ≡ Some bytes }

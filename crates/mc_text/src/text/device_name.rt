@@ -2,7 +2,7 @@
 
 ghost use Rattle.std.specs.Prelude.{◌≡◌};
 ghost use Rattle.std.specs.List.{list_all};
-ghost use Rattle.mc_text.specs.DeviceName.{is_byte_of_device, is_device_name};
+ghost use Rattle.mc_text.specs.DeviceName.{is_device_name_byte, is_device_name};
 
 /// The longest name of a device, in bytes (`IFNAMSIZ` of linux/if.h less the zero at its end).
 const MAX_DEVICE_NAME: usize = 15;
@@ -13,19 +13,19 @@ const MAX_DEVICE_NAME: usize = 15;
 pub fn is_device_name(name: &[u8]) -> bool
     ensures { result ≡ is_device_name name.now }
 {
-    !name.is_empty() && name.len() <= MAX_DEVICE_NAME && are_bytes_of_devices(name)
+    !name.is_empty() && name.len() <= MAX_DEVICE_NAME && are_device_name_bytes(name)
 }
 
 /// Whether a device's name may have each of the bytes.
-fn are_bytes_of_devices(bytes: &[u8]) -> bool
-    ensures { result ≡ list_all is_byte_of_device bytes.now }
+fn are_device_name_bytes(bytes: &[u8]) -> bool
+    ensures { result ≡ list_all is_device_name_byte bytes.now }
 {
-    bytes.iter().all(|byte| is_byte_of_device(*byte))
+    bytes.iter().all(|byte| is_device_name_byte(*byte))
 }
 
 /// Whether a device's name may have the byte.
-fn is_byte_of_device(byte: u8) -> bool
-    ensures { result ≡ is_byte_of_device byte }
+fn is_device_name_byte(byte: u8) -> bool
+    ensures { result ≡ is_device_name_byte byte }
 {
     !matches!(byte, 0x09..=0x0D | b' ' | b'/' | b':')
 }

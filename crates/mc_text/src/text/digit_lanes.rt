@@ -3,8 +3,8 @@
 ghost use Rattle.std.specs.Prelude.{◌≡◌, map, true};
 ghost use Rattle.std.specs.List.{list_all};
 ghost use Rattle.hex.specs.Hex.{is_hex_digit};
-ghost use Rattle.mc_text.specs.AddressWord.{value_or_16};
-ghost use Rattle.mc_text.specs.DigitPairs.{pairs_of};
+ghost use Rattle.mc_text.specs.AddressWord.{hex_value_or_16};
+ghost use Rattle.mc_text.specs.DigitPairs.{bytes_of_pairs};
 
 use std::simd::prelude::*;
 
@@ -22,8 +22,8 @@ pub fn are_hex_digits(text: u8x32) -> bool
 /// The values of digits: how far a decimal digit is from `0`, and a letter, as a small one, from the
 /// tenth code before `a`. Of the two the right one is the smaller.
 #[inline(always)]
-fn values_of(text: u8x32) -> u8x32
-    ensures { list_all is_hex_digit text ≡ true → result ≡ map value_or_16 text }
+fn digit_values(text: u8x32) -> u8x32
+    ensures { list_all is_hex_digit text ≡ true → result ≡ map hex_value_or_16 text }
 {
     let decimal = text - u8x32::splat(b'0');
     let small = text | u8x32::splat(0x20);
@@ -33,9 +33,9 @@ fn values_of(text: u8x32) -> u8x32
 /// The bytes of pairs of digits.
 #[inline(always)]
 pub fn bytes_of_hex_digits(text: u8x32) -> u8x16
-    ensures { list_all is_hex_digit text ≡ true → result ≡ pairs_of text }
+    ensures { list_all is_hex_digit text ≡ true → result ≡ bytes_of_pairs text }
 {
-    let values = values_of(text);
+    let values = digit_values(text);
     let high = values.swizzle([0, 2, 4, 6, 8, 10, 12, 14, 16, 18, 20, 22, 24, 26, 28, 30]);
     let low = values.swizzle([1, 3, 5, 7, 9, 11, 13, 15, 17, 19, 21, 23, 25, 27, 29, 31]);
     (high << u8x16::splat(4)) + low

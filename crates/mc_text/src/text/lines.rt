@@ -2,7 +2,7 @@
 
 ghost use Rattle.std.specs.Prelude.{◌≡◌, ◌≤◌, length};
 
-use crate::text::first_place::first_place_of;
+use crate::text::byte_search::find_byte;
 use std::marker::Model;
 
 /// The greatest text that is read as lines, in bytes.
@@ -69,7 +69,7 @@ impl<'a> Iterator for Lines<'a> {
         }
         let number = self.next_number;
         self.next_number += 1;
-        match first_place_of(b'\n', self.rest) {
+        match find_byte(b'\n', self.rest) {
             Some(end) => {
                 let bytes = &self.rest[..end];
                 self.rest = &self.rest[end + 1..];

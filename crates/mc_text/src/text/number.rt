@@ -13,11 +13,11 @@ pub fn decimal(word: &[u8], max: u64) -> Option<u64>
     ensures only { (n : ℕ) → IsDecimal word.now n → n ≤ max → result ≡ Some n }
     ensures value { result ≡ number_up_to max word.now }
 {
-    number_written(word, max)
+    parse_decimal(word, max)
 }
 
 /// The number that decimal digits write, if it is at most `max`.
-fn number_written(word: &[u8], max: u64) -> Option<u64>
+fn parse_decimal(word: &[u8], max: u64) -> Option<u64>
     ensures found { IfSome result (λ n. IsDecimal word.now n) }
     ensures bound { IfSome result (λ n. n ≤ max) }
     ensures only { (n : ℕ) → IsDecimal word.now n → n ≤ max → result ≡ Some n }
@@ -27,13 +27,13 @@ fn number_written(word: &[u8], max: u64) -> Option<u64>
     }
     let mut number = 0;
     for byte in word {
-        number = with_digit(number, *byte)?;
+        number = append_digit(number, *byte)?;
     }
     (number <= max).then_some(number)
 }
 
 /// The number with one decimal digit more, if the byte is one and 64 bits hold it.
-fn with_digit(number: u64, byte: u8) -> Option<u64>
+fn append_digit(number: u64, byte: u8) -> Option<u64>
     ensures { SomeIff result
         (IsTrue (is_ascii_digit byte) × (number * 10 + digit_value byte < 2 ^ 64))
         (number * 10 + digit_value byte) }

@@ -2,8 +2,8 @@
 //! each value has a mark of its own, and each pair is compared with the header above it.
 
 ghost use Rattle.std.specs.Prelude.{◌≡◌, ◌<◌, ◌≤◌, ◌^◌, length};
-ghost use Rattle.mc_topology.specs.Bounds.{starts, in_line, in_lines, after, is_blank, is_mark};
-ghost use Rattle.mc_topology.specs.Bounds.{is_outside, is_beside, part_with, part_after, nesting_after};
+ghost use Rattle.mc_topology.specs.Bounds.{after_outside_byte, after_one_line_byte, after_multi_line_byte, after_byte, is_blank, is_mark};
+ghost use Rattle.mc_topology.specs.Bounds.{is_outside, is_skipped_in_header, part_with_byte, part_after, nesting_after};
 ghost use Rattle.mc_topology.specs.Bounds.{header_after, with_byte, is_bounded};
 
 use mc_text::MAX_TEXT;
@@ -17,22 +17,22 @@ const MAX_COMPARED: usize = 268_435_456;
 
 /// Where a text goes on, as TOML has strings and comments.
 #[derive(Clone, Copy)]
-enum Place {
+enum LexState {
     /// Outside of both.
     Outside,
     Comment,
     /// Behind the first quote of a string, which is this byte.
-    Opened(u8),
+    OneQuote(u8),
     /// Behind two quotes: they are an empty string, or a third one begins a string of lines.
-    OpenedTwice(u8),
+    TwoQuotes(u8),
     /// In a string on one line.
-    Line(u8),
+    OneLine(u8),
     /// Behind a backslash in a string on one line.
-    LineEscape,
+    OneLineEscape,
     /// In a string of lines, behind so many of its quotes in a row, of which three end it.
-    Lines(u8, u8),
+    MultiLine(u8, u8),
     /// Behind a backslash in a string of lines.
-    LinesEscape,
+    MultiLineEscape,
 }
 
 /// The part of a line, outside of brackets that an earlier line opened.
@@ -49,7 +49,7 @@ enum LinePart {
 /// What a text has had so far.
 #[derive(Clone, Copy)]
 struct Scan {
-    place: Place,
+    place: LexState,
     part: LinePart,
     /// The brackets that are open.
     nesting: usize,
@@ -61,44 +61,44 @@ struct Scan {
 }
 
 /// Behind a byte outside of strings and comments.
-fn starts(byte: u8) -> Place
-    ensures { result ≡ starts byte }
+fn after_outside_byte(byte: u8) -> LexState
+    ensures { result ≡ after_outside_byte byte }
 {
     match byte {
-        b'#' => Place::Comment,
-        b'"' | b'\'' => Place::Opened(byte),
-        _ => Place::Outside,
+        b'#' => LexState::Comment,
+        b'"' | b'\'' => LexState::OneQuote(byte),
+        _ => LexState::Outside,
     }
 }
 
 /// Behind a byte of a string on one line. One that isn't ended there is no TOML, and ends here with
 /// its line, so that what follows is counted as before.
-fn in_line(quote: u8, byte: u8) -> Place
-    ensures { result ≡ in_line quote byte }
+fn after_one_line_byte(quote: u8, byte: u8) -> LexState
+    ensures { result ≡ after_one_line_byte quote byte }
 {
     if byte == quote || byte == b'\n' {
-        Place::Outside
+        LexState::Outside
     } else if byte == b'\\' && quote == b'"' {
-        Place::LineEscape
+        LexState::OneLineEscape
     } else {
-        Place::Line(quote)
+        LexState::OneLine(quote)
     }
 }
 
 /// Behind a byte of a string of lines, or behind one that ended it.
-fn in_lines(quote: u8, quotes: u8, byte: u8) -> Place
-    ensures { result ≡ in_lines quote quotes byte }
+fn after_multi_line_byte(quote: u8, quotes: u8, byte: u8) -> LexState
+    ensures { result ≡ after_multi_line_byte quote quotes byte }
 {
     if byte == quote && quotes < 3 {
-        Place::Lines(quote, quotes + 1)
+        LexState::MultiLine(quote, quotes + 1)
     } else if byte == quote {
-        Place::Lines(quote, quotes)
+        LexState::MultiLine(quote, quotes)
     } else if quotes >= 3 {
-        starts(byte)
+        after_outside_byte(byte)
     } else if byte == b'\\' && quote == b'"' {
-        Place::LinesEscape
+        LexState::MultiLineEscape
     } else {
-        Place::Lines(quote, 0)
+        LexState::MultiLine(quote, 0)
     }
 }
 
@@ -128,41 +128,41 @@ fn nesting_after(nesting: usize, byte: u8) -> usize
     }
 }
 
-impl Place {
+impl LexState {
     /// Where the text goes on behind a byte.
-    #[tactic(auto, unfolding(crate::specs::Bounds::after))]
-    fn after(self, byte: u8) -> Place
-        ensures { result ≡ after self byte }
+    #[tactic(auto, unfolding(crate::specs::Bounds::after_byte))]
+    fn after_byte(self, byte: u8) -> LexState
+        ensures { result ≡ after_byte self byte }
     {
         match self {
-            Place::Outside => starts(byte),
-            Place::Comment if byte == b'\n' => Place::Outside,
-            Place::Comment => Place::Comment,
-            Place::Opened(quote) if byte == quote => Place::OpenedTwice(quote),
-            Place::Opened(quote) => in_line(quote, byte),
-            Place::OpenedTwice(quote) if byte == quote => Place::Lines(quote, 0),
-            Place::OpenedTwice(_) => starts(byte),
-            Place::Line(quote) => in_line(quote, byte),
-            Place::LineEscape => Place::Line(b'"'),
-            Place::Lines(quote, quotes) => in_lines(quote, quotes, byte),
-            Place::LinesEscape => Place::Lines(b'"', 0),
+            LexState::Outside => after_outside_byte(byte),
+            LexState::Comment if byte == b'\n' => LexState::Outside,
+            LexState::Comment => LexState::Comment,
+            LexState::OneQuote(quote) if byte == quote => LexState::TwoQuotes(quote),
+            LexState::OneQuote(quote) => after_one_line_byte(quote, byte),
+            LexState::TwoQuotes(quote) if byte == quote => LexState::MultiLine(quote, 0),
+            LexState::TwoQuotes(_) => after_outside_byte(byte),
+            LexState::OneLine(quote) => after_one_line_byte(quote, byte),
+            LexState::OneLineEscape => LexState::OneLine(b'"'),
+            LexState::MultiLine(quote, quotes) => after_multi_line_byte(quote, quotes, byte),
+            LexState::MultiLineEscape => LexState::MultiLine(b'"', 0),
         }
     }
 
     fn is_outside(self) -> bool
         ensures { result ≡ is_outside self }
     {
-        matches!(self, Place::Outside)
+        matches!(self, LexState::Outside)
     }
 
     /// Whether a byte before this place is no part of a header that it lies in: a comment, or a blank
     /// outside of strings.
-    fn is_beside(self, byte: u8) -> bool
-        ensures { result ≡ is_beside self byte }
+    fn is_skipped_in_header(self, byte: u8) -> bool
+        ensures { result ≡ is_skipped_in_header self byte }
     {
         match self {
-            Place::Outside => is_blank(byte),
-            Place::Comment => true,
+            LexState::Outside => is_blank(byte),
+            LexState::Comment => true,
             _ => false,
         }
     }
@@ -171,7 +171,7 @@ impl Place {
 impl LinePart {
     /// The part with a byte that doesn't end the line.
     fn with_byte(self, byte: u8) -> LinePart
-        ensures { result ≡ part_with self byte }
+        ensures { result ≡ part_with_byte self byte }
     {
         match self {
             LinePart::Margin if byte == b'[' => LinePart::Header,
@@ -182,7 +182,7 @@ impl LinePart {
     }
 
     /// The part behind a byte, where so many brackets are open.
-    fn after(self, nesting: usize, is_outside: bool, byte: u8) -> LinePart
+    fn after_byte(self, nesting: usize, is_outside: bool, byte: u8) -> LinePart
         ensures { result ≡ part_after self nesting is_outside byte }
     {
         if !is_outside || byte != b'\n' {
@@ -195,13 +195,13 @@ impl LinePart {
     }
 
     /// How many bytes the last header has behind a byte that leads to this place.
-    fn header_after(self, header: usize, place: Place, byte: u8) -> usize
+    fn header_after(self, header: usize, place: LexState, byte: u8) -> usize
         requires { header < MAX_TEXT }
         ensures { result ≡ header_after self header place byte }
     {
         match self {
             LinePart::Margin if byte == b'[' => 1,
-            LinePart::Header if !place.is_beside(byte) => header + 1,
+            LinePart::Header if !place.is_skipped_in_header(byte) => header + 1,
             _ => header,
         }
     }
@@ -217,7 +217,7 @@ impl Scan {
         requires few { self.marks < MAX_TEXT }
         ensures { result ≡ with_byte self byte }
     {
-        let place = self.place.after(byte);
+        let place = self.place.after_byte(byte);
         let is_outside = place.is_outside();
         let nesting = if is_outside {
             nesting_after(self.nesting, byte)
@@ -236,7 +236,7 @@ impl Scan {
         };
         Scan {
             place,
-            part: self.part.after(self.nesting, is_outside, byte),
+            part: self.part.after_byte(self.nesting, is_outside, byte),
             nesting,
             header: self.part.header_after(self.header, place, byte),
             compared,
@@ -252,7 +252,7 @@ pub(super) fn is_bounded(text: &[u8]) -> bool
     ensures { result ≡ is_bounded text.now }
 {
     let mut scan = Scan {
-        place: Place::Outside,
+        place: LexState::Outside,
         part: LinePart::Margin,
         nesting: 0,
         header: 0,

@@ -6,7 +6,7 @@ ghost use Rattle.std.specs.List.{list_all, list_any};
 ghost use Rattle.std.specs.Str.{bytes_eq};
 ghost use Rattle.toml.specs.Data.{get_member};
 ghost use Rattle.toml.specs.View.{view, table_view};
-ghost use Rattle.mc_topology.specs.Answer.{Answers};
+ghost use Rattle.mc_topology.specs.Answer.{ResultsAgree};
 ghost use Rattle.mc_topology.specs.Document.{has_only, text_of, number_of, list_of, known_table};
 ghost use Rattle.mc_topology.specs.Document.{text_at, number_at, list_at, optional_text_at};
 ghost use Rattle.mc_topology.specs.Document.{optional_list_at, rows_at};
@@ -22,7 +22,7 @@ fn is_known(known: &[&str], key: &str) -> bool
 }
 
 /// Whether each key of the table is one of these.
-fn each_key_is_known(table: &Table, known: &[&str]) -> bool
+fn has_known_keys(table: &Table, known: &[&str]) -> bool
     ensures { result ≡
         list_all (λ key. list_any (λ k. bytes_eq k.now (string_bytes key)) known.now)
         (keys table.now) }
@@ -34,19 +34,19 @@ fn each_key_is_known(table: &Table, known: &[&str]) -> bool
 pub(crate) fn has_only(table: &Table, known: &[&str]) -> bool
     ensures { result ≡ has_only (map (λ k. k.now) known.now) (table_view table.now) }
 {
-    each_key_is_known(table, known)
+    has_known_keys(table, known)
 }
 
 /// The text that a value is.
 pub(crate) fn text_of(value: &Value) -> Result<&str, TopologyFaultKind>
-    ensures { Answers (λ text. text.now) result (text_of (view value.now)) }
+    ensures { ResultsAgree (λ text. text.now) result (text_of (view value.now)) }
 {
     value.as_str().ok_or(TopologyFaultKind::BadKind)
 }
 
 /// The values of the list that a value is.
 pub(crate) fn list_of(value: &Value) -> Result<&[Value], TopologyFaultKind>
-    ensures { Answers (λ values. map view values.now) result (list_of (view value.now)) }
+    ensures { ResultsAgree (λ values. map view values.now) result (list_of (view value.now)) }
 {
     let Some(values) = value.as_array() else {
         return Err(TopologyFaultKind::BadKind);
@@ -60,7 +60,7 @@ pub(crate) fn known_table<'a>(
     value: &'a Value,
     known: &[&str],
 ) -> Result<&'a Table, TopologyFaultKind>
-    ensures { Answers (λ table. table_view table.now) result
+    ensures { ResultsAgree (λ table. table_view table.now) result
         (known_table (map (λ k. k.now) known.now) (view value.now)) }
 {
     let Some(table) = value.as_table() else {
@@ -83,7 +83,7 @@ pub(crate) fn value_at<'a>(table: &'a Table, key: &str) -> Option<&'a Value>
 /// The text under a key.
 #[tactic(auto, unfolding(crate::specs::Document::text_at))]
 pub(crate) fn text_at<'a>(table: &'a Table, key: &str) -> Result<&'a str, TopologyFaultKind>
-    ensures { Answers (λ text. text.now) result (text_at key.now (table_view table.now)) }
+    ensures { ResultsAgree (λ text. text.now) result (text_at key.now (table_view table.now)) }
 {
     let Some(value) = value_at(table, key) else {
         return Err(TopologyFaultKind::MissingKey);
@@ -112,7 +112,7 @@ pub(crate) fn number_at(table: &Table, key: &str) -> Result<i64, TopologyFaultKi
 /// The values of the list under a key.
 #[tactic(auto, unfolding(crate::specs::Document::list_at))]
 pub(crate) fn list_at<'a>(table: &'a Table, key: &str) -> Result<&'a [Value], TopologyFaultKind>
-    ensures { Answers (λ values. map view values.now) result
+    ensures { ResultsAgree (λ values. map view values.now) result
         (list_at key.now (table_view table.now)) }
 {
     let Some(value) = value_at(table, key) else {
@@ -127,7 +127,7 @@ pub(crate) fn optional_text_at<'a>(
     table: &'a Table,
     key: &str,
 ) -> Result<Option<&'a str>, TopologyFaultKind>
-    ensures { Answers (option_map (λ text. text.now)) result
+    ensures { ResultsAgree (option_map (λ text. text.now)) result
         (optional_text_at key.now (table_view table.now)) }
 {
     match value_at(table, key) {
@@ -142,7 +142,7 @@ pub(crate) fn optional_list_at<'a>(
     table: &'a Table,
     key: &str,
 ) -> Result<&'a [Value], TopologyFaultKind>
-    ensures { Answers (λ values. map view values.now) result
+    ensures { ResultsAgree (λ values. map view values.now) result
         (optional_list_at key.now (table_view table.now)) }
 {
     match value_at(table, key) {
@@ -158,7 +158,7 @@ pub(crate) fn rows_at<'a>(
     key: &str,
     most: usize,
 ) -> Result<&'a [Value], TopologyFaultKind>
-    ensures rows { Answers (λ rows. map view rows.now) result
+    ensures rows { ResultsAgree (λ rows. map view rows.now) result
         (rows_at key.now most (table_view table.now)) }
     ensures few { IfOk result (λ rows. length rows.now ≤ most) }
 {

@@ -3,16 +3,16 @@
 ghost use Rattle.std.specs.Prelude.{◌≡◌, ◌≢◌, ◌≤◌, map, length, false, Err, IfOk};
 ghost use Rattle.toml.specs.View.{view, table_view};
 ghost use Rattle.mc_topology.specs.declared.fault.Section.TheVariants as section;
-ghost use Rattle.mc_topology.specs.Answer.{Answers, out_of_memory};
-ghost use Rattle.mc_topology.specs.Flows.{has_flow, ttl_of, flow_with, flow_of};
+ghost use Rattle.mc_topology.specs.Answer.{ResultsAgree, out_of_memory};
+ghost use Rattle.mc_topology.specs.Flows.{has_flow, ttl_of, flow_of_values, flow_of};
 ghost use Rattle.mc_topology.specs.Flows.{flow_rows, flows_in};
 
-use crate::fault::{Section, TopologyFault, TopologyFaultKind, place};
+use crate::fault::{Section, TopologyFault, TopologyFaultKind, locate_fault};
 use crate::flow::{Flow, MAX_FLOWS};
 use crate::flows::Flows;
 use crate::read::address::{group_address_of, source_address_of};
 use crate::read::document::{known_table, number_at, optional_list_at, text_at};
-use crate::read::rows::{Rows, each};
+use crate::read::rows::{SectionRows, each_row};
 use crate::sources::Sources;
 use std::alloc::Global;
 use toml::{Table, Value};
@@ -28,15 +28,15 @@ fn ttl_of(number: i64) -> Result<u8, TopologyFaultKind>
 }
 
 /// The flow of the values of its keys, whose source and group none of the earlier ones has.
-#[tactic(auto, unfolding(crate::specs::Flows::flow_with))]
-fn flow_with(
+#[tactic(auto, unfolding(crate::specs::Flows::flow_of_values))]
+fn flow_of_values(
     sources: &Sources,
     earlier: &Flows,
     source_text: &str,
     group_text: &str,
     number: i64,
 ) -> Result<Flow, TopologyFaultKind>
-    ensures flow { result ≡ flow_with sources.now earlier.now source_text.now group_text.now number }
+    ensures flow { result ≡ flow_of_values sources.now earlier.now source_text.now group_text.now number }
     ensures new { IfOk result (λ f. has_flow f.source f.group earlier.now ≡ false) }
 {
     let source = source_address_of(source_text)?;
@@ -66,13 +66,13 @@ fn flow_of(sources: &Sources, earlier: &Flows, value: &Value) -> Result<Flow, To
     let source_text = text_at(table, "source")?;
     let group_text = text_at(table, "group")?;
     let number = number_at(table, "ttl")?;
-    flow_with(sources, earlier, source_text, group_text, number)
+    flow_of_values(sources, earlier, source_text, group_text, number)
 }
 
 /// The list of flows, of which there is one at least.
 #[tactic(auto, unfolding(crate::specs::Flows::flow_rows))]
 fn flow_rows(table: &Table) -> Result<&[Value], TopologyFaultKind>
-    ensures rows { Answers (λ rows. map view rows.now) result (flow_rows (table_view table.now)) }
+    ensures rows { ResultsAgree (λ rows. map view rows.now) result (flow_rows (table_view table.now)) }
     ensures few { IfOk result (λ rows. length rows.now ≤ MAX_FLOWS) }
 {
     let rows = optional_list_at(table, "flow")?;
@@ -85,7 +85,7 @@ fn flow_rows(table: &Table) -> Result<&[Value], TopologyFaultKind>
     Ok(rows)
 }
 
-impl Rows<Sources> for Flows {
+impl SectionRows<Sources> for Flows {
     ghost use Rattle.mc_topology.specs.declared.flow.Flow.{Flow};
 
     ghost Row = { Flow };
@@ -94,7 +94,7 @@ impl Rows<Sources> for Flows {
 
     ghost section = { section.Flow };
 
-    ghost one = { flow_of };
+    ghost row_value = { flow_of };
 
     fn read_row(
         &mut self,
@@ -103,7 +103,7 @@ impl Rows<Sources> for Flows {
         number: u32,
         row: &Value,
     ) -> Result<(), TopologyFault> {
-        let flow = place(Section::Flow, number, flow_of(sources, self, row))?;
+        let flow = locate_fault(Section::Flow, number, flow_of(sources, self, row))?;
         self.push(flow)
     }
 }
@@ -118,6 +118,6 @@ pub(crate) fn flows_in(
     ensures { result ≢ Err out_of_memory →
         result ≡ flows_in sources.now (table_view table.now) }
 {
-    let rows = place(Section::Flow, 0, flow_rows(table))?;
-    each(alloc, sources, Flows::new(alloc), rows)
+    let rows = locate_fault(Section::Flow, 0, flow_rows(table))?;
+    each_row(alloc, sources, Flows::new(alloc), rows)
 }

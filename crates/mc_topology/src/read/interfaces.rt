@@ -3,24 +3,24 @@
 ghost use Rattle.std.specs.Prelude.{◌≡◌, ◌≢◌, ◌≤◌, length, false, Err, IfOk};
 ghost use Rattle.toml.specs.View.{view, table_view};
 ghost use Rattle.mc_topology.specs.declared.fault.Section.TheVariants as section;
-ghost use Rattle.mc_topology.specs.Answer.{Answers, out_of_memory};
-ghost use Rattle.mc_topology.specs.Interfaces.{interface_with, interface_of, interfaces_in};
+ghost use Rattle.mc_topology.specs.Answer.{ResultsAgree, out_of_memory};
+ghost use Rattle.mc_topology.specs.Interfaces.{interface_of_values, interface_of, interfaces_in};
 ghost use Rattle.mc_topology.specs.Lookup.{has_interface, interface_row};
 
-use crate::fault::{Section, TopologyFault, TopologyFaultKind, place};
+use crate::fault::{Section, TopologyFault, TopologyFaultKind, locate_fault};
 use crate::interfaces::{InterfaceKey, Interfaces, MAX_INTERFACES};
 use crate::lans::{Lans, MAX_LANS};
 use crate::name::is_device;
 use crate::number::LanNo;
 use crate::read::document::{known_table, rows_at, text_at};
-use crate::read::rows::{Rows, each};
+use crate::read::rows::{SectionRows, each_row};
 use crate::routers::{MAX_ROUTERS, Routers};
 use std::alloc::Global;
 use toml::{Table, Value};
 
 /// The interface of the values of its keys, whose router and device none of the earlier ones has.
-#[tactic(auto, unfolding(crate::specs::Interfaces::interface_with))]
-fn interface_with(
+#[tactic(auto, unfolding(crate::specs::Interfaces::interface_of_values))]
+fn interface_of_values(
     lans: &Lans,
     routers: &Routers,
     earlier: &Interfaces,
@@ -30,8 +30,8 @@ fn interface_with(
 ) -> Result<(InterfaceKey, LanNo), TopologyFaultKind>
     requires few_lans { length lans.now ≤ MAX_LANS }
     requires few_routers { length routers.now ≤ MAX_ROUTERS }
-    ensures interface { Answers interface_row result
-        (interface_with lans.now routers.now earlier.now router_name.now device.now lan_name.now) }
+    ensures interface { ResultsAgree interface_row result
+        (interface_of_values lans.now routers.now earlier.now router_name.now device.now lan_name.now) }
     ensures new { IfOk result (λ i. has_interface i.0.router i.0.device.items earlier.now ≡ false) }
     ensures short { IfOk result (λ i. length i.0.device.items ≤ 15) }
 {
@@ -63,7 +63,7 @@ fn interface_of(
 ) -> Result<(InterfaceKey, LanNo), TopologyFaultKind>
     requires few_lans { length lans.now ≤ MAX_LANS }
     requires few_routers { length routers.now ≤ MAX_ROUTERS }
-    ensures interface { Answers interface_row result
+    ensures interface { ResultsAgree interface_row result
         (interface_of lans.now routers.now earlier.now (view value.now)) }
     ensures new { IfOk result (λ i. has_interface i.0.router i.0.device.items earlier.now ≡ false) }
     ensures short { IfOk result (λ i. length i.0.device.items ≤ 15) }
@@ -72,13 +72,13 @@ fn interface_of(
     let router_name = text_at(table, "router")?;
     let device = text_at(table, "device")?;
     let lan_name = text_at(table, "lan")?;
-    interface_with(lans, routers, earlier, router_name, device, lan_name)
+    interface_of_values(lans, routers, earlier, router_name, device, lan_name)
 }
 
-impl<'a> Rows<(&'a Lans, &'a Routers)> for Interfaces {
+impl<'a> SectionRows<(&'a Lans, &'a Routers)> for Interfaces {
     ghost use Rattle.mc_topology.specs.declared.lans.TheConstants.{MAX_LANS};
     ghost use Rattle.mc_topology.specs.declared.routers.TheConstants.{MAX_ROUTERS};
-    ghost use Rattle.mc_topology.specs.Rows.{InterfaceRow};
+    ghost use Rattle.mc_topology.specs.SectionRows.{InterfaceRow};
 
     ghost Row = { InterfaceRow };
 
@@ -89,7 +89,7 @@ impl<'a> Rows<(&'a Lans, &'a Routers)> for Interfaces {
     ghost few = { λ before.
         (length before.0.now ≤ MAX_LANS) × (length before.1.now ≤ MAX_ROUTERS) };
 
-    ghost one = { λ before. interface_of before.0.now before.1.now };
+    ghost row_value = { λ before. interface_of before.0.now before.1.now };
 
     fn read_row(
         &mut self,
@@ -100,7 +100,7 @@ impl<'a> Rows<(&'a Lans, &'a Routers)> for Interfaces {
     ) -> Result<(), TopologyFault> {
         let (lans, routers) = *before;
         let read = interface_of(lans, routers, self, row);
-        let (key, lan) = place(Section::Interface, number, read)?;
+        let (key, lan) = locate_fault(Section::Interface, number, read)?;
         self.push(key, lan)
     }
 }
@@ -118,10 +118,10 @@ pub(crate) fn interfaces_in(
     ensures { result ≢ Err out_of_memory →
         result ≡ interfaces_in lans.now routers.now (table_view table.now) }
 {
-    let rows = place(
+    let rows = locate_fault(
         Section::Interface,
         0,
         rows_at(table, "interface", MAX_INTERFACES),
     )?;
-    each(alloc, &(lans, routers), Interfaces::new(alloc), rows)
+    each_row(alloc, &(lans, routers), Interfaces::new(alloc), rows)
 }

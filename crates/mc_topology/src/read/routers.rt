@@ -7,10 +7,10 @@ ghost use Rattle.mc_topology.specs.Answer.{out_of_memory};
 ghost use Rattle.mc_topology.specs.Routers.{order_of, router_of, routers_in};
 ghost use Rattle.mc_topology.specs.Lookup.{has_router};
 
-use crate::fault::{Section, TopologyFault, TopologyFaultKind, place};
+use crate::fault::{Section, TopologyFault, TopologyFaultKind, locate_fault};
 use crate::name::is_name;
 use crate::read::document::{known_table, optional_text_at, rows_at, text_at};
-use crate::read::rows::{Rows, each};
+use crate::read::rows::{SectionRows, each_row};
 use crate::routers::{MAX_ROUTERS, Routers};
 use mc_text::Order;
 use std::alloc::Global;
@@ -19,13 +19,13 @@ use toml::{Table, Value};
 
 /// A router whose name is still in the topology's text.
 #[derive(Drop)]
-struct RouterText<'a> {
+struct BorrowedRouter<'a> {
     name: &'a str,
     order: Order,
 }
 
-impl<'a> Model for RouterText<'a> {
-    ghost use Rattle.mc_topology.specs.Rows.{RouterRow};
+impl<'a> Model for BorrowedRouter<'a> {
+    ghost use Rattle.mc_topology.specs.SectionRows.{RouterRow};
 
     ghost Value = { RouterRow };
 
@@ -46,7 +46,7 @@ fn order_of(text: Option<&str>) -> Result<Order, TopologyFaultKind>
 
 /// Reads one router, whose name none of the earlier ones has.
 #[tactic(auto, unfolding(crate::specs::Routers::router_of))]
-fn router_of<'a>(earlier: &Routers, value: &'a Value) -> Result<RouterText<'a>, TopologyFaultKind>
+fn router_of<'a>(earlier: &Routers, value: &'a Value) -> Result<BorrowedRouter<'a>, TopologyFaultKind>
     ensures router { result ≡ router_of earlier.now (view value.now) }
     ensures new { IfOk result (λ r. has_router r.name earlier.now ≡ false) }
 {
@@ -60,11 +60,11 @@ fn router_of<'a>(earlier: &Routers, value: &'a Value) -> Result<RouterText<'a>, 
     if earlier.has(name) {
         return Err(TopologyFaultKind::RepeatedName);
     }
-    Ok(RouterText { name, order })
+    Ok(BorrowedRouter { name, order })
 }
 
-impl Rows<()> for Routers {
-    ghost use Rattle.mc_topology.specs.Rows.{RouterRow};
+impl SectionRows<()> for Routers {
+    ghost use Rattle.mc_topology.specs.SectionRows.{RouterRow};
 
     ghost Row = { RouterRow };
 
@@ -72,7 +72,7 @@ impl Rows<()> for Routers {
 
     ghost section = { section.Router };
 
-    ghost one = { λ _. router_of };
+    ghost row_value = { λ _. router_of };
 
     fn read_row(
         &mut self,
@@ -81,7 +81,7 @@ impl Rows<()> for Routers {
         number: u32,
         row: &Value,
     ) -> Result<(), TopologyFault> {
-        let router = place(Section::Router, number, router_of(self, row))?;
+        let router = locate_fault(Section::Router, number, router_of(self, row))?;
         self.push(alloc, router.name, router.order)
     }
 }
@@ -92,6 +92,6 @@ pub(crate) fn routers_in(alloc: Global, table: &Table) -> Result<Routers, Topolo
     ensures routers { result ≢ Err out_of_memory → result ≡ routers_in (table_view table.now) }
     ensures few { IfOk result (λ routers. length routers ≤ MAX_ROUTERS) }
 {
-    let rows = place(Section::Router, 0, rows_at(table, "router", MAX_ROUTERS))?;
-    each(alloc, &(), Routers::new(alloc), rows)
+    let rows = locate_fault(Section::Router, 0, rows_at(table, "router", MAX_ROUTERS))?;
+    each_row(alloc, &(), Routers::new(alloc), rows)
 }

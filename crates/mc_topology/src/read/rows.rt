@@ -6,7 +6,7 @@ ghost use Rattle.toml.specs.Data.{Data};
 ghost use Rattle.toml.specs.View.{view};
 ghost use Rattle.mc_topology.specs.declared.fault.Section.{Section};
 ghost use Rattle.mc_topology.specs.declared.fault.TopologyFaultKind.{TopologyFaultKind};
-ghost use Rattle.mc_topology.specs.Answer.{Answers, out_of_memory, place, each};
+ghost use Rattle.mc_topology.specs.Answer.{ResultsAgree, out_of_memory, locate_fault, each_row};
 
 use crate::fault::TopologyFault;
 use std::alloc::Global;
@@ -14,7 +14,7 @@ use toml::Value;
 
 /// A section that is read row by row, each row beside the sections before it, `B`, and beside the
 /// earlier rows.
-pub(crate) trait Rows<B>: Drop {
+pub(crate) trait SectionRows<B>: Drop {
     // what a row stands for
     ghost Row: { Type 0 };
 
@@ -28,7 +28,7 @@ pub(crate) trait Rows<B>: Drop {
     ghost few: { B → Type 0 } = { λ _. ⊤ };
 
     // a row, beside the sections before it and the earlier rows
-    ghost one: { B → List Row → Data → Result Row TopologyFaultKind };
+    ghost row_value: { B → List Row → Data → Result Row TopologyFaultKind };
 
     /// Reads the row with this number, counted from 1, and adds it.
     fn read_row(
@@ -40,14 +40,14 @@ pub(crate) trait Rows<B>: Drop {
     ) -> Result<(), TopologyFault>
         requires { few before.now }
         ensures added { OnOk result
-            ((x : Row) × (one before.now (rows self.old) (view row.now) ≡ Ok x)
+            ((x : Row) × (row_value before.now (rows self.old) (view row.now) ≡ Ok x)
             × (rows self.new ≡ rows self.old ++ x ∷ [])) }
         ensures fault { IfErr result (λ fault. fault ≢ out_of_memory →
-            place section number (one before.now (rows self.old) (view row.now)) ≡ Err fault) };
+            locate_fault section number (row_value before.now (rows self.old) (view row.now)) ≡ Err fault) };
 }
 
 /// The section of these rows, one after the other, from the one that has none.
-pub(crate) fn each<B, S: Rows<B>>(
+pub(crate) fn each_row<B, S: SectionRows<B>>(
     alloc: Global,
     before: &B,
     none: S,
@@ -56,8 +56,8 @@ pub(crate) fn each<B, S: Rows<B>>(
     requires before { S.few before.now }
     requires none { S.rows none ≡ [] }
     requires count { length rows.now ≤ u32.MAX }
-    ensures rows { result ≢ Err out_of_memory → Answers S.rows result
-        (each S.section (S.one before.now) [] (map view rows.now)) }
+    ensures rows { result ≢ Err out_of_memory → ResultsAgree S.rows result
+        (each_row S.section (S.row_value before.now) [] (map view rows.now)) }
     ensures count { IfOk result (λ section. length (S.rows section) ≡ length rows.now) }
 {
     let mut section = none;

@@ -4,28 +4,28 @@ ghost use Rattle.std.specs.Prelude.{◌≡◌, ◌≢◌, ◌≤◌, length, fal
 ghost use Rattle.toml.specs.View.{view, table_view};
 ghost use Rattle.mc_topology.specs.declared.fault.Section.TheVariants as section;
 ghost use Rattle.mc_topology.specs.Answer.{out_of_memory};
-ghost use Rattle.mc_topology.specs.Sources.{has_source, source_with, source_of, sources_in};
+ghost use Rattle.mc_topology.specs.Sources.{has_source, source_of_values, source_of, sources_in};
 
-use crate::fault::{Section, TopologyFault, TopologyFaultKind, place};
+use crate::fault::{Section, TopologyFault, TopologyFaultKind, locate_fault};
 use crate::lans::{Lans, MAX_LANS};
 use crate::read::address::source_address_of;
 use crate::read::document::{known_table, rows_at, text_at};
-use crate::read::rows::{Rows, each};
+use crate::read::rows::{SectionRows, each_row};
 use crate::source::Source;
 use crate::sources::{MAX_SOURCES, Sources};
 use std::alloc::Global;
 use toml::{Table, Value};
 
 /// The source of the values of its keys, whose address none of the earlier ones has.
-#[tactic(auto, unfolding(crate::specs::Sources::source_with))]
-fn source_with(
+#[tactic(auto, unfolding(crate::specs::Sources::source_of_values))]
+fn source_of_values(
     lans: &Lans,
     earlier: &Sources,
     text: &str,
     lan_name: &str,
 ) -> Result<Source, TopologyFaultKind>
     requires { length lans.now ≤ MAX_LANS }
-    ensures source { result ≡ source_with lans.now earlier.now text.now lan_name.now }
+    ensures source { result ≡ source_of_values lans.now earlier.now text.now lan_name.now }
     ensures new { IfOk result (λ s. has_source s.address earlier.now ≡ false) }
 {
     let address = source_address_of(text)?;
@@ -48,12 +48,12 @@ fn source_of(lans: &Lans, earlier: &Sources, value: &Value) -> Result<Source, To
     let table = known_table(value, &["address", "lan"])?;
     let text = text_at(table, "address")?;
     let lan_name = text_at(table, "lan")?;
-    source_with(lans, earlier, text, lan_name)
+    source_of_values(lans, earlier, text, lan_name)
 }
 
-impl Rows<Lans> for Sources {
+impl SectionRows<Lans> for Sources {
     ghost use Rattle.mc_topology.specs.declared.lans.TheConstants.{MAX_LANS};
-    ghost use Rattle.mc_topology.specs.Rows.{SourceRow};
+    ghost use Rattle.mc_topology.specs.SectionRows.{SourceRow};
 
     ghost Row = { SourceRow };
 
@@ -63,7 +63,7 @@ impl Rows<Lans> for Sources {
 
     ghost few = { λ lans. length lans ≤ MAX_LANS };
 
-    ghost one = { source_of };
+    ghost row_value = { source_of };
 
     fn read_row(
         &mut self,
@@ -72,7 +72,7 @@ impl Rows<Lans> for Sources {
         number: u32,
         row: &Value,
     ) -> Result<(), TopologyFault> {
-        let source = place(Section::Source, number, source_of(lans, self, row))?;
+        let source = locate_fault(Section::Source, number, source_of(lans, self, row))?;
         self.push(source)
     }
 }
@@ -87,6 +87,6 @@ pub(crate) fn sources_in(
     requires { length lans.now ≤ MAX_LANS }
     ensures { result ≢ Err out_of_memory → result ≡ sources_in lans.now (table_view table.now) }
 {
-    let rows = place(Section::Source, 0, rows_at(table, "source", MAX_SOURCES))?;
-    each(alloc, lans, Sources::new(alloc), rows)
+    let rows = locate_fault(Section::Source, 0, rows_at(table, "source", MAX_SOURCES))?;
+    each_row(alloc, lans, Sources::new(alloc), rows)
 }

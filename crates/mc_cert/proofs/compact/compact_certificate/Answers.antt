@@ -1,10 +1,10 @@
 use Rattle.std.proofs.Common.{◌≡◌, ◌<◌, ℕ, All, List, length, map, subst, refl, sym, arith}
 use Rattle.std.proofs.lemmas.List.{length-map}
 use Rattle.mc_cert.specs.Certificate.{Tree}
-use Rattle.mc_cert.specs.Stands.{CertificateStands}
-use Rattle.mc_cert.proofs.Documents.{each_of}
-use Rattle.mc_cert.proofs.PieceLemmas.{text_pieces}
-use Rattle.mc_cert.proofs.TreesStand.{end_of, trees_stand}
+use Rattle.mc_cert.specs.Denotation.{DenotesCertificate}
+use Rattle.mc_cert.proofs.Documents.{AllByRecursion-from_All}
+use Rattle.mc_cert.proofs.PieceLemmas.{version_two_text-pieces}
+use Rattle.mc_cert.proofs.TextDenotation.{IsTextEnd-from_rest, version_two_text-denotes}
 use Rattle.mc_cert.proofs.compact.compact_certificate.Goals as goal
 
 pub from_trees-requires-clause-lists : goal.from_trees-requires-clause-lists
@@ -22,15 +22,15 @@ returns c =
     subst (λ (m : ℕ). All (λ n. n < m) places) many
     (subst (λ (ns : List ℕ). All (λ n. n < c.len.result) ns) c.deref.ensures.value
     (c.if-not-are_below.ensures refl)) in
-    subst (λ (flows : List Tree). CertificateStands c.args.topology.now c.args.text.now flows)
+    subst (λ (flows : List Tree). DenotesCertificate c.args.topology.now c.args.text.now flows)
     (sym c.from_trees.ensures)
-    (trees_stand c.args.topology.now places trees c.args.text.now c.in-Some-behind-2.rest.now
+    (version_two_text-denotes c.args.topology.now places trees c.args.text.now c.in-Some-after_prefix-2.rest.now
     c.flows-rules.ensures.rules (omega (arith, c.in-Ok.ensures.count))
-    (each_of (λ n. n < length trees) places named)
+    (AllByRecursion-from_All (λ n. n < length trees) places named)
     (omega (arith, many, c.in-Ok-read_trees.ensures.few)) c.in-Ok-read_trees.ensures.writable
     (omega (arith, c.if-text-gt-MAX_TEXT.false))
-    (text_pieces c.args.topology.now places trees c.args.text.now c.in-Some.rest.now
-    c.in-Ok.rest.now c.in-Some-behind.rest.now c.in-Ok-read_trees.rest.now
-    c.in-Some-behind-2.rest.now c.in-Some.ensures c.in-Ok.ensures.text c.in-Some-behind.ensures
-    c.in-Ok-read_trees.ensures.text c.in-Some-behind-2.ensures)
-    (end_of c.in-Some-behind-2.rest.now (c.if-not-is_end.ensures refl)))
+    (version_two_text-pieces c.args.topology.now places trees c.args.text.now c.in-Some.rest.now
+    c.in-Ok.rest.now c.in-Some-after_prefix.rest.now c.in-Ok-read_trees.rest.now
+    c.in-Some-after_prefix-2.rest.now c.in-Some.ensures c.in-Ok.ensures.text c.in-Some-after_prefix.ensures
+    c.in-Ok-read_trees.ensures.text c.in-Some-after_prefix-2.ensures)
+    (IsTextEnd-from_rest c.in-Some-after_prefix-2.rest.now (c.if-not-is_end.ensures refl)))

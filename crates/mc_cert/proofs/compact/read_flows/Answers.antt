@@ -1,19 +1,19 @@
 use Rattle.std.proofs.Common.{◌≡◌, length, arith}
-use Rattle.mc_cert.proofs.SeparatorLemmas.{no_flow, no_flow_separator, flows_read}
+use Rattle.mc_cert.proofs.SeparatorLemmas.{flow_texts-none, separator_of-none, flow_texts-push}
 use Rattle.mc_cert.proofs.compact.read_flows.Goals as goal
 
 pub loop-number-init : goal.loop-number-init
 loop-number-init c =
     record {
-      read = rw c.new-places.ensures.items (no_flow c.args.topology.now.flows c.args.text.now);
-      separator = rw c.new-places.ensures.items (no_flow_separator c.args.topology.now.flows);
+      read = rw c.new-places.ensures.items (flow_texts-none c.args.topology.now.flows c.args.text.now);
+      separator = rw c.new-places.ensures.items (separator_of-none c.args.topology.now.flows);
       count = omega arith;
     }
 
 pub loop-number-preserved : goal.loop-number-preserved
 loop-number-preserved c =
     let long : c.loop-number.number ≡ length c.loop-number.places.items = omega arith in
-    let next = flows_read c.args.text.now c.loop-number.rest.now c.in-Some.after.now
+    let next = flow_texts-push c.args.text.now c.loop-number.rest.now c.in-Some.after.now
     c.in-Some-read_flow.after.now c.loop-number.separator.now c.args.topology.now.flows
     c.loop-number.places.items c.push.new.self.items c.flow.result.now c.in-Some-read_flow.place
     c.loop-number.number long c.flow.ensures.flow c.in_ok-push.ensures.items

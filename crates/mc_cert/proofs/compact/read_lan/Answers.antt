@@ -1,8 +1,8 @@
 use Rattle.std.proofs.Common.{sym}
-use Rattle.mc_cert.proofs.PieceLemmas.{lan_read}
+use Rattle.mc_cert.proofs.PieceLemmas.{lan_name-from_index_of}
 use Rattle.mc_cert.proofs.compact.read_lan.Goals as goal
 
 pub returns-clause-text : goal.returns-clause-text
 returns-clause-text c =
-    lan_read c.args.topology.now c.in_ok-lan.lan c.args.text.now c.in_ok-name.name.now
+    lan_name-from_index_of c.args.topology.now c.in_ok-lan.lan c.args.text.now c.in_ok-name.name.now
     c.in_ok-name.rest.now c.in_ok-name.ensures (sym c.in_ok-lan.ensures.number)

@@ -1,7 +1,7 @@
-use Rattle.mc_cert.proofs.PieceLemmas.{number_pieces}
+use Rattle.mc_cert.proofs.PieceLemmas.{need_and_rank-pieces}
 use Rattle.mc_cert.proofs.compact.read_numbers.Goals as goal
 
 pub returns-clause-text : goal.returns-clause-text
 returns-clause-text c =
-    number_pieces _ _ _ _ _ _ _ c.in_ok-rest.ensures c.in_ok-need.ensures.text
+    need_and_rank-pieces _ _ _ _ _ _ _ c.in_ok-rest.ensures c.in_ok-need.ensures.text
     c.in_ok-rest-2.ensures c.in_ok-rank.ensures.text

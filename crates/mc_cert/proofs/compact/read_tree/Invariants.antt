@@ -1,6 +1,6 @@
 use Rattle.std.proofs.Common.{◌≡◌, ◌++◌, ◌≤◌, All, map, vec_len}
 use Rattle.mc_cert.specs.CertificateText.{listed, entry_text}
-use Rattle.mc_cert.specs.Writable.{IsWritableFor}
+use Rattle.mc_cert.specs.Writable.{IsWritableEntryFor}
 use Rattle.mc_cert.proofs.SeparatorLemmas.{separator_of}
 use Rattle.mc_cert.proofs.compact.read_tree.Given as goal
 
@@ -9,6 +9,6 @@ invariant-loop-number l =
     record {
       read : l.initial.rest ≡ listed (map (entry_text l.topology) l.entries.items) ++ l.rest;
       separator : l.separator ≡ separator_of l.entries.items;
-      writable : All (IsWritableFor l.topology) l.entries.items;
+      writable : All (IsWritableEntryFor l.topology) l.entries.items;
       few : vec_len l.entries ≤ l._number;
     }

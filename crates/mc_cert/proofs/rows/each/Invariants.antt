@@ -5,8 +5,8 @@ use Rattle.mc_cert.proofs.rows.each.Given as goal
 
 abbrev pub invariant-loop-value : goal.invariant-loop-value
 invariant-loop-value g l = record {
-  rows : each (g.R.Rows.one l.rows) (map g.R.Rows.seen l.items.items)
+  rows : each (g.R.RowReader.row_value l.rows) (map g.R.RowReader.item_view l.items.items)
       (map view (drop l.value-index l.values))
-      ≡ each (g.R.Rows.one l.rows) [] (map view l.values);
+      ≡ each (g.R.RowReader.row_value l.rows) [] (map view l.values);
   count : vec_len l.items ≡ l.value-index;
 }

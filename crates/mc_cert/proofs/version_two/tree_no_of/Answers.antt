@@ -10,5 +10,5 @@ returns c = rw (
   c.in_ok-source.ensures,
   c.in_ok-number.ensures,
   c.in_ok-tree.ensures,
-  ← c.if-not-is_flow.ensures,
+  ← c.if-not-are_texts_of_flow.ensures,
 ) refl

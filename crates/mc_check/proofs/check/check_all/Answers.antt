@@ -1,6 +1,6 @@
 -- Each flow's verdict by its first reason.
 use Rattle.std.proofs.Common.{◌≡◌, ◌+◌, ◌<◌, ◌++◌, ◌∷◌, [], length, sym, subst, arith}
-use Rattle.mc_check.proofs.AllLemmas.{Judged, judged-next, says}
+use Rattle.mc_check.proofs.AllLemmas.{AreVerdictsSoFar, verdicts_so_far-more, correct_verdict-verdict_by}
 use Rattle.mc_check.proofs.check.check_all.Goals as goal
 
 pub loop-flow-preserved : goal.loop-flow-preserved
@@ -14,10 +14,10 @@ loop-flow-preserved c =
     (arith, c.loop-flow-test.true, c.flows-flow-end.ensures, c.requires.flows) in
     let new : c.push.new.self.items ≡ c.loop-flow.verdicts.items ++ v ∷ [] =
     c.in_ok-push.ensures.items in
-    subst (λ vs. Judged d lists (k + 1) vs) (sym new)
-    (judged-next d lists k c.loop-flow.verdicts.items es v c.loop-flow.invariant
+    subst (λ vs. AreVerdictsSoFar d lists (k + 1) vs) (sym new)
+    (verdicts_so_far-more d lists k c.loop-flow.verdicts.items es v c.loop-flow.invariant
     c.flow.ensures.reached
-    (says d k es c.in_ok-reason.reason v c.topology-topology.ensures.rules within
+    (correct_verdict-verdict_by d k es c.in_ok-reason.reason v c.topology-topology.ensures.rules within
     c.in_ok-reason.ensures c.verdict_by.ensures))
 
 pub returns-clause-accepted : goal.returns-clause-accepted
@@ -25,7 +25,7 @@ returns-clause-accepted c =
     λ flow es v at got. (c.loop-flow.invariant.each flow es v at got).accepted
 
 pub returns-clause-copies : goal.returns-clause-copies
-returns-clause-copies c = λ flow es v at got. (c.loop-flow.invariant.each flow es v at got).copies
+returns-clause-copies c = λ flow es v at got. (c.loop-flow.invariant.each flow es v at got).copy_count
 
 pub returns-clause-reason : goal.returns-clause-reason
 returns-clause-reason c = λ flow es v at got. (c.loop-flow.invariant.each flow es v at got).reason

@@ -1,5 +1,5 @@
-use Rattle.mc_check.proofs.AllLemmas.{Judged}
+use Rattle.mc_check.proofs.AllLemmas.{AreVerdictsSoFar}
 use Rattle.mc_check.proofs.check.check_all.Given as goal
 
 abbrev pub invariant-loop-flow : goal.invariant-loop-flow
-invariant-loop-flow l = Judged l.fn.domain l.fn.certificate l.flow l.verdicts.items
+invariant-loop-flow l = AreVerdictsSoFar l.fn.domain l.fn.certificate l.flow l.verdicts.items

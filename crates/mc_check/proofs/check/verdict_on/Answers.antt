@@ -1,17 +1,17 @@
 -- By the first reason.
-use Rattle.mc_check.proofs.AllLemmas.{says}
-use Rattle.mc_check.proofs.VerdictLemmas.{judge, few}
+use Rattle.mc_check.proofs.AllLemmas.{correct_verdict-verdict_by}
+use Rattle.mc_check.proofs.VerdictLemmas.{is_first_reason-of_domain, entry_count_fits}
 use Rattle.mc_check.proofs.check.verdict_on.Goals as goal
 
 pub verdict_by-requires : goal.verdict_by-requires
 verdict_by-requires c =
     let d = c.args.domain.now in
     let ok = c.topology-rules.ensures.rules in
-    few d c.args.flow c.args.entries.now c.in_ok-reason.reason ok
-    (judge d c.args.flow c.args.entries.now c.in_ok-reason.reason ok c.requires.flow
+    entry_count_fits d c.args.flow c.args.entries.now c.in_ok-reason.reason ok
+    (is_first_reason-of_domain d c.args.flow c.args.entries.now c.in_ok-reason.reason ok c.requires.flow
     c.in_ok-reason.ensures) c.requires.lans
 
 pub returns : goal.returns
 returns c =
-    says c.args.domain.now c.args.flow c.args.entries.now c.in_ok-reason.reason c.verdict_by.result
+    correct_verdict-verdict_by c.args.domain.now c.args.flow c.args.entries.now c.in_ok-reason.reason c.verdict_by.result
     c.topology-rules.ensures.rules c.requires.flow c.in_ok-reason.ensures c.verdict_by.ensures

@@ -1,10 +1,10 @@
 use Rattle.std.proofs.Common.{◌≡◌, None}
 use Rattle.mc_theory.specs.Lists.{below}
 use Rattle.mc_theory.specs.Reasons.{first_of, row_reason}
-use Rattle.mc_forward.specs.Journeys.{net_in}
+use Rattle.mc_forward.specs.FlightsInDomain.{net_in}
 use Rattle.mc_check.proofs.routers.routers_reason.Given as goal
 
 abbrev pub invariant-loop-number : goal.invariant-loop-number
 invariant-loop-number l =
-    first_of (λ router. row_reason (net_in l.fn.view) l.fn.named router
+    first_of (λ router. row_reason (net_in l.fn.view) l.fn.by_lan router
     ((net_in l.fn.view).row router)) (below l.number) ≡ None

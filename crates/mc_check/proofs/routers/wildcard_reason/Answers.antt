@@ -1,19 +1,19 @@
 use Rattle.std.proofs.Common.{◌≡◌, Bool, true, false, not, is_some, sym, ap}
-use Rattle.mc_theory.specs.Reasons.{wild_at, entry_at, unless}
+use Rattle.mc_theory.specs.Reasons.{open_row_reason, entry_at, unless}
 use Rattle.mc_theory.specs.Reasons.Reason.{Wildcard}
-use Rattle.mc_forward.specs.Journeys.{net_in}
-use Rattle.mc_check.proofs.BelowLemmas.{none-start, none-more, some-found}
+use Rattle.mc_forward.specs.FlightsInDomain.{net_in}
+use Rattle.mc_check.proofs.BelowLemmas.{first_of-below_none, none_found-more, first_of-found_at}
 use Rattle.mc_check.proofs.routers.wildcard_reason.Goals as goal
 
 pub loop-vif-init : goal.loop-vif-init
-loop-vif-init c = none-start _
+loop-vif-init c = first_of-below_none _
 
 pub returns-then-is_some : goal.returns-then-is_some
 returns-then-is_some c =
     let n = net_in c.args.view.now in
-    let e : is_some (entry_at c.args.named.now (n.placed c.args.router c.loop-vif.vif)) ≡ true =
+    let e : is_some (entry_at c.args.by_lan.now (n.placed c.args.router c.loop-vif.vif)) ≡ true =
     cc in
-    sym (some-found (wild_at n c.args.named.now c.args.router) c.loop-vif.vif 32 _
+    sym (first_of-found_at (open_row_reason n c.args.by_lan.now c.args.router) c.loop-vif.vif 32 _
     c.loop-vif.invariant
     (ap (λ (b : Bool). unless (not b) (Wildcard c.args.router c.loop-vif.vif)) e)
     c.loop-vif-test.true)
@@ -21,7 +21,7 @@ returns-then-is_some c =
 pub loop-vif-preserved : goal.loop-vif-preserved
 loop-vif-preserved c =
     let n = net_in c.args.view.now in
-    let e : is_some (entry_at c.args.named.now (n.placed c.args.router c.loop-vif.vif)) ≡ false =
+    let e : is_some (entry_at c.args.by_lan.now (n.placed c.args.router c.loop-vif.vif)) ≡ false =
     cc in
-    none-more (wild_at n c.args.named.now c.args.router) c.loop-vif.vif c.loop-vif.invariant
+    none_found-more (open_row_reason n c.args.by_lan.now c.args.router) c.loop-vif.vif c.loop-vif.invariant
     (ap (λ (b : Bool). unless (not b) (Wildcard c.args.router c.loop-vif.vif)) e)

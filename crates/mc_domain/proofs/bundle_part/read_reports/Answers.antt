@@ -1,16 +1,16 @@
 use Rattle.std.proofs.Common.{subst, sym, ◌∙◌}
-use Rattle.mc_text.specs.Steps.{refused_as}
+use Rattle.mc_text.specs.Steps.{map_fault}
 use Rattle.mc_igmp.specs.ReadingList.{read_list}
 use Rattle.mc_forward.specs.Assembling.{AreChannelsWanted}
-use Rattle.mc_domain.specs.PartsInTurn.{IsToldOf}
+use Rattle.mc_domain.specs.PartsOneByOne.{IsPartResult}
 use Rattle.mc_domain.specs.declared.fault.InputFault.TheVariants.{Reports as RefusedReports}
 use Rattle.mc_domain.proofs.bundle_part.read_reports.Goals as goal
 
-pub returns-clause-told : goal.returns-clause-told
-returns-clause-told g c = λ text told.
-    let fed = c.in_ok-name.ensures.part text told in
+pub returns-clause-read : goal.returns-clause-read
+returns-clause-read g c = λ text remaining.
+    let fed = c.in_ok-name.ensures.part text remaining in
     let part = fed.1 in
-    let told = c.wanted_told.ensures.wanted (read_list part.bytes) (λ loud.
+    let remaining = c.wanted_or_fault.ensures.wanted (read_list part.bytes) (λ loud.
     sym (c.new-reader.ensures.reads part.bytes) ∙ fed.4.3 ∙ sym c.finish.ensures.ends) in (
       fed.0,
       part,
@@ -18,7 +18,7 @@ returns-clause-told g c = λ text told.
       fed.3,
       (
         fed.4.0,
-        subst (λ n. IsToldOf (λ wanted records. AreChannelsWanted c.args.channels.now records wanted)
-            c.wanted_told.result (refused_as (RefusedReports n) (read_list part.bytes))) (sym fed.4.1) told,
+        subst (λ n. IsPartResult (λ wanted records. AreChannelsWanted c.args.channels.now records wanted)
+            c.wanted_or_fault.result (map_fault (RefusedReports n) (read_list part.bytes))) (sym fed.4.1) remaining,
       ),
     )

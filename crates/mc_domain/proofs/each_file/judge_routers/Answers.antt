@@ -1,7 +1,7 @@
 use Rattle.std.proofs.Common.{List, ℕ, arith, map, refl, rules, ◌∙◌}
 use denote.Ref.{Bor}
-use Rattle.mc_domain.specs.RefusedFiles.{seen}
-use Rattle.mc_domain.proofs.RefusedLemmas.{judges_none, routers_all, routers_next_row}
+use Rattle.mc_domain.specs.RefusedFiles.{as_judged_file}
+use Rattle.mc_domain.proofs.RefusedLemmas.{JudgesFiles-none, JudgesFiles-routers_all, JudgesFiles-routers_more_by_row}
 use Rattle.mc_domain.proofs.each_file.judge_routers.Goals as goal
 
 pub loop-router-init : goal.loop-router-init
@@ -10,7 +10,7 @@ loop-router-init g c = record {
   room = c.requires.room;
   same = refl;
   kept = refl;
-  judged = judges_none (g.F.FileSource.told c.args.files.now) (map seen c.args.refused.now.items)
+  judged = JudgesFiles-none (g.F.FileSource.contents c.args.files.now) (map as_judged_file c.args.refused.now.items)
       (g.F.FileSource.failed c.args.files.now);
 }
 
@@ -20,11 +20,11 @@ loop-router-preserved g c = record {
   room = search rules;
   same = c.judge_tables.ensures.same ∙ c.loop-router.invariant.same;
   kept = c.judge_tables.ensures.kept ∙ c.loop-router.invariant.kept;
-  judged = routers_next_row (g.F.FileSource.told c.args.files.now)
-      (g.F.FileSource.told c.loop-router.files) (map (λ (n : Bor (List ℕ)). n.now) c.args.without.now)
+  judged = JudgesFiles-routers_more_by_row (g.F.FileSource.contents c.args.files.now)
+      (g.F.FileSource.contents c.loop-router.files) (map (λ (n : Bor (List ℕ)). n.now) c.args.without.now)
       c.args.topology.now.routers c.loop-router.router c.router_name-name.result.now c.order-order.result
-      (map seen c.args.refused.now.items) (map seen c.loop-router.refused.items)
-      (map seen c.judge_tables.new.refused.items) (g.F.FileSource.failed c.args.files.now)
+      (map as_judged_file c.args.refused.now.items) (map as_judged_file c.loop-router.refused.items)
+      (map as_judged_file c.judge_tables.new.refused.items) (g.F.FileSource.failed c.args.files.now)
       (g.F.FileSource.failed c.loop-router.files) (g.F.FileSource.failed c.judge_tables.new.files)
       c.router_name-name.ensures.name c.order-order.ensures c.loop-router.invariant.kept
       c.loop-router.invariant.judged
@@ -33,8 +33,8 @@ loop-router-preserved g c = record {
 
 pub returns-clause-judged : goal.returns-clause-judged
 returns-clause-judged g c =
-    routers_all (g.F.FileSource.told c.args.files.now) (map (λ (n : Bor (List ℕ)). n.now) c.args.without.now)
+    JudgesFiles-routers_all (g.F.FileSource.contents c.args.files.now) (map (λ (n : Bor (List ℕ)). n.now) c.args.without.now)
     c.args.topology.now.routers c.loop-router.router
-    (map seen c.args.refused.now.items) (map seen c.loop-router.refused.items)
+    (map as_judged_file c.args.refused.now.items) (map as_judged_file c.loop-router.refused.items)
     (g.F.FileSource.failed c.args.files.now) (g.F.FileSource.failed c.loop-router.files)
     (omega (arith, c.loop-router-test.false, c.loop-router.invariant.count)) c.loop-router.invariant.judged

@@ -3,8 +3,8 @@ use Rattle.std.proofs.Common.{rules, length-take, append_assoc}
 use Rattle.std.specs.Prelude.{is_ok}
 use Rattle.std.proofs.lemmas.List.{length-append}
 use Rattle.mc_text.specs.Bundle.{max_part}
-use Rattle.mc_text.proofs.PartsMeaning.{consumed}
-use Rattle.mc_domain.proofs.FeedLemmas.{fed_on, taken_with}
+use Rattle.mc_text.proofs.PartsMeaning.{split-from_Consumes}
+use Rattle.mc_domain.proofs.FeedLemmas.{result_after-append_piece, fact-from_OnOk}
 use Rattle.mc_domain.proofs.fed_file.feed_open.Goals as goal
 
 pub pieces-preserved : goal.pieces-preserved
@@ -21,7 +21,7 @@ pieces-preserved g c =
       failures = c.in_ok-count.ensures.failures ∙ c.pieces.invariant.failures;
       part = λ bytes is.
           let known = c.pieces.invariant.part bytes is in
-          let next = consumed _ _ piece known.1 c.in_ok-count.ensures.bytes.0 known.2 in (
+          let next = split-from_Consumes _ _ piece known.1 c.in_ok-count.ensures.bytes.0 known.2 in (
             known.0 ++ piece,
             next.0,
             next.1,
@@ -33,9 +33,9 @@ pieces-preserved g c =
                 omega (arith, within, length-append piece more, length-append known.0 piece) in
                 let room : g.P.PieceReader.size c.pieces.reader + length (piece ++ more) ≤ max_part =
                 omega (arith, fits, known.4) in
-                fed_on (g.P.PieceReader.ends c.args.reader.now)
-                (g.P.PieceReader.ends c.pieces.reader) (g.P.PieceReader.ends c.take.new.self)
+                result_after-append_piece (g.P.PieceReader.result_after c.args.reader.now)
+                (g.P.PieceReader.result_after c.pieces.reader) (g.P.PieceReader.result_after c.take.new.self)
                 known.0 piece more (known.6 (piece ++ more) fits)
-                (taken_with c.take.result taken (c.take.ensures.goes_on more room)),
+                (fact-from_OnOk c.take.result taken (c.take.ensures.goes_on more room)),
           );
     }

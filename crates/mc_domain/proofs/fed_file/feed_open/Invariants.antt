@@ -5,14 +5,14 @@ use Rattle.mc_domain.proofs.fed_file.feed_open.Given as goal
 abbrev pub invariant-pieces : goal.invariant-pieces
 invariant-pieces g l = record {
   room : 0 < length l.buffer;
-  same : g.F.FileSource.names l.files ≡ g.F.FileSource.names l.fn.files;
-  kept : g.F.FileSource.told l.files ≡ g.F.FileSource.told l.fn.files;
+  same : g.F.FileSource.borrows l.files ≡ g.F.FileSource.borrows l.fn.files;
+  kept : g.F.FileSource.contents l.files ≡ g.F.FileSource.contents l.fn.files;
   failures : g.F.FileSource.failed l.files ≡ g.F.FileSource.failed l.fn.files;
   part : (bytes : List ℕ) → g.F.PieceSource.left l.fn.files ≡ Some bytes →
       (done : List ℕ) × (rest : List ℕ) × (g.F.PieceSource.left l.files ≡ Some rest) × (bytes ≡ done ++ rest)
       × (g.P.PieceReader.size l.reader ≤ length done) × (length done + l.left ≡ max_part)
       × ((more : List ℕ) → length done + length more ≤ max_part →
-      g.P.PieceReader.ends l.fn.reader (done ++ more) ≡ g.P.PieceReader.ends l.reader more);
+      g.P.PieceReader.result_after l.fn.reader (done ++ more) ≡ g.P.PieceReader.result_after l.reader more);
 }
 
 abbrev pub decreases-pieces : goal.decreases-pieces

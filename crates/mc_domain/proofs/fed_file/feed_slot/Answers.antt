@@ -1,14 +1,14 @@
 use Rattle.std.proofs.Common.{◌≡◌, ◌∙◌, Ok, refl, sym, subst}
-use Rattle.mc_layout.specs.FilePart.{part_bytes}
+use Rattle.mc_layout.specs.FilePart.{bytes_within_max_part}
 use Rattle.mc_layout.specs.Files.{file_named}
 use Rattle.mc_layout.specs.Layout.{part_name}
 use Rattle.mc_domain.proofs.fed_file.feed_slot.Goals as goal
 
 pub returns-clause-part : goal.returns-clause-part
-returns-clause-part g c = λ told is.
-    let fed = c.in_ok-feed_file.ensures.bytes told is in
+returns-clause-part g c = λ contents is.
+    let fed = c.in_ok-feed_file.ensures.bytes contents is in
     let same = c.deref.ensures ∙ c.in_ok-file.ensures in
-    let named = subst (λ n. part_bytes (file_named told n) ≡ Ok fed.0) same fed.1 in (
+    let named = subst (λ n. bytes_within_max_part (file_named contents n) ≡ Ok fed.0) same fed.1 in (
       record { name = part_name c.args.slot.now; bytes = fed.0 },
       rw (named) refl,
       sym c.in_ok-name.ensures,

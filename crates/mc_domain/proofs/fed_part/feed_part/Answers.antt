@@ -2,18 +2,18 @@ use Rattle.std.proofs.Common.{◌≡◌, ◌+◌, ◌≤◌, ◌++◌, [], true,
 use Rattle.std.specs.Prelude.{is_ok}
 use Rattle.std.proofs.lemmas.List.{append-nil, length-append}
 use Rattle.mc_text.specs.Lines.{max_text}
-use Rattle.mc_text.proofs.ToComeLemmas.{goes_on, part_passed}
-use Rattle.mc_domain.proofs.FeedLemmas.{fed_on, taken_with}
+use Rattle.mc_text.proofs.RestOfBundleLemmas.{advances, parts_from_current-in_part}
+use Rattle.mc_domain.proofs.FeedLemmas.{result_after-append_piece, fact-from_OnOk}
 use Rattle.mc_domain.proofs.fed_part.feed_part.Goals as goal
 
-pub returns-in_err-count-clause-goes_on : goal.returns-in_err-count-clause-goes_on
-returns-in_err-count-clause-goes_on g c =
-    goes_on c.args.parts.now c.pieces.parts c.read.new.self c.pieces.invariant.goes_on
-    (sym c.in_err-count.ensures.names) c.in_err-count.ensures.consumed
+pub returns-in_err-count-clause-advances : goal.returns-in_err-count-clause-advances
+returns-in_err-count-clause-advances g c =
+    advances c.args.parts.now c.pieces.parts c.read.new.self c.pieces.invariant.advances
+    (sym c.in_err-count.ensures.borrows) c.in_err-count.ensures.consumed
 
 pub returns-then-count-eq0-clause-part : goal.returns-then-count-eq0-clause-part
-returns-then-count-eq0-clause-part g c = λ text told.
-    let known = c.pieces.invariant.part text told in
+returns-then-count-eq0-clause-part g c = λ text remaining.
+    let known = c.pieces.invariant.part text remaining in
     let done = known.1 in
     let new = c.read.new.self in
     let name = c.requires.opened in
@@ -25,7 +25,7 @@ returns-then-count-eq0-clause-part g c = λ text told.
     let end = c.in_ok-count.ensures.end none c.pieces.invariant.opened in
     let last : new.left ≡ 0 = grind arith in
     let empty : piece ≡ [] = ap (λ n. take n c.read.new.buffer) none in
-    let whole = known.3 ∙ read.3 ∙ part_passed new name.0 (done ++ piece) read.0
+    let whole = known.3 ∙ read.3 ∙ parts_from_current-in_part new name.0 (done ++ piece) read.0
     (same.0 ∙ c.pieces.invariant.opened) (same.1 ∙ c.pieces.invariant.name ∙ name.1.named) in
     let bytes : (done ++ piece) ++ take new.left read.0 ≡ done ++ [] =
     ap (λ n. (done ++ piece) ++ take n read.0) last ∙ append-nil (done ++ piece)
@@ -36,13 +36,13 @@ returns-then-count-eq0-clause-part g c = λ text told.
       whole,
       name.1.named,
       omega (arith, ap length bytes, length-append done [], known.5),
-      ap (g.P.PieceReader.ends c.args.reader.now) bytes ∙ known.6 [] (omega (arith, known.5)),
+      ap (g.P.PieceReader.result_after c.args.reader.now) bytes ∙ known.6 [] (omega (arith, known.5)),
     )
 
-pub returns-then-is_err-clause-goes_on : goal.returns-then-is_err-clause-goes_on
-returns-then-is_err-clause-goes_on g c =
-    goes_on c.args.parts.now c.pieces.parts c.read.new.self c.pieces.invariant.goes_on
-    (sym c.in_ok-count.ensures.names) c.in_ok-count.ensures.consumed
+pub returns-then-is_err-clause-advances : goal.returns-then-is_err-clause-advances
+returns-then-is_err-clause-advances g c =
+    advances c.args.parts.now c.pieces.parts c.read.new.self c.pieces.invariant.advances
+    (sym c.in_ok-count.ensures.borrows) c.in_ok-count.ensures.consumed
 
 pub pieces-preserved : goal.pieces-preserved
 pieces-preserved g c =
@@ -55,14 +55,14 @@ pieces-preserved g c =
     let long : length piece ≡ count =
     omega (arith, length-take count c.read.new.buffer, c.in_ok-count.ensures.bound) in
     record {
-      goes_on = goes_on c.args.parts.now c.pieces.parts new c.pieces.invariant.goes_on
-          (sym c.in_ok-count.ensures.names) c.in_ok-count.ensures.consumed;
+      advances = advances c.args.parts.now c.pieces.parts new c.pieces.invariant.advances
+          (sym c.in_ok-count.ensures.borrows) c.in_ok-count.ensures.consumed;
       failures = c.in_ok-count.ensures.failures ∙ c.pieces.invariant.failures;
       opened = same.0 ∙ c.pieces.invariant.opened;
       name = same.1 ∙ c.pieces.invariant.name;
       room = search rules;
-      part = λ text told.
-          let known = c.pieces.invariant.part text told in
+      part = λ text remaining.
+          let known = c.pieces.invariant.part text remaining in
           let read = c.in_ok-count.ensures.bytes known.0 known.1 known.2 in (
             read.0,
             known.1 ++ piece,
@@ -75,9 +75,9 @@ pieces-preserved g c =
                 omega (arith, within, length-append piece more, length-append known.1 piece) in
                 let room : g.P.PieceReader.size c.pieces.reader + length (piece ++ more) ≤ max_text =
                 omega (arith, fits, known.4) in
-                fed_on (g.P.PieceReader.ends c.args.reader.now)
-                (g.P.PieceReader.ends c.pieces.reader) (g.P.PieceReader.ends c.take.new.self)
+                result_after-append_piece (g.P.PieceReader.result_after c.args.reader.now)
+                (g.P.PieceReader.result_after c.pieces.reader) (g.P.PieceReader.result_after c.take.new.self)
                 known.1 piece more (known.6 (piece ++ more) fits)
-                (taken_with c.take.result taken (c.take.ensures.goes_on more room)),
+                (fact-from_OnOk c.take.result taken (c.take.ensures.advances more room)),
           );
     }

@@ -4,14 +4,14 @@ use Rattle.std.specs.Str.{bytes_eq}
 use Rattle.std.proofs.lemmas.Result.{err_from_is_err_and}
 use Rattle.std.proofs.lemmas.Slice.Eq.{bytes_eq-Decides}
 use Rattle.mc_text.specs.Bundle.{PartText}
-use Rattle.mc_text.specs.Steps.{refused_as}
-use Rattle.mc_text.proofs.ToComeLemmas.{goes_both, others_ended, others_opened, others_refused, part_passed}
+use Rattle.mc_text.specs.Steps.{map_fault}
+use Rattle.mc_text.proofs.RestOfBundleLemmas.{advances_trans, rest_of_bundle-ended, rest_of_bundle-opened, rest_of_bundle-fault, parts_from_current-in_part}
 use Rattle.mc_layout.specs.Layout.{part_name}
 use Rattle.mc_domain.specs.InputReading.{named}
 use Rattle.mc_domain.specs.declared.fault.InputFault.{InputFault}
 use Rattle.mc_domain.specs.declared.source_fault.SourceFault.TheVariants.{Input as refused}
-use Rattle.mc_domain.proofs.ComingLemmas.{first_decides, framing_refused, framing_right, framing_wrong}
-use Rattle.mc_domain.proofs.ComingLemmas.{none_comes}
+use Rattle.mc_domain.proofs.ReadRestLemmas.{read_rest-first_part_Err, read_rest-framing_refused, framing-Ok, read_rest-framing_Err}
+use Rattle.mc_domain.proofs.ReadRestLemmas.{read_rest-none}
 use Rattle.mc_domain.proofs.slot_part.open_named.Goals as goal
 
 pub returns-in_err-next-clause-fault : goal.returns-in_err-next-clause-fault
@@ -20,87 +20,87 @@ returns-in_err-next-clause-fault g c =
     let s = c.args.parts.now in
     let read : List PartText → Result PartText InputFault =
     λ others. named (slice_get others 0) (part_name c.args.slot.now) c.args.number in
-    rw p.1 (λ text told loud. framing_refused s text read c.in_err-next.field-0.0 p.0 p.2
-    (λ read_fault memory. others_refused s [] text c.in_err-next.field-0.0
-    (c.in_err-next.ensures.fault text [] told read_fault)) loud)
+    rw p.1 (λ text remaining loud. read_rest-framing_refused s text read c.in_err-next.field-0.0 p.0 p.2
+    (λ read_fault memory. rest_of_bundle-fault s [] text c.in_err-next.field-0.0
+    (c.in_err-next.ensures.fault text [] remaining read_fault)) loud)
 
 pub returns-then-not-branch-clause-fault : goal.returns-then-not-branch-clause-fault
-returns-then-not-branch-clause-fault g c = λ text told loud.
+returns-then-not-branch-clause-fault g c = λ text remaining loud.
     let s = c.args.parts.now in
     let read : List PartText → Result PartText InputFault =
     λ others. named (slice_get others 0) (part_name c.args.slot.now) c.args.number in
     let last : c.in_ok-next.field-0 ≡ false = grind arith in
-    ap (refused_as refused) (none_comes s text read (others_ended s [] text
-    (c.in_ok-next.ensures.ended text [] told (ap Ok last))))
+    ap (map_fault refused) (read_rest-none s text read (rest_of_bundle-ended s [] text
+    (c.in_ok-next.ensures.ended text [] remaining (ap Ok last))))
 
-pub returns-in_err-read_to_end-clause-fault : goal.returns-in_err-read_to_end-clause-fault
-returns-in_err-read_to_end-clause-fault g c =
-    let p = err_from_is_err_and c.from_residual-in_err-read_to_end.result
-    c.from_residual-in_err-read_to_end.ensures.1 in
+pub returns-in_err-drain-clause-fault : goal.returns-in_err-drain-clause-fault
+returns-in_err-drain-clause-fault g c =
+    let p = err_from_is_err_and c.from_residual-in_err-drain.result
+    c.from_residual-in_err-drain.ensures.1 in
     let s = c.args.parts.now in
     let new = c.next.new.self in
     let read : List PartText → Result PartText InputFault =
     λ others. named (slice_get others 0) (part_name c.args.slot.now) c.args.number in
     let more : c.in_ok-next.field-0 ≡ true = grind arith in
-    let stands = c.in_ok-next.ensures.open (ap Ok more) in
-    rw (p.1, p.2) (λ text told loud.
-    let next = c.in_ok-next.ensures.opened text [] told (ap Ok more) in
-    let here = others_opened s [] text _ next.2
-    ∙ part_passed new c.name.result [] next.0 stands.0 c.name.ensures in
-    framing_wrong s new text next.0
-    (record { name = c.name.result; bytes = [] ++ take new.left next.0 } ∷ []) read c.in_err-read_to_end.field-0.0 here
-    (c.in_err-read_to_end.ensures.framing next.0 next.1 loud))
+    let denotes = c.in_ok-next.ensures.open (ap Ok more) in
+    rw (p.1, p.2) (λ text remaining loud.
+    let next = c.in_ok-next.ensures.opened text [] remaining (ap Ok more) in
+    let here = rest_of_bundle-opened s [] text _ next.2
+    ∙ parts_from_current-in_part new c.name.result [] next.0 denotes.0 c.name.ensures in
+    read_rest-framing_Err s new text next.0
+    (record { name = c.name.result; bytes = [] ++ take new.left next.0 } ∷ []) read c.in_err-drain.field-0.0 here
+    (c.in_err-drain.ensures.framing next.0 next.1 loud))
 
-pub returns-in_err-read_to_end-clause-goes_on : goal.returns-in_err-read_to_end-clause-goes_on
-returns-in_err-read_to_end-clause-goes_on g c =
-    goes_both c.args.parts.now c.next.new.self c.read_to_end.new.parts
-    (c.in_ok-next.ensures.names, c.in_ok-next.ensures.consumed)
-    c.in_err-read_to_end.ensures.goes_on
+pub returns-in_err-drain-clause-advances : goal.returns-in_err-drain-clause-advances
+returns-in_err-drain-clause-advances g c =
+    advances_trans c.args.parts.now c.next.new.self c.drain.new.parts
+    (c.in_ok-next.ensures.borrows, c.in_ok-next.ensures.consumed)
+    c.in_err-drain.ensures.advances
 
 pub returns-then-not-is_named-clause-fault : goal.returns-then-not-is_named-clause-fault
-returns-then-not-is_named-clause-fault g c = λ text told loud.
+returns-then-not-is_named-clause-fault g c = λ text remaining loud.
     let s = c.args.parts.now in
     let new = c.next.new.self in
     let read : List PartText → Result PartText InputFault =
     λ others. named (slice_get others 0) (part_name c.args.slot.now) c.args.number in
     let more : c.in_ok-next.field-0 ≡ true = grind arith in
-    let stands = c.in_ok-next.ensures.open (ap Ok more) in
-    let next = c.in_ok-next.ensures.opened text [] told (ap Ok more) in
-    let here = others_opened s [] text _ next.2
-    ∙ part_passed new c.name.result [] next.0 stands.0 c.name.ensures in
-    let right = framing_right new next.0 tt (c.in_ok-read_to_end.ensures.framing next.0 next.1) in
+    let denotes = c.in_ok-next.ensures.open (ap Ok more) in
+    let next = c.in_ok-next.ensures.opened text [] remaining (ap Ok more) in
+    let here = rest_of_bundle-opened s [] text _ next.2
+    ∙ parts_from_current-in_part new c.name.result [] next.0 denotes.0 c.name.ensures in
+    let right = framing-Ok new next.0 tt (c.in_ok-drain.ensures.framing next.0 next.1) in
     let other : c.is_named.result ≡ false = grind arith in
     let differs : bytes_eq c.name.result (part_name c.args.slot.now) ≡ false =
     ap (λ bytes. bytes_eq bytes (part_name c.args.slot.now)) (sym c.as_bytes.ensures.bytes)
     ∙ sym c.is_named.ensures ∙ other in
-    ap (refused_as refused) (first_decides s new text next.0
+    ap (map_fault refused) (read_rest-first_part_Err s new text next.0
     (record { name = c.name.result; bytes = [] ++ take new.left next.0 }) right.0 read _ here right.1
     (rw differs refl))
 
-pub returns-then-not-is_named-clause-goes_on : goal.returns-then-not-is_named-clause-goes_on
-returns-then-not-is_named-clause-goes_on g c =
-    goes_both c.args.parts.now c.next.new.self c.read_to_end.new.parts
-    (c.in_ok-next.ensures.names, c.in_ok-next.ensures.consumed)
-    c.in_ok-read_to_end.ensures.goes_on
+pub returns-then-not-is_named-clause-advances : goal.returns-then-not-is_named-clause-advances
+returns-then-not-is_named-clause-advances g c =
+    advances_trans c.args.parts.now c.next.new.self c.drain.new.parts
+    (c.in_ok-next.ensures.borrows, c.in_ok-next.ensures.consumed)
+    c.in_ok-drain.ensures.advances
 
 pub returns-clause-opened : goal.returns-clause-opened
 returns-clause-opened g c =
     let more : c.in_ok-next.field-0 ≡ true = grind arith in
-    let stands = c.in_ok-next.ensures.open (ap Ok more) in
+    let denotes = c.in_ok-next.ensures.open (ap Ok more) in
     let same : c.is_named.result ≡ true = grind arith in
     let name : c.name.result ≡ part_name c.args.slot.now =
     sym c.as_bytes.ensures.bytes
     ∙ (bytes_eq-Decides c.as_bytes.result.now (part_name c.args.slot.now)).0
     (sym c.is_named.ensures ∙ same) in
     record {
-      stage = stands.0;
+      stage = denotes.0;
       named = c.name.ensures ∙ ap Some name;
-      left = stands.1;
+      left = denotes.1;
       size = c.in_ok-next.ensures.bound (ap Ok more);
     }
 
 pub returns-clause-part : goal.returns-clause-part
-returns-clause-part g c = λ text told.
+returns-clause-part g c = λ text remaining.
     let more : c.in_ok-next.field-0 ≡ true = grind arith in
-    let next = c.in_ok-next.ensures.opened text [] told (ap Ok more) in
-    (next.0, next.1, others_opened c.args.parts.now [] text _ next.2)
+    let next = c.in_ok-next.ensures.opened text [] remaining (ap Ok more) in
+    (next.0, next.1, rest_of_bundle-opened c.args.parts.now [] text _ next.2)

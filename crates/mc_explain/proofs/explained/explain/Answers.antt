@@ -1,25 +1,25 @@
 -- By the travels' last flights.
 use Rattle.std.proofs.Common.{ap, subst}
-use Rattle.mc_forward.specs.Journeys.{net_in}
+use Rattle.mc_forward.specs.FlightsInDomain.{net_in}
 use Rattle.mc_replay.specs.FindingValues.{finding_value}
-use Rattle.mc_maker.specs.Flown.{IsFlown}
-use Rattle.mc_maker.specs.declared.flown.Flown.{Flown}
-use Rattle.mc_explain.proofs.EndsLemmas.{ends-least, missed-reach}
+use Rattle.mc_maker.specs.ExaminedFlights.{HasExaminedFlights}
+use Rattle.mc_maker.specs.declared.examined_flights.ExaminedFlights.{ExaminedFlights}
+use Rattle.mc_explain.proofs.LastFlightLemmas.{ends_travel-at_flow_ttl, is_out_of_reach-from_finished}
 use Rattle.mc_explain.proofs.explained.explain.Goals as goal
 
-pub out_of_reach-requires-clause-way : goal.out_of_reach-requires-clause-way
-out_of_reach-requires-clause-way c =
+pub explain_least_ttl-requires-clause-path : goal.explain_least_ttl-requires-clause-path
+explain_least_ttl-requires-clause-path c =
     let d = c.args.domain.now in
-    let flown = subst (λ (x : Flown). IsFlown d c.args.flow x) c.in-AtLeast.is c.requires.flown in
-    missed-reach d c.args.flow c.in-Missed.lan c.new-view.result c.in-AtLeast.greatest
-    c.in-AtLeast.least c.new-view.ensures.rules c.new-view.ensures.flow flown.0 flown.1 flown.2
+    let examined_flights = subst (λ (x : ExaminedFlights). HasExaminedFlights d c.args.flow x) c.in-FoundAtFlowTtl.is c.requires.examined_flights in
+    is_out_of_reach-from_finished d c.args.flow c.in-Missed.lan c.new-view.result c.in-FoundAtFlowTtl.greatest
+    c.in-FoundAtFlowTtl.least c.new-view.ensures.rules c.new-view.ensures.flow examined_flights.0 examined_flights.1 examined_flights.2
     (ap finding_value c.in-Missed.is)
 
 pub finding-requires-in_default : goal.finding-requires-in_default
 finding-requires-in_default c =
     let d = c.args.domain.now in
-    let flown = subst (λ (x : Flown). IsFlown d c.args.flow x) c.in-AtLeast.is c.requires.flown in (
+    let examined_flights = subst (λ (x : ExaminedFlights). HasExaminedFlights d c.args.flow x) c.in-FoundAtFlowTtl.is c.requires.examined_flights in (
       (net_in c.new-view.result).ttl,
-      ends-least d c.args.flow c.new-view.result
-          c.in-AtLeast.least c.new-view.ensures.rules c.new-view.ensures.flow flown.2,
+      ends_travel-at_flow_ttl d c.args.flow c.new-view.result
+          c.in-FoundAtFlowTtl.least c.new-view.ensures.rules c.new-view.ensures.flow examined_flights.2,
     )

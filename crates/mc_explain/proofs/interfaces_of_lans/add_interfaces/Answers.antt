@@ -3,13 +3,13 @@ use Rattle.std.proofs.Common.{◌≡◌, ℕ, ◌<◌, ◌++◌, List, [], ◌�
 use Rattle.std.proofs.Common.{subst, ◌∙◌, arith, append_assoc}
 use Rattle.std.specs.Prelude.{unwrap_or}
 use Rattle.std.proofs.lemmas.List.{length-set, take_more, take_all}
-use Rattle.mc_topology.specs.Rows.{InterfaceRow}
+use Rattle.mc_topology.specs.SectionRows.{InterfaceRow}
 use Rattle.mc_topology.specs.Topology.{TopologyValue}
 use Rattle.mc_forward.specs.ListedTables.{facts}
 use Rattle.mc_explain.specs.declared.listed_interface.ListedInterface.{ListedInterface}
-use Rattle.mc_explain.specs.Numbered.{Holds}
-use Rattle.mc_explain.specs.TopologyLans.{interface_at, listed_at, listed_of}
-use Rattle.mc_explain.proofs.BucketLemmas.{holds-more}
+use Rattle.mc_explain.specs.BucketsAndMarks.{AreBuckets}
+use Rattle.mc_explain.specs.TopologyLans.{interface_at, listed_interface_at, listed_interface_of}
+use Rattle.mc_explain.proofs.BucketLemmas.{are_buckets-more}
 use Rattle.mc_explain.proofs.interfaces_of_lans.add_interfaces.Goals as goal
 
 pub loop-number-preserved : goal.loop-number-preserved
@@ -33,19 +33,19 @@ loop-number-preserved c =
     let lans : length t.lans ≡ length d.topology.lans = ap (λ (x : TopologyValue). length x.lans) same
     in
     let within : q < length lists =
-    omega (arith, own, lans, c.interface-interface.ensures.among.lan, c.loop-number.invariant.count) in
-    let item : c.listed_of-listed.result ≡ listed_at d k = c.listed_of-listed.ensures
-    ∙ ap (listed_of d k) (sym found) in
-    let more : c.push.new.self.items ≡ c.index_mut-list.result.now ++ listed_at d k ∷ [] =
+    omega (arith, own, lans, c.interface-interface.ensures.valid.lan, c.loop-number.invariant.count) in
+    let item : c.listed_interface_of-listed.result ≡ listed_interface_at d k = c.listed_interface_of-listed.ensures
+    ∙ ap (listed_interface_of d k) (sym found) in
+    let more : c.push.new.self.items ≡ c.index_mut-list.result.now ++ listed_interface_at d k ∷ [] =
     c.in_ok-push.ensures.items
-    ∙ ap (λ (xs : List ListedInterface). xs ++ c.listed_of-listed.result ∷ []) c.list.view_is
+    ∙ ap (λ (xs : List ListedInterface). xs ++ c.listed_interface_of-listed.result ∷ []) c.list.view_is
     ∙ ap (λ (x : ListedInterface). c.index_mut-list.result.now ++ x ∷ []) item in
     record {
       count = length-set lists q c.push.new.self.items ∙ c.loop-number.invariant.count;
-      holds = λ earlier h. subst (Holds (listed_at d) number _)
+      holds = λ earlier h. subst (AreBuckets (listed_interface_at d) number _)
           (append_assoc earlier (take i numbers) (k ∷ [])
           ∙ ap (λ (ks : List ℕ). earlier ++ ks) (sym (take_more numbers i 0 c.loop-number-test.true)))
-          (holds-more (listed_at d) number lists (earlier ++ take i numbers) k q
+          (are_buckets-more (listed_interface_at d) number lists (earlier ++ take i numbers) k q
           c.index_mut-list.result.now c.push.new.self.items at within
           c.index_mut-list.ensures.value more (c.loop-number.invariant.holds earlier h));
     }
@@ -53,7 +53,7 @@ loop-number-preserved c =
 pub returns-clause-each : goal.returns-clause-each
 returns-clause-each c = λ earlier h.
     let numbers = c.args.numbers.now in
-    subst (λ (ks : List ℕ). Holds (listed_at (facts c.args.domain.now))
+    subst (λ (ks : List ℕ). AreBuckets (listed_interface_at (facts c.args.domain.now))
     (λ (k : ℕ). (interface_at c.args.domain.now.topology k).lan) c.loop-number.lists.items
     (earlier ++ ks)) (take_all c.loop-number.number-index numbers c.loop-number-test.false)
     (c.loop-number.invariant.holds earlier h)

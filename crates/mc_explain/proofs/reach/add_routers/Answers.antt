@@ -3,22 +3,22 @@ use Rattle.std.proofs.Common.{◌≡◌, ℕ, List, ◌∷◌, inl, inr, map, re
 use Rattle.mc_theory.specs.Lists.{In}
 use Rattle.mc_forward.specs.ListedTables.{facts}
 use Rattle.mc_explain.specs.declared.listed_interface.ListedInterface.{ListedInterface}
-use Rattle.mc_explain.specs.Searched.{add_met}
-use Rattle.mc_explain.proofs.ReachLemmas.{group-router}
+use Rattle.mc_explain.specs.SearchLine.{append_new}
+use Rattle.mc_explain.proofs.ReachLemmas.{group_router-of_topology}
 use Rattle.mc_explain.proofs.reach.add_routers.Goals as goal
 
 pub loop-own-init : goal.loop-own-init
 loop-own-init c =
-    let d = facts c.args.looking.now.view.now.domain in
+    let d = facts c.args.lan_probe.now.view.now.domain in
     let old = c.args.routers.now.items in
     let same = c.into_iter-own-iterator.ensures.into_iter_gives ∙ c.routers_on-own-items.ensures in
     record {
       count = refl;
       rest = ap (λ (gs : List (ℕ × List ListedInterface)).
-          add_met old (map (λ (g : ℕ × List ListedInterface). g.0) gs)) same;
+          append_new old (map (λ (g : ℕ × List ListedInterface). g.0) gs)) same;
       listed = c.requires.listed;
       inside = λ g h.
-          let lt = group-router d c.args.lan g (subst (In g) same h) in
+          let lt = group_router-of_topology d c.args.lan g (subst (In g) same h) in
           omega (arith, lt, c.requires.room);
     }
 
@@ -38,10 +38,10 @@ loop-own-preserved c =
     ap (λ (g : ℕ × List ListedInterface). g.0) c.own.view_is in
     record {
       count = c.in_ok-add_router.ensures.count ∙ c.loop-own.invariant.count;
-      rest = ap (λ (ms : List ℕ). add_met ms rest) c.in_ok-add_router.ensures.routers
-          ∙ ap (λ (r : ℕ). add_met old (r ∷ rest)) own
+      rest = ap (λ (ms : List ℕ). append_new ms rest) c.in_ok-add_router.ensures.routers
+          ∙ ap (λ (r : ℕ). append_new old (r ∷ rest)) own
           ∙ ap (λ (gs : List (ℕ × List ListedInterface)).
-          add_met old (map (λ (g : ℕ × List ListedInterface). g.0) gs)) (sym c.in-Some.ensures.steps)
+          append_new old (map (λ (g : ℕ × List ListedInterface). g.0) gs)) (sym c.in-Some.ensures.steps)
           ∙ c.loop-own.invariant.rest;
       listed = c.in_ok-add_router.ensures.listed;
       inside = λ g h. c.loop-own.invariant.inside g

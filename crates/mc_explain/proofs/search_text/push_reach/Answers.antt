@@ -2,7 +2,7 @@ use Rattle.std.proofs.Common.{◌≡◌, ℕ, ◌++◌, List, codes, ap, sym, �
 use Rattle.std.specs.Prelude.{OnOk}
 use Rattle.std.specs.String.{string_bytes}
 use Rattle.mc_explain.specs.SearchText.{routers_line}
-use Rattle.mc_explain.proofs.RouterLemmas.{reach-somewhere}
+use Rattle.mc_explain.proofs.RouterTextLemmas.{reach_text-some_router}
 use Rattle.mc_explain.proofs.search_text.push_reach.Goals as goal
 
 pub returns : goal.returns
@@ -18,7 +18,7 @@ returns c =
     ∙ ap (λ (rs : List ℕ). (old ++ first rs) ++ second c.deref-2.result.now) c.deref.ensures.value
     ∙ ap (λ (rs : List ℕ). (old ++ first sent_on) ++ second rs) c.deref-2.ensures.value
     ∙ append_assoc old (first sent_on) (second took_none)
-    ∙ ap (λ (l : List ℕ). old ++ l) (sym (reach-somewhere t sent_on took_none
-    (sym c.is_nowhere.ensures ∙ c.if-is_nowhere.false))) in
+    ∙ ap (λ (l : List ℕ). old ++ l) (sym (reach_text-some_router t sent_on took_none
+    (sym c.reaches_no_router.ensures ∙ c.if-reaches_no_router.false))) in
     subst (λ (l : List ℕ). OnOk c.push_routers-2.result
     (string_bytes c.push_routers-2.new.text ≡ l)) whole c.push_routers-2.ensures

@@ -2,8 +2,8 @@ use Rattle.std.proofs.Common.{ℕ, subst, sym}
 use Rattle.std.specs.List.{Contains}
 use Rattle.std.proofs.lemmas.List.Elements.{All-push}
 use Rattle.mc_text.specs.Pair.{pair_number}
-use Rattle.mc_filter.specs.ChannelPlaces.{IsPlace, channel_at}
-use Rattle.mc_filter.proofs.ChannelLemmas.{channels_more}
+use Rattle.mc_filter.specs.ChannelPlaces.{IsChannelPlace, channel_at}
+use Rattle.mc_filter.proofs.ChannelLemmas.{map-channels_more}
 use Rattle.mc_filter.proofs.channels.places_of.Goals as goal
 
 pub place_of-requires-clause-group : goal.place_of-requires-clause-group
@@ -19,9 +19,9 @@ place_of-requires-clause-channel c =
 
 pub loop-channel-preserved : goal.loop-channel-preserved
 loop-channel-preserved c = rw c.in_ok-push.ensures.items (record {
-  places = All-push (IsPlace c.args.groups.now c.args.channels.now) _ _
+  places = All-push (IsChannelPlace c.args.groups.now c.args.channels.now) _ _
       c.loop-channel.invariant.places c.place_of.ensures.place;
-  asked = channels_more (channel_at c.args.channels.now) _ _ c.args.asked.now
+  asked = map-channels_more (channel_at c.args.channels.now) _ _ c.args.asked.now
       c.loop-channel.channel-index c.channel-item.result c.loop-channel-test.true
       c.channel-item.is c.loop-channel.invariant.asked c.place_of.ensures.channel;
 })

@@ -1,11 +1,11 @@
 use Rattle.std.proofs.Common.{◌≡◌, map, take}
 use Rattle.std.specs.List.{All}
-use Rattle.mc_filter.specs.ChannelPlaces.{IsPlace, channel_at}
+use Rattle.mc_filter.specs.ChannelPlaces.{IsChannelPlace, channel_at}
 use Rattle.mc_filter.proofs.channels.places_of.Given as goal
 
 abbrev pub invariant-loop-channel : goal.invariant-loop-channel
 invariant-loop-channel l = record {
-  places : All (IsPlace l.fn.groups l.fn.channels) l.places.items;
+  places : All (IsChannelPlace l.fn.groups l.fn.channels) l.places.items;
   asked : map (channel_at l.fn.channels) l.places.items
       ≡ take l.channel-index l.fn.asked;
 }

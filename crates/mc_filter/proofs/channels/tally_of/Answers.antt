@@ -1,5 +1,5 @@
 use Rattle.std.proofs.Common.{sym, ◌∙◌}
-use Rattle.mc_filter.proofs.TallyLemmas.{EachTells-missed}
+use Rattle.mc_filter.proofs.TallyLemmas.{AreTallied-other_group}
 use Rattle.mc_filter.proofs.channels.tally_of.Goals as goal
 
 pub loop-group_record-init : goal.loop-group_record-init
@@ -32,9 +32,9 @@ loop-group_record-preserved c =
     record {
       groups = before.groups;
       channels = before.channels;
-      each = EachTells-missed c.args.groups.now c.args.channels.now c.args.reports.now
+      each = AreTallied-other_group c.args.groups.now c.args.channels.now c.args.reports.now
           c.next.new.self
-          c.loop-group_record.tally.excludes.items c.loop-group_record.tally.told.items
+          c.loop-group_record.tally.excludes.items c.loop-group_record.tally.states.items
           c.in-Some.group_record
           (rw (c.from-group.ensures, c.to_bits.ensures) at c.in_default.ensures.none)
           (rw c.in-Some.ensures.steps at before.each);

@@ -4,4 +4,4 @@ pub loop-group_record-init : goal.loop-group_record-init
 loop-group_record-init c =
     rw c.into_iter-group_record-iterator.ensures.into_iter_gives
     (rw c.records-group_record-items.ensures
-    (c.none-gathered.ensures c.args.reports.now c.args.group))
+    (c.none-filter_builder.ensures c.args.reports.now c.args.group))

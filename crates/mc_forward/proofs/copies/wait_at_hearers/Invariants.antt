@@ -1,6 +1,6 @@
 use Rattle.std.proofs.Common.{◌≡◌, ◌++◌, not, map, filter, length, take}
 use Rattle.mc_theory.specs.Flights.{hearers, is_sender, waits_at}
-use Rattle.mc_forward.specs.Journeys.{net_in}
+use Rattle.mc_forward.specs.FlightsInDomain.{net_in}
 use Rattle.mc_forward.proofs.copies.wait_at_hearers.Given as goal
 
 abbrev pub invariant-loop-interface : goal.invariant-loop-interface

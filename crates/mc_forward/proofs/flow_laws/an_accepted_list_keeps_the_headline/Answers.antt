@@ -3,5 +3,5 @@ use Rattle.mc_forward.proofs.flow_laws.an_accepted_list_keeps_the_headline.Goals
 
 pub returns : goal.returns
 returns c = λ d flow es ok lt accepted.
-    c.the_headline_holds.ensures (net_of d flow) es (c.domains_are_nets.ensures.net d flow ok)
+    c.accepted_flow_keeps_headline.ensures (net_of d flow) es (c.domains_are_nets.ensures.net d flow ok)
     (c.domains_are_nets.ensures.ttl_from d flow ok lt) accepted

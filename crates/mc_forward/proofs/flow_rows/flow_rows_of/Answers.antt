@@ -1,22 +1,22 @@
 use Rattle.std.proofs.Common.{List, ◌++◌, [], ◌∷◌, ap, ◌∙◌}
 use Rattle.std.proofs.lemmas.List.{length-set}
 use Rattle.mc_theory.specs.Nets.{Row}
-use Rattle.mc_forward.specs.Domains.{TablesValue, row_in}
-use Rattle.mc_forward.specs.Rows.{row_seen}
-use Rattle.mc_forward.proofs.RowLemmas.{rows-taken}
+use Rattle.mc_forward.specs.Domains.{TablesValue, row_in_cache}
+use Rattle.mc_forward.specs.RowValues.{row_value}
+use Rattle.mc_forward.proofs.RowLemmas.{map_take-one_row_more}
 use Rattle.mc_forward.proofs.flow_rows.flow_rows_of.Goals as goal
 
 pub loop-flow-preserved : goal.loop-flow-preserved
 loop-flow-preserved c =
     let flow = c.flow.result.now in
-    let row = row_seen c.row_of-row.result in
+    let row = row_value c.row_of-row.result in
     record {
       rows = c.in_ok-push_row.ensures
           ∙ ap (λ (rs : List Row). rs ++ row ∷ []) c.loop-flow.invariant.rows
-          ∙ rows-taken c.args.tables.now.cache c.args.topology.now.flows c.loop-flow.flow flow row
+          ∙ map_take-one_row_more c.args.tables.now.cache c.args.topology.now.flows c.loop-flow.flow flow row
           c.flow.ensures.flow
           (c.row_of-row.ensures.row
-          ∙ ap (λ (t : TablesValue). row_in t.cache flow) c.tables.view_is);
-      places = length-set c.loop-flow.places.items c.loop-flow.flow c.row_of-row.new.near
-          ∙ c.loop-flow.invariant.places;
+          ∙ ap (λ (t : TablesValue). row_in_cache t.cache flow) c.tables.view_is);
+      hints = length-set c.loop-flow.hints.items c.loop-flow.flow c.row_of-row.new.hint
+          ∙ c.loop-flow.invariant.hints;
     }

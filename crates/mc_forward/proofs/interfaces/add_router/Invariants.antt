@@ -1,9 +1,9 @@
 use Rattle.std.proofs.Common.{◌≡◌, length}
-use Rattle.mc_forward.proofs.PlaceLemmas.{HaveVifs}
+use Rattle.mc_forward.proofs.VifLanLemmas.{HaveVifs}
 use Rattle.mc_forward.proofs.interfaces.add_router.Given as goal
 
 abbrev pub invariant-loop-vif : goal.invariant-loop-vif
 invariant-loop-vif l = record {
   count : length l.lists.items ≡ length l.fn.lists.items;
-  have : HaveVifs l.fn.lists.items l.lists.items l.fn.places l.fn.router l.vif;
+  have : HaveVifs l.fn.lists.items l.lists.items l.fn.vif_lans l.fn.router l.vif;
 }

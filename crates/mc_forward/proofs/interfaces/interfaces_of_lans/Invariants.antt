@@ -1,11 +1,11 @@
 use Rattle.std.proofs.Common.{◌≡◌, ℕ, ◌<◌, [], length}
 use Rattle.std.specs.Prelude.{slice_index_or}
-use Rattle.mc_forward.specs.Assembling.{interfaces_by}
+use Rattle.mc_forward.specs.Assembling.{interfaces_by_vif_lans}
 use Rattle.mc_forward.proofs.interfaces.interfaces_of_lans.Given as goal
 
 abbrev pub invariant-loop-number : goal.invariant-loop-number
 invariant-loop-number l = record {
   count : length l.lists.items ≡ l.fn.lans;
   each : (lan : ℕ) → lan < l.fn.lans → slice_index_or l.lists.items lan []
-      ≡ interfaces_by l.fn.places l.number lan;
+      ≡ interfaces_by_vif_lans l.fn.vif_lans l.number lan;
 }

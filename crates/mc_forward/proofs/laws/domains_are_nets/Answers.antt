@@ -1,12 +1,12 @@
-use Rattle.mc_forward.proofs.DomainLemmas.{net-of_domain, wanting-within, source-within, ttl-from}
-use Rattle.mc_forward.proofs.DomainLemmas.{ttl-to}
+use Rattle.mc_forward.proofs.DomainLemmas.{is_net-net_of, wants-below_lan_count, source-below_lan_count, ttl-at_least_1}
+use Rattle.mc_forward.proofs.DomainLemmas.{ttl-at_most_255}
 use Rattle.mc_forward.proofs.laws.domains_are_nets.Goals as goal
 
 pub returns : goal.returns
 returns c = record {
-  net = net-of_domain;
-  wanting = λ d flow ok lan. wanting-within d flow lan ok;
-  source = source-within;
-  ttl_from = ttl-from;
-  ttl_to = ttl-to;
+  net = is_net-net_of;
+  wanting = λ d flow ok lan. wants-below_lan_count d flow lan ok;
+  source = source-below_lan_count;
+  ttl_from = ttl-at_least_1;
+  ttl_to = ttl-at_most_255;
 }

@@ -1,17 +1,17 @@
 use Rattle.std.proofs.Common.{arith}
 use Rattle.std.proofs.lemmas.List.{take_rest, get_or_past}
-use Rattle.mc_igmp.proofs.ChecksumLemmas.{word_sum-first, word_sum-last, word_sum-bound}
+use Rattle.mc_igmp.proofs.ChecksumLemmas.{word_sum-cons, word_sum-last, word_sum-bound}
 use Rattle.mc_igmp.proofs.checksum.sum_of_words.Goals as goal
 
 pub overflow_add-sum-in-len2-up : goal.overflow_add-sum-in-len2-up
 overflow_add-sum-in-len2-up c =
-    let first = word_sum-first c.loop-rest.rest.now c.in-len2-up.len_at_least in
+    let first = word_sum-cons c.loop-rest.rest.now c.in-len2-up.len_at_least in
     let bound = word_sum-bound c.args.piece.now (λ i. omega (arith, c.type_inv.piece i)) in
     omega (arith, first, bound)
 
 pub loop-rest-preserved : goal.loop-rest-preserved
 loop-rest-preserved c =
-    let first = word_sum-first c.loop-rest.rest.now c.in-len2-up.len_at_least in
+    let first = word_sum-cons c.loop-rest.rest.now c.in-len2-up.len_at_least in
     rw (take_rest c.loop-rest.rest.now 2) (omega (arith, first))
 
 pub overflow_add-result : goal.overflow_add-result

@@ -1,11 +1,11 @@
 use Rattle.std.proofs.Common.{length, refl, sym, ap, ◌∙◌, arith}
 use Rattle.mc_igmp.specs.ReadingList.{first_change}
-use Rattle.mc_igmp.proofs.ListLemmas.{none_from}
+use Rattle.mc_igmp.proofs.ListLemmas.{first_change-none}
 use Rattle.mc_igmp.proofs.list.first_change_of.Goals as goal
 
-pub returns-then-are_known_lasting : goal.returns-then-are_known_lasting
-returns-then-are_known_lasting c =
-    sym (none_from 1 c.args.records.now (c.if-are_known_lasting.ensures refl))
+pub returns-then-has_no_changes : goal.returns-then-has_no_changes
+returns-then-has_no_changes c =
+    sym (first_change-none 1 c.args.records.now (c.if-has_no_changes.ensures refl))
 
 pub returns-then-is_change : goal.returns-then-is_change
 unfolding first_change

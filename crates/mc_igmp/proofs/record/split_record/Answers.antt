@@ -1,5 +1,5 @@
 use Rattle.std.proofs.Common.{◌+◌, ◌*◌, arith, ◌∙◌, refl}
-use Rattle.mc_igmp.proofs.RecordsLemmas.{word_at, read_record-none, read_record-split}
+use Rattle.mc_igmp.proofs.RecordsLemmas.{big_number-at, read_record-none, read_record-from_parts}
 use Rattle.mc_igmp.proofs.record.split_record.Goals as goal
 
 pub returns-then-bytes-lt-HEADER_LEN : goal.returns-then-bytes-lt-HEADER_LEN
@@ -7,12 +7,12 @@ returns-then-bytes-lt-HEADER_LEN c = read_record-none c.args.bytes.now (omega ar
 
 pub returns-then-bytes-end : goal.returns-then-bytes-end
 returns-then-bytes-end c =
-    let count = c.read_u16.ensures ∙ word_at c.args.bytes.now 2 in
+    let count = c.read_u16.ensures ∙ big_number-at c.args.bytes.now 2 in
     read_record-none c.args.bytes.now (omega arith)
 
 pub returns : goal.returns
 returns c =
-    let count = c.read_u16.ensures ∙ word_at c.args.bytes.now 2 in
+    let count = c.read_u16.ensures ∙ big_number-at c.args.bytes.now 2 in
     let sources_end = 8 + 4 * c.from.result in
-    read_record-split c.args.bytes.now sources_end (sources_end + 4 * c.from-2.result) _
+    read_record-from_parts c.args.bytes.now sources_end (sources_end + 4 * c.from-2.result) _
     (omega arith) (omega arith) (omega arith) c.from_type.ensures c.group_of.ensures refl

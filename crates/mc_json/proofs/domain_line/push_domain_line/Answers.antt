@@ -2,10 +2,10 @@ use Rattle.std.proofs.Common.{ap, map, ◌∙◌}
 use Rattle.std.specs.String.{string_bytes}
 use Rattle.serde_json.specs.Written.{has_float}
 use Rattle.mc_forward.specs.ListedTables.{facts}
-use Rattle.mc_json.proofs.DomainPlainLemmas.{domain-plain}
+use Rattle.mc_json.proofs.DomainNoFloatLemmas.{no_float-domain_data}
 use Rattle.mc_json.proofs.domain_line.push_domain_line.Goals as goal
 
 pub push_line-requires : goal.push_line-requires
 push_line-requires c =
     ap has_float c.in_ok-value.ensures
-    ∙ domain-plain (facts c.args.domain.now) (map string_bytes c.args.words.now)
+    ∙ no_float-domain_data (facts c.args.domain.now) (map string_bytes c.args.words.now)

@@ -4,8 +4,8 @@ use Rattle.serde_json.specs.View.{view as data_of}
 use Rattle.mc_theory.specs.Lists.{below}
 use Rattle.mc_forward.specs.Domains.{vif_of}
 use Rattle.mc_forward.specs.ListedTables.{facts}
-use Rattle.mc_json.specs.DomainData.{vif_row}
-use Rattle.mc_json.proofs.NumberedLemmas.{number-told}
+use Rattle.mc_json.specs.DomainData.{vif_data}
+use Rattle.mc_json.proofs.LoopStepLemmas.{flat_map-below_more}
 use Rattle.mc_json.proofs.domain_line.push_vifs.Goals as goal
 
 pub loop-vif-init : goal.loop-vif-init
@@ -16,7 +16,7 @@ pub loop-vif-preserved : goal.loop-vif-preserved
 loop-vif-preserved c =
     let d = c.args.domain.now in
     let row : ℕ → List Data =
-    λ vif. vif_row (facts d) c.args.router vif (vif_of d.tables c.args.router vif) in
-    number-told row (map data_of c.args.values.now.items) (map data_of c.loop-vif.values.items)
+    λ vif. vif_data (facts d) c.args.router vif (vif_of d.tables c.args.router vif) in
+    flat_map-below_more row (map data_of c.args.values.now.items) (map data_of c.loop-vif.values.items)
     (map data_of c.push_vif.new.values.items) c.loop-vif.vif c.loop-vif.invariant
     c.in_ok-push_vif.ensures

@@ -1,9 +1,9 @@
 use Rattle.std.proofs.Common.{ap, ◌∙◌}
 use Rattle.serde_json.specs.Written.{has_float}
-use Rattle.mc_json.proofs.PlainLemmas.{without-plain}
+use Rattle.mc_json.proofs.NoFloatLemmas.{no_float-without_data}
 use Rattle.mc_json.proofs.end_lines.push_without_line.Goals as goal
 
 pub push_line-requires : goal.push_line-requires
 push_line-requires c =
     ap has_float c.in_ok-value.ensures
-    ∙ without-plain c.args.topology.now c.deref.result.now
+    ∙ no_float-without_data c.args.topology.now c.deref.result.now

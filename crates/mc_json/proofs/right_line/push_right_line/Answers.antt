@@ -1,16 +1,16 @@
 use Rattle.std.proofs.Common.{ap, map, sym, subst, ◌∙◌}
-use Rattle.mc_explain.specs.WantedText.{wanting}
+use Rattle.mc_explain.specs.WantedText.{lans_wanting}
 use Rattle.mc_forward.specs.ListedTables.{facts}
 use Rattle.serde_json.specs.View.{view as data_of}
 use Rattle.serde_json.specs.Written.{has_float}
-use Rattle.mc_json.proofs.PlainLemmas.{ArePlain, lans-plain, right-plain}
+use Rattle.mc_json.proofs.NoFloatLemmas.{HaveNoFloat, no_float-lans, no_float-right_data}
 use Rattle.mc_json.proofs.right_line.push_right_line.Goals as goal
 
 pub push_line-requires : goal.push_line-requires
 push_line-requires c =
     let view = c.new-view.result in
-    let plain = subst ArePlain (sym c.in_ok-wanted.ensures)
-    (lans-plain view.domain.topology (wanting (facts view.domain) view.flow)) in
+    let plain = subst HaveNoFloat (sym c.in_ok-wanted.ensures)
+    (no_float-lans view.domain.topology (lans_wanting (facts view.domain) view.flow)) in
     ap has_float c.in_ok-value.ensures
-    ∙ right-plain c.args.whole c.args.flow c.flow-listed.result.now c.args.copies c.args.tree
+    ∙ no_float-right_data c.args.whole c.args.flow c.flow-listed.result.now c.args.copies c.args.tree
     (map data_of c.in_ok-wanted.wanted.items) plain

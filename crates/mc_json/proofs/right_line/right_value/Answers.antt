@@ -3,4 +3,4 @@ use Rattle.mc_json.proofs.right_line.right_value.Goals as goal
 
 pub returns : goal.returns
 returns c = c.object.ensures _ (c.list.ensures _ _ (c.count-2.ensures _ (c.value.ensures _ _
-    (c.count.ensures _ c.flow_fields.ensures) c.mark_of.ensures)) refl)
+    (c.count.ensures _ c.flow_fields.ensures) c.right_mark_value.ensures)) refl)

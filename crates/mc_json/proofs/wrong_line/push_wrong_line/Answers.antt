@@ -1,11 +1,11 @@
 use Rattle.std.proofs.Common.{None, sym, subst}
 use Rattle.mc_forward.specs.ListedTables.{facts}
-use Rattle.mc_json.proofs.PlainLemmas.{ArePlain}
-use Rattle.mc_json.proofs.SearchPlainLemmas.{why-plain}
+use Rattle.mc_json.proofs.NoFloatLemmas.{HaveNoFloat}
+use Rattle.mc_json.proofs.SearchNoFloatLemmas.{no_float-why_data}
 use Rattle.mc_json.proofs.wrong_line.push_wrong_line.Goals as goal
 
-pub push_wrong-requires : goal.push_wrong-requires
-push_wrong-requires c =
+pub push_wrong_flow-requires : goal.push_wrong_flow-requires
+push_wrong_flow-requires c =
     let view = c.new-view.result in
-    subst ArePlain (sym c.in_ok-why.ensures) (why-plain (facts view.domain) c.args.notes.now
-    view.flow c.flow-listed.result.now c.args.told.now None)
+    subst HaveNoFloat (sym c.in_ok-why.ensures) (no_float-why_data (facts view.domain) c.args.summary.now
+    view.flow c.flow-listed.result.now c.args.causes.now None)

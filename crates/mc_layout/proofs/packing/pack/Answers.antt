@@ -2,14 +2,14 @@ use Rattle.std.proofs.Common.{ap, ◌∙◌, Err, List}
 use Rattle.std.proofs.lemmas.Result.{err_from_is_err_and}
 use Rattle.mc_text.specs.Bundle.{PartText}
 use Rattle.mc_text.specs.BundleView.{part_texts}
-use Rattle.mc_layout.proofs.RunLemmas.{refused_answer, refused_only, written_answer, written_only}
-use Rattle.mc_layout.proofs.RunLemmas.{written_part, written_whole}
+use Rattle.mc_layout.proofs.RunLemmas.{IsPackAnswer-from_error, IsIoOrMemory-from_IsPacked, IsPackAnswer-written, IsIoOrMemory-written}
+use Rattle.mc_layout.proofs.RunLemmas.{WritesPackedPrefix-cut, WritesPackedBundle-written}
 use Rattle.mc_layout.proofs.packing.pack.Goals as goal
 
 pub returns-in_err-files-clause-answer : goal.returns-in_err-files-clause-answer
 returns-in_err-files-clause-answer g c =
     let p = err_from_is_err_and c.from_residual.result c.from_residual.ensures.1 in
-    refused_answer {X = List PartText} (λ parts. parts) (g.F.FileSource.told c.args.files.now)
+    IsPackAnswer-from_error {X = List PartText} (λ parts. parts) (g.F.FileSource.contents c.args.files.now)
     c.args.certified
     c.from_residual.result c.in_err-files.field-0.0 c.in_err-files.ensures.parts
     (p.1 ∙ ap (λ f. Err f) p.2)
@@ -17,16 +17,16 @@ returns-in_err-files-clause-answer g c =
 pub returns-in_err-files-clause-only : goal.returns-in_err-files-clause-only
 returns-in_err-files-clause-only g c =
     let p = err_from_is_err_and c.from_residual.result c.from_residual.ensures.1 in
-    λ told parts is packed. refused_only {X = List PartText}
-    (λ parts. parts) c.args.certified told parts
-    c.from_residual.result c.in_err-files.field-0.0 (c.in_err-files.ensures.parts told is)
+    λ contents parts is packed. IsIoOrMemory-from_IsPacked {X = List PartText}
+    (λ parts. parts) c.args.certified contents parts
+    c.from_residual.result c.in_err-files.field-0.0 (c.in_err-files.ensures.parts contents is)
     (p.1 ∙ ap (λ f. Err f) p.2) packed
 
 pub returns-clause-answer : goal.returns-clause-answer
 returns-clause-answer g c =
     let same = ap part_texts c.deref-2.ensures.value ∙ c.in_ok-parts.ensures
     ∙ c.deref.ensures.value in
-    written_answer (g.F.FileSource.told c.args.files.now) c.args.certified
+    IsPackAnswer-written (g.F.FileSource.contents c.args.files.now) c.args.certified
     c.in_ok-files.files.items (part_texts c.deref-2.result.now) _ _ c.write_parts.result
     c.in_ok-files.ensures.parts same c.write_parts.ensures.ok c.write_parts.ensures.faults
     c.write_parts.ensures.too_large
@@ -35,16 +35,16 @@ pub returns-clause-only : goal.returns-clause-only
 returns-clause-only g c =
     let same = ap part_texts c.deref-2.ensures.value ∙ c.in_ok-parts.ensures
     ∙ c.deref.ensures.value in
-    λ told parts is packed. written_only told c.args.certified c.in_ok-files.files.items
+    λ contents parts is packed. IsIoOrMemory-written contents c.args.certified c.in_ok-files.files.items
     (part_texts c.deref-2.result.now) parts c.write_parts.result
-    (c.in_ok-files.ensures.parts told is)
+    (c.in_ok-files.ensures.parts contents is)
     same c.write_parts.ensures.faults c.write_parts.ensures.too_large packed
 
 pub returns-clause-written : goal.returns-clause-written
 returns-clause-written g c =
     let same = ap part_texts c.deref-2.ensures.value ∙ c.in_ok-parts.ensures
     ∙ c.deref.ensures.value in
-    written_whole (g.F.FileSource.told c.args.files.now) c.args.certified
+    WritesPackedBundle-written (g.F.FileSource.contents c.args.files.now) c.args.certified
     c.in_ok-files.files.items (part_texts c.deref-2.result.now) _ _ c.write_parts.result
     c.in_ok-files.ensures.parts same c.write_parts.ensures.ok
 
@@ -52,6 +52,6 @@ pub returns-clause-part : goal.returns-clause-part
 returns-clause-part g c =
     let same = ap part_texts c.deref-2.ensures.value ∙ c.in_ok-parts.ensures
     ∙ c.deref.ensures.value in
-    λ failed. written_part (g.F.FileSource.told c.args.files.now) c.args.certified
+    λ failed. WritesPackedPrefix-cut (g.F.FileSource.contents c.args.files.now) c.args.certified
     c.in_ok-files.files.items (part_texts c.deref-2.result.now) _ _ c.in_ok-files.ensures.parts
     same (c.write_parts.ensures.within failed) (c.write_parts.ensures.cut failed)

@@ -1,5 +1,5 @@
 use Rattle.std.proofs.Common.{◌-◌, ◌*◌, ap, sym, ◌∙◌, Some, arith}
-use Rattle.mc_layout.proofs.SlotLemmas.{router_slot, lan_slot, last_slot}
+use Rattle.mc_layout.proofs.SlotLemmas.{router_slot, slots-reports_slot, slots-certificate_slot}
 use Rattle.mc_layout.proofs.slot.slot_at.Goals as goal
 
 pub returns-then-number-tables : goal.returns-then-number-tables
@@ -10,7 +10,7 @@ returns-then-number-tables c =
 pub returns-then-lan-lans : goal.returns-then-lan-lans
 returns-then-lan-lans c =
     ap Some c.reports.ensures
-    ∙ sym (lan_slot c.args.certified c.args.topology.now c.args.number
+    ∙ sym (slots-reports_slot c.args.certified c.args.topology.now c.args.number
     (c.args.number - 1 - 2 * c.routers-tables.result) c.lan_name.result.now
     (omega (arith, c.routers-tables.ensures.count, c.if-number-tables.false))
     c.lan_name.ensures.name)
@@ -18,7 +18,7 @@ returns-then-lan-lans c =
 pub returns : goal.returns
 returns c =
     ap Some c.certificate.ensures
-    ∙ sym (last_slot c.args.certified c.args.topology.now c.args.number
+    ∙ sym (slots-certificate_slot c.args.certified c.args.topology.now c.args.number
     (omega (
       arith,
       c.routers-tables.ensures.count,

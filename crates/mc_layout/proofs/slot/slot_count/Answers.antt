@@ -1,10 +1,10 @@
 use Rattle.std.proofs.Common.{true, false, arith}
-use Rattle.mc_layout.proofs.SlotLemmas.{others_count}
+use Rattle.mc_layout.proofs.SlotLemmas.{length-slots_after_topology}
 use Rattle.mc_layout.proofs.slot.slot_count.Goals as goal
 
 pub returns-then-certified-clause-count : goal.returns-then-certified-clause-count
 returns-then-certified-clause-count c =
-    rw (c.if-certified.true) (omega (arith, others_count true c.args.topology.now))
+    rw (c.if-certified.true) (omega (arith, length-slots_after_topology true c.args.topology.now))
 
 pub returns-clause-count : goal.returns-clause-count
-returns-clause-count c = rw (c.if-certified.false) (omega (arith, others_count false c.args.topology.now))
+returns-clause-count c = rw (c.if-certified.false) (omega (arith, length-slots_after_topology false c.args.topology.now))

@@ -2,23 +2,23 @@
 use Rattle.std.proofs.Common.{◌≡◌, ◌<◌, length, ap, sym, subst, arith}
 use Rattle.mc_theory.specs.Flights.{Copy}
 use Rattle.mc_theory.specs.Certificates.{Entry}
-use Rattle.mc_forward.specs.Journeys.{net_in}
-use Rattle.mc_maker.proofs.FilledLemmas.{filled-start, filled-next, filled-end, need-small}
+use Rattle.mc_forward.specs.FlightsInDomain.{net_in}
+use Rattle.mc_maker.proofs.FilledLemmas.{entries_so_far-none, entries_so_far-more, entries_so_far-all, need_by_held-at_most_255}
 use Rattle.mc_maker.proofs.entries.put_entries.Goals as goal
 
 pub loop-copy-init : goal.loop-copy-init
-loop-copy-init c = filled-start (net_in c.args.view.now) c.args.by_lan.now c.args.copies.now
+loop-copy-init c = entries_so_far-none (net_in c.args.view.now) c.args.by_lan.now c.args.copies.now
     c.requires.empty
 
 pub returns : goal.returns
 returns c =
-    filled-end (net_in c.args.view.now) c.loop-copy.by_lan c.args.by_lan.now c.args.copies.now
+    entries_so_far-all (net_in c.args.view.now) c.loop-copy.by_lan c.args.by_lan.now c.args.copies.now
     c.loop-copy.copy-index c.loop-copy.invariant
     (omega (arith, c.loop-copy-test.false))
 
-pub entry_of-entry-requires : goal.entry_of-entry-requires
-entry_of-entry-requires c =
-    need-small (net_in c.args.view.now) c.loop-copy.by_lan c.args.by_lan.now c.args.copies.now
+pub entry_of_copy-entry-requires : goal.entry_of_copy-entry-requires
+entry_of_copy-entry-requires c =
+    need_by_held-at_most_255 (net_in c.args.view.now) c.loop-copy.by_lan c.args.by_lan.now c.args.copies.now
     c.loop-copy.copy-index c.copy-item.result c.loop-copy.invariant
     c.loop-copy-test.true c.copy-item.is c.requires.needs
 
@@ -27,13 +27,13 @@ loop-copy-preserved c =
     let cs = c.args.copies.now in
     let k = c.loop-copy.copy-index in
     let x = c.copy-item.result in
-    let e = c.entry_of-entry.result in
+    let e = c.entry_of_copy-entry.result in
     let lan : c.entry.inside.lan ≡ e.lan = ap (λ (y : Entry). y.lan) c.entry.view_is in
-    let told = rw lan at c.put_first-free.ensures in
+    let put_ok = rw lan at c.put_first-free.ensures in
     let within : x.lan < length c.args.by_lan.now =
     subst (λ (y : Copy). y.lan < length c.args.by_lan.now) (sym c.copy-item.is)
     (c.requires.lans k x c.loop-copy-test.true) in
-    filled-next (net_in c.args.view.now) c.loop-copy.by_lan c.put_first-free.new.self c.args.by_lan.now
+    entries_so_far-more (net_in c.args.view.now) c.loop-copy.by_lan c.put_first-free.new.self c.args.by_lan.now
     cs k x e c.put_first-free.result c.loop-copy.invariant c.loop-copy-test.true
-    c.copy-item.is within c.entry_of-entry.ensures told.free
-    told.put told.earlier told.kept
+    c.copy-item.is within c.entry_of_copy-entry.ensures put_ok.free
+    put_ok.put put_ok.earlier put_ok.kept

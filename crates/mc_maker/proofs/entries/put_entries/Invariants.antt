@@ -1,7 +1,7 @@
-use Rattle.mc_forward.specs.Journeys.{net_in}
-use Rattle.mc_maker.proofs.FilledLemmas.{Filled}
+use Rattle.mc_forward.specs.FlightsInDomain.{net_in}
+use Rattle.mc_maker.proofs.FilledLemmas.{EntriesSoFar}
 use Rattle.mc_maker.proofs.entries.put_entries.Given as goal
 
 abbrev pub invariant-loop-copy : goal.invariant-loop-copy
-invariant-loop-copy l = Filled (net_in l.fn.view) l.by_lan l.fn.by_lan l.fn.copies
+invariant-loop-copy l = EntriesSoFar (net_in l.fn.view) l.by_lan l.fn.by_lan l.fn.copies
     l.copy-index

@@ -1,20 +1,20 @@
 -- By what was examined.
 use Rattle.std.proofs.Common.{ap, sym, ◌∙◌, refl, arith}
 use Rattle.mc_forward.specs.Domains.{ttl_of}
-use Rattle.mc_forward.proofs.DomainLemmas.{ttl-to}
+use Rattle.mc_forward.proofs.DomainLemmas.{ttl-at_most_255}
 use Rattle.mc_maker.specs.Examined.{is_certified}
-use Rattle.mc_maker.proofs.ExaminedLemmas.{both-right, right-travel}
+use Rattle.mc_maker.proofs.ExaminedLemmas.{is_right-both_travels_clean, finds_nothing-right_flow}
 use Rattle.mc_maker.proofs.examination.make.Goals as goal
 
 pub returns-in-Certified-clause-travels : goal.returns-in-Certified-clause-travels
 returns-in-Certified-clause-travels c = λ first second a b.
     (let d = c.args.domain.now in
     let ok = c.topology-rules.ensures.rules in
-    let high = ttl-to d c.args.flow ok c.requires in
+    let high = ttl-at_most_255 d c.args.flow ok c.requires in
     let is_right = c.in_ok-entries.ensures.right.0 (ap is_certified c.in-Certified.is) in (
       (λ _. (
-        right-travel d c.args.flow 255 first ok high (omega arith) is_right a,
-        right-travel d c.args.flow (ttl_of d c.args.flow) second ok
+        finds_nothing-right_flow d c.args.flow 255 first ok high (omega arith) is_right a,
+        finds_nothing-right_flow d c.args.flow (ttl_of d c.args.flow) second ok
             (omega arith) high is_right b,
       )),
       (λ _. refl),
@@ -26,6 +26,6 @@ returns-clause-travels c = λ first second a b.
     let ok = c.topology-rules.ensures.rules in (
       (λ e. absurd cc),
       (λ both. sym (ap is_certified c.in-Found.is)
-          ∙ c.in_ok-entries.ensures.right.1 (both-right d c.args.flow first second ok c.requires a b
+          ∙ c.in_ok-entries.ensures.right.1 (is_right-both_travels_clean d c.args.flow first second ok c.requires a b
           both.0 both.1)),
     ))

@@ -1,6 +1,6 @@
 use Rattle.std.proofs.Common.{◌∙◌, length, refl, sym}
 use Rattle.std.proofs.lemmas.Option.{slice_get_read}
-use Rattle.mc_theory.proofs.InLists.{slice_get-in}
+use Rattle.mc_theory.proofs.ListLemmas.{slice_get-in}
 use Rattle.mc_maker.proofs.served.serves_all.Goals as goal
 
 pub returns-then-not-serves-clause-some : goal.returns-then-not-serves-clause-some

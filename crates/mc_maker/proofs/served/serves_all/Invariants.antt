@@ -1,7 +1,7 @@
 use Rattle.std.proofs.Common.{◌≡◌, ℕ, ◌<◌, true, get_or}
 use Rattle.mc_theory.specs.Certificates.{Entry}
-use Rattle.mc_maker.specs.ByLan.{serves}
-use Rattle.mc_forward.specs.Journeys.{net_in}
+use Rattle.mc_maker.specs.EntriesByLan.{serves}
+use Rattle.mc_forward.specs.FlightsInDomain.{net_in}
 use Rattle.mc_maker.proofs.served.serves_all.Given as goal
 
 abbrev pub invariant-loop-entry : goal.invariant-loop-entry

@@ -1,22 +1,22 @@
 use Rattle.std.proofs.Common.{◌≤◌, arith}
-use Rattle.mc_replay.proofs.ShownLemmas.{shows-finding, walks-end, shows-wrong}
+use Rattle.mc_replay.proofs.ShownLemmas.{end_shows_finding, walks_end_at_source, shows_wrong_flow}
 use Rattle.mc_replay.proofs.travel.replay.Goals as goal
 
 pub returns-clause-shown : goal.returns-clause-shown
 returns-clause-shown g c =
-    shows-finding c.args.domain.now c.args.flow c.args.ttl (g.P.Picker.choices c.args.picker.now)
+    end_shows_finding c.args.domain.now c.args.flow c.args.ttl (g.P.Picker.choices c.args.picker.now)
     c.in_ok-ended.ended.travel c.in_ok-ended.ended.flight.flight
     c.topology-rules.ensures.rules c.in_ok-ended.ensures.run
 
 pub returns-clause-walks : goal.returns-clause-walks
 returns-clause-walks g c =
-    walks-end c.args.domain.now c.args.flow c.args.ttl (g.P.Picker.choices c.args.picker.now)
+    walks_end_at_source c.args.domain.now c.args.flow c.args.ttl (g.P.Picker.choices c.args.picker.now)
     c.in_ok-ended.ended.travel c.in_ok-ended.ended.flight.flight
     c.in_ok-ended.ensures.run
 
 pub returns-clause-wrong : goal.returns-clause-wrong
 returns-clause-wrong g c =
     let high : c.args.ttl ≤ 255 = omega (arith, c.ranges.ttl.fits) in
-    shows-wrong c.args.domain.now c.args.flow c.args.ttl (g.P.Picker.choices c.args.picker.now)
+    shows_wrong_flow c.args.domain.now c.args.flow c.args.ttl (g.P.Picker.choices c.args.picker.now)
     c.in_ok-ended.ended.travel c.in_ok-ended.ended.flight.flight
     c.topology-rules.ensures.rules high c.in_ok-ended.ensures.run

@@ -1,32 +1,32 @@
 use Rattle.std.proofs.Common.{true}
 use Rattle.mc_run.specs.InputMeaning.{IsRefusedFor}
 use Rattle.mc_run.specs.CheckRun.{IsVerdictText}
-use Rattle.mc_run.proofs.RunLemmas.{answered, faults_written, written_part, written_whole}
-use Rattle.mc_run.proofs.YesLines.{check_headline}
+use Rattle.mc_run.proofs.RunLemmas.{answers-output_written, fault-of_output_or_write, writes_part-output_written, writes-output_written}
+use Rattle.mc_run.proofs.YesLines.{headline_of_bundle-check_yes}
 use Rattle.mc_run.specs.Faults.{IsFaultOfCheck}
 use Rattle.mc_run.proofs.check.run_check.Goals as goal
 
 pub returns-clause-answer : goal.returns-clause-answer
 returns-clause-answer g c =
-    answered (g.R.Input.told c.args.input.now) IsVerdictText (IsRefusedFor true)
-    c.verdicts_on.result c.say.result _ _ (λ _. tt) c.verdicts_on.ensures.text
-    c.verdicts_on.ensures.refused c.say.ensures.ended
+    answers-output_written (g.R.Input.remaining c.args.input.now) IsVerdictText (IsRefusedFor true)
+    c.verdicts_of_input.result c.write_output.result _ _ (λ _. tt) c.verdicts_of_input.ensures.text
+    c.verdicts_of_input.ensures.refused c.write_output.ensures.ended
 
 pub returns-clause-written : goal.returns-clause-written
 returns-clause-written g c =
-    written_whole (g.R.Input.told c.args.input.now) IsVerdictText c.verdicts_on.result
-    c.say.result _ _ c.verdicts_on.ensures.text c.say.ensures.ended
+    writes-output_written (g.R.Input.remaining c.args.input.now) IsVerdictText c.verdicts_of_input.result
+    c.write_output.result _ _ c.verdicts_of_input.ensures.text c.write_output.ensures.ended
 
 pub returns-clause-part : goal.returns-clause-part
 returns-clause-part g c =
-    written_part (g.R.Input.told c.args.input.now) IsVerdictText c.verdicts_on.result c.say.result
-    _ _ c.verdicts_on.ensures.no_write c.verdicts_on.ensures.text c.say.ensures.ended
+    writes_part-output_written (g.R.Input.remaining c.args.input.now) IsVerdictText c.verdicts_of_input.result c.write_output.result
+    _ _ c.verdicts_of_input.ensures.no_write c.verdicts_of_input.ensures.text c.write_output.ensures.ended
 
 pub returns-clause-headline : goal.returns-clause-headline
 returns-clause-headline g c =
-    check_headline (g.R.Input.told c.args.input.now) c.verdicts_on.result c.say.result _ _
-    c.verdicts_on.ensures.text c.verdicts_on.ensures.headline c.say.ensures.ended
+    headline_of_bundle-check_yes (g.R.Input.remaining c.args.input.now) c.verdicts_of_input.result c.write_output.result _ _
+    c.verdicts_of_input.ensures.text c.verdicts_of_input.ensures.headline c.write_output.ensures.ended
 
 pub returns-clause-faults : goal.returns-clause-faults
-returns-clause-faults g c = faults_written IsFaultOfCheck c.verdicts_on.result c.say.result _ _ tt
-    c.verdicts_on.ensures.faults c.say.ensures.ended
+returns-clause-faults g c = fault-of_output_or_write IsFaultOfCheck c.verdicts_of_input.result c.write_output.result _ _ tt
+    c.verdicts_of_input.ensures.faults c.write_output.ensures.ended

@@ -1,19 +1,19 @@
 use Rattle.std.proofs.Common.{◌≡◌, ◌≤◌, ◌<◌, ℕ, List, Some, length, take}
 use Rattle.std.specs.Prelude.{vec_len}
-use Rattle.mc_run.specs.LineFront.{front_if}
+use Rattle.mc_run.specs.LineFront.{front_after_more}
 use Rattle.mc_run.proofs.line_front.seek_front.Given as goal
 
 -- what is found in the end is what the bytes bring that may still be read
 abbrev pub invariant-reading : goal.invariant-reading
 invariant-reading g l = record {
-  same : g.F.FileSource.names l.files ≡ g.F.FileSource.names l.fn.files;
-  kept : g.F.FileSource.told l.files ≡ g.F.FileSource.told l.fn.files;
+  same : g.F.FileSource.borrows l.files ≡ g.F.FileSource.borrows l.fn.files;
+  kept : g.F.FileSource.contents l.files ≡ g.F.FileSource.contents l.fn.files;
   failures : g.F.FileSource.failed l.files ≡ g.F.FileSource.failed l.fn.files;
   room : 0 < length l.buffer;
   few : vec_len l.sought.front ≤ 100;
   front : (text : List ℕ) → g.F.PieceSource.left l.fn.files ≡ Some text → (rest : List ℕ)
       × (g.F.PieceSource.left l.files ≡ Some rest)
-      × (front_if l.sought (take l.left rest) ≡ front_if l.fn.sought (take 16777216 text));
+      × (front_after_more l.sought (take l.left rest) ≡ front_after_more l.fn.sought (take 16777216 text));
 }
 
 abbrev pub decreases-reading : goal.decreases-reading

@@ -1,32 +1,32 @@
 use Rattle.std.proofs.Common.{false}
 use Rattle.mc_run.specs.InputMeaning.{IsRefusedFor}
 use Rattle.mc_run.specs.MakeRun.{IsMadeText, SaysAllRight}
-use Rattle.mc_run.proofs.MakeLemmas.{made_right}
-use Rattle.mc_run.proofs.RunLemmas.{answer_so, answered, faults_written, written_part, written_whole}
+use Rattle.mc_run.proofs.MakeLemmas.{says_all_right-make_output}
+use Rattle.mc_run.proofs.RunLemmas.{answer-gives, answers-output_written, fault-of_output_or_write, writes_part-output_written, writes-output_written}
 use Rattle.mc_run.specs.Faults.{IsFaultOfMake}
 use Rattle.mc_run.proofs.make.run_make.Goals as goal
 
 pub returns-clause-answer : goal.returns-clause-answer
 returns-clause-answer g c =
-    answered (g.R.Input.told c.args.input.now) IsMadeText (IsRefusedFor false) c.made_of.result
-    c.say.result _ _ (λ _. tt) c.made_of.ensures.text c.made_of.ensures.refused
-    c.say.ensures.ended
+    answers-output_written (g.R.Input.remaining c.args.input.now) IsMadeText (IsRefusedFor false) c.make_for_input.result
+    c.write_output.result _ _ (λ _. tt) c.make_for_input.ensures.text c.make_for_input.ensures.refused
+    c.write_output.ensures.ended
 
 pub returns-clause-right : goal.returns-clause-right
 returns-clause-right g c =
-    answer_so (g.R.Input.told c.args.input.now) IsMadeText SaysAllRight c.made_of.result
-    c.say.result _ _ made_right c.made_of.ensures.text c.say.ensures.ended
+    answer-gives (g.R.Input.remaining c.args.input.now) IsMadeText SaysAllRight c.make_for_input.result
+    c.write_output.result _ _ says_all_right-make_output c.make_for_input.ensures.text c.write_output.ensures.ended
 
 pub returns-clause-written : goal.returns-clause-written
 returns-clause-written g c =
-    written_whole (g.R.Input.told c.args.input.now) IsMadeText c.made_of.result c.say.result _ _
-    c.made_of.ensures.text c.say.ensures.ended
+    writes-output_written (g.R.Input.remaining c.args.input.now) IsMadeText c.make_for_input.result c.write_output.result _ _
+    c.make_for_input.ensures.text c.write_output.ensures.ended
 
 pub returns-clause-part : goal.returns-clause-part
 returns-clause-part g c =
-    written_part (g.R.Input.told c.args.input.now) IsMadeText c.made_of.result c.say.result _ _
-    c.made_of.ensures.no_write c.made_of.ensures.text c.say.ensures.ended
+    writes_part-output_written (g.R.Input.remaining c.args.input.now) IsMadeText c.make_for_input.result c.write_output.result _ _
+    c.make_for_input.ensures.no_write c.make_for_input.ensures.text c.write_output.ensures.ended
 
 pub returns-clause-faults : goal.returns-clause-faults
-returns-clause-faults g c = faults_written IsFaultOfMake c.made_of.result c.say.result _ _ tt
-    c.made_of.ensures.faults c.say.ensures.ended
+returns-clause-faults g c = fault-of_output_or_write IsFaultOfMake c.make_for_input.result c.write_output.result _ _ tt
+    c.make_for_input.ensures.faults c.write_output.ensures.ended

@@ -4,11 +4,11 @@ use Rattle.mc_run.proofs.task_input.replay_task.Goals as goal
 
 pub returns-then-last-clause-run : goal.returns-then-last-clause-run
 returns-then-last-clause-run g c =
-    let told = g.R.Input.told c.args.input.now in
-    let left = g.R.Input.told c.run_replay.new.input in
-    let old = g.W.Output.took c.args.output.now in
-    let new = g.W.Output.took c.run_replay.new.output in
-    subst (λ (last : Bool). IsReplayRun c.args.flow c.args.ttl last told left c.run_replay.result old new)
+    let contents = g.R.Input.remaining c.args.input.now in
+    let left = g.R.Input.remaining c.run_replay.new.input in
+    let old = g.W.Output.written c.args.output.now in
+    let new = g.W.Output.written c.run_replay.new.output in
+    subst (λ (last : Bool). IsReplayRun c.args.flow c.args.ttl last contents left c.run_replay.result old new)
     (sym c.if-last.true)
     (record {
       run = record {
@@ -21,11 +21,11 @@ returns-then-last-clause-run g c =
 
 pub returns-else-last-clause-run : goal.returns-else-last-clause-run
 returns-else-last-clause-run g c =
-    let told = g.R.Input.told c.args.input.now in
-    let left = g.R.Input.told c.run_replay-else-last.new.input in
-    let old = g.W.Output.took c.args.output.now in
-    let new = g.W.Output.took c.run_replay-else-last.new.output in
-    subst (λ (last : Bool). IsReplayRun c.args.flow c.args.ttl last told left c.run_replay-else-last.result old new)
+    let contents = g.R.Input.remaining c.args.input.now in
+    let left = g.R.Input.remaining c.run_replay-else-last.new.input in
+    let old = g.W.Output.written c.args.output.now in
+    let new = g.W.Output.written c.run_replay-else-last.new.output in
+    subst (λ (last : Bool). IsReplayRun c.args.flow c.args.ttl last contents left c.run_replay-else-last.result old new)
     (sym c.if-last.false)
     (record {
       run = record {

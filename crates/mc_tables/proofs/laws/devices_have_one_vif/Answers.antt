@@ -1,5 +1,5 @@
-use Rattle.mc_tables.proofs.LawLemmas.{vif_table_is}
+use Rattle.mc_tables.proofs.LawLemmas.{vif_table-is_valid}
 use Rattle.mc_tables.proofs.laws.devices_have_one_vif.Goals as goal
 
 pub returns : goal.returns
-returns c = λ text vifs stands. (vif_table_is text vifs stands).devices_differ
+returns c = λ text vifs denotes. (vif_table-is_valid text vifs denotes).devices_differ

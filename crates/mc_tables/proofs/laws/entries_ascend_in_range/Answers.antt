@@ -1,5 +1,5 @@
-use Rattle.mc_tables.proofs.RuleLemmas.{cache_is}
+use Rattle.mc_tables.proofs.TableRuleLemmas.{cache-is_valid}
 use Rattle.mc_tables.proofs.laws.entries_ascend_in_range.Goals as goal
 
 pub returns : goal.returns
-returns c = λ order text table stands. (cache_is order text table stands).entries
+returns c = λ order text table denotes. (cache-is_valid order text table denotes).entries

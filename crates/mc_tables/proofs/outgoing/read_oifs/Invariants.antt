@@ -1,8 +1,8 @@
 use Rattle.std.proofs.Common.{◌≡◌}
 use Rattle.mc_tables.specs.CacheReading.{oifs_in}
-use Rattle.mc_tables.specs.OutgoingSteps.{oifs_after}
+use Rattle.mc_tables.specs.OutgoingSteps.{oifs_after_words}
 use Rattle.mc_tables.proofs.outgoing.read_oifs.Given as goal
 
 -- what is read after the outgoing vifs so far is what is read of all words
 abbrev pub invariant-loop-word : goal.invariant-loop-word
-invariant-loop-word l = oifs_after l.oifs.items l.word-iterator ≡ oifs_in l.fn.words
+invariant-loop-word l = oifs_after_words l.oifs.items l.word-iterator ≡ oifs_in l.fn.words

@@ -1,6 +1,6 @@
 use Rattle.std.proofs.Common.{List, ℕ, ◌∷◌, ◌∙◌, sym, ap, take, drop}
 use Rattle.mc_text.specs.Lines.{words_of}
-use Rattle.mc_tables.proofs.PlainLemmas.{row_front}
+use Rattle.mc_tables.proofs.PlainRowLemmas.{row_in_words-front}
 use Rattle.mc_tables.proofs.plain_row.row_at_front.Goals as goal
 
 pub returns : goal.returns
@@ -14,9 +14,9 @@ returns c = λ oifs read.
     let counters = c.in_ok-rest.ensures in
     let outgoing = words_of c.in_ok-rest.rest.now in
     let third = ap words_of (sym c.after_addresses.ensures) ∙ incoming.1 in
-    row_front c.args.order (words_of line) outgoing group origin iif counters.packets counters.bytes
+    row_in_words-front c.args.order (words_of line) outgoing group origin iif counters.packets counters.bytes
     counters.wrong c.in_ok-group.group c.in_ok-group.origin c.in_ok-iif.iif oifs
     (addresses.words ∙ ap (λ (ws : List (List ℕ)). group ∷ origin ∷ ws)
     (third ∙ ap (λ (ws : List (List ℕ)). iif ∷ ws) counters.words))
     addresses.group_read addresses.origin_read incoming.2 incoming.3 counters.packets_count
-    counters.bytes_count counters.wrong_count read
+    counters.bytes_count counters.wrong_if_count read

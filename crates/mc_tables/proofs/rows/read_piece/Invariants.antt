@@ -6,11 +6,11 @@ use Rattle.mc_tables.proofs.rows.read_piece.Given as goal
 abbrev pub invariant-lines : goal.invariant-lines
 invariant-lines g l =
     ((more : List ℕ) →
-    read_after g.R.Rows.header (g.R.Rows.table l.fn.rows) l.fn.lines (l.fn.piece ++ more)
-    ≡ read_after g.R.Rows.header (g.R.Rows.table l.rows) l.lines (l.rest ++ more))
+    read_after g.R.TableRows.header (g.R.TableRows.table l.fn.rows) l.fn.lines (l.fn.piece ++ more)
+    ≡ read_after g.R.TableRows.header (g.R.TableRows.table l.rows) l.lines (l.rest ++ more))
     × (l.lines.size + length l.rest ≡ l.fn.lines.size + length l.fn.piece)
     × (l.lines.size + length l.rest ≤ 16777216)
-    × (g.R.Rows.stand l.fn.rows → g.R.Rows.stand l.rows)
+    × (g.R.TableRows.is_valid l.fn.rows → g.R.TableRows.is_valid l.rows)
 
 abbrev pub decreases-lines : goal.decreases-lines
 decreases-lines g l = length l.rest

@@ -1,9 +1,9 @@
 use Rattle.std.proofs.Common.{ℕ, ◌∙◌, sym, ap, ◌≡◌, false}
 use Rattle.std.specs.List.{list_any}
 use Rattle.std.specs.Str.{bytes_eq}
-use Rattle.mc_tables.specs.VifTable.{VifText, no_device}
+use Rattle.mc_tables.specs.VifTable.{VifValue, no_device}
 use Rattle.mc_tables.specs.VifReading.{device_repeats}
-use Rattle.mc_tables.proofs.VifLookupLemmas.{device_repeats_is}
+use Rattle.mc_tables.proofs.VifLookupLemmas.{device_repeats-by_rows}
 use Rattle.mc_tables.proofs.vif_table.repeats_device.Goals as goal
 
 pub returns : goal.returns
@@ -13,5 +13,5 @@ returns c =
     ap (λ d. bytes_eq d no_device) (sym device) ∙ sym c.eq.ensures ∙ c.if-eq.false in
     c.any_has_device.ensures
     ∙ ap (λ d. list_any (λ row. bytes_eq row.1.device d) c.args.earlier.now) device
-    ∙ device_repeats_is c.args.earlier.now (c.row.inside.index, c.row.inside.vif) some
-    ∙ ap (λ (row : ℕ × VifText). device_repeats c.args.earlier.now row) c.row.view_is
+    ∙ device_repeats-by_rows c.args.earlier.now (c.row.inside.index, c.row.inside.vif) some
+    ∙ ap (λ (row : ℕ × VifValue). device_repeats c.args.earlier.now row) c.row.view_is

@@ -1,13 +1,13 @@
 use Rattle.std.proofs.Common.{◌∙◌, ℕ, subst, sym, arith}
 use Rattle.std.proofs.lemmas.List.{length-set}
-use Rattle.mc_text.proofs.IndexLemmas.{MarkedIn, all_marked, one_marked}
+use Rattle.mc_text.proofs.IndexLemmas.{AreMarkedInSlots, marked_in_slots_all, marked_in_slots_more}
 use Rattle.mc_text.proofs.index.marks_of.Goals as goal
 
 pub loop-place-preserved : goal.loop-place-preserved
 loop-place-preserved c = record {
   counted = length-set c.loop-place.marks.items c.slot_of.result c.mark_of.result
       ∙ c.loop-place.invariant.counted;
-  marked = one_marked c.slots_for-slots.result c.loop-place.marks.items c.args.numbers.now
+  marked = marked_in_slots_more c.slots_for-slots.result c.loop-place.marks.items c.args.numbers.now
       c.loop-place.place c.mark_of.result c.slot_of.result 0 c.loop-place.invariant.marked
       (omega (arith, c.loop-place-test.true, c.loop-place.auto.place-end)) c.slot_of.ensures.value
       (omega (arith, c.slot_of.ensures.within, c.loop-place.invariant.counted)) c.mark_of.ensures;
@@ -15,8 +15,8 @@ loop-place-preserved c = record {
 
 pub returns-clause-each : goal.returns-clause-each
 returns-clause-each c =
-    subst (λ (slots : ℕ). MarkedIn slots c.loop-place.marks.items c.args.numbers.now)
+    subst (λ (slots : ℕ). AreMarkedInSlots slots c.loop-place.marks.items c.args.numbers.now)
     (sym c.loop-place.invariant.counted)
-    (all_marked c.slots_for-slots.result c.loop-place.marks.items c.args.numbers.now
+    (marked_in_slots_all c.slots_for-slots.result c.loop-place.marks.items c.args.numbers.now
     c.loop-place.place (omega (arith, c.loop-place-test.false, c.loop-place.auto.place-end))
     c.loop-place.invariant.marked)

@@ -1,5 +1,5 @@
-use Rattle.mc_text.proofs.LineLemmas.{lines_whole, lines_ended}
+use Rattle.mc_text.proofs.LineLemmas.{lines_of-no_line_feed, lines_of-only_last_unended}
 use Rattle.mc_text.proofs.laws.lines_end_at_line_feeds.Goals as goal
 
 pub returns : goal.returns
-returns c = record { within = lines_whole; ended = lines_ended }
+returns c = record { within = lines_of-no_line_feed; ended = lines_of-only_last_unended }

@@ -1,6 +1,6 @@
 -- By its copies.
-use Rattle.mc_theory.proofs.Travels.{tree_made}
+use Rattle.mc_theory.proofs.Travels.{is_tree-from_clean_travel}
 use Rattle.mc_theory.proofs.travel_laws.a_clean_travel_makes_a_tree.Goals as goal
 
 pub returns : goal.returns
-returns c = tree_made
+returns c = is_tree-from_clean_travel

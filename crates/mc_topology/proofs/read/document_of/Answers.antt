@@ -1,11 +1,11 @@
 use Rattle.std.proofs.Common.{refl, le-leb, sym}
 use Rattle.std.proofs.lemmas.Str.{is_utf8-from_IsUtf8}
-use Rattle.mc_topology.specs.Reading.{utf8_text, toml_of, document_of}
-use Rattle.mc_topology.proofs.ReadLemmas.{document_refused}
+use Rattle.mc_topology.specs.Reading.{require_utf8, parse_toml, document_of}
+use Rattle.mc_topology.proofs.ReadLemmas.{document_of-NotToml}
 use Rattle.mc_topology.proofs.read.document_of.Goals as goal
 
 pub returns-in-Ok-clause-found : goal.returns-in-Ok-clause-found
-unfolding document_of toml_of utf8_text
+unfolding document_of parse_toml require_utf8
 returns-in-Ok-clause-found c =
     let (utf8, reads) = c.in-Ok.ensures.ok in
     let few = le-leb _ _ c.if-text-gt-MAX_TEXT.false in
@@ -17,7 +17,7 @@ returns-in-Err-2-clause-fault c =
     let none = c.in-Err.ensures.refused (λ m. let memory = c.is_memory.ensures.1 m in absurd cc) in
     let bounded = sym c.if-not-is_bounded.ensures in
     rw (
-      document_refused c.args.text.now c.if-text-gt-MAX_TEXT.false bounded none,
+      document_of-NotToml c.args.text.now c.if-text-gt-MAX_TEXT.false bounded none,
       c.at-in-Err-2.ensures,
     )
     (λ _. refl)

@@ -3,8 +3,8 @@ use Rattle.std.proofs.lemmas.Result.{err_from_is_err_and}
 use Rattle.toml.specs.View.{table_view}
 use Rattle.mc_topology.specs.declared.fault.TopologyFault.{TopologyFault}
 use Rattle.mc_topology.specs.Answer.{out_of_memory}
-use Rattle.mc_topology.proofs.Kept.{table_kept}
-use Rattle.mc_topology.proofs.ReadLemmas.{topology_found, fault_found}
+use Rattle.mc_topology.proofs.Validity.{IsValidTopology-from_topology_in}
+use Rattle.mc_topology.proofs.ReadLemmas.{topology_in-Ok, topology_in-Err}
 use Rattle.mc_topology.proofs.read.topology_with.Goals as goal
 
 pub returns-in_err-interfaces : goal.returns-in_err-interfaces
@@ -17,14 +17,14 @@ returns-in_err-interfaces c =
     (λ e. let same : fault
     ≡ out_of_memory = cc in other (ap (λ (f : TopologyFault). Err f) same)) in
     sym
-    (fault_found (table_view c.args.table.now) c.args.lans c.args.routers fault c.requires.version
+    (topology_in-Err (table_view c.args.table.now) c.args.lans c.args.routers fault c.requires.version
     c.requires.lans c.requires.routers (sym at_found)))
 
 pub new-requires : goal.new-requires
 new-requires c =
     let ms = table_view c.args.table.now in
-    table_kept ms _
-    (topology_found ms c.args.lans c.args.routers c.in_ok-interfaces.interfaces
+    IsValidTopology-from_topology_in ms _
+    (topology_in-Ok ms c.args.lans c.args.routers c.in_ok-interfaces.interfaces
     c.in_ok-interfaces.sources c.in_ok-interfaces.flows c.requires.version c.requires.lans
     c.requires.routers (sym (c.in_ok-interfaces.ensures (λ e. absurd cc))))
 
@@ -32,7 +32,7 @@ pub returns : goal.returns
 returns c =
     λ other. rw c.new.ensures
     (sym
-    (topology_found (table_view c.args.table.now) c.args.lans c.args.routers
+    (topology_in-Ok (table_view c.args.table.now) c.args.lans c.args.routers
     c.in_ok-interfaces.interfaces
     c.in_ok-interfaces.sources c.in_ok-interfaces.flows c.requires.version c.requires.lans
     c.requires.routers (sym (c.in_ok-interfaces.ensures (λ e. absurd cc)))))

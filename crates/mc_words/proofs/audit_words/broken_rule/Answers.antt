@@ -1,32 +1,32 @@
 use Rattle.std.proofs.Common.{map, sym, ◌∙◌}
 use Rattle.std.proofs.lemmas.List.{at_drop_all}
-use Rattle.mc_words.specs.AuditWords.{are_routers}
-use Rattle.mc_words.proofs.AuditLemmas.{no_name, named_again, named_once}
+use Rattle.mc_words.specs.AuditWords.{are_distinct_router_names}
+use Rattle.mc_words.proofs.AuditLemmas.{are_distinct_router_names-not_a_name, are_distinct_router_names-repeated, are_distinct_router_names-more}
 use Rattle.mc_words.proofs.audit_words.broken_rule.Goals as goal
 
 pub returns-then-not-is_name : goal.returns-then-not-is_name
 returns-then-not-is_name c =
-    sym (no_name (λ word. word.now) c.args.words.now c.loop-at.at _ c.loop-at-test.true
+    sym (are_distinct_router_names-not_a_name (λ word. word.now) c.args.words.now c.loop-at.at _ c.loop-at-test.true
     (sym c.is_name.ensures ∙ c.if-not-is_name.true))
     ∙ c.loop-at.invariant
 
 pub returns-then-is_among : goal.returns-then-is_among
 returns-then-is_among c =
-    sym (named_again (λ word. word.now) c.args.words.now c.split_at.result.1.now c.loop-at.at _
+    sym (are_distinct_router_names-repeated (λ word. word.now) c.args.words.now c.split_at.result.1.now c.loop-at.at _
     c.loop-at-test.true (sym c.is_name.ensures ∙ c.if-not-is_name.false) c.split_at.ensures.back
     (sym c.is_among.ensures ∙ c.if-is_among.true))
     ∙ c.loop-at.invariant
 
 pub loop-at-preserved : goal.loop-at-preserved
 loop-at-preserved c =
-    sym (named_once (λ word. word.now) c.args.words.now c.split_at.result.1.now c.loop-at.at _
+    sym (are_distinct_router_names-more (λ word. word.now) c.args.words.now c.split_at.result.1.now c.loop-at.at _
     c.loop-at-test.true (sym c.is_name.ensures ∙ c.if-not-is_name.false) c.split_at.ensures.back
     (sym c.is_among.ensures ∙ c.if-is_among.false))
     ∙ c.loop-at.invariant
 
 pub returns : goal.returns
-unfolding are_routers
+unfolding are_distinct_router_names
 returns c =
-    sym (at_drop_all (λ rest. are_routers (map (λ word. word.now) rest)) c.args.words.now
+    sym (at_drop_all (λ rest. are_distinct_router_names (map (λ word. word.now) rest)) c.args.words.now
     c.loop-at.at c.loop-at-test.false)
     ∙ c.loop-at.invariant

@@ -1,7 +1,7 @@
 use Rattle.std.proofs.Common.{codes, []}
 use Rattle.clap.specs.Simple.{App, with_rule}
 use Rattle.mc_words.specs.Commands.{command_shape, option_rule, required_rule}
-use Rattle.mc_words.proofs.CommandLemmas.{first_rule}
+use Rattle.mc_words.proofs.CommandLemmas.{IsCommand-with_first_rule}
 use Rattle.mc_words.proofs.command.replay_command.Goals as goal
 
 pub returns : goal.returns
@@ -13,5 +13,5 @@ returns c =
     c.option.ensures.rule c.option.ensures.local
     (c.with_argument-command.ensures flow (required_rule (codes "ttl"))
     c.required-2.ensures.rule c.required-2.ensures.local
-    (first_rule c.bare_command-command.result c.required.result none (required_rule (codes "flow")) c.arg-command.result
+    (IsCommand-with_first_rule c.bare_command-command.result c.required.result none (required_rule (codes "flow")) c.arg-command.result
     c.required.ensures.rule c.required.ensures.local c.bare_command-command.ensures c.arg-command.ensures))

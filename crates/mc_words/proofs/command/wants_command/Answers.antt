@@ -1,7 +1,7 @@
 use Rattle.std.proofs.Common.{codes, []}
 use Rattle.clap.specs.Simple.{App, with_rule}
 use Rattle.mc_words.specs.Commands.{command_shape, required_rule}
-use Rattle.mc_words.proofs.CommandLemmas.{first_rule}
+use Rattle.mc_words.proofs.CommandLemmas.{IsCommand-with_first_rule}
 use Rattle.mc_words.proofs.command.wants_command.Goals as goal
 
 pub returns : goal.returns
@@ -10,5 +10,5 @@ returns c =
     let group = c.required-group in
     c.with_argument.ensures (with_rule none (required_rule (codes "group"))) (required_rule (codes "source"))
     c.required.ensures.rule c.required.ensures.local
-    (first_rule c.bare_command-command.result group.result none (required_rule (codes "group")) c.arg.result
+    (IsCommand-with_first_rule c.bare_command-command.result group.result none (required_rule (codes "group")) c.arg.result
     group.ensures.rule group.ensures.local c.bare_command-command.ensures c.arg.ensures)

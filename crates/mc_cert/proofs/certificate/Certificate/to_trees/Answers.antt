@@ -7,8 +7,8 @@ pub loop-flow-preserved : goal.loop-flow-preserved
 loop-flow-preserved c =
     let flows = c.args.self.now in
     let flow = c.loop-flow.flow in
-    let es = c.listed_tree.result.now in
+    let es = c.writable_tree.result.now in
     c.in_ok-push.ensures.pushed
     ∙ ap₂ (λ ts t. ts ++ t ∷ []) c.loop-flow.invariant
-    (c.in_ok-tree.ensures.items ∙ sym (get_or_from_slice_get flows flow es es c.listed_tree.ensures.tree))
-    ∙ sym (take_more flows flow es (slice_get_within flows flow es c.listed_tree.ensures.tree))
+    (c.in_ok-tree.ensures.items ∙ sym (get_or_from_slice_get flows flow es es c.writable_tree.ensures.tree))
+    ∙ sym (take_more flows flow es (slice_get_within flows flow es c.writable_tree.ensures.tree))

@@ -1,8 +1,8 @@
 use Rattle.std.proofs.Common.{◌<◌, ◌∙◌, ◌++◌, ◌∷◌, [], List, ℕ, length, sym, ap, subst, arith}
 use Rattle.std.proofs.lemmas.List.{length-map}
 use Rattle.mc_cert.specs.Certificate.{Tree, tree_at}
-use Rattle.mc_cert.specs.Trees.{AreShared, trees_of}
-use Rattle.mc_cert.proofs.TreeLemmas.{few_kept, trees_pushed, shared_pushed}
+use Rattle.mc_cert.specs.Trees.{AreSharedTrees, trees_of}
+use Rattle.mc_cert.proofs.TreeLemmas.{length-AreSharedTrees, trees_of-push, AreSharedTrees-push}
 use Rattle.mc_cert.proofs.trees.Trees.push.Goals as goal
 
 pub number_of-requires : goal.number_of-requires
@@ -10,13 +10,13 @@ number_of-requires c =
     omega (
       arith,
       c.requires.few,
-      few_kept c.self.inside.different c.self.inside.numbers.items c.self.invariant,
+      length-AreSharedTrees c.self.inside.distinct c.self.inside.numbers.items c.self.invariant,
       ap (λ (ts : List Tree). length ts) c.self.view_is,
     )
 
 pub invariant_of-self-2 : goal.invariant_of-self-2
 invariant_of-self-2 c =
-    let different = c.self.inside.different in
+    let distinct = c.self.inside.distinct in
     let numbers = c.self.inside.numbers.items in
     let grown = c.in_ok-push.ensures.items
     ∙ ap (λ ns. ns ++ c.in_ok-number.number ∷ []) c.in_ok-reserve.ensures.items in
@@ -24,11 +24,11 @@ invariant_of-self-2 c =
     omega (
       arith,
       c.requires.few,
-      length-map numbers (tree_at different),
+      length-map numbers (tree_at distinct),
       ap (λ (ts : List Tree). length ts) c.self.view_is,
     ) in
-    subst (λ (ns : List ℕ). AreShared c.number_of.new.self ns) (sym grown)
-    (shared_pushed different c.number_of.new.self c.args.tree.items c.in_ok-number.number
+    subst (λ (ns : List ℕ). AreSharedTrees c.number_of.new.self ns) (sym grown)
+    (AreSharedTrees-push distinct c.number_of.new.self c.args.tree.items c.in_ok-number.number
     c.in_ok-number.ensures.trees c.in_ok-number.ensures.number numbers c.self.invariant few
     c.requires.list)
 
@@ -37,7 +37,7 @@ returns-clause-pushed c =
     let grown = c.in_ok-push.ensures.items
     ∙ ap (λ ns. ns ++ c.in_ok-number.number ∷ []) c.in_ok-reserve.ensures.items in
     ap (trees_of c.number_of.new.self) grown
-    ∙ trees_pushed c.self.inside.different c.number_of.new.self c.args.tree.items
+    ∙ trees_of-push c.self.inside.distinct c.number_of.new.self c.args.tree.items
     c.in_ok-number.number c.in_ok-number.ensures.trees c.in_ok-number.ensures.number
     c.self.inside.numbers.items c.self.invariant
     ∙ ap (λ (ts : List Tree). ts ++ c.args.tree.items ∷ []) c.self.view_is

@@ -1,14 +1,14 @@
 use Rattle.std.proofs.Common.{ℕ}
 use Rattle.mc_text.specs.Pair.{pair_number}
-use Rattle.mc_filter.proofs.ChannelLemmas.{mapped_in}
+use Rattle.mc_filter.proofs.ChannelLemmas.{contains-map}
 use Rattle.mc_filter.proofs.channels.Channels.of.Goals as goal
 
 pub places_of-requires-clause-groups : goal.places_of-requires-clause-groups
 places_of-requires-clause-groups c =
-    mapped_in (λ (channel : ℕ × ℕ). channel.1) c.args.asked.now c.in_ok-group_numbers.field-0.items
+    contains-map (λ (channel : ℕ × ℕ). channel.1) c.args.asked.now c.in_ok-group_numbers.field-0.items
     c.in_ok-groups.groups c.in_ok-group_numbers.ensures c.in_ok-groups.ensures
 
 pub places_of-requires-clause-channels : goal.places_of-requires-clause-channels
 places_of-requires-clause-channels c =
-    mapped_in pair_number c.args.asked.now c.in_ok-pair_numbers.field-0.items
+    contains-map pair_number c.args.asked.now c.in_ok-pair_numbers.field-0.items
     c.in_ok-channels.channels c.in_ok-pair_numbers.ensures.numbers c.in_ok-channels.ensures

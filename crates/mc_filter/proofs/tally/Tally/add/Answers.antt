@@ -2,7 +2,7 @@ use Rattle.std.proofs.Common.{◌≡◌, get_or, sym, ◌∙◌, arith}
 use Rattle.std.proofs.lemmas.Grind.{common_steps}
 use Rattle.std.proofs.lemmas.List.{get_or_default}
 use Rattle.mc_filter.specs.Tallies.{excludes_with}
-use Rattle.mc_filter.proofs.TallyLemmas.{EachTells-next}
+use Rattle.mc_filter.proofs.TallyLemmas.{AreTallied-more}
 use Rattle.mc_filter.proofs.tally.Tally.add.Goals as goal
 
 pub returns-clause-each : goal.returns-clause-each
@@ -22,6 +22,6 @@ returns-clause-each c = λ groups records left up count at before.
       c.in_ok-with.was,
     ) in
     rw (c.list_sources.ensures.excludes, with)
-    (EachTells-next groups c.args.channels.now records left c.args.self.now.excludes.items
-    c.args.self.now.told.items c.list_sources.new.self.told.items c.args.place r up count
+    (AreTallied-more groups c.args.channels.now records left c.args.self.now.excludes.items
+    c.args.self.now.states.items c.list_sources.new.self.states.items c.args.place r up count
     c.requires.place at (rw read at c.list_sources.ensures.each) before)

@@ -1,11 +1,11 @@
 use Rattle.std.proofs.Common.{◌≡◌, length}
-use Rattle.mc_filter.proofs.TallyLemmas.{Listing}
+use Rattle.mc_filter.proofs.TallyLemmas.{AreListedUpTo}
 use Rattle.mc_filter.proofs.tally.Tally.list_sources.Given as goal
 
 abbrev pub invariant-loop-source : goal.invariant-loop-source
 invariant-loop-source l = record {
   excludes : l.self.excludes.items ≡ l.fn.self.excludes.items;
-  count : length l.self.told.items ≡ length l.fn.self.told.items;
-  each : Listing l.fn.channels l.fn.group_record.group l.fn.group_record.kind l.fn.before
-      l.source-iterator l.fn.group_record.sources l.self.told.items l.fn.self.told.items;
+  count : length l.self.states.items ≡ length l.fn.self.states.items;
+  each : AreListedUpTo l.fn.channels l.fn.group_record.group l.fn.group_record.kind l.fn.before
+      l.source-iterator l.fn.group_record.sources l.self.states.items l.fn.self.states.items;
 }

@@ -8,9 +8,9 @@ returns-clause-each c = λ gs cs records some count g d' s d below within is.
       c.new-excludes.ensures.len,
     ))
     (omega (arith, below, some)) in
-    let untold = c.in_ok-resize-2.ensures.by_index.1 d' d refl (omega (
+    let state_is = c.in_ok-resize-2.ensures.by_index.1 d' d refl (omega (
       arith,
-      c.new-told.ensures.len,
+      c.new-states.ensures.len,
     ))
     (omega (arith, within, count)) in
-    rw (unseen, untold) (record { within = omega arith; wants = refl })
+    rw (unseen, state_is) (record { within = omega arith; wants = refl })

@@ -1,15 +1,15 @@
 -- What was handled is taken away last.
 use Rattle.std.proofs.Common.{◌≡◌, ◌<◌, List, length, get_or, ap, sym, subst, ◌∙◌}
-use Rattle.mc_theory.specs.Flights.{Waiting, Flight, without}
-use Rattle.mc_forward.specs.Journeys.{net_in, flight_of}
-use Rattle.mc_forward.proofs.LateLemmas.{handled-late, event-seen, still-waits}
+use Rattle.mc_theory.specs.Flights.{Waiting, Flight, without_waiting}
+use Rattle.mc_forward.specs.FlightsInDomain.{net_in, flight_of}
+use Rattle.mc_forward.proofs.HandleLemmas.{without_waiting-after_handle, event_of-handled_copy, still_waits-after_handle}
 use Rattle.mc_forward.proofs.copies.Copies.handle.Goals as goal
 
-pub take_away-requires : goal.take_away-requires
-take_away-requires c =
+pub remove_waiting-requires : goal.remove_waiting-requires
+remove_waiting-requires c =
     let ok = c.in-Ok.ensures.ok in
     subst (λ (f : Flight). c.args.index < length f.waiting) (sym c.self-2.view_is)
-    (still-waits (net_in c.args.flow.now) c.args.self.now c.forward.new.self c.args.index
+    (still_waits-after_handle (net_in c.args.flow.now) c.args.self.now c.forward.new.self c.args.index
     c.index.result.now c.requires ok)
 
 pub returns-in-Ok-clause-ok : goal.returns-in-Ok-clause-ok
@@ -17,14 +17,14 @@ returns-in-Ok-clause-ok c =
     let read = subst (λ (f : Flight). c.index.result.now ≡ get_or f.waiting c.args.index
     c.index.result.now) c.self.view_is c.index.ensures in
     ap (λ (ws : List Waiting). flight_of c.self-2.inside.carried.items ws
-    c.self-2.inside.strays.items) c.take_away.ensures
-    ∙ ap (without c.args.index) c.self-2.view_is
-    ∙ handled-late (net_in c.args.flow.now) c.args.self.now c.forward.new.self c.args.index
+    c.self-2.inside.strays.items) c.remove_waiting.ensures
+    ∙ ap (without_waiting c.args.index) c.self-2.view_is
+    ∙ without_waiting-after_handle (net_in c.args.flow.now) c.args.self.now c.forward.new.self c.args.index
     c.index.result.now c.requires read c.in-Ok.ensures.ok
 
 pub returns-in-Ok-clause-event : goal.returns-in-Ok-clause-event
 returns-in-Ok-clause-event c =
     let read = subst (λ (f : Flight). c.index.result.now ≡ get_or f.waiting c.args.index
     c.index.result.now) c.self.view_is c.index.ensures in
-    event-seen (net_in c.args.flow.now) c.args.self.now.waiting c.args.index c.index.result.now _ _
+    event_of-handled_copy (net_in c.args.flow.now) c.args.self.now.waiting c.args.index c.index.result.now _ _
     c.requires read c.taken.view_is c.in-Ok.ensures.outcome

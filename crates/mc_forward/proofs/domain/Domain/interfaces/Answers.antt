@@ -1,18 +1,18 @@
 use Rattle.std.proofs.Common.{ℕ, length, get_or, ap, arith, ◌∙◌}
 use Rattle.mc_forward.specs.DomainParts.{interfaces_of}
-use Rattle.mc_forward.proofs.DomainLemmas.{length-interfaces, interfaces-found}
+use Rattle.mc_forward.proofs.DomainLemmas.{length-interfaces_of, interfaces_of-at_index}
 use Rattle.mc_forward.proofs.domain.Domain.interfaces.Goals as goal
 
 pub index-interfaces-requires : goal.index-interfaces-requires
 index-interfaces-requires c =
-    let worked_out = c.self.invariant.interfaces ∙ ap interfaces_of c.self.view_is in
-    omega (arith, ap length worked_out, length-interfaces c.args.self.now, c.lan.view_is)
+    let derived = c.self.invariant.interfaces ∙ ap interfaces_of c.self.view_is in
+    omega (arith, ap length derived, length-interfaces_of c.args.self.now, c.lan.view_is)
 
 pub returns : goal.returns
 returns c = λ flow.
-    let all = c.self.inside.worked_out.interfaces.items in
-    let worked_out = c.self.invariant.interfaces ∙ ap interfaces_of c.self.view_is in
+    let all = c.self.inside.derived.interfaces.items in
+    let derived = c.self.invariant.interfaces ∙ ap interfaces_of c.self.view_is in
     c.new.ensures
-    ∙ interfaces-found c.args.self.now all _ c.args.lan flow worked_out c.requires
+    ∙ interfaces_of-at_index c.args.self.now all _ c.args.lan flow derived c.requires
     (c.index-interfaces.ensures
     ∙ ap (λ (k : ℕ). get_or all k c.index-interfaces.result.now) c.lan.view_is)

@@ -1,9 +1,9 @@
 use Rattle.std.proofs.Common.{length}
 use Rattle.mc_theory.specs.Flights.{step}
-use Rattle.mc_forward.specs.Journeys.{AtRouters, AreListed, net_in}
-use Rattle.mc_forward.proofs.DomainLemmas.{net-of_domain}
-use Rattle.mc_forward.proofs.RouterLemmas.{at-step, of-either}
-use Rattle.mc_forward.proofs.ListedLemmas.{listed-step, placed-below}
+use Rattle.mc_forward.specs.FlightsInDomain.{WaitAtRouters, AreCopiesInDomain, net_in}
+use Rattle.mc_forward.proofs.DomainLemmas.{is_net-net_of}
+use Rattle.mc_forward.proofs.WaitAtRouterLemmas.{wait_at_routers-step, from_either_outcome}
+use Rattle.mc_forward.proofs.CopiesInDomainLemmas.{copies_in_domain-step, are_placed_below-domain}
 use Rattle.mc_forward.proofs.flight.Flight.handle.Goals as goal
 
 pub invariant_of-self : goal.invariant_of-self
@@ -11,16 +11,16 @@ invariant_of-self c =
     let n = c.self.inside.flow in
     let f = c.self.inside.copies in
     let was = c.self.invariant in
-    let net = net-of_domain n.domain n.flow was.flow.domain in
+    let net = is_net-net_of n.domain n.flow was.flow.domain in
     record {
       flow = was.flow;
-      routers = of-either c.handle.result (AtRouters (length n.domain.topology.routers))
+      routers = from_either_outcome c.handle.result (WaitAtRouters (length n.domain.topology.routers))
           c.handle.new.self (step (net_in n) c.args.index f) f
           c.handle.ensures.ok c.handle.ensures.err
-          (at-step (net_in n) net c.args.index f was.routers) was.routers;
-      listed = of-either c.handle.result (AreListed (length n.domain.topology.lans)
+          (wait_at_routers-step (net_in n) net c.args.index f was.routers) was.routers;
+      listed = from_either_outcome c.handle.result (AreCopiesInDomain (length n.domain.topology.lans)
           (length n.domain.topology.routers)) c.handle.new.self (step (net_in n) c.args.index f) f
           c.handle.ensures.ok c.handle.ensures.err
-          (listed-step (net_in n) _ _ (placed-below n.domain n.flow was.flow.domain) c.args.index f
+          (copies_in_domain-step (net_in n) _ _ (are_placed_below-domain n.domain n.flow was.flow.domain) c.args.index f
           was.routers was.listed) was.listed;
     }

@@ -1,6 +1,6 @@
 use Rattle.std.proofs.Common.{length, sym, subst}
-use Rattle.mc_forward.specs.Journeys.{AtRouters, AreListed}
-use Rattle.mc_forward.proofs.RouterLemmas.{at-without}
+use Rattle.mc_forward.specs.FlightsInDomain.{WaitAtRouters, AreCopiesInDomain}
+use Rattle.mc_forward.proofs.WaitAtRouterLemmas.{wait_at_routers-without}
 use Rattle.mc_forward.proofs.flight.Flight.lose.Goals as goal
 
 pub invariant_of-self : goal.invariant_of-self
@@ -8,8 +8,8 @@ invariant_of-self c =
     let routers = length c.self.inside.flow.domain.topology.routers in
     record {
       flow = c.self.invariant.flow;
-      routers = subst (AtRouters routers) (sym c.lose.ensures)
-          (at-without routers c.args.index c.self.inside.copies c.self.invariant.routers);
-      listed = subst (AreListed (length c.self.inside.flow.domain.topology.lans) routers)
+      routers = subst (WaitAtRouters routers) (sym c.lose.ensures)
+          (wait_at_routers-without routers c.args.index c.self.inside.copies c.self.invariant.routers);
+      listed = subst (AreCopiesInDomain (length c.self.inside.flow.domain.topology.lans) routers)
           (sym c.lose.ensures) c.self.invariant.listed;
     }

@@ -1,9 +1,9 @@
 use Rattle.std.proofs.Common.{length, None, sym, subst}
 use Rattle.mc_theory.specs.Flights.{Copy}
-use Rattle.mc_forward.specs.Journeys.{AtRouters, AreListed, FlowIn, IsFlight, net_in}
-use Rattle.mc_forward.proofs.DomainLemmas.{net-of_domain}
-use Rattle.mc_forward.proofs.RouterLemmas.{at-put, at-none}
-use Rattle.mc_forward.proofs.ListedLemmas.{listed-put, listed-none}
+use Rattle.mc_forward.specs.FlightsInDomain.{WaitAtRouters, AreCopiesInDomain, FlowOfDomain, IsFlight, net_in}
+use Rattle.mc_forward.proofs.DomainLemmas.{is_net-net_of}
+use Rattle.mc_forward.proofs.WaitAtRouterLemmas.{wait_at_routers-put, wait_at_routers-none}
+use Rattle.mc_forward.proofs.CopiesInDomainLemmas.{copies_in_domain-put, copies_in_domain-none}
 use Rattle.mc_forward.proofs.flight.Flight.start.Goals as goal
 
 pub invariant_of-result : goal.invariant_of-result
@@ -11,15 +11,15 @@ invariant_of-result c =
     let n = c.new-view.result in
     let routers = length n.domain.topology.routers in
     let lans = length n.domain.topology.lans in
-    let net = net-of_domain n.domain n.flow c.new-view.ensures.rules.domain in
+    let net = is_net-net_of n.domain n.flow c.new-view.ensures.rules.domain in
     let first : Copy = record { lan = c.source.result; ttl = c.args.ttl; sender = None } in
-    subst (λ (f : FlowIn). IsFlight f c.put.new.self) (sym c.in_ok-flow.ensures) (record {
+    subst (λ (f : FlowOfDomain). IsFlight f c.put.new.self) (sym c.in_ok-flow.ensures) (record {
       flow = c.new-view.ensures.rules;
-      routers = subst (AtRouters routers) (sym c.in_ok-put.ensures.ok)
-          (at-put (net_in n) net first c.in_ok-copies.copies
-          (at-none routers c.in_ok-copies.copies c.in_ok-copies.ensures));
-      listed = subst (AreListed lans routers) (sym c.in_ok-put.ensures.ok)
-          (listed-put (net_in n) lans routers first c.in_ok-copies.copies
+      routers = subst (WaitAtRouters routers) (sym c.in_ok-put.ensures.ok)
+          (wait_at_routers-put (net_in n) net first c.in_ok-copies.copies
+          (wait_at_routers-none routers c.in_ok-copies.copies c.in_ok-copies.ensures));
+      listed = subst (AreCopiesInDomain lans routers) (sym c.in_ok-put.ensures.ok)
+          (copies_in_domain-put (net_in n) lans routers first c.in_ok-copies.copies
           (record { lan = c.source.ensures.listed; sender = tt })
-          (listed-none lans routers c.in_ok-copies.copies c.in_ok-copies.ensures));
+          (copies_in_domain-none lans routers c.in_ok-copies.copies c.in_ok-copies.ensures));
     })

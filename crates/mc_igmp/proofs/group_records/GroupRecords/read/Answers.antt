@@ -1,21 +1,21 @@
 use Rattle.std.proofs.Common.{arith, refl, sym, subst}
-use Rattle.mc_igmp.specs.Records.{AreLasting}
-use Rattle.mc_igmp.proofs.RecordsLemmas.{records_cut, records-length}
+use Rattle.mc_igmp.specs.Records.{HaveNoChanges}
+use Rattle.mc_igmp.proofs.RecordsLemmas.{records_in-own_bytes, length-after_records}
 use Rattle.mc_igmp.proofs.group_records.GroupRecords.read.Goals as goal
 
 pub slice_bounds-own-count : goal.slice_bounds-own-count
 slice_bounds-own-count c =
-    omega (arith, records-length 1 c.args.count c.args.bytes.now _ c.in_ok-ignored.ensures.0)
+    omega (arith, length-after_records 1 c.args.count c.args.bytes.now _ c.in_ok-ignored.ensures.0)
 
 pub invariant_of-result : goal.invariant_of-result
 invariant_of-result c =
-    let cut = records_cut c.args.count c.args.bytes.now c.in_ok-ignored.ignored.now _
+    let cut = records_in-own_bytes c.args.count c.args.bytes.now c.in_ok-ignored.ignored.now _
     (λ i. omega (arith, c.type_inv.bytes i)) c.in_ok-ignored.ensures.0 refl in
     rw c.from.ensures
-    (cut.0, λ known. subst AreLasting (sym cut.1) (c.in_ok-ignored.ensures.1 known))
+    (cut.0, λ known. subst HaveNoChanges (sym cut.1) (c.in_ok-ignored.ensures.1 known))
 
 pub returns : goal.returns
 returns c =
-    let records = (records_cut c.args.count c.args.bytes.now c.in_ok-ignored.ignored.now _
+    let records = (records_in-own_bytes c.args.count c.args.bytes.now c.in_ok-ignored.ignored.now _
     (λ i. omega (arith, c.type_inv.bytes i)) c.in_ok-ignored.ensures.0 refl).1 in
     (c.in_ok-ignored.ignored.now, c.in_ok-ignored.ensures.0, rw c.from.ensures records)

@@ -1,6 +1,6 @@
 use Rattle.std.proofs.Common.{◌-◌, length, sym, ap, subst, ◌∙◌, arith}
-use Rattle.mc_igmp.specs.Records.{records_in, AreLasting}
-use Rattle.mc_igmp.proofs.RecordsLemmas.{records_in-first, IsWhole-rest}
+use Rattle.mc_igmp.specs.Records.{records_in, HaveNoChanges}
+use Rattle.mc_igmp.proofs.RecordsLemmas.{records_in-first, AreWholeRecords-rest}
 use Rattle.mc_igmp.proofs.group_records.GroupRecordsIterator.next.Goals as goal
 
 pub returns-then-self-eq0-clause-steps : goal.returns-then-self-eq0-clause-steps
@@ -19,12 +19,12 @@ returns-in_err-record-clause-steps c =
 
 pub invariant_of-self : goal.invariant_of-self
 invariant_of-self c =
-    let whole = IsWhole-rest c.self.inside.left (c.self.inside.left - 1) c.self.inside.bytes.now _ _
+    let whole = AreWholeRecords-rest c.self.inside.left (c.self.inside.left - 1) c.self.inside.bytes.now _ _
     (omega arith) (sym c.in_ok-record.ensures) c.self.invariant.0 in
     let first = records_in-first c.self.inside.left (c.self.inside.left - 1)
     c.self.inside.bytes.now (omega arith) in
     let parts = rw (← c.in_ok-record.ensures) at first in
-    (whole, λ known. (subst AreLasting parts (c.self.invariant.1 known)).1)
+    (whole, λ known. (subst HaveNoChanges parts (c.self.invariant.1 known)).1)
 
 pub returns-clause-steps : goal.returns-clause-steps
 returns-clause-steps c =

@@ -4,12 +4,12 @@ use Rattle.mc_text.proofs.StepLemmas.{with_front-none}
 use Rattle.mc_text.specs.LineView.{line_text}
 use Rattle.mc_text.specs.Lines.{lines_of}
 use Rattle.mc_igmp.specs.ReadingList.{read_lines}
-use Rattle.mc_igmp.proofs.ListLemmas.{lines_go_on, read_list-large, list_read, list_refused}
+use Rattle.mc_igmp.proofs.ListLemmas.{read_lines_more, report_list_answer-too_large, read_lines_all, read_lines_fault}
 use Rattle.mc_igmp.proofs.list.ReportList.read.Goals as goal
 
 pub returns-then-text-gt-MAX_TEXT : goal.returns-then-text-gt-MAX_TEXT
 returns-then-text-gt-MAX_TEXT c =
-    read_list-large c.args.text.now _ c.if-text-gt-MAX_TEXT.true (ap Err c.at.ensures)
+    report_list_answer-too_large c.args.text.now _ c.if-text-gt-MAX_TEXT.true (ap Err c.at.ensures)
 
 pub loop-line-init : goal.loop-line-init
 loop-line-init c =
@@ -19,17 +19,17 @@ loop-line-init c =
 pub loop-line-preserved : goal.loop-line-preserved
 loop-line-preserved c =
     let read = c.in_ok-push_line.ensures.ok in
-    lines_go_on c.loop-line.list read.0 c.push_line.new.self (line_text c.in-Some.line)
+    read_lines_more c.loop-line.list read.0 c.push_line.new.self (line_text c.in-Some.line)
     c.loop-line.line-iterator c.next.new.self _ c.in-Some.ensures.steps read.1 read.2
     c.loop-line.invariant
 
 pub returns-in_err-push_line : goal.returns-in_err-push_line
 returns-in_err-push_line c =
     let p = err_from_is_err_and c.from_residual.result c.from_residual.ensures.1 in
-    rw (p.1, p.2) (list_refused c.args.text.now c.loop-line.list (line_text c.in-Some.line)
+    rw (p.1, p.2) (read_lines_fault c.args.text.now c.loop-line.list (line_text c.in-Some.line)
     c.loop-line.line-iterator c.next.new.self _ c.if-text-gt-MAX_TEXT.false
     c.in-Some.ensures.steps c.in_err-push_line.ensures.err c.loop-line.invariant)
 
 pub returns : goal.returns
-returns c = list_read c.args.text.now c.loop-line.list c.loop-line.line-iterator
+returns c = read_lines_all c.args.text.now c.loop-line.list c.loop-line.line-iterator
     c.if-text-gt-MAX_TEXT.false c.in-None.ensures.steps.0 c.loop-line.invariant

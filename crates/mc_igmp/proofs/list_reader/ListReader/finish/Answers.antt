@@ -2,7 +2,7 @@ use Rattle.std.proofs.Common.{Err, [], length, ap, sym, ◌∙◌, arith, ◌≡
 use Rattle.std.proofs.lemmas.Bool.Decides.{nat_tests}
 use Rattle.std.proofs.lemmas.List.{nil_from_length}
 use Rattle.mc_igmp.specs.ListSoFar.{ListSoFar, list_if}
-use Rattle.mc_igmp.proofs.PieceLemmas.{ends_unended, ends_ended}
+use Rattle.mc_igmp.proofs.PieceLemmas.{list_if-unended, list_if-ended}
 use Rattle.mc_igmp.proofs.list_reader.ListReader.finish.Goals as goal
 
 pub returns-then-not-is_empty-clause-ends : goal.returns-then-not-is_empty-clause-ends
@@ -19,7 +19,7 @@ returns-then-not-is_empty-clause-ends c =
     grind (arith, nat_tests, count, c.is_empty.ensures, c.if-not-is_empty.true) in
     let on = c.self.invariant.1 (omega arith) c.in_default.is in
     ap Err c.at-then-not-is_empty.ensures
-    ∙ sym (ends_unended so_far (omega arith) c.in_default.is on.0 some)
+    ∙ sym (list_if-unended so_far (omega arith) c.in_default.is on.0 some)
     ∙ ap (λ (s : ListSoFar). list_if s []) c.self.view_is
 
 pub returns-clause-ends : goal.returns-clause-ends
@@ -35,5 +35,5 @@ returns-clause-ends c =
     let zero : length so_far.begun ≡ 0 =
     grind (arith, nat_tests, count, c.is_empty.ensures, c.if-not-is_empty.false) in
     let none = nil_from_length so_far.begun zero in
-    sym (ends_ended so_far (omega arith) c.in_default.is none)
+    sym (list_if-ended so_far (omega arith) c.in_default.is none)
     ∙ ap (λ (s : ListSoFar). list_if s []) c.self.view_is

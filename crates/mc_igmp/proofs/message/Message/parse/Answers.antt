@@ -1,7 +1,7 @@
 use Rattle.std.proofs.Common.{◌∙◌, arith, refl}
 use Rattle.std.proofs.lemmas.Bool.{lt-ltb, le-ltb}
 use Rattle.mc_igmp.specs.ReadingMessage.{read_message}
-use Rattle.mc_igmp.proofs.MessageLemmas.{read_message-found, read_message-again}
+use Rattle.mc_igmp.proofs.MessageLemmas.{read_message-sound, read_message-complete}
 use Rattle.mc_igmp.proofs.message.Message.parse.Goals as goal
 
 pub returns-then-bytes-lt-HEADER_LEN-clause-fault :
@@ -18,12 +18,12 @@ returns-then-not-is_checksum_right-clause-fault c =
 
 pub returns-clause-fault : goal.returns-clause-fault
 unfolding read_message
-returns-clause-fault c = c.message_in.ensures
+returns-clause-fault c = c.parse_by_type.ensures
     ∙ rw (le-ltb _ _ c.if-bytes-lt-HEADER_LEN.false, ← c.if-not-is_checksum_right.ensures) refl
 
 pub returns-clause-found : goal.returns-clause-found
 returns-clause-found c = rw (returns-clause-fault c)
-    (read_message-found c.args.bytes.now (λ i. omega (arith, c.type_inv.bytes i)))
+    (read_message-sound c.args.bytes.now (λ i. omega (arith, c.type_inv.bytes i)))
 
 pub returns-clause-only : goal.returns-clause-only
-returns-clause-only c = λ m h. returns-clause-fault c ∙ read_message-again c.args.bytes.now m h
+returns-clause-only c = λ m h. returns-clause-fault c ∙ read_message-complete c.args.bytes.now m h

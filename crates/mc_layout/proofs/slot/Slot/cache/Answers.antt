@@ -1,5 +1,5 @@
-use Rattle.mc_layout.proofs.SlotLemmas.{cache_named}
+use Rattle.mc_layout.proofs.SlotLemmas.{HasPartName-cache_slot}
 use Rattle.mc_layout.proofs.slot.Slot.cache.Goals as goal
 
 pub invariant_of-result : goal.invariant_of-result
-invariant_of-result c = cache_named c.args.router.now c.requires
+invariant_of-result c = HasPartName-cache_slot c.args.router.now c.requires

@@ -1,12 +1,12 @@
 use Rattle.std.proofs.Common.{◌≡◌, ◌≤◌, ◌++◌, ℕ, List, drop}
 use Rattle.std.specs.Prelude.{vec_len}
-use Rattle.mc_run.specs.LineFront.{front_if}
+use Rattle.mc_run.specs.LineFront.{front_after_more}
 use Rattle.mc_run.proofs.line_front.LineFront.take.Given as goal
 
 -- what is found in the end is what the bytes that are left of the piece bring, and those behind it
 abbrev pub invariant-loop-byte : goal.invariant-loop-byte
 invariant-loop-byte l = record {
   few : vec_len l.self.front ≤ 100;
-  takes : (more : List ℕ) → front_if l.self (drop l.byte-index l.fn.piece ++ more)
-      ≡ front_if l.fn.self (l.fn.piece ++ more);
+  takes : (more : List ℕ) → front_after_more l.self (drop l.byte-index l.fn.piece ++ more)
+      ≡ front_after_more l.fn.self (l.fn.piece ++ more);
 }

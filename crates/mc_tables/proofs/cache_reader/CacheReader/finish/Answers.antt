@@ -3,7 +3,7 @@ use Rattle.std.proofs.lemmas.Result.{err_from_is_err_and}
 use Rattle.mc_text.specs.Steps.{◌>>=◌}
 use Rattle.mc_tables.specs.Steps.{unless_fault}
 use Rattle.mc_tables.specs.RowsSoFar.{CacheSoFar, cache_after, cache_if}
-use Rattle.mc_tables.proofs.RowsSoFarLemmas.{cache_end}
+use Rattle.mc_tables.proofs.RowsSoFarLemmas.{cache_after-end}
 use Rattle.mc_tables.proofs.cache_reader.CacheReader.finish.Goals as goal
 
 pub returns-in_err-check_end : goal.returns-in_err-check_end
@@ -13,7 +13,7 @@ returns-in_err-check_end c =
     let p = err_from_is_err_and c.from_residual.result c.from_residual.ensures.1 in
     rw (p.1, p.2) (
     ap (λ r. r >>= λ _. Ok rows.rows.table) c.in_err-check_end.ensures.end
-    ∙ sym (cache_end lines rows c.check_end.ensures.rules.begun)
+    ∙ sym (cache_after-end lines rows c.check_end.ensures.rules.begun)
     ∙ ap (λ fault. unless_fault fault (cache_after lines rows [])) (sym c.in_default.is)
     ∙ ap (λ (s : CacheSoFar). cache_if s []) c.self.view_is
     )
@@ -24,6 +24,6 @@ returns c =
     let rows = c.self.inside.rows in
     ap Ok (c.from_rows.ensures ∙ c.into_kept.ensures ∙ c.in_ok-check_end.ensures.table)
     ∙ ap (λ r. r >>= λ _. Ok rows.rows.table) c.in_ok-check_end.ensures.end
-    ∙ sym (cache_end lines rows c.check_end.ensures.rules.begun)
+    ∙ sym (cache_after-end lines rows c.check_end.ensures.rules.begun)
     ∙ ap (λ fault. unless_fault fault (cache_after lines rows [])) (sym c.in_default.is)
     ∙ ap (λ (s : CacheSoFar). cache_if s []) c.self.view_is

@@ -1,7 +1,7 @@
 use Rattle.std.proofs.Common.{[], ap, refl, sym}
 use Rattle.std.specs.Prelude.{Err}
 use Rattle.std.proofs.lemmas.Result.{err_from_is_err_and}
-use Rattle.mc_text.proofs.StepLemmas.{err_is}
+use Rattle.mc_text.proofs.StepLemmas.{err_injective}
 use Rattle.mc_tables.specs.Steps.{unless_fault}
 use Rattle.mc_tables.specs.VifReading.{vifs_in}
 use Rattle.mc_tables.specs.VifsSoFar.{VifsSoFar, vifs_if, vifs_after}
@@ -18,8 +18,8 @@ returns-in_err-feed c =
     start.lines.size
     (ap (λ (s : VifsSoFar). s.lines.size) c.new-reader.ensures.start)
     (c.new-reader.ensures.reads c.args.text.now)
-    (λ fits. c.in_err-feed.ensures.goes_on [] (λ is. there (ap Err (err_is is))) fits)
+    (λ fits. c.in_err-feed.ensures.goes_on [] (λ is. there (ap Err (err_injective is))) fits)
     c.in_err-feed.field-0.0 (λ more. rw more refl)
     (ap (λ fault. unless_fault fault (vifs_after new.lines new.rows [])) c.in_err-feed.ensures.fault)
-    (λ more. err_is (c.in_err-feed.ensures.too_large
+    (λ more. err_injective (c.in_err-feed.ensures.too_large
     (ap (λ (s : VifsSoFar). s.fault) c.new-reader.ensures.start) more))))

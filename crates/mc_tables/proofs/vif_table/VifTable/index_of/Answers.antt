@@ -1,9 +1,9 @@
 use Rattle.std.proofs.Common.{◌∙◌, sym, ap, subst}
 use Rattle.std.specs.Prelude.{IfSome}
-use Rattle.mc_tables.specs.VifLookups.{HasDevice, IsVifTable, first_index_with}
-use Rattle.mc_tables.proofs.VifLookupLemmas.{index_found_in_map, index_only_in_map, answer_in_map}
+use Rattle.mc_tables.specs.VifLookups.{HasDevice, IsValidVifTable, first_index_with}
+use Rattle.mc_tables.proofs.VifLookupLemmas.{has_device-first_index_with, first_index_with-has_device, answer-at_most_31}
 use Rattle.mc_tables.proofs.VifLookupLemmas.{index_of-value}
-use Rattle.mc_tables.proofs.RuleLemmas.{vif_rules, answers_exactly}
+use Rattle.mc_tables.proofs.TableRuleLemmas.{vif_rows-valid_table, answer-iff_has_device}
 use Rattle.mc_tables.proofs.vif_table.VifTable.index_of.Goals as goal
 
 pub returns-clause-found : goal.returns-clause-found
@@ -12,14 +12,14 @@ returns-clause-found c =
     ∙ ap (first_index_with c.args.device.now) c.as_slice-vifs.ensures.value in
     subst (λ vifs. IfSome c.index_with_device.result
     (λ index. HasDevice vifs index c.args.device.now)) c.self.view_is
-    (index_found_in_map c.args.device.now c.self.inside.vifs.items c.index_with_device.result
+    (has_device-first_index_with c.args.device.now c.self.inside.vifs.items c.index_with_device.result
     c.self.invariant.0 is)
 
 pub returns-clause-only : goal.returns-clause-only
 returns-clause-only c =
     let is = c.index_with_device.ensures
     ∙ ap (first_index_with c.args.device.now) c.as_slice-vifs.ensures.value in
-    λ index some has. is ∙ index_only_in_map c.args.device.now c.self.inside.vifs.items index some
+    λ index some has. is ∙ first_index_with-has_device c.args.device.now c.self.inside.vifs.items index some
     c.self.invariant.1 (subst (λ vifs. HasDevice vifs index c.args.device.now)
     (sym c.self.view_is) has)
 
@@ -27,25 +27,25 @@ pub returns-clause-numbered : goal.returns-clause-numbered
 returns-clause-numbered c =
     let is = c.index_with_device.ensures
     ∙ ap (first_index_with c.args.device.now) c.as_slice-vifs.ensures.value in
-    let has = index_found_in_map c.args.device.now c.self.inside.vifs.items
+    let has = has_device-first_index_with c.args.device.now c.self.inside.vifs.items
     c.index_with_device.result c.self.invariant.0 is in
-    answer_in_map c.args.device.now c.self.inside.vifs.items c.index_with_device.result
+    answer-at_most_31 c.args.device.now c.self.inside.vifs.items c.index_with_device.result
     c.self.invariant.2 has
 
 pub returns-clause-exact : goal.returns-clause-exact
 returns-clause-exact c =
-    answers_exactly c.args.self.now c.args.device.now c.index_with_device.result
+    answer-iff_has_device c.args.self.now c.args.device.now c.index_with_device.result
     (sym c.eq.ensures ∙ c.if-eq.false) (returns-clause-found c) (returns-clause-only c)
 
 pub returns-clause-rules : goal.returns-clause-rules
 returns-clause-rules c =
-    subst IsVifTable c.self.view_is
-    (vif_rules c.self.inside.vifs.items c.self.invariant.1 c.self.invariant.2)
+    subst IsValidVifTable c.self.view_is
+    (vif_rows-valid_table c.self.inside.vifs.items c.self.invariant.1 c.self.invariant.2)
 
 pub returns-then-eq-clause-rules : goal.returns-then-eq-clause-rules
 returns-then-eq-clause-rules c =
-    subst IsVifTable c.self.view_is
-    (vif_rules c.self.inside.vifs.items c.self.invariant.1 c.self.invariant.2)
+    subst IsValidVifTable c.self.view_is
+    (vif_rows-valid_table c.self.inside.vifs.items c.self.invariant.1 c.self.invariant.2)
 
 pub returns-clause-value : goal.returns-clause-value
 returns-clause-value c =

@@ -3,12 +3,12 @@ use Rattle.std.specs.Prelude.{is_ok}
 use Rattle.std.proofs.lemmas.List.{map_push}
 use Rattle.mc_text.specs.BundleView.{part_text, part_texts}
 use Rattle.mc_text.specs.BundleView.{place_text}
-use Rattle.mc_text.proofs.BundleLaws.{fewer, goes_on, ends, fails}
+use Rattle.mc_text.proofs.BundleLaws.{next_part_from-fewer_parts, read_parts_more, read_parts_all, read_parts_fault}
 use Rattle.mc_text.proofs.bundle.bundle.parts_of.Goals as goal
 
 pub places-smaller : goal.places-smaller
 places-smaller c = let found = rw c.in-Ok-Some.field-0-is at c.in-Ok-Some.ensures in
-    fewer (place_text c.places.place) _ _ found
+    next_part_from-fewer_parts (place_text c.places.place) _ _ found
 
 pub places-preserved : goal.places-preserved
 places-preserved c =
@@ -17,14 +17,14 @@ places-preserved c =
     ∙ ap not c.if-is_err.false in
     let items = rw pushed at c.push.ensures.items in
     let texts = map_push part_text c.places.parts.items c.in-Ok-Some.part in
-    rw (items, texts) (goes_on (part_texts c.places.parts.items) (place_text c.places.place) _ _ _
+    rw (items, texts) (read_parts_more (part_texts c.places.parts.items) (place_text c.places.place) _ _ _
     found c.places.invariant)
 
 pub returns-in-Ok-None : goal.returns-in-Ok-None
 returns-in-Ok-None c =
     let found = rw c.in-Ok-None.field-0-is at c.in-Ok-None.ensures in
-    ends (part_texts c.places.parts.items) (place_text c.places.place) _ found c.places.invariant
+    read_parts_all (part_texts c.places.parts.items) (place_text c.places.place) _ found c.places.invariant
 
 pub returns-in-Err : goal.returns-in-Err
-returns-in-Err c = fails (part_texts c.places.parts.items) (place_text c.places.place) _
+returns-in-Err c = read_parts_fault (part_texts c.places.parts.items) (place_text c.places.place) _
     c.in-Err.fault c.in-Err.ensures c.places.invariant

@@ -4,24 +4,24 @@ use Rattle.std.specs.Io.KnownBytes.{Appends}
 use Rattle.std.proofs.KnownBytes.{Appends-nil, Appends-trans}
 use Rattle.std.proofs.lemmas.List.{take_all}
 use Rattle.std.proofs.lemmas.Result.{on_ok_weaker}
-use Rattle.mc_text.proofs.Pieces.{OnErr-from, part_of, front_of, spelled, front_end, front_more}
-use Rattle.mc_text.proofs.Pieces.{front_part, last_part}
+use Rattle.mc_text.proofs.Pieces.{OnErr-from, appends_prefix-after_front, front_of_bundle, spelled, bundle_spelling-front_of_bundle, front_of_bundle_more}
+use Rattle.mc_text.proofs.Pieces.{bundle_spelling-split_at_part, appends_prefix-last}
 use Rattle.mc_text.proofs.bundle.bundle_output.write_parts.Goals as goal
 
 pub returns-in_err-write_all-clause-err : goal.returns-in_err-write_all-clause-err
-returns-in_err-write_all-clause-err g c = OnErr-from _ _ (part_of _ _ _ []
+returns-in_err-write_all-clause-err g c = OnErr-from _ _ (appends_prefix-after_front _ _ _ []
     (codes "mcaudit bundle 1\n") _ _ (Appends-nil _) c.in_err-write_all.ensures.err refl)
 
 pub returns-in_err-write_part-clause-err : goal.returns-in_err-write_part-clause-err
 returns-in_err-write_part-clause-err g c =
-    let at = front_part c.args.parts.now c.loop-part.part-index c.part-item.result
+    let at = bundle_spelling-split_at_part c.args.parts.now c.loop-part.part-index c.part-item.result
     c.loop-part-test.true c.part-item.is in
-    OnErr-from _ _ (part_of _ _ _ _ (spelled c.part-item.result) _ _ c.loop-part.invariant.bytes
+    OnErr-from _ _ (appends_prefix-after_front _ _ _ _ (spelled c.part-item.result) _ _ c.loop-part.invariant.bytes
     c.in_err-write_part.ensures.err at)
 
 pub loop-part-preserved : goal.loop-part-preserved
 loop-part-preserved g c =
-    let more = front_more c.args.parts.now c.loop-part.part-index c.part-item.result
+    let more = front_of_bundle_more c.args.parts.now c.loop-part.part-index c.part-item.result
     c.loop-part-test.true c.part-item.is in
     record {
       same = c.in_ok-write_part.ensures.same ∙ c.loop-part.invariant.same;
@@ -36,13 +36,13 @@ returns-clause-ok g c =
     let parts = c.args.parts.now in
     let all = take_all c.loop-part.part-index parts c.loop-part-test.false in
     let front = rw all at c.loop-part.invariant.bytes in
-    rw (front_end parts) (on_ok_weaker _
-    (Appends-trans _ _ _ (front_of parts) (codes "end\n") front) c.write_all-2.ensures.ok)
+    rw (bundle_spelling-front_of_bundle parts) (on_ok_weaker _
+    (Appends-trans _ _ _ (front_of_bundle parts) (codes "end\n") front) c.write_all-2.ensures.ok)
 
 pub returns-clause-err : goal.returns-clause-err
 returns-clause-err g c =
     let parts = c.args.parts.now in
     let all = take_all c.loop-part.part-index parts c.loop-part-test.false in
     let front = rw all at c.loop-part.invariant.bytes in
-    last_part _ _ _ _ (front_of parts) (codes "end\n") _ front c.write_all-2.ensures.err
-    (front_end parts)
+    appends_prefix-last _ _ _ _ (front_of_bundle parts) (codes "end\n") _ front c.write_all-2.ensures.err
+    (bundle_spelling-front_of_bundle parts)

@@ -1,19 +1,19 @@
 use Rattle.std.proofs.Common.{◌≡◌, ◌++◌, ◌<◌, ℕ, List, Some, length}
 use Rattle.mc_text.specs.declared.bundle.stage.Stage.TheVariants as stages
-use Rattle.mc_text.specs.PartsReading.{parts_if}
-use Rattle.mc_text.specs.PartsToCome.{GoesOn}
+use Rattle.mc_text.specs.PartsReading.{parts_from_current}
+use Rattle.mc_text.specs.RestOfBundle.{Advances}
 use Rattle.mc_text.proofs.bundle.part_bytes.collect_part.Given as goal
 
 abbrev pub invariant-pieces : goal.invariant-pieces
 invariant-pieces g l = record {
-  goes_on : GoesOn l.fn.parts l.parts;
+  advances : Advances l.fn.parts l.parts;
   failures : l.parts.failed ≡ l.fn.parts.failed;
   opened : l.parts.stage ≡ stages.Part;
   name : l.parts.name ≡ l.fn.parts.name;
   room : 0 < length l.buffer;
-  bytes : (text done : List ℕ) → l.fn.parts.told ≡ Some text →
-      (later : List ℕ) × (l.parts.told ≡ Some later)
-      × (parts_if l.fn.parts done text ≡ parts_if l.parts (done ++ l.bytes.items) later);
+  bytes : (text done : List ℕ) → l.fn.parts.remaining ≡ Some text →
+      (later : List ℕ) × (l.parts.remaining ≡ Some later)
+      × (parts_from_current l.fn.parts done text ≡ parts_from_current l.parts (done ++ l.bytes.items) later);
 }
 
 abbrev pub decreases-pieces : goal.decreases-pieces

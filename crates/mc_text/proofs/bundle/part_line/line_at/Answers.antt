@@ -2,17 +2,17 @@ use Rattle.std.proofs.Common.{ℕ, ◌+◌, List, take, ap, sym, ◌∙◌, Ok, 
 use Rattle.std.proofs.lemmas.Bool.{lt-ltb, cond-true}
 use Rattle.std.proofs.lemmas.List.{take_rest}
 use Rattle.mc_text.specs.declared.bundle.bundle_fault.BundleFault.TheVariants.{NoEnd, BadPartLine}
-use Rattle.mc_text.proofs.BundleWords.{line_found}
+use Rattle.mc_text.proofs.BundleWords.{line_at-cut_line}
 use Rattle.mc_text.proofs.bundle.part_line.line_at.Goals as goal
 
 pub returns-in-Some : goal.returns-in-Some
 returns-in-Some c =
     let rest = c.args.rest.now in
-    line_found rest _ _ c.min.ensures c.in-Some.ensures
+    line_at-cut_line rest _ _ c.min.ensures c.in-Some.ensures
     ∙ ap (λ (after : List ℕ). Ok (take c.in-Some.end rest, after))
     (sym (take_rest rest (c.in-Some.end + 1)))
 
 pub returns-in-None : goal.returns-in-None
-returns-in-None c said =
-    line_found c.args.rest.now _ _ c.min.ensures c.in-None.ensures
+returns-in-None c header =
+    line_at-cut_line c.args.rest.now _ _ c.min.ensures c.in-None.ensures
     ∙ cond-true _ (Err NoEnd) (Err BadPartLine) (lt-ltb _ _ c.if-rest-lt-MAX_LINE.true)

@@ -1,14 +1,14 @@
 use Rattle.std.proofs.Common.{◌≡◌, ◌+◌, ℕ, List, true, take, sym, subst, arith, length-take}
 use Rattle.std.specs.Str.{bytes_eq}
-use Rattle.mc_text.proofs.SpendingLemmas.{fault_spends, end_is_short}
+use Rattle.mc_text.proofs.PartsLimitLemmas.{consumes_within-fault, length-end_line}
 use Rattle.mc_text.proofs.bundle.parts_input.open_next.Goals as goal
 
 pub returns-in_err-read_end-clause-consumed : goal.returns-in_err-read_end-clause-consumed
 returns-in_err-read_end-clause-consumed g c =
     let line = take c.in_ok-count.count c.read_line.new.line in
-    let short = end_is_short line (subst (λ (l : List ℕ). bytes_eq line l ≡ true) c.as_slice.ensures
+    let short = length-end_line line (subst (λ (l : List ℕ). bytes_eq line l ≡ true) c.as_slice.ensures
     (sym c.if-eq.ensures)) in
-    fault_spends _ _ _ _ (c.in_ok-count.count + 1) 1 (c.args.room + 96)
+    consumes_within-fault _ _ _ _ (c.in_ok-count.count + 1) 1 (c.args.room + 96)
     c.from_residual-in_err-read_end.ensures.0 c.in_ok-count.ensures.taken
     c.in_err-read_end.ensures.consumed
     (omega (

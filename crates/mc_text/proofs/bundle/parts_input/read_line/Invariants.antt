@@ -1,16 +1,16 @@
 use Rattle.std.proofs.Common.{length, take, ◌-◌, ◌≡◌, ◌≤◌}
 use Rattle.std.specs.Io.KnownBytes.{Consumes}
-use Rattle.mc_text.proofs.BundleWords.{Without}
+use Rattle.mc_text.proofs.BundleWords.{HasNoByte}
 use Rattle.mc_text.proofs.bundle.parts_input.read_line.Given as goal
 
 abbrev pub invariant-bytes : goal.invariant-bytes
 invariant-bytes g l = record {
-  same : g.R.Input.names l.input ≡ g.R.Input.names l.fn.input;
+  same : g.R.Input.borrows l.input ≡ g.R.Input.borrows l.fn.input;
   failures : g.R.Input.failed l.input ≡ g.R.Input.failed l.fn.input;
   long : length l.line ≡ 96;
   within : l.count ≤ 96;
-  bytes : Consumes (g.R.Input.told l.fn.input) (g.R.Input.told l.input) (take l.count l.line);
-  without : Without 10 (take l.count l.line);
+  bytes : Consumes (g.R.Input.remaining l.fn.input) (g.R.Input.remaining l.input) (take l.count l.line);
+  without : HasNoByte 10 (take l.count l.line);
 }
 
 abbrev pub decreases-bytes : goal.decreases-bytes

@@ -1,42 +1,42 @@
 use Rattle.std.proofs.Common.{◌+◌, length}
-use Rattle.mc_text.proofs.SpendingLemmas.{up_to_more}
+use Rattle.mc_text.proofs.PartsLimitLemmas.{consumes_up_to-after_consumes}
 use Rattle.std.proofs.Common.{ℕ, [], ◌∷◌, ◌++◌, take, drop}
 use Rattle.std.proofs.Common.{subst, ◌∙◌, arith, length-take, length-drop}
 use Rattle.std.specs.Io.KnownBytes.{Consumes}
 use Rattle.std.proofs.KnownBytes.{Consumes-trans}
 use Rattle.std.proofs.lemmas.List.{length-append}
-use Rattle.mc_text.proofs.PartsLemmas.{rest_truncated, rest_whole, rest_other, differs}
+use Rattle.mc_text.proofs.PartsLemmas.{reads_as-rest_truncated, reads_as-rest, reads_as-rest_other_byte, eqb-of_distinct}
 use Rattle.mc_text.proofs.bundle.parts_input.skip_rest.Goals as goal
 
 pub returns-then-branch-size-clause-reads : goal.returns-then-branch-size-clause-reads
 returns-then-branch-size-clause-reads g c =
-    let n = c.in_ok-fill.field-0 in
+    let n = c.in_ok-fill_buffer.field-0 in
     let long = c.skipping.invariant.long in
     let size = c.min-size.ensures in
     let left = c.skipping.invariant.bytes.2 in
-    let full = c.fill.auto.buffer in
-    rest_truncated _ _ _ c.args.left c.skipping.invariant.bytes.0 (take n c.fill.new.buffer)
-    c.skipping.invariant.bytes.1 c.in_ok-fill.ensures.bytes
-    (c.in_ok-fill.ensures.end (omega (
+    let full = c.fill_buffer.auto.buffer in
+    reads_as-rest_truncated _ _ _ c.args.left c.skipping.invariant.bytes.0 (take n c.fill_buffer.new.buffer)
+    c.skipping.invariant.bytes.1 c.in_ok-fill_buffer.ensures.bytes
+    (c.in_ok-fill_buffer.ensures.end (omega (
       arith,
       long,
       full,
       size,
       length-take c.min-size.result c.skipping.buffer,
     )))
-    (omega (arith, left, size, length-take n c.fill.new.buffer))
+    (omega (arith, left, size, length-take n c.fill_buffer.new.buffer))
 
 pub skipping-preserved : goal.skipping-preserved
 skipping-preserved g c =
     let bytes = c.skipping.invariant.bytes.0 in
-    let n = c.in_ok-fill.field-0 in
+    let n = c.in_ok-fill_buffer.field-0 in
     let long = c.skipping.invariant.long in
     let size = c.min-size.ensures in
-    let full = c.fill.auto.buffer in
+    let full = c.fill_buffer.auto.buffer in
     let left = c.skipping.invariant.bytes.2 in
     record {
-      same = c.fill.ensures.same ∙ c.skipping.invariant.same;
-      failures = c.in_ok-fill.ensures.failures ∙ c.skipping.invariant.failures;
+      same = c.fill_buffer.ensures.same ∙ c.skipping.invariant.same;
+      failures = c.in_ok-fill_buffer.ensures.failures ∙ c.skipping.invariant.failures;
       long = omega (
         arith,
         long,
@@ -44,12 +44,12 @@ skipping-preserved g c =
         size,
         length-take c.min-size.result c.skipping.buffer,
         length-drop c.min-size.result c.skipping.buffer,
-        length-append c.fill.new.buffer (drop c.min-size.result c.skipping.buffer),
+        length-append c.fill_buffer.new.buffer (drop c.min-size.result c.skipping.buffer),
       );
       bytes = (
-        bytes ++ take n c.fill.new.buffer,
-        Consumes-trans _ _ _ bytes (take n c.fill.new.buffer) c.skipping.invariant.bytes.1
-            c.in_ok-fill.ensures.bytes,
+        bytes ++ take n c.fill_buffer.new.buffer,
+        Consumes-trans _ _ _ bytes (take n c.fill_buffer.new.buffer) c.skipping.invariant.bytes.1
+            c.in_ok-fill_buffer.ensures.bytes,
         omega (
           arith,
           left,
@@ -57,9 +57,9 @@ skipping-preserved g c =
           full,
           size,
           length-take c.min-size.result c.skipping.buffer,
-          length-take n c.fill.new.buffer,
-          c.in_ok-fill.ensures.bound,
-          length-append bytes (take n c.fill.new.buffer),
+          length-take n c.fill_buffer.new.buffer,
+          c.in_ok-fill_buffer.ensures.bound,
+          length-append bytes (take n c.fill_buffer.new.buffer),
         ),
       );
     }
@@ -68,35 +68,35 @@ pub returns-in-None-clause-reads : goal.returns-in-None-clause-reads
 returns-in-None-clause-reads g c =
     let none = c.in_ok-next_byte.ensures.none c.in-None.is in
     let left = c.skipping.invariant.bytes.2 in
-    rest_truncated _ _ _ c.args.left c.skipping.invariant.bytes.0 [] c.skipping.invariant.bytes.1
+    reads_as-rest_truncated _ _ _ c.args.left c.skipping.invariant.bytes.0 [] c.skipping.invariant.bytes.1
     none.0 none.1 (omega (arith, left))
 
 pub returns-in-Some-eq10-clause-reads : goal.returns-in-Some-eq10-clause-reads
 returns-in-Some-eq10-clause-reads g c =
     let some = rw c.in-Some-eq10.is at c.in_ok-next_byte.ensures.some in
     let left = c.skipping.invariant.bytes.2 in
-    let feed = subst (λ (b : ℕ). Consumes (g.R.Input.told c.skipping.input)
-    (g.R.Input.told c.next_byte.new.input) (b ∷ [])) c.in-Some-eq10.field-0-test some in
-    rest_whole _ _ _ c.args.left c.skipping.invariant.bytes.0 tt c.skipping.invariant.bytes.1 feed
+    let feed = subst (λ (b : ℕ). Consumes (g.R.Input.remaining c.skipping.input)
+    (g.R.Input.remaining c.next_byte.new.input) (b ∷ [])) c.in-Some-eq10.field-0-test some in
+    reads_as-rest _ _ _ c.args.left c.skipping.invariant.bytes.0 tt c.skipping.invariant.bytes.1 feed
     (omega (arith, left))
 
 pub returns-in-Some-clause-reads : goal.returns-in-Some-clause-reads
 returns-in-Some-clause-reads g c =
     let some = rw c.in-Some.is at c.in_ok-next_byte.ensures.some in
     let left = c.skipping.invariant.bytes.2 in
-    rest_other _ _ _ c.args.left c.skipping.invariant.bytes.0 c.in-Some.field-0
+    reads_as-rest_other_byte _ _ _ c.args.left c.skipping.invariant.bytes.0 c.in-Some.field-0
     c.skipping.invariant.bytes.1 some (omega (arith, left))
-    (differs c.in-Some.field-0 10 c.in-Some.field-0-test.1)
+    (eqb-of_distinct c.in-Some.field-0 10 c.in-Some.field-0-test.1)
 
-pub returns-in_err-fill-clause-consumed : goal.returns-in_err-fill-clause-consumed
-returns-in_err-fill-clause-consumed g c =
+pub returns-in_err-fill_buffer-clause-consumed : goal.returns-in_err-fill_buffer-clause-consumed
+returns-in_err-fill_buffer-clause-consumed g c =
     let bytes = c.skipping.invariant.bytes in
-    up_to_more _ _ _ bytes.0 (length c.fill.new.buffer) (c.args.left + 1) bytes.1
-    c.in_err-fill.ensures.consumed
+    consumes_up_to-after_consumes _ _ _ bytes.0 (length c.fill_buffer.new.buffer) (c.args.left + 1) bytes.1
+    c.in_err-fill_buffer.ensures.consumed
     (omega (
       arith,
       bytes.2,
-      c.fill.auto.buffer,
+      c.fill_buffer.auto.buffer,
       c.min-size.ensures,
       length-take c.min-size.result c.skipping.buffer,
     ))
@@ -104,12 +104,12 @@ returns-in_err-fill-clause-consumed g c =
 pub returns-then-branch-size-clause-consumed : goal.returns-then-branch-size-clause-consumed
 returns-then-branch-size-clause-consumed g c =
     let bytes = c.skipping.invariant.bytes in
-    up_to_more _ _ _ bytes.0 (length c.fill.new.buffer) (c.args.left + 1) bytes.1
-    c.in_ok-fill.ensures.consumed
+    consumes_up_to-after_consumes _ _ _ bytes.0 (length c.fill_buffer.new.buffer) (c.args.left + 1) bytes.1
+    c.in_ok-fill_buffer.ensures.consumed
     (omega (
       arith,
       bytes.2,
-      c.fill.auto.buffer,
+      c.fill_buffer.auto.buffer,
       c.min-size.ensures,
       length-take c.min-size.result c.skipping.buffer,
     ))
@@ -117,23 +117,23 @@ returns-then-branch-size-clause-consumed g c =
 pub returns-in_err-next_byte-clause-consumed : goal.returns-in_err-next_byte-clause-consumed
 returns-in_err-next_byte-clause-consumed g c =
     let bytes = c.skipping.invariant.bytes in
-    up_to_more _ _ _ bytes.0 1 (c.args.left + 1) bytes.1 c.in_err-next_byte.ensures.consumed
+    consumes_up_to-after_consumes _ _ _ bytes.0 1 (c.args.left + 1) bytes.1 c.in_err-next_byte.ensures.consumed
     (omega (arith, bytes.2))
 
 pub returns-in-Some-eq10-clause-consumed : goal.returns-in-Some-eq10-clause-consumed
 returns-in-Some-eq10-clause-consumed g c =
     let bytes = c.skipping.invariant.bytes in
-    up_to_more _ _ _ bytes.0 1 (c.args.left + 1) bytes.1 c.in_ok-next_byte.ensures.consumed
+    consumes_up_to-after_consumes _ _ _ bytes.0 1 (c.args.left + 1) bytes.1 c.in_ok-next_byte.ensures.consumed
     (omega (arith, bytes.2))
 
 pub returns-in-Some-clause-consumed : goal.returns-in-Some-clause-consumed
 returns-in-Some-clause-consumed g c =
     let bytes = c.skipping.invariant.bytes in
-    up_to_more _ _ _ bytes.0 1 (c.args.left + 1) bytes.1 c.in_ok-next_byte.ensures.consumed
+    consumes_up_to-after_consumes _ _ _ bytes.0 1 (c.args.left + 1) bytes.1 c.in_ok-next_byte.ensures.consumed
     (omega (arith, bytes.2))
 
 pub returns-in-None-clause-consumed : goal.returns-in-None-clause-consumed
 returns-in-None-clause-consumed g c =
     let bytes = c.skipping.invariant.bytes in
-    up_to_more _ _ _ bytes.0 1 (c.args.left + 1) bytes.1 c.in_ok-next_byte.ensures.consumed
+    consumes_up_to-after_consumes _ _ _ bytes.0 1 (c.args.left + 1) bytes.1 c.in_ok-next_byte.ensures.consumed
     (omega (arith, bytes.2))

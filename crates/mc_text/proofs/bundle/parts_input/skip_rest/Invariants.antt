@@ -4,12 +4,12 @@ use Rattle.mc_text.proofs.bundle.parts_input.skip_rest.Given as goal
 
 abbrev pub invariant-skipping : goal.invariant-skipping
 invariant-skipping g l = record {
-  same : g.R.Input.names l.input ≡ g.R.Input.names l.fn.input;
+  same : g.R.Input.borrows l.input ≡ g.R.Input.borrows l.fn.input;
   failures : g.R.Input.failed l.input ≡ g.R.Input.failed l.fn.input;
   long : length l.buffer ≡ 4096;
-  bytes : (bytes : List ℕ) × Consumes (g.R.Input.told l.fn.input) (g.R.Input.told l.input) bytes
-      × (length bytes + l.to_come ≡ l.left);
+  bytes : (bytes : List ℕ) × Consumes (g.R.Input.remaining l.fn.input) (g.R.Input.remaining l.input) bytes
+      × (length bytes + l.unread ≡ l.left);
 }
 
 abbrev pub decreases-skipping : goal.decreases-skipping
-decreases-skipping g l = l.to_come
+decreases-skipping g l = l.unread

@@ -1,7 +1,7 @@
 use Rattle.std.proofs.Common.{eqb}
 use Rattle.std.proofs.lemmas.List.Filters.{dedup_is}
 use Rattle.std.proofs.lemmas.Map.Keys.{IsStrictlyIncreasing-dedup}
-use Rattle.mc_text.proofs.IndexLemmas.{same_numbers}
+use Rattle.mc_text.proofs.IndexLemmas.{contains-dedup_sorted}
 use Rattle.mc_text.proofs.index.Index.of.Goals as goal
 
 pub invariant_of-result : goal.invariant_of-result
@@ -14,5 +14,5 @@ invariant_of-result c =
     }
 
 pub returns : goal.returns
-returns c = same_numbers _ _ _ c.sort_unstable.ensures.permutation
+returns c = contains-dedup_sorted _ _ _ c.sort_unstable.ensures.permutation
     (dedup_is eqb _ _ c.dedup.ensures.filtered)

@@ -2,7 +2,7 @@ use Rattle.std.proofs.Common.{◌≡◌, ◌<◌, ℕ, List, length, get_or, ari
 use Rattle.std.specs.List.{Contains}
 use Rattle.std.proofs.lemmas.List.{get_or_default}
 use Rattle.mc_text.specs.Index.{slot_in}
-use Rattle.mc_text.proofs.IndexLemmas.{missed, unmarked}
+use Rattle.mc_text.proofs.IndexLemmas.{contains-not_found, contains-unmarked_slot}
 use Rattle.mc_text.proofs.index.Index.place_of.Goals as goal
 
 pub returns-then-mark-eq0-clause-none : goal.returns-then-mark-eq0-clause-none
@@ -17,12 +17,12 @@ returns-then-mark-eq0-clause-none c =
     ∙ get_or_default marks c.slot_of.result 0 c.index-mark.result.now within
     ∙ sym c.index-mark.ensures ∙ c.if-mark-eq0.true in
     subst (λ (ns : List ℕ). ¬ Contains ns c.args.number) c.self.view_is
-    (unmarked (length marks) marks c.self.inside.numbers.items c.args.number
+    (contains-unmarked_slot (length marks) marks c.self.inside.numbers.items c.args.number
     c.self.invariant.marked empty)
 
 pub returns-clause-none : goal.returns-clause-none
 returns-clause-none c =
     rw (← c.self.view_is)
-    (missed c.self.inside.numbers.items c.args.number c.binary_search.result c.ok.result
+    (contains-not_found c.self.inside.numbers.items c.args.number c.binary_search.result c.ok.result
     c.self.invariant.ascending
     (rw c.deref.ensures.value at c.binary_search.ensures.position) c.ok.ensures.value)

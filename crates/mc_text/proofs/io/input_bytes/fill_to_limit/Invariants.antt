@@ -1,13 +1,13 @@
 use Rattle.std.proofs.Common.{◌-◌, ◌≡◌, ◌≤◌, vec_len}
-use Rattle.mc_text.specs.ReadFault.{ReadsMore}
+use Rattle.mc_text.specs.ReadFault.{ReadsOnto}
 use Rattle.mc_text.proofs.io.input_bytes.fill_to_limit.Given as goal
 
 abbrev pub invariant-reading : goal.invariant-reading
 invariant-reading g l = record {
-  same : g.R.Input.names l.input ≡ g.R.Input.names l.fn.input;
+  same : g.R.Input.borrows l.input ≡ g.R.Input.borrows l.fn.input;
   failures : g.R.Input.failed l.input ≡ g.R.Input.failed l.fn.input;
   within : vec_len l.bytes ≤ l.limit;
-  bytes : ReadsMore (g.R.Input.told l.fn.input) (g.R.Input.told l.input) l.fn.bytes.items
+  bytes : ReadsOnto (g.R.Input.remaining l.fn.input) (g.R.Input.remaining l.input) l.fn.bytes.items
       l.bytes.items;
 }
 

@@ -4,41 +4,41 @@ use Rattle.std.specs.Prelude.{nat_lt, IfSome}
 use Rattle.std.specs.Io.KnownBytes.{Consumes, IsAtEnd}
 use Rattle.std.proofs.lemmas.Bool.{ltb-true}
 use Rattle.std.proofs.lemmas.List.{append-nil, take_all, take_at}
-use Rattle.mc_text.specs.ReadFault.{ReadsMore}
+use Rattle.mc_text.specs.ReadFault.{ReadsOnto}
 use Rattle.mc_text.proofs.io.input_bytes.read_to_limit.Goals as goal
 
 -- what stands behind nothing is all that was read
-all_read : (told left : Option (List ℕ)) (old bytes : List ℕ) → old ≡ []
-    → ReadsMore told left old bytes → Consumes told left bytes
-all_read told left old bytes none (read, first, grown) =
-    subst (Consumes told left) (sym (grown ∙ ap (λ xs. xs ++ read) none)) first
+consumes-from_reads_onto : (remaining left : Option (List ℕ)) (old bytes : List ℕ) → old ≡ []
+    → ReadsOnto remaining left old bytes → Consumes remaining left bytes
+consumes-from_reads_onto remaining left old bytes none (read, first, grown) =
+    subst (Consumes remaining left) (sym (grown ∙ ap (λ xs. xs ++ read) none)) first
 
 -- bytes up to a limit are the first ones of a text, by whether they are fewer
-first_bytes : (bytes rest : List ℕ) (limit : ℕ) (b : Bool) → nat_lt (length bytes) limit ≡ b
+take-limit : (bytes rest : List ℕ) (limit : ℕ) (b : Bool) → nat_lt (length bytes) limit ≡ b
     → length bytes ≤ limit → (length bytes < limit → rest ≡ [])
     → bytes ≡ take limit (bytes ++ rest)
-first_bytes bytes rest limit true fewer few end =
+take-limit bytes rest limit true fewer few end =
     rw (end (ltb-true (length bytes) limit fewer), append-nil bytes)
     (sym (take_all limit bytes few))
-first_bytes bytes rest limit false fewer few end =
+take-limit bytes rest limit false fewer few end =
     sym (take_at bytes rest limit (grind arith))
 
 -- so are those that were read
-limit_read : (told left : Option (List ℕ)) (bytes : List ℕ) (limit : ℕ)
-    → Consumes told left bytes → length bytes ≤ limit → (length bytes < limit → IsAtEnd left)
-    → IfSome told (λ text. bytes ≡ take limit text)
-limit_read None left bytes limit read few end = tt
-limit_read (Some text) None bytes limit read few end = absurd read
-limit_read (Some text) (Some rest) bytes limit read few end =
-    rw read (first_bytes bytes rest limit (nat_lt (length bytes) limit) refl few end)
+take-limit_of_known : (remaining left : Option (List ℕ)) (bytes : List ℕ) (limit : ℕ)
+    → Consumes remaining left bytes → length bytes ≤ limit → (length bytes < limit → IsAtEnd left)
+    → IfSome remaining (λ text. bytes ≡ take limit text)
+take-limit_of_known None left bytes limit read few end = tt
+take-limit_of_known (Some text) None bytes limit read few end = absurd read
+take-limit_of_known (Some text) (Some rest) bytes limit read few end =
+    rw read (take-limit bytes rest limit (nat_lt (length bytes) limit) refl few end)
 
 pub returns-clause-rest : goal.returns-clause-rest
 returns-clause-rest g c =
-    all_read _ _ _ _ c.new-bytes.ensures.items c.in_ok-fill_to_limit.ensures.bytes
+    consumes-from_reads_onto _ _ _ _ c.new-bytes.ensures.items c.in_ok-fill_to_limit.ensures.bytes
 
 pub returns-clause-bytes : goal.returns-clause-bytes
 returns-clause-bytes g c =
     let count = c.fill_to_limit.new.bytes.ok.0 in
-    limit_read _ _ _ c.args.limit (returns-clause-rest g c)
+    take-limit_of_known _ _ _ c.args.limit (returns-clause-rest g c)
     (omega (arith, count, c.in_ok-fill_to_limit.ensures.bound))
     (λ fewer. c.in_ok-fill_to_limit.ensures.end (omega (arith, count, fewer)))

@@ -4,10 +4,10 @@ use Rattle.mc_text.proofs.io.output_bytes.write_all.Given as goal
 
 abbrev pub invariant-loop-taken : goal.invariant-loop-taken
 invariant-loop-taken g l = record {
-  same : g.W.Output.names l.output ≡ g.W.Output.names l.fn.output;
+  same : g.W.Output.borrows l.output ≡ g.W.Output.borrows l.fn.output;
   failures : g.W.Output.failed l.output ≡ g.W.Output.failed l.fn.output;
   within : l.taken ≤ length l.text;
-  bytes : Appends (g.W.Output.took l.fn.output) (g.W.Output.took l.output) (take l.taken l.text);
+  bytes : Appends (g.W.Output.written l.fn.output) (g.W.Output.written l.output) (take l.taken l.text);
 }
 
 abbrev pub decreases-loop-taken : goal.decreases-loop-taken

@@ -5,8 +5,8 @@ use Rattle.mc_text.proofs.io.output_bytes.write_pieces.Given as goal
 
 abbrev pub invariant-loop-piece : goal.invariant-loop-piece
 invariant-loop-piece g l = record {
-  same : g.W.Output.names l.output ≡ g.W.Output.names l.fn.output;
+  same : g.W.Output.borrows l.output ≡ g.W.Output.borrows l.fn.output;
   failures : g.W.Output.failed l.output ≡ g.W.Output.failed l.fn.output;
-  bytes : Appends (g.W.Output.took l.fn.output) (g.W.Output.took l.output)
+  bytes : Appends (g.W.Output.written l.fn.output) (g.W.Output.written l.output)
       (flat_map (λ piece. piece.now) (take l.piece-index l.pieces));
 }

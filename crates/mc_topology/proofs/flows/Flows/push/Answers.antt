@@ -1,14 +1,14 @@
 use Rattle.std.proofs.Common.{◌≡◌, false, ap, ◌∙◌}
 use Rattle.std.specs.Map.{values_of}
 use Rattle.mc_topology.specs.Flows.{has_flow}
-use Rattle.mc_topology.proofs.FlowKeys.{flow_pushed, flow_keys_kept}
+use Rattle.mc_topology.proofs.FlowKeys.{values_of-insert_new_flow, keys_of-insert_new_flow}
 use Rattle.mc_topology.proofs.flows.Flows.push.Goals as goal
 
 pub returns-clause-added : goal.returns-clause-added
 returns-clause-added c =
     let new : has_flow c.args.flow.source c.args.flow.group (values_of c.self.inside.flows.entries)
     ≡ false = rw c.self.view_is c.requires in
-    let pushed = flow_pushed c.self.inside.flows c.args.flow c.self.invariant new in
+    let pushed = values_of-insert_new_flow c.self.inside.flows c.args.flow c.self.invariant new in
     rw (← c.self.view_is) (ap values_of c.in_ok-insert.ensures.entries ∙ pushed)
 
 pub invariant_of-self-2 : goal.invariant_of-self-2
@@ -16,4 +16,4 @@ invariant_of-self-2 c =
     let new : has_flow c.args.flow.source c.args.flow.group (values_of c.self.inside.flows.entries)
     ≡ false = rw c.self.view_is c.requires in
     rw c.in_ok-insert.ensures.entries
-    (flow_keys_kept c.self.inside.flows c.args.flow c.self.invariant new)
+    (keys_of-insert_new_flow c.self.inside.flows c.args.flow c.self.invariant new)

@@ -1,7 +1,7 @@
 use Rattle.std.proofs.Common.{◌<◌, length, map}
 use Rattle.std.proofs.lemmas.List.{length-map}
 use Rattle.mc_topology.specs.Lookup.{interface_row}
-use Rattle.mc_topology.proofs.Places.{row_at}
+use Rattle.mc_topology.proofs.Places.{slice_get-row}
 use Rattle.mc_topology.proofs.interfaces.Interfaces.interface.Goals as goal
 
 pub returns : goal.returns
@@ -11,6 +11,6 @@ returns c =
     rw c.self.view_is c.requires in
     let within : c.args.interface < length entries = rw length-map at rows in
     let is = rw (c.as_slice.ensures, c.keys-keys.ensures.rest) at c.index-as_slice-interface.is in
-    let at = row_at interface_row entries c.args.interface c.index-as_slice-interface.result
+    let at = slice_get-row interface_row entries c.args.interface c.index-as_slice-interface.result
     c.index.result.now within is c.index.ensures in
     rw (← c.self.view_is, c.as_slice-2.ensures.value) at

@@ -1,14 +1,14 @@
 use Rattle.std.proofs.Common.{◌∙◌, sym, refl, map}
-use Rattle.mc_topology.specs.Lookup.{is_at, interface_row}
-use Rattle.mc_topology.proofs.InterfaceKeys.{interface_agrees, lan_of_long_device}
-use Rattle.mc_topology.proofs.Keyed.{value_of_row}
+use Rattle.mc_topology.specs.Lookup.{is_interface_of, interface_row}
+use Rattle.mc_topology.proofs.InterfaceKeys.{is_interface_of-interface_row, lan_of_interface-long_device}
+use Rattle.mc_topology.proofs.Keyed.{lookup-find_row}
 use Rattle.mc_topology.proofs.interfaces.Interfaces.lan_of.Goals as goal
 
 pub returns-in_err-key : goal.returns-in_err-key
 returns-in_err-key c =
     let rows = map interface_row c.self.inside.lans.entries in
     let none =
-    lan_of_long_device rows c.args.router c.args.device.now _ c.self.invariant c.in_err-key.ensures
+    lan_of_interface-long_device rows c.args.router c.args.device.now _ c.self.invariant c.in_err-key.ensures
     refl in
     rw (← c.self.view_is) (c.from_residual.ensures ∙ sym none)
 
@@ -17,7 +17,7 @@ returns-in_err-lan c =
     let key = c.in_ok-key.key in
     let (router, device, short) = c.in_ok-key.ensures in
     let value =
-    value_of_row interface_row _ (is_at key.router key.device.items) (interface_agrees key)
+    lookup-find_row interface_row _ (is_interface_of key.router key.device.items) (is_interface_of-interface_row key)
     (λ i. i.lan) (λ e. refl) c.self.inside.lans.entries in
     rw (← c.self.view_is, ← router, ← device)
     (c.from_residual-in_err-lan.ensures ∙ (c.in_err-lan.ensures.value ∙ value))
@@ -27,6 +27,6 @@ returns c =
     let key = c.in_ok-key.key in
     let (router, device, short) = c.in_ok-key.ensures in
     let value =
-    value_of_row interface_row _ (is_at key.router key.device.items) (interface_agrees key)
+    lookup-find_row interface_row _ (is_interface_of key.router key.device.items) (is_interface_of-interface_row key)
     (λ i. i.lan) (λ e. refl) c.self.inside.lans.entries in
     rw (← c.self.view_is, ← router, ← device) (c.in_ok-lan.ensures.value ∙ value)

@@ -1,21 +1,21 @@
 use Rattle.std.proofs.Common.{◌∙◌, sym}
 use Rattle.std.specs.Prelude.{string_bytes}
 use Rattle.std.specs.Str.{bytes_eq}
-use Rattle.mc_topology.proofs.Keyed.{place_of_row}
-use Rattle.mc_topology.proofs.KeptNames.{lan_agrees}
+use Rattle.mc_topology.proofs.Keyed.{position-map_row}
+use Rattle.mc_topology.proofs.InsertedRows.{bytes_eq-lan_name}
 use Rattle.mc_topology.proofs.lans.Lans.number_of.Goals as goal
 
 pub returns-in_err-place-clause-number : goal.returns-in_err-place-clause-number
 returns-in_err-place-clause-number c =
     let name = c.args.name.now in
-    let place = place_of_row string_bytes _ (λ x. bytes_eq x name)
-    (lan_agrees name) c.self.inside.names.keys in
+    let place = position-map_row string_bytes _ (λ x. bytes_eq x name)
+    (bytes_eq-lan_name name) c.self.inside.names.keys in
     rw (← c.self.view_is)
     (c.from_residual.ensures ∙ (sym c.in_err-place.was ∙ (c.get_index_of.ensures.index ∙ place)))
 
 pub returns-clause-number : goal.returns-clause-number
 returns-clause-number c =
     let name = c.args.name.now in
-    let place = place_of_row string_bytes _ (λ x. bytes_eq x name)
-    (lan_agrees name) c.self.inside.names.keys in
+    let place = position-map_row string_bytes _ (λ x. bytes_eq x name)
+    (bytes_eq-lan_name name) c.self.inside.names.keys in
     rw (← c.self.view_is) (sym c.in_ok-place.was ∙ (c.get_index_of.ensures.index ∙ place))

@@ -1,8 +1,8 @@
-use Rattle.mc_topology.proofs.KeptNames.{lan_pushed}
+use Rattle.mc_topology.proofs.InsertedRows.{lan_names-insert_new}
 use Rattle.mc_topology.proofs.lans.Lans.push.Goals as goal
 
 pub returns-clause-added : goal.returns-clause-added
 returns-clause-added c =
     rw c.in_ok-insert.ensures.keys
-    (lan_pushed c.self.inside.names.keys c.in_ok-from_str.field-0 c.args.self.now c.args.name.now
+    (lan_names-insert_new c.self.inside.names.keys c.in_ok-from_str.field-0 c.args.self.now c.args.name.now
     c.self.view_is c.in_ok-from_str.ensures.ok c.requires)

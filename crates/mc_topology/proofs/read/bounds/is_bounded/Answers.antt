@@ -1,22 +1,22 @@
 use Rattle.std.proofs.Common.{arith, refl, le-leb}
 use Rattle.std.proofs.lemmas.Bool.Decides.{nat_tests}
-use Rattle.mc_topology.proofs.Bounds.{one_more, bounded_by}
+use Rattle.mc_topology.proofs.Bounds.{IsScannedTo-more, is_bounded-all}
 use Rattle.mc_topology.proofs.read.bounds.is_bounded.Goals as goal
 
 pub loop-byte-preserved : goal.loop-byte-preserved
 loop-byte-preserved c =
-    rw c.with_byte-scan.ensures (one_more c.args.text.now c.loop-byte.scan c.loop-byte.byte-index
+    rw c.with_byte-scan.ensures (IsScannedTo-more c.args.text.now c.loop-byte.scan c.loop-byte.byte-index
     c.loop-byte.invariant c.loop-byte-test.true c.requires)
 
 pub returns-then-scan-le-MAX_MARKS : goal.returns-then-scan-le-MAX_MARKS
 returns-then-scan-le-MAX_MARKS c =
-    let is = bounded_by c.args.text.now c.loop-byte.scan c.loop-byte.byte-index
+    let is = is_bounded-all c.args.text.now c.loop-byte.scan c.loop-byte.byte-index
     c.loop-byte.invariant c.loop-byte-test.false in
     rw (is, le-leb _ _ c.if-scan-le-MAX_MARKS.true) refl
 
 pub returns-else-scan-le-MAX_MARKS : goal.returns-else-scan-le-MAX_MARKS
 returns-else-scan-le-MAX_MARKS c =
-    let is = bounded_by c.args.text.now c.loop-byte.scan c.loop-byte.byte-index
+    let is = is_bounded-all c.args.text.now c.loop-byte.scan c.loop-byte.byte-index
     c.loop-byte.invariant c.loop-byte-test.false in
     let many = c.if-scan-le-MAX_MARKS.false in
     rw is (grind (arith, nat_tests))

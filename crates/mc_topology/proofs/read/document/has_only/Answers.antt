@@ -3,4 +3,4 @@ use Rattle.mc_topology.proofs.Tables.{has_only-now}
 use Rattle.mc_topology.proofs.read.document.has_only.Goals as goal
 
 pub returns : goal.returns
-returns c = c.each_key_is_known.ensures ∙ has_only-now c.args.known.now c.args.table.now.entries
+returns c = c.has_known_keys.ensures ∙ has_only-now c.args.known.now c.args.table.now.entries

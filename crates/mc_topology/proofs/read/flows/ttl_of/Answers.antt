@@ -1,6 +1,6 @@
 use Rattle.std.proofs.Common.{w64, sym}
 use Rattle.std.proofs.Math.Facts.{to_z-of_z}
-use Rattle.mc_topology.proofs.FlowLemmas.{ttl_inside, ttl_outside}
+use Rattle.mc_topology.proofs.FlowLemmas.{ttl_of-from_both_tests, ttl_of-from_failed_test}
 use Rattle.mc_topology.proofs.read.flows.ttl_of.Goals as goal
 
 pub returns-then-not-contains : goal.returns-then-not-contains
@@ -9,11 +9,11 @@ returns-then-not-contains c =
     let value =
     rw (c.new.ensures.start, c.new.ensures.end, c.new.ensures.exhausted, same)
     at c.if-not-contains.ensures.value in
-    sym (ttl_outside c.args.number (sym value))
+    sym (ttl_of-from_failed_test c.args.number (sym value))
 
 pub returns : goal.returns
 returns c =
     let same = to_z-of_z {w = w64} {z = c.args.number} c.ranges.number in
     let (low, high) = rw (c.new.ensures.start, c.new.ensures.end, same) at
     c.if-not-contains.ensures.cases in
-    rw same (sym (ttl_inside c.args.number low high))
+    rw same (sym (ttl_of-from_both_tests c.args.number low high))

@@ -1,7 +1,7 @@
 use Rattle.std.proofs.Common.{◌<◌, length, map}
 use Rattle.std.proofs.lemmas.List.{length-map}
-use Rattle.mc_topology.specs.Rows.{router_row}
-use Rattle.mc_topology.proofs.Places.{name_at}
+use Rattle.mc_topology.specs.SectionRows.{router_row}
+use Rattle.mc_topology.proofs.Places.{slice_get-router_name}
 use Rattle.mc_topology.proofs.routers.Routers.name.Goals as goal
 
 pub returns : goal.returns
@@ -11,5 +11,5 @@ returns c =
     let within : c.args.router < length entries = rw length-map at rows in
     let is = rw (c.as_slice.ensures, c.keys-names.ensures.rest, c.router.view_is) at
     c.index-as_slice-router.is in
-    let at = name_at entries c.args.router c.index-as_slice-router.result within is in
+    let at = slice_get-router_name entries c.args.router c.index-as_slice-router.result within is in
     rw (← c.self.view_is, c.as_str.ensures.value) at

@@ -1,15 +1,15 @@
 use Rattle.std.proofs.Common.{◌∙◌, sym}
 use Rattle.std.specs.Str.{bytes_eq}
-use Rattle.mc_topology.specs.Rows.{router_row}
-use Rattle.mc_topology.proofs.Keyed.{place_of_entry}
-use Rattle.mc_topology.proofs.KeptNames.{router_agrees}
+use Rattle.mc_topology.specs.SectionRows.{router_row}
+use Rattle.mc_topology.proofs.Keyed.{position-keys_of}
+use Rattle.mc_topology.proofs.InsertedRows.{bytes_eq-router_row}
 use Rattle.mc_topology.proofs.routers.Routers.number_of.Goals as goal
 
 pub returns-in_err-place-clause-number : goal.returns-in_err-place-clause-number
 returns-in_err-place-clause-number c =
     let name = c.args.name.now in
     let place =
-    place_of_entry router_row _ (λ r. bytes_eq r.name name) (router_agrees name)
+    position-keys_of router_row _ (λ r. bytes_eq r.name name) (bytes_eq-router_row name)
     c.self.inside.orders.entries in
     rw (← c.self.view_is)
     (c.from_residual.ensures ∙ (sym c.in_err-place.was ∙ (c.get_index_of.ensures.index ∙ place)))
@@ -18,6 +18,6 @@ pub returns-clause-number : goal.returns-clause-number
 returns-clause-number c =
     let name = c.args.name.now in
     let place =
-    place_of_entry router_row _ (λ r. bytes_eq r.name name) (router_agrees name)
+    position-keys_of router_row _ (λ r. bytes_eq r.name name) (bytes_eq-router_row name)
     c.self.inside.orders.entries in
     rw (← c.self.view_is) (sym c.in_ok-place.was ∙ (c.get_index_of.ensures.index ∙ place))

@@ -1,7 +1,7 @@
 use Rattle.std.proofs.Common.{◌≡◌, false, sym, subst}
-use Rattle.mc_topology.specs.Rows.{SourceRow}
+use Rattle.mc_topology.specs.SectionRows.{SourceRow}
 use Rattle.mc_topology.specs.Sources.{has_source}
-use Rattle.mc_topology.proofs.KeptNames.{source_pushed}
+use Rattle.mc_topology.proofs.InsertedRows.{source_rows-insert_new}
 use Rattle.mc_topology.proofs.sources.Sources.push.Goals as goal
 
 pub returns-clause-added : goal.returns-clause-added
@@ -9,5 +9,5 @@ returns-clause-added c =
     let new = subst (λ (s : SourceRow). has_source s.address c.args.self.now ≡ false)
     (sym c.source.view_is) c.requires in
     rw (c.in_ok-insert.ensures.entries, ← c.source.view_is)
-    (source_pushed c.self.inside.lans c.source.inside.address c.source.inside.lan c.args.self.now
+    (source_rows-insert_new c.self.inside.lans c.source.inside.address c.source.inside.lan c.args.self.now
     c.self.view_is new)

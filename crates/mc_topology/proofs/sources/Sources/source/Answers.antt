@@ -1,7 +1,7 @@
 use Rattle.std.proofs.Common.{◌<◌, length, map}
 use Rattle.std.proofs.lemmas.List.{length-map}
-use Rattle.mc_topology.specs.Rows.{source_row}
-use Rattle.mc_topology.proofs.Places.{row_at}
+use Rattle.mc_topology.specs.SectionRows.{source_row}
+use Rattle.mc_topology.proofs.Places.{slice_get-row}
 use Rattle.mc_topology.proofs.sources.Sources.source.Goals as goal
 
 pub returns : goal.returns
@@ -10,6 +10,6 @@ returns c =
     let rows : c.args.source < length (map source_row entries) = rw c.self.view_is c.requires in
     let within : c.args.source < length entries = rw length-map at rows in
     let is = rw (c.as_slice.ensures, c.keys-addresses.ensures.rest) at c.index-as_slice-source.is in
-    let at = row_at source_row entries c.args.source c.index-as_slice-source.result
+    let at = slice_get-row source_row entries c.args.source c.index-as_slice-source.result
     c.index.result.now within is c.index.ensures in
     rw (← c.self.view_is) at

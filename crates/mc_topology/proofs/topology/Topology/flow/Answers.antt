@@ -1,6 +1,6 @@
 use Rattle.mc_topology.proofs.topology.Topology.flow.Goals as goal
 
-pub returns-clause-among : goal.returns-clause-among
-returns-clause-among c =
+pub returns-clause-valid : goal.returns-clause-valid
+returns-clause-valid c =
     rw (← c.self.view_is)
-    (c.self.invariant.flows_among c.args.flow c.flow.result.now c.flow.ensures)
+    (c.self.invariant.valid_flows c.args.flow c.flow.result.now c.flow.ensures)

@@ -1,8 +1,8 @@
-use Rattle.mc_topology.proofs.NameLemmas.{number_of_lan}
+use Rattle.mc_topology.proofs.NameLemmas.{index_of-lan_name}
 use Rattle.mc_topology.proofs.topology.Topology.lan_name.Goals as goal
 
 pub returns-clause-number : goal.returns-clause-number
 returns-clause-number c =
     rw (← c.self.view_is)
-    (number_of_lan c.self.inside.lans c.args.lan c.name.result.now c.self.invariant.lan_names
+    (index_of-lan_name c.self.inside.lans c.args.lan c.name.result.now c.self.invariant.lan_names
     c.name.ensures)

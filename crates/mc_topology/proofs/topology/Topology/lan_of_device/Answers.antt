@@ -1,16 +1,16 @@
 use Rattle.std.proofs.Common.{sym, subst}
-use Rattle.mc_topology.specs.Topology.{IsTopology}
-use Rattle.mc_topology.proofs.InterfaceLemmas.{lan_listed, lan_of_no_router}
+use Rattle.mc_topology.specs.Topology.{IsValidTopology}
+use Rattle.mc_topology.proofs.InterfaceLemmas.{lan_of_interface-below_length, lan_of_interface-no_router}
 use Rattle.mc_topology.proofs.topology.Topology.lan_of_device.Goals as goal
 
 pub returns-clause-listed : goal.returns-clause-listed
 returns-clause-listed c =
-    let is : IsTopology c.args.self.now = subst IsTopology c.self.view_is c.self.invariant in
-    lan_listed c.args.self.now c.args.router c.args.device.now c.lan_of.result is
+    let is : IsValidTopology c.args.self.now = subst IsValidTopology c.self.view_is c.self.invariant in
+    lan_of_interface-below_length c.args.self.now c.args.router c.args.device.now c.lan_of.result is
     (rw (← c.self.view_is) (sym c.lan_of.ensures))
 
 pub returns-clause-no_router : goal.returns-clause-no_router
 returns-clause-no_router c =
-    let is : IsTopology c.args.self.now = subst IsTopology c.self.view_is c.self.invariant in
-    lan_of_no_router c.args.self.now c.args.router c.args.device.now c.lan_of.result is
+    let is : IsValidTopology c.args.self.now = subst IsValidTopology c.self.view_is c.self.invariant in
+    lan_of_interface-no_router c.args.self.now c.args.router c.args.device.now c.lan_of.result is
     (rw (← c.self.view_is) (sym c.lan_of.ensures))

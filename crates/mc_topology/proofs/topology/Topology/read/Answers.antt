@@ -1,8 +1,8 @@
-use Rattle.mc_topology.proofs.ReadLemmas.{read_found, read_only}
+use Rattle.mc_topology.proofs.ReadLemmas.{denotes-unless_out_of_memory, Ok-unless_out_of_memory}
 use Rattle.mc_topology.proofs.topology.Topology.read.Goals as goal
 
 pub returns-clause-found : goal.returns-clause-found
-returns-clause-found c = read_found c.args.text.now c.reading_of.result c.reading_of.ensures
+returns-clause-found c = denotes-unless_out_of_memory c.args.text.now c.parse_topology.result c.parse_topology.ensures
 
 pub returns-clause-only : goal.returns-clause-only
-returns-clause-only c = read_only c.args.text.now c.reading_of.result c.reading_of.ensures
+returns-clause-only c = Ok-unless_out_of_memory c.args.text.now c.parse_topology.result c.parse_topology.ensures

@@ -1,8 +1,8 @@
-use Rattle.mc_topology.proofs.NameLemmas.{number_of_router}
+use Rattle.mc_topology.proofs.NameLemmas.{router_no_of-router_name}
 use Rattle.mc_topology.proofs.topology.Topology.router_name.Goals as goal
 
 pub returns-clause-number : goal.returns-clause-number
 returns-clause-number c =
     rw (← c.self.view_is)
-    (number_of_router c.self.inside.routers c.args.router c.name.result.now
+    (router_no_of-router_name c.self.inside.routers c.args.router c.name.result.now
     c.self.invariant.router_names c.name.ensures)

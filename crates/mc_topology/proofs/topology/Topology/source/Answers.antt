@@ -1,6 +1,6 @@
 use Rattle.mc_topology.proofs.topology.Topology.source.Goals as goal
 
-pub returns-clause-among : goal.returns-clause-among
-returns-clause-among c =
+pub returns-clause-valid : goal.returns-clause-valid
+returns-clause-valid c =
     rw (← c.self.view_is)
-    (c.self.invariant.sources_among c.args.source c.source.result c.source.ensures)
+    (c.self.invariant.valid_sources c.args.source c.source.result c.source.ensures)

@@ -1,6 +1,6 @@
-use Rattle.mc_text.proofs.BundleWords.{test-from_IsPartName}
+use Rattle.mc_text.proofs.BundleWords.{is_part_name-complete}
 use Rattle.mc_text.proofs.bundle.part_name.PartName.new.Goals as goal
 
 pub returns-then-not-is_part_name-clause-only : goal.returns-then-not-is_part_name-clause-only
 returns-then-not-is_part_name-clause-only c = λ named. let test =
-    test-from_IsPartName c.args.bytes.now named in absurd cc
+    is_part_name-complete c.args.bytes.now named in absurd cc

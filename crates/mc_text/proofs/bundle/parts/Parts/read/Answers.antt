@@ -2,56 +2,56 @@ use Rattle.std.proofs.Common.{◌≡◌, ◌<◌, ◌≤◌, ◌-◌, ◌++◌, 
 use Rattle.std.proofs.Common.{◌∙◌, arith, length-take}
 use Rattle.std.proofs.lemmas.List.{take-append-le}
 use Rattle.mc_text.specs.declared.bundle.bundle_fault.BundleFault.TheVariants as faults
-use Rattle.mc_text.specs.PartsReading.{PartsState, parts_if, state_of}
-use Rattle.mc_text.proofs.PartsMeaning.{consumed, none_left, cut_off, read_keeps}
+use Rattle.mc_text.specs.PartsReading.{PartsState, parts_from_current, parts_state}
+use Rattle.mc_text.proofs.PartsMeaning.{split-from_Consumes, text-nil_at_end, parts_from_current-truncated, parts_from_current-read_more}
 use Rattle.mc_text.proofs.bundle.parts.Parts.read.Goals as goal
 
 pub returns-in-Ok-eq0-clause-fault : goal.returns-in-Ok-eq0-clause-fault
-returns-in-Ok-eq0-clause-fault g c = λ text done told there.
+returns-in-Ok-eq0-clause-fault g c = λ text done remaining there.
     let own = c.self.inside in
-    let state = state_of own.stage own.parts own.room own.name own.size own.left
-    (g.R.Input.told own.input) (g.R.Input.failed own.input) (g.R.Input.names own.input) in
-    let known = ap (λ (s : PartsState). s.told) c.self.view_is ∙ told in
+    let state = parts_state own.stage own.parts own.room own.name own.size own.left
+    (g.R.Input.remaining own.input) (g.R.Input.failed own.input) (g.R.Input.borrows own.input) in
+    let known = ap (λ (s : PartsState). s.remaining) c.self.view_is ∙ remaining in
     let zero_is = c.in-Ok-eq0.field-0-test in
     let full = c.read.auto.buffer in
     let room = c.min-room.ensures in
     let some : 0 < length c.read.new.buffer =
     omega (arith, full, room, length-take c.min-room.result c.args.buffer.now) in
-    let none = none_left _ _ (take c.in-Ok-eq0.field-0 c.read.new.buffer) text
+    let none = text-nil_at_end _ _ (take c.in-Ok-eq0.field-0 c.read.new.buffer) text
     c.in-Ok-eq0.ensures.bytes.0 known (ap (λ n. take n c.read.new.buffer) zero_is)
     (c.in-Ok-eq0.ensures.bytes.1 zero_is some) in
-    subst (λ (s : PartsState). parts_if s done text ≡ Err faults.Truncated) c.self.view_is
-    (cut_off state done text c.self.invariant c.in-Part.is none)
+    subst (λ (s : PartsState). parts_from_current s done text ≡ Err faults.Truncated) c.self.view_is
+    (parts_from_current-truncated state done text c.self.invariant c.in-Part.is none)
     ∙ ap Err (sym c.failed.ensures.fault)
 
 pub returns-in-Ok-clause-bytes : goal.returns-in-Ok-clause-bytes
-returns-in-Ok-clause-bytes g c = λ text done told.
+returns-in-Ok-clause-bytes g c = λ text done remaining.
     let own = c.self.inside in
-    let state = state_of own.stage own.parts own.room own.name own.size own.left
-    (g.R.Input.told own.input) (g.R.Input.failed own.input) (g.R.Input.names own.input) in
-    let known = ap (λ (s : PartsState). s.told) c.self.view_is ∙ told in
+    let state = parts_state own.stage own.parts own.room own.name own.size own.left
+    (g.R.Input.remaining own.input) (g.R.Input.failed own.input) (g.R.Input.borrows own.input) in
+    let known = ap (λ (s : PartsState). s.remaining) c.self.view_is ∙ remaining in
     let new = c.read.new.buffer in
     let rest = drop c.min-room.result c.args.buffer.now in
     let taken = take c.in-Ok.count new in
     let whole : take c.in-Ok.count (new ++ rest) ≡ taken =
     take-append-le c.in-Ok.count new rest c.in-Ok.ensures.bound.0 in
-    let read = consumed _ _ taken text c.in-Ok.ensures.bytes.0 known in
+    let read = split-from_Consumes _ _ taken text c.in-Ok.ensures.bytes.0 known in
     let room = c.min-room.ensures in
     let full = c.read.auto.buffer in
     let long : length taken ≡ c.in-Ok.count = sym c.in-Ok.ensures.bound.1 in
     let within : length taken ≤ state.left =
     omega (arith, room, full, c.in-Ok.ensures.bound.0, length-take c.min-room.result c.args.buffer.now) in
-    let keeps = read_keeps state done taken read.0 (g.R.Input.told c.read.new.self)
-    (g.R.Input.failed c.read.new.self) (g.R.Input.names c.read.new.self) c.self.invariant c.in-Part.is within in
-    let after = state_of own.stage own.parts own.room own.name own.size (own.left - c.in-Ok.count)
-    (g.R.Input.told c.read.new.self) (g.R.Input.failed c.read.new.self)
-    (g.R.Input.names c.read.new.self) in
-    let kept : parts_if state done text ≡ parts_if after (done ++ taken) read.0 =
-    ap (parts_if state done) read.2 ∙ keeps
-    ∙ ap (λ n. parts_if (record after { left = state.left - n }) (done ++ taken) read.0) long in (
+    let keeps = parts_from_current-read_more state done taken read.0 (g.R.Input.remaining c.read.new.self)
+    (g.R.Input.failed c.read.new.self) (g.R.Input.borrows c.read.new.self) c.self.invariant c.in-Part.is within in
+    let after = parts_state own.stage own.parts own.room own.name own.size (own.left - c.in-Ok.count)
+    (g.R.Input.remaining c.read.new.self) (g.R.Input.failed c.read.new.self)
+    (g.R.Input.borrows c.read.new.self) in
+    let kept : parts_from_current state done text ≡ parts_from_current after (done ++ taken) read.0 =
+    ap (parts_from_current state done) read.2 ∙ keeps
+    ∙ ap (λ n. parts_from_current (record after { left = state.left - n }) (done ++ taken) read.0) long in (
       read.0,
       read.1,
       rw whole read.2,
-      rw whole (subst (λ (s : PartsState). parts_if s done text
-          ≡ parts_if after (done ++ taken) read.0) c.self.view_is kept),
+      rw whole (subst (λ (s : PartsState). parts_from_current s done text
+          ≡ parts_from_current after (done ++ taken) read.0) c.self.view_is kept),
     )

@@ -1,6 +1,6 @@
 use Rattle.std.proofs.Common.{◌+◌, length, sym, ap, ◌∙◌, arith, rules}
 use Rattle.std.proofs.lemmas.Slice.{between_to_end}
-use Rattle.mc_text.proofs.LineLemmas.{lines_from_ended, lines_from_unended}
+use Rattle.mc_text.proofs.LineLemmas.{lines_from-line_feed, lines_from-no_line_feed}
 use Rattle.mc_text.proofs.text.lines.LinesIterator.next.Goals as goal
 
 pub returns-in-Some-clause-steps : goal.returns-in-Some-clause-steps
@@ -8,7 +8,7 @@ returns-in-Some-clause-steps c =
     let text = c.self.inside.rest.now in
     rw (between_to_end text (c.in-Some.end + 1) (length text) (omega arith))
     (sym c.self.view_is
-    ∙ lines_from_ended c.self.inside.next_number text c.in-Some.end (sym c.in-Some.ensures))
+    ∙ lines_from-line_feed c.self.inside.next_number text c.in-Some.end (sym c.in-Some.ensures))
 
 pub returns-in-Some-clause-goes : goal.returns-in-Some-clause-goes
 returns-in-Some-clause-goes c =
@@ -17,7 +17,7 @@ returns-in-Some-clause-goes c =
 
 pub returns-in-None-clause-steps : goal.returns-in-None-clause-steps
 returns-in-None-clause-steps c = sym c.self.view_is
-    ∙ lines_from_unended c.self.inside.next_number c.self.inside.rest.now (sym c.in-None.ensures)
+    ∙ lines_from-no_line_feed c.self.inside.next_number c.self.inside.rest.now (sym c.in-None.ensures)
     (search rules)
 
 pub returns-in-None-clause-goes : goal.returns-in-None-clause-goes

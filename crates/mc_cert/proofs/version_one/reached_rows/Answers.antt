@@ -1,0 +1,12 @@
+use Rattle.mc_cert.specs.VersionOne.{reached_rows}
+use Rattle.mc_cert.proofs.version_one.reached_rows.Goals as goal
+
+pub returns-clause-rows : goal.returns-clause-rows
+unfolding reached_rows
+returns-clause-rows c = rw (
+  c.in_ok-object.ensures,
+  c.in_ok-group.ensures,
+  c.in_ok-rows.ensures,
+  c.in_ok-source.ensures,
+  ← c.if-not-are_texts_of_flow.ensures,
+) c.at_most.ensures.rows

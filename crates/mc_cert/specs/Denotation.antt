@@ -1,0 +1,169 @@
+-- What a text stands for: the rules of a certificate, over the value that JSON's reader gives.
+use Rattle.std.specs.Prelude.{◌≡◌, ℕ, ◌+◌, ◌≤◌, List, [], ◌∷◌, length, codes, slice_get, IsTrue}
+use Rattle.std.specs.Prelude.{IsUtf8, Option, Some, None}
+use Rattle.serde_json.specs.Data.{Data, unsigned, number, string, array, object, Items, Members}
+use Rattle.serde_json.specs.Find.{get_member}
+use Rattle.serde_json.specs.Read.{read}
+use Rattle.mc_text.specs.Addr.{dotted}
+use Rattle.mc_theory.specs.Nets.{Interface}
+use Rattle.mc_theory.specs.Certificates.{Entry}
+use Rattle.mc_topology.specs.declared.flow.Flow.{Flow}
+use Rattle.mc_topology.specs.Names.{index_of}
+use Rattle.mc_topology.specs.SectionRows.{RouterRow}
+use Rattle.mc_topology.specs.Lookup.{router_no_of}
+use Rattle.mc_topology.specs.Topology.{TopologyValue}
+use Rattle.mc_cert.specs.declared.version.Version.{Version}
+use Rattle.mc_cert.specs.declared.version.Version.TheVariants.{One, Two}
+use Rattle.mc_cert.specs.Certificate.{Tree}
+use Rattle.mc_cert.specs.Entries.{entry_keys}
+use Rattle.mc_cert.specs.Object.{has_only, rows_in}
+use Rattle.mc_cert.specs.Reading.{top_keys}
+use Rattle.mc_cert.specs.VersionOne.{flow_keys}
+use Rattle.mc_cert.specs.VersionTwo.{shared_flow_keys}
+
+-- ---- objects
+
+-- under the key stands this text
+abbrev pub HasText : List ℕ → Members → List ℕ → Type 0
+HasText key ms text = get_member key ms ≡ Some (string text)
+
+-- under the key stands this whole number
+abbrev pub HasNumber : List ℕ → Members → ℕ → Type 0
+HasNumber key ms n = get_member key ms ≡ Some (number (unsigned n))
+
+-- the value is a list of these values
+abbrev pub AreRows : Data → List Data → Type 0
+AreRows d rows = (items : Items) × (d ≡ array items) × (rows ≡ rows_in items)
+
+-- under the key stands a list of these values
+abbrev pub HasRows : List ℕ → Members → List Data → Type 0
+HasRows key ms rows = (d : Data) × (get_member key ms ≡ Some d) × AreRows d rows
+
+-- an object with no other keys than these
+pub record IsObject (known : List (List ℕ)) (d : Data) (ms : Members) : Type 0 where
+  pub members : d ≡ object ms
+  pub keys : IsTrue (has_only known ms)
+
+-- each row, by its number, stands for its value
+abbrev pub EachDenotes : {X : Type 0} → (ℕ → Data → X → Type 0) → ℕ → List Data → List X → Type 0
+EachDenotes Denotation n [] [] = Unit {0}
+EachDenotes Denotation n [] (x ∷ xs) = ⊥
+EachDenotes Denotation n (d ∷ ds) [] = ⊥
+EachDenotes Denotation n (d ∷ ds) (x ∷ xs) = Denotation n d x × EachDenotes Denotation (n + 1) ds xs
+
+-- ---- entries
+
+-- the name of a router and the number of one of its vifs
+pub record DenotesInterface (routers : List RouterRow) (d v : Data) (i : Interface) : Type 0 where
+  pub name : List ℕ
+  pub router_text : d ≡ string name
+  pub router : router_no_of name routers ≡ Some i.0
+  pub vif : v ≡ number (unsigned i.1)
+  pub vif_to : i.1 ≤ 31
+
+-- a router and a vif together, or neither
+abbrev pub DenotesForwarder : List RouterRow → Option Data → Option Data → Option Interface → Type 0
+DenotesForwarder routers None None forwarder = forwarder ≡ None
+DenotesForwarder routers None (Some v) forwarder = ⊥
+DenotesForwarder routers (Some d) None forwarder = ⊥
+DenotesForwarder routers (Some d) (Some v) forwarder =
+    (i : Interface) × (forwarder ≡ Some i) × DenotesInterface routers d v i
+
+-- an object of the name of a LAN, its need and rank, and where there is one its forwarder
+pub record DenotesEntry (t : TopologyValue) (d : Data) (e : Entry) : Type 0 where
+  pub members : Members
+  pub lan_name : List ℕ
+  pub is_object : IsObject entry_keys d members
+  pub lan_text : HasText (codes "lan") members lan_name
+  pub lan : index_of lan_name t.lans ≡ Some e.lan
+  pub need : HasNumber (codes "need") members e.need
+  pub need_from : 1 ≤ e.need
+  pub need_to : e.need ≤ 255
+  pub rank : HasNumber (codes "rank") members e.rank
+  pub rank_to : e.rank ≤ 255
+  pub forwarder : DenotesForwarder t.routers (get_member (codes "router") members)
+      (get_member (codes "vif") members) e.forwarder
+
+-- at most 1,024 entries, in any order
+pub record DenotesEntries (t : TopologyValue) (rows : List Data) (es : Tree) : Type 0 where
+  pub few : length rows ≤ 1024
+  pub each : EachDenotes (λ _. DenotesEntry t) 0 rows es
+
+-- ---- version 1
+
+-- an object of the group and the source of the topology's flow with this number, and its entries
+pub record DenotesFlow (t : TopologyValue) (n : ℕ) (d : Data) (es : Tree) : Type 0 where
+  pub flow : Flow
+  pub members : Members
+  pub rows : List Data
+  pub listed : slice_get t.flows n ≡ Some flow
+  pub is_object : IsObject flow_keys d members
+  pub group : HasText (codes "group") members (dotted flow.group)
+  pub source : HasText (codes "source") members (dotted flow.source)
+  pub list : HasRows (codes "reached") members rows
+  pub entries : DenotesEntries t rows es
+
+-- one object for each flow of the topology, in order
+pub record DenotesVersionOne (t : TopologyValue) (ms : Members) (flows : List Tree) : Type 0 where
+  pub rows : List Data
+  pub list : HasRows (codes "flows") ms rows
+  pub count : length rows ≡ length t.flows
+  pub each : EachDenotes (DenotesFlow t) 0 rows flows
+
+-- ---- version 2
+
+-- a list of entries
+pub record DenotesTree (t : TopologyValue) (d : Data) (es : Tree) : Type 0 where
+  pub rows : List Data
+  pub list : AreRows d rows
+  pub entries : DenotesEntries t rows es
+
+-- an object of the group and the source of the topology's flow with this number, and the number of
+-- its tree
+pub record DenotesSharedFlow (t : TopologyValue) (trees : List Tree) (n : ℕ) (d : Data)
+    (es : Tree) : Type 0 where
+  pub flow : Flow
+  pub members : Members
+  pub number : ℕ
+  pub listed : slice_get t.flows n ≡ Some flow
+  pub is_object : IsObject shared_flow_keys d members
+  pub group : HasText (codes "group") members (dotted flow.group)
+  pub source : HasText (codes "source") members (dotted flow.source)
+  pub tree_number : HasNumber (codes "tree") members number
+  pub tree : slice_get trees number ≡ Some es
+
+-- at most 4,096 trees, which may repeat one another and stay unnamed, and one object for each flow
+-- of the topology, in order
+pub record DenotesVersionTwo (t : TopologyValue) (ms : Members) (flows : List Tree) : Type 0 where
+  pub rows : List Data
+  pub tree_rows : List Data
+  pub trees : List Tree
+  pub list : HasRows (codes "flows") ms rows
+  pub count : length rows ≡ length t.flows
+  pub tree_list : HasRows (codes "trees") ms tree_rows
+  pub few_trees : length tree_rows ≤ 4096
+  pub each_tree : EachDenotes (λ _. DenotesTree t) 0 tree_rows trees
+  pub each : EachDenotes (DenotesSharedFlow t trees) 0 rows flows
+
+-- ---- the whole
+
+-- the number of a version, and what stands for a certificate in it
+abbrev pub version_no : Version → ℕ
+version_no One = 1
+version_no Two = 2
+
+abbrev pub DenotesVersion : Version → TopologyValue → Members → List Tree → Type 0
+DenotesVersion One = DenotesVersionOne
+DenotesVersion Two = DenotesVersionTwo
+
+-- a text of at most 16,777,216 bytes that JSON's reader takes, and gives an object of one of the
+-- two versions
+pub record DenotesCertificate (t : TopologyValue) (text : List ℕ) (flows : List Tree) : Type 0 where
+  pub document : Members
+  pub version : Version
+  pub few : length text ≤ 16777216
+  pub utf8 : IsUtf8 text
+  pub reads : read text ≡ Some (object document)
+  pub version_number : HasNumber (codes "version") document (version_no version)
+  pub keys : IsTrue (has_only (top_keys version) document)
+  pub denotes : DenotesVersion version t document flows

@@ -1,0 +1,5 @@
+use Rattle.mc_check.proofs.FirstLemmas.{FirstEntriesSoFar}
+use Rattle.mc_check.proofs.entries_by_lan.put_first_entries.Given as goal
+
+abbrev pub invariant-loop-entry : goal.invariant-loop-entry
+invariant-loop-entry l = FirstEntriesSoFar l.firsts l.fn.firsts l.fn.entries l.entry-index

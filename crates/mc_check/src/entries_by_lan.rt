@@ -1,0 +1,81 @@
+//! The entries of a flow, with the first of each LAN at hand.
+
+ghost use Rattle.std.specs.Prelude.{◌≡◌, ◌<◌, All, IfNone, [], length};
+ghost use Rattle.mc_theory.specs.Reasons.{entry_on, entry_at, twice as first_twice};
+ghost use Rattle.mc_forward.specs.PerLan.{HoldsFirstOfEachKey};
+ghost use Rattle.mc_check.specs.Reasons.{optional_reason_value};
+
+use crate::verdict::Reason;
+use mc_cert::Reached;
+use mc_forward::PerLan;
+use mc_topology::LanNo;
+use std::marker::Model;
+
+/// The entries of a flow, in order, and the first entry of each LAN. Contracts see the entries.
+#[derive(Drop)]
+pub(crate) struct EntriesByLan<'c> {
+    entries: &'c [Reached],
+    firsts: PerLan<Reached>,
+}
+
+impl<'c> Model for EntriesByLan<'c> {
+    ghost use Rattle.std.specs.Prelude.{List};
+    ghost use Rattle.mc_theory.specs.Certificates.{Entry};
+
+    ghost Value = { List Entry };
+
+    ghost use Rattle.mc_forward.specs.PerLan.{HoldsFirstOfEachKey};
+
+    ghost view = { λ s. s.entries.now };
+
+    ghost invariant = { λ s. HoldsFirstOfEachKey (λ (e : Entry). e.lan) s.firsts s.entries.now };
+}
+
+/// Puts the first entry of each LAN where none is yet, and tells the first LAN that is named twice.
+pub(crate) fn put_first_entries(firsts: &mut PerLan<Reached>, entries: &[Reached]) -> Option<Reason>
+    requires empty { HoldsFirstOfEachKey (λ e. e.lan) firsts.old [] }
+    requires lans { All (λ e. e.lan < length firsts.old) entries.now }
+    ensures twice { optional_reason_value result ≡ first_twice [] entries.now }
+    ensures firsts { IfNone result (HoldsFirstOfEachKey (λ e. e.lan) firsts.new entries.now) }
+{
+    for entry in entries {
+        if !firsts.put_first(entry.lan, *entry) {
+            return Some(Reason::TwoEntries(entry.lan));
+        }
+    }
+    None
+}
+
+impl<'c> EntriesByLan<'c> {
+    /// The entries with these firsts.
+    pub(crate) fn new(entries: &'c [Reached], firsts: PerLan<Reached>) -> EntriesByLan<'c>
+        requires { HoldsFirstOfEachKey (λ e. e.lan) firsts entries.now }
+        ensures { result ≡ entries.now }
+    {
+        EntriesByLan { entries, firsts }
+    }
+
+    /// The entries in order.
+    pub(crate) fn entries(&self) -> &'c [Reached]
+        ensures { result.now ≡ self.now }
+    {
+        self.entries
+    }
+
+    /// The first entry of a LAN.
+    pub(crate) fn on(&self, lan: LanNo) -> Option<Reached>
+        ensures { result ≡ entry_on self.now lan }
+    {
+        self.firsts.on(lan)
+    }
+
+    /// The first entry of the LAN, if there is a LAN.
+    pub(crate) fn at(&self, place: Option<LanNo>) -> Option<Reached>
+        ensures { result ≡ entry_at self.now place }
+    {
+        match place {
+            Some(lan) => self.on(lan),
+            None => None,
+        }
+    }
+}

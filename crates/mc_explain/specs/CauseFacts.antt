@@ -1,0 +1,96 @@
+-- What is so of each line that is told, by the rows of the flow's routers.
+use Rattle.std.specs.Prelude.{◌≡◌, ℕ, ◌<◌, List, [], ◌∷◌, ◌++◌, map, reverse, length, Some, None}
+use Rattle.mc_theory.specs.Lists.{In}
+use Rattle.mc_theory.specs.Nets.{Net, Interface}
+use Rattle.mc_theory.specs.Nets.Row.{Exact, Open}
+use Rattle.mc_theory.specs.Flights.{Pick, InRange, IsLossless, run, start}
+use Rattle.mc_theory.specs.Certificates.{lans}
+use Rattle.mc_theory.specs.Findings.{Finding}
+use Rattle.mc_theory.specs.Findings.Finding.{Clean}
+use Rattle.mc_theory.specs.Paths.{Hop, IsHop, IsReached, IsPath, IsStopped, need}
+use Rattle.mc_theory.specs.Paths.{take_out}
+use Rattle.mc_forward.specs.Domains.{DomainValue, IsDomain}
+use Rattle.mc_replay.specs.FindingValues.{finding_value}
+use Rattle.mc_maker.specs.ExaminedFlights.{HasExaminedFlights}
+use Rattle.mc_maker.specs.declared.examined_flights.ExaminedFlights.{ExaminedFlights}
+use Rattle.mc_maker.specs.declared.examined_flights.ExaminedFlights.TheVariants.{Certified, FoundAtTtl255, FoundAtFlowTtl}
+use Rattle.mc_explain.specs.declared.causes.Cause.{Cause}
+use Rattle.mc_explain.specs.Explained.{IsExplained, circle_cause}
+
+-- These lines are told of a domain's flow that was examined.
+pub record AreCausesOf (d : DomainValue) (flow : ℕ) (examined_flights : ExaminedFlights) (causes : List Cause) : Type 0 where
+  pub domain : IsDomain d
+  pub flow_in : flow < length d.topology.flows
+  pub examined : HasExaminedFlights d flow examined_flights
+  pub lines : IsExplained d flow examined_flights causes
+
+-- what was found, at whichever TTL
+abbrev pub final_finding : ExaminedFlights → Finding
+final_finding (Certified entries) = Clean
+final_finding (FoundAtTtl255 ended) = finding_value ended.travel.finding
+final_finding (FoundAtFlowTtl greatest least) = finding_value least.travel.finding
+
+-- ---- rows
+
+-- the router's row is exact, and has a pair of the vif
+pub record HasPair (n : Net) (router vif threshold : ℕ) : Type 0 where
+  pub incoming : ℕ
+  pub pairs : List (ℕ × ℕ)
+  pub row : n.row router ≡ Exact incoming pairs
+  pub pair : In (vif, threshold) pairs
+
+-- it has one, and the vif is placed on this LAN
+pub record SendsOnto (n : Net) (router vif lan : ℕ) : Type 0 where
+  pub threshold : ℕ
+  pub has : HasPair n router vif threshold
+  pub placed : n.placed router vif ≡ Some lan
+
+-- it has one, and the vif is placed on no LAN
+pub record LeadsOut (n : Net) (router vif : ℕ) : Type 0 where
+  pub threshold : ℕ
+  pub has : HasPair n router vif threshold
+  pub unplaced : n.placed router vif ≡ None
+
+-- The router has no row of the flow's source and group but one for every source, and the vif is
+-- placed on a LAN that the flow's packets reach, the time to live aside.
+pub record ReachesEverySourceRow (n : Net) (router vif : ℕ) : Type 0 where
+  pub row : n.row router ≡ Open
+  pub lan : ℕ
+  pub placed : n.placed router vif ≡ Some lan
+  pub reached : IsReached n lan
+
+-- ---- a circle
+
+-- The lines of some hops are told, in the order of the way, and these lead from the LAN back to it.
+pub record IsClosedCircle (n : Net) (lan : ℕ) (causes : List Cause) : Type 0 where
+  pub first : Hop
+  pub others : List Hop
+  pub remedy : Cause
+  pub lines : causes ≡ reverse (map circle_cause (first ∷ others)) ++ remedy ∷ []
+  pub closed : IsPath n lan (first ∷ others) lan
+
+-- ---- a remedy
+
+-- Without the interface a way with this need leads to the LAN.
+pub record StaysReached (n : Net) (i : Interface) (lan least : ℕ) : Type 0 where
+  pub path : List Hop
+  pub is_path : IsPath (take_out i n) n.source path lan
+  pub least_is : need path ≡ least
+
+-- Where these picks are a complete run without loss of a packet with TTL t in the one domain, each
+-- LAN carried a copy to which those brought one in the other.
+abbrev pub CarriesAsMuch : (left n : Net) → (t : ℕ) → (qs ps : List Pick) → Type 0
+CarriesAsMuch left n t qs ps =
+    InRange left qs (start left t) → IsLossless qs → (run left qs (start left t)).waiting ≡ [] →
+    (m : ℕ) → In m (lans (run n ps (start n t)).carried) →
+    In m (lans (run left qs (start left t)).carried)
+
+-- ---- a stop
+
+-- The hop is on a way to the LAN, and a packet with the flow's TTL comes to it with what is left,
+-- and is stopped.
+pub record StopsOnPath (n : Net) (hop : Hop) (left lan : ℕ) : Type 0 where
+  pub path : List Hop
+  pub leads : IsPath n n.source path lan
+  pub is_hop : IsHop n hop
+  pub stopped : IsStopped n.ttl path hop left

@@ -1,0 +1,231 @@
+-- The search for a LAN that a packet missed: what is told of a LAN, by the tables of the routers that
+-- have an interface on it, and which LANs are looked at after it.
+use Rattle.std.specs.Prelude.{◌==◌, ◌&&◌, ◌||◌, ℕ, zero, suc, not, Bool, false, List, [], ◌∷◌}
+use Rattle.std.specs.Prelude.{◌++◌, length, flat_map, Option, Some, None, is_some, slice_get}
+use Rattle.std.specs.Prelude.{if◌then◌else◌, option_map, slice_index_or, unwrap_or}
+use Rattle.std.specs.List.{filter_map, list_any}
+use Rattle.std.specs.FinSet as set
+use Rattle.mc_tables.specs.VifTable.{VifValue}
+use Rattle.mc_tables.specs.CacheTable.{EntryValue}
+use Rattle.mc_tables.specs.Summary.{SummaryValue}
+use Rattle.mc_topology.specs.Topology.{flow_key}
+use Rattle.mc_theory.specs.Nets.{Net, Row, is_lan}
+use Rattle.mc_theory.specs.Nets.Row.{Exact, Open, NoRow as no_row}
+use Rattle.mc_theory.specs.Flights.{Copy}
+use Rattle.mc_theory.specs.Findings.{taken_from}
+use Rattle.mc_theory.specs.CertificateOfCopies.{row_pairs, threshold_of}
+use Rattle.mc_forward.specs.ListedTables.{DomainFacts}
+use Rattle.mc_explain.specs.declared.search_line.SearchLine.{SearchLine}
+use Rattle.mc_explain.specs.declared.search_line.SearchLine.TheVariants.{Excluded}
+use Rattle.mc_explain.specs.declared.search_line.SearchLine.TheVariants.{NoVif, NotMulticast, NoRow}
+use Rattle.mc_explain.specs.declared.search_line.SearchLine.TheVariants.{Unresolved, EverySource}
+use Rattle.mc_explain.specs.declared.search_line.SearchLine.TheVariants.{FromUnplaced, DoesNotSend}
+use Rattle.mc_explain.specs.declared.search_line.SearchLine.TheVariants.{Stopped, WaitsFor}
+use Rattle.mc_explain.specs.declared.search_line.SearchLine.TheVariants.{ExpectedFromHere, NoRouter}
+use Rattle.mc_explain.specs.declared.search_line.SearchLine.TheVariants.{NoSender}
+use Rattle.mc_explain.specs.declared.listed_interface.ListedInterface.{ListedInterface}
+use Rattle.mc_explain.specs.EverySourceText.{every_source_of}
+use Rattle.mc_explain.specs.TopologyLans.{interfaces_on_lan}
+
+-- ---- what is searched
+
+-- A flow of a domain, what is noted of each router's cache, which routers are left out, and the first
+-- copy on each LAN.
+pub record Search : Type 0 where
+  pub domain : DomainFacts
+  pub flow : ℕ
+  pub summary : List SummaryValue
+  pub excluded : List Bool
+  pub first_copy_on : ℕ → Option Copy
+
+abbrev pub net : Search → Net
+net s = s.domain.nets s.flow
+
+-- whether a router is marked as left out, so that its tables are not known
+abbrev pub is_excluded : List Bool → (router : ℕ) → Bool
+is_excluded marks router = slice_index_or marks router false
+
+-- whether a LAN carried a copy
+abbrev pub carried : Search → (lan : ℕ) → Bool
+carried s lan = is_some (s.first_copy_on lan)
+
+-- the flow's source and group
+abbrev pub source_and_group : Search → ℕ × ℕ
+source_and_group s = unwrap_or (option_map flow_key (slice_get s.domain.topology.flows s.flow)) (0, 0)
+
+-- whether a router has an unresolved row
+abbrev pub unresolved_by : Option SummaryValue → ℕ × ℕ → Bool
+unresolved_by None k = false
+unresolved_by (Some summary) k = set.contains summary.unresolved k
+
+abbrev pub is_unresolved : Search → (router : ℕ) → Bool
+is_unresolved s router = unresolved_by (slice_get s.summary router) (source_and_group s)
+
+-- a router's row for every source, with the group that it has
+abbrev pub row_for_every_source : Search → (router : ℕ) → Option (ℕ × EntryValue)
+row_for_every_source s router = every_source_of s.summary (source_and_group s).1 router
+
+-- ---- a router's row
+
+-- whether a row sends by a vif; thresholds are 1 or more
+abbrev pub sends_by : ℕ → List (ℕ × ℕ) → Bool
+sends_by vif pairs = not (threshold_of vif pairs == 0)
+
+-- a row that sends onto the LAN by this vif and takes from a LAN whose first copy this is
+abbrev pub stopped_or_waiting : Option Copy → (lan router vif from threshold : ℕ) → SearchLine
+stopped_or_waiting None lan router vif from threshold = WaitsFor lan router vif from
+stopped_or_waiting (Some copy) lan router vif from threshold = Stopped lan router vif threshold copy.ttl
+
+-- a vif on the LAN, of a router whose row takes from another one
+abbrev pub vif_line : Search → (lan router from : ℕ) → List (ℕ × ℕ) → (vif : ℕ) → SearchLine
+vif_line s lan router from pairs vif =
+    if sends_by vif pairs
+    then stopped_or_waiting (s.first_copy_on from) lan router vif from (threshold_of vif pairs)
+    else DoesNotSend lan router vif from (carried s from)
+
+abbrev pub vif_lines : Search → (lan router from : ℕ) → List (ℕ × ℕ) → Option ℕ → List SearchLine
+vif_lines s lan router from pairs None = []
+vif_lines s lan router from pairs (Some vif) =
+    if is_lan ((net s).placed router vif) lan
+    then vif_line s lan router from pairs vif ∷ []
+    else []
+
+-- a row that takes from nowhere, from the LAN itself, or from another one
+abbrev pub incoming_lines : Search → (lan router : ℕ) → List (ℕ × ℕ) → List ListedInterface
+    → Option ℕ → List SearchLine
+incoming_lines s lan router pairs is None = FromUnplaced lan router ∷ []
+incoming_lines s lan router pairs is (Some from) =
+    if from == lan then [] else flat_map (λ i. vif_lines s lan router from pairs i.vif) is
+
+abbrev pub row_lines : Search → (lan router : ℕ) → List ListedInterface → Row → List SearchLine
+row_lines s lan router is (Exact incoming pairs) =
+    incoming_lines s lan router pairs is ((net s).placed router incoming)
+row_lines s lan router is Open = EverySource lan router ∷ []
+row_lines s lan router is no_row =
+    (if is_unresolved s router then Unresolved lan router else NoRow lan router) ∷ []
+
+-- ---- a router's vifs
+
+-- a tunnel or a register vif
+abbrev pub is_virtual : Option VifValue → Bool
+is_virtual None = false
+is_virtual (Some vif) = vif.tunnel || vif.register
+
+-- an interface that the topology has on the LAN, and its router's vif of the device
+abbrev pub device_lines : Search → (lan : ℕ) → ListedInterface → Option ℕ → List SearchLine
+device_lines s lan i None = NoVif lan i.router i.interface ∷ []
+device_lines s lan i (Some vif) =
+    if is_virtual (s.domain.vifs i.router vif)
+    then NotMulticast lan i.router i.interface ∷ []
+    else []
+
+-- ---- the routers of a LAN
+
+-- interfaces of one router that stand side by side, together
+abbrev pub add_to_group : ListedInterface → List (ℕ × List ListedInterface)
+    → List (ℕ × List ListedInterface)
+add_to_group i [] = (i.router, i ∷ []) ∷ []
+add_to_group i (g ∷ gs) = if g.0 == i.router then (i.router, i ∷ g.1) ∷ gs else (i.router, i ∷ []) ∷ g ∷ gs
+
+abbrev pub group_by_router : List ListedInterface → List (ℕ × List ListedInterface)
+group_by_router [] = []
+group_by_router (i ∷ is) = add_to_group i (group_by_router is)
+
+-- the routers that have an interface on a LAN, each with its interfaces
+abbrev pub routers_on : Search → (lan : ℕ) → List (ℕ × List ListedInterface)
+routers_on s lan = group_by_router (interfaces_on_lan s.domain lan)
+
+-- by its tables: of its row, and of its devices
+abbrev pub table_lines : Search → (lan : ℕ) → ℕ × List ListedInterface → List SearchLine
+table_lines s lan g =
+    row_lines s lan g.0 g.1 ((net s).row g.0) ++ flat_map (λ i. device_lines s lan i i.vif) g.1
+
+-- of a router that is left out that alone is told
+abbrev pub router_lines : Search → (lan : ℕ) → ℕ × List ListedInterface → List SearchLine
+router_lines s lan g =
+    if is_excluded s.excluded g.0 then Excluded lan g.0 ∷ [] else table_lines s lan g
+
+-- a router that isn't, and whose row takes from the LAN
+abbrev pub is_expecting : Search → (lan router : ℕ) → Bool
+is_expecting s lan router =
+    not (is_excluded s.excluded router)
+    && is_lan (taken_from (net s) router ((net s).row router)) lan
+
+abbrev pub expected_lines : Search → (lan : ℕ) → ℕ × List ListedInterface → List SearchLine
+expected_lines s lan g = if is_expecting s lan g.0 then ExpectedFromHere lan g.0 ∷ [] else []
+
+-- a router whose row sends by a vif of a device that the topology has on the LAN
+abbrev pub sends_by_known_vif : Option ℕ → List (ℕ × ℕ) → Bool
+sends_by_known_vif None pairs = false
+sends_by_known_vif (Some vif) pairs = sends_by vif pairs
+
+abbrev pub sends_here : Search → ℕ × List ListedInterface → Bool
+sends_here s g = list_any (λ i. sends_by_known_vif i.vif (row_pairs ((net s).row g.0))) g.1
+
+-- a router that may send onto the LAN: its row does so, or isn't known
+abbrev pub may_send_here : Search → ℕ × List ListedInterface → Bool
+may_send_here s g = is_excluded s.excluded g.0 || sends_here s g
+
+-- what is told behind these lines of the routers
+abbrev pub closing_lines : Search → (lan : ℕ) → List (ℕ × List ListedInterface) → List SearchLine
+    → List SearchLine
+closing_lines s lan gs [] = NoRouter lan ∷ []
+closing_lines s lan gs (line ∷ lines) =
+    if list_any (may_send_here s) gs then [] else NoSender lan ∷ []
+
+abbrev pub lines_of_routers : Search → (lan : ℕ) → List (ℕ × List ListedInterface) → List SearchLine
+lines_of_routers s lan gs = flat_map (router_lines s lan) gs ++ flat_map (expected_lines s lan) gs
+
+-- all that is told of a LAN
+abbrev pub lines_of_lan : Search → (lan : ℕ) → List SearchLine
+lines_of_lan s lan =
+    lines_of_routers s lan (routers_on s lan)
+    ++ closing_lines s lan (routers_on s lan) (lines_of_routers s lan (routers_on s lan))
+
+-- ---- the LANs that are looked at
+
+-- a LAN that carried no copy
+abbrev pub if_missed : Search → Option ℕ → Option ℕ
+if_missed s None = None
+if_missed s (Some lan) = if carried s lan then None else Some lan
+
+-- the LAN from which a row for every source takes
+abbrev pub every_source_from : Search → (router : ℕ) → Option (ℕ × EntryValue) → Option ℕ
+every_source_from s router None = None
+every_source_from s router (Some row) = (net s).placed router row.1.iif
+
+-- the LAN that a line leads to
+abbrev pub next_lan : Search → SearchLine → Option ℕ
+next_lan s (WaitsFor lan router vif from) = Some from
+next_lan s (EverySource lan router) =
+    if_missed s (every_source_from s router (row_for_every_source s router))
+next_lan s _ = None
+
+abbrev pub next_lans : Search → (lan : ℕ) → List ℕ
+next_lans s lan = filter_map (next_lan s) (lines_of_lan s lan)
+
+-- LANs and those of others that are not among them, each once
+abbrev pub append_new : List ℕ → List ℕ → List ℕ
+append_new visited_lans [] = visited_lans
+append_new visited_lans (lan ∷ lans) =
+    append_new (if list_any (λ m. m == lan) visited_lans then visited_lans else visited_lans ++ lan ∷ []) lans
+
+-- the LANs met once one more of them was looked at
+abbrev pub visited_after : Search → List ℕ → Option ℕ → List ℕ
+visited_after s visited_lans None = visited_lans
+visited_after s visited_lans (Some lan) = append_new visited_lans (next_lans s lan)
+
+-- the LANs met, in that order, once the first so many of them were looked at
+abbrev pub visited_lans : Search → (missed : ℕ) → (looked : ℕ) → List ℕ
+visited_lans s missed zero = missed ∷ []
+visited_lans s missed (suc k) = visited_after s (visited_lans s missed k) (slice_get (visited_lans s missed k) k)
+
+-- ---- the search
+
+-- the LANs of a search: no more are met once as many were looked at as there are
+abbrev pub lans_of_search : Search → (missed : ℕ) → List ℕ
+lans_of_search s missed = visited_lans s missed (length s.domain.topology.lans)
+
+-- all that is told of them
+abbrev pub search_lines : Search → (missed : ℕ) → List SearchLine
+search_lines s missed = flat_map (lines_of_lan s) (lans_of_search s missed)

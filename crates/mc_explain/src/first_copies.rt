@@ -1,0 +1,56 @@
+//! The first copy that each LAN carried, and the first second one.
+
+ghost use Rattle.std.specs.Prelude.{◌≡◌, ◌<◌, All, IfOk, [], length, option_and_then};
+ghost use Rattle.mc_theory.specs.Findings.{first_double};
+ghost use Rattle.mc_forward.specs.PerLan.{HoldsFirstOfEachKey, item_on_lan};
+
+use mc_forward::{CarriedCopy, FlowView, PerLan};
+use mc_text::Memory;
+use mc_topology::{LanNo, RouterNo};
+use std::alloc::Global;
+
+/// The first copy of each LAN, and the first copy that has an earlier one on its LAN.
+#[derive(Drop)]
+pub(crate) struct FirstCopies {
+    by_lan: PerLan<CarriedCopy>,
+    pub(crate) second: Option<CarriedCopy>,
+}
+
+impl FirstCopies {
+    /// Those of these copies.
+    pub(crate) fn new(
+        alloc: Global,
+        view: &FlowView<'_>,
+        copies: &[CarriedCopy],
+    ) -> Result<FirstCopies, Memory>
+        requires { All (λ c. c.lan < length view.now.domain.topology.lans) copies.now }
+        ensures first_copies { IfOk result (λ first_copies. HoldsFirstOfEachKey (λ c. c.lan) first_copies.by_lan copies.now) }
+        ensures second { IfOk result (λ first_copies. first_copies.second ≡ first_double [] copies.now) }
+    {
+        let mut by_lan = PerLan::new(alloc, view.lans())?;
+        let mut second = None;
+        for copy in copies {
+            if !by_lan.put_first(copy.lan, *copy) && second.is_none() {
+                second = Some(*copy);
+            }
+        }
+        Ok(FirstCopies { by_lan, second })
+    }
+
+    /// The first copy of a LAN.
+    pub(crate) fn on(&self, lan: LanNo) -> Option<CarriedCopy>
+        ensures { result ≡ item_on_lan self.now.by_lan lan }
+    {
+        self.by_lan.on(lan)
+    }
+
+    /// Who sent the first copy of a LAN, none for the source.
+    pub(crate) fn sender_on(&self, lan: LanNo) -> Option<(RouterNo, u8)>
+        ensures { result ≡ option_and_then (λ c. c.sender) (item_on_lan self.now.by_lan lan) }
+    {
+        match self.by_lan.on(lan) {
+            Some(first) => first.sender,
+            None => None,
+        }
+    }
+}

@@ -1,0 +1,369 @@
+//! What is told of one LAN that carried no copy: what the tables of the routers on it say.
+
+ghost use Rattle.std.specs.Prelude.{◌≡◌, ◌<◌, ◌++◌, OnOk, IfOk, flat_map, length};
+ghost use Rattle.std.specs.List.{list_any};
+ghost use Rattle.mc_tables.specs.CacheTable.{IsValidEntry};
+ghost use Rattle.mc_forward.specs.Domains.{oif_pairs, vif_of};
+ghost use Rattle.mc_explain.specs.LanProbe.{IsLanProbe, search_in};
+ghost use Rattle.mc_explain.specs.SearchLine.{device_lines, every_source_from, expected_lines};
+ghost use Rattle.mc_explain.specs.SearchLine.{is_expecting, is_excluded, is_unresolved, is_virtual, next_lan};
+ghost use Rattle.mc_explain.specs.SearchLine.{lines_of_lan, may_send_here, net, router_lines};
+ghost use Rattle.mc_explain.specs.SearchLine.{routers_on, row_for_every_source, row_lines};
+ghost use Rattle.mc_explain.specs.SearchLine.{sends_by_known_vif, sends_here, vif_line, vif_lines};
+
+use crate::first_copies::FirstCopies;
+use crate::interfaces_of_lans::InterfacesOfLans;
+use crate::excluded_text::is_excluded;
+use crate::listed_interface::ListedInterface;
+use crate::routers_on_lan::RoutersOnLan;
+use crate::search_line::SearchLine;
+use mc_forward::{FlowView, RowFor, threshold_of};
+use mc_tables::{CacheSummary, Entry};
+use mc_text::Memory;
+use mc_topology::{Flow, LanNo, RouterNo};
+
+/// What is looked into: a flow of a domain, what is noted of each router's cache, which routers are left
+/// out, the topology's interfaces of each LAN, and the first copies that LANs carried.
+#[derive(Clone, Copy, Drop)]
+pub(crate) struct LanProbe<'s> {
+    pub(crate) view: &'s FlowView<'s>,
+    /// The view's flow.
+    pub(crate) flow: &'s Flow,
+    pub(crate) summary: &'s [CacheSummary],
+    pub(crate) excluded: &'s [bool],
+    pub(crate) interfaces: &'s InterfacesOfLans,
+    pub(crate) first_copies: &'s FirstCopies,
+}
+
+/// Whether an entry sends by a vif, if there is one.
+fn is_sent_by(entry: &Entry<'_>, vif: Option<u8>) -> bool
+    requires { IsValidEntry entry.now }
+    ensures { result ≡ sends_by_known_vif vif (oif_pairs entry.now.oifs) }
+{
+    match vif {
+        Some(vif) => threshold_of(vif, entry) != 0,
+        None => false,
+    }
+}
+
+impl<'s> LanProbe<'s> {
+    /// Whether a router is left out.
+    fn is_excluded(&self, router: RouterNo) -> bool
+        ensures { result ≡ is_excluded self.now.excluded.now router }
+    {
+        is_excluded(self.excluded, router)
+    }
+
+    /// Whether a router's cache has an unresolved row for the flow.
+    fn is_unresolved(&self, router: RouterNo) -> bool
+        requires { IsLanProbe self.now }
+        ensures { result ≡ is_unresolved (search_in self.now) router }
+    {
+        match self.summary.get(router.0 as usize) {
+            Some(summary) => summary.is_unresolved(self.flow.source, self.flow.group),
+            None => false,
+        }
+    }
+
+    /// What is told of a vif on the LAN, where its router's row takes from another one.
+    fn vif_line(
+        &self,
+        lan: LanNo,
+        router: RouterNo,
+        from: LanNo,
+        entry: &Entry<'_>,
+        vif: u8,
+    ) -> SearchLine
+        requires { IsValidEntry entry.now }
+        ensures { result ≡ vif_line (search_in self.now) lan router from
+            (oif_pairs entry.now.oifs) vif }
+    {
+        let threshold = threshold_of(vif, entry);
+        let copy = self.first_copies.on(from);
+        if threshold == 0 {
+            let carried = copy.is_some();
+            return SearchLine::DoesNotSend {
+                lan,
+                router,
+                vif,
+                from,
+                carried,
+            };
+        }
+        match copy {
+            Some(copy) => SearchLine::Stopped {
+                lan,
+                router,
+                vif,
+                threshold,
+                ttl: copy.ttl,
+            },
+            None => SearchLine::WaitsFor {
+                lan,
+                router,
+                vif,
+                from,
+            },
+        }
+    }
+
+    /// The same of a router's vifs of the topology's interfaces on the LAN.
+    fn add_vif_lines(
+        &self,
+        lines: &mut Vec<SearchLine>,
+        lan: LanNo,
+        router: RouterNo,
+        from: LanNo,
+        entry: &Entry<'_>,
+        own: &[ListedInterface],
+    ) -> Result<(), Memory>
+        requires { IsValidEntry entry.now }
+        ensures { OnOk result (lines.new.items ≡ lines.old.items
+            ++ flat_map (λ i. vif_lines (search_in self.now) lan router from
+            (oif_pairs entry.now.oifs) i.vif) own.now) }
+    {
+        for interface in own {
+            if let Some(vif) = interface.vif {
+                if self.view.placed(router, vif) == Some(lan) {
+                    lines.push(self.vif_line(lan, router, from, entry, vif))?;
+                }
+            }
+        }
+        Ok(())
+    }
+
+    /// What is told of the row that a router of the LAN has for the flow.
+    fn add_row_lines(
+        &self,
+        lines: &mut Vec<SearchLine>,
+        lan: LanNo,
+        router: RouterNo,
+        own: &[ListedInterface],
+    ) -> Result<(), Memory>
+        requires { IsLanProbe self.now }
+        ensures { OnOk result (lines.new.items ≡ lines.old.items ++ row_lines (search_in self.now) lan
+            router own.now ((net (search_in self.now)).row router)) }
+    {
+        match self.view.row(router) {
+            RowFor::Exact(entry) => match self.view.placed(router, entry.iif) {
+                Some(from) if from == lan => {}
+                Some(from) => self.add_vif_lines(lines, lan, router, from, &entry, own)?,
+                None => lines.push(SearchLine::FromUnplaced { lan, router })?,
+            },
+            RowFor::Open => lines.push(SearchLine::EverySource { lan, router })?,
+            RowFor::NoRow => {
+                if self.is_unresolved(router) {
+                    lines.push(SearchLine::Unresolved { lan, router })?;
+                } else {
+                    lines.push(SearchLine::NoRow { lan, router })?;
+                }
+            }
+        }
+        Ok(())
+    }
+
+    /// Whether a router's vif is a tunnel or a register vif.
+    fn is_virtual(&self, router: RouterNo, vif: u8) -> bool
+        ensures { result ≡ is_virtual (vif_of self.now.view.now.domain.tables router vif) }
+    {
+        match self.view.vif(router, vif) {
+            Some(found) => found.tunnel() || found.register(),
+            None => false,
+        }
+    }
+
+    /// What is told of an interface that the topology has on the LAN, where it is no multicast vif.
+    fn add_device_line(
+        &self,
+        lines: &mut Vec<SearchLine>,
+        lan: LanNo,
+        listed: ListedInterface,
+    ) -> Result<(), Memory>
+        ensures { OnOk result (lines.new.items ≡ lines.old.items
+            ++ device_lines (search_in self.now) lan listed listed.vif) }
+    {
+        let ListedInterface {
+            router,
+            interface,
+            vif,
+        } = listed;
+        match vif {
+            Some(vif) => {
+                if self.is_virtual(router, vif) {
+                    lines.push(SearchLine::NotMulticast {
+                        lan,
+                        router,
+                        interface,
+                    })?;
+                }
+            }
+            None => lines.push(SearchLine::NoVif {
+                lan,
+                router,
+                interface,
+            })?,
+        }
+        Ok(())
+    }
+
+    /// The same of a router's interfaces.
+    fn add_device_lines(
+        &self,
+        lines: &mut Vec<SearchLine>,
+        lan: LanNo,
+        own: &[ListedInterface],
+    ) -> Result<(), Memory>
+        ensures { OnOk result (lines.new.items ≡ lines.old.items
+            ++ flat_map (λ i. device_lines (search_in self.now) lan i i.vif) own.now) }
+    {
+        for listed in own {
+            self.add_device_line(lines, lan, *listed)?;
+        }
+        Ok(())
+    }
+
+    /// The routers that have an interface on the LAN by the topology.
+    pub(crate) fn routers_on(&self, lan: LanNo) -> RoutersOnLan<'s>
+        requires lan_probe { IsLanProbe self.now }
+        requires lan { lan < length self.now.view.now.domain.topology.lans }
+        ensures { result ≡ routers_on (search_in self.now) lan }
+    {
+        RoutersOnLan::new(self.interfaces.on(lan))
+    }
+
+    /// What is told of a router of the LAN.
+    fn add_router_lines(
+        &self,
+        lines: &mut Vec<SearchLine>,
+        lan: LanNo,
+        router: RouterNo,
+        own: &[ListedInterface],
+    ) -> Result<(), Memory>
+        requires { IsLanProbe self.now }
+        ensures { OnOk result (lines.new.items ≡ lines.old.items
+            ++ router_lines (search_in self.now) lan (router, own.now)) }
+    {
+        if self.is_excluded(router) {
+            lines.push(SearchLine::Excluded { lan, router })?;
+            return Ok(());
+        }
+        self.add_row_lines(lines, lan, router, own)?;
+        self.add_device_lines(lines, lan, own)
+    }
+
+    /// What is told of the routers of the LAN, one by one.
+    fn add_lines_of_routers(&self, lines: &mut Vec<SearchLine>, lan: LanNo) -> Result<(), Memory>
+        requires lan_probe { IsLanProbe self.now }
+        requires lan { lan < length self.now.view.now.domain.topology.lans }
+        ensures { OnOk result (lines.new.items ≡ lines.old.items
+            ++ flat_map (router_lines (search_in self.now) lan)
+            (routers_on (search_in self.now) lan)) }
+    {
+        for own in self.routers_on(lan) {
+            self.add_router_lines(lines, lan, own.router, own.interfaces)?;
+        }
+        Ok(())
+    }
+
+    /// Whether a router has a row that takes from the LAN, and isn't left out.
+    fn is_expecting(&self, lan: LanNo, router: RouterNo) -> bool
+        ensures { result ≡ is_expecting (search_in self.now) lan router }
+    {
+        !self.is_excluded(router) && self.view.from_lan(Some((router, 0))) == Some(lan)
+    }
+
+    /// Which routers of the LAN have a row that takes from it.
+    fn add_expected_lines(&self, lines: &mut Vec<SearchLine>, lan: LanNo) -> Result<(), Memory>
+        requires lan_probe { IsLanProbe self.now }
+        requires lan { lan < length self.now.view.now.domain.topology.lans }
+        ensures { OnOk result (lines.new.items ≡ lines.old.items
+            ++ flat_map (expected_lines (search_in self.now) lan)
+            (routers_on (search_in self.now) lan)) }
+    {
+        for own in self.routers_on(lan) {
+            let router = own.router;
+            if self.is_expecting(lan, router) {
+                lines.push(SearchLine::ExpectedFromHere { lan, router })?;
+            }
+        }
+        Ok(())
+    }
+
+    /// Whether a router's row sends by a vif of a device that the topology has on the LAN.
+    fn sends_here(&self, router: RouterNo, own: &[ListedInterface]) -> bool
+        ensures { result ≡ sends_here (search_in self.now) (router, own.now) }
+    {
+        match self.view.row(router) {
+            RowFor::Exact(entry) => own.iter().any(|i| is_sent_by(&entry, i.vif)),
+            RowFor::Open | RowFor::NoRow => false,
+        }
+    }
+
+    /// Whether it does, or is left out.
+    fn may_send_here(&self, router: RouterNo, own: &[ListedInterface]) -> bool
+        ensures { result ≡ may_send_here (search_in self.now) (router, own.now) }
+    {
+        self.is_excluded(router) || self.sends_here(router, own)
+    }
+
+    /// Whether some router of the LAN may.
+    fn may_be_sent_onto(&self, lan: LanNo) -> bool
+        requires lan_probe { IsLanProbe self.now }
+        requires lan { lan < length self.now.view.now.domain.topology.lans }
+        ensures { result ≡ list_any (may_send_here (search_in self.now))
+            (routers_on (search_in self.now) lan) }
+    {
+        for own in self.routers_on(lan) {
+            if self.may_send_here(own.router, own.interfaces) {
+                return true;
+            }
+        }
+        false
+    }
+
+    /// All that is told of the LAN.
+    pub(crate) fn add_lan_lines(&self, lines: &mut Vec<SearchLine>, lan: LanNo) -> Result<(), Memory>
+        requires lan_probe { IsLanProbe self.now }
+        requires lan { lan < length self.now.view.now.domain.topology.lans }
+        ensures { OnOk result (lines.new.items ≡
+            lines.old.items ++ lines_of_lan (search_in self.now) lan) }
+    {
+        let before = lines.len();
+        self.add_lines_of_routers(lines, lan)?;
+        self.add_expected_lines(lines, lan)?;
+        if lines.len() == before {
+            lines.push(SearchLine::NoRouter { lan })?;
+        } else if !self.may_be_sent_onto(lan) {
+            lines.push(SearchLine::NoSender { lan })?;
+        }
+        Ok(())
+    }
+
+    /// The LAN that a router's row for every source takes from.
+    fn every_source_from(&self, router: RouterNo) -> Option<LanNo>
+        requires { IsLanProbe self.now }
+        ensures { result ≡ every_source_from (search_in self.now) router
+            (row_for_every_source (search_in self.now) router) }
+    {
+        let summary = self.summary.get(router.0 as usize)?;
+        match summary.row_for_every_source(self.flow.group) {
+            Some((_, entry)) => self.view.placed(router, entry.iif),
+            None => None,
+        }
+    }
+
+    /// The LAN that a line leads to.
+    pub(crate) fn next_lan(&self, line: &SearchLine) -> Option<LanNo>
+        requires { IsLanProbe self.now }
+        ensures { result ≡ next_lan (search_in self.now) line.now }
+    {
+        match *line {
+            SearchLine::WaitsFor { from, .. } => Some(from),
+            SearchLine::EverySource { router, .. } => match self.every_source_from(router) {
+                Some(from) if self.first_copies.on(from).is_none() => Some(from),
+                _ => None,
+            },
+            _ => None,
+        }
+    }
+}

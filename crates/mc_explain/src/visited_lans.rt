@@ -1,0 +1,70 @@
+//! The LANs that a search met.
+
+ghost use Rattle.std.specs.Prelude.{◌≡◌, ◌<◌, ◌∷◌, [], All, IfOk, IfSome, OnOk, length, slice_get};
+ghost use Rattle.mc_explain.specs.LanProbe.{IsVisitedLans};
+ghost use Rattle.mc_explain.specs.SearchLine.{append_new};
+
+use mc_forward::PerLan;
+use mc_text::Memory;
+use mc_topology::LanNo;
+use std::alloc::Global;
+
+/// LANs, each once, in the order in which they were met.
+#[derive(Drop)]
+pub(crate) struct VisitedLans {
+    lans: Vec<LanNo>,
+    /// Which of all LANs are among them.
+    marks: PerLan<LanNo>,
+}
+
+impl VisitedLans {
+    ghost use Rattle.std.specs.Prelude.{ℕ};
+
+    /// One of so many LANs, which alone was met.
+    pub(crate) fn new(alloc: Global, lans: u32, missed: LanNo) -> Result<VisitedLans, Memory>
+        requires { missed < lans }
+        ensures lans { IfOk result (λ visited_lans. visited_lans.lans.items ≡ missed ∷ []) }
+        ensures visited_lans { IfOk result (IsVisitedLans lans) }
+    {
+        let mut visited_lans = VisitedLans {
+            lans: Vec::new(alloc),
+            marks: PerLan::new(alloc, lans)?,
+        };
+        visited_lans.add(missed)?;
+        Ok(visited_lans)
+    }
+
+    /// The LAN that was met after so many others.
+    pub(crate) fn at(&self, position: u32) -> Option<LanNo>
+        ensures lan { result ≡ slice_get self.now.lans.items position }
+        ensures listed { (lans : ℕ) → IsVisitedLans lans self.now → IfSome result (λ lan. lan < lans) }
+    {
+        let position = position as usize;
+        if position < self.lans.len() {
+            Some(self.lans[position])
+        } else {
+            None
+        }
+    }
+
+    /// The LANs that were met.
+    pub(crate) fn lans(&self) -> &[LanNo]
+        ensures lans { result.now ≡ self.now.lans.items }
+        ensures listed { (lans : ℕ) → IsVisitedLans lans self.now → All (λ lan. lan < lans) result.now }
+    {
+        &self.lans
+    }
+
+    /// Another LAN is met, if it wasn't yet.
+    pub(crate) fn add(&mut self, lan: LanNo) -> Result<(), Memory>
+        requires lan { lan < length self.old.marks }
+        requires visited_lans { IsVisitedLans (length self.old.marks) self.old }
+        ensures lans { OnOk result (self.new.lans.items ≡ append_new self.old.lans.items (lan ∷ [])) }
+        ensures visited_lans { OnOk result (IsVisitedLans (length self.old.marks) self.new) }
+    {
+        if self.marks.put_first(lan, lan) {
+            self.lans.push(lan)?;
+        }
+        Ok(())
+    }
+}

@@ -1,6 +1,0 @@
-use Rattle.std.proofs.Common.{◌≡◌, ◌++◌}
-use Rattle.mc_filter.proofs.addresses.append.Given as goal
-
-abbrev pub invariant-loop-source : goal.invariant-loop-source
-invariant-loop-source l =
-    l.addresses.items ++ l.source-iterator ≡ l.fn.addresses.items ++ l.fn.sources

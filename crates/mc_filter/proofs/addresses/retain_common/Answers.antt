@@ -1,0 +1,11 @@
+use Rattle.std.proofs.Common.{rules}
+use Rattle.std.proofs.lemmas.Fn.{filter_same}
+use Rattle.mc_filter.specs.SourceFilter.{has}
+use Rattle.mc_filter.proofs.AscendingLemmas.{filter-ascending}
+use Rattle.mc_filter.proofs.addresses.retain_common.Goals as goal
+
+pub returns : goal.returns
+returns c =
+    let left = filter-ascending (λ x. has c.args.others.now x) _ _ c.requires.ascending
+    (filter_same _ _ _ (λ x b f' k. search rules) _ _ c.retain.ensures.filtered) in
+    record { ascending = left.0; kept = left.1 }

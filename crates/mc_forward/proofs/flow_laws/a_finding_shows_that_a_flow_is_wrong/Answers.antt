@@ -1,9 +1,0 @@
-use Rattle.std.proofs.Common.{length}
-use Rattle.mc_forward.specs.Domains.{net_of}
-use Rattle.mc_forward.proofs.flow_laws.a_finding_shows_that_a_flow_is_wrong.Goals as goal
-
-pub returns : goal.returns
-returns c = λ d flow t numbers last is x ok low high travel other.
-    c.a_finding_shows.ensures (net_of d flow) (length d.topology.lans) t numbers last is x
-    (c.domains_are_nets.ensures.net d flow ok) (c.domains_are_nets.ensures.wanting d flow ok) low
-    high travel other

@@ -1,9 +1,0 @@
-use Rattle.mc_forward.specs.Domains.{net_of}
-use Rattle.mc_forward.proofs.flow_laws.a_flow_is_right_exactly_if_a_list_is_accepted.Goals as goal
-
-pub returns : goal.returns
-returns c = λ d flow ok lt.
-    c.a_flow_has_a_certificate_exactly_if_it_is_right.ensures (net_of d flow)
-    (c.domains_are_nets.ensures.net d flow ok)
-    (c.domains_are_nets.ensures.ttl_from d flow ok lt)
-    (c.domains_are_nets.ensures.ttl_to d flow ok lt)

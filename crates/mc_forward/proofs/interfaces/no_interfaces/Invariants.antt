@@ -1,7 +1,0 @@
-use Rattle.std.proofs.Common.{◌≡◌, List, [], map}
-use Rattle.mc_theory.specs.Lists.{below}
-use Rattle.mc_theory.specs.Nets.{Interface}
-use Rattle.mc_forward.proofs.interfaces.no_interfaces.Given as goal
-
-abbrev pub invariant-loop : goal.invariant-loop
-invariant-loop l = l.lists.items ≡ map {B = List Interface} (λ lan. []) (below l.counter)

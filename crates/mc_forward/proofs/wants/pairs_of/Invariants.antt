@@ -1,6 +1,0 @@
-use Rattle.std.proofs.Common.{◌≡◌, take}
-use Rattle.mc_forward.specs.ListedTables.{flow_pairs}
-use Rattle.mc_forward.proofs.wants.pairs_of.Given as goal
-
-abbrev pub invariant-loop-flow : goal.invariant-loop-flow
-invariant-loop-flow l = l.pairs.items ≡ flow_pairs (take l.flow l.fn.topology.flows)

@@ -1,0 +1,101 @@
+-- The flight of one packet through a domain.
+use Rattle.std.specs.Prelude.{◌≡◌, ℕ, ◌<◌, List, length, take, Option, IfSome, refl}
+use Rattle.std.specs.Coded.{Coded, code_by, coded×, coded_list, coded_option, coded_ℕ}
+use Rattle.mc_theory.specs.Lists.{In}
+use Rattle.mc_theory.specs.Nets.{Net, Interface}
+use Rattle.mc_theory.specs.Flights.{Copy, Waiting, Flight}
+use Rattle.mc_forward.specs.Domains.{DomainValue, IsDomain, net_of}
+use Rattle.mc_forward.specs.DomainParts.{domain_code}
+
+-- a flow of a domain, by its number
+pub record FlowOfDomain : Type 0 where
+  pub domain : DomainValue
+  pub flow : ℕ
+
+-- what the packets of the flow meet
+abbrev pub net_in : FlowOfDomain → Net
+net_in f = net_of f.domain f.flow
+
+pub record IsFlowOfDomain (f : FlowOfDomain) : Type 0 where
+  pub domain : IsDomain f.domain
+  pub flow : f.flow < length f.domain.topology.flows
+
+-- The flight of one packet of a flow, by the flow's number, through a domain.
+pub record FlightInDomain : Type 0 where
+  pub domain : DomainValue
+  pub flow : ℕ
+  pub flight : Flight
+
+-- what the packet meets
+abbrev pub net_of_flight_in_domain : FlightInDomain → Net
+net_of_flight_in_domain j = net_of j.domain j.flow
+
+-- the same packet, so far
+abbrev pub with_flight : FlightInDomain → Flight → FlightInDomain
+with_flight j f = record { domain = j.domain; flow = j.flow; flight = f }
+
+-- copies wait at routers of the domain
+abbrev pub WaitAtRouters : ℕ → Flight → Type 0
+WaitAtRouters routers f = (w : Waiting) → In w f.waiting → w.router < routers
+
+-- a copy is on one of so many LANs, and one of so many routers sent it, if not the source
+pub record IsCopyInDomain (lans routers : ℕ) (c : Copy) : Type 0 where
+  pub lan : c.lan < lans
+  pub sender : IfSome c.sender (λ i. i.0 < routers)
+
+-- copies were carried by LANs of the domain, sent by its routers
+abbrev pub AreCopiesInDomain : ℕ → ℕ → Flight → Type 0
+AreCopiesInDomain lans routers f = (c : Copy) → In c f.carried → IsCopyInDomain lans routers c
+
+-- what every flight keeps
+pub record IsFlight (n : FlowOfDomain) (f : Flight) : Type 0 where
+  pub flow : IsFlowOfDomain n
+  pub routers : WaitAtRouters (length n.domain.topology.routers) f
+  pub listed : AreCopiesInDomain (length n.domain.topology.lans) (length n.domain.topology.routers) f
+
+-- ---- how they are kept
+
+abbrev pub flight_of : List Copy → List Waiting → List Interface → Flight
+flight_of carried waiting strays = record { carried = carried; waiting = waiting; strays = strays }
+
+abbrev pub flow_of_domain_code : Coded FlowOfDomain
+flow_of_domain_code =
+    code_by (DomainValue × ℕ) (coded× domain_code coded_ℕ) (λ f. (f.domain, f.flow))
+    (λ p. record { domain = p.0; flow = p.1 }) (λ _. refl)
+
+abbrev pub copy_code : Coded Copy
+copy_code =
+    code_by (ℕ × (ℕ × Option Interface))
+    (coded× coded_ℕ (coded× coded_ℕ (coded_option (coded× coded_ℕ coded_ℕ))))
+    (λ c. (c.lan, (c.ttl, c.sender)))
+    (λ p. record { lan = p.0; ttl = p.1.0; sender = p.1.1 }) (λ _. refl)
+
+abbrev pub waiting_code : Coded Waiting
+waiting_code =
+    code_by (ℕ × (ℕ × ℕ)) (coded× coded_ℕ (coded× coded_ℕ coded_ℕ))
+    (λ w. (w.router, (w.vif, w.ttl)))
+    (λ p. record { router = p.0; vif = p.1.0; ttl = p.1.1 }) (λ _. refl)
+
+abbrev pub flight_code : Coded Flight
+flight_code =
+    code_by (List Copy × (List Waiting × List Interface))
+    (coded× (coded_list copy_code)
+    (coded× (coded_list waiting_code) (coded_list (coded× coded_ℕ coded_ℕ))))
+    (λ f. (f.carried, (f.waiting, f.strays))) (λ p. flight_of p.0 p.1.0 p.1.1) (λ _. refl)
+
+abbrev pub flight_in_domain_code : Coded FlightInDomain
+flight_in_domain_code =
+    code_by (DomainValue × (ℕ × Flight)) (coded× domain_code (coded× coded_ℕ flight_code))
+    (λ j. (j.domain, (j.flow, j.flight)))
+    (λ p. record { domain = p.0; flow = p.1.0; flight = p.1.1 }) (λ _. refl)
+
+-- the flight with only so many copies, waiting copies and strays
+abbrev pub cut_to_lengths : Flight → Flight → Flight
+cut_to_lengths f g = flight_of
+    (take (length f.carried) g.carried)
+    (take (length f.waiting) g.waiting)
+    (take (length f.strays) g.strays)
+
+-- each list of the second flight begins with that of the first
+abbrev pub Extends : Flight → Flight → Type 0
+Extends f g = cut_to_lengths f g ≡ f

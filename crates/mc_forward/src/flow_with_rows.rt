@@ -1,0 +1,91 @@
+//! A flow of a domain, with what each router has for it. All of that is looked up at once, since a
+//! processor then waits for many routers together, and not for one after another.
+
+ghost use Rattle.std.specs.Prelude.{◌≡◌, IfOk};
+ghost use Rattle.mc_forward.specs.FlightsInDomain.{net_in};
+ghost use Rattle.mc_forward.specs.RowValues.{AreRowsOf, HasValidEntry, row_value};
+
+use crate::flow_view::FlowView;
+use crate::row::RowFor;
+use mc_tables::Entry;
+use mc_text::Memory;
+use mc_topology::RouterNo;
+use std::alloc::Global;
+use std::marker::Model;
+
+/// A flow whose rows were looked up. Its value in contracts is that of the flow's view.
+#[derive(Drop)]
+pub(crate) struct FlowWithRows<'d> {
+    view: FlowView<'d>,
+    /// What each router has for the flow.
+    rows: Vec<RowFor<'d>>,
+}
+
+impl<'d> Model for FlowWithRows<'d> {
+    ghost use Rattle.mc_forward.specs.FlightsInDomain.{FlowOfDomain, flow_of_domain_code, net_in};
+    ghost use Rattle.mc_forward.specs.RowValues.{AreRowsOf};
+
+    ghost Value = { FlowOfDomain };
+
+    ghost coded = { flow_of_domain_code };
+
+    ghost view = { λ s. s.view };
+
+    ghost invariant = { λ s. AreRowsOf (net_in s.view) s.rows.items };
+}
+
+/// The same row once more.
+fn copy_row<'d>(row: &RowFor<'d>) -> RowFor<'d>
+    requires { HasValidEntry row.now }
+    ensures row { row_value result ≡ row_value row.now }
+    ensures valid { HasValidEntry result }
+{
+    match row {
+        RowFor::Exact(entry) => RowFor::Exact(Entry {
+            iif: entry.iif,
+            oifs: entry.oifs,
+        }),
+        RowFor::Open => RowFor::Open,
+        RowFor::NoRow => RowFor::NoRow,
+    }
+}
+
+/// What each router has for a flow.
+fn rows_of<'d>(alloc: Global, view: &FlowView<'d>) -> Result<Vec<RowFor<'d>>, Memory>
+    ensures { IfOk result (λ rows. AreRowsOf (net_in view.now) rows.items) }
+{
+    let routers = view.routers();
+    let mut rows = Vec::with_capacity(alloc, routers as usize)?;
+    for number in 0..routers {
+        rows.push(view.row(RouterNo(number)))?;
+    }
+    Ok(rows)
+}
+
+impl<'d> FlowWithRows<'d> {
+    /// Looks the rows of a flow up.
+    pub(crate) fn new(alloc: Global, view: FlowView<'d>) -> Result<FlowWithRows<'d>, Memory>
+        ensures { IfOk result (λ seen. seen ≡ view.entry) }
+    {
+        let rows = rows_of(alloc, &view)?;
+        Ok(FlowWithRows { view, rows })
+    }
+
+    /// The flow.
+    pub(crate) fn view(&self) -> &FlowView<'d>
+        ensures { result.now ≡ self.now }
+    {
+        &self.view
+    }
+
+    /// What a router has for the flow. No row for a router that the topology hasn't.
+    pub(crate) fn row(&self, router: RouterNo) -> RowFor<'d>
+        ensures row { row_value result ≡ (net_in self.now).row router }
+        ensures valid { HasValidEntry result }
+    {
+        match self.rows.get(router.0 as usize) {
+            Some(row) => copy_row(row),
+            None => self.view.row(router),
+        }
+    }
+}

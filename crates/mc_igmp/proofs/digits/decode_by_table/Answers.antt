@@ -1,0 +1,24 @@
+use Rattle.std.proofs.Common.{arith, ◌∙◌}
+use Rattle.std.proofs.lemmas.Bool.{ltb-true}
+use Rattle.hex.proofs.HexLemmas.{decode_of-even}
+use Rattle.hex.proofs.Pairs.{decode_done}
+use Rattle.mc_igmp.proofs.DigitLemmas.{decode_pairs_more, decode_pairs_refused_more}
+use Rattle.mc_igmp.proofs.digits.decode_by_table.Goals as goal
+
+pub loop-i-preserved : goal.loop-i-preserved
+loop-i-preserved c =
+    let at = c.loop-i in
+    record {
+      digits = decode_pairs_more c.args.digits.now at.bytes at.i at.values c.hex_digit-high.result
+          c.hex_digit-low.result c.byte_of.result (omega arith) (omega arith)
+          c.hex_digit-high.ensures c.hex_digit-low.ensures c.byte_of.ensures at.invariant.digits;
+      others = decode_pairs_refused_more c.args.digits.now at.i at.values c.hex_digit-high.result
+          c.hex_digit-low.result (omega arith) c.hex_digit-high.ensures c.hex_digit-low.ensures
+          at.invariant.others;
+    }
+
+pub returns-clause-found : goal.returns-clause-found
+returns-clause-found c = λ below.
+    decode_of-even c.args.digits.now (omega arith)
+    ∙ decode_done c.args.digits.now c.loop-i.bytes c.loop-i.i (omega arith) (omega arith)
+    (c.loop-i.invariant.digits (ltb-true _ _ below))

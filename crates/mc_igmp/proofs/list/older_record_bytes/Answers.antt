@@ -1,0 +1,19 @@
+use Rattle.std.proofs.Common.{refl}
+use Rattle.std.proofs.lemmas.Nat.{from_be_bytes-to_be_bytes_4}
+use Rattle.mc_igmp.specs.Addresses.{addresses_in}
+use Rattle.mc_igmp.specs.Kind.{kind_of}
+use Rattle.mc_igmp.specs.Record.{read_record}
+use Rattle.mc_igmp.specs.Records.{records_in, after_records}
+use Rattle.mc_igmp.proofs.list.older_record_bytes.Goals as goal
+
+pub returns-clause-whole : goal.returns-clause-whole
+unfolding after_records read_record
+returns-clause-whole c = refl
+
+pub returns-clause-record : goal.returns-clause-record
+unfolding records_in read_record kind_of addresses_in
+returns-clause-record c = rw (
+  c.octets.ensures.octets,
+  from_be_bytes-to_be_bytes_4 c.args.group
+      c.octets.ensures.in_range,
+) refl

@@ -1,0 +1,42 @@
+use Rattle.std.proofs.Common.{◌+◌, length, arith, sym, ◌∙◌, length-drop}
+use Rattle.std.proofs.lemmas.Result.{err_from_is_err_and}
+use Rattle.std.proofs.lemmas.Slice.{between_to_end}
+use Rattle.mc_igmp.proofs.PieceLemmas.{without_line_feed-append, without_line_feed-from_position, read_rest_of_lines_more, read_rest_of_lines-fault, position-within_length}
+use Rattle.mc_igmp.proofs.list_reader.LineReader.read_piece.Goals as goal
+
+pub returns-in_err-end_line-clause-fault : goal.returns-in_err-end_line-clause-fault
+returns-in_err-end_line-clause-fault c = λ more.
+    let at = c.lines in
+    let found = c.in-Some.ensures in
+    let p = err_from_is_err_and c.from_residual.result c.from_residual.ensures.1 in
+    let refused = rw (found.begun, found.ended) at c.in_err-end_line.ensures.fault in
+    rw (p.1, p.2, at.invariant.reads more) (read_rest_of_lines-fault at.self.list at.self.ended
+    at.self.begun.items at.rest.now more c.in-Some.end _ at.invariant.begun (sym found.end) refused)
+
+pub lines-preserved : goal.lines-preserved
+lines-preserved c =
+    let at = c.lines in
+    let rest = at.rest.now in
+    let end = c.in-Some.end in
+    let found = c.in-Some.ensures in
+    let within = position-within_length rest end (sym found.end) in
+    let read = rw (found.begun, found.ended, found.list) at c.in_ok-end_line.ensures.records in
+    let count = length-drop (end + 1) rest in
+    rw (between_to_end rest (end + 1) (length rest) (omega arith)) (rw (
+      c.in_ok-end_line.ensures.begun,
+      c.in_ok-end_line.ensures.ended,
+      found.ended,
+    ) record {
+      reads = λ more. at.invariant.reads more
+          ∙ read_rest_of_lines_more at.self.list read.0 c.end_line.new.self.list at.self.ended
+          at.self.begun.items rest more end at.invariant.begun (sym found.end) read.1 read.2;
+      few = omega (arith, count, within, at.invariant.few);
+      begun = tt;
+    })
+
+pub returns-clause-begun : goal.returns-clause-begun
+returns-clause-begun c =
+    let found = c.in_default.ensures in
+    rw (c.in_ok-extend_from_slice.ensures.items, found.begun)
+    (without_line_feed-append c.lines.self.begun.items c.lines.rest.now c.lines.invariant.begun
+    (without_line_feed-from_position c.lines.rest.now (sym found.end)))

@@ -1,0 +1,17 @@
+use Rattle.std.proofs.Common.{◌≡◌, ◌+◌, ◌≤◌, ℕ, List, ◌++◌, length}
+use Rattle.mc_igmp.specs.ListSoFar.{WithoutLineFeed, read_rest_of_lines}
+use Rattle.mc_igmp.proofs.list_reader.LineReader.read_piece.Given as goal
+
+-- What the bytes left come to after what was read is what the piece comes to.
+abbrev pub invariant-lines : goal.invariant-lines
+invariant-lines l = record {
+  reads : (more : List ℕ) →
+      read_rest_of_lines l.fn.self.list l.fn.self.ended (l.fn.self.begun.items ++ (l.fn.piece ++ more))
+      ≡ read_rest_of_lines l.self.list l.self.ended (l.self.begun.items ++ (l.rest ++ more));
+  few : l.self.ended + (length l.self.begun.items + length l.rest)
+      ≤ l.fn.self.ended + (length l.fn.self.begun.items + length l.fn.piece);
+  begun : WithoutLineFeed l.self.begun.items;
+}
+
+abbrev pub decreases-lines : goal.decreases-lines
+decreases-lines l = length l.rest

@@ -1,0 +1,201 @@
+-- No value that is told has a fraction.
+use Rattle.std.proofs.Common.{◌≡◌, ℕ, Bool, true, false, List, [], ◌∷◌, ◌++◌, Option, Some, None, map}
+use Rattle.std.proofs.Common.{refl}
+use Rattle.std.proofs.lemmas.Bool.{or_parts}
+use Rattle.mc_tables.specs.CacheTable.{EntryValue}
+use Rattle.mc_tables.specs.Summary.{SummaryValue}
+use Rattle.mc_tables.specs.VifTable.{VifValue}
+use Rattle.mc_topology.specs.Topology.{TopologyValue}
+use Rattle.mc_topology.specs.declared.flow.Flow.{Flow}
+use Rattle.mc_theory.specs.Certificates.{Entry}
+use Rattle.mc_theory.specs.Events.{Event, Outcome}
+use Rattle.mc_theory.specs.Events.Outcome.{Open as open_row, NoRow as no_row, OtherVif, Sent}
+use Rattle.mc_theory.specs.Nets.{Interface, Row}
+use Rattle.mc_theory.specs.Nets.Row.{Exact, Open, NoRow}
+use Rattle.mc_forward.specs.Domains.{oif_pairs}
+use Rattle.mc_forward.specs.ListedTables.{DomainFacts}
+use Rattle.mc_replay.specs.declared.finding.Finding.{Finding}
+use Rattle.mc_replay.specs.declared.finding.Finding.TheVariants.{Clean, Duplicate, Loop, Stray}
+use Rattle.mc_replay.specs.declared.finding.Finding.TheVariants.{Missed}
+use Rattle.mc_explain.specs.EverySourceText.{every_source_of}
+use Rattle.mc_explain.specs.declared.causes.Cause.{Cause}
+use Rattle.mc_explain.specs.declared.causes.Cause.TheVariants.{SentOnto, Circle, TakeOut, Unplaced}
+use Rattle.mc_explain.specs.declared.causes.Cause.TheVariants.{LeastTtl, OnlyEverySource, StoppedAt}
+use Rattle.serde_json.specs.Data.{Data}
+use Rattle.serde_json.specs.View.{items_of}
+use Rattle.serde_json.specs.Written.{has_float, items_have_float}
+use Rattle.mc_json.specs.RowData.{device_data_of, entry_data, every_source_row_data, oif_data}
+use Rattle.mc_json.specs.RowData.{row_data}
+use Rattle.mc_json.specs.CauseData.{causes_data, incoming_device, incoming_vif, lan_data}
+use Rattle.mc_json.specs.CauseData.{router_data, cause_data}
+use Rattle.mc_json.specs.FlowData.{event_data, events_if_asked, finding_data}
+use Rattle.mc_json.specs.FlowData.{outcome_data, reached_data, right_data, sender_router, sender_vif}
+use Rattle.mc_json.specs.EndData.{unlisted_data, without_data}
+use Rattle.mc_json.specs.FlowData.{tree_data, wrong_data, wrong_flow_of}
+
+-- ---- lists
+
+abbrev pub HaveNoFloat : List Data → Type 0
+HaveNoFloat ds = items_have_float (items_of ds) ≡ false
+
+pub no_float-map : {A : Type 0} (f : A → Data) → ((x : A) → has_float (f x) ≡ false)
+    → (xs : List A) → HaveNoFloat (map f xs)
+no_float-map f each [] = refl
+no_float-map f each (x ∷ xs) = rw (each x) (no_float-map f each xs)
+
+pub no_float-append : (xs ys : List Data) → HaveNoFloat xs → HaveNoFloat ys → HaveNoFloat (xs ++ ys)
+no_float-append [] ys first then = then
+no_float-append (x ∷ xs) ys first then =
+    let both = or_parts (has_float x) (items_have_float (items_of xs)) first in
+    rw both.0 (no_float-append xs ys both.1 then)
+
+-- ---- rows
+
+pub no_float-device_data : (o : Option VifValue) → has_float (device_data_of o) ≡ false
+no_float-device_data None = refl
+no_float-device_data (Some v) = refl
+
+no_float-oif_data : (d : DomainFacts) (router : ℕ) (p : ℕ × ℕ) → has_float (oif_data d router p) ≡ false
+no_float-oif_data d router p = rw (no_float-device_data (d.vifs router p.0))
+
+no_float-entry_data : (d : DomainFacts) (router source group incoming : ℕ) (pairs : List (ℕ × ℕ))
+    → has_float (entry_data d router source group incoming pairs) ≡ false
+no_float-entry_data d router source group incoming pairs =
+    rw (no_float-device_data (d.vifs router incoming), no_float-map (oif_data d router) (no_float-oif_data d router) pairs)
+
+pub no_float-row_data : (d : DomainFacts) (f : Flow) (router : ℕ) (row : Row)
+    → has_float (row_data d f router row) ≡ false
+no_float-row_data d f router (Exact incoming pairs) = no_float-entry_data d router f.source f.group incoming pairs
+no_float-row_data d f router Open = refl
+no_float-row_data d f router NoRow = refl
+
+pub no_float-every_source_row_data : (d : DomainFacts) (router : ℕ) (o : Option (ℕ × EntryValue))
+    → has_float (every_source_row_data d router o) ≡ false
+no_float-every_source_row_data d router None = refl
+no_float-every_source_row_data d router (Some row) = no_float-entry_data d router 0 row.0 row.1.iif (oif_pairs row.1.oifs)
+
+pub no_float-incoming_device : (d : DomainFacts) (router : ℕ) (row : Row)
+    → has_float (incoming_device d router row) ≡ false
+no_float-incoming_device d router (Exact incoming pairs) = no_float-device_data (d.vifs router incoming)
+no_float-incoming_device d router Open = refl
+no_float-incoming_device d router NoRow = refl
+
+pub no_float-incoming_vif : (row : Row) → has_float (incoming_vif row) ≡ false
+no_float-incoming_vif (Exact incoming pairs) = refl
+no_float-incoming_vif Open = refl
+no_float-incoming_vif NoRow = refl
+
+-- ---- what is told
+
+no_float-cause_data : (d : DomainFacts) (summary : List SummaryValue) (number : ℕ) (f : Flow) (causes : Cause)
+    → HaveNoFloat (cause_data d summary number f causes)
+no_float-cause_data d summary number f (SentOnto lan router vif) =
+    rw (no_float-device_data (d.vifs router vif), no_float-row_data d f router ((d.nets number).row router))
+no_float-cause_data d summary number f (Circle from onto router vif) =
+    rw (
+      no_float-incoming_device d router ((d.nets number).row router),
+      no_float-incoming_vif ((d.nets number).row router),
+      no_float-row_data d f router ((d.nets number).row router),
+      no_float-device_data (d.vifs router vif),
+    )
+no_float-cause_data d summary number f (TakeOut lan router vif least) = rw (no_float-device_data (d.vifs router vif))
+no_float-cause_data d summary number f (Unplaced router vif) =
+    rw (no_float-device_data (d.vifs router vif), no_float-row_data d f router ((d.nets number).row router))
+no_float-cause_data d summary number f (LeastTtl lan least) = refl
+no_float-cause_data d summary number f (OnlyEverySource router vif) =
+    rw (no_float-device_data (d.vifs router vif), no_float-every_source_row_data d router (every_source_of summary f.group router))
+no_float-cause_data d summary number f (StoppedAt router vif threshold ttl) = rw (no_float-device_data (d.vifs router vif))
+
+pub no_float-causes_data : (d : DomainFacts) (summary : List SummaryValue) (number : ℕ) (f : Flow)
+    (causes : List Cause) → HaveNoFloat (causes_data d summary number f causes)
+no_float-causes_data d summary number f [] = refl
+no_float-causes_data d summary number f (causes ∷ more) =
+    no_float-append (cause_data d summary number f causes) (causes_data d summary number f more)
+    (no_float-cause_data d summary number f causes) (no_float-causes_data d summary number f more)
+
+-- ---- flows
+
+no_float-sender_router : (t : TopologyValue) (o : Option Interface)
+    → has_float (sender_router t o) ≡ false
+no_float-sender_router t None = refl
+no_float-sender_router t (Some i) = refl
+
+no_float-sender_vif : (o : Option Interface) → has_float (sender_vif o) ≡ false
+no_float-sender_vif None = refl
+no_float-sender_vif (Some i) = refl
+
+no_float-reached_data : (t : TopologyValue) (e : Entry) → has_float (reached_data t e) ≡ false
+no_float-reached_data t e = rw (no_float-sender_router t e.forwarder, no_float-sender_vif e.forwarder)
+
+pub no_float-tree_data : (t : TopologyValue) (es : List Entry) (tree : ℕ)
+    → has_float (tree_data t es tree) ≡ false
+no_float-tree_data t es tree = rw (no_float-map (reached_data t) (no_float-reached_data t) es)
+
+pub no_float-lans : (t : TopologyValue) (lans : List ℕ) → HaveNoFloat (map (lan_data t) lans)
+no_float-lans t lans = no_float-map (lan_data t) (λ lan. refl) lans
+
+pub no_float-right_data : (whole : Bool) (number : ℕ) (f : Flow) (copies tree : ℕ) (wanted : List Data)
+    → HaveNoFloat wanted → has_float (right_data whole number f copies tree wanted) ≡ false
+no_float-right_data true number f copies tree wanted plain = rw plain
+no_float-right_data false number f copies tree wanted plain = rw plain
+
+no_float-outcome_data : (t : TopologyValue) (e : Event) (o : Outcome) → has_float (outcome_data t e o) ≡ false
+no_float-outcome_data t e open_row = refl
+no_float-outcome_data t e no_row = refl
+no_float-outcome_data t e OtherVif = refl
+no_float-outcome_data t e (Sent copies strays) = refl
+
+no_float-events : (t : TopologyValue) (es : List Event) → HaveNoFloat (map (event_data t) es)
+no_float-events t es = no_float-map (event_data t) (λ e. no_float-outcome_data t e e.outcome) es
+
+no_float-finding_data : (t : TopologyValue) (f : Finding) → has_float (finding_data t f) ≡ false
+no_float-finding_data t Clean = refl
+no_float-finding_data t (Duplicate lan) = refl
+no_float-finding_data t (Loop lan) = refl
+no_float-finding_data t (Stray router vif) = refl
+no_float-finding_data t (Missed lan) = refl
+
+-- of the events that are told
+abbrev pub EventsHaveNoFloat : Option (List Data) → Type 0
+EventsHaveNoFloat None = Unit {0}
+EventsHaveNoFloat (Some es) = HaveNoFloat es
+
+no_float-wrong_data : (number : ℕ) (f : Flow) (also : List Data) (events : Option (List Data))
+    (finding : Data) (found_ttl : ℕ) (why : List Data) → HaveNoFloat also → EventsHaveNoFloat events
+    → has_float finding ≡ false → HaveNoFloat why
+    → has_float (wrong_data number f (record {
+      also = also;
+      events = events;
+      finding = finding;
+      found_ttl = found_ttl;
+      why = why;
+    })) ≡ false
+no_float-wrong_data number f also None finding found_ttl why plain causes found because =
+    rw (plain, found, because)
+no_float-wrong_data number f also (Some es) finding found_ttl why plain causes found because =
+    rw (plain, causes, found, because)
+
+no_float-events_if_asked : (t : TopologyValue) (events_asked : Bool) (es : List Event)
+    → EventsHaveNoFloat (events_if_asked t events_asked es)
+no_float-events_if_asked t true es = no_float-events t es
+no_float-events_if_asked t false es = tt
+
+pub no_float-wrong_flow_of : (number : ℕ) (f : Flow) (t : TopologyValue) (found_ttl : ℕ) (finding : Finding)
+    (events : List Event) (also : List ℕ) (why : List Data) (events_asked : Bool) → HaveNoFloat why
+    → has_float (wrong_data number f (wrong_flow_of t found_ttl finding events also why events_asked)) ≡ false
+no_float-wrong_flow_of number f t found_ttl finding events also why events_asked because =
+    no_float-wrong_data number f (map (lan_data t) also) (events_if_asked t events_asked events)
+    (finding_data t finding) found_ttl why (no_float-lans t also) (no_float-events_if_asked t events_asked events)
+    (no_float-finding_data t finding) because
+
+-- ---- behind the flows
+
+pub no_float-routers : (t : TopologyValue) (routers : List ℕ) → HaveNoFloat (map (router_data t) routers)
+no_float-routers t routers = no_float-map (router_data t) (λ router. refl) routers
+
+pub no_float-unlisted_data : (t : TopologyValue) (source group : ℕ) (routers : List ℕ)
+    → has_float (unlisted_data t source group routers) ≡ false
+no_float-unlisted_data t source group routers = rw (no_float-routers t routers)
+
+pub no_float-without_data : (t : TopologyValue) (routers : List ℕ) → has_float (without_data t routers) ≡ false
+no_float-without_data t routers = rw (no_float-routers t routers)

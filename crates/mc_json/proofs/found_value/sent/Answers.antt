@@ -1,6 +1,0 @@
-use Rattle.mc_json.proofs.found_value.sent.Goals as goal
-
-pub returns : goal.returns
-returns c = rw (← c.event.view_is) (c.object.ensures _ (c.count-4.ensures _ (c.count-3.ensures _
-    (c.count-2.ensures _ (c.router.ensures _ (c.text.ensures _ (c.count.ensures _
-    c.new.ensures)))))))

@@ -1,0 +1,309 @@
+//! What is told of a flow's fault as JSON, line by line.
+
+ghost use Rattle.std.specs.Prelude.{◌≡◌, ◌++◌, IfOk, OnOk, Some, map};
+ghost use Rattle.serde_json.specs.View.{view as data_of};
+ghost use Rattle.mc_forward.specs.Domains.{vif_of};
+ghost use Rattle.mc_forward.specs.FlightsInDomain.{net_in};
+ghost use Rattle.mc_forward.specs.ListedTables.{facts};
+ghost use Rattle.mc_explain.specs.declared.causes.Cause.TheVariants.{Unplaced};
+ghost use Rattle.mc_json.specs.CauseData.{causes_data, circle_data, incoming_device, incoming_vif};
+ghost use Rattle.mc_json.specs.CauseData.{least_ttl_data, only_every_source_data, row_only_data};
+ghost use Rattle.mc_json.specs.CauseData.{sent_onto_data, stopped_at_data, take_out_data, cause_data};
+ghost use Rattle.mc_json.specs.CauseData.{unplaced_data, unplaced_kind};
+
+use crate::device_value::{NO_DEVICE, device_value};
+use crate::fields::Fields;
+use crate::row_value::{every_source_value, row_value};
+use crate::line_context::LineContext;
+use mc_explain::Cause;
+use mc_forward::{FlowView, RowFor};
+use mc_tables::Vif;
+use mc_topology::{LanNo, RouterNo};
+use serde_json::Value;
+use std::alloc::{AllocError, Global};
+
+/// The vif that a router's row for a flow takes from. Null where it has no row of the flow.
+pub(crate) fn incoming_vif(view: &FlowView<'_>, router: RouterNo) -> Value
+    ensures { data_of result ≡ incoming_vif ((net_in view.now).row router) }
+{
+    match view.row(router) {
+        RowFor::Exact(entry) => Value::from(entry.iif),
+        RowFor::Open | RowFor::NoRow => Value::Null,
+    }
+}
+
+/// The device of that vif. Null where there is none, too.
+pub(crate) fn incoming_device(
+    alloc: Global,
+    view: &FlowView<'_>,
+    router: RouterNo,
+) -> Result<Value, AllocError>
+    ensures { IfOk result (λ value. data_of value ≡ incoming_device (facts view.now.domain) router
+        ((net_in view.now).row router)) }
+{
+    match view.row(router) {
+        RowFor::Exact(entry) => device_value(alloc, view, router, entry.iif),
+        RowFor::Open | RowFor::NoRow => Ok(Value::Null),
+    }
+}
+
+/// Who sent a copy onto a LAN.
+fn sent_onto_value(
+    alloc: Global,
+    context: &LineContext<'_>,
+    lan: LanNo,
+    router: RouterNo,
+    vif: u8,
+) -> Result<Value, AllocError>
+    ensures { IfOk result (λ value. data_of value ≡ sent_onto_data (facts context.now.view.now.domain)
+        context.now.flow.now ((net_in context.now.view.now).row router) lan router vif) }
+{
+    let topology = context.view.topology();
+    Fields::new(alloc)
+        .value("device", device_value(alloc, context.view, router, vif))
+        .text("kind", "sent_onto")
+        .lan("lan", topology, lan)
+        .router("router", topology, router)
+        .value("row", row_value(alloc, context.view, context.flow, router))
+        .count("vif", vif as u64)
+        .object()
+}
+
+/// Which row of a circle takes copies from a LAN and sends them onto the next.
+fn circle_value(
+    alloc: Global,
+    context: &LineContext<'_>,
+    from: LanNo,
+    onto: LanNo,
+    router: RouterNo,
+    vif: u8,
+) -> Result<Value, AllocError>
+    ensures { IfOk result (λ value. data_of value ≡ circle_data (facts context.now.view.now.domain)
+        context.now.flow.now ((net_in context.now.view.now).row router) from onto router vif) }
+{
+    let topology = context.view.topology();
+    Fields::new(alloc)
+        .value("from_device", incoming_device(alloc, context.view, router))
+        .lan("from_lan", topology, from)
+        .value("from_vif", Ok(incoming_vif(context.view, router)))
+        .text("kind", "circle")
+        .router("router", topology, router)
+        .value("row", row_value(alloc, context.view, context.flow, router))
+        .value("to_device", device_value(alloc, context.view, router, vif))
+        .lan("to_lan", topology, onto)
+        .count("to_vif", vif as u64)
+        .object()
+}
+
+/// What may be taken out.
+fn take_out_value(
+    alloc: Global,
+    context: &LineContext<'_>,
+    lan: LanNo,
+    router: RouterNo,
+    vif: u8,
+    least: u8,
+) -> Result<Value, AllocError>
+    ensures { IfOk result (λ value. data_of value ≡ take_out_data (facts context.now.view.now.domain)
+        context.now.flow.now lan router vif least) }
+{
+    let ttl = context.flow.ttl;
+    let topology = context.view.topology();
+    Fields::new(alloc)
+        .value("device", device_value(alloc, context.view, router, vif))
+        .text("kind", "take_out")
+        .lan("lan", topology, lan)
+        .count("least", least as u64)
+        .router("router", topology, router)
+        .count("ttl", ttl as u64)
+        .count("vif", vif as u64)
+        .object()
+}
+
+/// Why a vif of a table is placed on no LAN.
+fn unplaced_vif_kind(vif: &Vif) -> &'static str
+    ensures { result.now ≡ unplaced_kind (Some vif.now) }
+{
+    if vif.register() {
+        "register_vif"
+    } else if vif.tunnel() {
+        "tunnel"
+    } else if vif.device() == NO_DEVICE {
+        "no_device"
+    } else {
+        "on_no_lan"
+    }
+}
+
+/// Why a router's vif is placed on no LAN.
+fn unplaced_kind(view: &FlowView<'_>, router: RouterNo, vif: u8) -> &'static str
+    ensures { result.now ≡ unplaced_kind (vif_of view.now.domain.tables router vif) }
+{
+    match view.vif(router, vif) {
+        Some(line) => unplaced_vif_kind(line),
+        None => "no_vif_line",
+    }
+}
+
+/// A vif that a copy was sent by, and why it is placed on no LAN.
+fn unplaced_value(
+    alloc: Global,
+    view: &FlowView<'_>,
+    router: RouterNo,
+    vif: u8,
+) -> Result<Value, AllocError>
+    ensures { IfOk result (λ value. data_of value ≡ unplaced_data (facts view.now.domain) router vif) }
+{
+    let kind = unplaced_kind(view, router, vif);
+    Fields::new(alloc)
+        .value("device", device_value(alloc, view, router, vif))
+        .text("kind", kind)
+        .router("router", view.topology(), router)
+        .count("vif", vif as u64)
+        .object()
+}
+
+/// The row that sent the copy.
+fn row_only_value(alloc: Global, context: &LineContext<'_>, router: RouterNo) -> Result<Value, AllocError>
+    ensures { IfOk result (λ value. data_of value ≡ row_only_data (facts context.now.view.now.domain)
+        context.now.flow.now ((net_in context.now.view.now).row router) router) }
+{
+    Fields::new(alloc)
+        .text("kind", "row")
+        .value("row", row_value(alloc, context.view, context.flow, router))
+        .object()
+}
+
+/// With which TTL a LAN is reached.
+fn least_ttl_value(alloc: Global, context: &LineContext<'_>, lan: LanNo, least: u8) -> Result<Value, AllocError>
+    ensures { IfOk result (λ value. data_of value ≡ least_ttl_data (facts context.now.view.now.domain)
+        context.now.flow.now lan least) }
+{
+    let ttl = context.flow.ttl;
+    Fields::new(alloc)
+        .text("kind", "least_ttl")
+        .lan("lan", context.view.topology(), lan)
+        .count("least", least as u64)
+        .count("ttl", ttl as u64)
+        .object()
+}
+
+/// By which row for every source a copy was met.
+fn only_every_source_value(
+    alloc: Global,
+    context: &LineContext<'_>,
+    router: RouterNo,
+    vif: u8,
+) -> Result<Value, AllocError>
+    ensures { IfOk result (λ value. data_of value ≡ only_every_source_data
+        (facts context.now.view.now.domain) context.now.summary.now context.now.flow.now router vif) }
+{
+    Fields::new(alloc)
+        .value("device", device_value(alloc, context.view, router, vif))
+        .text("kind", "only_every_source")
+        .router("router", context.view.topology(), router)
+        .value(
+            "row",
+            every_source_value(alloc, context.view, context.summary, context.flow.group, router),
+        )
+        .count("vif", vif as u64)
+        .object()
+}
+
+/// Where the flow's packet was stopped.
+fn stopped_at_value(
+    alloc: Global,
+    view: &FlowView<'_>,
+    router: RouterNo,
+    vif: u8,
+    threshold: u8,
+    ttl: u8,
+) -> Result<Value, AllocError>
+    ensures { IfOk result (λ value. data_of value ≡ stopped_at_data (facts view.now.domain)
+        router vif threshold ttl) }
+{
+    Fields::new(alloc)
+        .value("device", device_value(alloc, view, router, vif))
+        .text("kind", "stopped_at")
+        .router("router", view.topology(), router)
+        .count("threshold", threshold as u64)
+        .count("ttl", ttl as u64)
+        .count("vif", vif as u64)
+        .object()
+}
+
+/// Tells of a vif that a copy was sent by, and of the row that sent it.
+fn push_unplaced_values(
+    alloc: Global,
+    values: &mut Vec<Value>,
+    context: &LineContext<'_>,
+    router: RouterNo,
+    vif: u8,
+) -> Result<(), AllocError>
+    ensures { OnOk result (map data_of values.new.items ≡ map data_of values.old.items
+        ++ cause_data (facts context.now.view.now.domain) context.now.summary.now context.now.view.now.flow
+        context.now.flow.now (Unplaced router vif)) }
+{
+    values.push(unplaced_value(alloc, context.view, router, vif)?)?;
+    values.push(row_only_value(alloc, context, router)?)?;
+    Ok(())
+}
+
+/// Tells one thing.
+fn push_cause(
+    alloc: Global,
+    values: &mut Vec<Value>,
+    context: &LineContext<'_>,
+    cause: Cause,
+) -> Result<(), AllocError>
+    ensures { OnOk result (map data_of values.new.items ≡ map data_of values.old.items
+        ++ cause_data (facts context.now.view.now.domain) context.now.summary.now context.now.view.now.flow
+        context.now.flow.now cause) }
+{
+    let view = context.view;
+    let line = match cause {
+        Cause::SentOnto { lan, router, vif } => sent_onto_value(alloc, context, lan, router, vif)?,
+        Cause::Circle {
+            from,
+            onto,
+            router,
+            vif,
+        } => circle_value(alloc, context, from, onto, router, vif)?,
+        Cause::TakeOut {
+            lan,
+            router,
+            vif,
+            least,
+        } => take_out_value(alloc, context, lan, router, vif, least)?,
+        Cause::Unplaced { router, vif } => {
+            return push_unplaced_values(alloc, values, context, router, vif);
+        }
+        Cause::OnlyEverySource { router, vif } => only_every_source_value(alloc, context, router, vif)?,
+        Cause::LeastTtl { lan, least } => least_ttl_value(alloc, context, lan, least)?,
+        Cause::StoppedAt {
+            router,
+            vif,
+            threshold,
+            ttl,
+        } => stopped_at_value(alloc, view, router, vif, threshold, ttl)?,
+    };
+    values.push(line)?;
+    Ok(())
+}
+
+/// Tells all of a flow, in order.
+pub(crate) fn push_causes(
+    alloc: Global,
+    values: &mut Vec<Value>,
+    context: &LineContext<'_>,
+    causes: &[Cause],
+) -> Result<(), AllocError>
+    ensures { OnOk result (map data_of values.new.items ≡ map data_of values.old.items
+        ++ causes_data (facts context.now.view.now.domain) context.now.summary.now context.now.view.now.flow
+        context.now.flow.now causes.now) }
+{
+    for line in causes {
+        push_cause(alloc, values, context, *line)?;
+    }
+    Ok(())
+}

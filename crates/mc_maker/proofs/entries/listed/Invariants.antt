@@ -1,7 +1,0 @@
-use Rattle.std.proofs.Common.{◌≡◌, ◌++◌, drop}
-use Rattle.mc_maker.specs.ByLan.{held_entries}
-use Rattle.mc_maker.proofs.entries.listed.Given as goal
-
-abbrev pub invariant-loop-place : goal.invariant-loop-place
-invariant-loop-place l = l.entries.items ++ held_entries (drop l.place-index l.fn.by_lan)
-    ≡ held_entries l.fn.by_lan

@@ -1,0 +1,123 @@
+-- By the travels that were made.
+use Rattle.std.proofs.Common.{All, ℕ, ap, subst, sym, refl, arith}
+use Rattle.mc_cert.specs.Certificate.{IsEntryOf}
+use Rattle.std.specs.Prelude.{◌≢◌, IfNone, IfSome, Option, None, Some}
+use Rattle.mc_theory.specs.Certificates.{IsAccepted, IsReordering}
+use Rattle.mc_theory.specs.CertificateOfCopies.{entries_of}
+use Rattle.mc_forward.specs.Domains.{net_of, ttl_of}
+use Rattle.mc_forward.proofs.DomainLemmas.{ttl-at_most_255}
+use Rattle.mc_replay.specs.FindingValues.{finding_value}
+use Rattle.mc_maker.specs.Examined.{FindsFault, IsFirstPickTravel}
+use Rattle.mc_maker.proofs.CleanLemmas.{are_clean_copies-of_travel}
+use Rattle.mc_maker.proofs.ExaminedLemmas.{is_right-accepted, finding_value-not_clean, entries_of_clean_travel-reordered, ttl_of-listed_flow}
+use Rattle.mc_maker.proofs.ExaminedLemmas.{flow_view-same_domain_and_flow}
+use Rattle.mc_maker.proofs.ExaminedLemmas.{is_ttl_of_fault-255, is_ttl_of_fault-flow_ttl, not_right-by_fault}
+use Rattle.mc_maker.proofs.examined_flights.examine_to_end.Goals as goal
+
+if_none-no_some : {X : Type 0} {P : Type 0} (o : Option X) → ((x : X) → o ≢ Some x) → IfNone o P → P
+if_none-no_some None not p = p
+if_none-no_some (Some x) not p = absurd (not x refl)
+
+pub certificate_of-requires : goal.certificate_of-requires
+certificate_of-requires c =
+    let d = c.args.domain.now in
+    let view = flow_view-same_domain_and_flow d c.args.flow c.in_ok-greatest.greatest.flight c.flow_view.result.now
+    c.in_ok-greatest.ensures.domain c.in_ok-greatest.ensures.flow c.flow_view.ensures in
+    rw view (are_clean_copies-of_travel c.args.domain.now c.in_ok-greatest.greatest.flight.domain c.args.flow
+    c.in_ok-greatest.greatest.travel c.in_ok-greatest.greatest.flight.flight c.copies.result.now
+    c.topology-topology.ensures.rules c.in_ok-greatest.ensures.domain c.in_ok-greatest.ensures.run
+    (ap finding_value c.in-Clean.is) c.copies.ensures.copies c.copies.ensures.lans
+    c.copies.ensures.senders)
+
+pub returns-in_default : goal.returns-in_default
+returns-in_default c =
+    let d = c.args.domain.now in
+    let t = c.in_ok-greatest.greatest.travel in
+    let ok = c.topology-topology.ensures.rules in
+    let is : IsFirstPickTravel d c.args.flow 255 t =
+    (c.in_ok-greatest.greatest.flight.flight, c.in_ok-greatest.ensures.run) in
+    let fault : FindsFault t = finding_value-not_clean t.finding c.in_default.not-Clean in
+    record {
+      accepted = tt;
+      ascending = tt;
+      listed = tt;
+      list = tt;
+      made = tt;
+      examined_flights = record {
+        domain = c.in_ok-greatest.ensures.domain;
+        flow_of_flight = c.in_ok-greatest.ensures.flow;
+        run = c.in_ok-greatest.ensures.run;
+      };
+      fault = fault;
+      ttl = is_ttl_of_fault-255 d c.args.flow t is fault;
+      right = (
+        (λ e. absurd cc),
+        (λ r. absurd (not_right-by_fault d c.args.flow 255 t ok (ttl-at_most_255 d c.args.flow ok c.requires)
+            (omega arith) is fault r)),
+      );
+    }
+
+pub returns-in-Some-clause-accepted : goal.returns-in-Some-clause-accepted
+returns-in-Some-clause-accepted c =
+    let d = c.args.domain.now in
+    let view = flow_view-same_domain_and_flow d c.args.flow c.in_ok-greatest.greatest.flight c.flow_view.result.now
+    c.in_ok-greatest.ensures.domain c.in_ok-greatest.ensures.flow c.flow_view.ensures in
+    let made = rw view at c.in_ok-entries.ensures in
+    subst (λ o. IfSome o (λ es. IsAccepted (net_of d c.args.flow) es.items)) c.in-Some.is
+    made.accepted
+
+pub returns-in-Some-clause-listed : goal.returns-in-Some-clause-listed
+returns-in-Some-clause-listed c =
+    let d = c.args.domain.now in
+    let view = flow_view-same_domain_and_flow d c.args.flow c.in_ok-greatest.greatest.flight c.flow_view.result.now
+    c.in_ok-greatest.ensures.domain c.in_ok-greatest.ensures.flow c.flow_view.ensures in
+    let made = rw view at c.in_ok-entries.ensures in
+    subst (λ o. IfSome o (λ es. All (IsEntryOf d.topology) es.items)) c.in-Some.is made.listed
+
+pub returns-in-Some-clause-made : goal.returns-in-Some-clause-made
+returns-in-Some-clause-made c =
+    let d = c.args.domain.now in
+    let view = flow_view-same_domain_and_flow d c.args.flow c.in_ok-greatest.greatest.flight c.flow_view.result.now
+    c.in_ok-greatest.ensures.domain c.in_ok-greatest.ensures.flow c.flow_view.ensures in
+    let made = rw view at c.in_ok-entries.ensures in
+    let cs = c.copies.result.now in
+    entries_of_clean_travel-reordered d c.args.flow c.in_ok-greatest.greatest.travel c.in_ok-greatest.greatest.flight.flight cs
+    c.in-Some.entries.items c.in_ok-greatest.ensures.run (ap finding_value c.in-Clean.is)
+    (subst (λ o. IfSome o (λ es. IsReordering (entries_of (net_of d c.args.flow) cs) es.items))
+    c.in-Some.is made.entries) c.copies.ensures.copies
+
+pub returns-in-Some-clause-right : goal.returns-in-Some-clause-right
+returns-in-Some-clause-right c =
+    let d = c.args.domain.now in (
+      (λ _. is_right-accepted d c.args.flow c.in-Some.entries.items c.topology-topology.ensures.rules
+          c.requires (returns-in-Some-clause-accepted c)),
+      (λ _. refl),
+    )
+
+pub returns-clause-ttl : goal.returns-clause-ttl
+returns-clause-ttl c =
+    let d = c.args.domain.now in
+    let t = c.in_ok-greatest.greatest.travel in
+    let is : IsFirstPickTravel d c.args.flow 255 t =
+    (c.in_ok-greatest.greatest.flight.flight, c.in_ok-greatest.ensures.run) in
+    is_ttl_of_fault-flow_ttl d c.args.flow t is (ap finding_value c.in-Clean.is)
+
+pub returns-clause-right : goal.returns-clause-right
+returns-clause-right c =
+    let d = c.args.domain.now in
+    let ok = c.topology-topology.ensures.rules in
+    let t = c.in_ok-least.least.travel in
+    let is : IsFirstPickTravel d c.args.flow (ttl_of d c.args.flow) t =
+    subst (λ (n : ℕ). IsFirstPickTravel d c.args.flow n t)
+    (sym (ttl_of-listed_flow d c.args.flow c.topology-topology.result.now c.flow.result.now
+    c.topology-topology.ensures.topology c.flow.ensures.flow))
+    (c.in_ok-least.least.flight.flight, c.in_ok-least.ensures.run) in
+    let view = flow_view-same_domain_and_flow d c.args.flow c.in_ok-greatest.greatest.flight c.flow_view.result.now
+    c.in_ok-greatest.ensures.domain c.in_ok-greatest.ensures.flow c.flow_view.ensures in
+    let made = rw view at c.in_ok-entries.ensures in
+    let fault : FindsFault t =
+    if_none-no_some c.in_ok-entries.field-0 c.in_default-2.not-Some made.none t is in (
+      (λ e. absurd cc),
+      (λ r. absurd (not_right-by_fault d c.args.flow (ttl_of d c.args.flow) t ok (omega arith)
+          (ttl-at_most_255 d c.args.flow ok c.requires) is fault r)),
+    )

@@ -1,0 +1,31 @@
+-- What an examination of a flow answers, with the flights of the travels that were made.
+use Rattle.std.specs.Prelude.{◌≡◌, ℕ, ⊤}
+use Rattle.mc_forward.specs.Domains.{DomainValue, ttl_of}
+use Rattle.mc_replay.specs.Travels.{IsRunTo, replay_of}
+use Rattle.mc_replay.specs.declared.travel.FinishedTravel.{FinishedTravel}
+use Rattle.mc_maker.specs.Examined.{FindsNothing, first_choices}
+use Rattle.mc_maker.specs.declared.examination.Examined as examined
+use Rattle.mc_maker.specs.declared.examination.Examined.TheVariants as examined_as
+use Rattle.mc_maker.specs.declared.examined_flights.ExaminedFlights.{ExaminedFlights}
+use Rattle.mc_maker.specs.declared.examined_flights.ExaminedFlights.TheVariants.{Certified, FoundAtTtl255, FoundAtFlowTtl}
+
+-- what it answers, without the flights
+abbrev pub without_flights : DomainValue → (flow : ℕ) → ExaminedFlights → examined.Examined
+without_flights d flow (Certified entries) = examined_as.Certified entries
+without_flights d flow (FoundAtTtl255 ended) = examined_as.Found 255 ended.travel
+without_flights d flow (FoundAtFlowTtl greatest least) = examined_as.Found (ttl_of d flow) least.travel
+
+-- The travel of a packet of the flow with this TTL in which the first waiting copy is handled each
+-- time, and the flight that it ends with.
+pub record IsFinishedTravelOf (d : DomainValue) (flow ttl : ℕ) (ended : FinishedTravel) : Type 0 where
+  pub domain : ended.flight.domain ≡ d
+  pub flow_of_flight : ended.flight.flow ≡ flow
+  pub run : IsRunTo (replay_of d flow ttl first_choices) ended.travel ended.flight.flight
+
+-- The travels are those: at TTL 255, and where nothing is found there, at the flow's.
+abbrev pub HasExaminedFlights : DomainValue → (flow : ℕ) → ExaminedFlights → Type 0
+HasExaminedFlights d flow (Certified entries) = ⊤
+HasExaminedFlights d flow (FoundAtTtl255 ended) = IsFinishedTravelOf d flow 255 ended
+HasExaminedFlights d flow (FoundAtFlowTtl greatest least) =
+    IsFinishedTravelOf d flow 255 greatest × FindsNothing greatest.travel
+    × IsFinishedTravelOf d flow (ttl_of d flow) least

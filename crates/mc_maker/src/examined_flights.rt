@@ -1,0 +1,118 @@
+//! A flow is examined, and the flights are kept that show what is found.
+
+ghost use Rattle.std.specs.Prelude.{◌≡◌, ◌↔◌, ◌<◌, All, IfNone, IfOk, IfSome, IsTrue};
+ghost use Rattle.std.specs.Prelude.{length, map};
+ghost use Rattle.std.specs.List.Sorted.{IsStrictlyIncreasing};
+ghost use Rattle.mc_theory.specs.Certificates.{IsAccepted, IsReordering, IsRight};
+ghost use Rattle.mc_theory.specs.CertificateOfCopies.{entries_of};
+ghost use Rattle.mc_forward.specs.Domains.{net_of};
+ghost use Rattle.mc_forward.specs.FlightsInDomain.{net_in};
+ghost use Rattle.mc_cert.specs.Certificate.{IsEntryOf, IsWritableTree};
+ghost use Rattle.mc_maker.specs.Examined.{AreCleanCopies, FindsFault, IfCertified, IfFound, AreEntriesOfCleanTravel};
+ghost use Rattle.mc_maker.specs.Examined.{IsFirstPickTravel, IsTtlOfFault, is_certified};
+ghost use Rattle.mc_maker.specs.ExaminedFlights.{HasExaminedFlights, without_flights};
+
+use crate::entries::{entries_by_lan, entries_in_lan_order};
+use crate::served::serves_all;
+use mc_cert::Reached;
+use mc_forward::{CarriedCopy, Domain, FlowView};
+use mc_replay::{FinishedTravel, Finding, First, Travel, replay_to_end};
+use mc_text::Memory;
+use std::alloc::Global;
+
+/// What an examination of a flow answers, with the flights that show what is found.
+#[derive(Drop)]
+pub enum ExaminedFlights<'d> {
+    /// The flow is right: the entries of its certificate.
+    Certified(Vec<Reached>),
+    /// What a packet with TTL 255 meets.
+    FoundAtTtl255(FinishedTravel<'d>),
+    /// What a packet with the flow's least TTL meets, where one with TTL 255 meets nothing.
+    FoundAtFlowTtl {
+        /// The travel at TTL 255.
+        greatest: FinishedTravel<'d>,
+        /// The travel at the flow's TTL.
+        least: FinishedTravel<'d>,
+    },
+}
+
+/// The entries of the copies that a clean travel at TTL 255 carried, by ascending numbers of their
+/// LANs, if they reach each LAN that wants the flow.
+fn certificate_of(
+    alloc: Global,
+    view: &FlowView<'_>,
+    copies: &[CarriedCopy],
+) -> Result<Option<Vec<Reached>>, Memory>
+    requires { AreCleanCopies view.now.domain view.now.flow copies.now }
+    ensures accepted { IfOk result (λ made. IfSome made (λ es.
+        IsAccepted (net_in view.now) es.items)) }
+    ensures ascending { IfOk result (λ made. IfSome made (λ es.
+        IsStrictlyIncreasing (map (λ e. e.lan) es.items))) }
+    ensures listed { IfOk result (λ made. IfSome made (λ es.
+        All (IsEntryOf view.now.domain.topology) es.items)) }
+    ensures list { IfOk result (λ made. IfSome made (λ es. IsWritableTree es.items)) }
+    ensures entries { IfOk result (λ made. IfSome made (λ es.
+        IsReordering (entries_of (net_in view.now) copies.now) es.items)) }
+    // Else the travel at the flow's TTL finds a fault.
+    ensures none { IfOk result (λ made. IfNone made ((travel : Travel) →
+        IsFirstPickTravel view.now.domain view.now.flow (net_in view.now).ttl travel → FindsFault travel)) }
+{
+    let by_lan = entries_by_lan(alloc, view, copies)?;
+    let entries = entries_in_lan_order(alloc, &by_lan, copies.len())?;
+    if !serves_all(view, &entries) {
+        return Ok(None);
+    }
+    Ok(Some(entries))
+}
+
+/// Examines the flow with this number, as `examine` does, and answers with the flights too.
+///
+/// # Errors
+///
+/// `Memory` where a growth was refused.
+pub fn examine_to_end<'d>(alloc: Global, domain: &'d Domain, flow: u32) -> Result<ExaminedFlights<'d>, Memory>
+    requires { flow < length domain.now.topology.flows }
+    // The entries of a certified flow are accepted,
+    ensures accepted { IfOk result (λ examined_flights. IfCertified (IsAccepted (net_of domain.now flow))
+        (without_flights domain.now flow examined_flights)) }
+    // by ascending numbers of their LANs,
+    ensures ascending { IfOk result (λ examined_flights.
+        IfCertified (λ es. IsStrictlyIncreasing (map (λ e. e.lan) es))
+        (without_flights domain.now flow examined_flights)) }
+    // of the topology,
+    ensures listed { IfOk result (λ examined_flights. IfCertified (All (IsEntryOf domain.now.topology))
+        (without_flights domain.now flow examined_flights)) }
+    // such as a certificate can hold,
+    ensures list { IfOk result (λ examined_flights. IfCertified IsWritableTree (without_flights domain.now flow examined_flights)) }
+    // and those of the copies that the travel at TTL 255 carried.
+    ensures made { IfOk result (λ examined_flights. IfCertified (AreEntriesOfCleanTravel domain.now flow)
+        (without_flights domain.now flow examined_flights)) }
+    // What is found is found by the travel at that TTL in which the first waiting copy is handled
+    // each time, with the flight that it ends with,
+    ensures examined_flights { IfOk result (HasExaminedFlights domain.now flow) }
+    // it is a fault,
+    ensures fault { IfOk result (λ examined_flights. IfFound (λ ttl travel. FindsFault travel)
+        (without_flights domain.now flow examined_flights)) }
+    // and the TTL is 255 if a fault is found there, and else the flow's.
+    ensures ttl { IfOk result (λ examined_flights. IfFound (λ ttl travel. IsTtlOfFault domain.now flow ttl)
+        (without_flights domain.now flow examined_flights)) }
+    // The flow is certified exactly if it is right.
+    ensures right { IfOk result (λ examined_flights.
+        IsTrue (is_certified (without_flights domain.now flow examined_flights)) ↔ IsRight (net_of domain.now flow)) }
+{
+    let topology = domain.topology();
+    let greatest = replay_to_end(alloc, domain, flow, 255, &mut First)?;
+    let Finding::Clean = greatest.travel.finding else {
+        return Ok(ExaminedFlights::FoundAtTtl255(greatest));
+    };
+    if let Some(entries) = certificate_of(
+        alloc,
+        greatest.flight.flow_view(),
+        greatest.flight.copies(),
+    )? {
+        return Ok(ExaminedFlights::Certified(entries));
+    }
+    let ttl = topology.flow(flow).ttl;
+    let least = replay_to_end(alloc, domain, flow, ttl, &mut First)?;
+    Ok(ExaminedFlights::FoundAtFlowTtl { greatest, least })
+}

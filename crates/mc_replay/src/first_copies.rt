@@ -1,0 +1,42 @@
+//! The first copy that each LAN carried.
+
+ghost use Rattle.std.specs.Prelude.{◌≡◌, ◌<◌, ◌≤◌, All, None, [], length, option_and_then, take};
+ghost use Rattle.mc_theory.specs.Findings.{first_double};
+ghost use Rattle.mc_forward.specs.PerLan.{HoldsFirstOfEachKey, item_on_lan};
+
+use mc_forward::{CarriedCopy, PerLan};
+use mc_topology::{LanNo, RouterNo};
+
+/// Takes in the copies after the first `seen`, which were taken in before and of which no two are
+/// of one LAN, and tells the first copy that has an earlier one on its LAN.
+pub(crate) fn record_first_copies(
+    firsts: &mut PerLan<CarriedCopy>,
+    copies: &[CarriedCopy],
+    seen: usize,
+) -> Option<CarriedCopy>
+    requires seen { seen ≤ length copies.now }
+    requires firsts { HoldsFirstOfEachKey (λ c. c.lan) firsts.old (take seen copies.now) }
+    requires once { first_double [] (take seen copies.now) ≡ None }
+    requires lans { All (λ c. c.lan < length firsts.old) copies.now }
+    ensures second { result ≡ first_double [] copies.now }
+    ensures firsts { HoldsFirstOfEachKey (λ c. c.lan) firsts.new copies.now }
+    ensures count { length firsts.new ≡ length firsts.old }
+{
+    let mut second = None;
+    for copy in &copies[seen..] {
+        if !firsts.put_first(copy.lan, *copy) && second.is_none() {
+            second = Some(*copy);
+        }
+    }
+    second
+}
+
+/// Who sent the first copy of a LAN, none for the source.
+pub(crate) fn sender_on(firsts: &PerLan<CarriedCopy>, lan: LanNo) -> Option<(RouterNo, u8)>
+    ensures { result ≡ option_and_then (λ c. c.sender) (item_on_lan firsts.now lan) }
+{
+    match firsts.on(lan) {
+        Some(first) => first.sender,
+        None => None,
+    }
+}

@@ -1,0 +1,104 @@
+//! What a flight shows, if it shows something.
+
+ghost use Rattle.std.specs.Prelude.{◌≡◌, ◌<◌, All, IfSome, List, [], is_some, length};
+ghost use Rattle.mc_theory.specs.Lists.{below};
+ghost use Rattle.mc_theory.specs.Flights.{Copy};
+ghost use Rattle.mc_theory.specs.Findings.{first_double, finding, walk_visits, missed};
+ghost use Rattle.mc_forward.specs.PerLan.{HoldsFirstOfEachKey};
+ghost use Rattle.mc_replay.specs.FindingValues.{optional_finding_value};
+ghost use Rattle.mc_forward.specs.FlightsInDomain.{net_in};
+
+use crate::finding::Finding;
+use crate::first_copies::sender_on;
+use mc_forward::{CarriedCopy, Flight, FlowView, PerLan};
+use mc_topology::LanNo;
+
+/// Whether the walk back from a copy, over the first copies of the LANs that each was taken from,
+/// comes by the copy's own LAN. The walk ends at the source's copy, before it has gone over as many
+/// LANs as there are copies.
+fn walk_back_reaches_own_lan(
+    view: &FlowView<'_>,
+    copies: &[CarriedCopy],
+    firsts: &PerLan<CarriedCopy>,
+    copy: &CarriedCopy,
+) -> bool
+    requires { HoldsFirstOfEachKey (λ c. c.lan) firsts.now copies.now }
+    ensures { result ≡ walk_visits (net_in view.now) copies.now copy.now.lan (length copies.now)
+        copy.now.sender }
+{
+    let mut sender = copy.sender;
+    for _step in copies {
+        let Some(lan) = view.from_lan(sender) else {
+            return false;
+        };
+        if lan == copy.lan {
+            return true;
+        }
+        sender = sender_on(firsts, lan);
+    }
+    false
+}
+
+/// Whether some LAN wants the flow and carried no copy. All LANs are asked, without a branch for
+/// each, since a processor doesn't foresee which of them want a flow.
+fn misses_any_lan(view: &FlowView<'_>, firsts: &PerLan<CarriedCopy>) -> bool
+    ensures { (copies : List Copy) → HoldsFirstOfEachKey (λ c. c.lan) firsts.now copies → result ≡
+        is_some (missed (net_in view.now) copies
+        (below (length view.now.domain.topology.lans))) }
+{
+    let mut some = false;
+    for number in 0..view.lans() {
+        let lan = LanNo(number);
+        some |= view.wants(lan) & firsts.on(lan).is_none();
+    }
+    some
+}
+
+/// The lowest LAN that wants the flow and carried no copy.
+fn missed(view: &FlowView<'_>, firsts: &PerLan<CarriedCopy>) -> Option<LanNo>
+    ensures { (copies : List Copy) → HoldsFirstOfEachKey (λ c. c.lan) firsts.now copies → result ≡
+        missed (net_in view.now) copies
+        (below (length view.now.domain.topology.lans)) }
+{
+    if !misses_any_lan(view, firsts) {
+        return None;
+    }
+    for number in 0..view.lans() {
+        let lan = LanNo(number);
+        if view.wants(lan) && firsts.on(lan).is_none() {
+            return Some(lan);
+        }
+    }
+    None
+}
+
+/// The finding of a flight whose copies' firsts are these, and whose first second copy is this;
+/// none if the flight goes on.
+pub(crate) fn finding_of(
+    view: &FlowView<'_>,
+    flight: &Flight<'_>,
+    firsts: &PerLan<CarriedCopy>,
+    second: Option<CarriedCopy>,
+) -> Option<Finding>
+    requires firsts { HoldsFirstOfEachKey (λ c. c.lan) firsts.now flight.now.flight.carried }
+    requires second { second ≡ first_double [] flight.now.flight.carried }
+    ensures { optional_finding_value result ≡ finding (net_in view.now)
+        (length view.now.domain.topology.lans) flight.now.flight }
+{
+    if let Some(copy) = second {
+        if walk_back_reaches_own_lan(view, flight.copies(), firsts, &copy) {
+            return Some(Finding::Loop(copy.lan));
+        }
+        return Some(Finding::Duplicate(copy.lan));
+    }
+    if let Some(stray) = flight.strays().first() {
+        return Some(Finding::Stray(stray.router, stray.vif));
+    }
+    if flight.waiting() > 0 {
+        return None;
+    }
+    match missed(view, firsts) {
+        Some(lan) => Some(Finding::Missed(lan)),
+        None => Some(Finding::Clean),
+    }
+}

@@ -1,0 +1,5 @@
+use Rattle.mc_run.proofs.OneAudit.{is_audit_text-unique}
+use Rattle.mc_run.proofs.laws.audit_of_same_files_is_the_same.Goals as goal
+
+pub returns : goal.returns
+returns c = is_audit_text-unique c.summaries_are_unique.ensures

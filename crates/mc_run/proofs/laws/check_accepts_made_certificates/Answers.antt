@@ -1,0 +1,14 @@
+use Rattle.mc_run.proofs.CertifiedLemmas.{is_accepted-made_list, reading_of-made_text, is_verdict_text-only_yes, is_verdict_text-made_bundle}
+use Rattle.mc_run.proofs.laws.check_accepts_made_certificates.Goals as goal
+
+pub returns-clause-read : goal.returns-clause-read
+returns-clause-read c = reading_of-made_text
+
+pub returns-clause-accepted : goal.returns-clause-accepted
+returns-clause-accepted c = is_accepted-made_list
+
+pub returns-clause-yes : goal.returns-clause-yes
+returns-clause-yes c = is_verdict_text-made_bundle
+
+pub returns-clause-only : goal.returns-clause-only
+returns-clause-only c = is_verdict_text-only_yes

@@ -1,0 +1,80 @@
+-- What an audit tells of a flow, as lines of text or in JSON, and which ways were told before.
+use Rattle.std.specs.Prelude.{ℕ, ◌==◌, ◌&&◌, not, Bool, true, false, List, [], ◌∷◌, length}
+use Rattle.std.specs.Prelude.{if◌then◌else◌}
+use Rattle.mc_tables.specs.Summary.{SummaryValue}
+use Rattle.mc_topology.specs.declared.flow.Flow.{Flow}
+use Rattle.mc_topology.specs.Topology.{TopologyValue}
+use Rattle.mc_forward.specs.ListedTables.{DomainFacts}
+use Rattle.mc_cert.specs.Certificate.{Tree}
+use Rattle.mc_cert.specs.Distinct.{with_tree}
+use Rattle.mc_replay.specs.declared.travel.Travel.{Travel}
+use Rattle.mc_maker.specs.declared.examination.Examined.{Examined}
+use Rattle.mc_maker.specs.declared.examination.Examined.TheVariants.{Certified, Found}
+use Rattle.mc_run.specs.AuditObjects.{right_objects, wrong_object}
+use Rattle.mc_run.specs.AuditText.{Explanation, right_lines, wrong_lines}
+use Rattle.mc_run.specs.declared.audit_options.AuditOptions.{AuditOptions}
+use Rattle.mc_run.specs.declared.flow_status.FlowStatus.{FlowStatus}
+use Rattle.mc_run.specs.declared.flow_status.FlowStatus.TheVariants.{Wanted, Unwanted, Wrong}
+
+-- ---- a flow that is right
+
+-- where faults alone are asked for, a flow that is wanted is left out
+abbrev pub is_hidden : (faults : Bool) → (wanted : List ℕ) → Bool
+is_hidden faults wanted = faults && not (length wanted == 0)
+
+abbrev pub unless_hidden : (faults : Bool) → (wanted : List ℕ) → (lines : List ℕ) → List ℕ
+unless_hidden faults wanted lines = if is_hidden faults wanted then [] else lines
+
+abbrev pub right_lines_or_object : (json whole : Bool) → TopologyValue → (printed : List Tree) → (number : ℕ) → Flow
+    → Tree → (wanted : List ℕ) → List ℕ
+right_lines_or_object true whole t printed number f es wanted = right_objects whole t printed number f es wanted
+right_lines_or_object false whole t printed number f es wanted = right_lines whole t f (length es) wanted
+
+-- what is told of a flow that goes this way, where the whole domain is known, or not
+abbrev pub right_flow_lines : AuditOptions → (whole : Bool) → TopologyValue → (printed : List Tree)
+    → (number : ℕ) → Flow → Tree → (wanted : List ℕ) → List ℕ
+right_flow_lines o whole t printed number f es wanted =
+    unless_hidden o.faults wanted (right_lines_or_object o.json whole t printed number f es wanted)
+
+-- ---- a flow that isn't
+
+abbrev pub wrong_lines_or_object : (json travels : Bool) → DomainFacts → List SummaryValue → (number : ℕ) → Flow
+    → (ttl : ℕ) → Travel → Explanation → List ℕ
+wrong_lines_or_object true travels d summary number f ttl travel x =
+    wrong_object travels d summary number f ttl travel x
+wrong_lines_or_object false travels d summary number f ttl travel x =
+    wrong_lines travels d summary number f ttl travel x
+
+abbrev pub wrong_flow_lines : AuditOptions → DomainFacts → List SummaryValue → (number : ℕ) → Flow
+    → (ttl : ℕ) → Travel → Explanation → List ℕ
+wrong_flow_lines o d summary number f ttl travel x = wrong_lines_or_object o.json o.travels d summary number f ttl travel x
+
+-- ---- a flow
+
+-- what is told of the flow with this number, by what its examination says, what explains that, and
+-- which LANs want it
+abbrev pub answer_lines : AuditOptions → (whole : Bool) → DomainFacts → List SummaryValue
+    → (printed : List Tree) → (number : ℕ) → Flow → Examined → Explanation → (wanted : List ℕ) → List ℕ
+answer_lines o whole d summary printed number f (Certified entries) x wanted =
+    right_flow_lines o whole d.topology printed number f entries.items wanted
+answer_lines o whole d summary printed number f (Found ttl travel) x wanted =
+    wrong_flow_lines o d summary number f ttl travel x
+
+-- the ways that were told once it was: text tells none
+abbrev pub with_shown_tree : (json hidden : Bool) → List Tree → Tree → List Tree
+with_shown_tree true false printed es = with_tree printed es
+with_shown_tree _ _ printed es = printed
+
+abbrev pub shown_trees_with : AuditOptions → List Tree → Examined → (wanted : List ℕ) → List Tree
+shown_trees_with o printed (Certified entries) wanted =
+    with_shown_tree o.json (is_hidden o.faults wanted) printed entries.items
+shown_trees_with o printed (Found ttl travel) wanted = printed
+
+-- how a flow stands that is right, and any one
+abbrev pub status_of_right : (wanted : List ℕ) → FlowStatus
+status_of_right [] = Unwanted
+status_of_right (lan ∷ wanted) = Wanted
+
+abbrev pub status_of : Examined → (wanted : List ℕ) → FlowStatus
+status_of (Certified entries) wanted = status_of_right wanted
+status_of (Found ttl travel) wanted = Wrong

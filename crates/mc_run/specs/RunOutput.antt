@@ -1,0 +1,38 @@
+-- What a run says of what it was handed: an answer, and a text that goes with it. Which ones are
+-- right is a relation's to say.
+use Rattle.std.specs.Prelude.{◌≡◌, ℕ, Bool, List, Option, Result, Ok, Err}
+use Rattle.std.specs.String.{string_bytes}
+use Rattle.std.specs.Io.KnownBytes.{Appends}
+use Rattle.mc_text.specs.Device.{AppendsProperPrefix}
+use Rattle.mc_run.specs.declared.fault.RunFault.{RunFault}
+use Rattle.mc_run.specs.declared.fault.RunFault.TheVariants.{Write}
+use Rattle.mc_run.specs.declared.run_output.RunOutput.{RunOutput}
+
+-- the answer is right, with some text; or this is why there is none
+abbrev pub Answers : {X F : Type 0} → (X → Bool → List ℕ → Type 0) → (X → F → Type 0) → X
+    → Result Bool F → Type 0
+Answers Says Refuses x (Ok answer) = (written : List ℕ) × Says x answer written
+Answers Says Refuses x (Err fault) = Refuses x fault
+
+-- the text that goes with the answer was written whole
+abbrev pub Writes : {X : Type 0} → (X → Bool → List ℕ → Type 0) → X → Bool → Option (List ℕ)
+    → Option (List ℕ) → Type 0
+Writes Says x answer old new =
+    (written : List ℕ) × Says x answer written × Appends old new written
+
+-- a proper part of a right text was written, from its front
+abbrev pub WritesPart : {X : Type 0} → (X → Bool → List ℕ → Type 0) → X → Option (List ℕ)
+    → Option (List ℕ) → Type 0
+WritesPart Says x old new =
+    (answer : Bool) × (written : List ℕ) × Says x answer written × AppendsProperPrefix old new written
+
+-- What becomes of what is to be said: it is written whole, or a part of it where the output fails.
+-- Where there is a fault in its place, that is the answer, and nothing is written.
+abbrev pub IsOutputWritten : Result RunOutput RunFault → Result Bool RunFault → Option (List ℕ)
+    → Option (List ℕ) → Type 0
+IsOutputWritten (Ok run_output) (Ok answer) old new =
+    (answer ≡ run_output.yes) × Appends old new (string_bytes run_output.text)
+IsOutputWritten (Ok run_output) (Err fault) old new =
+    (fault ≡ Write) × AppendsProperPrefix old new (string_bytes run_output.text)
+IsOutputWritten (Err cause) (Ok answer) old new = ⊥
+IsOutputWritten (Err cause) (Err fault) old new = (fault ≡ cause) × (new ≡ old)

@@ -1,0 +1,8 @@
+use Rattle.mc_tables.proofs.LawLemmas.{vifs_in-iff_denotes, cache_in-iff_denotes}
+use Rattle.mc_tables.proofs.laws.reading_gives_denoted_table.Goals as goal
+
+pub returns-clause-vifs : goal.returns-clause-vifs
+returns-clause-vifs c = vifs_in-iff_denotes
+
+pub returns-clause-cache : goal.returns-clause-cache
+returns-clause-cache c = cache_in-iff_denotes

@@ -1,0 +1,5 @@
+use Rattle.mc_tables.proofs.SummaryLemmas.{table_without_summary-listed_in}
+use Rattle.mc_tables.proofs.laws.summary_changes_no_table.Goals as goal
+
+pub returns : goal.returns
+returns c = table_without_summary-listed_in

@@ -1,0 +1,45 @@
+use Rattle.std.proofs.Common.{◌≤◌, ◌+◌, length, length-take, take, refl, arith, sym, subst}
+use Rattle.mc_tables.specs.LinesSoFar.{LinesSoFar, IsValidLinesSoFar}
+use Rattle.mc_tables.proofs.PieceLemmas.{no_line_feed-not_found, no_line_feed-before_first, lines_so_far-with_begun, position-within}
+use Rattle.mc_tables.proofs.line_buffer.LineBuffer.take_to_line_feed.Goals as goal
+
+pub invariant_of-self-in-Some : goal.invariant_of-self-in-Some
+invariant_of-self-in-Some c =
+    let lines : LinesSoFar = record {
+      ended = c.self.inside.ended;
+      size = c.self.inside.size;
+      begun = c.self.inside.begun.items;
+    } in
+    let end = c.in-Some.end in
+    let taken = take end c.args.rest.now in
+    let size : lines.size + length c.args.rest.now ≤ 16777216 =
+    subst (λ (l : LinesSoFar). l.size + length c.args.rest.now ≤ 16777216) (sym c.self.view_is)
+    c.requires in
+    let within : end + 1 ≤ length c.args.rest.now = position-within c.args.rest.now end (sym c.in-Some.ensures) in
+    let kept = lines_so_far-with_begun lines (end + 1) taken c.self.invariant (omega arith)
+    (omega (arith, length-take end c.args.rest.now))
+    (no_line_feed-before_first c.args.rest.now end (sym c.in-Some.ensures)) in
+    rw c.in_ok-extend_from_slice-in-Some.ensures.items kept
+
+pub invariant_of-self-in-None : goal.invariant_of-self-in-None
+invariant_of-self-in-None c =
+    let lines : LinesSoFar = record {
+      ended = c.self.inside.ended;
+      size = c.self.inside.size;
+      begun = c.self.inside.begun.items;
+    } in
+    let size : lines.size + length c.args.rest.now ≤ 16777216 =
+    subst (λ (l : LinesSoFar). l.size + length c.args.rest.now ≤ 16777216) (sym c.self.view_is)
+    c.requires in
+    let kept = lines_so_far-with_begun lines (length c.args.rest.now) c.args.rest.now c.self.invariant size
+    (omega arith) (no_line_feed-not_found c.args.rest.now (sym c.in-None.ensures)) in
+    rw c.in_ok-extend_from_slice-in-None.ensures.items kept
+
+pub returns-in_ok-extend_from_slice-in-None : goal.returns-in_ok-extend_from_slice-in-None
+returns-in_ok-extend_from_slice-in-None c = record {
+  rules = subst IsValidLinesSoFar c.self.view_is c.self.invariant;
+  taken = (
+    no_line_feed-not_found c.args.rest.now (sym c.in-None.ensures),
+    rw (c.in_ok-extend_from_slice-in-None.ensures.items, ← c.self.view_is) refl,
+  );
+}

@@ -1,0 +1,121 @@
+//! The rows of a cache of which the listed ones are kept, with notes of all.
+
+ghost use Rattle.std.specs.Prelude.{◌≡◌, ◌≢◌, OnOk, IfErr, Ok, Err};
+ghost use Rattle.mc_text.specs.LineView.{line_text};
+ghost use Rattle.mc_tables.specs.CacheTable.{IsValidCache};
+ghost use Rattle.mc_tables.specs.LinesSoFar.{IsValidLinesSoFar};
+ghost use Rattle.mc_tables.specs.RowsSoFar.{rows_end};
+ghost use Rattle.mc_tables.specs.Summary.{HasValidEntries};
+ghost use Rattle.mc_tables.specs.SummarySoFar.{finished_summary};
+ghost use Rattle.mc_tables.specs.SummaryReading.{summary_rows_start};
+
+use crate::cache_summary::CacheSummary;
+use crate::cache_reader::check_end;
+use crate::cache_table::CacheTable;
+use crate::fault::TableFault;
+use crate::header::check_header;
+use crate::entry_numbers::EntryNumbers;
+use crate::cache_row_reader::CacheRowReader;
+use crate::summarized_cache::SummarizedCache;
+use crate::summary_pairs::SummaryPairs;
+use crate::summary_so_far::SummarySoFar;
+use crate::line_buffer::LineBuffer;
+use crate::rows::TableRows;
+use mc_text::{Line, Order};
+use std::alloc::Global;
+use std::marker::Model;
+
+/// The rows so far, and the notes of them.
+#[derive(Debug, Drop)]
+pub struct SummarizedRows {
+    rows: CacheRowReader,
+    summary: SummarySoFar,
+}
+
+impl Model for SummarizedRows {
+    ghost use Rattle.std.specs.Prelude.{◌≡◌, ◌≤◌, length};
+    ghost use Rattle.std.specs.Coded.{codes};
+    ghost use Rattle.mc_text.specs.contracts.text.addr.Order as orders;
+    ghost use Rattle.mc_tables.specs.CacheTable.{cache_code};
+    ghost use Rattle.mc_tables.specs.ListedRows.{key_set_code};
+    ghost use Rattle.mc_tables.specs.RowsSoFar.{rows_code};
+    ghost use Rattle.mc_tables.specs.SummaryReading.{SummarizedRowsSoFar};
+
+    ghost Value = { SummarizedRowsSoFar };
+
+    ghost coded = { Prim.hlevel
+        (codes, key_set_code, cache_code, rows_code, orders.the_row.coded) };
+
+    ghost view = { λ s. record { rows = s.rows; summary = s.summary } };
+
+    ghost invariant = { λ s. (s.summary.listed ≡ s.rows.listed)
+        × (length s.summary.first.table.numbered ≤ s.rows.rows.count)
+        × (s.summary.unlisted ≤ s.rows.rows.count) };
+}
+
+impl SummarizedRows {
+    /// No rows. Those of these sources and groups are kept, and of the others all are noted or the
+    /// lowest.
+    pub fn new(alloc: Global, order: Order, listed: SummaryPairs, all: bool) -> SummarizedRows
+        ensures { result ≡ summary_rows_start all order listed }
+    {
+        let (pairs, pairs_copy, for_every_source) = listed.into_lists();
+        SummarizedRows {
+            rows: CacheRowReader::new(alloc, order, EntryNumbers::for_listed_pairs(alloc, pairs)),
+            summary: SummarySoFar::new(alloc, pairs_copy, for_every_source, all),
+        }
+    }
+
+    /// Refuses a text that ends here: a row that repeats one, and then its last line.
+    pub fn check_end(&mut self, lines: &LineBuffer) -> Result<(), TableFault>
+        ensures end { result ≡ rows_end lines.now self.old.rows }
+        ensures table { self.new.rows.rows.table ≡ self.old.rows.rows.table }
+        ensures summary { self.new.summary ≡ self.old.summary }
+        ensures rules { IsValidLinesSoFar lines.now }
+    {
+        check_end(lines, &mut self.rows)
+    }
+
+    /// The table of the rows that are kept, and the notes.
+    pub fn into_summarized(self) -> SummarizedCache
+        requires table { IsValidCache self.rows.rows.table }
+        requires summary { HasValidEntries (finished_summary self.summary) }
+        ensures table { result.table ≡ self.rows.rows.table }
+        ensures summary { result.summary ≡ finished_summary self.summary }
+    {
+        let SummarizedRows { rows, summary } = self;
+        SummarizedCache {
+            table: CacheTable::from_rows(rows.into_kept()),
+            summary: CacheSummary::of(summary),
+        }
+    }
+}
+
+impl TableRows for SummarizedRows {
+    ghost use Rattle.std.specs.Prelude.{codes};
+    ghost use Rattle.mc_tables.specs.CacheTable.{IsValidCache};
+    ghost use Rattle.mc_tables.specs.declared.summarized_cache.SummarizedCache.{SummarizedCache};
+    ghost use Rattle.mc_tables.specs.Summary.{HasValidEntries};
+    ghost use Rattle.mc_tables.specs.SummarySoFar.{finished_summary};
+    ghost use Rattle.mc_tables.specs.SummaryReading.{summary_step, summary_from};
+
+    ghost Table = { SummarizedCache };
+
+    ghost header = { codes "Group" };
+
+    ghost step = { summary_step };
+
+    ghost table = { summary_from };
+
+    ghost is_valid = { λ so_far. IsValidCache so_far.rows.rows.table × HasValidEntries (finished_summary so_far.summary) };
+
+    fn add_line(&mut self, ended: u32, line: &Line<'_>) -> Result<(), TableFault> {
+        if ended == 0 {
+            return check_header(line, b"Group");
+        }
+        match self.rows.add_summarized(line, &mut self.summary) {
+            Ok(()) => Ok(()),
+            Err(kind) => Err(self.rows.earliest_fault(line.number, kind)),
+        }
+    }
+}

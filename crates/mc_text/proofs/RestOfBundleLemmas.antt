@@ -1,0 +1,112 @@
+-- What reading a bundle part by part says of the parts that come after the present one.
+use Rattle.std.proofs.Common.{◌≡◌, ℕ, ◌+◌, ◌≤◌, List, [], ◌∷◌, ◌++◌, length, take, Option, Some, None}
+use Rattle.std.proofs.Common.{Result, Ok, Err, refl, sym, ap, ◌∙◌, arith}
+use Rattle.std.specs.Io.KnownBytes.{Consumes}
+use Rattle.std.proofs.KnownBytes.{Consumes-trans}
+use Rattle.std.proofs.lemmas.List.{append-nil, length-append}
+use Rattle.mc_text.specs.declared.bundle.bundle_fault.BundleFault.{BundleFault}
+use Rattle.mc_text.specs.declared.bundle.stage.Stage.{Stage}
+use Rattle.mc_text.specs.declared.bundle.stage.Stage.TheVariants as stages
+use Rattle.mc_text.specs.Steps.{◌>>=◌}
+use Rattle.mc_text.specs.Bundle.{PartText}
+use Rattle.mc_text.specs.BundleReading.{part_bytes_at, parts_from}
+use Rattle.mc_text.specs.PartsReading.{PartsState, prepend_parts, parts_from_current, parts_at_stage, current_part}
+use Rattle.mc_text.specs.PartsReading.{current_part_at_stage, current_and_rest, part_if_named}
+use Rattle.mc_text.specs.PartsLimits.{ConsumesWithin, max_to_come}
+use Rattle.mc_text.specs.RestOfBundle.{rest_of_bundle, rest_at_stage, rest_after_part, Advances}
+use Rattle.mc_text.proofs.PartsMeaning.{part_bytes_at-take, prepend_parts-nil}
+
+-- ---- the present part before the others
+
+part_and_rest-prepend : (name done : List ℕ) (left parts room : ℕ) (text : List ℕ)
+    (found : Result (List ℕ × List ℕ) BundleFault) → part_bytes_at left text ≡ found
+    → (found >>= λ f. parts_from parts room f.1 >>= λ others.
+    let part : PartText = record { name = name; bytes = done ++ f.0 } in Ok (part ∷ others))
+    ≡ prepend_parts (record { name = name; bytes = done ++ take left text } ∷ [])
+    (found >>= λ f. parts_from parts room f.1)
+part_and_rest-prepend name done left parts room text (Err fault) is = refl
+part_and_rest-prepend name done left parts room text (Ok f) is =
+    ap (λ bytes. let p : PartText = record { name = name; bytes = done ++ bytes } in
+    prepend_parts (p ∷ []) (parts_from parts room f.1)) (part_bytes_at-take left text f is)
+
+current_and_rest-prepend : (name : Option (List ℕ)) (s : PartsState) (done text : List ℕ)
+    → current_and_rest name done s.left s.parts s.room text
+    ≡ prepend_parts (part_if_named name (done ++ take s.left text)) (rest_after_part name s text)
+current_and_rest-prepend None s done text = refl
+current_and_rest-prepend (Some name) s done text =
+    part_and_rest-prepend name done s.left s.parts s.room text (part_bytes_at s.left text) refl
+
+parts_at_stage-prepend : (stage : Stage) (s : PartsState) (done text : List ℕ)
+    → parts_at_stage stage s done text
+    ≡ prepend_parts (current_part_at_stage stage s done text) (rest_at_stage stage s text)
+parts_at_stage-prepend stages.Start s done text = sym (prepend_parts-nil _)
+parts_at_stage-prepend stages.Part s done text = current_and_rest-prepend s.name s done text
+parts_at_stage-prepend stages.End s done text = refl
+parts_at_stage-prepend stages.Failed s done text = refl
+
+-- all parts are those that are passed, and the others
+pub parts_from_current-prepend : (s : PartsState) (done text : List ℕ)
+    → parts_from_current s done text ≡ prepend_parts (current_part s done text) (rest_of_bundle s text)
+parts_from_current-prepend s done text = parts_at_stage-prepend s.stage s done text
+
+-- ---- what is so of all parts is so of the others
+
+append-left_injective : (xs : List PartText) (ys zs : List PartText) → xs ++ ys ≡ xs ++ zs → ys ≡ zs
+append-left_injective [] ys zs e = e
+append-left_injective (x ∷ xs) ys zs e =
+    let rest : xs ++ ys ≡ xs ++ zs = cc in append-left_injective xs ys zs rest
+
+prepend_parts-injective : (xs : List PartText) (r q : Result (List PartText) BundleFault)
+    → prepend_parts xs r ≡ prepend_parts xs q → r ≡ q
+prepend_parts-injective xs (Ok ys) (Ok zs) e =
+    let same : xs ++ ys ≡ xs ++ zs = cc in ap Ok (append-left_injective xs ys zs same)
+prepend_parts-injective xs (Ok ys) (Err fault) e = absurd cc
+prepend_parts-injective xs (Err fault) (Ok zs) e = absurd cc
+prepend_parts-injective xs (Err fault) (Err other) e = let same : fault ≡ other = cc in ap Err same
+
+-- the others are what comes now
+pub rest_of_bundle-opened : (s : PartsState) (done text : List ℕ) (r : Result (List PartText) BundleFault)
+    → parts_from_current s done text ≡ prepend_parts (current_part s done text) r → rest_of_bundle s text ≡ r
+rest_of_bundle-opened s done text r e =
+    prepend_parts-injective (current_part s done text) (rest_of_bundle s text) r (sym (parts_from_current-prepend s done text) ∙ e)
+
+-- there are none
+pub rest_of_bundle-ended : (s : PartsState) (done text : List ℕ)
+    → parts_from_current s done text ≡ Ok (current_part s done text) → rest_of_bundle s text ≡ Ok []
+rest_of_bundle-ended s done text e =
+    rest_of_bundle-opened s done text (Ok []) (e ∙ ap Ok (sym (append-nil (current_part s done text))))
+
+-- or they are refused
+pub rest_of_bundle-fault : (s : PartsState) (done text : List ℕ) (fault : BundleFault)
+    → parts_from_current s done text ≡ Err fault → rest_of_bundle s text ≡ Err fault
+rest_of_bundle-fault s done text fault e = rest_of_bundle-opened s done text (Err fault) e
+
+-- in a part that has a name that part is passed
+pub parts_from_current-in_part : (s : PartsState) (name done text : List ℕ) → s.stage ≡ stages.Part
+    → s.name ≡ Some name → parts_from_current s done text
+    ≡ prepend_parts (record { name = name; bytes = done ++ take s.left text } ∷ []) (rest_of_bundle s text)
+parts_from_current-in_part s name done text is named =
+    let passes : current_part s done text ≡ record { name = name; bytes = done ++ take s.left text } ∷ [] =
+    rw (is, named) refl in
+    parts_from_current-prepend s done text ∙ ap (λ ps. prepend_parts ps (rest_of_bundle s text)) passes
+
+-- ---- how much is read
+
+-- what two calls read is no more than may come before the first
+pub consumes_within-trans : (a b c : Option (List ℕ)) (most between after : ℕ) → ConsumesWithin most between a b
+    → ConsumesWithin between after b c → ConsumesWithin most after a c
+consumes_within-trans a b c most between after first more = (
+  first.0 ++ more.0,
+  omega (arith, first.1, more.1, length-append first.0 more.0),
+  Consumes-trans a b c first.0 more.0 first.2 more.2,
+)
+
+pub advances : (a b c : PartsState) → Advances a b → b.borrows ≡ c.borrows
+    → ConsumesWithin (max_to_come b) (max_to_come c) b.remaining c.remaining → Advances a c
+advances a b c first borrows more = (
+  sym borrows ∙ first.0,
+  consumes_within-trans a.remaining b.remaining c.remaining (max_to_come a) (max_to_come b) (max_to_come c) first.1 more,
+)
+
+pub advances_trans : (a b c : PartsState) → Advances a b → Advances b c → Advances a c
+advances_trans a b c first then = advances a b c first (sym then.0) then.1

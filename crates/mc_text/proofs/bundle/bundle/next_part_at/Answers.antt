@@ -1,0 +1,22 @@
+use Rattle.std.proofs.Common.{◌≡◌, true, arith}
+use Rattle.std.specs.Prelude.{codes}
+use Rattle.std.specs.Str.{bytes_eq}
+use Rattle.std.proofs.lemmas.Result.{err_from_is_err_and}
+use Rattle.mc_text.specs.BundleView.{place_text}
+use Rattle.mc_text.proofs.BundlePlaces.{next_part_from-line_fault, next_part_from-end_fault}
+use Rattle.mc_text.proofs.bundle.bundle.next_part_at.Goals as goal
+
+pub returns-in_err-line : goal.returns-in_err-line
+returns-in_err-line c =
+    let p = err_from_is_err_and c.from_residual.result c.from_residual.ensures.1 in
+    rw (p.1, p.2)
+    (next_part_from-line_fault (place_text c.args.place.now) c.in_err-line.field-0.0 c.in_err-line.ensures)
+
+pub returns-in_err-check_end_is_last : goal.returns-in_err-check_end_is_last
+returns-in_err-check_end_is_last c =
+    let p = err_from_is_err_and c.from_residual-in_err-check_end_is_last.result
+    c.from_residual-in_err-check_end_is_last.ensures.1 in
+    let is_end : bytes_eq c.in_ok-line.line.now (codes "end") ≡ true = grind arith in
+    rw (p.1, p.2)
+    (next_part_from-end_fault (place_text c.args.place.now) c.in_ok-line.line.now c.in_ok-line.after.now
+    c.in_err-check_end_is_last.field-0.0 c.in_ok-line.ensures is_end c.in_err-check_end_is_last.ensures)

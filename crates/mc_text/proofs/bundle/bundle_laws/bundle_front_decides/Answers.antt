@@ -1,0 +1,5 @@
+use Rattle.mc_text.proofs.BundleFront.{bundle_of-take}
+use Rattle.mc_text.proofs.bundle.bundle_laws.bundle_front_decides.Goals as goal
+
+pub returns : goal.returns
+returns c = bundle_of-take

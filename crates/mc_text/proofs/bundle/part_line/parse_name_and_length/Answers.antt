@@ -1,0 +1,33 @@
+use Rattle.std.proofs.Common.{◌+◌, refl, sym}
+use Rattle.std.proofs.lemmas.Bool.{and_right, and_from}
+use Rattle.std.proofs.lemmas.List.{take_rest}
+use Rattle.mc_text.specs.BundleReading.{parse_name_and_length}
+use Rattle.mc_text.proofs.BundleWords.{is_part_name-false, is_part_name-complete}
+use Rattle.mc_text.proofs.bundle.part_line.parse_name_and_length.Goals as goal
+
+pub returns-in_err-space : goal.returns-in_err-space
+unfolding parse_name_and_length
+returns-in_err-space c = rw (c.from_residual.ensures, ← c.in_err-space.ensures) refl
+
+pub returns-in_err-name : goal.returns-in_err-name
+unfolding parse_name_and_length
+returns-in_err-name c =
+    let refused = is_part_name-false _ c.in_err-name.ensures.only in
+    rw (c.from_residual-in_err-name.ensures, ← c.in_ok-space.ensures, refused) refl
+
+pub returns-then-not-is_length : goal.returns-then-not-is_length
+unfolding parse_name_and_length
+returns-then-not-is_length c =
+    let number = take_rest c.args.words.now (c.in_ok-space.space + 1) in
+    let refused = rw number at c.if-not-is_length.ensures in
+    rw (← c.in_ok-space.ensures, and_right _ _ (sym refused)) refl
+
+pub returns : goal.returns
+unfolding parse_name_and_length
+returns c =
+    let number = take_rest c.args.words.now (c.in_ok-space.space + 1) in
+    let long = rw number at c.if-not-is_length.ensures in
+    let name = c.in_ok-name.ensures.found in
+    let named = rw name at (is_part_name-complete c.in_ok-name.name c.in_ok-name.ensures.is_name) in
+    rw (c.length_or_max.ensures, number, ← c.in_ok-space.ensures, and_from _ _ named (sym long), name)
+    refl

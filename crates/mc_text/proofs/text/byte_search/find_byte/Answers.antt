@@ -1,0 +1,5 @@
+use Rattle.mc_text.proofs.FindByte.{position-first_byte}
+use Rattle.mc_text.proofs.text.byte_search.find_byte.Goals as goal
+
+pub returns : goal.returns
+returns c = position-first_byte c.args.byte c.args.text.now c.memchr.result c.memchr.ensures

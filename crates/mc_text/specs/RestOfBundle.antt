@@ -1,0 +1,40 @@
+-- Reading a bundle part by part: the parts that come after the present one.
+use Rattle.std.specs.Prelude.{◌≡◌, ℕ, List, [], ◌∷◌, Option, Some, None, Result, Ok, Err}
+use Rattle.mc_text.specs.declared.bundle.bundle_fault.BundleFault.{BundleFault}
+use Rattle.mc_text.specs.declared.bundle.bundle_fault.BundleFault.TheVariants as faults
+use Rattle.mc_text.specs.declared.bundle.stage.Stage.{Stage}
+use Rattle.mc_text.specs.declared.bundle.stage.Stage.TheVariants as stages
+use Rattle.mc_text.specs.Steps.{◌>>=◌}
+use Rattle.mc_text.specs.Bundle.{PartText}
+use Rattle.mc_text.specs.BundleReading.{part_bytes_at, parts_from, bundle_of}
+use Rattle.mc_text.specs.PartsReading.{PartsState, prepend_parts}
+use Rattle.mc_text.specs.PartsLimits.{ConsumesWithin, max_to_come}
+
+-- those after a part that has a name
+abbrev pub rest_after_part : Option (List ℕ) → PartsState → List ℕ → Result (List PartText) BundleFault
+rest_after_part None state text = Err faults.Failed
+rest_after_part (Some name) state text =
+    part_bytes_at state.left text >>= λ found. parts_from state.parts state.room found.1
+
+abbrev pub rest_at_stage : Stage → PartsState → List ℕ → Result (List PartText) BundleFault
+rest_at_stage stages.Start state text = bundle_of text
+rest_at_stage stages.Part state text = rest_after_part state.name state text
+rest_at_stage stages.End state text = Ok []
+rest_at_stage stages.Failed state text = Err faults.Failed
+
+-- the parts after the present one, if this text comes
+abbrev pub rest_of_bundle : PartsState → List ℕ → Result (List PartText) BundleFault
+rest_of_bundle state text = rest_at_stage state.stage state text
+
+-- A part of which this holds was passed: those that were to come are it, and those that are to come
+-- now.
+abbrev pub ReadsPart : PartsState → PartsState → (PartText → Type 0) → Type 0
+ReadsPart old new Holds =
+    (text : List ℕ) → old.remaining ≡ Some text →
+    (later : List ℕ) × (part : PartText) × (new.remaining ≡ Some later)
+    × (rest_of_bundle old text ≡ prepend_parts (part ∷ []) (rest_of_bundle new later)) × Holds part
+
+-- Reading goes on over the same input, and no more was read than may come.
+abbrev pub Advances : PartsState → PartsState → Type 0
+Advances old new =
+    (new.borrows ≡ old.borrows) × ConsumesWithin (max_to_come old) (max_to_come new) old.remaining new.remaining

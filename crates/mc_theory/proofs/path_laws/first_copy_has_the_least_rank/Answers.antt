@@ -1,0 +1,6 @@
+-- First in, first out.
+use Rattle.mc_theory.proofs.LeastRanks.{first_copy-has_least_rank}
+use Rattle.mc_theory.proofs.path_laws.first_copy_has_the_least_rank.Goals as goal
+
+pub returns : goal.returns
+returns c = first_copy-has_least_rank

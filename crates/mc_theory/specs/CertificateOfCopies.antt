@@ -1,0 +1,52 @@
+-- The certificate that a clean travel of a packet with TTL 255 makes: an entry for each copy that
+-- it carried, in the order in which they were carried. A copy comes after the one that it was
+-- sent on from.
+use Rattle.std.specs.Prelude.{ℕ, ◌+◌, ◌-◌, max, ◌==◌, if◌then◌else◌}
+use Rattle.std.specs.Prelude.{List, [], ◌∷◌, ◌++◌, Option, Some, None}
+use Rattle.mc_theory.specs.Nets.{Net, Row, Interface}
+use Rattle.mc_theory.specs.Nets.Row.{Exact, Open, NoRow}
+use Rattle.mc_theory.specs.Flights.{Copy}
+use Rattle.mc_theory.specs.Certificates.{Entry}
+use Rattle.mc_theory.specs.Reasons.{entry_at}
+use Rattle.mc_theory.specs.Findings.{from_lan}
+
+-- the threshold of a vif's pair
+abbrev pub threshold_of : ℕ → List (ℕ × ℕ) → ℕ
+threshold_of v [] = 0
+threshold_of v (p ∷ ps) = if p.0 == v then p.1 else threshold_of v ps
+
+abbrev pub row_pairs : Row → List (ℕ × ℕ)
+row_pairs (Exact incoming pairs) = pairs
+row_pairs Open = []
+row_pairs NoRow = []
+
+-- what a copy needs that comes of this entry's LAN, over a pair with this threshold
+abbrev pub need_over : ℕ → Option Entry → ℕ
+need_over threshold None = 1
+need_over threshold (Some p) = max p.need (p.rank + threshold + 1)
+
+-- The need of a copy with this sender, after the entries of the earlier copies: 1 for the
+-- source's copy, and for another the greater of the need of the LAN that its sender took it from,
+-- and of what passes the threshold there.
+abbrev pub need_after : Net → List Entry → Option Interface → ℕ
+need_after n es None = 1
+need_after n es (Some i) =
+    need_over (threshold_of i.1 (row_pairs (n.row i.0))) (entry_at es (from_lan n (Some i)))
+
+-- a copy's entry, after those of the earlier copies: its rank is what its TTL has lost
+abbrev pub entry_after : Net → List Entry → Copy → Entry
+entry_after n es c = record {
+  lan = c.lan;
+  rank = 255 - c.ttl;
+  need = need_after n es c.sender;
+  forwarder = c.sender;
+}
+
+-- the entries of some copies, after those of the earlier ones
+abbrev pub entries_after : Net → List Entry → List Copy → List Entry
+entries_after n es [] = es
+entries_after n es (c ∷ cs) = entries_after n (es ++ entry_after n es c ∷ []) cs
+
+-- the entries of the carried copies
+abbrev pub entries_of : Net → List Copy → List Entry
+entries_of n cs = entries_after n [] cs

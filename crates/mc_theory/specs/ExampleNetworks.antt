@@ -1,0 +1,194 @@
+-- Small networks as values, on which the definitions are computed and what they promise is judged
+-- by hand. Routers r1 to r4 are 0 to 3, LANs l0 to l3 are 0 to 3, and the source sends on l0.
+use Rattle.std.specs.Prelude.{ℕ, Bool, cond, ◌&&◌, ◌||◌, ◌==◌, List, [], ◌∷◌, ◌++◌, Option}
+use Rattle.std.specs.Prelude.{Some, None}
+use Rattle.mc_theory.specs.Nets.{Net, Row, Interface}
+use Rattle.mc_theory.specs.Nets.Row.{Exact, Open, NoRow}
+use Rattle.mc_theory.specs.Flights.{Copy, Flight}
+use Rattle.mc_theory.specs.Certificates.{Entry}
+use Rattle.mc_theory.specs.Paths.{Hop}
+
+-- ---- networks from tables
+
+-- a router, one of its vifs, and the LAN that it is placed on
+abbrev pub Placement : Type 0
+Placement = ℕ × ℕ × ℕ
+
+abbrev pub placed_by_table : List Placement → ℕ → ℕ → Option ℕ
+placed_by_table [] r v = None
+placed_by_table (p ∷ ps) r v = cond ((p.0 == r) && (p.1 == v)) (Some p.2) (placed_by_table ps r v)
+
+abbrev pub row_by_table : List (ℕ × Row) → ℕ → Row
+row_by_table [] r = NoRow
+row_by_table (t ∷ ts) r = cond (t.0 == r) t.1 (row_by_table ts r)
+
+-- so many routers, with these wanting LANs and this TTL
+abbrev pub network : ℕ → List Placement → List (ℕ × Row) → (ℕ → Bool) → ℕ → Net
+network routers places rows wants ttl = record {
+  routers = routers;
+  placed = placed_by_table places;
+  row = row_by_table rows;
+  wants = wants;
+  source = 0;
+  ttl = ttl;
+}
+
+abbrev pub entry : ℕ → ℕ → ℕ → Option Interface → Entry
+entry lan rank need forwarder = record {
+  lan = lan;
+  rank = rank;
+  need = need;
+  forwarder = forwarder;
+}
+
+abbrev pub copy : ℕ → ℕ → Option Interface → Copy
+copy lan ttl sender = record { lan = lan; ttl = ttl; sender = sender }
+
+-- the flight in which these copies were carried, none waits and none strayed
+abbrev pub finished_flight : List Copy → Flight
+finished_flight copies = record { carried = copies; waiting = []; strays = [] }
+
+-- in by vif 0, out by vif 1 with threshold 1
+abbrev pub onward : Row
+onward = Exact 0 ((1, 1) ∷ [])
+
+-- ---- hops by vif 1: above a threshold, or an onward row's, from one LAN by a router onto another
+
+abbrev pub hop_above : ℕ → ℕ → ℕ → ℕ → Hop
+hop_above threshold from router onto = record {
+  from = from;
+  router = router;
+  vif = 1;
+  threshold = threshold;
+  onto = onto;
+}
+
+abbrev pub onward_hop : ℕ → ℕ → ℕ → Hop
+onward_hop from router onto = hop_above 1 from router onto
+
+-- ---- the line: r1 forwards from l0 to l1, and r2 from l1 to l2, where a host listens
+
+abbrev pub line_places : List Placement
+line_places = (0, 0, 0) ∷ (0, 1, 1) ∷ (1, 0, 1) ∷ (1, 1, 2) ∷ []
+
+-- the line's places with these rows and this TTL
+abbrev pub line_with : List (ℕ × Row) → ℕ → Net
+line_with rows ttl = network 2 line_places rows (λ l. l == 2) ttl
+
+abbrev pub line_rows : List (ℕ × Row)
+line_rows = (0, onward) ∷ (1, onward) ∷ []
+
+abbrev pub line : ℕ → Net
+line ttl = line_with line_rows ttl
+
+-- after a packet of TTL 3, handled by r1 and then by r2
+abbrev pub line_end : Flight
+line_end = finished_flight (copy 0 3 None ∷ copy 1 2 (Some (0, 1)) ∷ copy 2 1 (Some (1, 1)) ∷ [])
+
+-- r2 sends by its vif 2 too, which no LAN is known of
+abbrev pub line_with_a_leak : Net
+line_with_a_leak = line_with ((0, onward) ∷ (1, Exact 0 ((1, 1) ∷ (2, 1) ∷ [])) ∷ []) 3
+
+-- r2 has only a row for every source
+abbrev pub line_with_an_open_row : Net
+line_with_an_open_row = line_with ((0, onward) ∷ (1, Open) ∷ []) 3
+
+-- in by vif 0, out by vif 1 and by vif 0 too
+abbrev pub sends_back : Row
+sends_back = Exact 0 ((0, 1) ∷ (1, 1) ∷ [])
+
+-- r1 sends by the vif that it takes from too
+abbrev pub line_that_sends_back : Net
+line_that_sends_back = line_with ((0, sends_back) ∷ (1, onward) ∷ []) 3
+
+-- a line from which r2 is left out, with this row of r1
+abbrev pub r1_alone : Row → Net
+r1_alone row = network 2 ((0, 0, 0) ∷ (0, 1, 1) ∷ []) ((0, row) ∷ []) (λ l. l == 2) 3
+
+-- the entries of l0, l1 and l2, and the line's certificate
+abbrev pub l0_entry : Entry
+l0_entry = entry 0 0 1 None
+
+abbrev pub l1_entry : Entry
+l1_entry = entry 1 1 2 (Some (0, 1))
+
+abbrev pub l2_entry : Entry
+l2_entry = entry 2 2 3 (Some (1, 1))
+
+abbrev pub line_entries : List Entry
+line_entries = l0_entry ∷ l1_entry ∷ l2_entry ∷ []
+
+-- ---- the line and a third router with this row, at these places
+
+abbrev pub line_with_third_router : List Placement → Row → ℕ → Net
+line_with_third_router places row ttl = network 3 (places ++ line_places)
+    ((2, row) ∷ (0, onward) ∷ (1, onward) ∷ []) (λ l. l == 2) ttl
+
+-- r3 forwards from l0 to l2 as well
+abbrev pub line_with_shortcut : ℕ → Net
+line_with_shortcut ttl = line_with_third_router ((2, 0, 0) ∷ (2, 1, 2) ∷ []) onward ttl
+
+-- r3 forwards from l2 back to l0
+abbrev pub line_with_loop : ℕ → Net
+line_with_loop ttl = line_with_third_router ((2, 0, 2) ∷ (2, 1, 0) ∷ []) onward ttl
+
+-- ---- the diamond: r1 and r2 forward from l0 to l1 and l2, and r3 and r4 from there to l3, where a
+-- host listens
+
+abbrev pub diamond_places : List Placement
+diamond_places = (0, 0, 0) ∷ (0, 1, 1) ∷ (1, 0, 0) ∷ (1, 1, 2) ∷ (2, 0, 1) ∷ (2, 1, 3) ∷ (3, 0, 2)
+    ∷ (3, 1, 3) ∷ []
+
+-- r4 has no row
+abbrev pub diamond_rows : List (ℕ × Row)
+diamond_rows = (0, onward) ∷ (1, onward) ∷ (2, onward) ∷ []
+
+abbrev pub diamond : Net
+diamond = network 4 diamond_places diamond_rows (λ l. l == 3) 3
+
+-- r4 forwards too
+abbrev pub closed_diamond : Net
+closed_diamond = network 4 diamond_places ((3, onward) ∷ diamond_rows) (λ l. l == 3) 3
+
+-- after a packet of TTL 4, handled by each router in turn, and by r4 and r3 at the vifs by which they
+-- hear each other
+abbrev pub closed_diamond_end : Flight
+closed_diamond_end = finished_flight (copy 0 4 None ∷ copy 1 3 (Some (0, 1)) ∷ copy 2 3 (Some (1, 1))
+    ∷ copy 3 2 (Some (2, 1)) ∷ copy 3 2 (Some (3, 1)) ∷ [])
+
+-- the way by r1 and r3
+abbrev pub upper_path : List Hop
+upper_path = onward_hop 1 2 3 ∷ onward_hop 0 0 1 ∷ []
+
+abbrev pub diamond_entries : List Entry
+diamond_entries = l0_entry ∷ l1_entry ∷ entry 2 1 2 (Some (1, 1))
+    ∷ entry 3 2 3 (Some (2, 1)) ∷ []
+
+-- ---- the fork: r1 forwards from l0 to l1, with threshold 1, and to l2, with threshold 64; hosts
+-- listen on both
+
+abbrev pub fork_places : List Placement
+fork_places = (0, 0, 0) ∷ (0, 1, 1) ∷ (0, 2, 2) ∷ []
+
+abbrev pub fork_rows : List (ℕ × Row)
+fork_rows = (0, Exact 0 ((1, 1) ∷ (2, 64) ∷ [])) ∷ []
+
+abbrev pub fork : ℕ → Net
+fork ttl = network 1 fork_places fork_rows (λ l. (l == 1) || (l == 2)) ttl
+
+-- after a packet of TTL 65
+abbrev pub fork_end : Flight
+fork_end = finished_flight (copy 0 65 None ∷ copy 1 64 (Some (0, 1)) ∷ copy 2 64 (Some (0, 2)) ∷ [])
+
+abbrev pub fork_entries : List Entry
+fork_entries = l0_entry ∷ l1_entry ∷ entry 2 1 65 (Some (0, 2)) ∷ []
+
+-- ---- the twins: r1 and r2 both forward from l0 to l1, where a host listens, and r1 with threshold
+-- 64
+
+abbrev pub twins : Net
+twins = network 2 ((0, 0, 0) ∷ (0, 1, 1) ∷ (1, 0, 0) ∷ (1, 1, 1) ∷ [])
+    ((0, Exact 0 ((1, 64) ∷ [])) ∷ (1, onward) ∷ []) (λ l. l == 1) 65
+
+abbrev pub twins_entries : List Entry
+twins_entries = l0_entry ∷ entry 1 1 65 (Some (0, 1)) ∷ []

@@ -1,0 +1,149 @@
+-- Ways of a flow's packets over the rows of the domain: which LANs they lead to, and which packets
+-- get through. A way is told backwards, its last hop first.
+use Rattle.std.specs.Prelude.{◌≡◌, ◌≢◌, ℕ, ◌+◌, ◌<◌, ◌≤◌, max, not, ◌==◌, if◌then◌else◌, List, []}
+use Rattle.std.specs.Prelude.{◌∷◌, ◌++◌, filter, length, map, Some, None, ⊤}
+use Rattle.mc_theory.specs.Lists.{In}
+use Rattle.mc_theory.specs.Nets.{Net, Row, Interface}
+use Rattle.mc_theory.specs.Nets.Row.{Exact, Open, NoRow}
+use Rattle.mc_theory.specs.Flights.{Copy, Flight}
+use Rattle.mc_theory.specs.Findings.{first_copy_on}
+use Rattle.mc_theory.specs.FindingMeaning.{IsFirstDouble}
+
+-- ---- ways
+
+-- A router takes a copy from a LAN and sends it onto another by a vif, above a threshold.
+pub record Hop : Type 0 where
+  pub from : ℕ
+  pub router : ℕ
+  pub vif : ℕ
+  pub threshold : ℕ
+  pub onto : ℕ
+
+-- Its exact row takes from the one LAN, and has a pair of the vif, which is placed on the other.
+pub record IsHop (n : Net) (h : Hop) : Type 0 where
+  pub incoming : ℕ
+  pub pairs : List (ℕ × ℕ)
+  pub row : n.row h.router ≡ Exact incoming pairs
+  pub takes : n.placed h.router incoming ≡ Some h.from
+  pub pair : In (h.vif, h.threshold) pairs
+  pub sends : n.placed h.router h.vif ≡ Some h.onto
+
+-- These hops lead from LAN a to LAN b.
+abbrev pub IsPath : Net → ℕ → List Hop → ℕ → Type 0
+IsPath n a [] b = a ≡ b
+IsPath n a (h ∷ hs) b = (h.onto ≡ b) × IsHop n h × IsPath n a hs h.from
+
+-- ---- who gets through
+
+-- A packet sent with TTL t gets through: at each hop its TTL, which is less by the hops before, is
+-- greater than the threshold.
+abbrev pub PassesHops : ℕ → List Hop → Type 0
+PassesHops t [] = ⊤
+PassesHops t (h ∷ hs) = (length hs + h.threshold < t) × PassesHops t hs
+
+-- the least TTL with which one gets through
+abbrev pub need : List Hop → ℕ
+need [] = 1
+need (h ∷ hs) = max (need hs) (length hs + h.threshold + 1)
+
+-- A packet sent with TTL t is stopped at hop h: it gets through by the hops before, and what is left
+-- of its TTL isn't greater than the threshold.
+pub record IsStopped (t : ℕ) (hs : List Hop) (h : Hop) (left : ℕ) : Type 0 where
+  pub after : List Hop
+  pub before : List Hop
+  pub split : hs ≡ after ++ h ∷ before
+  pub comes : PassesHops t before
+  pub ttl : left + length before ≡ t
+  pub stops : left ≤ h.threshold
+
+-- Some way leads from the source's LAN to LAN l, the time to live aside;
+abbrev pub IsReached : Net → ℕ → Type 0
+IsReached n l = (hs : List Hop) × IsPath n n.source hs l
+
+-- and one by which packets sent with TTL t get through.
+abbrev pub IsReachedWithTtl : Net → ℕ → ℕ → Type 0
+IsReachedWithTtl n t l = (hs : List Hop) × IsPath n n.source hs l × PassesHops t hs
+
+-- ---- the way of a copy
+
+-- Copy c came by these hops from the source's LAN: the first is its own sender's, from a LAN whose
+-- first copy came by the rest.
+abbrev pub CameByHops : Net → List Copy → Copy → List Hop → Type 0
+CameByHops n cs c [] = c.sender ≡ None
+CameByHops n cs c (h ∷ hs) =
+    (c.sender ≡ Some (h.router, h.vif)) × (h.onto ≡ c.lan) × IsHop n h
+    × ((b : Copy) × (first_copy_on cs h.from ≡ Some b) × CameByHops n cs b hs)
+
+-- Hop h is the one that copy c was sent by: its sender's, onto its LAN.
+abbrev pub IsSentByHop : Net → Copy → Hop → Type 0
+IsSentByHop n c h = (c.sender ≡ Some (h.router, h.vif)) × (h.onto ≡ c.lan) × IsHop n h
+
+-- Copy c came by these hops from LAN l, and by l nowhere in between: the first is the one that it
+-- was sent by, from l itself, or from another LAN, whose first copy came from l by the rest.
+abbrev pub CameFromLan : Net → List Copy → ℕ → Copy → List Hop → Type 0
+CameFromLan n cs l c [] = ⊥
+CameFromLan n cs l c (h ∷ []) = IsSentByHop n c h × (h.from ≡ l)
+CameFromLan n cs l c (h ∷ g ∷ hs) =
+    IsSentByHop n c h × (h.from ≢ l)
+    × ((first : Copy) × (first_copy_on cs h.from ≡ Some first) × CameFromLan n cs l first (g ∷ hs))
+
+-- ---- a remedy
+
+-- a row without the pairs of vif v
+abbrev pub row_without_vif : ℕ → Row → Row
+row_without_vif v (Exact incoming pairs) = Exact incoming (filter (λ p. not (p.0 == v)) pairs)
+row_without_vif v Open = Open
+row_without_vif v NoRow = NoRow
+
+-- The domain where interface i is taken out of its router's row; all else is the same.
+abbrev pub take_out : Interface → Net → Net
+take_out i n = record {
+  routers = n.routers;
+  placed = n.placed;
+  row = λ r. if r == i.0 then row_without_vif i.1 (n.row r) else n.row r;
+  wants = n.wants;
+  source = n.source;
+  ttl = n.ttl;
+}
+
+-- Interface i sent the flight's first double copy c, and the first copy of its LAN came by these
+-- hops.
+pub record IsSpareInterface (n : Net) (f : Flight) (c : Copy) (i : Interface) (hs : List Hop) : Type 0 where
+  pub first_double : IsFirstDouble f.carried c
+  pub sender : c.sender ≡ Some i
+  pub first : Copy
+  pub first_on : first_copy_on f.carried c.lan ≡ Some first
+  pub came_by_hops : CameByHops n f.carried first hs
+
+-- ---- two copies of a LAN
+
+-- The LAN's first copy and its second, the flight's first double one, came by two ways: the last
+-- hops are by two senders, and the second way doesn't come by the LAN before its end.
+pub record ReachedByTwoPaths (n : Net) (cs : List Copy) (l : ℕ) : Type 0 where
+  pub first : Copy
+  pub second : Copy
+  pub first_on : first_copy_on cs l ≡ Some first
+  pub first_double : IsFirstDouble cs second
+  pub lan : second.lan ≡ l
+  pub senders : first.sender ≢ second.sender
+  pub first_path : List Hop
+  pub first_came : CameByHops n cs first first_path
+  pub first_leads : IsPath n n.source first_path l
+  pub second_path : List Hop
+  pub second_came : CameByHops n cs second second_path
+  pub second_leads : IsPath n n.source second_path l
+  pub not_before : In l (map (λ h. h.from) second_path) → ⊥
+
+-- Its second copy came from the LAN itself: the walk back from that copy to the LAN is a way that
+-- leads back to it, and the last hop's interface sent the copy. There are fewer hops than carried
+-- copies.
+pub record LoopedBack (n : Net) (cs : List Copy) (l : ℕ) : Type 0 where
+  pub second : Copy
+  pub first_double : IsFirstDouble cs second
+  pub lan : second.lan ≡ l
+  pub last_hop : Hop
+  pub sender : second.sender ≡ Some (last_hop.router, last_hop.vif)
+  pub before : List Hop
+  pub closed : IsPath n l (last_hop ∷ before) l
+  pub came_by_hops : CameFromLan n cs l second (last_hop ∷ before)
+  pub few : length (last_hop ∷ before) < length cs

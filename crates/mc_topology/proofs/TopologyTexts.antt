@@ -1,0 +1,370 @@
+-- A text that is read stands for what is read, and a text that stands for a topology is read as
+-- that.
+use Rattle.std.proofs.Common.{◌≡◌, ◌&&◌, ℕ, pos, ◌<◌, ◌≤◌, Bool, true, false, cond, eqb, List, [], ◌∷◌}
+use Rattle.std.proofs.Common.{length, codes, Result, Ok, Err, nat_le, le-leb, refl, sym, ap, subst}
+use Rattle.std.proofs.Common.{◌∙◌, arith}
+use Rattle.std.specs.Bool.{Decides}
+use Rattle.std.specs.List.{list_any}
+use Rattle.std.specs.Option.{ok_or}
+use Rattle.std.specs.Ordering.{int_eq}
+use Rattle.std.specs.Str.{is_utf8}
+use Rattle.std.specs.Cmp.{signed_Decides}
+use Rattle.std.proofs.lemmas.Bool.{leb-true, eqb-false, ne_eqb, and_parts}
+use Rattle.std.proofs.lemmas.Bool.{false≢true}
+use Rattle.std.proofs.lemmas.Str.{IsUtf8-from_is_utf8, is_utf8-from_IsUtf8}
+use Rattle.toml.specs.Data.{Data, Members}
+use Rattle.toml.specs.Parse.{parse_document}
+use Rattle.mc_topology.specs.declared.fault.Section.{Section}
+use Rattle.mc_topology.specs.declared.fault.Section.TheVariants as section
+use Rattle.mc_topology.specs.declared.fault.TopologyFaultKind.{TopologyFaultKind}
+use Rattle.mc_topology.specs.declared.fault.TopologyFaultKind.TheVariants.{NotToml, BadVersion}
+use Rattle.mc_topology.specs.declared.fault.TopologyFaultKind.TheVariants.{UnknownKey, NoFlow}
+use Rattle.mc_topology.specs.declared.fault.TopologyFaultKind.TheVariants.{TooMany}
+use Rattle.mc_topology.specs.declared.flow.Flow.{Flow}
+use Rattle.mc_topology.specs.SectionRows.{RouterRow, InterfaceRow, SourceRow}
+use Rattle.mc_topology.specs.Answer.{◌>>=◌, locate_fault, each_row}
+use Rattle.mc_topology.specs.Document.{has_only, rows_in, list_at, number_at, rows_at}
+use Rattle.mc_topology.specs.Document.{optional_list_at}
+use Rattle.mc_topology.specs.Lans.{lan_name_of, lan_rows, lans_in}
+use Rattle.mc_topology.specs.Routers.{router_of, routers_in}
+use Rattle.mc_topology.specs.Interfaces.{interface_of, interfaces_in}
+use Rattle.mc_topology.specs.Sources.{source_of, sources_in}
+use Rattle.mc_topology.specs.Flows.{flow_of, flow_rows, flows_in}
+use Rattle.mc_topology.specs.Bounds.{is_bounded}
+use Rattle.mc_topology.specs.Reading.{top_keys, require_utf8, parse_toml, table_of, document_of}
+use Rattle.mc_topology.specs.Reading.{check_version, topology_in, parse_topology, parse_unbounded_topology}
+use Rattle.mc_topology.specs.Denotation.{HasNumber, EachDenotes, DenotesLan, DenotesRouter, DenotesInterface}
+use Rattle.mc_topology.specs.Denotation.{DenotesSource, DenotesFlow, DenotesLans, DenotesSection, DenotesDocument}
+use Rattle.mc_topology.specs.Denotation.{DenotesTopology, DenotesBoundedTopology}
+use Rattle.mc_topology.specs.Topology.{TopologyValue, lan_key, router_key, interface_key}
+use Rattle.mc_topology.specs.Topology.{source_key, flow_key}
+use Rattle.mc_topology.proofs.Distinct.{AreDistinctBy-none}
+use Rattle.mc_topology.proofs.Fields.{HasNumber-from_number_at, number_at-from_HasNumber, array-from_list_at}
+use Rattle.mc_topology.proofs.Fields.{list_at-from_array, AreRows-from_optional_list_at, optional_list_at-from_AreRows}
+use Rattle.mc_topology.proofs.Fields.{AreRows-from_rows_at, rows_at-from_AreRows}
+use Rattle.mc_topology.proofs.Keys.{same_lan, same_lan-Decides, same_router, same_router-Decides}
+use Rattle.mc_topology.proofs.Keys.{same_interface, same_interface-Decides, same_source}
+use Rattle.mc_topology.proofs.Keys.{same_source-Decides, same_flow, same_flow-Decides}
+use Rattle.mc_topology.proofs.SectionParts.{each_row-denotes, each_row-from_denotes, lan_name_of-denotes, lan_name_of-from_denotes, router_of-denotes}
+use Rattle.mc_topology.proofs.SectionParts.{router_of-from_denotes, interface_of-denotes, interface_of-from_denotes}
+use Rattle.mc_topology.proofs.SectionParts.{source_of-denotes, source_of-from_denotes, flow_of-denotes, flow_of-from_denotes}
+use Rattle.mc_topology.proofs.Steps.{bind_ok, refusal_ok, test_ok, ok_or_ok, ok_injective, locate_fault_ok}
+
+-- ---- sections
+
+module _ {X K : Type 0} (name : Section) (word : List ℕ) (most : ℕ)
+    (one : List X → Data → Result X TopologyFaultKind) (Denotation : Data → X → Type 0) (key : X → K)
+    (test : X → X → Bool) (same : (y x : X) → Decides (test y x) (key y ≡ key x)) where
+  -- where a section is read, its rows stand for what is read
+  section-denotes : ((earlier : List X) (d : Data) (x : X) → one earlier d ≡ Ok x → Denotation d x
+      × (list_any (λ y. test y x) earlier ≡ false)) → (ms : Members) (xs : List X)
+      → (locate_fault name 0 (rows_at word most ms) >>= each_row name one []) ≡ Ok xs
+      → DenotesSection word most Denotation key ms xs
+  section-denotes takes ms xs e =
+      let a = bind_ok (locate_fault name 0 (rows_at word most ms)) (each_row name one []) xs e in
+      let rows = AreRows-from_rows_at word most ms a.0 (locate_fault_ok name 0 (rows_at word most ms) a.0 a.1) in
+      let (ys, is, denoted, distinct) =
+      each_row-denotes name one Denotation key test same takes [] a.0 xs (AreDistinctBy-none key test same) a.2 in
+      record {
+        rows = a.0;
+        list = rows.0;
+        few = rows.1;
+        each_row = subst (λ (zs : List X). EachDenotes Denotation a.0 zs) (sym is) denoted;
+        distinct = distinct;
+      }
+
+  -- and what the rows of a section stand for is read
+  section-from_denotes : ((earlier : List X) (d : Data) (x : X) → Denotation d x
+      → list_any (λ y. test y x) earlier ≡ false → one earlier d ≡ Ok x)
+      → (ms : Members) (xs : List X) → DenotesSection word most Denotation key ms xs
+      → (locate_fault name 0 (rows_at word most ms) >>= each_row name one []) ≡ Ok xs
+  section-from_denotes again ms xs s =
+      rw (rows_at-from_AreRows word most ms s.rows s.list s.few)
+      (each_row-from_denotes name one Denotation key test same again [] s.rows xs s.each_row s.distinct)
+
+-- the routers, in the one direction and the other,
+routers_in-denotes : (ms : Members) (rs : List RouterRow) → routers_in ms ≡ Ok rs
+    → DenotesSection (codes "router") 256 DenotesRouter router_key ms rs
+unfolding routers_in
+routers_in-denotes ms rs e =
+    section-denotes section.Router
+    (codes "router") 256 router_of DenotesRouter router_key same_router same_router-Decides router_of-denotes
+    ms rs e
+
+routers_in-from_denotes : (ms : Members) (rs : List RouterRow)
+    → DenotesSection (codes "router") 256 DenotesRouter router_key ms rs → routers_in ms ≡ Ok rs
+unfolding routers_in
+routers_in-from_denotes ms rs s =
+    section-from_denotes section.Router
+    (codes "router") 256 router_of DenotesRouter router_key same_router same_router-Decides router_of-from_denotes
+    ms rs s
+
+-- the interfaces, beside LANs and routers,
+interfaces_in-denotes : (lans : List (List ℕ)) (routers : List RouterRow) (ms : Members)
+    (is : List InterfaceRow) → interfaces_in lans routers ms ≡ Ok is
+    → DenotesSection (codes "interface") 8192 (DenotesInterface lans routers) interface_key ms is
+unfolding interfaces_in
+interfaces_in-denotes lans routers ms is e =
+    section-denotes section.Interface (codes "interface") 8192 (interface_of lans routers)
+    (DenotesInterface lans routers) interface_key same_interface same_interface-Decides
+    (interface_of-denotes lans routers) ms is e
+
+interfaces_in-from_denotes : (lans : List (List ℕ)) (routers : List RouterRow) (ms : Members)
+    (is : List InterfaceRow)
+    → DenotesSection (codes "interface") 8192 (DenotesInterface lans routers) interface_key ms is
+    → interfaces_in lans routers ms ≡ Ok is
+unfolding interfaces_in
+interfaces_in-from_denotes lans routers ms is s =
+    section-from_denotes section.Interface (codes "interface") 8192 (interface_of lans routers)
+    (DenotesInterface lans routers) interface_key same_interface same_interface-Decides
+    (interface_of-from_denotes lans routers) ms is s
+
+-- and the sources, beside LANs
+sources_in-denotes : (lans : List (List ℕ)) (ms : Members) (ss : List SourceRow)
+    → sources_in lans ms ≡ Ok ss
+    → DenotesSection (codes "source") 4096 (DenotesSource lans) source_key ms ss
+unfolding sources_in
+sources_in-denotes lans ms ss e =
+    section-denotes section.Source (codes "source") 4096 (source_of lans)
+    (DenotesSource lans) source_key same_source same_source-Decides (source_of-denotes lans) ms ss e
+
+sources_in-from_denotes : (lans : List (List ℕ)) (ms : Members) (ss : List SourceRow)
+    → DenotesSection (codes "source") 4096 (DenotesSource lans) source_key ms ss
+    → sources_in lans ms ≡ Ok ss
+unfolding sources_in
+sources_in-from_denotes lans ms ss s =
+    section-from_denotes section.Source (codes "source") 4096 (source_of lans)
+    (DenotesSource lans) source_key same_source same_source-Decides (source_of-from_denotes lans) ms ss s
+
+-- ---- LANs
+
+-- where the LANs are read, their list stands for what is read
+lans_in-denotes : (ms : Members) (lans : List (List ℕ)) → lans_in ms ≡ Ok lans → DenotesLans ms lans
+unfolding lans_in lan_rows
+lans_in-denotes ms lans e =
+    let a = bind_ok (locate_fault section.Lans 0 (lan_rows ms)) (each_row section.Lans lan_name_of []) lans e in
+    let l = bind_ok (list_at (codes "lans") ms)
+    (λ rows. cond (nat_le (length rows) 1024) (Ok rows) (Err TooMany)) a.0
+    (locate_fault_ok section.Lans 0 (lan_rows ms) a.0 a.1) in
+    let t = test_ok (nat_le (length l.0) 1024) TooMany (Ok l.0) a.0 l.2 in
+    let same : l.0 ≡ a.0 = ok_injective l.0 a.0 t.1 in
+    let (items, has, rows) = array-from_list_at (codes "lans") ms l.0 l.1 in
+    let (ys, is, denoted, distinct) =
+    each_row-denotes section.Lans lan_name_of DenotesLan lan_key same_lan same_lan-Decides lan_name_of-denotes [] a.0 lans
+    (AreDistinctBy-none lan_key same_lan same_lan-Decides) a.2 in
+    let all : a.0 ≡ rows_in items = sym same ∙ rows in
+    record {
+      items = items;
+      list = has;
+      few = subst (λ (ds : List Data). length ds ≤ 1024) rows (leb-true (length l.0) 1024 t.0);
+      each_row = subst (λ (ds : List Data). EachDenotes DenotesLan ds lans) all
+          (subst (λ (zs : List (List ℕ)). EachDenotes DenotesLan a.0 zs) (sym is) denoted);
+      distinct = distinct;
+    }
+
+-- and what their list stands for is read
+lans_in-from_denotes : (ms : Members) (lans : List (List ℕ)) → DenotesLans ms lans → lans_in ms ≡ Ok lans
+unfolding lans_in lan_rows
+lans_in-from_denotes ms lans s =
+    rw (
+      list_at-from_array (codes "lans") ms s.items s.list,
+      le-leb (length (rows_in s.items)) 1024 s.few,
+    )
+    (each_row-from_denotes section.Lans lan_name_of DenotesLan lan_key same_lan same_lan-Decides lan_name_of-from_denotes []
+    (rows_in s.items) lans s.each_row s.distinct)
+
+-- ---- flows
+
+-- as many values as rows
+pub length-EachDenotes : {X : Type 0} (Denotation : Data → X → Type 0) (ds : List Data) (xs : List X)
+    → EachDenotes Denotation ds xs → length ds ≡ length xs
+length-EachDenotes Denotation [] [] s = refl
+length-EachDenotes Denotation [] (x ∷ xs) s = absurd s
+length-EachDenotes Denotation (d ∷ ds) [] s = absurd s
+length-EachDenotes Denotation (d ∷ ds) (x ∷ xs) s = omega (arith, length-EachDenotes Denotation ds xs s.1)
+
+-- where the flows are read, their list stands for what is read, one flow at least
+flows_in-denotes : (sources : List SourceRow) (ms : Members) (fs : List Flow)
+    → flows_in sources ms ≡ Ok fs
+    → DenotesSection (codes "flow") 4096 (DenotesFlow sources) flow_key ms fs × (0 < length fs)
+unfolding flows_in flow_rows
+flows_in-denotes sources ms fs e =
+    let a = bind_ok (locate_fault section.Flow 0 (flow_rows ms))
+    (each_row section.Flow (flow_of sources) []) fs e in
+    let l = bind_ok (optional_list_at (codes "flow") ms)
+    (λ rows. cond (eqb (length rows) 0) (Err NoFlow)
+    (cond (nat_le (length rows) 4096) (Ok rows) (Err TooMany))) a.0
+    (locate_fault_ok section.Flow 0 (flow_rows ms) a.0 a.1) in
+    let some = refusal_ok (eqb (length l.0) 0) NoFlow _ a.0 l.2 in
+    let t = test_ok (nat_le (length l.0) 4096) TooMany (Ok l.0) a.0 some.1 in
+    let same : l.0 ≡ a.0 = ok_injective l.0 a.0 t.1 in
+    let (ys, is, denoted, distinct) =
+    each_row-denotes section.Flow (flow_of sources) (DenotesFlow sources) flow_key same_flow same_flow-Decides
+    (flow_of-denotes sources) [] a.0 fs (AreDistinctBy-none flow_key same_flow same_flow-Decides) a.2 in
+    let denoted' : EachDenotes (DenotesFlow sources) a.0 fs =
+    subst (λ (zs : List Flow). EachDenotes (DenotesFlow sources) a.0 zs) (sym is) denoted in
+    let none = eqb-false (length l.0) 0 some.0 in
+    let long : 0 < length l.0 = omega (arith, none) in (
+      record {
+        rows = a.0;
+        list = AreRows-from_optional_list_at (codes "flow") ms a.0 (l.1 ∙ ap Ok same);
+        few = subst (λ (ds : List Data). length ds ≤ 4096) same (leb-true (length l.0) 4096 t.0);
+        each_row = denoted';
+        distinct = distinct;
+      },
+      omega (arith, long, ap length same, length-EachDenotes (DenotesFlow sources) a.0 fs denoted'),
+    )
+
+-- and what their list stands for is read, if it is one flow at least
+flows_in-from_denotes : (sources : List SourceRow) (ms : Members) (fs : List Flow)
+    → DenotesSection (codes "flow") 4096 (DenotesFlow sources) flow_key ms fs → 0 < length fs
+    → flows_in sources ms ≡ Ok fs
+unfolding flows_in flow_rows
+flows_in-from_denotes sources ms fs s some =
+    let long = length-EachDenotes (DenotesFlow sources) s.rows fs s.each_row in
+    rw (
+      optional_list_at-from_AreRows (codes "flow") ms s.rows s.list,
+      ne_eqb (length s.rows) 0 (λ e. omega (arith, e, long)),
+      le-leb (length s.rows) 4096 s.few,
+    )
+    (each_row-from_denotes section.Flow (flow_of sources) (DenotesFlow sources) flow_key same_flow same_flow-Decides
+    (flow_of-from_denotes sources) [] s.rows fs s.each_row s.distinct)
+
+-- ---- the document
+
+-- where the keys and the version pass, the keys are known and the version is 1
+HasNumber-from_check_version : (ms : Members) → check_version ms ≡ Ok tt → (has_only top_keys ms ≡ true)
+    × HasNumber (codes "version") ms 1
+unfolding check_version
+HasNumber-from_check_version ms e =
+    let t = test_ok (has_only top_keys ms) UnknownKey _ tt e in
+    let a = bind_ok (number_at (codes "version") ms)
+    (λ v. cond (int_eq v (pos 1)) (Ok tt) (Err BadVersion)) tt t.1 in
+    let one = test_ok (int_eq a.0 (pos 1)) BadVersion (Ok tt) tt a.2 in
+    let same : a.0 ≡ pos 1 = (signed_Decides a.0 (pos 1)).0 one.0 in
+    (t.0, HasNumber-from_number_at (codes "version") ms (pos 1) (a.1 ∙ ap Ok same))
+
+-- and known keys and the version 1 pass
+check_version-from_HasNumber : (ms : Members) → has_only top_keys ms ≡ true → HasNumber (codes "version") ms 1
+    → check_version ms ≡ Ok tt
+unfolding check_version
+check_version-from_HasNumber ms keys one = rw (keys, number_at-from_HasNumber (codes "version") ms (pos 1) one) refl
+
+-- where a table is read, the document stands for what is read
+pub topology_in-denotes : (ms : Members) (t : TopologyValue) → topology_in ms ≡ Ok t
+    → DenotesDocument ms t
+unfolding topology_in
+topology_in-denotes ms t e =
+    let version = bind_ok (locate_fault section.Top 0 (check_version ms)) _ t e in
+    let lans = bind_ok (lans_in ms) _ t version.2 in
+    let routers = bind_ok (routers_in ms) _ t lans.2 in
+    let interfaces = bind_ok (interfaces_in lans.0 routers.0 ms) _ t routers.2 in
+    let sources = bind_ok (sources_in lans.0 ms) _ t interfaces.2 in
+    let flows = bind_ok (flows_in sources.0 ms) _ t sources.2 in
+    let top = HasNumber-from_check_version ms (locate_fault_ok section.Top 0 (check_version ms) version.0 version.1) in
+    let flow = flows_in-denotes sources.0 ms flows.0 flows.1 in
+    let made : TopologyValue = record {
+      lans = lans.0;
+      routers = routers.0;
+      interfaces = interfaces.0;
+      sources = sources.0;
+      flows = flows.0;
+    } in
+    subst (λ (x : TopologyValue). DenotesDocument ms x) (ok_injective made t flows.2)
+    (record {
+      keys = top.0;
+      version = top.1;
+      lans = lans_in-denotes ms lans.0 lans.1;
+      routers = routers_in-denotes ms routers.0 routers.1;
+      interfaces = interfaces_in-denotes lans.0 routers.0 ms interfaces.0 interfaces.1;
+      sources = sources_in-denotes lans.0 ms sources.0 sources.1;
+      flows = flow.0;
+      some_flow = flow.1;
+    })
+
+-- and what the document stands for is read
+topology_in-from_denotes : (ms : Members) (t : TopologyValue) → DenotesDocument ms t → topology_in ms ≡ Ok t
+unfolding topology_in
+topology_in-from_denotes ms t is =
+    rw (
+      check_version-from_HasNumber ms is.keys is.version,
+      lans_in-from_denotes ms t.lans is.lans,
+      routers_in-from_denotes ms t.routers is.routers,
+      interfaces_in-from_denotes t.lans t.routers ms t.interfaces is.interfaces,
+      sources_in-from_denotes
+          t.lans ms t.sources is.sources,
+      flows_in-from_denotes t.sources ms t.flows is.flows is.some_flow,
+    )
+    refl
+
+-- ---- the text
+
+-- a text that means a topology stands for it
+pub parse_unbounded_topology-denotes : (text : List ℕ) (t : TopologyValue) → parse_unbounded_topology text ≡ Ok t
+    → DenotesTopology text t
+unfolding parse_unbounded_topology table_of parse_toml require_utf8
+parse_unbounded_topology-denotes text t e =
+    let a = bind_ok (locate_fault section.Top 0 (table_of text)) topology_in t e in
+    let document = locate_fault_ok section.Top 0 (table_of text) a.0 a.1 in
+    let small = test_ok (nat_le (length text) 16777216) TooMany _ a.0 document in
+    let utf8 = bind_ok (require_utf8 text) (λ x. ok_or (parse_document x) NotToml) a.0 small.1 in
+    let is = test_ok (is_utf8 text) NotToml (Ok text) utf8.0 utf8.1 in
+    let same : text ≡ utf8.0 = ok_injective text utf8.0 is.1 in
+    record {
+      document = a.0;
+      few = leb-true (length text) 16777216 small.0;
+      utf8 = IsUtf8-from_is_utf8 text is.0;
+      reads = ap parse_document same ∙ ok_or_ok (parse_document utf8.0) NotToml a.0 utf8.2;
+      denotes = topology_in-denotes a.0 t a.2;
+    }
+
+-- a text that stands for a topology means it
+pub parse_unbounded_topology-from_denotes : (text : List ℕ) (t : TopologyValue) → DenotesTopology text t
+    → parse_unbounded_topology text ≡ Ok t
+unfolding parse_unbounded_topology table_of parse_toml require_utf8
+parse_unbounded_topology-from_denotes text t is =
+    rw (
+      le-leb (length text) 16777216 is.few,
+      is_utf8-from_IsUtf8 text is.utf8,
+      is.reads,
+      topology_in-from_denotes is.document t is.denotes,
+    ) refl
+
+and_true : (b : Bool) → (b && true) ≡ b
+and_true true = refl
+and_true false = refl
+
+-- a text within the bounds is read as what it means
+parse_topology-bounded : (text : List ℕ) → is_bounded text ≡ true → parse_topology text ≡ parse_unbounded_topology text
+unfolding parse_topology document_of parse_unbounded_topology table_of
+parse_topology-bounded text bounded = rw (bounded, and_true (nat_le (length text) 16777216)) refl
+
+-- and one beyond them is refused
+parse_topology-unbounded : (text : List ℕ) (t : TopologyValue) → is_bounded text ≡ false
+    → parse_topology text ≡ Ok t → ⊥
+unfolding parse_topology document_of
+parse_topology-unbounded text t beyond e =
+    let a = bind_ok (locate_fault section.Top 0 (document_of text)) topology_in t e in
+    let document = locate_fault_ok section.Top 0 (document_of text) a.0 a.1 in
+    let small = test_ok (nat_le (length text) 16777216 && is_bounded text) TooMany (parse_toml text)
+    a.0 document in
+    let (few, bounded) = and_parts (nat_le (length text) 16777216) (is_bounded text) small.0 in
+    false≢true (sym beyond ∙ bounded)
+
+parse_topology-denotes_by_cases : (b : Bool) (text : List ℕ) (t : TopologyValue) → is_bounded text ≡ b
+    → parse_topology text ≡ Ok t → DenotesBoundedTopology text t
+parse_topology-denotes_by_cases true text t is e = record {
+  denotes = parse_unbounded_topology-denotes text t (sym (parse_topology-bounded text is) ∙ e);
+  bounded = is;
+}
+parse_topology-denotes_by_cases false text t is e = absurd (parse_topology-unbounded text t is e)
+
+-- a text that is read is within the bounds, and stands for what is read
+pub parse_topology-denotes : (text : List ℕ) (t : TopologyValue) → parse_topology text ≡ Ok t
+    → DenotesBoundedTopology text t
+parse_topology-denotes text t e = parse_topology-denotes_by_cases (is_bounded text) text t refl e
+
+-- a text within the bounds that stands for a topology is read as that
+pub parse_topology-from_denotes : (text : List ℕ) (t : TopologyValue) → DenotesBoundedTopology text t
+    → parse_topology text ≡ Ok t
+parse_topology-from_denotes text t is = parse_topology-bounded text is.bounded ∙ parse_unbounded_topology-from_denotes text t is.denotes

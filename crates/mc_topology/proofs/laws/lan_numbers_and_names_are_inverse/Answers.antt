@@ -1,0 +1,8 @@
+use Rattle.mc_topology.proofs.NameLemmas.{index_of-lan_name, lan_name-index_of}
+use Rattle.mc_topology.proofs.laws.lan_numbers_and_names_are_inverse.Goals as goal
+
+pub returns-clause-number_of_name : goal.returns-clause-number_of_name
+returns-clause-number_of_name c = λ t lan name is e. index_of-lan_name t.lans lan name is.lan_names e
+
+pub returns-clause-name_of_number : goal.returns-clause-name_of_number
+returns-clause-name_of_number c = λ t lan name e. lan_name-index_of t.lans lan name e

@@ -1,0 +1,156 @@
+-- What a text stands for: the rules of a topology, over the table that TOML's reader gives.
+use Rattle.std.specs.Prelude.{◌≡◌, ℕ, pos, ◌<◌, ◌≤◌, List, [], ◌∷◌, length, codes, IsTrue, IsUtf8}
+use Rattle.std.specs.Prelude.{Option, Some, None}
+use Rattle.toml.specs.Data.{Data, string, integer, array, table, Items, Members, get_member}
+use Rattle.toml.specs.Parse.{parse_document}
+use Rattle.mc_text.specs.Addr.{IsAddr, IsSource, IsForwardedGroup, dotted}
+use Rattle.mc_text.specs.declared.text.addr.Order.{Order}
+use Rattle.mc_text.specs.declared.text.addr.Order.TheVariants.{Little, Big}
+use Rattle.mc_topology.specs.declared.flow.Flow.{Flow}
+use Rattle.mc_topology.specs.SectionRows.{RouterRow, InterfaceRow, SourceRow}
+use Rattle.mc_topology.specs.Bounds.{is_bounded}
+use Rattle.mc_topology.specs.Document.{has_only, rows_in}
+use Rattle.mc_topology.specs.Names.{is_name, is_device, index_of}
+use Rattle.mc_topology.specs.Routers.{router_keys}
+use Rattle.mc_topology.specs.Lookup.{router_no_of}
+use Rattle.mc_topology.specs.Interfaces.{interface_keys}
+use Rattle.mc_topology.specs.Sources.{source_keys, lan_of_source}
+use Rattle.mc_topology.specs.Flows.{flow_keys}
+use Rattle.mc_topology.specs.Reading.{top_keys}
+use Rattle.mc_topology.specs.Topology.{TopologyValue, AreDistinctBy, lan_key, router_key}
+use Rattle.mc_topology.specs.Topology.{interface_key, source_key, flow_key}
+
+-- ---- tables
+
+-- under the key stands this text
+abbrev pub HasText : List ℕ → Members → List ℕ → Type 0
+HasText key ms text = get_member key ms ≡ Some (string text)
+
+-- under the key stands this whole number
+abbrev pub HasNumber : List ℕ → Members → ℕ → Type 0
+HasNumber key ms n = get_member key ms ≡ Some (integer (pos n))
+
+-- under the key stands a list of these values, or nothing, which is the empty list
+abbrev pub AreRows : Option Data → List Data → Type 0
+AreRows None rows = rows ≡ []
+AreRows (Some d) rows = (items : Items) × (d ≡ array items) × (rows ≡ rows_in items)
+
+-- a table with no other keys than these
+pub record IsTable (known : List (List ℕ)) (d : Data) (ms : Members) : Type 0 where
+  pub members : d ≡ table ms
+  pub keys : IsTrue (has_only known ms)
+
+-- each row stands for its value
+abbrev pub EachDenotes : {X : Type 0} → (Data → X → Type 0) → List Data → List X → Type 0
+EachDenotes Denotation [] [] = Unit {0}
+EachDenotes Denotation [] (x ∷ xs) = ⊥
+EachDenotes Denotation (d ∷ ds) [] = ⊥
+EachDenotes Denotation (d ∷ ds) (x ∷ xs) = Denotation d x × EachDenotes Denotation ds xs
+
+-- ---- the rows
+
+-- a text that can be a name
+pub record DenotesLan (d : Data) (name : List ℕ) : Type 0 where
+  pub text : d ≡ string name
+  pub fits : IsTrue (is_name name)
+
+-- the text of a byte order, which is `little` where there is none
+abbrev pub order_text : Order → List ℕ
+order_text Little = codes "little"
+order_text Big = codes "big"
+
+abbrev pub DenotesOrder : Option Data → Order → Type 0
+DenotesOrder None order = order ≡ Little
+DenotesOrder (Some d) order = d ≡ string (order_text order)
+
+-- a table of a name and a byte order
+pub record DenotesRouter (d : Data) (r : RouterRow) : Type 0 where
+  pub members : Members
+  pub is_table : IsTable router_keys d members
+  pub name : HasText (codes "name") members r.name
+  pub order : DenotesOrder (get_member (codes "order") members) r.order
+  pub fits : IsTrue (is_name r.name)
+
+-- a table of the name of a router, a device and the name of a LAN
+pub record DenotesInterface (lans : List (List ℕ)) (routers : List RouterRow) (d : Data)
+    (i : InterfaceRow) : Type 0 where
+  pub members : Members
+  pub router_name : List ℕ
+  pub lan_name : List ℕ
+  pub is_table : IsTable interface_keys d members
+  pub router_text : HasText (codes "router") members router_name
+  pub device : HasText (codes "device") members i.device
+  pub lan_text : HasText (codes "lan") members lan_name
+  pub router : router_no_of router_name routers ≡ Some i.router
+  pub fits : IsTrue (is_device i.device)
+  pub lan : index_of lan_name lans ≡ Some i.lan
+
+-- a table of the address of a host that may send, and the name of a LAN
+pub record DenotesSource (lans : List (List ℕ)) (d : Data) (s : SourceRow) : Type 0 where
+  pub members : Members
+  pub lan_name : List ℕ
+  pub is_table : IsTable source_keys d members
+  pub address : HasText (codes "address") members (dotted s.address)
+  pub lan_text : HasText (codes "lan") members lan_name
+  pub is_address : IsAddr s.address
+  pub may_send : IsSource s.address
+  pub lan : index_of lan_name lans ≡ Some s.lan
+
+-- a table of the address of one of the sources, the address of a group that routers forward and a
+-- time to live of 1 to 255
+pub record DenotesFlow (sources : List SourceRow) (d : Data) (f : Flow) : Type 0 where
+  pub members : Members
+  pub is_table : IsTable flow_keys d members
+  pub source : HasText (codes "source") members (dotted f.source)
+  pub group : HasText (codes "group") members (dotted f.group)
+  pub ttl : HasNumber (codes "ttl") members f.ttl
+  pub is_address : IsAddr f.source
+  pub may_send : IsSource f.source
+  pub lan : lan_of_source f.source sources ≡ Some f.lan
+  pub is_group : IsForwardedGroup f.group
+  pub ttl_from : 1 ≤ f.ttl
+  pub ttl_to : f.ttl ≤ 255
+
+-- ---- the whole
+
+-- a list of at most 1,024 names, no two of them one, which has to be there
+pub record DenotesLans (ms : Members) (lans : List (List ℕ)) : Type 0 where
+  pub items : Items
+  pub list : get_member (codes "lans") ms ≡ Some (array items)
+  pub few : length (rows_in items) ≤ 1024
+  pub each_row : EachDenotes DenotesLan (rows_in items) lans
+  pub distinct : AreDistinctBy lan_key lans
+
+-- a list of at most so many rows, no two of one key, which may be missing
+pub record DenotesSection {X K : Type 0} (name : List ℕ) (most : ℕ) (Denotation : Data → X → Type 0)
+    (key : X → K) (ms : Members) (xs : List X) : Type 0 where
+  pub rows : List Data
+  pub list : AreRows (get_member name ms) rows
+  pub few : length rows ≤ most
+  pub each_row : EachDenotes Denotation rows xs
+  pub distinct : AreDistinctBy key xs
+
+-- a table of version 1
+pub record DenotesDocument (ms : Members) (t : TopologyValue) : Type 0 where
+  pub keys : IsTrue (has_only top_keys ms)
+  pub version : HasNumber (codes "version") ms 1
+  pub lans : DenotesLans ms t.lans
+  pub routers : DenotesSection (codes "router") 256 DenotesRouter router_key ms t.routers
+  pub interfaces : DenotesSection (codes "interface") 8192 (DenotesInterface t.lans t.routers)
+      interface_key ms t.interfaces
+  pub sources : DenotesSection (codes "source") 4096 (DenotesSource t.lans) source_key ms t.sources
+  pub flows : DenotesSection (codes "flow") 4096 (DenotesFlow t.sources) flow_key ms t.flows
+  pub some_flow : 0 < length t.flows
+
+-- a text of at most 16,777,216 bytes that TOML's reader takes
+pub record DenotesTopology (text : List ℕ) (t : TopologyValue) : Type 0 where
+  pub document : Members
+  pub few : length text ≤ 16777216
+  pub utf8 : IsUtf8 text
+  pub reads : parse_document text ≡ Some document
+  pub denotes : DenotesDocument document t
+
+-- The same of a text that is within the bounds, so that it is read as TOML.
+pub record DenotesBoundedTopology (text : List ℕ) (t : TopologyValue) : Type 0 where
+  pub denotes : DenotesTopology text t
+  pub bounded : IsTrue (is_bounded text)

@@ -71,10 +71,10 @@ class Sources:
         for path in files_below("crates"):
             if path.endswith(".rt"):
                 self.read_clauses(path)
-        for path in files_below("crates/mc_words/src", "tools", "tests", "bench"):
+        for path in files_below("crates/mc_cli/src", "tools", "tests", "bench"):
             if os.path.getsize(path) < 1_000_000:
                 self.options |= set(re.findall(r"--[a-z][a-z-]+", read(path)))
-        command = read(os.path.join(TOP, "crates/mc_words/src/command.rt"))
+        command = read(os.path.join(TOP, "crates/mc_cli/src/command.rt"))
         self.commands = {"help"} | set(re.findall(r'bare_command\(\s*alloc,\s*"(\w+)"', command))
         self.options |= {f"--{name}" for name in re.findall(r'(?:flag|option)\(alloc, "(\w+)"', command)}
         self.targets = set(re.findall(r"^([a-z-]+):", read(os.path.join(TOP, "Makefile")), re.M))

@@ -32,7 +32,7 @@ import threading
 import time
 
 MARK = "MCAUDIT_GATE"
-TESTS = [f"crates/{name}/out/{name}_tests" for name in ("mc_tests_below", "mc_tests_above")]  # as `rt ci` builds them
+TESTS = [f"crates/{name}/out/{name}_tests" for name in ("mc_tests_readers", "mc_tests_domain")]  # as `rt ci` builds them
 TICK = os.sysconf("SC_CLK_TCK")
 COUNTS = re.compile(r"(\d+) passed, (\d+) failed")
 PROVED = re.compile(r"rt: (\w+) (?:proved|is kept: .*)\n")  # as `rt ci` says it of a crate

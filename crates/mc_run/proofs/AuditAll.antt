@@ -2,15 +2,15 @@
 use Rattle.std.proofs.Common.{◌≡◌, ℕ, Bool, List, ◌++◌, length, Option, Some, None, Result, Ok, Err}
 use Rattle.std.proofs.Common.{refl, sym, ap, subst, ◌∙◌, append_assoc}
 use Rattle.std.specs.Prelude.{◌==◌, ◌&&◌, IfOk, IfSome, flat_map}
-use Rattle.mc_layout.specs.Files.{FileText}
+use Rattle.mc_files.specs.Files.{FileText}
 use Rattle.mc_tables.specs.Summary.{SummaryValue}
 use Rattle.mc_topology.specs.Topology.{TopologyValue}
 use Rattle.mc_forward.specs.Domains.{DomainValue}
 use Rattle.mc_forward.specs.ListedTables.{HaveSameFacts, facts}
 use Rattle.mc_cert.specs.Certificate.{Tree}
-use Rattle.mc_domain.specs.ExcludedRouters.{AreRouterNames, files_with_exclusions}
-use Rattle.mc_domain.specs.Meaning.{FilesMeanDomainAsListed, MeansDomainWhere}
-use Rattle.mc_domain.specs.SummariesOfFiles.{AreSummariesOf}
+use Rattle.mc_input.specs.ExcludedRouters.{AreRouterNames, files_with_exclusions}
+use Rattle.mc_input.specs.Meaning.{FilesMeanDomainAsListed, MeansDomainWhere}
+use Rattle.mc_input.specs.SummariesOfFiles.{AreSummariesOf}
 use Rattle.mc_run.specs.AuditEnd.{are_right, begin_lines, count as count_of, end_text_or_objects, is_right}
 use Rattle.mc_run.specs.AuditEnd.{is_unwanted, is_wrong, verdict_line}
 use Rattle.mc_run.specs.AuditPieces.{AreFlowsPushed, output_of, yes_of}

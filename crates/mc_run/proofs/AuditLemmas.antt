@@ -9,7 +9,7 @@ use Rattle.std.specs.declared.alloc.Global.{Global}
 use Rattle.std.specs.String.{string_bytes}
 use Rattle.std.proofs.lemmas.Bool.{false≢true, ne_eqb}
 use Rattle.std.proofs.lemmas.List.{length-map}
-use Rattle.mc_layout.specs.Files.{FileText}
+use Rattle.mc_files.specs.Files.{FileText}
 use Rattle.mc_topology.specs.declared.flow.Flow.{Flow}
 use Rattle.mc_theory.specs.Certificates.{IsRight}
 use Rattle.mc_theory.specs.Headline.{HeadlineHolds}
@@ -39,8 +39,8 @@ use Rattle.mc_tables.specs.Summary.{SummaryValue}
 use Rattle.mc_maker.specs.ExaminedFlights.{HasExaminedFlights}
 use Rattle.mc_maker.specs.declared.examined_flights.ExaminedFlights.{ExaminedFlights}
 use Rattle.mc_replay.specs.declared.travel.Travel.{Travel}
-use Rattle.mc_domain.specs.ExcludedRouters.{files_with_exclusions}
-use Rattle.mc_domain.specs.Meaning.{FilesMeanDomain}
+use Rattle.mc_input.specs.ExcludedRouters.{files_with_exclusions}
+use Rattle.mc_input.specs.Meaning.{FilesMeanDomain}
 use Rattle.mc_run.specs.MakeRun.{AreExamined, AreRight, IsExamined, are_certified, found_line}
 use Rattle.mc_run.specs.MakeRun.{certified_lists, no_certificate_line}
 use Rattle.mc_run.specs.declared.audit_options.AuditOptions.{AuditOptions}

@@ -2,8 +2,8 @@
 use Rattle.std.proofs.Common.{◌≡◌, ℕ, Bool, false, List, Option, Result, Ok, Err}
 use Rattle.std.specs.Prelude.{IfErr, IfOk, IfSome}
 use Rattle.std.specs.String.{string_bytes}
-use Rattle.mc_layout.specs.Files.{FileText}
-use Rattle.mc_domain.specs.Meaning.{MeansDomainWhere}
+use Rattle.mc_files.specs.Files.{FileText}
+use Rattle.mc_input.specs.Meaning.{MeansDomainWhere}
 use Rattle.mc_run.specs.AuditPieces.{output_of, yes_of}
 use Rattle.mc_run.specs.AuditRun.{AreFoundInWhole, AuditSaysYes, HasUnwanted, FilesKeepHeadline, IsAuditText}
 use Rattle.mc_run.specs.AuditRun.{MeansAudited, SaysOfEach, SaysWhichAreRight}

@@ -20,9 +20,9 @@ use Rattle.mc_topology.specs.Topology.{TopologyValue}
 use Rattle.mc_forward.specs.Domains.{DomainValue, IsDomain, net_of}
 use Rattle.mc_forward.proofs.DomainLemmas.{is_net-net_of, wants-below_lan_count}
 use Rattle.mc_forward.proofs.IndexLemmas.{slice_get-exists}
-use Rattle.mc_domain.specs.Input.{with_certificate}
-use Rattle.mc_domain.proofs.UniqueDomain.{MeansDomain-unique}
-use Rattle.mc_domain.proofs.WithCertificate.{MeansDomain-with_certificate}
+use Rattle.mc_input.specs.Input.{with_certificate}
+use Rattle.mc_input.proofs.UniqueDomain.{MeansDomain-unique}
+use Rattle.mc_input.proofs.WithCertificate.{MeansDomain-with_certificate}
 use Rattle.mc_cert.specs.Certificate.{Tree, HasByteNumbers}
 use Rattle.mc_cert.specs.CertificateText.{certificate_text}
 use Rattle.mc_cert.specs.Reading.{parse_certificate}

@@ -20,7 +20,7 @@ use Rattle.mc_check.specs.Verdicts.{is_yes, HoldsForEachFlow, YesIffAccepted, Ye
 use Rattle.mc_check.specs.Verdicts.{YesKeepsHeadline}
 use Rattle.mc_check.specs.declared.verdict.Verdict.{Verdict}
 use Rattle.mc_check.specs.declared.verdict.Verdict.TheVariants.{Yes, No}
-use Rattle.mc_domain.specs.Meaning.{MeansDomain, MeansDomainAsListed}
+use Rattle.mc_input.specs.Meaning.{MeansDomain, MeansDomainAsListed}
 use Rattle.mc_run.specs.InputMeaning.{HasBadCertificate, IsRefusedFor, MeansListedWith}
 use Rattle.mc_run.specs.CheckRun.{IsTextOfVerdicts, KeepsHeadline}
 use Rattle.mc_run.specs.RunFault.{from_cert_fault, of_certificate_kind}

@@ -10,12 +10,12 @@ use Rattle.mc_cert.specs.declared.fault.CertFault.{CertFault}
 use Rattle.mc_cert.specs.declared.fault.CertFaultKind.{CertFaultKind}
 use Rattle.mc_cert.specs.declared.fault.CertFaultKind.TheVariants as certificate
 use Rattle.mc_forward.specs.Domains.{DomainValue}
-use Rattle.mc_domain.specs.ExcludedRouters.{is_possible_for_files_without}
-use Rattle.mc_domain.specs.declared.fault.InputFault.TheVariants as input
-use Rattle.mc_domain.specs.declared.source_fault.SourceFault.{SourceFault}
-use Rattle.mc_domain.specs.declared.source_fault.SourceFault.TheVariants as source
-use Rattle.mc_domain.specs.declared.without_fault.WithoutFault.{WithoutFault}
-use Rattle.mc_domain.specs.declared.without_fault.WithoutFault.TheVariants as without
+use Rattle.mc_input.specs.ExcludedRouters.{is_possible_for_files_without}
+use Rattle.mc_input.specs.declared.fault.InputFault.TheVariants as input
+use Rattle.mc_input.specs.declared.source_fault.SourceFault.{SourceFault}
+use Rattle.mc_input.specs.declared.source_fault.SourceFault.TheVariants as source
+use Rattle.mc_input.specs.declared.without_fault.WithoutFault.{WithoutFault}
+use Rattle.mc_input.specs.declared.without_fault.WithoutFault.TheVariants as without
 use Rattle.mc_run.specs.AuditPieces.{output_of, yes_of}
 use Rattle.mc_run.specs.Faults.{IsFaultOfAudit, IsFaultOfCheck, IsFaultOfMake, IsFaultOfReplay}
 use Rattle.mc_run.specs.Faults.{IsFaultOfWants}

@@ -5,7 +5,7 @@ use Rattle.std.proofs.Common.{sym, arith}
 use Rattle.std.proofs.Math.Seq.{take-append-add}
 use Rattle.std.specs.Io.KnownBytes.{Consumes, IsAtEnd}
 use Rattle.std.proofs.lemmas.List.{append-nil, take-append-le, take_all}
-use Rattle.mc_layout.specs.Files.{FileText, file_named}
+use Rattle.mc_files.specs.Files.{FileText, file_named}
 use Rattle.mc_run.specs.LineFront.{TakesPiece, front_after_more, line_after_feeds, line_front, first_100_bytes}
 use Rattle.mc_run.specs.RefusalText.{IsFrontInFile}
 use Rattle.mc_run.specs.declared.line_front.LineFront.{LineFront}

@@ -3,7 +3,7 @@ use Rattle.std.proofs.Common.{◌≡◌, ℕ, suc, ◌+◌, Bool, true, false, c
 use Rattle.std.proofs.Common.{length, Option, Some, None, refl, sym, ap, ap₂, subst, ◌∙◌, arith}
 use Rattle.std.proofs.Common.{filter, fold, take, ◌&&◌, not, slice_get}
 use Rattle.std.specs.Prelude.{◌==◌, flat_map, ⊤}
-use Rattle.mc_layout.specs.Files.{FileText}
+use Rattle.mc_files.specs.Files.{FileText}
 use Rattle.mc_tables.specs.Summary.{SummaryValue}
 use Rattle.mc_topology.specs.declared.flow.Flow.{Flow}
 use Rattle.mc_topology.specs.Topology.{TopologyValue}
@@ -11,9 +11,9 @@ use Rattle.mc_cert.specs.Certificate.{Tree}
 use Rattle.mc_theory.specs.Events.{Event}
 use Rattle.mc_forward.specs.Domains.{DomainValue, IsDomain, ttl_of}
 use Rattle.mc_forward.specs.ListedTables.{DomainFacts, facts}
-use Rattle.mc_domain.specs.ExcludedRouters.{files_with_exclusions}
-use Rattle.mc_domain.specs.SummariesOfFiles.{AreSummariesOf}
-use Rattle.mc_domain.proofs.UniqueDomain.{FilesMeanDomain-unique}
+use Rattle.mc_input.specs.ExcludedRouters.{files_with_exclusions}
+use Rattle.mc_input.specs.SummariesOfFiles.{AreSummariesOf}
+use Rattle.mc_input.proofs.UniqueDomain.{FilesMeanDomain-unique}
 use Rattle.mc_replay.specs.declared.finding.Finding.{Finding}
 use Rattle.mc_replay.specs.declared.travel.FinishedTravel.{FinishedTravel}
 use Rattle.mc_maker.specs.Examined.{is_certified}

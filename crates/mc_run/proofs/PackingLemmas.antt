@@ -1,11 +1,11 @@
 -- What packing shows, told with the run's faults.
 use Rattle.std.proofs.Common.{◌≡◌, ℕ, Bool, List, Option, Some, None, Result, Ok, Err, refl, ap, ◌∙◌}
 use Rattle.std.specs.Prelude.{◌≢◌, IfErr, IfSome, IsErrAnd}
-use Rattle.mc_layout.specs.Files.{FileText}
-use Rattle.mc_layout.specs.PackRun.{IsPackAnswer, IsIoOrMemory}
-use Rattle.mc_layout.specs.PackRun.{is_read as is_file_read, is_write as is_bundle_write}
-use Rattle.mc_layout.specs.declared.fault.PackFault.{PackFault}
-use Rattle.mc_layout.specs.declared.fault.PackFault.TheVariants as packing
+use Rattle.mc_files.specs.Files.{FileText}
+use Rattle.mc_files.specs.PackRun.{IsPackAnswer, IsIoOrMemory}
+use Rattle.mc_files.specs.PackRun.{is_read as is_file_read, is_write as is_bundle_write}
+use Rattle.mc_files.specs.declared.fault.PackFault.{PackFault}
+use Rattle.mc_files.specs.declared.fault.PackFault.TheVariants as packing
 use Rattle.mc_run.specs.declared.fault.RunFault.{RunFault}
 use Rattle.mc_run.specs.declared.fault.RunFault.TheVariants.{Write}
 use Rattle.mc_text.specs.Device.{failures_after}

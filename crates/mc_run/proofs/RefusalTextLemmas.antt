@@ -3,13 +3,13 @@ use Rattle.std.proofs.Common.{◌≡◌, ℕ, ◌+◌, ◌<◌, List, [], ◌∷
 use Rattle.std.proofs.Common.{◌-◌, Some, Result, IfSome, OnOk, append_assoc, get_or, length, map, min, take}
 use Rattle.std.proofs.lemmas.List.{append-nil, take_min, take_more}
 use Rattle.mc_text.proofs.StepLemmas.{on_ok_map}
-use Rattle.mc_layout.specs.Files.{FileText}
-use Rattle.mc_layout.specs.UnreadText.{unread_text}
-use Rattle.mc_layout.specs.declared.unread.Unread.{Unread}
-use Rattle.mc_domain.specs.RefusedFiles.{AreUnreadFilesMissing, AreRefusedFiles, saturating_failures, refused_files_of, as_judged_file, unread_count}
-use Rattle.mc_domain.specs.declared.each_file.Refusal.{Refusal}
-use Rattle.mc_domain.specs.declared.each_file.Refusal.TheVariants as refusal
-use Rattle.mc_domain.specs.declared.each_file.RefusedFile.{RefusedFile}
+use Rattle.mc_files.specs.Files.{FileText}
+use Rattle.mc_files.specs.UnreadText.{unread_text}
+use Rattle.mc_files.specs.declared.unread.Unread.{Unread}
+use Rattle.mc_input.specs.RefusedFiles.{AreUnreadFilesMissing, AreRefusedFiles, saturating_failures, refused_files_of, as_judged_file, unread_count}
+use Rattle.mc_input.specs.declared.each_file.Refusal.{Refusal}
+use Rattle.mc_input.specs.declared.each_file.Refusal.TheVariants as refusal
+use Rattle.mc_input.specs.declared.each_file.RefusedFile.{RefusedFile}
 use Rattle.mc_run.specs.RefusalText.{AppendsWithFailures, AreFirst50Lines, AreRefusedFileLines, IsRefusalReason, IsRefusedFileLine, IsRefusalText, more_line}
 
 -- no call failed

@@ -10,7 +10,7 @@ use Rattle.mc_replay.specs.Travels.{IsRunOfChoices, replay_of}
 use Rattle.mc_replay.specs.declared.travel.Travel.{Travel}
 use Rattle.mc_run.specs.declared.run_output.RunOutput.{RunOutput}
 use Rattle.mc_run.specs.declared.fault.RunFault.{RunFault}
-use Rattle.mc_domain.specs.Meaning.{MeansDomainAsListed}
+use Rattle.mc_input.specs.Meaning.{MeansDomainAsListed}
 use Rattle.mc_run.specs.Failures.{IsNoDeviceFault}
 use Rattle.mc_run.specs.ReplayRun.{HasNoTravel, IsReplayRefused, IsTextOfTravel, is_clean}
 use Rattle.mc_run.specs.ReplayRun.{replay_text}

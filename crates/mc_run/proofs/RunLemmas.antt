@@ -10,21 +10,21 @@ use Rattle.std.proofs.lemmas.Bool.{false≢true}
 use Rattle.std.proofs.lemmas.List.{take_all, length-append, take-append-drop}
 use Rattle.mc_forward.specs.Domains.{DomainValue}
 use Rattle.mc_cert.specs.Certificate.{Tree}
-use Rattle.mc_domain.specs.InputReading.{input_of_bundle}
-use Rattle.mc_domain.specs.declared.fault.InputFault.{InputFault}
-use Rattle.mc_domain.specs.declared.fault.InputFault.TheVariants as input
+use Rattle.mc_input.specs.InputReading.{input_of_bundle}
+use Rattle.mc_input.specs.declared.fault.InputFault.{InputFault}
+use Rattle.mc_input.specs.declared.fault.InputFault.TheVariants as input
 use Rattle.mc_run.specs.RunFault.{from_source_fault}
 use Rattle.mc_run.specs.declared.fault.RunFault.{RunFault}
 use Rattle.mc_run.specs.declared.fault.RunFault.TheVariants.{Write}
 use Rattle.mc_run.specs.declared.run_output.RunOutput.{RunOutput}
 use Rattle.mc_forward.specs.ListedTables.{HaveSameFacts}
 use Rattle.mc_text.specs.Steps.{map_fault}
-use Rattle.mc_domain.specs.Input.{InputValue}
-use Rattle.mc_domain.specs.InputView.{certificate_text}
-use Rattle.mc_domain.specs.Meaning.{MeansDomainAsListed, MeansSamePerFlow, MeansDomainWhere}
-use Rattle.mc_domain.specs.SourceFault.{IsReadOrMemory}
-use Rattle.mc_domain.specs.declared.source_fault.SourceFault.{SourceFault}
-use Rattle.mc_domain.specs.declared.source_fault.SourceFault.TheVariants as source
+use Rattle.mc_input.specs.Input.{InputValue}
+use Rattle.mc_input.specs.InputView.{certificate_text}
+use Rattle.mc_input.specs.Meaning.{MeansDomainAsListed, MeansSamePerFlow, MeansDomainWhere}
+use Rattle.mc_input.specs.SourceFault.{IsReadOrMemory}
+use Rattle.mc_input.specs.declared.source_fault.SourceFault.{SourceFault}
+use Rattle.mc_input.specs.declared.source_fault.SourceFault.TheVariants as source
 use Rattle.mc_run.specs.InputMeaning.{IsRefusedFor, MeansListedWith, MeansWithLists}
 use Rattle.mc_run.specs.AuditRun.{AuditSaysYes, yes_object}
 use Rattle.mc_run.specs.CheckRun.{IsLineStart, SaysYes, WroteAtStart}

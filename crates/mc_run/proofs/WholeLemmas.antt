@@ -4,7 +4,7 @@ use Rattle.std.proofs.Common.{Option, Result, ◌∙◌, subst, sym}
 use Rattle.std.specs.Prelude.{◌⊎◌, map}
 use Rattle.std.proofs.lemmas.List.{length-map}
 use Rattle.std.proofs.lemmas.Option.{slice_get_within}
-use Rattle.mc_layout.specs.Files.{FileText}
+use Rattle.mc_files.specs.Files.{FileText}
 use Rattle.mc_topology.specs.declared.flow.Flow.{Flow}
 use Rattle.mc_theory.specs.ExcludedRouters.{IsSecondCopyOrStray}
 use Rattle.mc_theory.specs.Certificates.{IsRight}
@@ -22,9 +22,9 @@ use Rattle.mc_maker.specs.declared.examination.Examined.TheVariants as examined
 use Rattle.mc_maker.specs.declared.examined_flights.ExaminedFlights.{ExaminedFlights}
 use Rattle.mc_maker.specs.declared.examined_flights.ExaminedFlights.TheVariants.{Certified, FoundAtTtl255, FoundAtFlowTtl}
 use Rattle.mc_explain.specs.WantedText.{lans_wanting}
-use Rattle.mc_domain.specs.ExcludedRouters.{is_excluded}
-use Rattle.mc_domain.specs.Meaning.{FilesMeanDomain}
-use Rattle.mc_domain.proofs.ExcludedPerFlowLemmas.{ExcludesRouters-from_files}
+use Rattle.mc_input.specs.ExcludedRouters.{is_excluded}
+use Rattle.mc_input.specs.Meaning.{FilesMeanDomain}
+use Rattle.mc_input.proofs.ExcludedPerFlowLemmas.{ExcludesRouters-from_files}
 use Rattle.mc_run.specs.AuditEnd.{FlowAnswer, begin_lines, end_lines}
 use Rattle.mc_run.specs.AuditRun.{AreFoundInWhole, WritesOfEachInWhole, IsFlowAnswer, IsAudited, IsAuditText}
 use Rattle.mc_run.specs.AuditRun.{IsChecked, IsFoundInWhole, MeansAudited, AuditedValue}

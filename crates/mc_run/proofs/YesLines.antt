@@ -6,7 +6,7 @@ use Rattle.std.proofs.lemmas.Bool.{and_parts, false≢true, ne_eqb}
 use Rattle.json.specs.Print.{escape_byte}
 use Rattle.mc_text.proofs.BundleWords.{HasNoByte}
 use Rattle.mc_explain.proofs.LineFeedLemmas.{no_feed-from_list_all}
-use Rattle.mc_layout.specs.Files.{FileText}
+use Rattle.mc_files.specs.Files.{FileText}
 use Rattle.mc_forward.specs.ListedTables.{facts}
 use Rattle.mc_run.specs.AuditEnd.{begin_lines, end_lines, verdict_line}
 use Rattle.mc_run.specs.AuditRun.{IsAuditText, is_yes, excluded, yes_object}

@@ -1,7 +1,7 @@
 -- What `mcaudit audit` answers and writes, and what its yes is worth.
 use Rattle.std.specs.Prelude.{◌≡◌, ◌≤◌, ◌==◌, ◌&&◌, ◌⊎◌, ℕ, Bool, true, false, List, [], ◌++◌, codes}
 use Rattle.std.specs.Prelude.{flat_map, fold, length, slice_get, take, Option, Some, Result, Ok}
-use Rattle.mc_layout.specs.Files.{FileText}
+use Rattle.mc_files.specs.Files.{FileText}
 use Rattle.mc_tables.specs.Summary.{SummaryValue}
 use Rattle.mc_topology.specs.declared.flow.Flow.{Flow}
 use Rattle.mc_theory.specs.Certificates.{IsAccepted, IsRight}
@@ -17,9 +17,9 @@ use Rattle.mc_maker.specs.ExaminedFlights.{HasExaminedFlights, without_flights}
 use Rattle.mc_maker.specs.declared.examination.Examined.{Examined}
 use Rattle.mc_maker.specs.declared.examined_flights.ExaminedFlights.{ExaminedFlights}
 use Rattle.mc_explain.specs.WantedText.{lans_wanting}
-use Rattle.mc_domain.specs.Meaning.{FilesMeanDomain, MeansDomainWhere}
-use Rattle.mc_domain.specs.ExcludedRouters.{AreRouterNames, files_with_exclusions}
-use Rattle.mc_domain.specs.SummariesOfFiles.{AreSummariesOf}
+use Rattle.mc_input.specs.Meaning.{FilesMeanDomain, MeansDomainWhere}
+use Rattle.mc_input.specs.ExcludedRouters.{AreRouterNames, files_with_exclusions}
+use Rattle.mc_input.specs.SummariesOfFiles.{AreSummariesOf}
 use Rattle.mc_json.specs.FlowData.{Wrong, wrong_data}
 use Rattle.mc_json.specs.RowData.{line_of}
 use Rattle.mc_run.specs.AuditEnd.{FlowAnswer, are_right, begin_lines, count, end_lines, is_unwanted}

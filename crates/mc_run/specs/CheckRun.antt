@@ -6,7 +6,7 @@ use Rattle.mc_forward.specs.Domains.{DomainValue, net_of}
 use Rattle.mc_cert.specs.Certificate.{Tree, tree_at}
 use Rattle.mc_check.specs.declared.verdict.Verdict.{Verdict}
 use Rattle.mc_run.specs.declared.fault.RunFault.{RunFault}
-use Rattle.mc_domain.specs.Meaning.{MeansDomainWhere}
+use Rattle.mc_input.specs.Meaning.{MeansDomainWhere}
 use Rattle.mc_run.specs.InputMeaning.{MeansWithLists}
 use Rattle.mc_run.specs.VerdictText.{AreVerdicts, are_yes, check_text}
 

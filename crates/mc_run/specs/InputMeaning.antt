@@ -7,12 +7,12 @@ use Rattle.mc_cert.specs.Certificate.{Tree}
 use Rattle.mc_cert.specs.Denotation.{DenotesCertificate}
 use Rattle.mc_cert.specs.Reading.{parse_certificate}
 use Rattle.mc_cert.specs.declared.fault.CertFault.{CertFault}
-use Rattle.mc_layout.specs.Files.{FileText}
-use Rattle.mc_domain.specs.InputReading.{input_of_bundle}
-use Rattle.mc_domain.specs.Meaning.{MeansDomain}
-use Rattle.mc_domain.specs.ExcludedRouters.{input_of_files_without}
-use Rattle.mc_domain.specs.declared.without_fault.WithoutFault.{WithoutFault}
-use Rattle.mc_domain.specs.declared.fault.InputFault.TheVariants as input
+use Rattle.mc_files.specs.Files.{FileText}
+use Rattle.mc_input.specs.InputReading.{input_of_bundle}
+use Rattle.mc_input.specs.Meaning.{MeansDomain}
+use Rattle.mc_input.specs.ExcludedRouters.{input_of_files_without}
+use Rattle.mc_input.specs.declared.without_fault.WithoutFault.{WithoutFault}
+use Rattle.mc_input.specs.declared.fault.InputFault.TheVariants as input
 use Rattle.mc_run.specs.declared.fault.RunFault.{RunFault}
 use Rattle.mc_run.specs.declared.fault.RunFault.TheVariants.{Bundle, Parts, Topology, Vif, Cache}
 use Rattle.mc_run.specs.declared.fault.RunFault.TheVariants.{PartReports, Reports, Certificate}

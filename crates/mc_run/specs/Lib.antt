@@ -34,29 +34,29 @@ pub use Rattle.mc_theory.specs.Certificates
 pub use Rattle.mc_theory.specs.Headline
 pub use Rattle.mc_theory.specs.Reasons as FirstReasons
 pub use Rattle.mc_topology.specs.Topology
-pub use Rattle.mc_layout.specs.Layout
-pub use Rattle.mc_layout.specs.Files
-pub use Rattle.mc_layout.specs.Packing
-pub use Rattle.mc_layout.specs.PackReading
-pub use Rattle.mc_layout.specs.PackRun
-pub use Rattle.mc_layout.specs.UnreadText
+pub use Rattle.mc_files.specs.Layout
+pub use Rattle.mc_files.specs.Files
+pub use Rattle.mc_files.specs.Packing
+pub use Rattle.mc_files.specs.PackReading
+pub use Rattle.mc_files.specs.PackRun
+pub use Rattle.mc_files.specs.UnreadText
 pub use Rattle.mc_forward.specs.Domains
 pub use Rattle.mc_forward.specs.Assembling
 pub use Rattle.mc_cert.specs.Certificate
 pub use Rattle.mc_cert.specs.Denotation
 pub use Rattle.mc_check.specs.ReasonText
 pub use Rattle.mc_check.specs.Verdicts
-pub use Rattle.mc_domain.specs.Input
-pub use Rattle.mc_domain.specs.InputReading
-pub use Rattle.mc_domain.specs.FilesInput
-pub use Rattle.mc_domain.specs.FilesReading
-pub use Rattle.mc_domain.specs.Meaning
-pub use Rattle.mc_domain.specs.RefusedFiles
+pub use Rattle.mc_input.specs.Input
+pub use Rattle.mc_input.specs.InputReading
+pub use Rattle.mc_input.specs.FilesInput
+pub use Rattle.mc_input.specs.FilesReading
+pub use Rattle.mc_input.specs.Meaning
+pub use Rattle.mc_input.specs.RefusedFiles
 pub use Rattle.mc_theory.specs.Events
 pub use Rattle.mc_theory.specs.Findings
 pub use Rattle.mc_replay.specs.Travels
 pub use Rattle.mc_replay.specs.TravelText
 pub use Rattle.mc_cert.specs.CertificateText
 pub use Rattle.mc_maker.specs.Examined
-pub use Rattle.mc_words.specs.Task as AllowedTask
+pub use Rattle.mc_cli.specs.Task as AllowedTask
 pub mod WantsSoFar

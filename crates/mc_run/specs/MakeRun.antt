@@ -8,7 +8,7 @@ use Rattle.mc_topology.specs.declared.flow.Flow.{Flow}
 use Rattle.mc_topology.specs.Topology.{TopologyValue}
 use Rattle.mc_theory.specs.Certificates.{IsAccepted, IsRight}
 use Rattle.mc_forward.specs.Domains.{DomainValue, net_of}
-use Rattle.mc_domain.specs.Meaning.{MeansUncertifiedDomain, MeansDomainWhere}
+use Rattle.mc_input.specs.Meaning.{MeansUncertifiedDomain, MeansDomainWhere}
 use Rattle.mc_cert.specs.Certificate.{Tree, IsEntryOf, IsWritableTree}
 use Rattle.mc_cert.specs.CertificateText.{certificate_text}
 use Rattle.mc_replay.specs.TravelText.{finding_text}

@@ -2,11 +2,11 @@
 use Rattle.std.specs.Prelude.{◌≡◌, Bool, List, Result, Ok, Err, ⊤}
 use Rattle.mc_text.specs.Bundle.{PartText}
 use Rattle.mc_text.specs.declared.bundle.bundle_fault.BundleFault.TheVariants as bundle
-use Rattle.mc_layout.specs.Files.{FileText}
-use Rattle.mc_layout.specs.Packing.{IsPacked}
-use Rattle.mc_layout.specs.PackReading.{packed_parts}
-use Rattle.mc_layout.specs.declared.fault.PackFault.{PackFault}
-use Rattle.mc_layout.specs.declared.fault.PackFault.TheVariants as packing
+use Rattle.mc_files.specs.Files.{FileText}
+use Rattle.mc_files.specs.Packing.{IsPacked}
+use Rattle.mc_files.specs.PackReading.{packed_parts}
+use Rattle.mc_files.specs.declared.fault.PackFault.{PackFault}
+use Rattle.mc_files.specs.declared.fault.PackFault.TheVariants as packing
 use Rattle.mc_run.specs.declared.fault.RunFault.{RunFault}
 use Rattle.mc_run.specs.declared.fault.RunFault.TheVariants.{Bundle, Topology, Read, Write, Memory}
 

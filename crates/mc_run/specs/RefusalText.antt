@@ -6,13 +6,13 @@ use Rattle.std.specs.Prelude.{Option, Some, None, IfSome, unwrap_or, Result, Ok,
 use Rattle.std.specs.Prelude.{if◌then◌else◌, string_bytes}
 use Rattle.std.specs.Io.KnownBytes.{Appends}
 use Rattle.mc_text.specs.Device.{AppendsProperPrefix}
-use Rattle.mc_layout.specs.Files.{FileText, file_named}
-use Rattle.mc_layout.specs.UnreadText.{unread_text}
-use Rattle.mc_domain.specs.RefusedFiles.{AreUnreadFilesMissing, AreRefusedFiles, saturating_failures, refused_files_of, as_judged_file}
-use Rattle.mc_domain.specs.RefusedFiles.{unread_count}
-use Rattle.mc_domain.specs.declared.each_file.RefusedFile.{RefusedFile}
-use Rattle.mc_domain.specs.declared.each_file.Refusal.{Refusal}
-use Rattle.mc_domain.specs.declared.each_file.Refusal.TheVariants.{Unread, Fault}
+use Rattle.mc_files.specs.Files.{FileText, file_named}
+use Rattle.mc_files.specs.UnreadText.{unread_text}
+use Rattle.mc_input.specs.RefusedFiles.{AreUnreadFilesMissing, AreRefusedFiles, saturating_failures, refused_files_of, as_judged_file}
+use Rattle.mc_input.specs.RefusedFiles.{unread_count}
+use Rattle.mc_input.specs.declared.each_file.RefusedFile.{RefusedFile}
+use Rattle.mc_input.specs.declared.each_file.Refusal.{Refusal}
+use Rattle.mc_input.specs.declared.each_file.Refusal.TheVariants.{Unread, Fault}
 use Rattle.mc_explain.specs.RowText.{hex_digit_of}
 use Rattle.mc_run.specs.FaultText.{fault_text, line_of_fault}
 use Rattle.mc_run.specs.LineFront.{line_front}

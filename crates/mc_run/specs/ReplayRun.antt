@@ -16,7 +16,7 @@ use Rattle.mc_replay.specs.declared.finding.Finding.TheVariants.{Missed}
 use Rattle.mc_replay.specs.declared.travel.Travel.{Travel}
 use Rattle.mc_run.specs.declared.fault.RunFault.{RunFault}
 use Rattle.mc_run.specs.declared.fault.RunFault.TheVariants.{Memory, NoSuchFlow}
-use Rattle.mc_domain.specs.Meaning.{MeansUncertifiedDomain, MeansDomainWhere}
+use Rattle.mc_input.specs.Meaning.{MeansUncertifiedDomain, MeansDomainWhere}
 use Rattle.mc_run.specs.InputMeaning.{IsRefusedFor}
 
 -- ---- the text

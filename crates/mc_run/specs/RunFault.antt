@@ -7,12 +7,12 @@ use Rattle.mc_igmp.specs.declared.fault.ListFaultKind.TheVariants as list
 use Rattle.mc_cert.specs.declared.fault.CertFault.{CertFault}
 use Rattle.mc_cert.specs.declared.fault.CertFaultKind.{CertFaultKind}
 use Rattle.mc_cert.specs.declared.fault.CertFaultKind.TheVariants as certificate
-use Rattle.mc_domain.specs.declared.fault.InputFault.{InputFault}
-use Rattle.mc_domain.specs.declared.fault.InputFault.TheVariants as input
-use Rattle.mc_domain.specs.declared.source_fault.SourceFault.{SourceFault}
-use Rattle.mc_domain.specs.declared.source_fault.SourceFault.TheVariants as source
-use Rattle.mc_domain.specs.declared.without_fault.WithoutFault.{WithoutFault}
-use Rattle.mc_domain.specs.declared.without_fault.WithoutFault.TheVariants as without
+use Rattle.mc_input.specs.declared.fault.InputFault.{InputFault}
+use Rattle.mc_input.specs.declared.fault.InputFault.TheVariants as input
+use Rattle.mc_input.specs.declared.source_fault.SourceFault.{SourceFault}
+use Rattle.mc_input.specs.declared.source_fault.SourceFault.TheVariants as source
+use Rattle.mc_input.specs.declared.without_fault.WithoutFault.{WithoutFault}
+use Rattle.mc_input.specs.declared.without_fault.WithoutFault.TheVariants as without
 use Rattle.mc_run.specs.declared.fault.RunFault.{RunFault}
 use Rattle.mc_run.specs.declared.fault.RunFault.TheVariants.{Bundle, Parts, Topology, Vif, Cache}
 use Rattle.mc_run.specs.declared.fault.RunFault.TheVariants.{PartReports, Reports, Certificate}

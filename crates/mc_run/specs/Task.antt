@@ -1,10 +1,10 @@
 -- Which task it is, and what it reads.
 use Rattle.std.specs.Prelude.{ℕ, Bool, true, false, List, [], ⊤}
 use Rattle.std.specs.String.{string_bytes}
-use Rattle.mc_words.specs.declared.audit_words.AuditWords.{AuditWords}
-use Rattle.mc_words.specs.declared.task.Task.{Task}
-use Rattle.mc_words.specs.declared.task.Task.TheVariants.{Wants, Check, Make, Replay, Pack, Audit}
-use Rattle.mc_words.specs.declared.task.Task.TheVariants.{Help, Version}
+use Rattle.mc_cli.specs.declared.audit_words.AuditWords.{AuditWords}
+use Rattle.mc_cli.specs.declared.task.Task.{Task}
+use Rattle.mc_cli.specs.declared.task.Task.TheVariants.{Wants, Check, Make, Replay, Pack, Audit}
+use Rattle.mc_cli.specs.declared.task.Task.TheVariants.{Help, Version}
 
 -- ---- the fact holds of the arguments of a task of this kind
 

@@ -7,12 +7,12 @@ use Rattle.mc_text.specs.Device.{AppendsProperPrefix}
 use Rattle.mc_text.specs.Lines.{max_text}
 use Rattle.mc_text.specs.ReadFault.{ConsumesUpTo}
 use Rattle.mc_theory.specs.Findings.{Choices}
-use Rattle.mc_layout.specs.Files.{FileText}
-use Rattle.mc_layout.specs.Packing.{IsPacked}
-use Rattle.mc_layout.specs.PackRun.{WritesPackedBundle, WritesPackedPrefix}
-use Rattle.mc_domain.specs.Meaning.{MeansDomainWhere}
-use Rattle.mc_words.specs.declared.audit_words.AuditWords.{AuditWords}
-use Rattle.mc_words.specs.declared.audit_words.AuditOptions.{AuditOptions as WordsOptions}
+use Rattle.mc_files.specs.Files.{FileText}
+use Rattle.mc_files.specs.Packing.{IsPacked}
+use Rattle.mc_files.specs.PackRun.{WritesPackedBundle, WritesPackedPrefix}
+use Rattle.mc_input.specs.Meaning.{MeansDomainWhere}
+use Rattle.mc_cli.specs.declared.audit_words.AuditWords.{AuditWords}
+use Rattle.mc_cli.specs.declared.audit_words.AuditOptions.{AuditOptions as WordsOptions}
 use Rattle.mc_run.specs.AuditPieces.{yes_of}
 use Rattle.mc_run.specs.AuditRun.{AuditSaysYes, HasUnwanted, FilesKeepHeadline}
 use Rattle.mc_run.specs.AuditRun.{IsAuditText, MeansAudited, SaysOfEach, SaysWhichAreRight}

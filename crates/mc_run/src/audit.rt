@@ -9,7 +9,7 @@ ghost use Rattle.mc_run.specs.AuditPieces.{AreFlowsPushed, HasItsMarksAndInterfa
 ghost use Rattle.mc_run.specs.AuditRun.{AreFoundInWhole, AuditSaysYes, HasUnwanted, FilesKeepHeadline};
 ghost use Rattle.mc_run.specs.AuditRun.{IsAudited, IsAuditText};
 ghost use Rattle.mc_run.specs.AuditRun.{MeansAudited, SaysOfEach, SaysWhichAreRight};
-ghost use Rattle.mc_domain.specs.Meaning.{MeansDomainWhere};
+ghost use Rattle.mc_input.specs.Meaning.{MeansDomainWhere};
 ghost use Rattle.mc_text.specs.Device.{failures_after};
 ghost use Rattle.mc_run.specs.Failures.{is_read, is_write};
 ghost use Rattle.mc_run.specs.Faults.{IsFaultOfAudit};
@@ -26,9 +26,9 @@ use crate::excluded::excluded_marks;
 use crate::run_output::{RunOutput, write_output};
 use crate::flow_status::FlowCounts;
 use mc_cert::DistinctTrees;
-use mc_domain::{FolderDomain, read_folder_domain};
+use mc_input::{FolderDomain, read_folder_domain};
 use mc_explain::InterfacesOfLans;
-use mc_layout::PieceSource;
+use mc_files::PieceSource;
 use mc_text::{Memory as NoMemory, Output};
 use std::alloc::Global;
 

@@ -4,13 +4,13 @@ ghost use Rattle.std.specs.Prelude.{◌≡◌, ◌<◌, IfErr, IfOk, IfSome, Non
 ghost use Rattle.mc_text.specs.ReadFault.{ConsumesUpTo};
 ghost use Rattle.mc_text.specs.Bundle.{max_input};
 ghost use Rattle.mc_text.specs.Device.{failures_after};
-ghost use Rattle.mc_domain.specs.Meaning.{MeansDomainAsListed};
+ghost use Rattle.mc_input.specs.Meaning.{MeansDomainAsListed};
 ghost use Rattle.mc_run.specs.InputMeaning.{IsRefusedFor};
 ghost use Rattle.mc_run.specs.Failures.{is_read, is_write};
 ghost use Rattle.mc_run.specs.Faults.{IsFaultOfMake};
 
 use crate::fault::RunFault;
-use mc_domain::read_bundle_domain;
+use mc_input::read_bundle_domain;
 use mc_forward::Domain;
 use mc_text::Input;
 use std::alloc::Global;

@@ -4,7 +4,7 @@ ghost use Rattle.std.specs.Prelude.{◌≡◌, ◌<◌, IfOk, length, map};
 ghost use Rattle.mc_topology.specs.Topology.{router_name};
 ghost use Rattle.mc_run.specs.AuditEnd.{is_among, excluded_marks};
 
-use mc_domain::is_excluded;
+use mc_input::is_excluded;
 use mc_text::Memory as NoMemory;
 use mc_topology::{RouterNo, Topology};
 use std::alloc::Global;

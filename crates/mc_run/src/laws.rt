@@ -4,19 +4,19 @@ ghost use Rattle.std.specs.Prelude.{◌≡◌, ◌≤◌, ◌++◌, ◌⊎◌, �
 ghost use Rattle.std.specs.Prelude.{codes, if◌then◌else◌, is_some, length, slice_get};
 ghost use Rattle.mc_text.specs.Bundle.{PartText, IsBundle};
 ghost use Rattle.mc_theory.specs.Certificates.{IsAccepted};
-ghost use Rattle.mc_layout.specs.Files.{FileText};
+ghost use Rattle.mc_files.specs.Files.{FileText};
 ghost use Rattle.mc_forward.specs.Domains.{DomainValue, net_of};
-ghost use Rattle.mc_domain.specs.Input.{with_certificate};
+ghost use Rattle.mc_input.specs.Input.{with_certificate};
 ghost use Rattle.mc_cert.specs.Certificate.{Tree};
 ghost use Rattle.mc_cert.specs.Reading.{parse_certificate};
 ghost use Rattle.mc_run.specs.AuditRun.{IsAuditText, yes_object};
 ghost use Rattle.mc_run.specs.declared.audit_options.AuditOptions.{AuditOptions};
-ghost use Rattle.mc_domain.specs.Meaning.{MeansDomain, FilesMeanDomain};
+ghost use Rattle.mc_input.specs.Meaning.{MeansDomain, FilesMeanDomain};
 ghost use Rattle.mc_run.specs.InputMeaning.{MeansCertified};
 ghost use Rattle.mc_run.specs.CheckRun.{IsLineStart, IsVerdictText, WroteAtStart, WroteYes};
 ghost use Rattle.mc_run.specs.MakeRun.{IsMadeText, certified_lists};
 
-use mc_domain::summaries_are_unique;
+use mc_input::summaries_are_unique;
 
 /// What `make` writes where it answers true, `check` says yes to.
 pub fn check_accepts_made_certificates()

@@ -3,12 +3,12 @@
 ghost use Rattle.std.specs.Prelude.{◌≡◌, ◌≢◌, ◌<◌, ◌≤◌, ◌∷◌, ℕ, List, [], Some, IfErr, IfOk, IfSome};
 ghost use Rattle.std.specs.Prelude.{OnOk, length, option_map, take, vec_len};
 ghost use Rattle.mc_text.specs.Device.{failures_after};
-ghost use Rattle.mc_layout.specs.Files.{is_failure};
-ghost use Rattle.mc_domain.specs.RefusedFiles.{saturating_failures};
+ghost use Rattle.mc_files.specs.Files.{is_failure};
+ghost use Rattle.mc_input.specs.RefusedFiles.{saturating_failures};
 ghost use Rattle.mc_run.specs.LineFront.{TakesPiece, front_after_more, line_front};
 ghost use Rattle.mc_run.specs.RefusalText.{IsFrontInFile, lost_calls};
 
-use mc_layout::{FileFault, PieceSource};
+use mc_files::{FileFault, PieceSource};
 use mc_text::{MAX_PART, Memory as NoMemory};
 use std::alloc::Global;
 

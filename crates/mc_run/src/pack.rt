@@ -2,16 +2,16 @@
 
 ghost use Rattle.std.specs.Prelude.{◌≡◌, ◌≢◌, ◌<◌, List, Some, IfErr, IfOk, IfSome, Err};
 ghost use Rattle.mc_text.specs.Bundle.{PartText};
-ghost use Rattle.mc_layout.specs.Files.{FileText};
-ghost use Rattle.mc_layout.specs.Packing.{IsPacked};
-ghost use Rattle.mc_layout.specs.PackRun.{WritesPackedBundle, WritesPackedPrefix};
+ghost use Rattle.mc_files.specs.Files.{FileText};
+ghost use Rattle.mc_files.specs.Packing.{IsPacked};
+ghost use Rattle.mc_files.specs.PackRun.{WritesPackedBundle, WritesPackedPrefix};
 ghost use Rattle.mc_text.specs.Device.{failures_after};
 ghost use Rattle.mc_run.specs.Failures.{is_read, is_write};
 ghost use Rattle.mc_run.specs.Faults.{IsFaultOfPack};
 ghost use Rattle.mc_run.specs.PackingRun.{IsPackRunAnswer, IsDeviceOrMemoryFault};
 
 use crate::fault::RunFault;
-use mc_layout::FileSource;
+use mc_files::FileSource;
 use mc_text::Output;
 use std::alloc::Global;
 
@@ -47,6 +47,6 @@ pub fn run_pack<F: FileSource, W: Output>(
     ensures read_failures { F.failed files.new ≡ failures_after is_read result (F.failed files.old) }
     ensures write_failures { W.failed output.new ≡ failures_after is_write result (W.failed output.old) }
 {
-    mc_layout::pack(alloc, files, certificate, output)?;
+    mc_files::pack(alloc, files, certificate, output)?;
     Ok(())
 }

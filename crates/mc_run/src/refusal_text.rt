@@ -5,8 +5,8 @@ ghost use Rattle.std.specs.Prelude.{◌≡◌, ◌≢◌, ◌<◌, ◌++◌, ℕ
 ghost use Rattle.std.specs.Prelude.{codes, length, map, option_map, unwrap_or};
 ghost use Rattle.std.specs.String.{string_bytes};
 ghost use Rattle.mc_text.specs.Device.{failures_after};
-ghost use Rattle.mc_layout.specs.UnreadText.{unread_text};
-ghost use Rattle.mc_domain.specs.declared.each_file.Refusal.TheVariants.{Fault};
+ghost use Rattle.mc_files.specs.UnreadText.{unread_text};
+ghost use Rattle.mc_input.specs.declared.each_file.Refusal.TheVariants.{Fault};
 ghost use Rattle.mc_run.specs.Failures.{is_write};
 ghost use Rattle.mc_run.specs.RefusalText.{AppendsWithFailures, AreFirst50Lines, AreRefusedFileLines, IsRefusalReason};
 ghost use Rattle.mc_run.specs.RefusalText.{IsFrontText, IsRefusedFileLine, IsRefusalText, IsTextWritten};
@@ -16,8 +16,8 @@ use crate::fault::RunFault;
 use crate::fault_text::{ShownFault, line_of_fault};
 use crate::line_front::front_of_line;
 use crate::quoted::Quoted;
-use mc_domain::{InputFault, PIECE, Refusal, RefusedFile, refused_files};
-use mc_layout::{PieceSource, Unread};
+use mc_input::{InputFault, PIECE, Refusal, RefusedFile, refused_files};
+use mc_files::{PieceSource, Unread};
 use mc_text::{Memory as NoMemory, Output, write_all};
 use std::alloc::Global;
 

@@ -2,7 +2,7 @@
 
 ghost use Rattle.std.specs.Prelude.{◌≡◌, ◌≢◌, ◌<◌, IfErr, true, false};
 ghost use Rattle.mc_text.specs.Device.{failures_after};
-ghost use Rattle.mc_words.specs.Task.{IsAllowed};
+ghost use Rattle.mc_cli.specs.Task.{IsAllowed};
 ghost use Rattle.mc_run.specs.Failures.{is_read, is_write};
 ghost use Rattle.mc_run.specs.Task.{IfAudit, IfCheck, IfHelp, IfMake, IfPack, IfReplay, IfVersion};
 ghost use Rattle.mc_run.specs.Task.{IfWants, reads_files, reads_input};
@@ -13,9 +13,9 @@ use crate::fault::RunFault;
 use crate::task_files::{audit_task, pack_task};
 use crate::task_input::{check_task, make_task, replay_task, wants_task};
 use crate::task_text::{VERSION_LINE, text_task};
-use mc_layout::PieceSource;
+use mc_files::PieceSource;
 use mc_text::{Input, Output};
-use mc_words::Task;
+use mc_cli::Task;
 use std::alloc::Global;
 
 /// Does a task: its run, with its own arguments, over the input, over the files, which have to be those

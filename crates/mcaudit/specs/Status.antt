@@ -1,6 +1,6 @@
 -- The exit status that tells the program's answer, or why it gives none.
 use Rattle.std.specs.Prelude.{ℕ, Bool, true, false, Result, Ok, Err}
-use Rattle.mc_words.specs.declared.fault.WordsFault.TheVariants as words
+use Rattle.mc_cli.specs.declared.fault.WordsFault.TheVariants as words
 use Rattle.mc_run.specs.declared.fault.RunFault.TheVariants as run
 use Rattle.mcaudit.specs.declared.failure.Failure.{Failure}
 use Rattle.mcaudit.specs.declared.failure.Failure.TheVariants.{Words, Run}

@@ -5,7 +5,7 @@ ghost use Rattle.mcaudit.specs.declared.failure.Failure.TheVariants.{Words, Run}
 ghost use Rattle.mcaudit.specs.Status.{exit_status_of_failure};
 
 use mc_run::RunFault;
-use mc_words::WordsFault;
+use mc_cli::WordsFault;
 use thiserror::Error;
 
 /// Why the program gives no answer. Its text is what standard error gets.

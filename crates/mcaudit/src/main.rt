@@ -2,7 +2,7 @@
 #![tactic(auto)]
 
 ghost use Rattle.std.specs.Prelude.{◌≡◌, IfErr, IfOk};
-ghost use Rattle.mc_words.specs.Task.{IsAllowed};
+ghost use Rattle.mc_cli.specs.Task.{IsAllowed};
 
 mod end;
 mod failure;
@@ -14,7 +14,7 @@ use failure::Failure;
 use folder::folder_of;
 use mc_run::{RunFault, run_task};
 use mc_text::{FromReader, ToWriter};
-use mc_words::{Task, borrow_words, command_of, words_of};
+use mc_cli::{Task, borrow_words, command_of, words_of};
 use std::env::Env;
 use std::io::{self, BufReader, Input, Read};
 use std::process::ExitCode;

@@ -1,5 +1,5 @@
-use Rattle.mc_domain.specs.InputView.{certificate_text}
-use Rattle.mc_domain.specs.Meaning.{MeansDomainAsListed}
+use Rattle.mc_input.specs.InputView.{certificate_text}
+use Rattle.mc_input.specs.Meaning.{MeansDomainAsListed}
 use Rattle.mc_run.specs.InputMeaning.{MeansListedWith}
 use Rattle.mc_run.proofs.RunLemmas.{means-known_contents}
 use Rattle.std.proofs.lemmas.Result.{err_from_is_err_and}

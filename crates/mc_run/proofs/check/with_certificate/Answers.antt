@@ -2,7 +2,7 @@ use Rattle.std.proofs.Common.{Some, ap, subst, sym, ◌∙◌}
 use Rattle.std.proofs.lemmas.Result.{err_from_is_err_and}
 use Rattle.mc_cert.proofs.BelongsLemmas.{BelongsTo-from_denotes}
 use Rattle.mc_cert.specs.Certificate.{BelongsTo}
-use Rattle.mc_domain.specs.InputView.{certificate_text}
+use Rattle.mc_input.specs.InputView.{certificate_text}
 use Rattle.mc_run.proofs.CheckLemmas.{is_refused_for-cert_fault, means_listed_with-denoted_lists}
 use Rattle.mc_run.proofs.FaultLemmas.{is_fault_of_check-cert_fault}
 use Rattle.mc_run.proofs.check.with_certificate.Goals as goal

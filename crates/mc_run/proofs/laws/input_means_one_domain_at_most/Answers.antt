@@ -1,4 +1,4 @@
-use Rattle.mc_domain.proofs.UniqueDomain.{MeansDomain-unique, FilesMeanDomain-unique}
+use Rattle.mc_input.proofs.UniqueDomain.{MeansDomain-unique, FilesMeanDomain-unique}
 use Rattle.mc_run.proofs.CertifiedLemmas.{means_certified-unique}
 use Rattle.mc_run.proofs.laws.input_means_one_domain_at_most.Goals as goal
 

@@ -1,0 +1,141 @@
+-- What the words after `audit` say.
+use Rattle.std.specs.Prelude.{◌≡◌, ℕ, ◌&&◌, not, Bool, true, false, List, [], ◌∷◌, ◌++◌, map, take, drop}
+use Rattle.std.specs.Prelude.{codes, if◌then◌else◌, Option, Some, None, is_some, option_map}
+use Rattle.std.specs.Bool.{then_some}
+use Rattle.std.specs.List.{list_any}
+use Rattle.std.specs.Str.{bytes_eq}
+use Rattle.mc_topology.specs.Names.{is_name}
+use Rattle.mc_cli.specs.declared.audit_words.AuditOptions.{AuditOptions}
+use Rattle.mc_cli.specs.declared.audit_words.AuditWords.{AuditWords}
+use Rattle.mc_cli.specs.declared.draft.Draft.{Draft}
+use Rattle.mc_cli.specs.declared.draft.NextWord.{NextWord}
+use Rattle.mc_cli.specs.declared.draft.NextWord.TheVariants.{Options, Router, FolderOnly}
+
+-- the word is one of these
+abbrev pub is_among : List ℕ → List (List ℕ) → Bool
+is_among word words = list_any (λ other. bytes_eq other word) words
+
+-- each word is a router's name, and none stands again after itself
+unfoldable pub are_distinct_router_names : List (List ℕ) → Bool
+are_distinct_router_names [] = true
+are_distinct_router_names (word ∷ after) = (is_name word && not (is_among word after)) && are_distinct_router_names after
+
+-- the word begins with `-`, as options do
+abbrev pub is_option : List ℕ → Bool
+is_option word = bytes_eq (take 1 word) (codes "-")
+
+-- what the words up to some place have given: the folder, the options, the routers to be left out,
+-- and what the next word is
+pub record Given : Type 0 where
+  pub folder : Option (List ℕ)
+  pub options : AuditOptions
+  pub without : List (List ℕ)
+  pub next_word : NextWord
+
+abbrev pub nothing_given : Given
+nothing_given = record {
+  folder = None;
+  options = record {
+    travels = false;
+    faults = false;
+    unlisted = false;
+    strict = false;
+    json = false;
+  };
+  without = [];
+  next_word = Options;
+}
+
+-- an option is given once
+abbrev pub unless_given : Bool → AuditOptions → Option AuditOptions
+unless_given given options = then_some (not given) options
+
+-- the options with the one that the word names
+abbrev pub with_option : List ℕ → AuditOptions → Option AuditOptions
+with_option word o =
+    if bytes_eq word (codes "--travel") then unless_given o.travels (record o { travels = true })
+    else (if bytes_eq word (codes "--faults") then unless_given o.faults (record o { faults = true })
+    else (if bytes_eq word (codes "--unlisted")
+    then unless_given o.unlisted (record o { unlisted = true })
+    else (if bytes_eq word (codes "--strict") then unless_given o.strict (record o { strict = true })
+    else (if bytes_eq word (codes "--json") then unless_given o.json (record o { json = true })
+    else None))))
+
+-- one folder is given
+abbrev pub with_folder : List ℕ → Given → Option Given
+with_folder word given =
+    if is_some given.folder then None else Some (record given { folder = Some word })
+
+abbrev pub with_router : List ℕ → Given → Given
+with_router word given =
+    record given { without = given.without ++ word ∷ []; next_word = Options }
+
+-- the router of `--without=ROUTER`
+abbrev pub router_after_equals : List ℕ → Option (List ℕ)
+router_after_equals word =
+    if bytes_eq (take 10 word) (codes "--without=") then Some (drop 10 word) else None
+
+abbrev pub with_router_or_other : Option (List ℕ) → List ℕ → Given → Option Given
+with_router_or_other (Some router) word given = Some (with_router router given)
+with_router_or_other None word given = if is_option word
+    then option_map (λ options. record given { options = options }) (with_option word given.options)
+    else with_folder word given
+
+-- a word that is not behind `--without`, nor behind `--`
+abbrev pub with_option_or_folder : List ℕ → Given → Option Given
+with_option_or_folder word given =
+    if bytes_eq word (codes "--") then Some (record given { next_word = FolderOnly })
+    else (if bytes_eq word (codes "--without") then Some (record given { next_word = Router })
+    else with_router_or_other (router_after_equals word) word given)
+
+-- what is given with one word more; none where that is wrong
+abbrev pub with_word : NextWord → List ℕ → Given → Option Given
+with_word Options word given = with_option_or_folder word given
+with_word Router word given = Some (with_router word given)
+with_word FolderOnly word given = with_folder word given
+
+-- what is given with these words more
+unfoldable pub with_words : Option Given → List (List ℕ) → Option Given
+with_words None words = None
+with_words (Some given) [] = Some given
+with_words (Some given) (word ∷ words) = with_words (with_word given.next_word word given) words
+
+-- what a draft of them was given
+abbrev pub given_of : Draft → Given
+given_of draft = record {
+  folder = option_map (λ folder. folder.now) draft.folder;
+  options = draft.options;
+  without = map (λ router. router.now) draft.without.items;
+  next_word = draft.next_word;
+}
+
+-- the word is right, and this is given with it, or it is wrong
+abbrev pub IsNextGiven : Bool → Option Given → Given → Type 0
+IsNextGiven right next given = next ≡ then_some right given
+
+-- the next word is the router of the `--without` before it
+abbrev pub is_router_expected : NextWord → Bool
+is_router_expected Router = true
+is_router_expected Options = false
+is_router_expected FolderOnly = false
+
+-- what was given is whole, and says this
+pub record IsCompleteDraft (given : Given) (audit : AuditWords) : Type 0 where
+  pub next_word : is_router_expected given.next_word ≡ false
+  pub folder : given.folder ≡ Some audit.folder.now
+  pub options : given.options ≡ audit.options
+  pub without : given.without ≡ map (λ router. router.now) audit.without.items
+
+-- the words give something whole, which says this
+pub record AreCompleteAuditWords (words : List (List ℕ)) (audit : AuditWords) : Type 0 where
+  pub given : Given
+  pub all : with_words (Some nothing_given) words ≡ Some given
+  pub whole : IsCompleteDraft given audit
+
+-- The words after `audit` say this: one folder, which doesn't begin like an option; before and behind
+-- it any options, each once, but none behind `--`; and with each `--without` a router, each once,
+-- whatever its name begins with.
+pub record AreAuditWords (words : List (List ℕ)) (audit : AuditWords) : Type 0 where
+  pub whole : AreCompleteAuditWords words audit
+  pub folder : is_option audit.folder.now ≡ false
+  pub routers : are_distinct_router_names (map (λ router. router.now) audit.without.items) ≡ true

@@ -1,0 +1,166 @@
+//! What the words after `audit` have given so far.
+
+ghost use Rattle.std.specs.Prelude.{◌≡◌, map, IfOk, Some, OnOk, option_map};
+ghost use Rattle.mc_cli.specs.AuditWords.{IsNextGiven, given_of, router_after_equals, nothing_given};
+ghost use Rattle.mc_cli.specs.AuditWords.{with_folder, with_option, with_option_or_folder, with_router};
+ghost use Rattle.mc_cli.specs.AuditWords.{with_word, with_words};
+
+use crate::audit_words::AuditOptions;
+use std::alloc::{AllocError, Global};
+
+/// What the next word is.
+#[derive(Clone, Copy, Debug, PartialEq, Eq)]
+pub enum NextWord {
+    /// An option or the folder.
+    Options,
+    /// The router of the `--without` before it, whatever it begins with.
+    Router,
+    /// The folder, since it stands behind `--`.
+    FolderOnly,
+}
+
+/// What the words up to some place have given.
+#[derive(Debug, Drop)]
+pub struct Draft<'a> {
+    /// The folder.
+    pub folder: Option<&'a str>,
+    /// The options that were given.
+    pub options: AuditOptions,
+    /// The routers to be left out, in the order of the words.
+    pub without: Vec<&'a str>,
+    /// What the next word is.
+    pub next_word: NextWord,
+}
+
+/// The router of the word `--without=ROUTER`.
+fn router_after_equals(word: &str) -> Option<&str>
+    ensures { option_map (λ router. router.now) result ≡ router_after_equals word.now }
+{
+    word.strip_prefix("--without=")
+}
+
+/// The options with the one that the word names, unless it was given before.
+fn with_option(options: AuditOptions, word: &str) -> Option<AuditOptions>
+    ensures { result ≡ with_option word.now options }
+{
+    match word {
+        "--travel" => (!options.travels).then_some(AuditOptions {
+            travels: true,
+            ..options
+        }),
+        "--faults" => (!options.faults).then_some(AuditOptions {
+            faults: true,
+            ..options
+        }),
+        "--unlisted" => (!options.unlisted).then_some(AuditOptions {
+            unlisted: true,
+            ..options
+        }),
+        "--strict" => (!options.strict).then_some(AuditOptions {
+            strict: true,
+            ..options
+        }),
+        "--json" => (!options.json).then_some(AuditOptions {
+            json: true,
+            ..options
+        }),
+        _ => None,
+    }
+}
+
+impl<'a> Draft<'a> {
+    /// A draft that was given nothing.
+    fn new(alloc: Global) -> Draft<'a>
+        ensures { given_of result ≡ nothing_given }
+    {
+        Draft {
+            folder: None,
+            options: AuditOptions {
+                travels: false,
+                faults: false,
+                unlisted: false,
+                strict: false,
+                json: false,
+            },
+            without: Vec::new(alloc),
+            next_word: NextWord::Options,
+        }
+    }
+
+    /// Takes a router to be left out.
+    fn add_router(&mut self, router: &'a str) -> Result<(), AllocError>
+        ensures { OnOk result
+            (given_of self.new ≡ with_router router.now (given_of self.old)) }
+    {
+        self.without.push(router)?;
+        self.next_word = NextWord::Options;
+        Ok(())
+    }
+
+    /// Takes the folder, and says whether the word is right.
+    fn add_folder(&mut self, word: &'a str) -> bool
+        ensures { IsNextGiven result (with_folder word.now (given_of self.old)) (given_of self.new) }
+    {
+        if self.folder.is_some() {
+            return false;
+        }
+        self.folder = Some(word);
+        true
+    }
+
+    /// Takes an option or the folder, and says whether the word is right.
+    fn add_option_or_folder(&mut self, word: &'a str) -> Result<bool, AllocError>
+        ensures { IfOk result (λ right. IsNextGiven right
+            (with_option_or_folder word.now (given_of self.old)) (given_of self.new)) }
+    {
+        if word == "--" {
+            self.next_word = NextWord::FolderOnly;
+            return Ok(true);
+        }
+        if word == "--without" {
+            self.next_word = NextWord::Router;
+            return Ok(true);
+        }
+        if let Some(router) = router_after_equals(word) {
+            self.add_router(router)?;
+            return Ok(true);
+        }
+        if !word.starts_with('-') {
+            return Ok(self.add_folder(word));
+        }
+        let Some(options) = with_option(self.options, word) else {
+            return Ok(false);
+        };
+        self.options = options;
+        Ok(true)
+    }
+
+    /// Takes one word more, and says whether it is right.
+    fn add_word(&mut self, word: &'a str) -> Result<bool, AllocError>
+        ensures { IfOk result (λ right. IsNextGiven right
+            (with_word self.old.next_word word.now (given_of self.old)) (given_of self.new)) }
+    {
+        match self.next_word {
+            NextWord::Options => self.add_option_or_folder(word),
+            NextWord::Router => {
+                self.add_router(word)?;
+                Ok(true)
+            }
+            NextWord::FolderOnly => Ok(self.add_folder(word)),
+        }
+    }
+}
+
+/// What the words give, unless one of them is wrong.
+pub fn draft_of<'a>(alloc: Global, words: &[&'a str]) -> Result<Option<Draft<'a>>, AllocError>
+    ensures { IfOk result (λ draft. option_map given_of draft
+        ≡ with_words (Some nothing_given) (map (λ word. word.now) words.now)) }
+{
+    let mut draft = Draft::new(alloc);
+    for word in words {
+        if !draft.add_word(*word)? {
+            return Ok(None);
+        }
+    }
+    Ok(Some(draft))
+}

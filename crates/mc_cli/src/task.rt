@@ -1,0 +1,354 @@
+//! What the program's words ask for.
+
+ghost use Rattle.std.specs.Prelude.{◌≡◌, ◌≤◌, ◌↔◌, ℕ, Bool, IsTrue, IfErr, IfOk, IfSome, Ok, Some};
+ghost use Rattle.std.specs.Prelude.{codes, drop, is_some, map, true};
+ghost use Rattle.clap.specs.Simple.{subcommand_rows_of};
+ghost use Rattle.clap.specs.Matches.{found_of};
+ghost use Rattle.clap.specs.Values.{kind_of};
+ghost use Rattle.clap.specs.Walk.{rows_of};
+ghost use Rattle.clap.specs.declared.error.kind.ErrorKind.TheVariants.{OutOfMemory};
+ghost use Rattle.mc_text.specs.Addr.{IsForwardedGroup, IsSource, dotted};
+ghost use Rattle.mc_text.specs.Number.{IsDecimal};
+ghost use Rattle.mc_cli.specs.Task.{AreReplayWords, AreWantsWords, AskForHelp, AskForVersion, IsAllowed};
+ghost use Rattle.mc_cli.specs.Task.{IsAskedFor, IsAuditFor, IsClapTask, IsFirstWord, IsHelp, IsTaskOfSubcommand};
+ghost use Rattle.mc_cli.specs.Task.{IsTaskOfCommand, is_topic, order_word};
+ghost use Rattle.mc_cli.specs.declared.task.Task.{Task};
+ghost use Rattle.mc_cli.specs.declared.fault.WordsFault.TheVariants.{Memory};
+
+use crate::audit_words::{AuditWords, audit_words_of};
+use crate::command::{clap_program, command_named, program, replay_command, wants_command};
+use crate::fault::{WordsFault, refusal_explained_by_clap, usage_refusal};
+use crate::found::{is_flag_set, word_of};
+use clap::error::ErrorKind;
+use clap::{ArgMatches, Command};
+use mc_text::{Addr, decimal};
+use std::alloc::{AllocError, Global};
+
+/// What the words ask for.
+#[derive(Debug, Drop, PartialEq, Eq)]
+pub enum Task<'a> {
+    /// Whether the LAN whose reports are read wants what the source sends to the group.
+    Wants {
+        /// 224.0.1.0 to 239.255.255.255.
+        group: Addr,
+        /// An address whose first octet is 1 to 223 and not 127.
+        source: Addr,
+    },
+    /// Whether a bundle's certificate proves that its domain forwards every listed flow as it
+    /// should.
+    Check,
+    /// The certificate of a bundle's domain, or what a packet meets of each flow that has none.
+    Make,
+    /// The travel of one packet through a bundle's domain.
+    Replay {
+        /// The number of the packet's flow, 1 to 4,096.
+        flow: u32,
+        /// The packet's time to live, 1 to 255.
+        ttl: u8,
+        /// Whether the last of the waiting copies is always handled next, and not the first.
+        last: bool,
+    },
+    /// The bundle of a folder's files.
+    Pack {
+        /// The folder's path, which is empty for the present directory.
+        folder: &'a str,
+        /// Whether the certificate is to be in the bundle.
+        certificate: bool,
+    },
+    /// Which flows of the domain of a folder's files have a certificate, and what a packet meets of
+    /// each other one.
+    Audit(AuditWords<'a>),
+    /// The help of the program or of one of its commands, which is this text.
+    Help(String),
+    /// The version of the program.
+    Version,
+}
+
+const GROUP_RULE: &str = "<group> is an address from 224.0.1.0 to 239.255.255.255, as 239.1.2.3";
+
+const FLOW_RULE: &str = "<flow> is a number from 1 to 4096";
+
+const TTL_RULE: &str = "<ttl> is a number from 1 to 255";
+
+const ORDER_RULE: &str = "--order is first or last";
+
+const SOURCE_RULE: &str =
+    "<source> is an address whose first number is 1 to 223 and not 127, as 10.0.0.5";
+
+/// The group that the word writes, if routers forward it.
+fn group_of(word: &str) -> Option<Addr>
+    ensures found { IfSome result (λ group. IsForwardedGroup group × (word.now ≡ dotted group)) }
+    ensures only { (group : ℕ) → IsForwardedGroup group → word.now ≡ dotted group
+        → result ≡ Some group }
+{
+    let group = Addr::parse_dotted(word.as_bytes())?;
+    group.is_forwarded_group().then_some(group)
+}
+
+/// The source that the word writes, if a host may send from it.
+fn source_of(word: &str) -> Option<Addr>
+    ensures found { IfSome result (λ source. IsSource source × (word.now ≡ dotted source)) }
+    ensures only { (source : ℕ) → IsSource source → word.now ≡ dotted source
+        → result ≡ Some source }
+{
+    let source = Addr::parse_dotted(word.as_bytes())?;
+    source.is_source().then_some(source)
+}
+
+/// The number from 1 to the greatest that the word writes in decimal.
+fn number_of(word: &str, greatest: u64) -> Option<u64>
+    ensures range { IfSome result (λ number. (1 ≤ number) × (number ≤ greatest)) }
+    ensures found { IfSome result (IsDecimal word.now) }
+    ensures only { (number : ℕ) → IsDecimal word.now number → 1 ≤ number → number ≤ greatest
+        → result ≡ Some number }
+{
+    let number = decimal(word.as_bytes(), greatest)?;
+    (number >= 1).then_some(number)
+}
+
+/// Whether the word asks for the last of the waiting copies, `last`, or for the first, `first`.
+fn read_order(word: &str) -> Option<bool>
+    ensures found { IfSome result (λ last. word.now ≡ order_word last) }
+    ensures only { (last : Bool) → word.now ≡ order_word last → result ≡ Some last }
+{
+    match word {
+        "first" => Some(false),
+        "last" => Some(true),
+        _ => None,
+    }
+}
+
+/// A refusal of the words after `replay`, with the rule that they break.
+fn replay_refusal(alloc: Global, rule: &str) -> WordsFault {
+    usage_refusal(alloc, replay_command(alloc), rule)
+}
+
+/// The task of the words after `replay`.
+fn replay_task<'a>(
+    alloc: Global,
+    flow: &'a str,
+    ttl: &'a str,
+    order: &'a str,
+) -> Result<Task<'a>, WordsFault>
+    ensures allowed { IfOk result IsAllowed }
+    ensures found { IfOk result (AreReplayWords flow.now ttl.now order.now) }
+    ensures only { (f t : ℕ) (last : Bool) → IsAllowed (Task.Replay f t last)
+        → AreReplayWords flow.now ttl.now order.now (Task.Replay f t last)
+        → result ≡ Ok (Task.Replay f t last) }
+{
+    let Some(flow) = number_of(flow, 4_096) else {
+        return Err(replay_refusal(alloc, FLOW_RULE));
+    };
+    let Some(ttl) = number_of(ttl, 255) else {
+        return Err(replay_refusal(alloc, TTL_RULE));
+    };
+    let Some(last) = read_order(order) else {
+        return Err(replay_refusal(alloc, ORDER_RULE));
+    };
+    let flow = flow as u32;
+    let ttl = ttl as u8;
+    Ok(Task::Replay { flow, ttl, last })
+}
+
+/// The task of the words after `wants`.
+fn wants_task<'a>(alloc: Global, group: &'a str, source: &'a str) -> Result<Task<'a>, WordsFault>
+    ensures allowed { IfOk result IsAllowed }
+    ensures found { IfOk result (AreWantsWords group.now source.now) }
+    ensures only { (g s : ℕ) → IsForwardedGroup g → IsSource s → group.now ≡ dotted g
+        → source.now ≡ dotted s
+        → result ≡ Ok (Task.Wants g s) }
+{
+    let Some(group) = group_of(group) else {
+        return Err(usage_refusal(alloc, wants_command(alloc), GROUP_RULE));
+    };
+    let Some(source) = source_of(source) else {
+        return Err(usage_refusal(alloc, wants_command(alloc), SOURCE_RULE));
+    };
+    Ok(Task::Wants { group, source })
+}
+
+/// The task of the words after `pack`.
+fn pack_task<'a>(matches: &ArgMatches<'a>) -> Task<'a>
+    ensures allowed { IsAllowed result }
+    ensures found { IsTaskOfCommand (codes "pack") (rows_of (found_of matches.now)) result }
+{
+    Task::Pack {
+        folder: word_of(matches, "folder"),
+        certificate: is_flag_set(matches, "certificate"),
+    }
+}
+
+/// The task of a command and the words after it.
+fn named_task<'a>(
+    alloc: Global,
+    command: &str,
+    words: &ArgMatches<'a>,
+) -> Result<Task<'a>, WordsFault>
+    ensures allowed { IfOk result IsAllowed }
+    ensures found { IfOk result (IsTaskOfCommand command.now (rows_of (found_of words.now))) }
+    ensures only { (task : Task) → IsAllowed task
+        → IsTaskOfCommand command.now (rows_of (found_of words.now)) task
+        → IfErr result (λ fault. fault ≡ Memory) }
+{
+    match command {
+        "check" => Ok(Task::Check),
+        "make" => Ok(Task::Make),
+        "pack" => Ok(pack_task(words)),
+        "replay" => replay_task(
+            alloc,
+            word_of(words, "flow"),
+            word_of(words, "ttl"),
+            word_of(words, "order"),
+        ),
+        "wants" => wants_task(alloc, word_of(words, "group"), word_of(words, "source")),
+        _ => Err(missing_command_refusal(alloc)),
+    }
+}
+
+/// A refusal of words that name no command.
+fn missing_command_refusal(alloc: Global) -> WordsFault {
+    usage_refusal(alloc, program(alloc), "no command is given")
+}
+
+/// The task of the command that is found, and of the words after it.
+fn task_of<'a>(alloc: Global, matches: &ArgMatches<'a>) -> Result<Task<'a>, WordsFault>
+    ensures allowed { IfOk result IsAllowed }
+    ensures found { IfOk result (IsTaskOfSubcommand (subcommand_rows_of matches.now)) }
+    ensures only { (task : Task) → IsAllowed task → IsTaskOfSubcommand (subcommand_rows_of matches.now) task
+        → IfErr result (λ fault. fault ≡ Memory) }
+{
+    match matches.subcommand() {
+        Some((command, words)) => named_task(alloc, command, words),
+        None => Err(missing_command_refusal(alloc)),
+    }
+}
+
+/// A refusal of words in which clap finds an error, as the program with all commands explains it.
+fn clap_refusal<'a>(alloc: Global, words: &'a [&'a str], error: &clap::Error) -> WordsFault
+    ensures { kind_of error.now ≡ OutOfMemory → result ≡ Memory }
+{
+    match error.kind() {
+        ErrorKind::OutOfMemory => WordsFault::Memory,
+        _ => refusal_explained_by_clap(alloc, words),
+    }
+}
+
+/// The task of words that clap reads.
+fn clap_task<'a>(alloc: Global, words: &'a [&'a str]) -> Result<Task<'a>, WordsFault>
+    ensures allowed { IfOk result IsAllowed }
+    ensures found { IfOk result (IsClapTask (map (λ word. word.now) words.now)) }
+    ensures only { (task : Task) → IsAllowed task
+        → IsClapTask (map (λ word. word.now) words.now) task
+        → IfErr result (λ fault. fault ≡ Memory) }
+{
+    match clap_program(alloc)?.try_get_matches_from(words) {
+        Ok(matches) => task_of(alloc, &matches),
+        Err(error) => Err(clap_refusal(alloc, words, &error)),
+    }
+}
+
+/// The words from a place on.
+fn words_from<'a>(words: &'a [&'a str], place: usize) -> &'a [&'a str]
+    ensures { map (λ word. word.now) result.now ≡ drop place (map (λ word. word.now) words.now) }
+{
+    if words.len() < place {
+        return &[];
+    }
+    words.split_at(place).1
+}
+
+/// The task of the words after `audit`.
+fn audit_task<'a>(alloc: Global, words: &'a [&'a str]) -> Result<Task<'a>, WordsFault>
+    ensures allowed { IfOk result IsAllowed }
+    ensures found { IfOk result (IsAuditFor (drop 2 (map (λ word. word.now) words.now))) }
+    ensures only { (task : Task) → IsAuditFor (drop 2 (map (λ word. word.now) words.now)) task
+        → IfErr result (λ fault. fault ≡ Memory) }
+{
+    Ok(Task::Audit(audit_words_of(alloc, words_from(words, 2), words)?))
+}
+
+const HELP_RULE: &str =
+    "help takes no word or a command's name: audit, check, make, pack, replay or wants";
+
+/// The command whose help the words behind `help` ask for: the program, or the one that they name.
+fn topic_of<'a>(alloc: Global, words: &[&str]) -> Option<Result<Command<'a>, AllocError>>
+    ensures { is_some result ≡ is_topic (map (λ word. word.now) words.now) }
+{
+    match words.len() {
+        0 => Some(program(alloc)),
+        1 => command_named(alloc, words[0]),
+        _ => None,
+    }
+}
+
+/// The text of a command's help.
+fn help_text(command: Result<Command<'_>, AllocError>) -> Result<String, AllocError> {
+    let mut command = command?;
+    command.render_help()
+}
+
+/// The task of the words after `help`.
+fn help_task<'a>(alloc: Global, words: &'a [&'a str]) -> Result<Task<'a>, WordsFault>
+    ensures allowed { IfOk result IsAllowed }
+    ensures found { IfOk result (λ task. IsHelp task
+        × (is_topic (drop 2 (map (λ word. word.now) words.now)) ≡ true)) }
+    ensures only { is_topic (drop 2 (map (λ word. word.now) words.now)) ≡ true
+        → IfErr result (λ fault. fault ≡ Memory) }
+{
+    match topic_of(alloc, words_from(words, 2)) {
+        Some(command) => Ok(Task::Help(help_text(command)?)),
+        None => Err(usage_refusal(alloc, program(alloc), HELP_RULE)),
+    }
+}
+
+/// Whether this is the first word behind the program's name.
+fn is_first_word(word: &str, words: &[&str]) -> bool
+    ensures { IsTrue result ↔ IsFirstWord word.now (map (λ word. word.now) words.now) }
+{
+    match words.get(1) {
+        Some(first) => *first == word,
+        None => false,
+    }
+}
+
+/// Whether the words ask for the version, by the one behind the program's own name.
+fn ask_for_version(words: &[&str]) -> bool
+    ensures { IsTrue result ↔ AskForVersion (map (λ word. word.now) words.now) }
+{
+    is_first_word("--version", words) || is_first_word("-V", words)
+}
+
+/// The task that the program's words ask for. The first word is the program's own name.
+///
+/// # Errors
+///
+/// `Wrong`, with the text that tells how the program is used, where the words give no task, and `Memory`
+/// where memory runs out.
+pub fn command_of<'a>(alloc: Global, words: &'a [&'a str]) -> Result<Task<'a>, WordsFault>
+    // A task is given only with a group that routers forward and an address that a host may send
+    // from, with a flow's number from 1 to 4,096 and a time to live from 1 to 255, and with a folder
+    // to be audited that doesn't begin with `-` and names of routers, each once, to be audited
+    // without.
+    ensures allowed { IfOk result IsAllowed }
+    // The version is asked for by `--version` or `-V` as the first word behind the name, whatever
+    // stands behind it, and by nothing else.
+    ensures version { (result ≡ Ok Task.Version) ↔ AskForVersion (map (λ word. word.now) words.now) }
+    // The words ask for the task that is given: behind `audit` by a definition of their own, else as
+    // clap finds the command and its values in them.
+    ensures found { IfOk result (IsAskedFor (map (λ word. word.now) words.now)) }
+    // A task that the words ask for is given, unless memory runs out.
+    ensures only { (task : Task) → IsAllowed task
+        → IsAskedFor (map (λ word. word.now) words.now) task
+        → IfErr result (λ fault. fault ≡ Memory) }
+{
+    if ask_for_version(words) {
+        return Ok(Task::Version);
+    }
+    if is_first_word("help", words) {
+        return help_task(alloc, words);
+    }
+    if is_first_word("audit", words) {
+        return audit_task(alloc, words);
+    }
+    clap_task(alloc, words)
+}

@@ -1,8 +1,0 @@
-use Rattle.mc_domain.proofs.UniqueInput.{DenotesInput-unique}
-use Rattle.mc_domain.proofs.laws.bundle_denotes_one_input.Goals as goal
-
-pub returns-clause-input : goal.returns-clause-input
-returns-clause-input c = λ text a b m n is h k. (DenotesInput-unique text a b m n is h k).0
-
-pub returns-clause-certificate : goal.returns-clause-certificate
-returns-clause-certificate c = λ text a b m n is h k. (DenotesInput-unique text a b m n is h k).1

@@ -1,5 +1,0 @@
-use Rattle.mc_domain.proofs.HasNoVifOrRowLemmas.{HasNoVifOrRow-excluded}
-use Rattle.mc_domain.proofs.laws.excluded_routers_have_no_vif_or_row.Goals as goal
-
-pub returns : goal.returns
-returns c = HasNoVifOrRow-excluded

@@ -1,5 +1,0 @@
-use Rattle.mc_domain.proofs.UniqueInput.{DenotesInput-from_packed}
-use Rattle.mc_domain.proofs.laws.packed_bundle_denotes_input_of_files.Goals as goal
-
-pub returns : goal.returns
-returns c = λ files parts text v h p bundle. DenotesInput-from_packed files parts text v h p bundle

@@ -1,0 +1,12 @@
+use Rattle.std.proofs.Common.{refl}
+use Rattle.mc_text.specs.Bundle.{bundle_spelling}
+use Rattle.mc_text.proofs.BundleLaws.{bundle_of-complete}
+use Rattle.mc_files.proofs.PackLemmas.{IsPartName-from_IsPacked}
+use Rattle.mc_files.proofs.laws.packed_files_are_read_back.Goals as goal
+
+pub returns : goal.returns
+returns c = λ files certified parts is. bundle_of-complete (bundle_spelling parts) parts (record {
+  borrows = IsPartName-from_IsPacked files certified parts is;
+  limits = is.limits;
+  spelled = refl;
+})

@@ -1,0 +1,17 @@
+use Rattle.std.proofs.Common.{refl}
+use Rattle.mc_files.proofs.NameLemmas.{bytes_eq-joined}
+use Rattle.mc_files.proofs.slot.is_joined.Goals as goal
+
+pub returns-in-Some : goal.returns-in-Some
+returns-in-Some c =
+    rw (
+      bytes_eq-joined c.args.front.now c.args.bytes.now c.args.rest.now,
+      c.in-Some.ensures.cases.0,
+      ← c.in-Some.ensures.cases.1,
+    ) c.eq.ensures
+
+pub returns-in-None : goal.returns-in-None
+returns-in-None c = rw (
+  bytes_eq-joined c.args.front.now c.args.bytes.now c.args.rest.now,
+  c.in-None.ensures.cases,
+) refl

@@ -1,0 +1,29 @@
+use Rattle.std.proofs.Common.{◌-◌, ◌*◌, ap, sym, ◌∙◌, Some, arith}
+use Rattle.mc_files.proofs.SlotLemmas.{router_slot, slots-reports_slot, slots-certificate_slot}
+use Rattle.mc_files.proofs.slot.slot_at.Goals as goal
+
+pub returns-then-number-tables : goal.returns-then-number-tables
+returns-then-number-tables c =
+    sym (router_slot c.args.certified c.args.topology.now c.args.number (c.args.number - 1)
+    c.router_slot.result (omega (arith, c.if-number-eq0.false)) c.router_slot.ensures)
+
+pub returns-then-lan-lans : goal.returns-then-lan-lans
+returns-then-lan-lans c =
+    ap Some c.reports.ensures
+    ∙ sym (slots-reports_slot c.args.certified c.args.topology.now c.args.number
+    (c.args.number - 1 - 2 * c.routers-tables.result) c.lan_name.result.now
+    (omega (arith, c.routers-tables.ensures.count, c.if-number-tables.false))
+    c.lan_name.ensures.name)
+
+pub returns : goal.returns
+returns c =
+    ap Some c.certificate.ensures
+    ∙ sym (slots-certificate_slot c.args.certified c.args.topology.now c.args.number
+    (omega (
+      arith,
+      c.routers-tables.ensures.count,
+      c.lans.ensures.count,
+      c.if-number-tables.false,
+      c.if-lan-lans.false,
+    ))
+    (omega (arith, c.slot_count.ensures.count, c.if-number-slot_count.false)))

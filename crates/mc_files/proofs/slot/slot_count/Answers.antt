@@ -1,0 +1,10 @@
+use Rattle.std.proofs.Common.{true, false, arith}
+use Rattle.mc_files.proofs.SlotLemmas.{length-slots_after_topology}
+use Rattle.mc_files.proofs.slot.slot_count.Goals as goal
+
+pub returns-then-certified-clause-count : goal.returns-then-certified-clause-count
+returns-then-certified-clause-count c =
+    rw (c.if-certified.true) (omega (arith, length-slots_after_topology true c.args.topology.now))
+
+pub returns-clause-count : goal.returns-clause-count
+returns-clause-count c = rw (c.if-certified.false) (omega (arith, length-slots_after_topology false c.args.topology.now))

@@ -1,0 +1,25 @@
+-- The part that a file of a folder makes, or why there is none.
+use Rattle.std.specs.Prelude.{ℕ, nat_le, List, length, Option, Some, None, Result, Ok, Err, ⊤}
+use Rattle.std.specs.Prelude.{if◌then◌else◌}
+use Rattle.mc_text.specs.Steps.{◌>>=◌}
+use Rattle.mc_text.specs.Bundle.{PartText, max_part}
+use Rattle.mc_files.specs.Files.{FileText, file_named}
+use Rattle.mc_files.specs.Layout.{Slot, file_name, part_name}
+use Rattle.mc_files.specs.declared.fault.FileFault.{FileFault}
+use Rattle.mc_files.specs.declared.fault.FileFault.TheVariants.{Failed, TooLarge}
+
+-- the fault is that of a source or of memory, and says nothing of the file
+abbrev pub IsFailedOrMemory : FileFault → Type 0
+IsFailedOrMemory TooLarge = ⊥
+IsFailedOrMemory fault = ⊤
+
+-- the bytes of the file that was found, as those of a part
+abbrev pub bytes_within_max_part : Option (List ℕ) → Result (List ℕ) FileFault
+bytes_within_max_part None = Err Failed
+bytes_within_max_part (Some bytes) = if nat_le (length bytes) max_part then Ok bytes else Err TooLarge
+
+-- the part of a slot, which is made of its file
+abbrev pub file_part : List FileText → Slot → Result PartText FileFault
+file_part files slot =
+    bytes_within_max_part (file_named files (file_name slot))
+    >>= λ bytes. Ok (record { name = part_name slot; bytes = bytes })

@@ -1,0 +1,53 @@
+-- What packing answers and writes, and what it does to its devices.
+use Rattle.std.specs.Prelude.{◌≡◌, ℕ, Bool, true, false, List, Option, Result, Ok, Err, ⊤}
+use Rattle.mc_text.specs.Bundle.{PartText, bundle_spelling}
+use Rattle.mc_text.specs.Bundle.{AppendsBundle}
+use Rattle.mc_text.specs.Device.{AppendsProperPrefix}
+use Rattle.mc_files.specs.Files.{FileText}
+use Rattle.mc_files.specs.Packing.{IsPacked}
+use Rattle.mc_files.specs.PackReading.{packed_parts}
+use Rattle.mc_text.specs.declared.bundle.bundle_fault.BundleFault.{BundleFault}
+use Rattle.mc_text.specs.declared.bundle.bundle_fault.BundleFault.TheVariants as bundle
+use Rattle.mc_files.specs.declared.fault.PackFault.{PackFault}
+use Rattle.mc_files.specs.declared.fault.PackFault.TheVariants.{Topology, TooLarge, Read, Write}
+use Rattle.mc_files.specs.declared.fault.PackFault.TheVariants.{Memory}
+
+-- why a bundle that is too large, or whose output fails, isn't written
+abbrev pub from_bundle_fault : BundleFault → PackFault
+from_bundle_fault bundle.TooLarge = TooLarge
+from_bundle_fault _ = Write
+
+-- the fault is that of a device or of memory, and says nothing of the files
+abbrev pub IsIoOrMemory : PackFault → Type 0
+IsIoOrMemory (Topology fault) = ⊥
+IsIoOrMemory TooLarge = ⊥
+IsIoOrMemory _ = ⊤
+
+-- There is a bundle of the files, or this is the first reason why there is none.
+abbrev pub IsPackAnswer : Bool → List FileText → Result (Unit {0}) PackFault → Type 0
+IsPackAnswer certified files (Ok done) = (parts : List PartText) × IsPacked files certified parts
+IsPackAnswer certified files (Err (Topology fault)) = packed_parts certified files ≡ Err (Topology fault)
+IsPackAnswer certified files (Err TooLarge) = packed_parts certified files ≡ Err TooLarge
+IsPackAnswer certified files (Err Read) = ⊤
+IsPackAnswer certified files (Err Write) = ⊤
+IsPackAnswer certified files (Err Memory) = ⊤
+
+-- the bundle of the files was written whole
+abbrev pub WritesPackedBundle : Bool → List FileText → Option (List ℕ) → Option (List ℕ) → Type 0
+WritesPackedBundle certified files old new =
+    (parts : List PartText) × IsPacked files certified parts × AppendsBundle old new parts
+
+-- a proper part of it was written, from its front
+abbrev pub WritesPackedPrefix : Bool → List FileText → Option (List ℕ) → Option (List ℕ) → Type 0
+WritesPackedPrefix certified files old new =
+    (parts : List PartText) × IsPacked files certified parts
+    × AppendsProperPrefix old new (bundle_spelling parts)
+
+-- the fault is that of the files, which they count, or that of the output
+abbrev pub is_read : PackFault → Bool
+is_read Read = true
+is_read fault = false
+
+abbrev pub is_write : PackFault → Bool
+is_write Write = true
+is_write fault = false

@@ -1,0 +1,27 @@
+-- The bundle that is packed of a folder's files.
+use Rattle.std.specs.Prelude.{◌≡◌, ℕ, Bool, List, [], ◌∷◌, codes, Some, ⊤}
+use Rattle.mc_text.specs.Bundle.{PartText, AreWithinLimits}
+use Rattle.mc_topology.specs.Topology.{TopologyValue}
+use Rattle.mc_topology.specs.Denotation.{DenotesBoundedTopology}
+use Rattle.mc_files.specs.Files.{FileText, file_named}
+use Rattle.mc_files.specs.Layout.{Slot, file_name, part_name, slots}
+
+-- a part for each slot, of its name, with the bytes of its file
+abbrev pub ArePacked : List FileText → List Slot → List PartText → Type 0
+ArePacked files [] [] = ⊤
+ArePacked files (slot ∷ others) (part ∷ parts) =
+    (part.name ≡ part_name slot) × (file_named files (file_name slot) ≡ Some part.bytes)
+    × ArePacked files others parts
+ArePacked files _ _ = ⊥
+
+-- The parts of the bundle that is packed of the files: the topology, which has a meaning and is within
+-- the bounds of what is read, and the files of the other slots that it makes, in their order. They are
+-- within the limits of a bundle.
+pub record IsPacked (files : List FileText) (certified : Bool) (parts : List PartText) : Type 0
+  where
+    pub text : List ℕ
+    pub topology : TopologyValue
+    pub first : file_named files (codes "topology") ≡ Some text
+    pub denotes : DenotesBoundedTopology text topology
+    pub each : ArePacked files (slots certified topology) parts
+    pub limits : AreWithinLimits parts

@@ -1,0 +1,68 @@
+//! The part that a file of a folder makes.
+
+ghost use Rattle.std.specs.Prelude.{◌≡◌, ◌<◌};
+ghost use Rattle.mc_text.specs.Device.{failures_after};
+ghost use Rattle.mc_text.specs.BundleView.{part_text};
+ghost use Rattle.mc_files.specs.FilePart.{IsFailedOrMemory, file_part};
+ghost use Rattle.mc_files.specs.Files.{GivesFromContents, is_failure};
+
+use crate::fault::FileFault;
+use crate::slot::Slot;
+use crate::source::FileSource;
+use mc_text::{MAX_PART, Part, PartName};
+use std::alloc::Global;
+use std::marker::Model;
+
+/// The part that a file makes, with the file's bytes.
+#[derive(Debug, Drop)]
+pub struct FilePart {
+    name: PartName,
+    bytes: Vec<u8>,
+}
+
+impl Model for FilePart {
+    ghost use Rattle.mc_text.specs.Bundle.{PartText};
+
+    ghost Value = { PartText };
+
+    ghost view = { λ part. record { name = part.name; bytes = part.bytes.items } };
+}
+
+impl FilePart {
+    /// The part, with its bytes where they lie.
+    pub fn as_part(&self) -> Part<'_>
+        ensures { part_text result ≡ self.now }
+    {
+        Part {
+            name: self.name,
+            bytes: &self.bytes,
+        }
+    }
+}
+
+/// The part of a slot, which is made of its file. The count of the source's failures has to be
+/// below `u64::MAX`.
+///
+/// # Errors
+///
+/// `Failed` where the file isn't there or can't be read, `TooLarge` where it has more than
+/// 16,777,216 bytes, or `Memory`.
+pub fn part_of_file<F: FileSource>(
+    alloc: Global,
+    files: &mut F,
+    slot: &Slot<'_>,
+) -> Result<FilePart, FileFault>
+    requires { F.failed files.old < u64.MAX }
+    ensures same { F.borrows files.new ≡ F.borrows files.old }
+    ensures kept { F.contents files.new ≡ F.contents files.old }
+    // It is the part that the file makes, or the reason why there is none.
+    ensures part { GivesFromContents IsFailedOrMemory (F.contents files.old) (λ part. part) result
+        (λ contents. file_part contents slot.now) }
+    // Failed comes only where the source's failures rose in the call.
+    ensures failures { F.failed files.new ≡ failures_after is_failure result (F.failed files.old) }
+{
+    let name = slot.part_name(alloc)?;
+    let file = slot.file_name(alloc)?;
+    let bytes = files.read(alloc, &file, MAX_PART)?;
+    Ok(FilePart { name, bytes })
+}

@@ -1,0 +1,194 @@
+//! The files of a folder of the file system.
+
+ghost use Rattle.std.specs.Prelude.{◌≡◌, ◌≢◌, ◌<◌, ◌≤◌, ◌+◌, IfOk, None, cond, false, vec_len};
+ghost use Rattle.mc_files.specs.Files.{is_failure};
+
+use crate::fault::FileFault;
+use crate::piece_source::PieceSource;
+use crate::source::FileSource;
+use crate::unread::Unread;
+use mc_text::{FromReader, ReadFault, read_to_limit};
+use std::alloc::{AllocError, Global};
+use std::fs;
+use std::io::Read;
+use std::marker::Model;
+use std::path::Path;
+use std::rt::Files;
+
+/// A source over a folder of the file system. It tells no files.
+#[derive(Drop)]
+pub struct Folder<'a, R: Files> {
+    system: &'a R,
+    folder: &'a str,
+    file: Option<R::File>,
+    failures: u64,
+    unread: Option<Unread>,
+}
+
+impl<'a, R: Files> Model for Folder<'a, R> {
+    ghost use Rattle.std.specs.Prelude.{◌≡◌, is_some, nat_lt};
+    ghost use Rattle.mc_files.specs.Files.{FolderState};
+
+    ghost Value = { FolderState };
+
+    ghost view = { λ s. record {
+      folder = s.folder.now;
+      is_open = is_some s.file;
+      failed = s.failures;
+    } };
+
+    // there is a reason once a call failed
+    ghost invariant = { λ s. is_some s.unread ≡ nat_lt 0 s.failures };
+}
+
+/// Why a file isn't opened.
+#[derive(Drop)]
+enum OpenFault {
+    /// It can't be.
+    Unread(Unread),
+    /// Memory ran out.
+    Memory,
+}
+
+impl From<AllocError> for OpenFault {
+    fn from(_refused: AllocError) -> OpenFault {
+        OpenFault::Memory
+    }
+}
+
+impl<'a, R: Files> Folder<'a, R> {
+    /// A source over the folder, or over the present directory where its path is empty. No file is
+    /// opened yet.
+    pub fn new(system: &'a R, folder: &'a str) -> Folder<'a, R>
+        ensures folder { result.folder ≡ folder.now }
+        ensures unread { (result.is_open ≡ false) × (result.failed ≡ 0) }
+    {
+        Folder {
+            system,
+            folder,
+            file: None,
+            failures: 0,
+            unread: None,
+        }
+    }
+
+    /// A call fails, since a file can't be read.
+    fn count_failure(&mut self, unread: Unread) -> FileFault
+        requires { self.old.failed < u64.MAX }
+        ensures state { self.new ≡ record self.old { failed = self.old.failed + 1 } }
+        ensures fault { result ≡ FileFault.Failed }
+    {
+        self.failures += 1;
+        self.unread = Some(unread);
+        FileFault::Failed
+    }
+
+    /// A file isn't opened.
+    fn fail_to_open(&mut self, open_fault: OpenFault) -> FileFault
+        requires { self.old.failed < u64.MAX }
+        ensures state { self.new ≡ record self.old {
+          failed = cond (is_failure result) (self.old.failed + 1) self.old.failed;
+        } }
+        ensures fault { result ≢ FileFault.TooLarge }
+    {
+        match open_fault {
+            OpenFault::Unread(unread) => self.count_failure(unread),
+            OpenFault::Memory => FileFault::Memory,
+        }
+    }
+}
+
+/// The regular file with this path, or the one that it links to, opened.
+fn open_regular_file<R: Files>(system: &R, path: Path<'_>) -> Result<R::File, Unread> {
+    match fs::metadata(system, path) {
+        Ok(found) if found.is_file() => {}
+        Ok(_) => return Err(Unread::NotRegular),
+        Err(error) => return Err(Unread::from_error(error)),
+    }
+    fs::open(system, path).map_err(Unread::from_error)
+}
+
+/// The file of a folder, opened. A name with a `/` in it is none of the folder's files.
+fn open_in_folder<R: Files>(
+    alloc: Global,
+    system: &R,
+    folder: &str,
+    name: &str,
+) -> Result<R::File, OpenFault> {
+    if name.as_bytes().contains(&b'/') {
+        return Err(OpenFault::Unread(Unread::NoSuchFile));
+    }
+    let path = Path::new(folder).join(alloc, name)?;
+    match open_regular_file(system, path.as_path()) {
+        Ok(file) => Ok(file),
+        Err(unread) => Err(OpenFault::Unread(unread)),
+    }
+}
+
+/// The bytes of an open file. No more is read of it than the limit and a byte.
+fn read_within_limit<R: Read + Drop>(alloc: Global, file: R, limit: usize) -> Result<Vec<u8>, FileFault>
+    ensures bound { IfOk result (λ bytes. vec_len bytes ≤ limit) }
+{
+    let bytes = read_to_limit(alloc, &mut FromReader::new(file), limit.saturating_add(1))?;
+    if bytes.len() > limit {
+        return Err(FileFault::TooLarge);
+    }
+    Ok(bytes)
+}
+
+impl<'a, R: Files> FileSource for Folder<'a, R> {
+    ghost contents = { λ _. None };
+
+    ghost folder = { λ s. s.folder };
+
+    ghost failed = { λ s. s.failed };
+
+    fn read(&mut self, alloc: Global, name: &str, limit: usize) -> Result<Vec<u8>, FileFault> {
+        match open_in_folder(alloc, self.system, self.folder, name) {
+            Ok(file) => match read_within_limit(alloc, file, limit) {
+                Err(FileFault::Failed) => Err(self.count_failure(Unread::Failed)),
+                answer => answer,
+            },
+            Err(open_fault) => Err(self.fail_to_open(open_fault)),
+        }
+    }
+
+    fn failures(&self) -> u64 {
+        self.failures
+    }
+}
+
+impl<'a, R: Files> PieceSource for Folder<'a, R> {
+    ghost is_open = { λ s. s.is_open };
+
+    ghost left = { λ _. None };
+
+    fn open(&mut self, alloc: Global, name: &str) -> Result<(), FileFault> {
+        self.close();
+        match open_in_folder(alloc, self.system, self.folder, name) {
+            Ok(file) => {
+                self.file = Some(file);
+                Ok(())
+            }
+            Err(open_fault) => Err(self.fail_to_open(open_fault)),
+        }
+    }
+
+    fn read_piece(&mut self, buffer: &mut [u8]) -> Result<usize, FileFault> {
+        let Some(file) = &mut self.file else {
+            return Ok(0);
+        };
+        match file.read(buffer) {
+            Ok(count) => Ok(count),
+            Err(error) => Err(self.count_failure(Unread::from_error(error))),
+        }
+    }
+
+    fn close(&mut self) {
+        self.file = None;
+    }
+
+    fn unread(&self) -> Option<Unread> {
+        self.unread
+    }
+}

@@ -1,0 +1,208 @@
+//! The slots of a domain: which part is what, in the one order, and the two names of each.
+
+ghost use Rattle.std.specs.Prelude.{◌≡◌, ◌<◌, ◌≤◌, ◌*◌, ◌++◌, codes, flat_map, length, slice_get, Some};
+ghost use Rattle.std.specs.Prelude.{List, IfOk, IsTrue};
+ghost use Rattle.std.specs.Str.{bytes_eq};
+ghost use Rattle.std.specs.String.{string_bytes};
+ghost use Rattle.mc_text.specs.Bundle.{IsPartName};
+ghost use Rattle.mc_files.specs.Layout.{Slot as SlotText, cache_slot, certificate_slot, file_name};
+ghost use Rattle.mc_files.specs.Layout.{part_name, reports_slot, router_slots, slots, topology_slot};
+ghost use Rattle.mc_files.specs.Layout.{vif_slot};
+ghost use Rattle.mc_topology.specs.Names.{is_name};
+
+use mc_text::PartName;
+use mc_topology::{LanNo, RouterNo, Topology};
+use std::alloc::{AllocError, Global};
+use std::marker::Model;
+
+/// Which part of a domain: what it is, and the router or the LAN that it tells of.
+#[derive(Debug, Drop)]
+pub struct Slot<'a> {
+    kind: &'a str,
+    owner: Option<&'a str>,
+}
+
+impl<'a> Model for Slot<'a> {
+    ghost use Rattle.std.specs.Prelude.{option_map};
+    ghost use Rattle.mc_text.specs.Bundle.{IsPartName};
+    ghost use Rattle.mc_files.specs.Layout.{Slot, part_name};
+
+    ghost Value = { Slot };
+
+    ghost view = { λ s. record { kind = s.kind.now; owner = option_map (λ o. o.now) s.owner } };
+
+    ghost invariant = { λ s. IsPartName (part_name (record {
+      kind = s.kind.now;
+      owner = option_map (λ o. o.now) s.owner;
+    })) };
+}
+
+impl<'a> Slot<'a> {
+    /// The slot of the topology.
+    pub fn topology() -> Slot<'static>
+        ensures { result ≡ topology_slot }
+    {
+        Slot {
+            kind: "topology",
+            owner: None,
+        }
+    }
+
+    /// The slot of the vifs of the router with this name.
+    pub fn vifs(router: &'a str) -> Slot<'a>
+        requires { IsTrue (is_name router.now) }
+        ensures { result ≡ vif_slot router.now }
+    {
+        Slot {
+            kind: "vif",
+            owner: Some(router),
+        }
+    }
+
+    /// The slot of the forwarding cache of the router with this name.
+    pub fn cache(router: &'a str) -> Slot<'a>
+        requires { IsTrue (is_name router.now) }
+        ensures { result ≡ cache_slot router.now }
+    {
+        Slot {
+            kind: "cache",
+            owner: Some(router),
+        }
+    }
+
+    /// The slot of the reports of the LAN with this name.
+    pub fn reports(lan: &'a str) -> Slot<'a>
+        requires { IsTrue (is_name lan.now) }
+        ensures { result ≡ reports_slot lan.now }
+    {
+        Slot {
+            kind: "igmp",
+            owner: Some(lan),
+        }
+    }
+
+    /// The slot of the certificate.
+    fn certificate() -> Slot<'static>
+        ensures { result ≡ certificate_slot }
+    {
+        Slot {
+            kind: "certificate",
+            owner: None,
+        }
+    }
+
+    /// Whether these are the bytes of its name in a bundle.
+    pub fn is_named(&self, name: &[u8]) -> bool
+        ensures { result ≡ bytes_eq name.now (part_name self.now) }
+    {
+        match self.owner {
+            None => name == self.kind.as_bytes(),
+            Some(owner) => is_joined_by_slash(name, self.kind.as_bytes(), owner.as_bytes()),
+        }
+    }
+
+    /// Its name in a bundle.
+    pub fn part_name(&self, alloc: Global) -> Result<PartName, AllocError>
+        ensures { IfOk result (λ name. name ≡ part_name self.now) }
+    {
+        let kind = self.kind;
+        match self.owner {
+            None => Ok(to_part_name(kind)),
+            Some(owner) => {
+                let name = format!(in alloc; "{kind}/{owner}")?;
+                Ok(to_part_name(&name))
+            }
+        }
+    }
+
+    /// The name of its file in a folder.
+    pub fn file_name(&self, alloc: Global) -> Result<String, AllocError>
+        ensures { IfOk result (λ name. string_bytes name ≡ file_name self.now) }
+    {
+        let kind = self.kind;
+        match self.owner {
+            None => String::from_str(alloc, kind),
+            Some(owner) => format!(in alloc; "{kind}-{owner}"),
+        }
+    }
+}
+
+/// The name of a part.
+fn to_part_name(name: &str) -> PartName
+    requires { IsPartName name.now }
+    ensures { result ≡ name.now }
+{
+    let Some(name) = PartName::new(name.as_bytes()) else {
+        unreachable!()
+    };
+    name
+}
+
+/// Whether the bytes are the first text and then the second.
+fn is_joined(bytes: &[u8], front: &[u8], rest: &[u8]) -> bool
+    ensures { result ≡ bytes_eq bytes.now (front.now ++ rest.now) }
+{
+    match bytes.strip_prefix(front) {
+        Some(after) => after == rest,
+        None => false,
+    }
+}
+
+/// Whether the bytes are the first text, a slash and the second text.
+fn is_joined_by_slash(bytes: &[u8], kind: &[u8], owner: &[u8]) -> bool
+    ensures { result ≡ bytes_eq bytes.now (kind.now ++ (codes "/" ++ owner.now)) }
+{
+    match bytes.strip_prefix(kind) {
+        Some(after) => is_joined(after, b"/", owner),
+        None => false,
+    }
+}
+
+/// The slot of a table of a router: of its vifs where the number is even, else of its cache.
+fn router_slot(topology: &Topology, number: u32) -> Slot<'_>
+    requires { number < 2 * length topology.now.routers }
+    ensures { (more : List SlotText)
+        → slice_get (flat_map router_slots topology.now.routers ++ more) number ≡ Some result }
+{
+    let router = topology.router_name(RouterNo(number / 2));
+    if number % 2 == 0 {
+        return Slot::vifs(router);
+    }
+    Slot::cache(router)
+}
+
+/// How many slots a domain has, with that of the certificate where one is to be there: at most
+/// 1,538.
+pub fn slot_count(topology: &Topology, certified: bool) -> u32
+    ensures count { result ≡ length (slots certified topology.now) }
+    ensures few { result ≤ 1538 }
+{
+    let count = 1 + 2 * topology.routers() + topology.lans();
+    if certified {
+        return count + 1;
+    }
+    count
+}
+
+/// The slot with a number, counted from 0, of a domain with or without a certificate: of the
+/// topology, of each router's vifs and cache and of each LAN's reports in the topology's order, and
+/// of the certificate. None behind the last.
+pub fn slot_at(topology: &Topology, certified: bool, number: u32) -> Option<Slot<'_>>
+    ensures { result ≡ slice_get (slots certified topology.now) number }
+{
+    if number >= slot_count(topology, certified) {
+        return None;
+    }
+    if number == 0 {
+        return Some(Slot::topology());
+    }
+    let tables = 2 * topology.routers();
+    if number <= tables {
+        return Some(router_slot(topology, number - 1));
+    }
+    let lan = number - 1 - tables;
+    if lan < topology.lans() {
+        return Some(Slot::reports(topology.lan_name(LanNo(lan))));
+    }
+    Some(Slot::certificate())
+}

@@ -1,0 +1,63 @@
+//! Where files come from: a source, which may fail, and counts how often it did.
+
+ghost use Rattle.std.specs.Prelude.{◌≡◌, ◌<◌, ◌≤◌, ◌∷◌, ℕ, List, [], Option, IfOk, IfSome, vec_len};
+ghost use Rattle.std.specs.Borrow.{GName};
+ghost use Rattle.mc_text.specs.Device.{failures_after};
+ghost use Rattle.mc_files.specs.Files.{FileText, file_named, is_failure, IsRead};
+
+use crate::fault::FileFault;
+use std::alloc::Global;
+
+/// What files are read from, each whole and by its name.
+pub trait FileSource {
+    // the files, where it tells them
+    ghost contents: { Self → Option (List FileText) };
+
+    // the path of the folder that they lie in, empty where that is the present directory or none
+    ghost folder: { Self → List ℕ } = { λ _. [] };
+
+    // how many calls failed
+    ghost failed: { Self → ℕ };
+
+    // the references that it is reached through
+    ghost borrows: { Self → List GName } = { λ _. [] };
+
+    /// Reads the file with the name, which has to have at most `limit` bytes. It may be called
+    /// while the count of failures is below `u64::MAX`.
+    ///
+    /// # Errors
+    ///
+    /// `Failed` where the file isn't there or can't be read, `TooLarge` where it has more bytes, or
+    /// `Memory`.
+    fn read(&mut self, alloc: Global, name: &str, limit: usize) -> Result<Vec<u8>, FileFault>
+        requires { failed self.old < u64.MAX }
+        ensures same { borrows self.new ≡ borrows self.old }
+        ensures kept { contents self.new ≡ contents self.old }
+        ensures folder { folder self.new ≡ folder self.old }
+        ensures bound { IfOk result (λ bytes. vec_len bytes ≤ limit) }
+        ensures bytes { IfSome (contents self.old) (λ files.
+            IsRead (λ bytes. bytes.items) (file_named files name.now) limit result) }
+        ensures failures { failed self.new ≡ failures_after is_failure result (failed self.old) };
+
+    /// How many calls of `read` answered `Failed`.
+    fn failures(&self) -> u64
+        ensures { result ≡ failed self.now };
+}
+
+impl<F: FileSource> FileSource for &mut F {
+    ghost contents = { λ files. F.contents files.now };
+
+    ghost folder = { λ files. F.folder files.now };
+
+    ghost failed = { λ files. F.failed files.now };
+
+    ghost borrows = { λ files. files.ghost_name ∷ F.borrows files.now };
+
+    fn read(&mut self, alloc: Global, name: &str, limit: usize) -> Result<Vec<u8>, FileFault> {
+        FileSource::read(&mut **self, alloc, name, limit)
+    }
+
+    fn failures(&self) -> u64 {
+        FileSource::failures(&**self)
+    }
+}

@@ -1,0 +1,334 @@
+-- What is read of files with those of some routers left out.
+use Rattle.std.specs.Prelude.{◌≡◌, ℕ, zero, suc, ◌+◌, ◌<◌, min, Bool, true, false, ◌||◌, List, [], ◌∷◌}
+use Rattle.std.specs.Prelude.{Option, Some, None, Result, Ok, Err, IfOk, Contains, get_or, is_some}
+use Rattle.std.specs.Prelude.{length, map, option_map}
+use Rattle.std.specs.Prelude.{drop, refl}
+use Rattle.std.proofs.Common.{add-one, cond, ap, arith, subst, sym, ◌∙◌}
+use Rattle.std.specs.List.{find, list_any, position_from}
+use Rattle.std.specs.Str.{bytes_eq}
+use Rattle.std.proofs.lemmas.Iterator.Adapters.{position_from-zero}
+use Rattle.std.proofs.lemmas.Slice.Eq.{bytes_eq-Decides}
+use Rattle.mc_text.specs.Steps.{◌>>=◌, map_fault}
+use Rattle.mc_text.specs.declared.text.addr.Order.{Order}
+use Rattle.mc_tables.specs.Summary.{SummaryValue}
+use denote.Ref.{Bor}
+use Rattle.mc_topology.specs.Lookup.{has_router, router_no_of}
+use Rattle.mc_topology.specs.SectionRows.{RouterRow}
+use Rattle.mc_topology.specs.Topology.{TopologyValue}
+use Rattle.mc_topology.specs.declared.flow.Flow.{Flow}
+use Rattle.mc_files.specs.FilePart.{file_part, bytes_within_max_part}
+use Rattle.mc_files.specs.Files.{FileText, file_named}
+use Rattle.mc_files.specs.Layout.{Slot, cache_slot, file_name, part_name, reports_slot, topology_slot}
+use Rattle.mc_files.specs.Layout.{vif_slot}
+use Rattle.mc_input.specs.FilesReading.{input_of_files, part_from_file}
+use Rattle.mc_input.specs.Kept.{GivesKept}
+use Rattle.mc_input.specs.ExcludedRouters.{AreRouterNames, header_only_files, cache_header, check_router_names, input_of_files_without}
+use Rattle.mc_input.specs.ExcludedRouters.{files_with_exclusions, vif_header}
+use Rattle.mc_input.specs.SummariesOfFiles.{IsSummaryOf}
+use Rattle.mc_input.specs.PartsReading.{all_reports, read_tables_and_reports, first_lan_number, router_tables, read_part}
+use Rattle.mc_input.specs.PartsReading.{topology_of}
+use Rattle.mc_input.specs.declared.source_fault.SourceFault.{SourceFault}
+use Rattle.mc_input.specs.declared.source_fault.SourceFault.TheVariants.{Input}
+use Rattle.mc_input.specs.declared.without_fault.WithoutFault.{WithoutFault}
+use Rattle.mc_input.specs.declared.without_fault.WithoutFault.TheVariants.{Source, NoSuchRouter}
+use Rattle.mc_input.proofs.ReadingLemmas.{read_input-judged}
+
+-- ---- the files of left-out routers, in front of others
+
+-- a router is one of those with these names
+abbrev pub is_excluded_name : (names : List (List ℕ)) → List ℕ → Bool
+is_excluded_name names router = list_any (λ name. bytes_eq name router) names
+
+-- a slot's file is that of one list of files and of another
+abbrev pub IsSameFile : List FileText → List FileText → Slot → Type 0
+IsSameFile files others slot = file_named files (file_name slot) ≡ file_named others (file_name slot)
+
+-- the bytes of the file that was found, where one was
+abbrev file_bytes : Option FileText → Option (List ℕ)
+file_bytes file = option_map (λ (file : FileText). file.bytes) file
+
+-- a router's own file, where it is left out, and else that of the folder,
+pub file_named-vif_slot : (names : List (List ℕ)) (files : List FileText) (router : List ℕ)
+    → file_named (files_with_exclusions names files) (file_name (vif_slot router))
+    ≡ cond (is_excluded_name names router) (Some vif_header) (file_named files (file_name (vif_slot router)))
+file_named-vif_slot [] files router = refl
+file_named-vif_slot (name ∷ names) files router =
+    elim (bytes_eq name router) as (λ b.
+    file_bytes (cond b (Some (let f : FileText =
+    record { name = file_name (vif_slot name); bytes = vif_header } in f))
+    (find (λ file. bytes_eq file.name (file_name (vif_slot router))) (files_with_exclusions names files)))
+    ≡ cond (b || is_excluded_name names router) (Some vif_header)
+    (file_named files (file_name (vif_slot router)))) [
+      | true ↦ refl
+      | false ↦ file_named-vif_slot names files router
+    ]
+
+pub file_named-cache_slot : (names : List (List ℕ)) (files : List FileText) (router : List ℕ)
+    → file_named (files_with_exclusions names files) (file_name (cache_slot router))
+    ≡ cond (is_excluded_name names router) (Some cache_header)
+    (file_named files (file_name (cache_slot router)))
+file_named-cache_slot [] files router = refl
+file_named-cache_slot (name ∷ names) files router =
+    elim (bytes_eq name router) as (λ b.
+    file_bytes (cond b (Some (let f : FileText =
+    record { name = file_name (cache_slot name); bytes = cache_header } in f))
+    (find (λ file. bytes_eq file.name (file_name (cache_slot router))) (files_with_exclusions names files)))
+    ≡ cond (b || is_excluded_name names router) (Some cache_header)
+    (file_named files (file_name (cache_slot router)))) [
+      | true ↦ refl
+      | false ↦ file_named-cache_slot names files router
+    ]
+
+-- and every other file is that of the folder
+pub IsSameFile-reports_slot : (names : List (List ℕ)) (files : List FileText) (lan : List ℕ)
+    → IsSameFile (files_with_exclusions names files) files (reports_slot lan)
+IsSameFile-reports_slot [] files lan = refl
+IsSameFile-reports_slot (name ∷ names) files lan = IsSameFile-reports_slot names files lan
+
+pub IsSameFile-topology_slot : (names : List (List ℕ)) (files : List FileText)
+    → IsSameFile (files_with_exclusions names files) files topology_slot
+IsSameFile-topology_slot [] files = refl
+IsSameFile-topology_slot (name ∷ names) files = IsSameFile-topology_slot names files
+
+-- ---- one router
+
+-- a router of one of these names
+is_excluded_name-at : (names : List (List ℕ)) (name : List ℕ) (k : ℕ) → k < length names
+    → get_or names k name ≡ name → is_excluded_name names name ≡ true
+is_excluded_name-at [] name k lt is = absurd (omega (arith, lt))
+is_excluded_name-at (own ∷ names) name zero lt is =
+    ap (λ b. b || is_excluded_name names name) ((bytes_eq-Decides own name).1 is)
+is_excluded_name-at (own ∷ names) name (suc k) lt is =
+    elim (bytes_eq own name) as (λ b. (b || is_excluded_name names name) ≡ true) [
+      | true ↦ refl
+      | false ↦ is_excluded_name-at names name k (omega (arith, lt)) is
+    ]
+
+pub is_excluded_name-from_Contains : (names : List (List ℕ)) (name : List ℕ) → Contains names name
+    → is_excluded_name names name ≡ true
+is_excluded_name-from_Contains names name there = is_excluded_name-at names name there.0 there.1 there.2
+
+-- its bare files are those that are read where it is left out
+is_excluded_name-own : (router : List ℕ) → is_excluded_name (router ∷ []) router ≡ true
+is_excluded_name-own router = ap (λ b. b || false) ((bytes_eq-Decides router router).1 refl)
+
+module _ (names : List (List ℕ)) (files : List FileText) (router : List ℕ) where
+  pub file_named-excluded_vif : is_excluded_name names router ≡ true
+      → file_named (files_with_exclusions names files) (file_name (vif_slot router)) ≡ Some vif_header
+  file_named-excluded_vif is =
+      file_named-vif_slot names files router
+      ∙ ap (λ b. cond b (Some vif_header) (file_named files (file_name (vif_slot router)))) is
+
+  pub file_named-excluded_cache : is_excluded_name names router ≡ true
+      → file_named (files_with_exclusions names files) (file_name (cache_slot router)) ≡ Some cache_header
+  file_named-excluded_cache is =
+      file_named-cache_slot names files router
+      ∙ ap (λ b. cond b (Some cache_header) (file_named files (file_name (cache_slot router)))) is
+
+  pub IsSameFile-excluded_vif : is_excluded_name names router ≡ true
+      → IsSameFile (files_with_exclusions names files) (header_only_files router) (vif_slot router)
+  IsSameFile-excluded_vif is =
+      file_named-excluded_vif is ∙ ap (λ b. cond b (Some vif_header) None) (sym (is_excluded_name-own router))
+      ∙ sym (file_named-vif_slot (router ∷ []) [] router)
+
+  pub IsSameFile-excluded_cache : is_excluded_name names router ≡ true
+      → IsSameFile (files_with_exclusions names files) (header_only_files router) (cache_slot router)
+  IsSameFile-excluded_cache is =
+      file_named-excluded_cache is ∙ ap (λ b. cond b (Some cache_header) None) (sym (is_excluded_name-own router))
+      ∙ sym (file_named-cache_slot (router ∷ []) [] router)
+
+  -- and those of another router are the folder's
+  pub IsSameFile-other_vif : is_excluded_name names router ≡ false
+      → IsSameFile (files_with_exclusions names files) files (vif_slot router)
+  IsSameFile-other_vif is =
+      file_named-vif_slot names files router
+      ∙ ap (λ b. cond b (Some vif_header) (file_named files (file_name (vif_slot router)))) is
+
+  pub IsSameFile-other_cache : is_excluded_name names router ≡ false
+      → IsSameFile (files_with_exclusions names files) files (cache_slot router)
+  IsSameFile-other_cache is =
+      file_named-cache_slot names files router
+      ∙ ap (λ b. cond b (Some cache_header) (file_named files (file_name (cache_slot router)))) is
+
+-- ---- where the files are the same, the same is read
+
+module _ (files others : List FileText) where
+  file_part-same_file : (slot : Slot) → IsSameFile files others slot → file_part files slot ≡ file_part others slot
+  file_part-same_file slot same =
+      ap (λ found. bytes_within_max_part found
+      >>= λ bytes. Ok (record { name = part_name slot; bytes = bytes })) same
+
+  pub router_tables-same_files : (n : ℕ) (name : List ℕ) (order : Order) → IsSameFile files others (vif_slot name)
+      → IsSameFile files others (cache_slot name)
+      → router_tables Input (part_from_file files) n name order
+      ≡ router_tables Input (part_from_file others) n name order
+  unfolding router_tables
+  router_tables-same_files n name order vif cache =
+      rw (file_part-same_file (vif_slot name) vif, file_part-same_file (cache_slot name) cache) refl
+
+  pub IsSummaryOf-same_file : (all : Bool) (flows : List Flow) (r : RouterRow) (summary : SummaryValue)
+      → IsSameFile files others (cache_slot r.name) → IsSummaryOf all others flows r summary
+      → IsSummaryOf all files flows r summary
+  IsSummaryOf-same_file all flows r summary same own = record {
+    part = own.part;
+    rows = own.rows;
+    made = file_part-same_file (cache_slot r.name) same ∙ own.made;
+    read = own.read;
+    summarized = own.summarized;
+  }
+
+  pub all_reports-same_files : ((lan : List ℕ) → IsSameFile files others (reports_slot lan))
+      → (n : ℕ) (lans : List (List ℕ))
+      → all_reports Input (part_from_file files) n lans ≡ all_reports Input (part_from_file others) n lans
+  unfolding all_reports
+  all_reports-same_files same n [] = refl
+  all_reports-same_files same n (lan ∷ lans) =
+      rw (file_part-same_file (reports_slot lan) (same lan), all_reports-same_files same (n + 1) lans) refl
+
+  pub read_part-same_topology_file : (n : ℕ) → IsSameFile files others topology_slot
+      → read_part Input (part_from_file files n topology_slot) topology_of
+      ≡ read_part Input (part_from_file others n topology_slot) topology_of
+  read_part-same_topology_file n same = rw (file_part-same_file topology_slot same) refl
+
+-- so the reports are those of the folder with routers left out
+pub all_reports-with_exclusions : (names : List (List ℕ)) (files : List FileText) (t : TopologyValue)
+    → all_reports Input (part_from_file (files_with_exclusions names files)) (first_lan_number t) t.lans
+    ≡ all_reports Input (part_from_file files) (first_lan_number t) t.lans
+all_reports-with_exclusions names files t =
+    all_reports-same_files (files_with_exclusions names files) files (IsSameFile-reports_slot names files) (first_lan_number t) t.lans
+
+-- the file of a router with this name
+pub IsSameFile-same_name : (files others : List FileText) (r : RouterRow) (name : List ℕ) → r.name ≡ name
+    → IsSameFile files others (cache_slot name) → IsSameFile files others (cache_slot r.name)
+IsSameFile-same_name files others r name named same =
+    subst (λ (n : List ℕ). IsSameFile files others (cache_slot n)) (sym named) same
+
+-- what is kept of what one gives is kept of the same,
+pub GivesKept-same_step : {X Y : Type 0} (Keeps : X → Y → Type 0) (r : Result X SourceFault)
+    {step other : Result Y SourceFault} → step ≡ other → GivesKept Keeps r other
+    → GivesKept Keeps r step
+GivesKept-same_step Keeps r same gives = subst (GivesKept Keeps r) (sym same) gives
+
+-- and what holds of an answer holds of it as another fact that follows
+pub IfOk-implies : {X : Type 0} {P Q : X → Type 0} (r : Result X SourceFault) → ((x : X) → P x → Q x)
+    → IfOk r P → IfOk r Q
+IfOk-implies (Ok x) on holds = on x holds
+IfOk-implies (Err fault) on holds = tt
+
+-- ---- the names
+
+-- names that are not refused are those of routers,
+pub AreRouterNames-from_Ok : (t : TopologyValue) (n : ℕ) (names : List (List ℕ)) (x : Unit {0})
+    → check_router_names t n names ≡ Ok x → AreRouterNames t names
+AreRouterNames-from_Ok t n [] x e = tt
+AreRouterNames-from_Ok t n (name ∷ names) x e =
+    elim (has_router name t.routers) as (λ b. has_router name t.routers ≡ b
+    → (let r : Result (Unit {0}) WithoutFault =
+    cond b (check_router_names t (n + 1) names) (Err (NoSuchRouter (min n 4294967295))) in r) ≡ Ok x
+    → AreRouterNames t (name ∷ names)) [
+      | true ↦ λ is e. (is, AreRouterNames-from_Ok t (n + 1) names x e)
+      | false ↦ λ is e. absurd cc
+    ] refl e
+
+-- and those of routers are not refused
+pub check_router_names-Ok : (t : TopologyValue) (n : ℕ) (names : List (List ℕ)) → AreRouterNames t names
+    → check_router_names t n names ≡ Ok tt
+check_router_names-Ok t n [] are = refl
+check_router_names-Ok t n (name ∷ names) are =
+    ap (λ b. cond b (check_router_names t (n + 1) names) (Err (NoSuchRouter (min n 4294967295))))
+    are.0
+    ∙ check_router_names-Ok t (n + 1) names are.1
+
+-- ---- the whole
+
+module _ (names : List (List ℕ)) (files : List FileText) where
+  -- the topology is refused first,
+  pub input_of_files_without-topology_Err : (fault : SourceFault)
+      → read_part Input (part_from_file files 0 topology_slot) topology_of ≡ Err fault
+      → input_of_files_without names files ≡ Err (Source fault)
+  input_of_files_without-topology_Err fault topology = rw topology refl
+
+  -- then a name,
+  pub input_of_files_without-name_Err : (t : TopologyValue) (fault : WithoutFault)
+      → read_part Input (part_from_file files 0 topology_slot) topology_of ≡ Ok t
+      → check_router_names t 1 names ≡ Err fault → input_of_files_without names files ≡ Err fault
+  input_of_files_without-name_Err t fault topology name = rw (topology, name) refl
+
+  -- and then the rest is
+  pub input_of_files_without-names_Ok : (t : TopologyValue) (x : Unit {0})
+      → read_part Input (part_from_file files 0 topology_slot) topology_of ≡ Ok t
+      → check_router_names t 1 names ≡ Ok x
+      → input_of_files_without names files ≡ map_fault Source (input_of_files (files_with_exclusions names files))
+  input_of_files_without-names_Ok t x topology name = rw (topology, name) refl
+
+  -- the files with routers left out are read by the folder's topology
+  pub input_of_files-with_exclusions : (t : TopologyValue)
+      → read_part Input (part_from_file files 0 topology_slot) topology_of ≡ Ok t
+      → input_of_files (files_with_exclusions names files)
+      ≡ read_tables_and_reports Input (part_from_file (files_with_exclusions names files)) t
+  input_of_files-with_exclusions t topology =
+      read_input-judged Input (part_from_file (files_with_exclusions names files)) (λ t. Ok tt) t tt
+      (read_part-same_topology_file (files_with_exclusions names files) files 0 (IsSameFile-topology_slot names files) ∙ topology) refl
+
+-- ---- names as texts
+
+-- a test of each text that a reference leads to
+pub list_any-map_now : (p : List ℕ → Bool) (texts : List (Bor (List ℕ)))
+    → list_any (λ (text : Bor (List ℕ)). p text.now) texts
+    ≡ list_any p (map (λ (text : Bor (List ℕ)). text.now) texts)
+list_any-map_now p [] = refl
+list_any-map_now p (text ∷ texts) = ap (λ b. p text.now || b) (list_any-map_now p texts)
+
+-- a router has a name exactly if it has a number by it
+is_some-position_from : {A : Type 0} (p : A → Bool) (i : ℕ) (xs : List A)
+    → is_some (position_from p i xs) ≡ list_any p xs
+is_some-position_from p i [] = refl
+is_some-position_from p i (x ∷ xs) =
+    elim (p x) as (λ b. is_some (cond b (Some i) (position_from p (i + 1) xs)) ≡ (b || list_any p xs)) [
+      | true ↦ refl
+      | false ↦ is_some-position_from p (i + 1) xs
+    ]
+
+is_some-router_no_of : (name : List ℕ) (routers : List RouterRow)
+    → is_some (router_no_of name routers) ≡ has_router name routers
+is_some-router_no_of name routers =
+    let is_own : RouterRow → Bool = λ r. bytes_eq r.name name in
+    ap is_some (position_from-zero is_own routers) ∙ is_some-position_from is_own 0 routers
+
+-- the texts from a place on
+drop-map_now_suc : (texts : List (Bor (List ℕ))) (i : ℕ) (d : Bor (List ℕ)) → i < length texts
+    → drop i (map (λ (text : Bor (List ℕ)). text.now) texts)
+    ≡ (get_or texts i d).now ∷ drop (suc i) (map (λ (text : Bor (List ℕ)). text.now) texts)
+drop-map_now_suc [] i d lt = absurd (omega (arith, lt))
+drop-map_now_suc (text ∷ texts) zero d lt = refl
+drop-map_now_suc (text ∷ texts) (suc i) d lt = drop-map_now_suc texts i d (omega (arith, lt))
+
+drop-map_now : (texts : List (Bor (List ℕ))) (i : ℕ) (d : Bor (List ℕ)) → i < length texts
+    → drop i (map (λ (text : Bor (List ℕ)). text.now) texts)
+    ≡ (get_or texts i d).now ∷ drop (i + 1) (map (λ (text : Bor (List ℕ)). text.now) texts)
+drop-map_now texts i d lt = rw (add-one) (drop-map_now_suc texts i d lt)
+
+module _ (t : TopologyValue) (texts : List (Bor (List ℕ))) (i : ℕ) (d : Bor (List ℕ))
+    (no : Option ℕ) (lt : i < length texts)
+    (is : no ≡ router_no_of (get_or texts i d).now t.routers) where
+  check_router_names-by_case : (b : Bool) → is_some no ≡ b
+      → check_router_names t (i + 1) (drop i (map (λ (text : Bor (List ℕ)). text.now) texts))
+      ≡ cond b (check_router_names t (i + 1 + 1) (drop (i + 1) (map (λ (text : Bor (List ℕ)). text.now) texts)))
+      (Err (NoSuchRouter (min (i + 1) 4294967295)))
+  check_router_names-by_case b here =
+      ap (check_router_names t (i + 1)) (drop-map_now texts i d lt)
+      ∙ ap (λ b. cond b
+      (check_router_names t (i + 1 + 1) (drop (i + 1) (map (λ (text : Bor (List ℕ)). text.now) texts)))
+      (Err (NoSuchRouter (min (i + 1) 4294967295))))
+      (sym (is_some-router_no_of (get_or texts i d).now t.routers) ∙ ap is_some (sym is) ∙ here)
+
+  -- the next name is that of a router, or of none
+  pub check_router_names-more : is_some no ≡ true
+      → check_router_names t (i + 1) (drop i (map (λ (text : Bor (List ℕ)). text.now) texts))
+      ≡ check_router_names t (i + 1 + 1) (drop (i + 1) (map (λ (text : Bor (List ℕ)). text.now) texts))
+  check_router_names-more here = check_router_names-by_case true here
+
+  pub check_router_names-Err : is_some no ≡ false
+      → check_router_names t (i + 1) (drop i (map (λ (text : Bor (List ℕ)). text.now) texts))
+      ≡ Err (NoSuchRouter (min (i + 1) 4294967295))
+  check_router_names-Err here = check_router_names-by_case false here

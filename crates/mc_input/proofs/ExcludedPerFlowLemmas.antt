@@ -1,0 +1,133 @@
+-- A domain that is read with routers left out is, without them, the one that is read with them.
+use Rattle.std.specs.Prelude.{◌≡◌, ℕ, zero, suc, ◌+◌, Bool, true, false, List, [], ◌∷◌, length}
+use Rattle.std.specs.Prelude.{Option, Some, None, Ok, option_and_then, option_map, refl, slice_get}
+use Rattle.std.specs.Prelude.{slice_index_or, unwrap_or}
+use Rattle.std.proofs.Common.{ap, ap₂, subst, sym, ◌∙◌}
+use Rattle.std.specs.FinMap as finite
+use Rattle.mc_text.proofs.StepLemmas.{ok_injective}
+use Rattle.mc_igmp.specs.declared.record.Record.{Record}
+use Rattle.mc_topology.specs.SectionRows.{RouterRow}
+use Rattle.mc_topology.specs.Topology.{TopologyValue}
+use Rattle.mc_files.specs.Files.{FileText}
+use Rattle.mc_theory.specs.ExcludedRouters.{ExcludesRouters}
+use Rattle.mc_forward.specs.Assembling.{IsAssembled}
+use Rattle.mc_forward.specs.Domains.{DomainValue, TablesValue, lan_of_vif, net_of, row_at}
+use Rattle.mc_input.specs.FilesReading.{part_from_file}
+use Rattle.mc_input.specs.ExcludedRouters.{has_name_among, is_excluded, files_with_exclusions}
+use Rattle.mc_input.specs.Meaning.{FilesMeanDomainAsListed, FilesMeanDomain}
+use Rattle.mc_input.specs.PartsReading.{all_reports, all_tables, first_lan_number}
+use Rattle.mc_input.specs.declared.source_fault.SourceFault.{SourceFault}
+use Rattle.mc_input.specs.declared.source_fault.SourceFault.TheVariants.{Input}
+use Rattle.mc_input.proofs.InputCounts.{AreCounted-from_PartsDenoteInput}
+use Rattle.mc_input.proofs.FilesDenoteInputLemmas.{input_of_files-Ok}
+use Rattle.mc_input.proofs.ExcludedLemmas.{IsSameFile-other_cache, is_excluded_name, all_reports-with_exclusions, router_tables-same_files}
+use Rattle.mc_input.proofs.ExcludedLemmas.{read_part-same_topology_file, IsSameFile-topology_slot, IsSameFile-other_vif}
+use Rattle.mc_input.proofs.HasNoVifOrRowLemmas.{all_tables-first, HasNoVifOrRow-at, read_input-reports, read_input-tables}
+use Rattle.mc_input.proofs.HasNoVifOrRowLemmas.{read_input-topology}
+use Rattle.mc_input.proofs.UniqueDomain.{same_wants-from_IsAssembled}
+use Rattle.mc_input.proofs.ReadLemmas.{Ok-injective}
+
+-- the tables of a router that isn't left out are the same
+all_tables-with_exclusions : (names : List (List ℕ)) (files : List FileText) (n : ℕ) (rs : List RouterRow)
+    (ts us : List TablesValue) (k : ℕ)
+    → all_tables Input (part_from_file (files_with_exclusions names files)) n rs ≡ Ok ts
+    → all_tables Input (part_from_file files) n rs ≡ Ok us
+    → has_name_among names (slice_get rs k) ≡ false → slice_get ts k ≡ slice_get us k
+unfolding all_tables
+all_tables-with_exclusions names files n [] ts us k p q known =
+    ap (λ (l : List TablesValue). slice_get l k)
+    (sym (ok_injective {E = SourceFault} [] ts p) ∙ ok_injective {E = SourceFault} [] us q)
+all_tables-with_exclusions names files n (own ∷ rs) ts us zero p q known =
+    let a = all_tables-first (part_from_file (files_with_exclusions names files)) n own rs ts p in
+    let b = all_tables-first (part_from_file files) n own rs us q in
+    let same : a.0 ≡ b.0 = ok_injective {E = SourceFault} a.0 b.0 (sym a.2
+    ∙ router_tables-same_files (files_with_exclusions names files) files n own.name own.order
+    (IsSameFile-other_vif names files own.name known) (IsSameFile-other_cache names files own.name known) ∙ b.2) in
+    ap (λ (l : List TablesValue). slice_get l 0) a.4 ∙ ap Some same
+    ∙ sym (ap (λ (l : List TablesValue). slice_get l 0) b.4)
+all_tables-with_exclusions names files n (own ∷ rs) ts us (suc k) p q known =
+    let a = all_tables-first (part_from_file (files_with_exclusions names files)) n own rs ts p in
+    let b = all_tables-first (part_from_file files) n own rs us q in
+    ap (λ (l : List TablesValue). slice_get l (suc k)) a.4
+    ∙ all_tables-with_exclusions names files (n + 2) rs a.1 b.1 k a.3 b.3 known
+    ∙ sym (ap (λ (l : List TablesValue). slice_get l (suc k)) b.4)
+
+-- a router that is left out has a row in the topology
+RouterRow-excluded : (names : List (List ℕ)) (o : Option RouterRow) → has_name_among names o ≡ true
+    → (r : RouterRow) × (o ≡ Some r) × (is_excluded_name names r.name ≡ true)
+RouterRow-excluded names None e = absurd cc
+RouterRow-excluded names (Some r) e = (r, refl, e)
+
+FilesMeanDomainAsListed-from_exact : (files : List FileText) (d : DomainValue) → FilesMeanDomain files d → FilesMeanDomainAsListed files d
+FilesMeanDomainAsListed-from_exact files d means = record {
+  whole = d;
+  means = means;
+  same = record { topology = refl; nets = λ flow. refl; vifs = λ router vif. refl };
+}
+
+module _ (names : List (List ℕ)) (files : List FileText) (part whole : DomainValue)
+    (m : FilesMeanDomain (files_with_exclusions names files) part) (n : FilesMeanDomain files whole) where
+  topology_read : m.input.topology ≡ n.input.topology
+  topology_read = Ok-injective (sym (read_input-topology (part_from_file (files_with_exclusions names files)) m.input
+      (input_of_files-Ok (files_with_exclusions names files) m.input m.denotes))
+      ∙ read_part-same_topology_file (files_with_exclusions names files) files 0 (IsSameFile-topology_slot names files)
+      ∙ read_input-topology (part_from_file files) n.input (input_of_files-Ok files n.input n.denotes))
+
+  topology_same : part.topology ≡ whole.topology
+  topology_same = m.assembled.topology ∙ topology_read ∙ sym n.assembled.topology
+
+  reports_same : m.input.reports ≡ n.input.reports
+  reports_same =
+      let theirs = subst (λ (t : TopologyValue).
+      all_reports Input (part_from_file files) (first_lan_number t) t.lans ≡ Ok n.input.reports)
+      (sym topology_read)
+      (read_input-reports (part_from_file files) n.input (input_of_files-Ok files n.input n.denotes)) in
+      ok_injective {E = SourceFault} m.input.reports n.input.reports
+      (sym (read_input-reports (part_from_file (files_with_exclusions names files)) m.input
+      (input_of_files-Ok (files_with_exclusions names files) m.input m.denotes))
+      ∙ all_reports-with_exclusions names files m.input.topology ∙ theirs)
+
+  tables_same : (router : ℕ) → is_excluded whole.topology names router ≡ false
+      → slice_get part.tables router ≡ slice_get whole.tables router
+  tables_same router known =
+      let theirs = subst (λ (t : TopologyValue).
+      all_tables Input (part_from_file files) 1 t.routers ≡ Ok n.input.tables) (sym topology_read)
+      (read_input-tables (part_from_file files) n.input (input_of_files-Ok files n.input n.denotes)) in
+      let here = subst (λ (t : TopologyValue). is_excluded t names router ≡ false)
+      (n.assembled.topology ∙ sym topology_read) known in
+      ap (λ (ts : List TablesValue). slice_get ts router) m.assembled.tables
+      ∙ all_tables-with_exclusions names files 1 m.input.topology.routers m.input.tables n.input.tables router
+      (read_input-tables (part_from_file (files_with_exclusions names files)) m.input
+      (input_of_files-Ok (files_with_exclusions names files) m.input m.denotes)) theirs here
+      ∙ sym (ap (λ (ts : List TablesValue). slice_get ts router) n.assembled.tables)
+
+  wants_alike : part.wants ≡ whole.wants
+  wants_alike =
+      let theirs = subst (λ (rs : List (List Record)).
+      IsAssembled m.input.topology n.input.tables rs whole) (sym reports_same)
+      (subst (λ (t : TopologyValue). IsAssembled t n.input.tables n.input.reports whole)
+      (sym topology_read) n.assembled) in
+      same_wants-from_IsAssembled m.input n.input.tables part whole m.rules n.rules
+      (AreCounted-from_PartsDenoteInput m.denotes.parts m.input None m.denotes.parts_denote).lans m.assembled theirs
+
+  pub ExcludesRouters-from_files : (flow : ℕ)
+      → ExcludesRouters (is_excluded whole.topology names) (net_of part flow) (net_of whole flow)
+  ExcludesRouters-from_files flow = record {
+    routers = ap (λ (t : TopologyValue). length t.routers) topology_same;
+    source = ap (λ (t : TopologyValue). unwrap_or (option_map (λ f. f.lan) (slice_get t.flows flow)) 0)
+        topology_same;
+    ttl = ap (λ (t : TopologyValue). unwrap_or (option_map (λ f. f.ttl) (slice_get t.flows flow)) 0)
+        topology_same;
+    wants = λ lan. ap (λ (ws : List (List Bool)). slice_index_or (slice_index_or ws lan []) flow false)
+        wants_alike;
+    placed = λ router vif known. ap₂ (λ (t : TopologyValue) (o : Option TablesValue).
+        option_and_then (lan_of_vif t router) (option_and_then (λ x. finite.get x.vifs vif) o))
+        topology_same (tables_same router known);
+    row = λ router known. ap₂ (λ (t : TopologyValue) (o : Option TablesValue).
+        row_at o (slice_get t.flows flow)) topology_same (tables_same router known);
+    nothing = λ router vif out.
+        let row = RouterRow-excluded names (slice_get part.topology.routers router)
+        (subst (λ (t : TopologyValue). is_excluded t names router ≡ true) (sym topology_same) out) in
+        (HasNoVifOrRow-at names files part router row.0 (FilesMeanDomainAsListed-from_exact (files_with_exclusions names files) part m)
+        row.1 row.2).placed vif;
+  }

@@ -1,0 +1,74 @@
+-- What one file of a folder tells, and what is kept of it.
+use Rattle.std.specs.Prelude.{◌≡◌, ℕ, List, Result, Ok, Err, refl}
+use Rattle.std.proofs.Common.{ap, inl, inr, subst}
+use Rattle.mc_text.specs.Bundle.{PartText}
+use Rattle.mc_files.specs.FilePart.{IsFailedOrMemory, file_part}
+use Rattle.mc_files.specs.Files.{FileText}
+use Rattle.mc_files.specs.Layout.{Slot}
+use Rattle.mc_files.specs.declared.fault.FileFault.{FileFault}
+use Rattle.mc_files.specs.declared.fault.FileFault.TheVariants as file
+use Rattle.mc_input.specs.SourceFault.{IsReadOrMemory, from_file_fault}
+use Rattle.mc_input.specs.FilesReading.{part_from_file}
+use Rattle.mc_input.specs.Kept.{GivesKept}
+use Rattle.mc_input.specs.PartsOneByOne.{IsPartResult}
+use Rattle.mc_input.specs.PartsReading.{read_part}
+use Rattle.mc_input.specs.declared.fault.InputFault.{InputFault}
+use Rattle.mc_input.specs.declared.fault.InputFault.TheVariants.{Memory}
+use Rattle.mc_input.specs.declared.source_fault.SourceFault.TheVariants.{Input}
+use Rattle.mc_input.proofs.PartResultLemmas.{Err-from_IsPartResult, Ok-from_IsPartResult}
+
+-- a file's fault that is silent is so as that of the files
+IsReadOrMemory-from_file_fault : (fault : FileFault) → IsFailedOrMemory fault → IsReadOrMemory (from_file_fault fault)
+IsReadOrMemory-from_file_fault file.Failed silent = inl refl
+IsReadOrMemory-from_file_fault file.TooLarge silent = absurd silent
+IsReadOrMemory-from_file_fault file.Memory silent = inr refl
+
+module _ {X : Type 0} (files : List FileText) (n : ℕ) (slot given : Slot)
+    (read : PartText → Result X InputFault) where
+  -- the file makes no part
+  pub read_part-file_Err : (fault : FileFault) → given ≡ slot
+      → ((¬ IsFailedOrMemory fault) → file_part files given ≡ Err fault)
+      → (¬ IsReadOrMemory (from_file_fault fault))
+      → read_part Input (part_from_file files n slot) read ≡ Err (from_file_fault fault)
+  read_part-file_Err fault is refused says =
+      let made = subst (λ (s : Slot). file_part files s ≡ Err fault) is
+      (refused (λ silent. says (IsReadOrMemory-from_file_fault fault silent))) in
+      rw (made) refl
+
+  -- its part is refused
+  pub read_part-content_Err : (part text : PartText) (fault : InputFault) → given ≡ slot
+      → file_part files given ≡ Ok part → text ≡ part
+      → ((¬ (fault ≡ Memory)) → read text ≡ Err fault) → (¬ IsReadOrMemory (Input fault))
+      → read_part Input (part_from_file files n slot) read ≡ Err (Input fault)
+  read_part-content_Err part text fault is made same refused says =
+      let here = subst (λ (s : Slot). file_part files s ≡ Ok part) is made in
+      let reads = subst (λ (p : PartText). read p ≡ Err fault) same
+      (refused (λ memory. says (inr (ap (λ x. Input x) memory)))) in
+      rw (here, reads) refl
+
+  -- or it is read
+  pub read_part-Ok : (part text : PartText) (x : X) → given ≡ slot
+      → file_part files given ≡ Ok part → text ≡ part → read text ≡ Ok x
+      → read_part Input (part_from_file files n slot) read ≡ Ok x
+  read_part-Ok part text x is made same found =
+      let here = subst (λ (s : Slot). file_part files s ≡ Ok part) is made in
+      let reads = subst (λ (p : PartText). read p ≡ Ok x) same found in
+      rw (here, reads) refl
+
+module _ {K Y : Type 0} (Keeps : K → Y → Type 0) (files : List FileText) (n : ℕ)
+    (slot given : Slot) (read : PartText → Result Y InputFault) (part : PartText)
+    (is : given ≡ slot) (made : file_part files given ≡ Ok part) where
+  -- the file's part is refused by who keeps of it
+  pub read_part-kept_Err : (fault : InputFault) → IsPartResult Keeps (Err fault) (read part)
+      → (¬ IsReadOrMemory (Input fault))
+      → read_part Input (part_from_file files n slot) read ≡ Err (Input fault)
+  read_part-kept_Err fault reads says =
+      read_part-content_Err files n slot given read part part fault is made refl
+      (Err-from_IsPartResult Keeps fault (read part) reads) says
+
+  -- or this is kept of what it tells
+  pub GivesKept-from_part_result : (kept : K) → IsPartResult Keeps (Ok kept) (read part)
+      → GivesKept Keeps (Ok kept) (read_part Input (part_from_file files n slot) read)
+  GivesKept-from_part_result kept reads =
+      let own = Ok-from_IsPartResult Keeps (Ok kept) (read part) kept reads refl in
+      (own.0, read_part-Ok files n slot given read part part own.0 is made refl own.1, own.2)

@@ -1,0 +1,108 @@
+-- The domain that is put together of what was kept of files says of each flow what the files mean.
+use Rattle.std.specs.Prelude.{◌≡◌, ℕ, List, Option, Some, None, Result, Ok, Err, IfErr, IfOk, IfSome}
+use Rattle.std.specs.Prelude.{MatchResult, refl}
+use Rattle.std.proofs.Common.{◌∙◌, ap, sym, subst}
+use Rattle.mc_text.specs.Steps.{map_fault}
+use Rattle.mc_topology.specs.Topology.{TopologyValue}
+use Rattle.mc_files.specs.Files.{FileText}
+use Rattle.mc_forward.specs.Domains.{DomainValue, IsDomain}
+use Rattle.mc_forward.specs.ListedTables.{HaveSameFacts}
+use Rattle.mc_input.specs.FilesInput.{FilesDenoteInput}
+use Rattle.mc_input.specs.FilesReading.{input_of_files, part_from_file}
+use Rattle.mc_input.specs.Input.{InputValue}
+use Rattle.mc_input.specs.Kept.{IsDomainOf}
+use Rattle.mc_input.specs.ExcludedRouters.{AreRouterNames, IsReadOrMemoryWithout, input_of_files_without, files_with_exclusions}
+use Rattle.mc_input.specs.Meaning.{FilesMeanDomainAsListed, FilesMeanDomain}
+use Rattle.mc_input.specs.declared.without_fault.WithoutFault.{WithoutFault}
+use Rattle.mc_input.specs.declared.without_fault.WithoutFault.TheVariants.{Source, NoSuchRouter}
+use Rattle.mc_input.proofs.FilesDenoteInputLemmas.{input_of_files-Ok, FilesDenoteInput-from_input_of_files}
+use Rattle.mc_input.proofs.ExcludedLemmas.{input_of_files_without-names_Ok, check_router_names-Ok, read_part-same_topology_file, IsSameFile-topology_slot}
+use Rattle.mc_input.proofs.HasNoVifOrRowLemmas.{read_input-topology}
+use Rattle.mc_input.proofs.MeansLemmas.{MeansSamePerFlow-from_denotes, IsReadOrMemory-by_contradiction}
+use Rattle.mc_input.proofs.UniqueDomain.{FilesMeanDomain-unique}
+
+-- what was kept of the files is of a domain that they mean
+FilesMeanDomainAsListed-from_input : (files : List FileText) (v : InputValue) (d : DomainValue) → input_of_files files ≡ Ok v
+    → IsDomainOf d v → IsDomain d → FilesMeanDomainAsListed files d
+FilesMeanDomainAsListed-from_input files v d read kept rules =
+    let denotes = FilesDenoteInput-from_input_of_files files v read in
+    MeansSamePerFlow-from_denotes FilesDenoteInput files denotes.parts None v d denotes denotes.parts_denote kept rules
+
+-- files that mean a domain with routers left out, of which each is one of its topology, are read
+input_of_files_without-Ok : (names : List (List ℕ)) (files : List FileText) (d : DomainValue)
+    → FilesMeanDomain (files_with_exclusions names files) d → AreRouterNames d.topology names
+    → (v : InputValue) × (input_of_files_without names files ≡ Ok v)
+input_of_files_without-Ok names files d means are =
+    let v = means.input in
+    let whole = files_with_exclusions names files in
+    let read : input_of_files whole ≡ Ok v = input_of_files-Ok whole v means.denotes in
+    let topology = sym (read_part-same_topology_file whole files 0 (IsSameFile-topology_slot names files))
+    ∙ read_input-topology (part_from_file whole) v read in
+    let named = check_router_names-Ok v.topology 1 names
+    (subst (λ (t : TopologyValue). AreRouterNames t names) means.assembled.topology are) in
+    (v, input_of_files_without-names_Ok names files v.topology tt topology named ∙ ap (map_fault Source) read)
+
+-- so they are not refused
+input_of_files_without-not_Err : (names : List (List ℕ)) (files : List FileText) (d : DomainValue)
+    (fault : WithoutFault) → FilesMeanDomain (files_with_exclusions names files) d → AreRouterNames d.topology names
+    → input_of_files_without names files ≡ Err fault → ⊥
+input_of_files_without-not_Err names files d fault means are refused =
+    let read = input_of_files_without-Ok names files d means are in
+    absurd_of {v = read.0} (sym read.1 ∙ refused)
+  where
+    absurd_of : {v : InputValue} {fault : WithoutFault}
+        → (let r : Result InputValue WithoutFault = Ok v in r) ≡ Err fault → ⊥
+    absurd_of e = cc
+
+-- a fault that is not told of files that are read is silent
+IsReadOrMemoryWithout-by_contradiction : (own : WithoutFault) (P : Type 0) → (¬ IsReadOrMemoryWithout own → P) → (P → ⊥)
+    → IsReadOrMemoryWithout own
+IsReadOrMemoryWithout-by_contradiction (Source fault) P loud none = IsReadOrMemory-by_contradiction fault P loud none
+IsReadOrMemoryWithout-by_contradiction (NoSuchRouter n) P loud none = none (loud (λ silent. silent))
+
+module _ {X : Type 0} (d : X → DomainValue) (names : List (List ℕ)) where
+  pub FilesMeanDomainAsListed-from_result : (o : Option (List FileText)) (r : Result X WithoutFault)
+      → ((files : List FileText) → o ≡ Some files → IfOk r (λ x. (v : InputValue)
+      × IsDomainOf (d x) v × (input_of_files (files_with_exclusions names files) ≡ Ok v)))
+      → IfOk r (λ x. IsDomain (d x))
+      → IfOk r (λ x. IfSome o (λ files. FilesMeanDomainAsListed (files_with_exclusions names files) (d x)))
+  FilesMeanDomainAsListed-from_result None (Ok x) keeps rules = tt
+  FilesMeanDomainAsListed-from_result (Some files) (Ok x) keeps rules =
+      let read = keeps files refl in
+      FilesMeanDomainAsListed-from_input (files_with_exclusions names files) read.0 (d x) read.2 read.1 rules
+  FilesMeanDomainAsListed-from_result o (Err fault) keeps rules = tt
+
+  pub SaysTheSame-from_files : (o : Option (List FileText)) (r : Result X WithoutFault)
+      → ((files : List FileText) → o ≡ Some files → IfOk r (λ x. (v : InputValue)
+      × IsDomainOf (d x) v × (input_of_files (files_with_exclusions names files) ≡ Ok v)))
+      → IfOk r (λ x. IsDomain (d x))
+      → ((files : List FileText) → o ≡ Some files → IfErr r (λ fault. ¬ IsReadOrMemoryWithout fault
+      → input_of_files_without names files ≡ Err fault))
+      → (files : List FileText) (domain : DomainValue) → o ≡ Some files
+      → FilesMeanDomain (files_with_exclusions names files) domain → AreRouterNames domain.topology names
+      → MatchResult r (λ x. HaveSameFacts domain (d x)) IsReadOrMemoryWithout
+  SaysTheSame-from_files o (Ok x) keeps rules refused files domain contents means are =
+      let whole = files_with_exclusions names files in
+      let read = keeps files contents in
+      let listed = FilesMeanDomainAsListed-from_input whole read.0 (d x) read.2 read.1 rules in
+      subst (λ e. HaveSameFacts e (d x))
+      (FilesMeanDomain-unique whole listed.whole domain listed.means means) listed.same
+  SaysTheSame-from_files o (Err fault) keeps rules refused files domain contents means are =
+      IsReadOrMemoryWithout-by_contradiction fault (input_of_files_without names files ≡ Err fault) (refused files contents)
+      (input_of_files_without-not_Err names files domain fault means are)
+
+-- what holds of an answer where these are the files, holds where files are told,
+pub IfOk-from_known_contents : {X E : Type 0} (P : List FileText → X → Type 0) (o : Option (List FileText))
+    (r : Result X E) → ((files : List FileText) → o ≡ Some files → IfOk r (P files))
+    → IfOk r (λ x. IfSome o (λ files. P files x))
+IfOk-from_known_contents P None (Ok x) holds = tt
+IfOk-from_known_contents P (Some files) (Ok x) holds = holds files refl
+IfOk-from_known_contents P o (Err fault) holds = tt
+
+-- and of a fault as well
+pub IfErr-from_known_contents : {X E : Type 0} (P : List FileText → E → Type 0) (o : Option (List FileText))
+    (r : Result X E) → ((files : List FileText) → o ≡ Some files → IfErr r (P files))
+    → IfErr r (λ fault. IfSome o (λ files. P files fault))
+IfErr-from_known_contents P o (Ok x) holds = tt
+IfErr-from_known_contents P None (Err fault) holds = tt
+IfErr-from_known_contents P (Some files) (Err fault) holds = holds files refl

@@ -1,0 +1,227 @@
+-- What is noted of the caches in a folder's files.
+use Rattle.std.specs.Prelude.{◌≡◌, ℕ, ◌∷◌, Bool, List, [], Option, Some, None, Result, Ok, Err, refl}
+use Rattle.std.specs.Prelude.{◌++◌, filter, length, map as map_list, not, option_map, slice_get}
+use Rattle.std.proofs.Common.{ap, arith, ◌∙◌, sym, subst}
+use Rattle.std.proofs.lemmas.Option.{slice_get_within}
+use Rattle.std.specs.FinMap as map
+use Rattle.std.specs.FinSet as set
+use Rattle.std.specs.List.{filter_map}
+use Rattle.mc_text.specs.Bundle.{PartText}
+use Rattle.mc_text.specs.Steps.{◌>>=◌, map_fault}
+use Rattle.mc_text.specs.declared.text.addr.Order.{Order}
+use Rattle.mc_tables.specs.declared.fault.TableFault.{TableFault}
+use Rattle.mc_tables.specs.declared.summarized_cache.SummarizedCache.{SummarizedCache}
+use Rattle.mc_tables.specs.CacheReading.{cache_in, cache_rows_in}
+use Rattle.mc_tables.specs.CacheTable.{CacheValue, RowValue, key_cmp, key_of, table_of}
+use Rattle.mc_tables.specs.ListedRows.{IsListedPart, is_kept_key, is_listed, kept_rows}
+use Rattle.mc_tables.specs.SummaryReading.{summary_in, table_without_summary}
+use Rattle.mc_tables.specs.Summary.{SummaryValue, every_source_entry, group_first, in_order, keys_for_every_source}
+use Rattle.mc_tables.specs.Summary.{summary_of, shown_pairs, unresolved_key}
+use Rattle.mc_tables.proofs.ListedLemmas.{set_has_key-listed_set}
+use Rattle.mc_tables.proofs.ListedPairLemmas.{from_list-same_groups, same_set}
+use Rattle.mc_tables.proofs.ListedPartLemmas.{listed_in-same_fault, listed_in-is_part}
+use Rattle.mc_tables.proofs.SummaryLemmas.{table_without_summary-listed_in}
+use Rattle.mc_text.proofs.StepLemmas.{bind_ok, err_injective, ok_injective}
+use Rattle.mc_topology.specs.SectionRows.{RouterRow}
+use Rattle.mc_topology.specs.Topology.{TopologyValue}
+use Rattle.mc_topology.specs.declared.flow.Flow.{Flow}
+use Rattle.mc_files.specs.FilePart.{file_part}
+use Rattle.mc_files.specs.Files.{FileText}
+use Rattle.mc_files.specs.Layout.{cache_slot}
+use Rattle.mc_files.specs.declared.fault.FileFault.{FileFault}
+use Rattle.mc_files.proofs.PartLemmas.{Ok-from_refused_as}
+use Rattle.mc_forward.specs.Assembling.{RelatedAtEachIndex}
+use Rattle.mc_forward.specs.ListedTables.{flow_pairs}
+use Rattle.mc_forward.proofs.IndexLemmas.{related_at_each_index-push, slice_get-exists}
+use Rattle.mc_input.specs.FilesReading.{part_from_file}
+use Rattle.mc_input.specs.Kept.{AreSamePairs, GivesKept}
+use Rattle.mc_input.specs.SummariesOfFiles.{IsSummaryOf, AreSummariesOf}
+use Rattle.mc_input.specs.PartsReading.{cache_of, summary_of_part, read_part}
+use Rattle.mc_input.specs.SourceFault.{from_file_fault}
+use Rattle.mc_input.specs.declared.fault.InputFault.TheVariants.{Cache}
+use Rattle.mc_input.specs.declared.source_fault.SourceFault.{SourceFault}
+use Rattle.mc_input.specs.declared.source_fault.SourceFault.TheVariants.{Input}
+use Rattle.mc_input.proofs.UniqueDomain.{same_lists-from_slice_get}
+use Rattle.mc_input.proofs.ReadingLemmas.{RouterRow-at}
+
+-- ---- in any order
+
+-- of two lists that are one set the same are listed
+is_listed-same_set : (xs ys : List (ℕ × ℕ)) → set.from_list {R = key_cmp} xs ≡ set.from_list ys
+    → (key : ℕ × ℕ) → is_listed (Some xs) key ≡ is_listed (Some ys) key
+is_listed-same_set xs ys same key =
+    sym (set_has_key-listed_set (Some xs) key)
+    ∙ ap (λ (s : set.FinSet key_cmp). set.contains s key) same
+    ∙ set_has_key-listed_set (Some ys) key
+
+-- so the same rows are kept,
+is_kept_key-same_set : (xs ys : List (ℕ × ℕ)) → set.from_list {R = key_cmp} xs ≡ set.from_list ys
+    → (own : Option (ℕ × ℕ)) → is_kept_key (Some xs) own ≡ is_kept_key (Some ys) own
+is_kept_key-same_set xs ys same None = refl
+is_kept_key-same_set xs ys same (Some key) = is_listed-same_set xs ys same key
+
+-- the notes by who is listed, and by whose rows for every source are noted
+abbrev summary_by : (all : Bool) (listed every : ℕ × ℕ → Bool) → List RowValue → SummaryValue
+summary_by all listed every rows =
+    let others = filter (λ key. not (listed key)) (filter_map key_of rows) in record {
+      unresolved = set.from_list (filter listed (filter_map unresolved_key rows));
+      for_every_source = map.from_entries
+          (filter (λ exact. every exact.0) (filter_map every_source_entry rows));
+      unlisted = length others;
+      lowest = shown_pairs all (in_order (map_list group_first others));
+    }
+
+-- and with their notes a cache is read alike
+pub summary_in-same_pairs : (all : Bool) (order : Order) (listed pairs : List (ℕ × ℕ)) (text : List ℕ)
+    → AreSamePairs listed pairs → summary_in all order listed text ≡ summary_in all order pairs text
+summary_in-same_pairs all order listed pairs text same =
+    let one = same_set listed pairs same in
+    let groups = from_list-same_groups listed pairs (keys_for_every_source pairs) (keys_for_every_source pairs)
+    same refl (λ q. (λ there. there, λ there. there)) in
+    let every = is_listed-same_set (keys_for_every_source listed) (keys_for_every_source pairs) (sym groups) in
+    λ i. cache_rows_in order text >>= λ rows. Ok (record {
+      table = table_of (filter (λ (row : RowValue). is_kept_key-same_set listed pairs one (key_of row) i) rows);
+      summary = summary_by all (λ key. is_listed-same_set listed pairs one key i) (λ key. every key i) rows;
+    })
+
+-- ---- what is read with notes
+
+-- a cache that is read with notes is read, and as that of which the listed part is kept
+pub cache_in-from_summary_in : (all : Bool) (order : Order) (pairs : List (ℕ × ℕ)) (text : List ℕ) (summarized : SummarizedCache)
+    → summary_in all order pairs text ≡ Ok summarized
+    → (whole : CacheValue) × (cache_in order text ≡ Ok whole)
+    × IsListedPart (Some pairs) summarized.table whole
+cache_in-from_summary_in all order pairs text summarized e =
+    listed_in-is_part order (Some pairs) text summarized.table
+    (table_without_summary-listed_in all order pairs text ∙ ap table_without_summary e)
+
+-- its faults are those of the whole,
+pub cache_in-Err_from_summary_in : (all : Bool) (order : Order) (pairs : List (ℕ × ℕ)) (text : List ℕ) (fault : TableFault)
+    → summary_in all order pairs text ≡ Err fault → cache_in order text ≡ Err fault
+cache_in-Err_from_summary_in all order pairs text fault e =
+    (listed_in-same_fault order (Some pairs) text fault).0 (table_without_summary-listed_in all order pairs text ∙ ap table_without_summary e)
+
+-- and its notes are those of its rows
+pub cache_rows_in-from_summary_in : (all : Bool) (order : Order) (pairs : List (ℕ × ℕ)) (text : List ℕ) (summarized : SummarizedCache)
+    → summary_in all order pairs text ≡ Ok summarized
+    → (rows : List RowValue) × (cache_rows_in order text ≡ Ok rows)
+    × (summarized.summary ≡ summary_of all pairs rows)
+cache_rows_in-from_summary_in all order pairs text summarized e =
+    let both : List RowValue → SummarizedCache = λ rows. record {
+      table = table_of (kept_rows (Some pairs) rows);
+      summary = summary_of all pairs rows;
+    } in
+    let read = bind_ok (cache_rows_in order text) (λ rows. Ok (both rows)) summarized e in (
+      read.0,
+      read.1,
+      sym (ap (λ (n : SummarizedCache). n.summary) (ok_injective {E = TableFault} (both read.0) summarized read.2)),
+    )
+
+-- ---- what a file tells
+
+module _ (all : Bool) (order : Order) (pairs : List (ℕ × ℕ)) where
+  -- what is told with notes stands in a part that is given
+  summary_in-from_read_part : (given : Result PartText SourceFault) (summarized : SummarizedCache)
+      → read_part Input given (summary_of_part all order pairs) ≡ Ok summarized
+      → (part : PartText) × (given ≡ Ok part) × (summary_in all order pairs part.bytes ≡ Ok summarized)
+  summary_in-from_read_part (Ok part) summarized e = (
+    part,
+    refl,
+    Ok-from_refused_as (Cache part.name) (summary_in all order pairs part.bytes) summarized
+        (Ok-from_refused_as Input (summary_of_part all order pairs part) summarized e),
+  )
+  summary_in-from_read_part (Err fault) summarized e = absurd cc
+
+  -- and so it is told without them
+  read_part-cache_from_summary : (given : Result PartText SourceFault) (summarized : SummarizedCache)
+      → read_part Input given (summary_of_part all order pairs) ≡ Ok summarized
+      → (whole : CacheValue) × (read_part Input given (cache_of order) ≡ Ok whole)
+      × IsListedPart (Some pairs) summarized.table whole
+  read_part-cache_from_summary given summarized e =
+      let found = summary_in-from_read_part given summarized e in
+      let whole = cache_in-from_summary_in all order pairs found.0.bytes summarized found.2 in
+      (whole.0, read given found.0 whole.0 found.1 whole.1, whole.2)
+    where
+      read : (given : Result PartText SourceFault) (part : PartText) (w : CacheValue) → given ≡ Ok part
+          → cache_in order part.bytes ≡ Ok w → read_part Input given (cache_of order) ≡ Ok w
+      read given part w is found = rw (is, found) refl
+
+  -- or is refused for the same
+  read_part-cache_Err_from_summary : (given : Result PartText SourceFault) (fault : SourceFault)
+      → read_part Input given (summary_of_part all order pairs) ≡ Err fault
+      → read_part Input given (cache_of order) ≡ Err fault
+  read_part-cache_Err_from_summary (Err other) fault e = ap (λ f. Err f) (err_injective {A = SummarizedCache} e)
+  read_part-cache_Err_from_summary (Ok part) fault e = by (summary_in all order pairs part.bytes) refl e
+    where
+      by : (r : Result SummarizedCache TableFault) → summary_in all order pairs part.bytes ≡ r
+          → map_fault Input (map_fault (Cache part.name) r) ≡ Err fault
+          → map_fault Input (cache_of order part) ≡ Err fault
+      by (Ok summarized) is e = absurd cc
+      by (Err own) is e = rw (cache_in-Err_from_summary_in all order pairs part.bytes own is)
+          (ap (λ f. Err f) (err_injective {A = SummarizedCache} e))
+
+  pub GivesKept-listed_from_summary : (given : Result PartText SourceFault) (r : Result SummarizedCache SourceFault)
+      → GivesKept (λ kept summarized. kept ≡ summarized) r (read_part Input given (summary_of_part all order pairs))
+      → GivesKept (λ summarized whole. IsListedPart (Some pairs) summarized.table whole) r
+      (read_part Input given (cache_of order))
+  GivesKept-listed_from_summary given (Ok own) (summarized, found, is) =
+      let whole = read_part-cache_from_summary given summarized found in (
+        whole.0,
+        whole.1,
+        subst (λ (n : SummarizedCache). IsListedPart (Some pairs) n.table whole.0) (sym is) whole.2,
+      )
+  GivesKept-listed_from_summary given (Err fault) gives = λ loud. read_part-cache_Err_from_summary given fault (gives loud)
+
+-- the notes that are told of a router's file are those of its rows
+pub IsSummaryOf-from_GivesKept : (all : Bool) (files : List FileText) (flows : List Flow) (r : RouterRow) (n : ℕ)
+    (own : SummarizedCache)
+    → GivesKept (λ kept summarized. kept ≡ summarized) (Ok own)
+    (read_part Input (part_from_file files n (cache_slot r.name)) (summary_of_part all r.order (flow_pairs flows)))
+    → IsSummaryOf all files flows r own.summary
+IsSummaryOf-from_GivesKept all files flows r n own (summarized, found, is) =
+    let slot = cache_slot r.name in
+    let part = summary_in-from_read_part all r.order (flow_pairs flows) (part_from_file files n slot) summarized found in
+    let rows = cache_rows_in-from_summary_in all r.order (flow_pairs flows) part.0.bytes summarized part.2 in
+    record {
+      part = part.0;
+      rows = rows.0;
+      made = Ok-from_refused_as from_file_fault (file_part files slot) part.0 part.1;
+      read = rows.1;
+      summarized = ap (λ (n : SummarizedCache). n.summary) is ∙ rows.2;
+    }
+
+-- the row of a router with this name and byte order
+pub RouterRow-from_fields : (r : RouterRow) (name : List ℕ) (order : Order) → r.name ≡ name → r.order ≡ order
+    → (let row : RouterRow = record { name = name; order = order } in row) ≡ r
+RouterRow-from_fields r name order named ordered = λ i. record { name = sym named i; order = sym ordered i }
+
+-- the notes of one router more
+pub AreSummariesOf-more : (all : Bool) (files : List FileText) (t : TopologyValue) (summary : List SummaryValue)
+    (own : SummaryValue) (k : ℕ) (name : List ℕ) (order : Order) → length summary ≡ k
+    → option_map (λ r. r.name) (slice_get t.routers k) ≡ Some name
+    → option_map (λ r. r.order) (slice_get t.routers k) ≡ Some order
+    → ((r : RouterRow) → r.name ≡ name → r.order ≡ order → IsSummaryOf all files t.flows r own)
+    → RelatedAtEachIndex (IsSummaryOf all files t.flows) t.routers summary
+    → RelatedAtEachIndex (IsSummaryOf all files t.flows) t.routers (summary ++ own ∷ [])
+AreSummariesOf-more all files t summary own k name order count named ordered are each =
+    let r = RouterRow-at t.routers k name order named ordered in
+    related_at_each_index-push (IsSummaryOf all files t.flows) t.routers summary r.0 own each
+    (subst (λ (n : ℕ). slice_get t.routers n ≡ Some r.0) (sym count) r.1) (are r.0 r.2 r.3)
+
+-- ---- one list of notes at most
+
+IsSummaryOf-unique : (all : Bool) (files : List FileText) (flows : List Flow) (r : RouterRow) (a b : SummaryValue)
+    → IsSummaryOf all files flows r a → IsSummaryOf all files flows r b → a ≡ b
+IsSummaryOf-unique all files flows r a b one other =
+    let part = ok_injective {E = FileFault} one.part other.part (sym one.made ∙ other.made) in
+    let rows = ok_injective {E = TableFault} one.rows other.rows
+    (sym one.read ∙ ap (λ (p : PartText). cache_rows_in r.order p.bytes) part ∙ other.read) in
+    one.summarized ∙ ap (summary_of all (flow_pairs flows)) rows ∙ sym other.summarized
+
+pub AreSummariesOf-unique : (all : Bool) (files : List FileText) (t : TopologyValue) (a b : List SummaryValue)
+    → AreSummariesOf all files t a → AreSummariesOf all files t b → a ≡ b
+AreSummariesOf-unique all files t a b one other =
+    same_lists-from_slice_get a b (one.count ∙ sym other.count) (λ k x y at here.
+    let within = slice_get_within a k x at in
+    let r = slice_get-exists t.routers k (omega (arith, within, one.count)) in
+    IsSummaryOf-unique all files t.flows r.0 x y (one.each k r.0 x r.1 at) (other.each k r.0 y r.1 here))

@@ -1,0 +1,5 @@
+use Rattle.mc_input.proofs.HasNoVifOrRowLemmas.{HasNoVifOrRow-excluded}
+use Rattle.mc_input.proofs.laws.excluded_routers_have_no_vif_or_row.Goals as goal
+
+pub returns : goal.returns
+returns c = HasNoVifOrRow-excluded

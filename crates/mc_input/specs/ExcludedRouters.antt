@@ -1,0 +1,98 @@
+-- Routers that are left out of a domain: their files are read as those of kernels that show no vif
+-- and no row, whatever stands in the folder.
+use Rattle.std.specs.Prelude.{◌≡◌, ℕ, ◌+◌, min, Bool, true, false, IsTrue, List, [], ◌∷◌, ◌++◌, codes}
+use Rattle.std.specs.Prelude.{flat_map, Option, None, Some, Result, Ok, Err, if◌then◌else◌}
+use Rattle.std.specs.Prelude.{slice_get}
+use Rattle.std.specs.List.{AllByRecursion, list_any}
+use Rattle.std.specs.Str.{bytes_eq}
+use Rattle.mc_text.specs.Steps.{◌>>=◌, map_fault}
+use Rattle.mc_topology.specs.Lookup.{has_router}
+use Rattle.mc_topology.specs.SectionRows.{RouterRow}
+use Rattle.mc_topology.specs.Topology.{TopologyValue}
+use Rattle.mc_files.specs.Files.{FileText}
+use Rattle.mc_files.specs.Layout.{cache_slot, file_name, topology_slot, vif_slot}
+use Rattle.mc_theory.specs.Nets.Row.{NoRow}
+use Rattle.mc_forward.specs.Domains.{DomainValue, placed_of, row_of, vif_of}
+use Rattle.mc_input.specs.FilesReading.{input_of_files, part_from_file}
+use Rattle.mc_input.specs.Input.{InputValue}
+use Rattle.mc_input.specs.PartsReading.{read_part, topology_of}
+use Rattle.mc_input.specs.SourceFault.{IsReadOrMemory, is_possible_for_files, is_read}
+use Rattle.mc_input.specs.declared.source_fault.SourceFault.TheVariants.{Input}
+use Rattle.mc_input.specs.declared.without_fault.WithoutFault.{WithoutFault}
+use Rattle.mc_input.specs.declared.without_fault.WithoutFault.TheVariants.{Source, NoSuchRouter}
+
+-- ---- the files
+
+-- the header lines of a kernel's two tables (ipmr_vif_seq_show and ipmr_mfc_seq_show in
+-- net/ipv4/ipmr.c), each with its line feed
+abbrev pub vif_header : List ℕ
+vif_header =
+    codes "Interface      BytesIn  PktsIn  BytesOut PktsOut Flags Local    Remote" ++ 10 ∷ []
+
+abbrev pub cache_header : List ℕ
+cache_header = codes "Group    Origin   Iif     Pkts    Bytes    Wrong Oifs" ++ 10 ∷ []
+
+-- the two files of a router, each with its header alone
+abbrev pub header_only_files : (router : List ℕ) → List FileText
+header_only_files router =
+    (record { name = file_name (vif_slot router); bytes = vif_header })
+    ∷ (record { name = file_name (cache_slot router); bytes = cache_header }) ∷ []
+
+-- Those of the routers with these names stand in front: of two files of one name the first is read.
+abbrev pub files_with_exclusions : (names : List (List ℕ)) → List FileText → List FileText
+files_with_exclusions names files = flat_map header_only_files names ++ files
+
+-- ---- the names
+
+-- each of the names is that of a router
+abbrev pub AreRouterNames : TopologyValue → (names : List (List ℕ)) → Type 0
+AreRouterNames t names = AllByRecursion (λ name. IsTrue (has_router name t.routers)) names
+
+-- The first of the names that no router has is refused by its place: the first of these has the
+-- place n. No place is told that is greater than a u32.
+abbrev pub check_router_names : TopologyValue → (n : ℕ) → List (List ℕ) → Result (Unit {0}) WithoutFault
+check_router_names t n [] = Ok tt
+check_router_names t n (name ∷ names) =
+    if has_router name t.routers then check_router_names t (n + 1) names
+    else Err (NoSuchRouter (min n 4294967295))
+
+-- whether the router with this number has one of the names
+abbrev pub has_name_among : (names : List (List ℕ)) → Option RouterRow → Bool
+has_name_among names None = false
+has_name_among names (Some r) = list_any (λ name. bytes_eq name r.name) names
+
+abbrev pub is_excluded : TopologyValue → (names : List (List ℕ)) → (router : ℕ) → Bool
+is_excluded t names router = has_name_among names (slice_get t.routers router)
+
+-- ---- the whole
+
+-- The input of a folder's files, with the routers of these names left out, or the first reason why
+-- it is refused: the topology is judged first, then the names, and then the rest.
+abbrev pub input_of_files_without : (names : List (List ℕ)) → List FileText → Result InputValue WithoutFault
+input_of_files_without names files =
+    map_fault Source (read_part Input (part_from_file files 0 topology_slot) topology_of)
+    >>= λ t. check_router_names t 1 names
+    >>= λ _. map_fault Source (input_of_files (files_with_exclusions names files))
+
+-- that the source failed or memory ran out says nothing of the files
+abbrev pub IsReadOrMemoryWithout : WithoutFault → Type 0
+IsReadOrMemoryWithout (Source fault) = IsReadOrMemory fault
+IsReadOrMemoryWithout (NoSuchRouter n) = ⊥
+
+-- the fault of a source that failed, which it counts
+abbrev pub is_read_without : WithoutFault → Bool
+is_read_without (Source fault) = is_read fault
+is_read_without (NoSuchRouter n) = false
+
+-- files can have it, of which routers are left out
+abbrev pub is_possible_for_files_without : WithoutFault → Bool
+is_possible_for_files_without (Source fault) = is_possible_for_files fault
+is_possible_for_files_without (NoSuchRouter n) = true
+
+-- ---- what is known of a router that is left out
+
+-- It has no vif, so that none is placed on a LAN, and no row for any flow.
+pub record HasNoVifOrRow (d : DomainValue) (router : ℕ) : Type 0 where
+  pub vifs : (vif : ℕ) → vif_of d.tables router vif ≡ None
+  pub placed : (vif : ℕ) → placed_of d router vif ≡ None
+  pub rows : (flow : ℕ) → row_of d flow router ≡ NoRow

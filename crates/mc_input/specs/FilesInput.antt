@@ -1,0 +1,16 @@
+-- What the files of a folder stand for.
+use Rattle.std.specs.Prelude.{◌≤◌, false, List, length, None}
+use Rattle.std.specs.List.{AllByRecursion}
+use Rattle.mc_text.specs.Bundle.{PartText, max_part}
+use Rattle.mc_files.specs.Files.{FileText}
+use Rattle.mc_files.specs.Layout.{slots}
+use Rattle.mc_files.specs.Packing.{ArePacked}
+use Rattle.mc_input.specs.Input.{InputValue, PartsDenoteInput}
+
+-- The parts that are packed of the files without a certificate, none past the limit of a part,
+-- stand for the input.
+pub record FilesDenoteInput (files : List FileText) (input : InputValue) : Type 0 where
+  pub parts : List PartText
+  pub packed : ArePacked files (slots false input.topology) parts
+  pub sizes : AllByRecursion (λ part. length part.bytes ≤ max_part) parts
+  pub parts_denote : PartsDenoteInput parts input None

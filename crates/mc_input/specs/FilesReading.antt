@@ -1,0 +1,21 @@
+-- What a folder's files are read as, or why they are refused. Each file is judged before the next
+-- one is asked for, in the order of the slots.
+use Rattle.std.specs.Prelude.{ℕ, List, Result, Ok}
+use Rattle.mc_text.specs.Steps.{map_fault}
+use Rattle.mc_text.specs.Bundle.{PartText}
+use Rattle.mc_files.specs.FilePart.{file_part}
+use Rattle.mc_files.specs.Files.{FileText}
+use Rattle.mc_files.specs.Layout.{Slot}
+use Rattle.mc_input.specs.SourceFault.{from_file_fault}
+use Rattle.mc_input.specs.Input.{InputValue}
+use Rattle.mc_input.specs.PartsReading.{read_input}
+use Rattle.mc_input.specs.declared.source_fault.SourceFault.{SourceFault}
+use Rattle.mc_input.specs.declared.source_fault.SourceFault.TheVariants.{Input}
+
+-- the part of a slot, as its file makes it
+abbrev pub part_from_file : List FileText → ℕ → Slot → Result PartText SourceFault
+part_from_file files n slot = map_fault from_file_fault (file_part files slot)
+
+-- the input of the files
+abbrev pub input_of_files : List FileText → Result InputValue SourceFault
+input_of_files files = read_input Input (part_from_file files) (λ t. Ok tt)

@@ -1,0 +1,79 @@
+-- What a bundle stands for: a topology, the tables of each router, the reports of each LAN, and the
+-- text of the certificate where one is to be there.
+use Rattle.std.specs.Prelude.{◌≡◌, ℕ, List, [], ◌∷◌, ◌++◌, Option, Some, None}
+use Rattle.mc_text.specs.Bundle.{PartText, IsBundle}
+use Rattle.mc_tables.specs.VifTable.{DenotesVifs}
+use Rattle.mc_tables.specs.CacheTable.{DenotesCache}
+use Rattle.mc_igmp.specs.declared.record.Record.{Record}
+use Rattle.mc_igmp.specs.ReportList.{IsReportList}
+use Rattle.mc_topology.specs.SectionRows.{RouterRow}
+use Rattle.mc_topology.specs.Topology.{TopologyValue}
+use Rattle.mc_topology.specs.Denotation.{DenotesBoundedTopology}
+use Rattle.mc_files.specs.Layout.{part_name, topology_slot, vif_slot, cache_slot, reports_slot}
+use Rattle.mc_files.specs.Layout.{certificate_slot}
+use Rattle.mc_forward.specs.Domains.{TablesValue}
+
+-- the topology, the tables of each router in the topology's order, and the records of the reports
+-- of each LAN in the topology's order
+pub record InputValue : Type 0 where
+  pub topology : TopologyValue
+  pub tables : List TablesValue
+  pub reports : List (List Record)
+
+-- The parts `vif/<router>` and `cache/<router>` stand for the router's tables, its addresses in the
+-- byte order of the router.
+pub record DenotesTables (r : RouterRow) (vif cache : PartText) (t : TablesValue) : Type 0 where
+  pub vif_named : vif.name ≡ part_name (vif_slot r.name)
+  pub vifs : DenotesVifs vif.bytes t.vifs
+  pub cache_named : cache.name ≡ part_name (cache_slot r.name)
+  pub entries : DenotesCache r.order cache.bytes t.cache
+
+-- The part `igmp/<lan>` stands for the records of the LAN's reports.
+pub record DenotesReports (lan : List ℕ) (part : PartText) (records : List Record) : Type 0 where
+  pub named : part.name ≡ part_name (reports_slot lan)
+  pub denotes : IsReportList part.bytes records
+
+-- two parts for each router in order, and then the parts `rest`
+abbrev pub PartsDenoteTables : List RouterRow → List PartText → List TablesValue → List PartText → Type 0
+PartsDenoteTables [] parts [] rest = parts ≡ rest
+PartsDenoteTables (r ∷ rs) (vif ∷ cache ∷ parts) (t ∷ ts) rest =
+    DenotesTables r vif cache t × PartsDenoteTables rs parts ts rest
+PartsDenoteTables _ _ _ _ = ⊥
+
+-- a part for each LAN in order, and then the parts `rest`
+abbrev pub PartsDenoteReports : List (List ℕ) → List PartText → List (List Record) → List PartText → Type 0
+PartsDenoteReports [] parts [] rest = parts ≡ rest
+PartsDenoteReports (lan ∷ lans) (part ∷ parts) (records ∷ others) rest =
+    DenotesReports lan part records × PartsDenoteReports lans parts others rest
+PartsDenoteReports _ _ _ _ = ⊥
+
+-- the part `certificate` with this text, or no part
+abbrev pub PartsDenoteCertificate : List PartText → Option (List ℕ) → Type 0
+PartsDenoteCertificate parts None = parts ≡ []
+PartsDenoteCertificate parts (Some text) =
+    parts ≡ (record { name = part_name certificate_slot; bytes = text }) ∷ []
+
+-- The parts are `topology`, those of the routers, those of the LANs, and that of the certificate.
+pub record PartsDenoteInput (parts : List PartText) (input : InputValue)
+    (certificate : Option (List ℕ)) : Type 0 where
+  pub topology : List ℕ
+  pub of_routers : List PartText
+  pub of_lans : List PartText
+  pub last : List PartText
+  pub in_order : parts ≡ (record { name = part_name topology_slot; bytes = topology }) ∷ of_routers
+  pub topology_denoted : DenotesBoundedTopology topology input.topology
+  pub tables : PartsDenoteTables input.topology.routers of_routers input.tables of_lans
+  pub reports : PartsDenoteReports input.topology.lans of_lans input.reports last
+  pub certificate_denoted : PartsDenoteCertificate last certificate
+
+-- a bundle of such parts
+pub record DenotesInput (text : List ℕ) (input : InputValue) (certificate : Option (List ℕ)) : Type 0
+  where
+    pub parts : List PartText
+    pub bundle : IsBundle text parts
+    pub parts_denote : PartsDenoteInput parts input certificate
+
+-- the parts of a bundle, and a certificate as one part more
+abbrev pub with_certificate : List PartText → List ℕ → List PartText
+with_certificate parts text =
+    parts ++ (record { name = part_name certificate_slot; bytes = text }) ∷ []

@@ -1,0 +1,51 @@
+-- What a bundle, or a folder's files, mean: a domain; and what is said of it.
+use Rattle.std.specs.Prelude.{ℕ, List, Option, None}
+use Rattle.mc_files.specs.Files.{FileText}
+use Rattle.mc_forward.specs.Assembling.{IsAssembled}
+use Rattle.mc_forward.specs.Domains.{DomainValue, IsDomain}
+use Rattle.mc_forward.specs.ListedTables.{HaveSameFacts}
+use Rattle.mc_input.specs.FilesInput.{FilesDenoteInput}
+use Rattle.mc_input.specs.Input.{InputValue, DenotesInput}
+
+-- It stands for an input, and the domain is put together of that.
+pub record Means {X : Type 0} (Denotes : X → InputValue → Type 0) (x : X) (d : DomainValue) : Type 0
+  where
+    pub input : InputValue
+    pub denotes : Denotes x input
+    pub assembled : IsAssembled input.topology input.tables input.reports d
+    pub rules : IsDomain d
+
+-- the bundle's parts tell the domain, and this is the text of its certificate, where one is to be
+-- there
+abbrev pub MeansDomain : List ℕ → (certificate : Option (List ℕ)) → DomainValue → Type 0
+MeansDomain text certificate d = Means (λ t input. DenotesInput t input certificate) text d
+
+-- the same, where there is to be none
+abbrev pub MeansUncertifiedDomain : List ℕ → DomainValue → Type 0
+MeansUncertifiedDomain text d = MeansDomain text None d
+
+-- the files tell the domain
+abbrev pub FilesMeanDomain : List FileText → DomainValue → Type 0
+FilesMeanDomain = Means FilesDenoteInput
+
+-- It means a domain that says of each flow what this one says.
+pub record MeansSamePerFlow {X : Type 0} (Means : X → DomainValue → Type 0) (x : X) (d : DomainValue)
+    : Type 0 where
+  pub whole : DomainValue
+  pub means : Means x whole
+  pub same : HaveSameFacts whole d
+
+-- the same of a bundle,
+abbrev pub MeansDomainAsListed : List ℕ → (certificate : Option (List ℕ)) → DomainValue → Type 0
+MeansDomainAsListed text certificate d = MeansSamePerFlow (λ t e. MeansDomain t certificate e) text d
+
+-- and of files
+abbrev pub FilesMeanDomainAsListed : List FileText → DomainValue → Type 0
+FilesMeanDomainAsListed = MeansSamePerFlow FilesMeanDomain
+
+-- It means a domain, of which this holds.
+pub record MeansDomainWhere {X D : Type 0} (Means : X → D → Type 0) (Holds : D → Type 0) (x : X) : Type 0
+  where
+    pub domain : D
+    pub means : Means x domain
+    pub holds : Holds domain

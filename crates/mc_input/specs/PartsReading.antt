@@ -1,0 +1,101 @@
+-- What the parts of a domain are read as, whatever gives them, or the first reason why they are
+-- refused: the topology is judged first, then which parts there are, and then in the order of the
+-- slots what each tells.
+use Rattle.std.specs.Prelude.{Bool, ℕ, ◌+◌, ◌*◌, List, [], ◌∷◌, length, Result, Ok}
+use Rattle.std.specs.FinMap.{FinMap}
+use Rattle.std.specs.Ordering.{nat_cmp}
+use Rattle.mc_text.specs.Steps.{◌>>=◌, map_fault}
+use Rattle.mc_text.specs.Bundle.{PartText}
+use Rattle.mc_text.specs.declared.text.addr.Order.{Order}
+use Rattle.mc_tables.specs.VifTable.{VifValue}
+use Rattle.mc_tables.specs.CacheTable.{CacheValue}
+use Rattle.mc_tables.specs.VifReading.{vifs_in}
+use Rattle.mc_tables.specs.CacheReading.{cache_in}
+use Rattle.mc_tables.specs.SummaryReading.{summary_in}
+use Rattle.mc_tables.specs.declared.summarized_cache.SummarizedCache.{SummarizedCache}
+use Rattle.mc_igmp.specs.declared.record.Record.{Record}
+use Rattle.mc_igmp.specs.ReadingList.{read_list}
+use Rattle.mc_topology.specs.SectionRows.{RouterRow}
+use Rattle.mc_topology.specs.Reading.{parse_topology}
+use Rattle.mc_topology.specs.Topology.{TopologyValue}
+use Rattle.mc_files.specs.Layout.{Slot, topology_slot, vif_slot, cache_slot, reports_slot}
+use Rattle.mc_forward.specs.Domains.{TablesValue}
+use Rattle.mc_input.specs.Input.{InputValue}
+use Rattle.mc_input.specs.declared.fault.InputFault.{InputFault}
+use Rattle.mc_input.specs.declared.fault.InputFault.TheVariants.{Topology, Vif, Cache, Reports}
+
+-- ---- one part
+
+-- the topology, in a part
+abbrev pub topology_of : PartText → Result TopologyValue InputFault
+topology_of part = map_fault Topology (parse_topology part.bytes)
+
+-- the vifs of a router
+abbrev pub vifs_of : PartText → Result (FinMap nat_cmp VifValue) InputFault
+vifs_of part = map_fault (Vif part.name) (vifs_in part.bytes)
+
+-- the forwarding cache of a router
+abbrev pub cache_of : Order → PartText → Result CacheValue InputFault
+cache_of order part = map_fault (Cache part.name) (cache_in order part.bytes)
+
+-- the entries of these sources and groups, and what is noted of all rows for them
+abbrev pub summary_of_part : (all : Bool) → Order → List (ℕ × ℕ) → PartText → Result SummarizedCache InputFault
+summary_of_part all order pairs part = map_fault (Cache part.name) (summary_in all order pairs part.bytes)
+
+-- the records of a LAN's reports
+abbrev pub reports_of : PartText → Result (List Record) InputFault
+reports_of part = map_fault (Reports part.name) (read_list part.bytes)
+
+-- what is read of the part that is given, with its fault as the caller's
+abbrev pub read_part : {X F : Type 0} → (InputFault → F) → Result PartText F
+    → (PartText → Result X InputFault) → Result X F
+read_part as_ours given read = given >>= λ part. map_fault as_ours (read part)
+
+-- ---- all parts, each as a source gives it by the number and the names of its slot
+
+-- the tables of a router with this name and byte order, whose slots have a number and the next
+unfoldable pub router_tables : {F : Type 0} → (InputFault → F) → (ℕ → Slot → Result PartText F)
+    → ℕ → (name : List ℕ) → Order → Result TablesValue F
+router_tables as_ours source n name order =
+    read_part as_ours (source n (vif_slot name)) vifs_of
+    >>= λ vifs. read_part as_ours (source (n + 1) (cache_slot name)) (cache_of order)
+    >>= λ entries. Ok (record { vifs = vifs; cache = entries })
+
+-- the tables of routers, whose slots have the numbers from one on
+unfoldable pub all_tables : {F : Type 0} → (InputFault → F) → (ℕ → Slot → Result PartText F)
+    → ℕ → List RouterRow → Result (List TablesValue) F
+all_tables as_ours source n [] = Ok []
+all_tables as_ours source n (r ∷ rs) =
+    router_tables as_ours source n r.name r.order
+    >>= λ tables. all_tables as_ours source (n + 2) rs
+    >>= λ others. Ok (tables ∷ others)
+
+-- the records of the reports of LANs, whose slots have the numbers from one on
+unfoldable pub all_reports : {F : Type 0} → (InputFault → F) → (ℕ → Slot → Result PartText F)
+    → ℕ → List (List ℕ) → Result (List (List Record)) F
+all_reports as_ours source n [] = Ok []
+all_reports as_ours source n (lan ∷ lans) =
+    read_part as_ours (source n (reports_slot lan)) reports_of
+    >>= λ records. all_reports as_ours source (n + 1) lans
+    >>= λ others. Ok (records ∷ others)
+
+-- the number of the first LAN's slot: behind the topology's and two for each router
+abbrev pub first_lan_number : TopologyValue → ℕ
+first_lan_number t = 1 + 2 * length t.routers
+
+-- what is told beside the topology
+unfoldable pub read_tables_and_reports : {F : Type 0} → (InputFault → F) → (ℕ → Slot → Result PartText F)
+    → TopologyValue → Result InputValue F
+read_tables_and_reports as_ours source t =
+    all_tables as_ours source 1 t.routers
+    >>= λ tables. all_reports as_ours source (first_lan_number t) t.lans
+    >>= λ reports. Ok (record { topology = t; tables = tables; reports = reports })
+
+-- The input: with a part's fault as the caller's, what gives the part of a slot, and what judges,
+-- once the topology is known, which parts there are.
+unfoldable pub read_input : {F : Type 0} → (InputFault → F) → (ℕ → Slot → Result PartText F)
+    → (TopologyValue → Result (Unit {0}) F) → Result InputValue F
+read_input as_ours source judge =
+    read_part as_ours (source 0 topology_slot) topology_of
+    >>= λ t. judge t
+    >>= λ _. read_tables_and_reports as_ours source t

@@ -1,0 +1,30 @@
+-- What is noted of the caches in a folder's files, by the rows that stand there.
+use Rattle.std.specs.Prelude.{◌≡◌, Bool, List, length, Ok}
+use Rattle.mc_text.specs.Bundle.{PartText}
+use Rattle.mc_tables.specs.CacheReading.{cache_rows_in}
+use Rattle.mc_tables.specs.CacheTable.{RowValue}
+use Rattle.mc_tables.specs.Summary.{SummaryValue, summary_of}
+use Rattle.mc_topology.specs.SectionRows.{RouterRow}
+use Rattle.mc_topology.specs.Topology.{TopologyValue}
+use Rattle.mc_topology.specs.declared.flow.Flow.{Flow}
+use Rattle.mc_files.specs.FilePart.{file_part}
+use Rattle.mc_files.specs.Files.{FileText}
+use Rattle.mc_files.specs.Layout.{cache_slot}
+use Rattle.mc_forward.specs.Assembling.{RelatedAtEachIndex}
+use Rattle.mc_forward.specs.ListedTables.{flow_pairs}
+
+-- What is noted, for these flows, of the rows in the router's file `cache-<router>`, whose addresses
+-- stand in the byte order of the router; and whether all pairs that no flow has are told.
+pub record IsSummaryOf (all : Bool) (files : List FileText) (flows : List Flow) (r : RouterRow)
+    (summary : SummaryValue) : Type 0 where
+  pub part : PartText
+  pub rows : List RowValue
+  pub made : file_part files (cache_slot r.name) ≡ Ok part
+  pub read : cache_rows_in r.order part.bytes ≡ Ok rows
+  pub summarized : summary ≡ summary_of all (flow_pairs flows) rows
+
+-- Each router has its notes, the first router the first ones.
+pub record AreSummariesOf (all : Bool) (files : List FileText) (t : TopologyValue)
+    (summary : List SummaryValue) : Type 0 where
+  pub count : length summary ≡ length t.routers
+  pub each : RelatedAtEachIndex (IsSummaryOf all files t.flows) t.routers summary

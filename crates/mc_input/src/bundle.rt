@@ -1,0 +1,197 @@
+//! What the parts of a bundle tell of a domain, each read as it comes and let go.
+
+ghost use Rattle.std.specs.Prelude.{◌≡◌, ◌<◌, ◌+◌, ◌*◌, ℕ, List, [], Some, Ok, IfOk, IfErr, drop, length};
+ghost use Rattle.std.specs.Prelude.{is_some};
+ghost use Rattle.mc_text.specs.Device.{failures_after};
+ghost use Rattle.mc_text.specs.RestOfBundle.{Advances};
+ghost use Rattle.mc_forward.specs.Assembling.{AreAnswers};
+ghost use Rattle.mc_forward.specs.Domains.{TablesValue};
+ghost use Rattle.mc_input.specs.Input.{InputValue};
+ghost use Rattle.mc_input.specs.InputView.{certificate_text};
+ghost use Rattle.mc_input.specs.Kept.{AreFlowPairs, AreListedContents};
+ghost use Rattle.mc_input.specs.PartsOneByOne.{IsFaultOf, ReadsAllTables, ReadsReports, ReadsTables};
+ghost use Rattle.mc_input.specs.PartsOneByOne.{read_rest, check_names_then, certificate_number, finish_with_certificate, finish_with_reports};
+ghost use Rattle.mc_input.specs.PartsOneByOne.{finish_with_tables};
+ghost use Rattle.mc_input.specs.PartsReading.{first_lan_number};
+ghost use Rattle.mc_input.specs.SourceFault.{is_read};
+
+use crate::bundle_part::{cache_in, certificate_in, vifs_in, wanted_in};
+use crate::slot_part::check_names_to_end;
+use crate::source_fault::SourceFault;
+use crate::part_result::listed_pairs;
+use mc_forward::{FlowChannels, Items, Tables};
+use mc_files::slot_count;
+use mc_tables::{CacheReader, ListedPairs};
+use mc_text::{Input, Parts};
+use mc_topology::{RouterNo, Topology};
+use std::alloc::Global;
+
+/// What is kept of the parts after the topology.
+#[derive(Drop)]
+pub(crate) struct BundleContents {
+    /// Of each router the vifs, and of its cache what it says of the flows.
+    pub(crate) tables: Vec<Tables>,
+    /// For each LAN, which flows it wants.
+    pub(crate) wants: Vec<Items<bool>>,
+    /// The text of the certificate, where one was to be there.
+    pub(crate) certificate: Option<Vec<u8>>,
+}
+
+/// Both tables of a router, in the parts of two slots.
+fn tables_of<R: Input>(
+    alloc: Global,
+    parts: &mut Parts<R>,
+    buffer: &mut [u8],
+    topology: &Topology,
+    certified: bool,
+    listed: &ListedPairs,
+    router: u32,
+) -> Result<Tables, SourceFault>
+    requires listed { AreFlowPairs topology.now.flows listed.now }
+    requires router { router < length topology.now.routers }
+    requires few { 2 + 2 * router < u32.MAX }
+    requires room { 0 < length buffer.old }
+    requires failures { parts.old.failed < u64.MAX }
+    ensures tables { IfOk result
+        (ReadsTables parts.old parts.new certified topology.now router) }
+    ensures fault { (before : List TablesValue) → IfErr result (IsFaultOf parts.old
+        (check_names_then certified topology.now (1 + 2 * router)
+        (finish_with_tables certified topology.now before (drop router topology.now.routers)))) }
+    ensures advances { Advances parts.old parts.new }
+    ensures failures { parts.new.failed ≡ failures_after is_read result parts.old.failed }
+{
+    let number = 1 + 2 * router;
+    let order = topology.order(RouterNo(router));
+    let reader = CacheReader::new(alloc, order, listed.clone()?);
+    let vifs = vifs_in(alloc, parts, buffer, topology, certified, number)?;
+    let cache = cache_in(parts, buffer, topology, certified, number + 1, reader)?;
+    Ok(Tables { vifs, cache })
+}
+
+/// The tables of each router.
+fn read_tables<R: Input>(
+    alloc: Global,
+    parts: &mut Parts<R>,
+    buffer: &mut [u8],
+    topology: &Topology,
+    certified: bool,
+) -> Result<Vec<Tables>, SourceFault>
+    requires room { 0 < length buffer.old }
+    requires failures { parts.old.failed < u64.MAX }
+    ensures tables { IfOk result (λ tables. (text : List ℕ) → parts.old.remaining ≡ Some text →
+        ReadsAllTables parts.old text parts.new certified topology.now tables.items) }
+    ensures count { IfOk result (λ tables. length tables.items ≡ length topology.now.routers) }
+    ensures fault { IfErr result (IsFaultOf parts.old
+        (check_names_then certified topology.now 1 (finish_with_tables certified topology.now [] topology.now.routers))) }
+    ensures advances { Advances parts.old parts.new }
+    ensures failures { parts.new.failed ≡ failures_after is_read result parts.old.failed }
+{
+    let listed = listed_pairs(alloc, topology)?;
+    let mut tables = Vec::new(alloc);
+    for router in 0..topology.routers() {
+        tables.push(tables_of(alloc, parts, buffer, topology, certified, &listed, router)?)?;
+    }
+    Ok(tables)
+}
+
+/// Which flows each LAN wants.
+fn read_wants<R: Input>(
+    alloc: Global,
+    parts: &mut Parts<R>,
+    buffer: &mut [u8],
+    topology: &Topology,
+    certified: bool,
+) -> Result<Vec<Items<bool>>, SourceFault>
+    requires room { 0 < length buffer.old }
+    requires failures { parts.old.failed < u64.MAX }
+    ensures wants { IfOk result (λ wants. (text : List ℕ) (tables : List TablesValue) →
+        parts.old.remaining ≡ Some text →
+        ReadsReports parts.old text parts.new certified topology.now tables wants.items) }
+    ensures answers { IfOk result (λ wants. AreAnswers topology.now wants.items) }
+    ensures fault { (tables : List TablesValue) → IfErr result (IsFaultOf parts.old
+        (check_names_then certified topology.now (first_lan_number topology.now)
+        (finish_with_reports certified topology.now tables [] topology.now.lans))) }
+    ensures advances { Advances parts.old parts.new }
+    ensures failures { parts.new.failed ≡ failures_after is_read result parts.old.failed }
+{
+    let channels = FlowChannels::of(alloc, topology)?;
+    let first = 1 + 2 * topology.routers();
+    let mut wants = Vec::new(alloc);
+    for lan in 0..topology.lans() {
+        wants.push(wanted_in(
+            alloc,
+            parts,
+            buffer,
+            topology,
+            &channels,
+            certified,
+            first + lan,
+        )?)?;
+    }
+    Ok(wants)
+}
+
+/// The text of the certificate where one is to be there, after which no part may come.
+fn read_certificate_and_end<R: Input>(
+    alloc: Global,
+    parts: &mut Parts<R>,
+    buffer: &mut [u8],
+    topology: &Topology,
+    certified: bool,
+) -> Result<Option<Vec<u8>>, SourceFault>
+    requires room { 0 < length buffer.old }
+    requires failures { parts.old.failed < u64.MAX }
+    ensures last { IfOk result (λ text. (before : List ℕ) (input : InputValue) →
+        parts.old.remaining ≡ Some before →
+        read_rest parts.old before (check_names_then certified topology.now (certificate_number topology.now)
+        (finish_with_certificate certified input)) ≡ Ok (input, certificate_text text)) }
+    ensures certified { IfOk result (λ text. is_some text ≡ certified) }
+    ensures fault { (input : InputValue) → IfErr result (IsFaultOf parts.old
+        (check_names_then certified topology.now (certificate_number topology.now)
+        (finish_with_certificate certified input))) }
+    ensures advances { Advances parts.old parts.new }
+    ensures failures { parts.new.failed ≡ failures_after is_read result parts.old.failed }
+{
+    let number = slot_count(topology, false);
+    if !certified {
+        check_names_to_end(parts, topology, certified, number)?;
+        return Ok(None);
+    }
+    let text = certificate_in(alloc, parts, buffer, topology, certified, number)?;
+    check_names_to_end(parts, topology, certified, number + 1)?;
+    Ok(Some(text))
+}
+
+/// What the parts after the topology tell, of which the rows of listed flows are kept, and which
+/// LAN wants which flow.
+pub(crate) fn read_contents<R: Input>(
+    alloc: Global,
+    parts: &mut Parts<R>,
+    buffer: &mut [u8],
+    topology: &Topology,
+    certified: bool,
+) -> Result<BundleContents, SourceFault>
+    requires room { 0 < length buffer.old }
+    requires failures { parts.old.failed < u64.MAX }
+    ensures read { IfOk result (λ listed. (text : List ℕ) → parts.old.remaining ≡ Some text →
+        (input : InputValue) × AreListedContents input topology.now listed.tables.items listed.wants.items
+        × (read_rest parts.old text (check_names_then certified topology.now 1
+        (finish_with_tables certified topology.now [] topology.now.routers))
+        ≡ Ok (input, certificate_text listed.certificate))) }
+    ensures count { IfOk result (λ listed. length listed.tables.items ≡ length topology.now.routers) }
+    ensures answers { IfOk result (λ listed. AreAnswers topology.now listed.wants.items) }
+    ensures certified { IfOk result (λ listed. is_some listed.certificate ≡ certified) }
+    ensures fault { IfErr result (IsFaultOf parts.old
+        (check_names_then certified topology.now 1 (finish_with_tables certified topology.now [] topology.now.routers))) }
+    ensures advances { Advances parts.old parts.new }
+    ensures failures { parts.new.failed ≡ failures_after is_read result parts.old.failed }
+{
+    let tables = read_tables(alloc, parts, buffer, topology, certified)?;
+    let wants = read_wants(alloc, parts, buffer, topology, certified)?;
+    let certificate = read_certificate_and_end(alloc, parts, buffer, topology, certified)?;
+    Ok(BundleContents {
+        tables,
+        wants,
+        certificate,
+    })
+}

@@ -1,0 +1,281 @@
+//! One part of a bundle, which has to have the name of its slot, and what is kept of what it tells.
+
+ghost use Rattle.std.specs.Prelude.{◌≡◌, ◌≢◌, ◌<◌, ◌≤◌, ℕ, List, Some, Ok, Err, IfOk, IfErr};
+ghost use Rattle.std.specs.Prelude.{drop, length, Result};
+ghost use Rattle.mc_text.specs.Bundle.{PartText};
+ghost use Rattle.mc_text.specs.Device.{failures_after};
+ghost use Rattle.mc_text.specs.RestOfBundle.{Advances, ReadsPart};
+ghost use Rattle.mc_text.specs.Steps.{map_fault};
+ghost use Rattle.mc_tables.specs.ListedRows.{IsListedPart};
+ghost use Rattle.mc_tables.specs.RowsSoFar.{cache_if, cache_start};
+ghost use Rattle.mc_text.specs.Lines.{max_text};
+ghost use Rattle.mc_files.specs.Layout.{part_name, slots, topology_slot};
+ghost use Rattle.mc_forward.specs.Assembling.{AreChannelsWanted};
+ghost use Rattle.mc_forward.specs.ListedTables.{flow_pairs};
+ghost use Rattle.mc_input.specs.PartsOneByOne.{HasNameOfSlot, IsPartResult, IsFaultOf, KeepsOfPart, read_rest, check_names_then, check_names_from};
+ghost use Rattle.mc_input.specs.PartsOneByOne.{read_first_part, read_first_topology};
+ghost use Rattle.mc_input.specs.PartsReading.{cache_of as cache_reading, reports_of as reports_reading};
+ghost use Rattle.mc_input.specs.PartsReading.{topology_of as topology_reading, vifs_of as vifs_reading};
+ghost use Rattle.mc_input.specs.SourceFault.{IsReadOrMemory, is_read};
+ghost use Rattle.mc_input.specs.declared.fault.InputFault.{InputFault as FaultOfInput};
+ghost use Rattle.mc_input.specs.declared.fault.InputFault.TheVariants.{Cache as RefusedCache};
+ghost use Rattle.mc_input.specs.declared.source_fault.SourceFault.TheVariants.{Input as refused};
+
+use crate::fault::InputFault;
+use crate::fed_part::feed_slot;
+use crate::slot_part::{open_named, open_slot, check_names_to_end, drain};
+use crate::source_fault::SourceFault;
+use crate::part_result::{cache_or_fault, topology_of, vifs_or_fault, wanted_or_fault};
+use mc_forward::{FlowChannels, Items};
+use mc_igmp::ListReader;
+use mc_files::Slot;
+use mc_tables::{CacheReader, CacheTable, VifReader, VifTable};
+use mc_text::{Input, Part, Parts, collect_part};
+use mc_topology::Topology;
+use std::alloc::Global;
+
+/// What is kept of a part, or why it is refused: its fault is held back until all parts that come
+/// have the names of the slots from a number on.
+fn fault_after_names<R: Input, K: Drop>(
+    parts: &mut Parts<R>,
+    topology: &Topology,
+    certified: bool,
+    number: u32,
+    part_result: Result<K, InputFault>,
+) -> Result<K, SourceFault>
+    requires within { number ≤ length (slots certified topology.now) }
+    requires failures { parts.old.failed < u64.MAX }
+    ensures kept { IfOk result (λ kept. (part_result ≡ Ok kept) × (parts.new ≡ parts.old)) }
+    // What is to come is refused for its framing or for a name, or for this fault.
+    ensures fault { (text : List ℕ) (read : List PartText → Result (Unit {0}) FaultOfInput) →
+        parts.old.remaining ≡ Some text → IfErr result (λ fault. ¬ IsReadOrMemory fault →
+        (own : FaultOfInput) × (part_result ≡ Err own)
+        × ((own ≢ InputFault.Memory → (others : List PartText) → read others ≡ Err own) →
+        map_fault refused (read_rest parts.old text (check_names_then certified topology.now number read))
+        ≡ Err fault)) }
+    ensures advances { Advances parts.old parts.new }
+    ensures failures { parts.new.failed ≡ failures_after is_read result parts.old.failed }
+{
+    match part_result {
+        Ok(kept) => Ok(kept),
+        Err(InputFault::Memory) => Err(SourceFault::Input(InputFault::Memory)),
+        Err(fault) => {
+            check_names_to_end(parts, topology, certified, number)?;
+            Err(SourceFault::Input(fault))
+        }
+    }
+}
+
+/// What the part of a router's vifs tells.
+fn read_vifs<R: Input>(
+    alloc: Global,
+    parts: &mut Parts<R>,
+    buffer: &mut [u8],
+    topology: &Topology,
+    certified: bool,
+    number: u32,
+) -> Result<Result<VifTable, InputFault>, SourceFault>
+    requires within { number < length (slots certified topology.now) }
+    requires few { number < u32.MAX }
+    requires room { 0 < length buffer.old }
+    requires failures { parts.old.failed < u64.MAX }
+    ensures read { IfOk result (λ part_result. ReadsPart parts.old parts.new (λ part.
+        HasNameOfSlot certified topology.now number part.name
+        × IsPartResult (λ kept vifs. kept ≡ vifs) part_result (vifs_reading part))) }
+    ensures fault { IfErr result (IsFaultOf parts.old
+        (check_names_from number (drop number (slots certified topology.now)))) }
+    ensures advances { Advances parts.old parts.new }
+    ensures failures { parts.new.failed ≡ failures_after is_read result parts.old.failed }
+{
+    let mut reader = VifReader::new(alloc);
+    let name = feed_slot(parts, buffer, topology, certified, number, &mut reader)?;
+    Ok(vifs_or_fault(name, reader.finish()))
+}
+
+/// The vifs of a router, in the part of the slot with a number.
+pub(crate) fn vifs_in<R: Input>(
+    alloc: Global,
+    parts: &mut Parts<R>,
+    buffer: &mut [u8],
+    topology: &Topology,
+    certified: bool,
+    number: u32,
+) -> Result<VifTable, SourceFault>
+    requires within { number < length (slots certified topology.now) }
+    requires few { number < u32.MAX }
+    requires room { 0 < length buffer.old }
+    requires failures { parts.old.failed < u64.MAX }
+    ensures vifs { IfOk result (λ kept. KeepsOfPart parts.old parts.new certified topology.now number
+        vifs_reading (λ vifs. kept ≡ vifs)) }
+    ensures fault { IfErr result (IsFaultOf parts.old
+        (check_names_then certified topology.now number (read_first_part vifs_reading))) }
+    ensures advances { Advances parts.old parts.new }
+    ensures failures { parts.new.failed ≡ failures_after is_read result parts.old.failed }
+{
+    let part_result = read_vifs(alloc, parts, buffer, topology, certified, number)?;
+    fault_after_names(parts, topology, certified, number + 1, part_result)
+}
+
+/// What the part of a router's cache tells, of which the rows of these sources and groups are kept.
+fn read_cache<R: Input>(
+    parts: &mut Parts<R>,
+    buffer: &mut [u8],
+    topology: &Topology,
+    certified: bool,
+    number: u32,
+    reader: CacheReader,
+) -> Result<Result<CacheTable, InputFault>, SourceFault>
+    requires within { number < length (slots certified topology.now) }
+    requires few { number < u32.MAX }
+    requires room { 0 < length buffer.old }
+    requires start { reader.lines.size ≡ 0 }
+    requires failures { parts.old.failed < u64.MAX }
+    ensures read { IfOk result (λ part_result. ReadsPart parts.old parts.new (λ part.
+        HasNameOfSlot certified topology.now number part.name × (length part.bytes ≤ max_text)
+        × IsPartResult (λ kept cache. kept ≡ cache) part_result
+        (map_fault (RefusedCache part.name) (cache_if reader part.bytes)))) }
+    ensures fault { IfErr result (IsFaultOf parts.old
+        (check_names_from number (drop number (slots certified topology.now)))) }
+    ensures advances { Advances parts.old parts.new }
+    ensures failures { parts.new.failed ≡ failures_after is_read result parts.old.failed }
+{
+    let mut reader = reader;
+    let name = feed_slot(parts, buffer, topology, certified, number, &mut reader)?;
+    Ok(cache_or_fault(name, reader.finish()))
+}
+
+/// The forwarding cache of a router, in the part of the slot with a number, of which this reader
+/// keeps the rows of listed flows.
+pub(crate) fn cache_in<R: Input>(
+    parts: &mut Parts<R>,
+    buffer: &mut [u8],
+    topology: &Topology,
+    certified: bool,
+    number: u32,
+    reader: CacheReader,
+) -> Result<CacheTable, SourceFault>
+    requires within { number < length (slots certified topology.now) }
+    requires few { number < u32.MAX }
+    requires room { 0 < length buffer.old }
+    requires reader { reader ≡ cache_start reader.rows.order (Some (flow_pairs topology.now.flows)) }
+    requires failures { parts.old.failed < u64.MAX }
+    ensures cache { IfOk result (λ kept. KeepsOfPart parts.old parts.new certified topology.now number
+        (cache_reading reader.rows.order) (IsListedPart (Some (flow_pairs topology.now.flows)) kept)) }
+    ensures fault { IfErr result (IsFaultOf parts.old
+        (check_names_then certified topology.now number (read_first_part (cache_reading reader.rows.order)))) }
+    ensures advances { Advances parts.old parts.new }
+    ensures failures { parts.new.failed ≡ failures_after is_read result parts.old.failed }
+{
+    let part_result = read_cache(parts, buffer, topology, certified, number, reader)?;
+    fault_after_names(parts, topology, certified, number + 1, part_result)
+}
+
+/// What the part of a LAN's reports tells: which of these channels they want.
+fn read_reports<R: Input>(
+    alloc: Global,
+    parts: &mut Parts<R>,
+    buffer: &mut [u8],
+    topology: &Topology,
+    channels: &FlowChannels,
+    certified: bool,
+    number: u32,
+) -> Result<Result<Items<bool>, InputFault>, SourceFault>
+    requires within { number < length (slots certified topology.now) }
+    requires few { number < u32.MAX }
+    requires room { 0 < length buffer.old }
+    requires failures { parts.old.failed < u64.MAX }
+    ensures read { IfOk result (λ part_result. ReadsPart parts.old parts.new (λ part.
+        HasNameOfSlot certified topology.now number part.name
+        × IsPartResult (λ wanted records. AreChannelsWanted channels.now records wanted)
+        part_result (reports_reading part))) }
+    ensures count { IfOk result (λ part_result. IfOk part_result (λ wanted.
+        length wanted ≡ length channels.now)) }
+    ensures fault { IfErr result (IsFaultOf parts.old
+        (check_names_from number (drop number (slots certified topology.now)))) }
+    ensures advances { Advances parts.old parts.new }
+    ensures failures { parts.new.failed ≡ failures_after is_read result parts.old.failed }
+{
+    let mut reader = ListReader::new(alloc);
+    let name = feed_slot(parts, buffer, topology, certified, number, &mut reader)?;
+    Ok(wanted_or_fault(alloc, channels, name, reader.finish()))
+}
+
+/// Which of these channels a LAN wants, by its reports in the part of the slot with a number.
+pub(crate) fn wanted_in<R: Input>(
+    alloc: Global,
+    parts: &mut Parts<R>,
+    buffer: &mut [u8],
+    topology: &Topology,
+    channels: &FlowChannels,
+    certified: bool,
+    number: u32,
+) -> Result<Items<bool>, SourceFault>
+    requires within { number < length (slots certified topology.now) }
+    requires few { number < u32.MAX }
+    requires room { 0 < length buffer.old }
+    requires failures { parts.old.failed < u64.MAX }
+    ensures wanted { IfOk result (λ wanted. KeepsOfPart parts.old parts.new certified topology.now number
+        reports_reading (λ records. AreChannelsWanted channels.now records wanted)) }
+    ensures count { IfOk result (λ wanted. length wanted ≡ length channels.now) }
+    ensures fault { IfErr result (IsFaultOf parts.old
+        (check_names_then certified topology.now number (read_first_part reports_reading))) }
+    ensures advances { Advances parts.old parts.new }
+    ensures failures { parts.new.failed ≡ failures_after is_read result parts.old.failed }
+{
+    let part_result = read_reports(alloc, parts, buffer, topology, channels, certified, number)?;
+    fault_after_names(parts, topology, certified, number + 1, part_result)
+}
+
+/// The text of the certificate, in the part of the slot with a number.
+pub(crate) fn certificate_in<R: Input>(
+    alloc: Global,
+    parts: &mut Parts<R>,
+    buffer: &mut [u8],
+    topology: &Topology,
+    certified: bool,
+    number: u32,
+) -> Result<Vec<u8>, SourceFault>
+    requires within { number < length (slots certified topology.now) }
+    requires few { number < u32.MAX }
+    requires room { 0 < length buffer.old }
+    requires failures { parts.old.failed < u64.MAX }
+    ensures text { IfOk result (λ text. ReadsPart parts.old parts.new (λ part.
+        HasNameOfSlot certified topology.now number part.name × (part.bytes ≡ text.items))) }
+    ensures fault { IfErr result (IsFaultOf parts.old
+        (check_names_from number (drop number (slots certified topology.now)))) }
+    ensures advances { Advances parts.old parts.new }
+    ensures failures { parts.new.failed ≡ failures_after is_read result parts.old.failed }
+{
+    open_slot(parts, topology, certified, number)?;
+    Ok(collect_part(alloc, parts, buffer)?)
+}
+
+/// The topology, in the first part.
+pub(crate) fn topology_in<R: Input>(
+    alloc: Global,
+    parts: &mut Parts<R>,
+    buffer: &mut [u8],
+) -> Result<Topology, SourceFault>
+    requires room { 0 < length buffer.old }
+    requires failures { parts.old.failed < u64.MAX }
+    ensures topology { IfOk result (λ topology. ReadsPart parts.old parts.new (λ part.
+        (part.name ≡ part_name topology_slot) × (topology_reading part ≡ Ok topology))) }
+    ensures fault { IfErr result (IsFaultOf parts.old read_first_topology) }
+    ensures advances { Advances parts.old parts.new }
+    ensures failures { parts.new.failed ≡ failures_after is_read result parts.old.failed }
+{
+    open_named(parts, &Slot::topology(), 0)?;
+    let bytes = collect_part(alloc, parts, buffer)?;
+    let part = Part {
+        name: parts.name(),
+        bytes: &bytes,
+    };
+    match topology_of(alloc, &part) {
+        Ok(topology) => Ok(topology),
+        Err(InputFault::Memory) => Err(SourceFault::Input(InputFault::Memory)),
+        Err(fault) => {
+            drain(parts)?;
+            Err(SourceFault::Input(fault))
+        }
+    }
+}

@@ -1,0 +1,276 @@
+//! The domain that a bundle or a folder's files mean, put together of what they tell.
+
+ghost use Rattle.std.specs.Prelude.{◌≡◌, ◌<◌, ℕ, Err, IfErr, IfOk, IfSome, List, MatchResult, Option};
+ghost use Rattle.std.specs.Prelude.{Ok, Some, is_some, length, map, true};
+ghost use Rattle.mc_text.specs.Bundle.{max_input};
+ghost use Rattle.mc_text.specs.Device.{failures_after};
+ghost use Rattle.mc_text.specs.RestOfBundle.{Advances};
+ghost use Rattle.mc_text.specs.ReadFault.{ConsumesUpTo};
+ghost use Rattle.mc_text.specs.Steps.{map_fault};
+ghost use Rattle.mc_forward.specs.Domains.{DomainValue, IsDomain};
+ghost use Rattle.mc_forward.specs.ListedTables.{HaveSameFacts};
+ghost use Rattle.mc_files.specs.Files.{FileText};
+ghost use Rattle.mc_input.specs.FilesReading.{input_of_files, part_from_file};
+ghost use Rattle.mc_input.specs.Input.{InputValue};
+ghost use Rattle.mc_input.specs.InputReading.{input_of_bundle};
+ghost use Rattle.mc_input.specs.InputView.{certificate_text};
+ghost use Rattle.mc_input.specs.Kept.{IsDomainOf, GivesKeptFromContents};
+ghost use Rattle.mc_input.specs.ExcludedRouters.{AreRouterNames, IsReadOrMemoryWithout, input_of_files_without, is_read_without};
+ghost use Rattle.mc_input.specs.ExcludedRouters.{is_possible_for_files_without, files_with_exclusions};
+ghost use Rattle.mc_input.specs.Meaning.{FilesMeanDomainAsListed, MeansDomain, FilesMeanDomain, MeansDomainAsListed};
+ghost use Rattle.mc_input.specs.SummariesOfFiles.{AreSummariesOf};
+ghost use Rattle.mc_input.specs.PartsOneByOne.{ReadsDomain, IsFaultOf, read_all_parts};
+ghost use Rattle.mc_input.specs.PartsReading.{read_tables_and_reports};
+ghost use Rattle.mc_input.specs.SourceFault.{IsReadOrMemory, is_possible_for_files, is_read};
+ghost use Rattle.mc_input.specs.declared.source_fault.SourceFault.TheVariants.{Input as refused};
+
+use crate::bundle::read_contents;
+use crate::bundle_part::topology_in;
+use crate::file_part::topology_in as topology_of_files;
+use crate::files::read_contents as contents_of_files;
+use crate::excluded::check_names;
+use crate::source_fault::SourceFault;
+use crate::without_fault::WithoutFault;
+use mc_forward::Domain;
+use mc_files::PieceSource;
+use mc_tables::CacheSummary;
+use mc_text::{Input, Parts};
+use mc_topology::Topology;
+use std::alloc::Global;
+
+/// How many bytes of a part or a file are read at once.
+pub const PIECE: usize = 65_536;
+
+/// A domain, and the text of the certificate where one was asked for.
+#[derive(Drop)]
+pub struct BundleDomain {
+    /// The domain.
+    pub domain: Domain,
+    /// The text of the certificate.
+    pub certificate: Option<Vec<u8>>,
+}
+
+/// The domain that the parts of a bundle tell.
+fn read_parts<R: Input>(
+    alloc: Global,
+    parts: &mut Parts<R>,
+    buffer: &mut [u8],
+    certified: bool,
+) -> Result<BundleDomain, SourceFault>
+    requires room { 0 < length buffer.old }
+    requires failures { parts.old.failed < u64.MAX }
+    ensures read { IfOk result (λ read. (text : List ℕ) → parts.old.remaining ≡ Some text →
+        ReadsDomain parts.old text certified read.domain (certificate_text read.certificate)) }
+    ensures certified { IfOk result (λ read. is_some read.certificate ≡ certified) }
+    ensures rules { IfOk result (λ read. IsDomain read.domain) }
+    ensures fault { IfErr result (IsFaultOf parts.old (read_all_parts certified)) }
+    ensures advances { Advances parts.old parts.new }
+    ensures failures { parts.new.failed ≡ failures_after is_read result parts.old.failed }
+{
+    let topology = topology_in(alloc, parts, buffer)?;
+    let listed = read_contents(alloc, parts, buffer, &topology, certified)?;
+    let certificate = listed.certificate;
+    let domain = Domain::from_wants(alloc, topology, listed.tables, listed.wants)?;
+    Ok(BundleDomain {
+        domain,
+        certificate,
+    })
+}
+
+/// The domain that an input's bundle means, whose parts are read in pieces through the buffer.
+fn read_with_buffer<R: Input>(
+    alloc: Global,
+    input: &mut R,
+    buffer: &mut [u8],
+    certified: bool,
+) -> Result<BundleDomain, SourceFault>
+    requires room { 0 < length buffer.old }
+    requires failures { R.failed input.old < u64.MAX }
+    ensures same { R.borrows input.new ≡ R.borrows input.old }
+    ensures means { IfOk result (λ read. IfSome (R.remaining input.old) (λ text.
+        MeansDomainAsListed text (certificate_text read.certificate) read.domain)) }
+    ensures certified { IfOk result (λ read. is_some read.certificate ≡ certified) }
+    ensures rules { IfOk result (λ read. IsDomain read.domain) }
+    ensures only { (text : List ℕ) (certificate : Option (List ℕ)) (domain : DomainValue) →
+        R.remaining input.old ≡ Some text → is_some certificate ≡ certified →
+        MeansDomain text certificate domain → MatchResult result
+        (λ read. HaveSameFacts domain read.domain × (certificate_text read.certificate ≡ certificate))
+        IsReadOrMemory }
+    ensures fault { (text : List ℕ) → R.remaining input.old ≡ Some text → IfErr result (λ fault.
+        ¬ IsReadOrMemory fault → map_fault refused (input_of_bundle certified text) ≡ Err fault) }
+    ensures consumed { ConsumesUpTo max_input (R.remaining input.old) (R.remaining input.new) }
+    ensures failures { R.failed input.new ≡ failures_after is_read result (R.failed input.old) }
+{
+    let mut parts = Parts::new(input);
+    let read = read_parts(alloc, &mut parts, buffer, certified);
+    let _input = parts.into_input();
+    read
+}
+
+/// Reads the domain that an input's bundle means: the parts `topology`, `vif/<router>` and
+/// `cache/<router>` for each router, `igmp/<lan>` for each LAN, each in the order of the topology,
+/// and `certificate` where `certified` says that one is to be there. Each part is read as it comes
+/// and let go; of the tables the rows of listed flows are kept. The count of the input's failures
+/// has to be below `u64::MAX`.
+///
+/// # Errors
+///
+/// The framing of the whole bundle is judged first, then the name of the first part, the topology,
+/// the names and the number of all parts, and then their contents in their order: reading goes on
+/// to the bundle's end, and the first fault in this order is answered. `Read` where the input
+/// failed, and `Input` with `Memory` where memory ran out, each at once.
+pub fn read_bundle_domain<R: Input>(
+    alloc: Global,
+    input: &mut R,
+    certified: bool,
+) -> Result<BundleDomain, SourceFault>
+    requires { R.failed input.old < u64.MAX }
+    ensures same { R.borrows input.new ≡ R.borrows input.old }
+    // The bundle means a domain with the certificate, and what was read says the same of each flow.
+    ensures means { IfOk result (λ read. IfSome (R.remaining input.old) (λ text.
+        MeansDomainAsListed text (certificate_text read.certificate) read.domain)) }
+    // It has the text of a certificate exactly where one was asked for.
+    ensures certified { IfOk result (λ read. is_some read.certificate ≡ certified) }
+    ensures rules { IfOk result (λ read. IsDomain read.domain) }
+    // A bundle that means a domain is read, and as that, unless the input fails or memory runs out.
+    ensures only { (text : List ℕ) (certificate : Option (List ℕ)) (domain : DomainValue) →
+        R.remaining input.old ≡ Some text → is_some certificate ≡ certified →
+        MeansDomain text certificate domain → MatchResult result
+        (λ read. HaveSameFacts domain read.domain × (certificate_text read.certificate ≡ certificate))
+        IsReadOrMemory }
+    // Which fault it is.
+    ensures fault { (text : List ℕ) → R.remaining input.old ≡ Some text → IfErr result (λ fault.
+        ¬ IsReadOrMemory fault → map_fault refused (input_of_bundle certified text) ≡ Err fault) }
+    // No more is read than the greatest bundle and a line, whatever the answer.
+    ensures consumed { ConsumesUpTo max_input (R.remaining input.old) (R.remaining input.new) }
+    // Read comes only where the input's failures rose in the call.
+    ensures failures { R.failed input.new ≡ failures_after is_read result (R.failed input.old) }
+{
+    let mut buffer = Vec::from_elem(alloc, 0u8, PIECE)?;
+    read_with_buffer(alloc, input, &mut buffer, certified)
+}
+
+/// A domain, and what is noted of each router's cache, the first router's first.
+#[derive(Drop)]
+pub struct FolderDomain {
+    /// The domain.
+    pub domain: Domain,
+    /// The notes of each router's cache.
+    pub summary: Vec<CacheSummary>,
+}
+
+/// The domain of this topology that the other files tell, which are read in pieces through the buffer,
+/// with some routers left out, and what is noted of the caches.
+fn read_rest_with_buffer<F: PieceSource>(
+    alloc: Global,
+    files: &mut F,
+    buffer: &mut [u8],
+    topology: Topology,
+    without: &[&str],
+    all: bool,
+) -> Result<FolderDomain, SourceFault>
+    requires room { 0 < length buffer.old }
+    requires reads { F.failed files.old < u64.MAX }
+    ensures same { F.borrows files.new ≡ F.borrows files.old }
+    ensures kept { F.contents files.new ≡ F.contents files.old }
+    ensures domain { GivesKeptFromContents (F.contents files.old) (λ read. IsDomainOf read.domain) result
+        (λ contents. read_tables_and_reports refused
+        (part_from_file (files_with_exclusions (map (λ n. n.now) without.now) contents)) topology) }
+    ensures topology { IfOk result (λ read. read.domain.topology ≡ topology) }
+    ensures rules { IfOk result (λ read. IsDomain read.domain) }
+    ensures summary { (contents : List FileText) → F.contents files.old ≡ Some contents → IfOk result (λ read.
+        AreSummariesOf all (files_with_exclusions (map (λ n. n.now) without.now) contents)
+        read.domain.topology read.summary.items) }
+    ensures faults { IfErr result (λ fault. is_possible_for_files fault ≡ true) }
+    ensures failures { F.failed files.new ≡ failures_after is_read result (F.failed files.old) }
+{
+    let listed = contents_of_files(alloc, files, buffer, &topology, without, all)?;
+    let summary = listed.summary;
+    let domain = Domain::from_wants(alloc, topology, listed.tables, listed.wants)?;
+    Ok(FolderDomain { domain, summary })
+}
+
+/// The domain that files tell with some routers left out, and what is noted of the caches.
+fn read_files_with_buffer<F: PieceSource>(
+    alloc: Global,
+    files: &mut F,
+    buffer: &mut [u8],
+    without: &[&str],
+    all: bool,
+) -> Result<FolderDomain, WithoutFault>
+    requires room { 0 < length buffer.old }
+    requires reads { F.failed files.old < u64.MAX }
+    ensures same { F.borrows files.new ≡ F.borrows files.old }
+    ensures kept { F.contents files.new ≡ F.contents files.old }
+    ensures domain { (contents : List FileText) → F.contents files.old ≡ Some contents → IfOk result (λ read.
+        (input : InputValue) × IsDomainOf read.domain input
+        × (input_of_files (files_with_exclusions (map (λ n. n.now) without.now) contents) ≡ Ok input)) }
+    ensures routers { IfOk result (λ read.
+        AreRouterNames read.domain.topology (map (λ n. n.now) without.now)) }
+    ensures rules { IfOk result (λ read. IsDomain read.domain) }
+    ensures summary { (contents : List FileText) → F.contents files.old ≡ Some contents → IfOk result (λ read.
+        AreSummariesOf all (files_with_exclusions (map (λ n. n.now) without.now) contents)
+        read.domain.topology read.summary.items) }
+    ensures fault { (contents : List FileText) → F.contents files.old ≡ Some contents → IfErr result (λ fault.
+        ¬ IsReadOrMemoryWithout fault → input_of_files_without (map (λ n. n.now) without.now) contents ≡ Err fault) }
+    ensures faults { IfErr result (λ fault. is_possible_for_files_without fault ≡ true) }
+    ensures failures { F.failed files.new ≡ failures_after is_read_without result (F.failed files.old) }
+{
+    let topology = topology_of_files(alloc, files)?;
+    check_names(&topology, without)?;
+    Ok(read_rest_with_buffer(alloc, files, buffer, topology, without, all)?)
+}
+
+/// Reads the domain that a folder's files mean with the routers of these names left out: `topology`,
+/// `vif-<router>` and `cache-<router>` for each other router, and `igmp-<lan>` for each LAN, each in
+/// the order of the topology. A router that is left out has no vif and no row; its files aren't asked
+/// for. Each file may have 16,777,216 bytes, and is judged before the next one is asked for. Tables
+/// and report lists are read as they come, and of a cache the rows of listed flows are kept, with
+/// what is noted of all rows: of those that no flow has, the sources and groups of all or of the
+/// lowest. The count of the source's failures has to be below `u64::MAX`.
+///
+/// # Errors
+///
+/// The first fault in this order, of which the topology's comes first, then that of the first name
+/// that no router has, `NoSuchRouter`, and then those of the other files: `Read` where a file isn't
+/// there or can't be read, `Input` with `TooLarge` where it has too many bytes, and `Input` with what
+/// is wrong in it. Or `Input` with `Memory` where memory ran out.
+pub fn read_folder_domain<F: PieceSource>(
+    alloc: Global,
+    files: &mut F,
+    without: &[&str],
+    all: bool,
+) -> Result<FolderDomain, WithoutFault>
+    requires { F.failed files.old < u64.MAX }
+    ensures same { F.borrows files.new ≡ F.borrows files.old }
+    ensures kept { F.contents files.new ≡ F.contents files.old }
+    // With the routers left out the files mean a domain, and what was read says the same of each
+    // flow.
+    ensures means { IfOk result (λ read. IfSome (F.contents files.old) (λ contents.
+        FilesMeanDomainAsListed (files_with_exclusions (map (λ n. n.now) without.now) contents) read.domain)) }
+    // Each name is that of a router.
+    ensures routers { IfOk result (λ read.
+        AreRouterNames read.domain.topology (map (λ n. n.now) without.now)) }
+    ensures rules { IfOk result (λ read. IsDomain read.domain) }
+    // Files that mean a domain with the routers left out, of which each is one of its topology, are
+    // read, and as that, unless the source fails or memory runs out.
+    ensures only { (contents : List FileText) (domain : DomainValue) → F.contents files.old ≡ Some contents →
+        FilesMeanDomain (files_with_exclusions (map (λ n. n.now) without.now) contents) domain →
+        AreRouterNames domain.topology (map (λ n. n.now) without.now) → MatchResult result
+        (λ read. HaveSameFacts domain read.domain) IsReadOrMemoryWithout }
+    // Each router's notes are of the rows in its own file, or of none where it is left out, for the
+    // flows of the topology.
+    ensures summary { IfOk result (λ read. IfSome (F.contents files.old) (λ contents.
+        AreSummariesOf all (files_with_exclusions (map (λ n. n.now) without.now) contents)
+        read.domain.topology read.summary.items)) }
+    // Which fault it is, unless the source fails or memory runs out.
+    ensures fault { IfErr result (λ fault. IfSome (F.contents files.old) (λ contents.
+        ¬ IsReadOrMemoryWithout fault → input_of_files_without (map (λ n. n.now) without.now) contents ≡ Err fault)) }
+    // It is none of a bundle's, but that something is too large for one.
+    ensures faults { IfErr result (λ fault. is_possible_for_files_without fault ≡ true) }
+    // A file is unread only where the source's failures rose in the call.
+    ensures failures { F.failed files.new ≡ failures_after is_read_without result (F.failed files.old) }
+{
+    let mut buffer = Vec::from_elem(alloc, 0u8, PIECE)?;
+    read_files_with_buffer(alloc, files, &mut buffer, without, all)
+}

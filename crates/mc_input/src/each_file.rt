@@ -1,0 +1,343 @@
+//! All files of a folder that are refused, each by its own fault, so that one look tells whoever
+//! has to mend them what to mend.
+
+ghost use Rattle.std.specs.Prelude.{◌≡◌, ◌≢◌, ◌<◌, ◌∷◌, ◌++◌, List, [], IfOk, IsTrue, Ok, OnOk, Some};
+ghost use Rattle.std.specs.Prelude.{flat_map, length, map};
+ghost use Rattle.std.specs.Result.{result_err};
+ghost use Rattle.mc_topology.specs.Names.{is_name};
+ghost use Rattle.mc_topology.specs.declared.flow.Flow.{Flow};
+ghost use Rattle.mc_files.specs.Files.{FileText};
+ghost use Rattle.mc_files.specs.Layout.{cache_slot, file_name, reports_slot, topology_slot, vif_slot};
+ghost use Rattle.mc_input.specs.FilesReading.{part_from_file};
+ghost use Rattle.mc_input.specs.Kept.{AreFlowPairs};
+ghost use Rattle.mc_input.specs.PartsReading.{cache_of, reports_of, read_part, topology_of, vifs_of};
+ghost use Rattle.mc_input.specs.RefusedFiles.{AreUnreadFilesMissing, AreRefusedFiles, IsOwnFaultUnlessMemory, JudgesFiles};
+ghost use Rattle.mc_input.specs.RefusedFiles.{saturating_failures, failure_count, fault_of_refusal, file_fault};
+ghost use Rattle.mc_input.specs.RefusedFiles.{judged_with_topology, judged_reports, judged_tables, files_with_fault};
+ghost use Rattle.mc_input.specs.RefusedFiles.{refused_files_of, as_judged_file, unread_count};
+ghost use Rattle.mc_input.specs.SourceFault.{GivesFromContents};
+ghost use Rattle.mc_input.specs.declared.source_fault.SourceFault.TheVariants.{Input};
+
+use crate::domain::PIECE;
+use crate::fault::InputFault;
+use crate::file_part::{cache_in, topology_in, vifs_in, wanted_in};
+use crate::excluded::is_excluded;
+use crate::source_fault::SourceFault;
+use crate::part_result::summary_pairs;
+use mc_forward::FlowChannels;
+use mc_files::{PieceSource, Slot, Unread};
+use mc_tables::SummaryPairs;
+use mc_text::{Memory, Order};
+use mc_topology::{LanNo, RouterNo, Topology};
+use std::alloc::Global;
+
+/// Why a file is refused.
+#[derive(Clone, Copy, Debug, Drop)]
+pub enum Refusal {
+    /// It can't be read.
+    Unread(Unread),
+    /// What stands in it is refused, or how much that is.
+    Fault(InputFault),
+}
+
+/// A file that is refused.
+#[derive(Debug, Drop)]
+pub struct RefusedFile {
+    /// Its name in the folder.
+    pub name: String,
+    /// Why.
+    pub refusal: Refusal,
+}
+
+/// The topology, unless the source counts no more failures.
+fn topology_unless_u64_max<F: PieceSource>(alloc: Global, files: &mut F) -> Result<Topology, SourceFault>
+    ensures same { F.borrows files.new ≡ F.borrows files.old }
+    ensures kept { F.contents files.new ≡ F.contents files.old }
+    ensures topology { GivesFromContents (F.contents files.old) (λ topology. topology) result
+        (λ contents. read_part Input (part_from_file contents 0 topology_slot) topology_of) }
+    ensures failures { F.failed files.new
+        ≡ saturating_failures (failure_count (result_err result)) (F.failed files.old) }
+{
+    if files.failures() == u64::MAX {
+        return Err(SourceFault::Read);
+    }
+    topology_in(alloc, files)
+}
+
+/// The fault of the vifs of a router.
+fn vifs_fault<F: PieceSource>(
+    alloc: Global,
+    files: &mut F,
+    buffer: &mut [u8],
+    router: &str,
+) -> Option<SourceFault>
+    requires name { IsTrue (is_name router.now) }
+    requires room { 0 < length buffer.old }
+    ensures same { F.borrows files.new ≡ F.borrows files.old }
+    ensures kept { F.contents files.new ≡ F.contents files.old }
+    ensures fault { (contents : List FileText) → F.contents files.old ≡ Some contents →
+        IsOwnFaultUnlessMemory result (file_fault contents (vif_slot router.now) vifs_of) }
+    ensures failures { F.failed files.new
+        ≡ saturating_failures (failure_count result) (F.failed files.old) }
+{
+    if files.failures() == u64::MAX {
+        return Some(SourceFault::Read);
+    }
+    vifs_in(alloc, files, buffer, router).err()
+}
+
+/// The fault of the forwarding cache of a router, whose machine has this byte order.
+fn cache_fault<F: PieceSource>(
+    alloc: Global,
+    files: &mut F,
+    buffer: &mut [u8],
+    listed: &SummaryPairs,
+    router: &str,
+    order: Order,
+) -> Option<SourceFault>
+    requires name { IsTrue (is_name router.now) }
+    requires room { 0 < length buffer.old }
+    ensures same { F.borrows files.new ≡ F.borrows files.old }
+    ensures kept { F.contents files.new ≡ F.contents files.old }
+    ensures fault { (flows : List Flow) (contents : List FileText) → AreFlowPairs flows listed.now →
+        F.contents files.old ≡ Some contents →
+        IsOwnFaultUnlessMemory result (file_fault contents (cache_slot router.now) (cache_of order)) }
+    ensures failures { F.failed files.new
+        ≡ saturating_failures (failure_count result) (F.failed files.old) }
+{
+    if files.failures() == u64::MAX {
+        return Some(SourceFault::Read);
+    }
+    cache_in(alloc, files, buffer, listed, router, order, false).err()
+}
+
+/// The fault of the reports of a LAN.
+fn reports_fault<F: PieceSource>(
+    alloc: Global,
+    files: &mut F,
+    buffer: &mut [u8],
+    channels: &FlowChannels,
+    lan: &str,
+) -> Option<SourceFault>
+    requires name { IsTrue (is_name lan.now) }
+    requires room { 0 < length buffer.old }
+    ensures same { F.borrows files.new ≡ F.borrows files.old }
+    ensures kept { F.contents files.new ≡ F.contents files.old }
+    ensures fault { (contents : List FileText) → F.contents files.old ≡ Some contents →
+        IsOwnFaultUnlessMemory result (file_fault contents (reports_slot lan.now) reports_of) }
+    ensures failures { F.failed files.new
+        ≡ saturating_failures (failure_count result) (F.failed files.old) }
+{
+    if files.failures() == u64::MAX {
+        return Some(SourceFault::Read);
+    }
+    wanted_in(alloc, files, buffer, channels, lan).err()
+}
+
+/// Why a file is refused that was judged so just now, unless memory ran out.
+fn refusal_of<F: PieceSource>(files: &F, fault: SourceFault) -> Result<Refusal, Memory>
+    ensures { IfOk result (λ refusal. (fault_of_refusal refusal ≡ fault) × (fault ≢ Input InputFault.Memory)) }
+{
+    match fault {
+        SourceFault::Input(InputFault::Memory) => Err(Memory),
+        SourceFault::Input(fault) => Ok(Refusal::Fault(fault)),
+        SourceFault::Read => Ok(Refusal::Unread(files.unread().unwrap_or(Unread::Failed))),
+    }
+}
+
+/// Puts the file of a slot behind those that are refused, if it has a fault.
+fn push_if_fault<F: PieceSource>(
+    alloc: Global,
+    files: &F,
+    slot: &Slot<'_>,
+    fault: Option<SourceFault>,
+    refused: &mut Vec<RefusedFile>,
+) -> Result<(), Memory>
+    ensures listed { OnOk result (map as_judged_file refused.new.items ≡ map as_judged_file refused.old.items
+        ++ files_with_fault (record { name = file_name slot.now; fault = fault } ∷ [])) }
+    ensures not_out_of_memory { OnOk result (fault ≢ Some (Input InputFault.Memory)) }
+{
+    let Some(fault) = fault else {
+        return Ok(());
+    };
+    let refusal = refusal_of(files, fault)?;
+    let name = slot.file_name(alloc)?;
+    refused.push(RefusedFile { name, refusal })?;
+    Ok(())
+}
+
+/// Judges the tables of a router, whose machine has this byte order, unless it is left out.
+fn judge_tables<F: PieceSource>(
+    alloc: Global,
+    files: &mut F,
+    buffer: &mut [u8],
+    listed: &SummaryPairs,
+    without: &[&str],
+    router: &str,
+    order: Order,
+    refused: &mut Vec<RefusedFile>,
+) -> Result<(), Memory>
+    requires name { IsTrue (is_name router.now) }
+    requires room { 0 < length buffer.old }
+    ensures same { F.borrows files.new ≡ F.borrows files.old }
+    ensures kept { F.contents files.new ≡ F.contents files.old }
+    ensures judged { (flows : List Flow) → AreFlowPairs flows listed.now →
+        OnOk result (JudgesFiles (F.contents files.old) (λ contents.
+        judged_tables (map (λ n. n.now) without.now) contents (record { name = router.now; order = order }))
+        (map as_judged_file refused.old.items) (map as_judged_file refused.new.items)
+        (F.failed files.old) (F.failed files.new)) }
+{
+    if is_excluded(without, router) {
+        return Ok(());
+    }
+    let vifs = vifs_fault(alloc, files, buffer, router);
+    push_if_fault(alloc, files, &Slot::vifs(router), vifs, refused)?;
+    let cache = cache_fault(alloc, files, buffer, listed, router, order);
+    push_if_fault(alloc, files, &Slot::cache(router), cache, refused)
+}
+
+/// Judges the reports of a LAN.
+fn judge_reports<F: PieceSource>(
+    alloc: Global,
+    files: &mut F,
+    buffer: &mut [u8],
+    channels: &FlowChannels,
+    lan: &str,
+    refused: &mut Vec<RefusedFile>,
+) -> Result<(), Memory>
+    requires name { IsTrue (is_name lan.now) }
+    requires room { 0 < length buffer.old }
+    ensures same { F.borrows files.new ≡ F.borrows files.old }
+    ensures kept { F.contents files.new ≡ F.contents files.old }
+    ensures judged { OnOk result (JudgesFiles (F.contents files.old) (λ contents.
+        judged_reports contents lan.now ∷ [])
+        (map as_judged_file refused.old.items) (map as_judged_file refused.new.items)
+        (F.failed files.old) (F.failed files.new)) }
+{
+    let fault = reports_fault(alloc, files, buffer, channels, lan);
+    push_if_fault(alloc, files, &Slot::reports(lan), fault, refused)
+}
+
+/// Judges the tables of all routers but those that are left out.
+fn judge_routers<F: PieceSource>(
+    alloc: Global,
+    files: &mut F,
+    buffer: &mut [u8],
+    topology: &Topology,
+    without: &[&str],
+    refused: &mut Vec<RefusedFile>,
+) -> Result<(), Memory>
+    requires room { 0 < length buffer.old }
+    ensures same { F.borrows files.new ≡ F.borrows files.old }
+    ensures kept { F.contents files.new ≡ F.contents files.old }
+    ensures judged { OnOk result (JudgesFiles (F.contents files.old) (λ contents.
+        flat_map (judged_tables (map (λ n. n.now) without.now) contents) topology.now.routers)
+        (map as_judged_file refused.old.items) (map as_judged_file refused.new.items)
+        (F.failed files.old) (F.failed files.new)) }
+{
+    let Ok(listed) = summary_pairs(alloc, topology) else {
+        return Err(Memory);
+    };
+    for router in 0..topology.routers() {
+        let name = topology.router_name(RouterNo(router));
+        let order = topology.order(RouterNo(router));
+        judge_tables(alloc, files, buffer, &listed, without, name, order, refused)?;
+    }
+    Ok(())
+}
+
+/// Judges the reports of all LANs.
+fn judge_lans<F: PieceSource>(
+    alloc: Global,
+    files: &mut F,
+    buffer: &mut [u8],
+    topology: &Topology,
+    refused: &mut Vec<RefusedFile>,
+) -> Result<(), Memory>
+    requires room { 0 < length buffer.old }
+    ensures same { F.borrows files.new ≡ F.borrows files.old }
+    ensures kept { F.contents files.new ≡ F.contents files.old }
+    ensures judged { OnOk result (JudgesFiles (F.contents files.old) (λ contents.
+        map (judged_reports contents) topology.now.lans)
+        (map as_judged_file refused.old.items) (map as_judged_file refused.new.items)
+        (F.failed files.old) (F.failed files.new)) }
+{
+    let channels = FlowChannels::of(alloc, topology)?;
+    for lan in 0..topology.lans() {
+        let name = topology.lan_name(LanNo(lan));
+        judge_reports(alloc, files, buffer, &channels, name, refused)?;
+    }
+    Ok(())
+}
+
+/// Judges all files that a topology names.
+fn judge_topologys_files<F: PieceSource>(
+    alloc: Global,
+    files: &mut F,
+    topology: &Topology,
+    without: &[&str],
+    refused: &mut Vec<RefusedFile>,
+) -> Result<(), Memory>
+    ensures same { F.borrows files.new ≡ F.borrows files.old }
+    ensures kept { F.contents files.new ≡ F.contents files.old }
+    ensures judged { OnOk result (JudgesFiles (F.contents files.old) (λ contents.
+        judged_with_topology (map (λ n. n.now) without.now) contents (Ok topology.now))
+        (map as_judged_file refused.old.items) (map as_judged_file refused.new.items)
+        (F.failed files.old) (F.failed files.new)) }
+{
+    let mut buffer = Vec::from_elem(alloc, 0u8, PIECE)?;
+    judge_routers(alloc, files, &mut buffer, topology, without, refused)?;
+    judge_lans(alloc, files, &mut buffer, topology, refused)
+}
+
+/// Judges all files of a folder.
+fn judge_all_files<F: PieceSource>(
+    alloc: Global,
+    files: &mut F,
+    without: &[&str],
+    refused: &mut Vec<RefusedFile>,
+) -> Result<(), Memory>
+    requires { refused.old.items ≡ [] }
+    ensures same { F.borrows files.new ≡ F.borrows files.old }
+    ensures kept { F.contents files.new ≡ F.contents files.old }
+    ensures refused { (contents : List FileText) → F.contents files.old ≡ Some contents →
+        OnOk result (AreRefusedFiles (map (λ n. n.now) without.now) contents (map as_judged_file refused.new.items)) }
+    ensures failures { OnOk result (F.failed files.new
+        ≡ saturating_failures (unread_count (map as_judged_file refused.new.items)) (F.failed files.old)) }
+{
+    match topology_unless_u64_max(alloc, files) {
+        Ok(topology) => judge_topologys_files(alloc, files, &topology, without, refused),
+        Err(fault) => push_if_fault(alloc, files, &Slot::topology(), Some(fault), refused),
+    }
+}
+
+/// Judges each file of a folder by itself, in the order of a domain's files, and tells those that are
+/// refused. A topology that is refused is told alone, since it names the others. The files of routers
+/// with these names are left out, and not asked for.
+///
+/// # Errors
+///
+/// `Memory` where a growth was refused.
+pub fn refused_files<F: PieceSource>(
+    alloc: Global,
+    files: &mut F,
+    without: &[&str],
+) -> Result<Vec<RefusedFile>, Memory>
+    ensures same { F.borrows files.new ≡ F.borrows files.old }
+    ensures kept { F.contents files.new ≡ F.contents files.old }
+    // Each file that has a fault is listed by it, as the source gives the files, and no other file.
+    ensures refused { (contents : List FileText) → F.contents files.old ≡ Some contents →
+        IfOk result (λ refused.
+        AreRefusedFiles (map (λ n. n.now) without.now) contents (map as_judged_file refused.items)) }
+    // Where the source fails at no file that is there, these are the refused files.
+    ensures exact { (contents : List FileText) → F.contents files.old ≡ Some contents →
+        IfOk result (λ refused. AreUnreadFilesMissing contents (map as_judged_file refused.items) →
+        map as_judged_file refused.items ≡ refused_files_of (map (λ n. n.now) without.now) contents) }
+    // Each file that is listed as one that can't be read is one at which the source failed.
+    ensures failures { IfOk result (λ refused. F.failed files.new
+        ≡ saturating_failures (unread_count (map as_judged_file refused.items)) (F.failed files.old)) }
+{
+    let mut refused = Vec::new(alloc);
+    judge_all_files(alloc, files, without, &mut refused)?;
+    Ok(refused)
+}

@@ -1,0 +1,116 @@
+//! What is kept of what one file of a folder tells, as the part that it makes.
+
+ghost use Rattle.std.specs.Prelude.{◌≡◌, ◌<◌, ℕ, List, IfErr, IfOk, IsTrue, length, true};
+ghost use Rattle.mc_text.specs.Device.{failures_after};
+ghost use Rattle.mc_topology.specs.Names.{is_name};
+ghost use Rattle.mc_forward.specs.Assembling.{AreChannelsWanted};
+ghost use Rattle.mc_files.specs.Layout.{cache_slot, reports_slot, topology_slot, vif_slot};
+ghost use Rattle.mc_input.specs.SourceFault.{GivesFromContents, is_possible_for_files, is_read};
+ghost use Rattle.mc_input.specs.FilesReading.{part_from_file};
+ghost use Rattle.mc_input.specs.Kept.{AreSamePairs, GivesKeptFromContents};
+ghost use Rattle.mc_input.specs.PartsReading.{summary_of_part as summary_reading, reports_of as reports_reading, read_part};
+ghost use Rattle.mc_input.specs.PartsReading.{topology_of as topology_reading, vifs_of as vifs_reading};
+ghost use Rattle.mc_input.specs.declared.source_fault.SourceFault.TheVariants.{Input};
+
+use crate::fed_file::feed_slot;
+use crate::source_fault::SourceFault;
+use crate::part_result::{cache_or_fault, topology_of, vifs_or_fault, wanted_or_fault};
+use mc_forward::{FlowChannels, Items};
+use mc_igmp::ListReader;
+use mc_files::{FileSource, PieceSource, Slot, part_of_file};
+use mc_tables::{SummarizedCache, SummaryPairs, SummaryReader, VifReader, VifTable};
+use mc_text::Order;
+use mc_topology::Topology;
+use std::alloc::Global;
+
+/// The topology, in the file `topology`.
+pub(crate) fn topology_in<F: FileSource>(
+    alloc: Global,
+    files: &mut F,
+) -> Result<Topology, SourceFault>
+    requires reads { F.failed files.old < u64.MAX }
+    ensures same { F.borrows files.new ≡ F.borrows files.old }
+    ensures kept { F.contents files.new ≡ F.contents files.old }
+    ensures topology { (n : ℕ) → GivesFromContents (F.contents files.old) (λ topology. topology) result
+        (λ contents. read_part Input (part_from_file contents n topology_slot) topology_reading) }
+    ensures faults { IfErr result (λ fault. is_possible_for_files fault ≡ true) }
+    ensures failures { F.failed files.new ≡ failures_after is_read result (F.failed files.old) }
+{
+    let part = part_of_file(alloc, files, &Slot::topology())?;
+    Ok(topology_of(alloc, &part.as_part())?)
+}
+
+/// The vifs of a router, in the file `vif-<router>`.
+pub(crate) fn vifs_in<F: PieceSource>(
+    alloc: Global,
+    files: &mut F,
+    buffer: &mut [u8],
+    router: &str,
+) -> Result<VifTable, SourceFault>
+    requires name { IsTrue (is_name router.now) }
+    requires room { 0 < length buffer.old }
+    requires reads { F.failed files.old < u64.MAX }
+    ensures same { F.borrows files.new ≡ F.borrows files.old }
+    ensures kept { F.contents files.new ≡ F.contents files.old }
+    ensures vifs { (n : ℕ) → GivesKeptFromContents (F.contents files.old) (λ kept vifs. kept ≡ vifs) result
+        (λ contents. read_part Input (part_from_file contents n (vif_slot router.now)) vifs_reading) }
+    ensures faults { IfErr result (λ fault. is_possible_for_files fault ≡ true) }
+    ensures failures { F.failed files.new ≡ failures_after is_read result (F.failed files.old) }
+{
+    let mut reader = VifReader::new(alloc);
+    let name = feed_slot(alloc, files, &Slot::vifs(router), buffer, &mut reader)?;
+    Ok(vifs_or_fault(name, reader.finish())?)
+}
+
+/// The forwarding cache of a router, in the file `cache-<router>`, of which the rows of listed
+/// sources and groups are kept, with what is noted of all rows for those; and of the others the
+/// sources and groups of all rows or of the lowest.
+pub(crate) fn cache_in<F: PieceSource>(
+    alloc: Global,
+    files: &mut F,
+    buffer: &mut [u8],
+    listed: &SummaryPairs,
+    router: &str,
+    order: Order,
+    all: bool,
+) -> Result<SummarizedCache, SourceFault>
+    requires name { IsTrue (is_name router.now) }
+    requires room { 0 < length buffer.old }
+    requires reads { F.failed files.old < u64.MAX }
+    ensures same { F.borrows files.new ≡ F.borrows files.old }
+    ensures kept { F.contents files.new ≡ F.contents files.old }
+    ensures cache { (n : ℕ) (pairs : List (ℕ × ℕ)) → AreSamePairs listed.now pairs →
+        GivesKeptFromContents (F.contents files.old) (λ kept summarized. kept ≡ summarized) result (λ contents.
+        read_part Input (part_from_file contents n (cache_slot router.now)) (summary_reading all order pairs)) }
+    ensures faults { IfErr result (λ fault. is_possible_for_files fault ≡ true) }
+    ensures failures { F.failed files.new ≡ failures_after is_read result (F.failed files.old) }
+{
+    let mut reader = SummaryReader::new(alloc, order, listed.clone()?, all);
+    let name = feed_slot(alloc, files, &Slot::cache(router), buffer, &mut reader)?;
+    Ok(cache_or_fault(name, reader.finish())?)
+}
+
+/// Which flows a LAN wants, by its reports in the file `igmp-<lan>`.
+pub(crate) fn wanted_in<F: PieceSource>(
+    alloc: Global,
+    files: &mut F,
+    buffer: &mut [u8],
+    channels: &FlowChannels,
+    lan: &str,
+) -> Result<Items<bool>, SourceFault>
+    requires name { IsTrue (is_name lan.now) }
+    requires room { 0 < length buffer.old }
+    requires reads { F.failed files.old < u64.MAX }
+    ensures same { F.borrows files.new ≡ F.borrows files.old }
+    ensures kept { F.contents files.new ≡ F.contents files.old }
+    ensures wanted { (n : ℕ) → GivesKeptFromContents (F.contents files.old)
+        (λ wanted records. AreChannelsWanted channels.now records wanted) result
+        (λ contents. read_part Input (part_from_file contents n (reports_slot lan.now)) reports_reading) }
+    ensures count { IfOk result (λ wanted. length wanted ≡ length channels.now) }
+    ensures faults { IfErr result (λ fault. is_possible_for_files fault ≡ true) }
+    ensures failures { F.failed files.new ≡ failures_after is_read result (F.failed files.old) }
+{
+    let mut reader = ListReader::new(alloc);
+    let name = feed_slot(alloc, files, &Slot::reports(lan), buffer, &mut reader)?;
+    Ok(wanted_or_fault(alloc, channels, name, reader.finish())?)
+}

@@ -1,0 +1,205 @@
+//! What a folder's files tell of a domain. The files are read one after another: each is judged
+//! before the next one is asked for, its text is let go, and of a table the rows of listed flows are
+//! kept, with what is noted of all. Of routers that are left out no file is asked for.
+
+ghost use Rattle.std.specs.Prelude.{◌≡◌, ◌<◌, ℕ, List, IfErr, IfOk, IsTrue, Some, length, map, true};
+ghost use Rattle.mc_text.specs.Device.{failures_after};
+ghost use Rattle.mc_topology.specs.Names.{is_name};
+ghost use Rattle.mc_topology.specs.SectionRows.{RouterRow};
+ghost use Rattle.mc_topology.specs.declared.flow.Flow.{Flow};
+ghost use Rattle.mc_forward.specs.Assembling.{AreAnswers};
+ghost use Rattle.mc_forward.specs.ListedTables.{AreListedPartsOfTables, IsListedPartOfTables};
+ghost use Rattle.mc_files.specs.Files.{FileText};
+ghost use Rattle.mc_input.specs.SourceFault.{is_possible_for_files, is_read};
+ghost use Rattle.mc_input.specs.FilesReading.{part_from_file};
+ghost use Rattle.mc_input.specs.Kept.{AreFlowPairs, AreWantedBy, AreListedContents, GivesKeptFromContents};
+ghost use Rattle.mc_input.specs.ExcludedRouters.{files_with_exclusions};
+ghost use Rattle.mc_input.specs.SummariesOfFiles.{IsSummaryOf, AreSummariesOf};
+ghost use Rattle.mc_input.specs.PartsReading.{all_reports, all_tables, read_tables_and_reports, first_lan_number};
+ghost use Rattle.mc_input.specs.PartsReading.{router_tables};
+ghost use Rattle.mc_input.specs.declared.source_fault.SourceFault.TheVariants.{Input};
+
+use crate::file_part::{cache_in, vifs_in, wanted_in};
+use crate::excluded::{header_only_tables, is_excluded};
+use crate::source_fault::SourceFault;
+use crate::part_result::summary_pairs;
+use mc_forward::{FlowChannels, Items, Tables};
+use mc_files::PieceSource;
+use mc_tables::{CacheSummary, SummaryPairs};
+use mc_text::Order;
+use mc_topology::{LanNo, RouterNo, Topology};
+use std::alloc::Global;
+
+/// What is kept of the files beside the topology.
+#[derive(Drop)]
+pub(crate) struct FolderContents {
+    /// Of each router the vifs, and of its cache what it says of the flows.
+    pub(crate) tables: Vec<Tables>,
+    /// What is noted of each router's cache.
+    pub(crate) summary: Vec<CacheSummary>,
+    /// For each LAN, which flows it wants.
+    pub(crate) wants: Vec<Items<bool>>,
+}
+
+/// Both tables of a router, and what is noted of its cache.
+pub(crate) fn tables_of<F: PieceSource>(
+    alloc: Global,
+    files: &mut F,
+    buffer: &mut [u8],
+    listed: &SummaryPairs,
+    router: &str,
+    order: Order,
+    all: bool,
+) -> Result<(Tables, CacheSummary), SourceFault>
+    requires name { IsTrue (is_name router.now) }
+    requires room { 0 < length buffer.old }
+    requires reads { F.failed files.old < u64.MAX }
+    ensures same { F.borrows files.new ≡ F.borrows files.old }
+    ensures kept { F.contents files.new ≡ F.contents files.old }
+    ensures tables { (n : ℕ) (flows : List Flow) → AreFlowPairs flows listed.now →
+        GivesKeptFromContents (F.contents files.old) (λ read whole. IsListedPartOfTables flows read.0 whole) result
+        (λ contents. router_tables Input (part_from_file contents) n router.now order) }
+    ensures summary { (flows : List Flow) (contents : List FileText) → AreFlowPairs flows listed.now →
+        F.contents files.old ≡ Some contents → IfOk result (λ read. (r : RouterRow) →
+        r.name ≡ router.now → r.order ≡ order → IsSummaryOf all contents flows r read.1) }
+    ensures faults { IfErr result (λ fault. is_possible_for_files fault ≡ true) }
+    ensures failures { F.failed files.new ≡ failures_after is_read result (F.failed files.old) }
+{
+    let vifs = vifs_in(alloc, files, buffer, router)?;
+    let cache = cache_in(alloc, files, buffer, listed, router, order, all)?;
+    let table = cache.table;
+    Ok((Tables { vifs, cache: table }, cache.summary))
+}
+
+/// The same, where some routers are left out: of those no file is asked for.
+fn tables_unless_excluded<F: PieceSource>(
+    alloc: Global,
+    files: &mut F,
+    buffer: &mut [u8],
+    listed: &SummaryPairs,
+    router: &str,
+    order: Order,
+    without: &[&str],
+    all: bool,
+) -> Result<(Tables, CacheSummary), SourceFault>
+    requires name { IsTrue (is_name router.now) }
+    requires room { 0 < length buffer.old }
+    requires reads { F.failed files.old < u64.MAX }
+    ensures same { F.borrows files.new ≡ F.borrows files.old }
+    ensures kept { F.contents files.new ≡ F.contents files.old }
+    ensures tables { (n : ℕ) (flows : List Flow) → AreFlowPairs flows listed.now →
+        GivesKeptFromContents (F.contents files.old) (λ read whole. IsListedPartOfTables flows read.0 whole) result
+        (λ contents. router_tables Input
+        (part_from_file (files_with_exclusions (map (λ n. n.now) without.now) contents)) n router.now order) }
+    ensures summary { (flows : List Flow) (contents : List FileText) → AreFlowPairs flows listed.now →
+        F.contents files.old ≡ Some contents → IfOk result (λ read. (r : RouterRow) →
+        r.name ≡ router.now → r.order ≡ order →
+        IsSummaryOf all (files_with_exclusions (map (λ n. n.now) without.now) contents) flows r read.1) }
+    ensures faults { IfErr result (λ fault. is_possible_for_files fault ≡ true) }
+    ensures failures { F.failed files.new ≡ failures_after is_read result (F.failed files.old) }
+{
+    if is_excluded(without, router) {
+        return Ok(header_only_tables(alloc, buffer, listed, router, order, all)?);
+    }
+    tables_of(alloc, files, buffer, listed, router, order, all)
+}
+
+/// The tables of each router, and what is noted of its cache.
+fn read_tables<F: PieceSource>(
+    alloc: Global,
+    files: &mut F,
+    buffer: &mut [u8],
+    topology: &Topology,
+    without: &[&str],
+    all: bool,
+) -> Result<(Vec<Tables>, Vec<CacheSummary>), SourceFault>
+    requires room { 0 < length buffer.old }
+    requires reads { F.failed files.old < u64.MAX }
+    ensures same { F.borrows files.new ≡ F.borrows files.old }
+    ensures kept { F.contents files.new ≡ F.contents files.old }
+    ensures tables { GivesKeptFromContents (F.contents files.old)
+        (λ read wholes. AreListedPartsOfTables topology.now.flows read.0.items wholes) result
+        (λ contents. all_tables Input (part_from_file (files_with_exclusions (map (λ n. n.now) without.now) contents))
+        1 topology.now.routers) }
+    ensures summary { (contents : List FileText) → F.contents files.old ≡ Some contents →
+        IfOk result (λ read. AreSummariesOf all (files_with_exclusions (map (λ n. n.now) without.now) contents)
+        topology.now read.1.items) }
+    ensures count { IfOk result (λ read. length read.0.items ≡ length topology.now.routers) }
+    ensures faults { IfErr result (λ fault. is_possible_for_files fault ≡ true) }
+    ensures failures { F.failed files.new ≡ failures_after is_read result (F.failed files.old) }
+{
+    let listed = summary_pairs(alloc, topology)?;
+    let mut tables = Vec::new(alloc);
+    let mut summary = Vec::new(alloc);
+    for router in 0..topology.routers() {
+        let name = topology.router_name(RouterNo(router));
+        let order = topology.order(RouterNo(router));
+        let own = tables_unless_excluded(alloc, files, buffer, &listed, name, order, without, all)?;
+        tables.push(own.0)?;
+        summary.push(own.1)?;
+    }
+    Ok((tables, summary))
+}
+
+/// Which flows each LAN wants.
+fn read_wants<F: PieceSource>(
+    alloc: Global,
+    files: &mut F,
+    buffer: &mut [u8],
+    topology: &Topology,
+) -> Result<Vec<Items<bool>>, SourceFault>
+    requires room { 0 < length buffer.old }
+    requires reads { F.failed files.old < u64.MAX }
+    ensures same { F.borrows files.new ≡ F.borrows files.old }
+    ensures kept { F.contents files.new ≡ F.contents files.old }
+    ensures wants { GivesKeptFromContents (F.contents files.old)
+        (λ wants reports. AreWantedBy topology.now reports wants.items) result
+        (λ contents. all_reports Input (part_from_file contents) (first_lan_number topology.now) topology.now.lans) }
+    ensures answers { IfOk result (λ wants. AreAnswers topology.now wants.items) }
+    ensures faults { IfErr result (λ fault. is_possible_for_files fault ≡ true) }
+    ensures failures { F.failed files.new ≡ failures_after is_read result (F.failed files.old) }
+{
+    let channels = FlowChannels::of(alloc, topology)?;
+    let mut wants = Vec::new(alloc);
+    for lan in 0..topology.lans() {
+        let name = topology.lan_name(LanNo(lan));
+        wants.push(wanted_in(alloc, files, buffer, &channels, name)?)?;
+    }
+    Ok(wants)
+}
+
+/// What is kept of the files beside the topology, which are read one after another, those of routers
+/// that are left out as if they had their headers alone.
+pub(crate) fn read_contents<F: PieceSource>(
+    alloc: Global,
+    files: &mut F,
+    buffer: &mut [u8],
+    topology: &Topology,
+    without: &[&str],
+    all: bool,
+) -> Result<FolderContents, SourceFault>
+    requires room { 0 < length buffer.old }
+    requires reads { F.failed files.old < u64.MAX }
+    ensures same { F.borrows files.new ≡ F.borrows files.old }
+    ensures kept { F.contents files.new ≡ F.contents files.old }
+    ensures read_tables_and_reports { GivesKeptFromContents (F.contents files.old)
+        (λ listed input. AreListedContents input topology.now listed.tables.items listed.wants.items) result
+        (λ contents. read_tables_and_reports Input (part_from_file (files_with_exclusions (map (λ n. n.now) without.now) contents))
+        topology.now) }
+    ensures summary { (contents : List FileText) → F.contents files.old ≡ Some contents →
+        IfOk result (λ listed. AreSummariesOf all (files_with_exclusions (map (λ n. n.now) without.now) contents)
+        topology.now listed.summary.items) }
+    ensures count { IfOk result (λ listed.
+        length listed.tables.items ≡ length topology.now.routers) }
+    ensures answers { IfOk result (λ listed. AreAnswers topology.now listed.wants.items) }
+    ensures faults { IfErr result (λ fault. is_possible_for_files fault ≡ true) }
+    ensures failures { F.failed files.new ≡ failures_after is_read result (F.failed files.old) }
+{
+    let tables = read_tables(alloc, files, buffer, topology, without, all)?;
+    let wants = read_wants(alloc, files, buffer, topology)?;
+    Ok(FolderContents {
+        tables: tables.0,
+        summary: tables.1,
+        wants,
+    })
+}

@@ -1,0 +1,130 @@
+//! What one part of a domain tells, as its own reader found it.
+
+ghost use Rattle.std.specs.FinMap.{FinMap};
+ghost use Rattle.std.specs.Ordering.{nat_cmp};
+ghost use Rattle.std.specs.Prelude.{◌≡◌, ◌≢◌, Err, IfErr, IfOk, List, Result, length};
+ghost use Rattle.mc_text.specs.BundleView.{part_text};
+ghost use Rattle.mc_text.specs.Steps.{map_fault};
+ghost use Rattle.mc_tables.specs.Steps.{out_of_memory};
+ghost use Rattle.mc_tables.specs.VifTable.{VifValue};
+ghost use Rattle.mc_tables.specs.declared.fault.TableFault.{TableFault as FaultOfTable};
+ghost use Rattle.mc_igmp.specs.ReadingList.{oom_fault};
+ghost use Rattle.mc_igmp.specs.declared.fault.ListFault.{ListFault as FaultOfList};
+ghost use Rattle.mc_igmp.specs.declared.record.Record.{Record};
+ghost use Rattle.mc_forward.specs.Assembling.{AreChannelsWanted};
+ghost use Rattle.mc_input.specs.Kept.{AreFlowPairs};
+ghost use Rattle.mc_input.specs.PartsOneByOne.{IsPartResult};
+ghost use Rattle.mc_input.specs.declared.fault.InputFault.TheVariants.{Cache as RefusedCache};
+ghost use Rattle.mc_input.specs.declared.fault.InputFault.TheVariants.{Reports as RefusedReports};
+ghost use Rattle.mc_input.specs.declared.fault.InputFault.TheVariants.{Vif as RefusedVif};
+ghost use Rattle.mc_input.specs.InputReading.{Gives};
+ghost use Rattle.mc_input.specs.PartsReading.{topology_of};
+
+use crate::fault::InputFault;
+use mc_forward::{FlowChannels, Items, source_group_pairs};
+use mc_igmp::{ListFault, ListFaultKind, ReportList};
+use mc_tables::{ListedPairs, SummaryPairs, TableFault, TableFaultKind, VifTable};
+use mc_text::{Part, PartName};
+use mc_topology::{Topology, TopologyFault, TopologyFaultKind};
+use std::alloc::Global;
+
+/// The topology.
+pub(crate) fn topology_of(alloc: Global, part: &Part<'_>) -> Result<Topology, InputFault>
+    ensures { Gives (λ topology. topology) result (topology_of (part_text part.now)) }
+{
+    match Topology::read(alloc, part.bytes) {
+        Ok(topology) => Ok(topology),
+        Err(
+            TopologyFault {
+                kind: TopologyFaultKind::Memory,
+                ..
+            },
+        ) => Err(InputFault::Memory),
+        Err(fault) => Err(InputFault::Topology(fault)),
+    }
+}
+
+/// The vifs of a router, as the reader of the part with this name found them.
+pub(crate) fn vifs_or_fault(
+    name: PartName,
+    found: Result<VifTable, TableFault>,
+) -> Result<VifTable, InputFault>
+    ensures { (read : Result (FinMap nat_cmp VifValue) FaultOfTable) →
+        (found ≢ Err out_of_memory → read ≡ found) →
+        IsPartResult (λ kept vifs. kept ≡ vifs) result (map_fault (RefusedVif name) read) }
+{
+    match found {
+        Ok(vifs) => Ok(vifs),
+        Err(
+            TableFault {
+                kind: TableFaultKind::Memory,
+                ..
+            },
+        ) => Err(InputFault::Memory),
+        Err(fault) => Err(InputFault::Vif(name, fault)),
+    }
+}
+
+/// The sources and the groups of the flows, of which the readers of caches keep the rows.
+pub(crate) fn listed_pairs(alloc: Global, topology: &Topology) -> Result<ListedPairs, InputFault>
+    ensures listed { IfOk result (AreFlowPairs topology.now.flows) }
+    ensures memory { IfErr result (λ fault. fault ≡ InputFault.Memory) }
+{
+    Ok(ListedPairs::of(alloc, &source_group_pairs(alloc, topology)?)?)
+}
+
+/// The same for the readers that note rows too.
+pub(crate) fn summary_pairs(alloc: Global, topology: &Topology) -> Result<SummaryPairs, InputFault>
+    ensures listed { IfOk result (AreFlowPairs topology.now.flows) }
+    ensures memory { IfErr result (λ fault. fault ≡ InputFault.Memory) }
+{
+    Ok(SummaryPairs::of(alloc, &source_group_pairs(alloc, topology)?)?)
+}
+
+/// The forwarding cache of a router, with notes or without, as the reader of the part with this name
+/// found it.
+pub(crate) fn cache_or_fault<T: Drop>(
+    name: PartName,
+    found: Result<T, TableFault>,
+) -> Result<T, InputFault>
+    ensures { (read : Result T FaultOfTable) →
+        (found ≢ Err out_of_memory → read ≡ found) →
+        IsPartResult (λ kept cache. kept ≡ cache) result (map_fault (RefusedCache name) read) }
+{
+    match found {
+        Ok(cache) => Ok(cache),
+        Err(
+            TableFault {
+                kind: TableFaultKind::Memory,
+                ..
+            },
+        ) => Err(InputFault::Memory),
+        Err(fault) => Err(InputFault::Cache(name, fault)),
+    }
+}
+
+/// Which of these channels a LAN wants, by its report list as the reader of the part with this name
+/// found it.
+pub(crate) fn wanted_or_fault(
+    alloc: Global,
+    channels: &FlowChannels,
+    name: PartName,
+    found: Result<ReportList, ListFault>,
+) -> Result<Items<bool>, InputFault>
+    ensures wanted { (read : Result (List Record) FaultOfList) →
+        (found ≢ Err oom_fault → read ≡ found) →
+        IsPartResult (λ wanted records. AreChannelsWanted channels.now records wanted) result
+        (map_fault (RefusedReports name) read) }
+    ensures count { IfOk result (λ wanted. length wanted ≡ length channels.now) }
+{
+    match found {
+        Ok(reports) => Ok(channels.wanted(alloc, &reports)?),
+        Err(
+            ListFault {
+                kind: ListFaultKind::Memory,
+                ..
+            },
+        ) => Err(InputFault::Memory),
+        Err(fault) => Err(InputFault::Reports(name, fault)),
+    }
+}

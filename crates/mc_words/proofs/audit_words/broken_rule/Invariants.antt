@@ -1,8 +1,0 @@
-use Rattle.std.proofs.Common.{◌≡◌, map, drop}
-use Rattle.mc_words.specs.AuditWords.{are_distinct_router_names}
-use Rattle.mc_words.proofs.audit_words.broken_rule.Given as goal
-
-abbrev pub invariant-loop-at : goal.invariant-loop-at
-invariant-loop-at l =
-    are_distinct_router_names (map (λ word. word.now) (drop l.at l.words))
-    ≡ are_distinct_router_names (map (λ word. word.now) l.words)

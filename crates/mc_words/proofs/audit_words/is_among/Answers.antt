@@ -1,9 +1,0 @@
-use Rattle.std.proofs.Common.{◌∙◌}
-use Rattle.std.specs.Str.{bytes_eq}
-use Rattle.clap.proofs.WalkLemmas.{list_any-map}
-use Rattle.mc_words.proofs.audit_words.is_among.Goals as goal
-
-pub returns : goal.returns
-returns c =
-    c.contains.ensures.value
-    ∙ list_any-map (λ other. bytes_eq other c.args.word.now) (λ other. other.now) c.args.words.now

@@ -1,8 +1,0 @@
-use Rattle.std.proofs.Common.{◌≡◌, map, drop, Some}
-use Rattle.mc_words.specs.AuditWords.{given_of, nothing_given, with_words}
-use Rattle.mc_words.proofs.draft.draft_of.Given as goal
-
-abbrev pub invariant-loop-word : goal.invariant-loop-word
-invariant-loop-word l =
-    with_words (Some (given_of l.draft)) (map (λ word. word.now) (drop l.word-index l.words))
-    ≡ with_words (Some nothing_given) (map (λ word. word.now) l.words)

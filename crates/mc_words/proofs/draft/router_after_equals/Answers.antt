@@ -1,5 +1,0 @@
-use Rattle.mc_words.proofs.DraftLemmas.{router_after_equals-strip_prefix}
-use Rattle.mc_words.proofs.draft.router_after_equals.Goals as goal
-
-pub returns : goal.returns
-returns c = router_after_equals-strip_prefix c.strip_prefix.result c.args.word.now c.strip_prefix.ensures.cases

@@ -79,7 +79,7 @@ impl Certificate {
     pub fn from_flows(flows: Vec<Vec<Reached>>) -> Certificate
         requires few { length flows.items ≤ 4096 }
         requires lists { All IsWritableTree (map (λ t. t.items) flows.items) }
-        ensures { result ≡ map (λ t. t.items) flows.items }
+        ensures value { result ≡ map (λ t. t.items) flows.items }
     {
         Certificate {
             trees: flows,
@@ -94,7 +94,7 @@ impl Certificate {
         requires few { length tree_of_flow.items ≤ 4096 }
         requires lists { All IsWritableTree (map (λ t. t.items) trees.items) }
         requires named { All (λ n. n < length trees.items) tree_of_flow.items }
-        ensures { result ≡ map (tree_at (map (λ t. t.items) trees.items)) tree_of_flow.items }
+        ensures value { result ≡ map (tree_at (map (λ t. t.items) trees.items)) tree_of_flow.items }
     {
         Certificate {
             trees,
@@ -115,8 +115,8 @@ impl Certificate {
 
     /// The tree of the flow with this number.
     pub(crate) fn tree(&self, flow: u32) -> &[Reached]
-        requires { flow < length self.now }
-        ensures { slice_get self.now flow ≡ Some result.now }
+        requires known { flow < length self.now }
+        ensures item { slice_get self.now flow ≡ Some result.now }
     {
         let number = match &self.tree_of_flow {
             Some(numbers) => numbers[flow as usize],
@@ -127,7 +127,7 @@ impl Certificate {
 
     /// The same, and what it keeps.
     fn writable_tree(&self, flow: u32) -> &[Reached]
-        requires { flow < length self.now }
+        requires known { flow < length self.now }
         ensures tree { slice_get self.now flow ≡ Some result.now }
         ensures list { IsWritableTree result.now }
     {
@@ -171,7 +171,7 @@ impl Certificate {
     /// compact, on one line without a line feed. Each different tree is written once, in the order
     /// of first use.
     pub fn to_json(&self, alloc: Global, topology: &Topology) -> Result<String, Memory>
-        requires { BelongsTo topology.now self.now }
+        requires valid { BelongsTo topology.now self.now }
         ensures text { IfOk result (λ text. string_bytes text
             ≡ certificate_text topology.now self.now) }
         ensures denotes { IfOk result (λ text. length (string_bytes text) ≤ 16777216 →

@@ -58,7 +58,7 @@ impl DistinctTrees {
     ///
     /// `AllocError` where a growth was refused. The trees are then as they were.
     pub fn number_of(&mut self, tree: Vec<Reached>) -> Result<u32, AllocError>
-        requires { length self.old < 4096 }
+        requires bounded { length self.old < 4096 }
         ensures trees { OnOk result (self.new ≡ with_tree self.old tree.items) }
         ensures number { IfOk result (λ n. find_tree self.new tree.items ≡ Some n) }
         ensures unchanged { OnErr result (self.new ≡ self.old) }

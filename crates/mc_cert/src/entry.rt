@@ -8,7 +8,7 @@ ghost use Rattle.mc_cert.specs.Entries.{lan_in, router_of, vif_of, forwarder_of,
 ghost use Rattle.mc_cert.specs.Entries.{entries_of};
 
 use crate::fault::{At, CertFault, CertFaultKind};
-use crate::object::{number_of, object_of, text_at, text_of, value_at, whole_at, in_range};
+use crate::object::{in_range, number_of, object_of, text_at, text_of, value_at, whole_at};
 use crate::reached::Reached;
 use crate::rows::{RowReader, each};
 use mc_topology::{LanNo, RouterNo, Topology};
@@ -129,8 +129,8 @@ pub(crate) fn entries_of(
     list: At,
     rows: &[Value],
 ) -> Result<Vec<Reached>, CertFault>
-    requires { length rows.now ≤ MAX_ENTRIES }
-    ensures { Gives (λ entries. entries.items) result
+    requires bounded { length rows.now ≤ MAX_ENTRIES }
+    ensures gives { Gives (λ entries. entries.items) result
         (entries_of topology.now list (map view rows.now)) }
 {
     each(alloc, &Entries { topology, list }, rows)

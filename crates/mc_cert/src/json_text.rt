@@ -27,8 +27,8 @@ fn push_forwarder(
     topology: &Topology,
     forwarder: Option<(RouterNo, u8)>,
 ) -> Result<(), AllocError>
-    requires { IfSome forwarder (λ i. i.0 < length topology.now.routers) }
-    ensures { OnOk result (string_bytes text.new ≡
+    requires within { IfSome forwarder (λ i. i.0 < length topology.now.routers) }
+    ensures added { OnOk result (string_bytes text.new ≡
         string_bytes text.old ++ forwarder_text topology.now forwarder) }
 {
     match forwarder {
@@ -58,7 +58,7 @@ fn push_entry_start(text: &mut String, name: &str, need: u8, rank: u8) -> Result
 
 /// Appends an entry.
 fn push_entry(text: &mut String, topology: &Topology, entry: &Reached) -> Result<(), AllocError>
-    requires { IsEntryOf topology.now entry.now }
+    requires valid { IsEntryOf topology.now entry.now }
     ensures text { OnOk result (string_bytes text.new ≡
         string_bytes text.old ++ entry_text topology.now entry.now) }
     ensures bytes { HasByteNumbers entry.now }
@@ -71,7 +71,7 @@ fn push_entry(text: &mut String, topology: &Topology, entry: &Reached) -> Result
 
 /// Appends a list of entries.
 fn push_tree(text: &mut String, topology: &Topology, entries: &[Reached]) -> Result<(), AllocError>
-    requires { All (IsEntryOf topology.now) entries.now }
+    requires valid { All (IsEntryOf topology.now) entries.now }
     ensures text { OnOk result (string_bytes text.new ≡
         string_bytes text.old ++ tree_text topology.now entries.now) }
     ensures bytes { OnOk result (All HasByteNumbers entries.now) }
@@ -102,7 +102,7 @@ pub(crate) fn push_trees(
     topology: &Topology,
     trees: &[Rc<Vec<Reached>>],
 ) -> Result<(), AllocError>
-    requires { All (All (IsEntryOf topology.now)) (map (λ t. t.value.items) trees.now) }
+    requires valid { All (All (IsEntryOf topology.now)) (map (λ t. t.value.items) trees.now) }
     ensures text { OnOk result (string_bytes text.new ≡ string_bytes text.old
         ++ listed (map (tree_text topology.now) (map (λ t. t.value.items) trees.now))) }
     ensures bytes { OnOk result (All (All HasByteNumbers) (map (λ t. t.value.items) trees.now)) }
@@ -134,8 +134,8 @@ pub(crate) fn push_flows(
     topology: &Topology,
     numbers: &[u32],
 ) -> Result<(), AllocError>
-    requires { length numbers.now ≡ length topology.now.flows }
-    ensures { OnOk result (string_bytes text.new ≡
+    requires lengths { length numbers.now ≡ length topology.now.flows }
+    ensures added { OnOk result (string_bytes text.new ≡
         string_bytes text.old ++ listed (flow_texts topology.now.flows numbers.now)) }
 {
     let mut separator = "";

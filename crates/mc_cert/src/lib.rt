@@ -7,6 +7,7 @@ mod compact;
 mod distinct;
 mod entry;
 mod fault;
+mod json_text;
 mod laws;
 mod object;
 mod pieces;
@@ -17,14 +18,13 @@ mod trees;
 mod version;
 mod version_one;
 mod version_two;
-mod json_text;
 
 pub use certificate::Certificate;
 pub use distinct::DistinctTrees;
 pub use fault::{At, CertFault, CertFaultKind};
 pub use laws::{
-    trailing_line_feed_changes_nothing, read_gives_the_denoted_certificate,
     certificate_text_denotes_certificate, denoted_certificate_belongs_to_topology,
+    read_gives_the_denoted_certificate, trailing_line_feed_changes_nothing,
 };
 pub use reached::{FlowCert, Reached};
 pub use trees::Trees;

@@ -28,8 +28,8 @@ pub(crate) trait RowReader {
 
     /// Reads the row with this number, counted from 0.
     fn read_row(&self, number: usize, value: &Value) -> Result<Self::Item, CertFault>
-        requires { is_row_number self.now number }
-        ensures { Gives item_view result (row_value self.now number (view value.now)) };
+        requires given { is_row_number self.now number }
+        ensures gives { Gives item_view result (row_value self.now number (view value.now)) };
 }
 
 /// The rows, one after the other.
@@ -38,7 +38,7 @@ pub(crate) fn each<R: RowReader>(
     rows: &R,
     values: &[Value],
 ) -> Result<Vec<R::Item>, CertFault>
-    requires { (n : ℕ) → n < length values.now → R.is_row_number rows.now n }
+    requires within { (n : ℕ) → n < length values.now → R.is_row_number rows.now n }
     ensures rows { Gives (λ items. map R.item_view items.items) result
         (each (R.row_value rows.now) [] (map view values.now)) }
     ensures count { IfOk result (λ items. vec_len items ≡ length values.now) }

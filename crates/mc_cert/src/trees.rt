@@ -7,8 +7,8 @@ ghost use Rattle.mc_cert.specs.CertificateText.{certificate_text};
 ghost use Rattle.mc_cert.specs.Denotation.{DenotesCertificate};
 
 use crate::distinct::DistinctTrees;
-use crate::reached::Reached;
 use crate::json_text::{push_flows, push_trees, room_for};
+use crate::reached::Reached;
 use mc_text::Memory;
 use mc_topology::Topology;
 use std::alloc::Global;
@@ -72,7 +72,7 @@ impl Trees {
     ///
     /// `Memory` where a growth was refused.
     pub fn to_json(&self, alloc: Global, topology: &Topology) -> Result<String, Memory>
-        requires { BelongsTo topology.now self.now }
+        requires valid { BelongsTo topology.now self.now }
         ensures text { IfOk result (λ text. string_bytes text
             ≡ certificate_text topology.now self.now) }
         ensures denotes { IfOk result (λ text. length (string_bytes text) ≤ 16777216 →

@@ -25,8 +25,8 @@ pub(crate) const MAX_FLOWS: usize = 4096;
 
 /// Whether the text is the address's.
 fn is_address_text(text: &str, address: Addr) -> bool
-    requires { IsAddr address }
-    ensures { result ≡ bytes_eq text.now (dotted address) }
+    requires valid { IsAddr address }
+    ensures value { result ≡ bytes_eq text.now (dotted address) }
 {
     Addr::parse_dotted(text.as_bytes()) == Some(address)
 }
@@ -35,7 +35,7 @@ fn is_address_text(text: &str, address: Addr) -> bool
 pub(crate) fn are_texts_of_flow(flow: &Flow, group: &str, source: &str) -> bool
     requires group { IsAddr flow.now.group }
     requires source { IsAddr flow.now.source }
-    ensures { result ≡ are_texts_of_flow flow.now group.now source.now }
+    ensures value { result ≡ are_texts_of_flow flow.now group.now source.now }
 {
     is_address_text(group, flow.group) && is_address_text(source, flow.source)
 }

@@ -9,8 +9,8 @@ ghost use Rattle.mc_check.specs.Verdicts.{YesCountsEntries, NoGivesFirstReason, 
 ghost use Rattle.mc_check.specs.Verdicts.{verdict_by};
 ghost use Rattle.mc_check.specs.Verdicts.{YesDelivers, YesIsRight, YesIsSafe, YesKeepsHeadline};
 
-use crate::fed::unfed_reason;
 use crate::entries_by_lan::{EntriesByLan, put_first_entries};
+use crate::fed::unfed_reason;
 use crate::routers::routers_reason;
 use crate::served::{has_source, lans_reason};
 use crate::verdict::{Reason, Verdict};
@@ -22,7 +22,7 @@ use std::alloc::Global;
 /// The first reason to refuse a flow's entries, no two of which name one LAN.
 fn reason_for_distinct_lans(view: &FlowView<'_>, by_lan: &EntriesByLan<'_>) -> Option<Reason>
     requires once { twice [] by_lan.now ≡ None }
-    ensures { optional_reason_value result ≡ first_reason (net_in view.now)
+    ensures meaning { optional_reason_value result ≡ first_reason (net_in view.now)
         (length view.now.domain.topology.lans) by_lan.now }
 {
     if !has_source(view, by_lan) {
@@ -46,7 +46,7 @@ fn first_reason_of(
 ) -> Result<Option<Reason>, Memory>
     requires flow { flow < length domain.now.topology.flows }
     requires lans { All (λ e. e.lan < length domain.now.topology.lans) entries.now }
-    ensures { IfOk result (λ reason. optional_reason_value reason ≡
+    ensures ok { IfOk result (λ reason. optional_reason_value reason ≡
         first_reason (net_of domain.now flow) (length domain.now.topology.lans) entries.now) }
 {
     let mut firsts = PerLan::new(alloc, domain.topology().lans())?;
@@ -59,8 +59,8 @@ fn first_reason_of(
 
 /// The verdict by the first reason, if there is one.
 fn verdict_by(reason: Option<Reason>, entries: &[Reached]) -> Verdict
-    requires { reason ≡ None → length entries.now < 2 ^ 32 }
-    ensures { result ≡ verdict_by reason (length entries.now) }
+    requires bounded { reason ≡ None → length entries.now < 2 ^ 32 }
+    ensures value { result ≡ verdict_by reason (length entries.now) }
 {
     match reason {
         Some(reason) => Verdict::No(reason),
@@ -79,7 +79,7 @@ fn verdict_on(
 ) -> Result<Verdict, Memory>
     requires flow { flow < length domain.now.topology.flows }
     requires lans { All (λ e. e.lan < length domain.now.topology.lans) entries.now }
-    ensures { IfOk result
+    ensures ok { IfOk result
         (IsCorrectVerdict (length domain.now.topology.lans) (net_of domain.now flow) entries.now) }
 {
     let _rules = domain.topology();

@@ -49,8 +49,8 @@ pub(crate) fn put_first_entries(firsts: &mut PerLan<Reached>, entries: &[Reached
 impl<'c> EntriesByLan<'c> {
     /// The entries with these firsts.
     pub(crate) fn new(entries: &'c [Reached], firsts: PerLan<Reached>) -> EntriesByLan<'c>
-        requires { HoldsFirstOfEachKey (λ e. e.lan) firsts entries.now }
-        ensures { result ≡ entries.now }
+        requires given { HoldsFirstOfEachKey (λ e. e.lan) firsts entries.now }
+        ensures value { result ≡ entries.now }
     {
         EntriesByLan { entries, firsts }
     }

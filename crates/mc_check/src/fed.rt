@@ -17,8 +17,8 @@ use mc_topology::RouterNo;
 
 /// Whether one of an entry's pairs sends by a vif what comes from `base`'s LAN.
 fn feeds(base: &Reached, vif: u8, entry: &Entry<'_>) -> bool
-    requires { IsValidEntry entry.now }
-    ensures { result ≡ feeds_from vif (oif_pairs entry.now.oifs) (Some base.now) }
+    requires valid { IsValidEntry entry.now }
+    ensures value { result ≡ feeds_from vif (oif_pairs entry.now.oifs) (Some base.now) }
 {
     for oif in outgoing_from(entry, vif) {
         if oif.vif == vif && u16::from(base.rank) + u16::from(oif.threshold) < 255 {

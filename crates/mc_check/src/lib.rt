@@ -4,8 +4,8 @@
 #![tactic(auto)]
 
 mod check;
-mod fed;
 mod entries_by_lan;
+mod fed;
 mod routers;
 mod served;
 mod shown;

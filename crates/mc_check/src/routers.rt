@@ -25,7 +25,7 @@ fn child_reason(
     lan: LanNo,
 ) -> Option<Reason>
     requires live { base.now.rank + oif.now.threshold < 255 }
-    ensures { optional_reason_value result ≡ child_reason base.now router (oif.now.vif, oif.now.threshold)
+    ensures meaning { optional_reason_value result ≡ child_reason base.now router (oif.now.vif, oif.now.threshold)
         lan (entry_on by_lan.now lan) }
 {
     let extra = Some(Reason::Extra(router, oif.vif, lan));
@@ -88,7 +88,11 @@ fn pairs_reason(
 }
 
 /// The lowest vif on a named LAN of a router whose row is open.
-fn wildcard_reason(view: &FlowView<'_>, by_lan: &EntriesByLan<'_>, router: RouterNo) -> Option<Reason>
+fn wildcard_reason(
+    view: &FlowView<'_>,
+    by_lan: &EntriesByLan<'_>,
+    router: RouterNo,
+) -> Option<Reason>
     ensures { optional_reason_value result ≡ first_of (open_row_reason (net_in view.now) by_lan.now router)
         (below 32) }
 {

@@ -47,8 +47,8 @@ pub(crate) fn has_source(view: &FlowView<'_>, by_lan: &EntriesByLan<'_>) -> bool
 
 /// Whether a LAN that wants the flow goes without it.
 fn lan_reason(view: &FlowView<'_>, by_lan: &EntriesByLan<'_>, lan: LanNo) -> Option<Reason>
-    requires { lan < length view.now.domain.topology.lans }
-    ensures { optional_reason_value result ≡ lan_reason (net_in view.now) by_lan.now lan }
+    requires known { lan < length view.now.domain.topology.lans }
+    ensures meaning { optional_reason_value result ≡ lan_reason (net_in view.now) by_lan.now lan }
 {
     if !view.wants(lan) {
         return None;
@@ -62,8 +62,8 @@ fn lan_reason(view: &FlowView<'_>, by_lan: &EntriesByLan<'_>, lan: LanNo) -> Opt
 
 /// Whether a LAN that wants the flow has it.
 fn is_served(view: &FlowView<'_>, by_lan: &EntriesByLan<'_>, lan: LanNo) -> bool
-    requires { lan < length view.now.domain.topology.lans }
-    ensures { IsTrue result → lan_reason (net_in view.now) by_lan.now lan ≡ None }
+    requires known { lan < length view.now.domain.topology.lans }
+    ensures sound { IsTrue result → lan_reason (net_in view.now) by_lan.now lan ≡ None }
 {
     let reaches = match by_lan.on(lan) {
         Some(entry) => entry.need <= view.ttl(),

@@ -4,7 +4,7 @@ ghost use Rattle.std.specs.Prelude.{◌≡◌, Some};
 ghost use Rattle.mc_check.specs.ReasonText.{reason_text, verdict_text};
 
 use crate::verdict::{Reason, Verdict};
-use mc_topology::{WordAtLan, WordAtVif, Topology};
+use mc_topology::{Topology, WordAtLan, WordAtVif};
 use std::fmt;
 
 /// A reason, to be written by the names of a topology, as `Extra r3 1 l2`.
@@ -24,7 +24,9 @@ impl<'t> fmt::Display for ShownReason<'t> {
         match self.reason {
             Reason::TwoEntries(lan) => WordAtLan::new("TwoEntries", topology, lan).fmt(f),
             Reason::BadSource => f.write_str("BadSource"),
-            Reason::Wildcard(router, vif) => WordAtVif::new("Wildcard", topology, router, vif).fmt(f),
+            Reason::Wildcard(router, vif) => WordAtVif::new("Wildcard", topology, router, vif).fmt(
+                f,
+            ),
             Reason::Stray(router, vif) => WordAtVif::new("Stray", topology, router, vif).fmt(f),
             Reason::Extra(router, vif, lan) => {
                 let place = WordAtVif::new("Extra", topology, router, vif);

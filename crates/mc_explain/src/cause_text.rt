@@ -10,10 +10,10 @@ ghost use Rattle.mc_explain.specs.ExplanationText.{only_every_source_text, stopp
 ghost use Rattle.mc_explain.specs.declared.causes.Cause.TheVariants.{SentOnto, Circle, TakeOut, Unplaced};
 ghost use Rattle.mc_explain.specs.declared.causes.Cause.TheVariants.{LeastTtl};
 
+use crate::causes::Cause;
 use crate::device_text::{NO_DEVICE, ShownDevice};
 use crate::every_source_row::ShownEverySource;
 use crate::row_text::{ShownIncoming, ShownRow};
-use crate::causes::Cause;
 use mc_forward::{Domain, FlowView};
 use mc_tables::{CacheSummary, Vif};
 use mc_text::Memory;

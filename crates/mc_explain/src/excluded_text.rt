@@ -25,7 +25,11 @@ pub(crate) fn is_excluded(marks: &[bool], router: RouterNo) -> bool
 /// # Errors
 ///
 /// `Memory` where a growth was refused.
-pub fn push_without_lines(text: &mut String, topology: &Topology, excluded: &[bool]) -> Result<(), Memory>
+pub fn push_without_lines(
+    text: &mut String,
+    topology: &Topology,
+    excluded: &[bool],
+) -> Result<(), Memory>
     ensures lines { OnOk result (string_bytes text.new ≡ string_bytes text.old
         ++ without_text topology.now excluded.now) }
 {

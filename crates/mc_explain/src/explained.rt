@@ -12,13 +12,13 @@ ghost use Rattle.mc_explain.specs.Explained.{circle_cause, sender_causes, stray_
 ghost use Rattle.mc_explain.specs.LastFlights.{HasLoop, EndsTravel, HasSecondCopy, IsOutOfReach};
 ghost use Rattle.mc_explain.specs.LastFlights.{IsSecondCopy};
 
+use crate::causes::Cause;
 use crate::first_copies::FirstCopies;
 use crate::hop::Hop;
-use crate::causes::Cause;
-use crate::path::{hops_around, hops_back, need, first_stop};
+use crate::path::{first_stop, hops_around, hops_back, need};
 use mc_forward::{CarriedCopy, Domain, Flight, FlowView, RowFor};
 use mc_maker::ExaminedFlights;
-use mc_replay::{FinishedTravel, Finding};
+use mc_replay::{Finding, FinishedTravel};
 use mc_text::Memory;
 use mc_topology::{LanNo, RouterNo};
 use std::alloc::Global;
@@ -47,7 +47,7 @@ fn take_out(
 ) -> Result<Cause, Memory>
     requires first_copies { HoldsFirstOfEachKey (λ c. c.lan) first_copies.now.by_lan flight.now.flight.carried }
     requires second { IsSecondCopy (net_in view.now) flight.now.flight.carried second.now }
-    ensures { IfOk result (IsRemedy (net_in view.now) flight.now.flight second.now.lan
+    ensures ok { IfOk result (IsRemedy (net_in view.now) flight.now.flight second.now.lan
         second.now) }
 {
     let Some(first) = first_copies.on(second.lan) else {
@@ -74,7 +74,7 @@ fn explain_duplicate(
 ) -> Result<Vec<Cause>, Memory>
     requires domain { flight.now.domain ≡ view.now.domain }
     requires second { HasSecondCopy (net_in view.now) flight.now.flight.carried lan }
-    ensures { IfOk result (λ causes. ExplainsDuplicate (net_in view.now) flight.now.flight lan
+    ensures ok { IfOk result (λ causes. ExplainsDuplicate (net_in view.now) flight.now.flight lan
         causes.items) }
 {
     let first_copies = FirstCopies::new(alloc, view, flight.copies())?;
@@ -118,7 +118,7 @@ fn explain_loop(
 ) -> Result<Vec<Cause>, Memory>
     requires domain { flight.now.domain ≡ view.now.domain }
     requires second { HasLoop (net_in view.now) flight.now.flight.carried lan }
-    ensures { IfOk result (λ causes. ExplainsLoop (net_in view.now) flight.now.flight lan
+    ensures ok { IfOk result (λ causes. ExplainsLoop (net_in view.now) flight.now.flight lan
         causes.items) }
 {
     let first_copies = FirstCopies::new(alloc, view, flight.copies())?;
@@ -134,7 +134,12 @@ fn explain_loop(
 
 /// What is told of a copy that left the known domain by a router's vif, or met a row there that isn't
 /// followed.
-fn explain_stray(alloc: Global, view: &FlowView<'_>, router: RouterNo, vif: u8) -> Result<Vec<Cause>, Memory>
+fn explain_stray(
+    alloc: Global,
+    view: &FlowView<'_>,
+    router: RouterNo,
+    vif: u8,
+) -> Result<Vec<Cause>, Memory>
     ensures { IfOk result (λ causes. causes.items
         ≡ stray_causes ((net_in view.now).row router) router vif) }
 {
@@ -158,7 +163,7 @@ fn explain_least_ttl(
     requires domain { greatest.now.domain ≡ view.now.domain }
     requires path { IsOutOfReach (net_in view.now) greatest.now.flight.carried
         (net_in view.now).ttl lan }
-    ensures { IfOk result (λ causes. ExplainsLeastTtl (net_in view.now) greatest.now.flight lan
+    ensures ok { IfOk result (λ causes. ExplainsLeastTtl (net_in view.now) greatest.now.flight lan
         causes.items) }
 {
     let first_copies = FirstCopies::new(alloc, view, greatest.copies())?;
@@ -185,10 +190,14 @@ fn explain_least_ttl(
 }
 
 /// What is told of the finding of a travel's flight.
-fn finding(alloc: Global, view: &FlowView<'_>, ended: &FinishedTravel<'_>) -> Result<Vec<Cause>, Memory>
-    requires { (ttl : ℕ) × EndsTravel view.now ttl (finding_value ended.now.travel.finding)
+fn finding(
+    alloc: Global,
+    view: &FlowView<'_>,
+    ended: &FinishedTravel<'_>,
+) -> Result<Vec<Cause>, Memory>
+    requires travel { (ttl : ℕ) × EndsTravel view.now ttl (finding_value ended.now.travel.finding)
         ended.now.flight }
-    ensures { IfOk result (λ causes. ExplainsFinding (net_in view.now) ended.now.flight.flight
+    ensures ok { IfOk result (λ causes. ExplainsFinding (net_in view.now) ended.now.flight.flight
         (finding_value ended.now.travel.finding) causes.items) }
 {
     let _rules = view.topology();

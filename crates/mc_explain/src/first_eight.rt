@@ -46,7 +46,7 @@ impl FirstEight {
 
     /// The list has one LAN more, behind the others.
     pub(crate) fn add(&mut self, lan: LanNo)
-        requires { self.old.count < 4294967295 }
+        requires bounded { self.old.count < 4294967295 }
         ensures first { self.new.first ≡ take 8 (self.old.first ++ lan ∷ []) }
         ensures count { self.new.count ≡ self.old.count + 1 }
     {

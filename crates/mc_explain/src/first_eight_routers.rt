@@ -58,7 +58,7 @@ impl FirstEightRouters {
 
     /// The list has one router more, behind the others.
     pub(crate) fn add(&mut self, router: RouterNo)
-        requires { self.old.count < usize.MAX }
+        requires bounded { self.old.count < usize.MAX }
         ensures first { self.new.first ≡ take 8 (self.old.first ++ router ∷ []) }
         ensures count { self.new.count ≡ self.old.count + 1 }
     {

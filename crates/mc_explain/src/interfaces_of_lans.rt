@@ -59,7 +59,10 @@ fn empty_lists<T: Drop>(alloc: Global, count: u32) -> Result<Vec<InnerList<T>>, 
 }
 
 /// The numbers of the interfaces of each router, in the topology's order.
-fn interface_numbers_by_router(alloc: Global, topology: &Topology) -> Result<Vec<InnerList<u32>>, Memory>
+fn interface_numbers_by_router(
+    alloc: Global,
+    topology: &Topology,
+) -> Result<Vec<InnerList<u32>>, Memory>
     ensures { IfOk result (λ lists. lists.items ≡
         map (interfaces_of_router topology.now (below (length topology.now.interfaces)))
         (below (length topology.now.routers))) }
@@ -163,8 +166,8 @@ impl InterfacesOfLans {
 
     /// Those on a LAN.
     pub(crate) fn on(&self, lan: LanNo) -> &[ListedInterface]
-        requires { lan < length self.now }
-        ensures { (d : DomainFacts) → self.now ≡ interfaces_on_lans d → lan < length d.topology.lans →
+        requires known { lan < length self.now }
+        ensures item { (d : DomainFacts) → self.now ≡ interfaces_on_lans d → lan < length d.topology.lans →
             result.now ≡ interfaces_on_lan d lan }
     {
         &self.lans[lan.0 as usize].items

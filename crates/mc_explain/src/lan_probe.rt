@@ -11,9 +11,9 @@ ghost use Rattle.mc_explain.specs.SearchLine.{lines_of_lan, may_send_here, net, 
 ghost use Rattle.mc_explain.specs.SearchLine.{routers_on, row_for_every_source, row_lines};
 ghost use Rattle.mc_explain.specs.SearchLine.{sends_by_known_vif, sends_here, vif_line, vif_lines};
 
+use crate::excluded_text::is_excluded;
 use crate::first_copies::FirstCopies;
 use crate::interfaces_of_lans::InterfacesOfLans;
-use crate::excluded_text::is_excluded;
 use crate::listed_interface::ListedInterface;
 use crate::routers_on_lan::RoutersOnLan;
 use crate::search_line::SearchLine;
@@ -37,8 +37,8 @@ pub(crate) struct LanProbe<'s> {
 
 /// Whether an entry sends by a vif, if there is one.
 fn is_sent_by(entry: &Entry<'_>, vif: Option<u8>) -> bool
-    requires { IsValidEntry entry.now }
-    ensures { result ≡ sends_by_known_vif vif (oif_pairs entry.now.oifs) }
+    requires valid { IsValidEntry entry.now }
+    ensures value { result ≡ sends_by_known_vif vif (oif_pairs entry.now.oifs) }
 {
     match vif {
         Some(vif) => threshold_of(vif, entry) != 0,
@@ -56,8 +56,8 @@ impl<'s> LanProbe<'s> {
 
     /// Whether a router's cache has an unresolved row for the flow.
     fn is_unresolved(&self, router: RouterNo) -> bool
-        requires { IsLanProbe self.now }
-        ensures { result ≡ is_unresolved (search_in self.now) router }
+        requires valid { IsLanProbe self.now }
+        ensures value { result ≡ is_unresolved (search_in self.now) router }
     {
         match self.summary.get(router.0 as usize) {
             Some(summary) => summary.is_unresolved(self.flow.source, self.flow.group),
@@ -74,8 +74,8 @@ impl<'s> LanProbe<'s> {
         entry: &Entry<'_>,
         vif: u8,
     ) -> SearchLine
-        requires { IsValidEntry entry.now }
-        ensures { result ≡ vif_line (search_in self.now) lan router from
+        requires valid { IsValidEntry entry.now }
+        ensures value { result ≡ vif_line (search_in self.now) lan router from
             (oif_pairs entry.now.oifs) vif }
     {
         let threshold = threshold_of(vif, entry);
@@ -117,8 +117,8 @@ impl<'s> LanProbe<'s> {
         entry: &Entry<'_>,
         own: &[ListedInterface],
     ) -> Result<(), Memory>
-        requires { IsValidEntry entry.now }
-        ensures { OnOk result (lines.new.items ≡ lines.old.items
+        requires valid { IsValidEntry entry.now }
+        ensures added { OnOk result (lines.new.items ≡ lines.old.items
             ++ flat_map (λ i. vif_lines (search_in self.now) lan router from
             (oif_pairs entry.now.oifs) i.vif) own.now) }
     {
@@ -140,8 +140,8 @@ impl<'s> LanProbe<'s> {
         router: RouterNo,
         own: &[ListedInterface],
     ) -> Result<(), Memory>
-        requires { IsLanProbe self.now }
-        ensures { OnOk result (lines.new.items ≡ lines.old.items ++ row_lines (search_in self.now) lan
+        requires valid { IsLanProbe self.now }
+        ensures added { OnOk result (lines.new.items ≡ lines.old.items ++ row_lines (search_in self.now) lan
             router own.now ((net (search_in self.now)).row router)) }
     {
         match self.view.row(router) {
@@ -226,7 +226,7 @@ impl<'s> LanProbe<'s> {
     pub(crate) fn routers_on(&self, lan: LanNo) -> RoutersOnLan<'s>
         requires lan_probe { IsLanProbe self.now }
         requires lan { lan < length self.now.view.now.domain.topology.lans }
-        ensures { result ≡ routers_on (search_in self.now) lan }
+        ensures value { result ≡ routers_on (search_in self.now) lan }
     {
         RoutersOnLan::new(self.interfaces.on(lan))
     }
@@ -239,8 +239,8 @@ impl<'s> LanProbe<'s> {
         router: RouterNo,
         own: &[ListedInterface],
     ) -> Result<(), Memory>
-        requires { IsLanProbe self.now }
-        ensures { OnOk result (lines.new.items ≡ lines.old.items
+        requires valid { IsLanProbe self.now }
+        ensures added { OnOk result (lines.new.items ≡ lines.old.items
             ++ router_lines (search_in self.now) lan (router, own.now)) }
     {
         if self.is_excluded(router) {
@@ -255,7 +255,7 @@ impl<'s> LanProbe<'s> {
     fn add_lines_of_routers(&self, lines: &mut Vec<SearchLine>, lan: LanNo) -> Result<(), Memory>
         requires lan_probe { IsLanProbe self.now }
         requires lan { lan < length self.now.view.now.domain.topology.lans }
-        ensures { OnOk result (lines.new.items ≡ lines.old.items
+        ensures added { OnOk result (lines.new.items ≡ lines.old.items
             ++ flat_map (router_lines (search_in self.now) lan)
             (routers_on (search_in self.now) lan)) }
     {
@@ -276,7 +276,7 @@ impl<'s> LanProbe<'s> {
     fn add_expected_lines(&self, lines: &mut Vec<SearchLine>, lan: LanNo) -> Result<(), Memory>
         requires lan_probe { IsLanProbe self.now }
         requires lan { lan < length self.now.view.now.domain.topology.lans }
-        ensures { OnOk result (lines.new.items ≡ lines.old.items
+        ensures added { OnOk result (lines.new.items ≡ lines.old.items
             ++ flat_map (expected_lines (search_in self.now) lan)
             (routers_on (search_in self.now) lan)) }
     {
@@ -310,7 +310,7 @@ impl<'s> LanProbe<'s> {
     fn may_be_sent_onto(&self, lan: LanNo) -> bool
         requires lan_probe { IsLanProbe self.now }
         requires lan { lan < length self.now.view.now.domain.topology.lans }
-        ensures { result ≡ list_any (may_send_here (search_in self.now))
+        ensures value { result ≡ list_any (may_send_here (search_in self.now))
             (routers_on (search_in self.now) lan) }
     {
         for own in self.routers_on(lan) {
@@ -322,10 +322,14 @@ impl<'s> LanProbe<'s> {
     }
 
     /// All that is told of the LAN.
-    pub(crate) fn add_lan_lines(&self, lines: &mut Vec<SearchLine>, lan: LanNo) -> Result<(), Memory>
+    pub(crate) fn add_lan_lines(
+        &self,
+        lines: &mut Vec<SearchLine>,
+        lan: LanNo,
+    ) -> Result<(), Memory>
         requires lan_probe { IsLanProbe self.now }
         requires lan { lan < length self.now.view.now.domain.topology.lans }
-        ensures { OnOk result (lines.new.items ≡
+        ensures added { OnOk result (lines.new.items ≡
             lines.old.items ++ lines_of_lan (search_in self.now) lan) }
     {
         let before = lines.len();
@@ -341,8 +345,8 @@ impl<'s> LanProbe<'s> {
 
     /// The LAN that a router's row for every source takes from.
     fn every_source_from(&self, router: RouterNo) -> Option<LanNo>
-        requires { IsLanProbe self.now }
-        ensures { result ≡ every_source_from (search_in self.now) router
+        requires valid { IsLanProbe self.now }
+        ensures value { result ≡ every_source_from (search_in self.now) router
             (row_for_every_source (search_in self.now) router) }
     {
         let summary = self.summary.get(router.0 as usize)?;
@@ -354,8 +358,8 @@ impl<'s> LanProbe<'s> {
 
     /// The LAN that a line leads to.
     pub(crate) fn next_lan(&self, line: &SearchLine) -> Option<LanNo>
-        requires { IsLanProbe self.now }
-        ensures { result ≡ next_lan (search_in self.now) line.now }
+        requires valid { IsLanProbe self.now }
+        ensures value { result ≡ next_lan (search_in self.now) line.now }
     {
         match *line {
             SearchLine::WaitsFor { from, .. } => Some(from),

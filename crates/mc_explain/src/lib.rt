@@ -2,60 +2,58 @@
 //! follow from the tables. And how those lines are written.
 #![tactic(auto)]
 
+mod cause_text;
+mod causes;
 mod device_text;
 mod every_source_row;
-mod explained;
-mod first_copies;
-mod hop;
-mod interfaces_of_lans;
-mod first_eight;
-mod laws;
 mod excluded_laws;
 mod excluded_text;
+mod explained;
+mod first_copies;
+mod first_eight;
+mod first_eight_routers;
+mod hop;
+mod interfaces_of_lans;
+mod lan_probe;
+mod laws;
 mod line_laws;
 mod listed_interface;
-mod lan_probe;
-mod visited_lans;
+mod path;
 mod reach;
-mod first_eight_routers;
 mod routers_on_lan;
 mod row_text;
 mod search_laws;
+mod search_line;
 mod search_line_laws;
 mod search_text;
-mod search_line;
 mod searching;
 mod shown_line;
-mod causes;
-mod cause_text;
 mod unlisted_laws;
 mod unlisted_pairs;
 mod unlisted_text;
+mod visited_lans;
 mod wanted_text;
-mod path;
 
+pub use cause_text::push_causes;
+pub use causes::Cause;
 pub use device_text::ShownDeviceName;
+pub use excluded_laws::without_lines_have_prefix;
+pub use excluded_text::{push_excluded, push_without_lines};
 pub use explained::explain;
 pub use interfaces_of_lans::{InterfacesOfLans, vif_of_device};
 pub use laws::{
-    circle_of_loop_is_closed, every_source_row_is_reached,
-    reported_sender_sends_onto_lan, reported_stop_stops_packet,
-    unplaced_vif_leads_out, low_ttl_finding_is_missed_or_clean,
-    reported_ttl_is_least, causes_are_unique,
-    remedy_keeps_reached_lans,
+    causes_are_unique, circle_of_loop_is_closed, every_source_row_is_reached,
+    low_ttl_finding_is_missed_or_clean, remedy_keeps_reached_lans, reported_sender_sends_onto_lan,
+    reported_stop_stops_packet, reported_ttl_is_least, unplaced_vif_leads_out,
 };
-pub use excluded_laws::without_lines_have_prefix;
-pub use excluded_text::{push_excluded, push_without_lines};
 pub use line_laws::explanations_begin_with_two_spaces;
 pub use reach::Reach;
 pub use search_laws::{a_search_ends, a_search_names_each_router};
+pub use search_line::SearchLine;
 pub use search_line_laws::search_and_unlisted_lines_have_prefix;
 pub use search_text::push_search;
-pub use search_line::SearchLine;
 pub use searching::{LanSearch, search};
 pub use shown_line::{ExpectingRouters, ShownLine, ShownLines};
-pub use causes::Cause;
-pub use cause_text::push_causes;
 pub use unlisted_laws::the_lowest_unlisted_pairs_are_shown;
 pub use unlisted_pairs::{UnlistedPair, UnlistedPairs};
 pub use unlisted_text::push_unlisted;

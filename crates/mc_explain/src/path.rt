@@ -21,8 +21,8 @@ pub(crate) fn hops_back(
     first_copies: &FirstCopies,
     copy: &CarriedCopy,
 ) -> Result<Vec<Hop>, Memory>
-    requires { HoldsFirstOfEachKey (λ c. c.lan) first_copies.now.by_lan copies.now }
-    ensures { IfOk result (λ hops. hops.items ≡ hops_back (net_in view.now) copies.now
+    requires given { HoldsFirstOfEachKey (λ c. c.lan) first_copies.now.by_lan copies.now }
+    ensures ok { IfOk result (λ hops. hops.items ≡ hops_back (net_in view.now) copies.now
         (length copies.now) copy.now.lan copy.now.sender) }
 {
     let mut hops = Vec::new(alloc);
@@ -47,8 +47,8 @@ pub(crate) fn hops_around(
     first_copies: &FirstCopies,
     copy: &CarriedCopy,
 ) -> Result<Vec<Hop>, Memory>
-    requires { HoldsFirstOfEachKey (λ c. c.lan) first_copies.now.by_lan copies.now }
-    ensures { IfOk result (λ hops. hops.items ≡ hops_until (net_in view.now) copies.now
+    requires given { HoldsFirstOfEachKey (λ c. c.lan) first_copies.now.by_lan copies.now }
+    ensures ok { IfOk result (λ hops. hops.items ≡ hops_until (net_in view.now) copies.now
         copy.now.lan (length copies.now) copy.now.lan copy.now.sender) }
 {
     let mut hops = Vec::new(alloc);
@@ -70,8 +70,8 @@ pub(crate) fn hops_around(
 
 /// The least TTL with which packets get through by a way.
 pub(crate) fn need(hops: &[Hop]) -> u8
-    requires { need hops.now ≤ 255 }
-    ensures { result ≡ need hops.now }
+    requires bounded { need hops.now ≤ 255 }
+    ensures value { result ≡ need hops.now }
 {
     let mut least = 1;
     let mut before = hops.len();

@@ -112,7 +112,11 @@ fn add_routers(
 }
 
 /// The routers of LANs, each once.
-fn routers_of_lans(alloc: Global, lan_probe: &LanProbe<'_>, lans: &[LanNo]) -> Result<Vec<RouterNo>, Memory>
+fn routers_of_lans(
+    alloc: Global,
+    lan_probe: &LanProbe<'_>,
+    lans: &[LanNo],
+) -> Result<Vec<RouterNo>, Memory>
     requires lan_probe { IsLanProbe lan_probe.now }
     requires lans { All (λ lan. lan < length lan_probe.now.view.now.domain.topology.lans) lans.now }
     ensures routers { IfOk result (λ routers.
@@ -129,9 +133,13 @@ fn routers_of_lans(alloc: Global, lan_probe: &LanProbe<'_>, lans: &[LanNo]) -> R
 }
 
 /// The routers that are marked.
-fn marked_routers(alloc: Global, routers: &[RouterNo], marks: &[bool]) -> Result<Vec<RouterNo>, Memory>
-    requires { All (λ router. router < length marks.now) routers.now }
-    ensures { (p : ℕ → Bool) → AreMarksOf p marks.now →
+fn marked_routers(
+    alloc: Global,
+    routers: &[RouterNo],
+    marks: &[bool],
+) -> Result<Vec<RouterNo>, Memory>
+    requires within { All (λ router. router < length marks.now) routers.now }
+    ensures marked { (p : ℕ → Bool) → AreMarksOf p marks.now →
         IfOk result (λ found. found.items ≡ filter p routers.now) }
 {
     let mut found = Vec::new(alloc);
@@ -145,7 +153,7 @@ fn marked_routers(alloc: Global, routers: &[RouterNo], marks: &[bool]) -> Result
 
 /// Which of these routers sent copies on, and which others took none.
 fn reach_among(alloc: Global, routers: &[RouterNo], events: &[Event]) -> Result<Reach, Memory>
-    requires { All (λ router. router < 256) routers.now }
+    requires valid { All (λ router. router < 256) routers.now }
     ensures sent_on { IfOk result (λ reach.
         reach.sent_on.items ≡ sent_on events.now routers.now) }
     ensures took_none { IfOk result (λ reach.

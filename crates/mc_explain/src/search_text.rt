@@ -18,8 +18,8 @@ ghost use Rattle.mc_explain.specs.declared.search_line.SearchLine.TheVariants.{E
 
 use crate::device_text::{NO_DEVICE, ShownDevice, ShownDeviceName};
 use crate::every_source_row::ShownEverySource;
-use crate::reach::Reach;
 use crate::first_eight_routers::{FirstEightRouters, ShownRouters};
+use crate::reach::Reach;
 use crate::row_text::{ShownIncoming, ShownRow};
 use crate::search_line::SearchLine;
 use crate::searching::LanSearch;
@@ -384,7 +384,11 @@ fn push_expected(
 }
 
 /// Writes a line of a search.
-fn push_search_line(text: &mut String, context: &LineContext<'_>, line: SearchLine) -> Result<(), AllocError>
+fn push_search_line(
+    text: &mut String,
+    context: &LineContext<'_>,
+    line: SearchLine,
+) -> Result<(), AllocError>
     ensures { OnOk result (string_bytes text.new ≡ string_bytes text.old
         ++ search_line_text (facts context.now.view.now.domain) context.now.summary.now context.now.view.now.flow
         context.now.flow.now line) }
@@ -447,7 +451,11 @@ fn push_search_line(text: &mut String, context: &LineContext<'_>, line: SearchLi
 }
 
 /// Writes a line of a search as it is shown.
-fn push_shown_line(text: &mut String, context: &LineContext<'_>, line: &ShownLine<'_>) -> Result<(), AllocError>
+fn push_shown_line(
+    text: &mut String,
+    context: &LineContext<'_>,
+    line: &ShownLine<'_>,
+) -> Result<(), AllocError>
     ensures { OnOk result (string_bytes text.new ≡ string_bytes text.old
         ++ shown_line_text (facts context.now.view.now.domain) context.now.summary.now context.now.view.now.flow context.now.flow.now
         line.now) }
@@ -461,7 +469,11 @@ fn push_shown_line(text: &mut String, context: &LineContext<'_>, line: &ShownLin
 }
 
 /// Writes the first lines of a search. It answers how many lines there are.
-fn push_first_lines(text: &mut String, context: &LineContext<'_>, lines: &[SearchLine]) -> Result<usize, Memory>
+fn push_first_lines(
+    text: &mut String,
+    context: &LineContext<'_>,
+    lines: &[SearchLine],
+) -> Result<usize, Memory>
     ensures text { OnOk result (string_bytes text.new ≡ string_bytes text.old
         ++ flat_map (shown_line_text (facts context.now.view.now.domain) context.now.summary.now
         context.now.view.now.flow context.now.flow.now) (take 40 (shown_lines lines.now))) }
@@ -478,7 +490,11 @@ fn push_first_lines(text: &mut String, context: &LineContext<'_>, lines: &[Searc
 }
 
 /// Writes the lines of a search.
-fn push_shown_lines(text: &mut String, context: &LineContext<'_>, lines: &[SearchLine]) -> Result<(), Memory>
+fn push_shown_lines(
+    text: &mut String,
+    context: &LineContext<'_>,
+    lines: &[SearchLine],
+) -> Result<(), Memory>
     ensures { OnOk result (string_bytes text.new ≡ string_bytes text.old
         ++ first_lines_text (facts context.now.view.now.domain) context.now.summary.now context.now.view.now.flow context.now.flow.now
         (shown_lines lines.now)) }

@@ -15,9 +15,9 @@ ghost use Rattle.mc_explain.specs.SearchReach.{IsLanSearch};
 use crate::first_copies::FirstCopies;
 use crate::interfaces_of_lans::InterfacesOfLans;
 use crate::lan_probe::LanProbe;
-use crate::visited_lans::VisitedLans;
 use crate::reach::{Reach, reach_of};
 use crate::search_line::SearchLine;
+use crate::visited_lans::VisitedLans;
 use mc_forward::{Domain, Event, Flight, FlowView};
 use mc_tables::CacheSummary;
 use mc_text::Memory;
@@ -34,7 +34,11 @@ pub struct LanSearch {
 }
 
 /// The LANs that lines lead to are met.
-fn add_next_lans(lan_probe: &LanProbe<'_>, visited_lans: &mut VisitedLans, lines: &[SearchLine]) -> Result<(), Memory>
+fn add_next_lans(
+    lan_probe: &LanProbe<'_>,
+    visited_lans: &mut VisitedLans,
+    lines: &[SearchLine],
+) -> Result<(), Memory>
     requires lan_probe { IsLanProbe lan_probe.now }
     requires visited_lans { IsVisitedLans (length lan_probe.now.view.now.domain.topology.lans) visited_lans.old }
     requires lines { All (λ line. IfSome (next_lan (search_in lan_probe.now) line)
@@ -108,7 +112,7 @@ fn search_with_reach(
 ) -> Result<LanSearch, Memory>
     requires lan_probe { IsLanProbe lan_probe.now }
     requires missed { missed < length lan_probe.now.view.now.domain.topology.lans }
-    ensures { IfOk result (IsLanSearch (search_in lan_probe.now) events.now missed) }
+    ensures ok { IfOk result (IsLanSearch (search_in lan_probe.now) events.now missed) }
 {
     let (lines, visited_lans) = search_lans(alloc, lan_probe, missed)?;
     let reach = reach_of(alloc, lan_probe, visited_lans.lans(), events)?;
@@ -139,7 +143,7 @@ pub fn search(
     requires interfaces { interfaces.now ≡ interfaces_on_lans (facts domain.now) }
     requires flight { flight.now.domain ≡ domain.now }
     requires missed { missed < length domain.now.topology.lans }
-    ensures { IfOk result (IsLanSearch (record {
+    ensures ok { IfOk result (IsLanSearch (record {
       domain = facts domain.now;
       flow = flow;
       summary = summary.now;

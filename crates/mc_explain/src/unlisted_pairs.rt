@@ -94,7 +94,11 @@ fn shown_pairs(mut pairs: Vec<(Addr, Addr)>, all: bool) -> Vec<(Addr, Addr)>
 }
 
 /// The pairs that are shown of all routers.
-fn shown_unlisted_pairs(alloc: Global, summary: &[CacheSummary], all: bool) -> Result<Vec<(Addr, Addr)>, Memory>
+fn shown_unlisted_pairs(
+    alloc: Global,
+    summary: &[CacheSummary],
+    all: bool,
+) -> Result<Vec<(Addr, Addr)>, Memory>
     ensures { IfOk result (λ pairs. pairs.items ≡ shown_unlisted_pairs all summary.now) }
 {
     let mut pairs = Vec::new(alloc);
@@ -138,7 +142,7 @@ fn add_router(
 ) -> Result<(), Memory>
     requires ascend { IsStrictlySortedBy key_cmp pairs.now }
     requires shown { shown.old.items ≡ map (with_routers_below summary.now router) pairs.now }
-    ensures { OnOk result (shown.new.items ≡ map (with_routers_below summary.now (router + 1)) pairs.now) }
+    ensures ok { OnOk result (shown.new.items ≡ map (with_routers_below summary.now (router + 1)) pairs.now) }
 {
     let own = pairs_in(summary, router);
     for pair in own {
@@ -156,8 +160,8 @@ fn with_routers(
     summary: &[CacheSummary],
     pairs: &[(Addr, Addr)],
 ) -> Result<Vec<UnlistedPair>, Memory>
-    requires { IsStrictlySortedBy key_cmp pairs.now }
-    ensures { IfOk result (λ shown.
+    requires valid { IsStrictlySortedBy key_cmp pairs.now }
+    ensures ok { IfOk result (λ shown.
         shown.items ≡ map (with_routers topology.now summary.now) pairs.now) }
 {
     let mut shown = without_routers(alloc, pairs)?;

@@ -22,7 +22,7 @@ impl VisitedLans {
 
     /// One of so many LANs, which alone was met.
     pub(crate) fn new(alloc: Global, lans: u32, missed: LanNo) -> Result<VisitedLans, Memory>
-        requires { missed < lans }
+        requires known { missed < lans }
         ensures lans { IfOk result (λ visited_lans. visited_lans.lans.items ≡ missed ∷ []) }
         ensures visited_lans { IfOk result (IsVisitedLans lans) }
     {

@@ -52,7 +52,7 @@ pub fn part_of_file<F: FileSource>(
     files: &mut F,
     slot: &Slot<'_>,
 ) -> Result<FilePart, FileFault>
-    requires { F.failed files.old < u64.MAX }
+    requires failures { F.failed files.old < u64.MAX }
     ensures same { F.borrows files.new ≡ F.borrows files.old }
     ensures kept { F.contents files.new ≡ F.contents files.old }
     // It is the part that the file makes, or the reason why there is none.

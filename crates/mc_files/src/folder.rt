@@ -74,7 +74,7 @@ impl<'a, R: Files> Folder<'a, R> {
 
     /// A call fails, since a file can't be read.
     fn count_failure(&mut self, unread: Unread) -> FileFault
-        requires { self.old.failed < u64.MAX }
+        requires failures { self.old.failed < u64.MAX }
         ensures state { self.new ≡ record self.old { failed = self.old.failed + 1 } }
         ensures fault { result ≡ FileFault.Failed }
     {
@@ -85,7 +85,7 @@ impl<'a, R: Files> Folder<'a, R> {
 
     /// A file isn't opened.
     fn fail_to_open(&mut self, open_fault: OpenFault) -> FileFault
-        requires { self.old.failed < u64.MAX }
+        requires failures { self.old.failed < u64.MAX }
         ensures state { self.new ≡ record self.old {
           failed = cond (is_failure result) (self.old.failed + 1) self.old.failed;
         } }
@@ -126,7 +126,11 @@ fn open_in_folder<R: Files>(
 }
 
 /// The bytes of an open file. No more is read of it than the limit and a byte.
-fn read_within_limit<R: Read + Drop>(alloc: Global, file: R, limit: usize) -> Result<Vec<u8>, FileFault>
+fn read_within_limit<R: Read + Drop>(
+    alloc: Global,
+    file: R,
+    limit: usize,
+) -> Result<Vec<u8>, FileFault>
     ensures bound { IfOk result (λ bytes. vec_len bytes ≤ limit) }
 {
     let bytes = read_to_limit(alloc, &mut FromReader::new(file), limit.saturating_add(1))?;

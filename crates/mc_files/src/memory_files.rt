@@ -52,7 +52,7 @@ impl<'a> MemoryFiles<'a> {
 
     /// A call fails.
     pub(crate) fn count_failure(&mut self) -> FileFault
-        requires { self.old.failed < u64.MAX }
+        requires failures { self.old.failed < u64.MAX }
         ensures state { self.new ≡ record self.old { failed = self.old.failed + 1 } }
         ensures fault { result ≡ FileFault.Failed }
     {

@@ -26,7 +26,7 @@ fn parts_after<F: FileSource>(
     topology: &Topology,
     certified: bool,
 ) -> Result<Vec<FilePart>, PackFault>
-    requires { F.failed files.old < u64.MAX }
+    requires failures { F.failed files.old < u64.MAX }
     ensures same { F.borrows files.new ≡ F.borrows files.old }
     ensures kept { F.contents files.new ≡ F.contents files.old }
     ensures parts { GivesFromContents IsIoOrMemory (F.contents files.old) (λ parts. parts.items) result
@@ -69,7 +69,7 @@ pub(crate) fn read_parts<F: FileSource>(
     files: &mut F,
     certified: bool,
 ) -> Result<Vec<FilePart>, PackFault>
-    requires { F.failed files.old < u64.MAX }
+    requires failures { F.failed files.old < u64.MAX }
     ensures same { F.borrows files.new ≡ F.borrows files.old }
     ensures kept { F.contents files.new ≡ F.contents files.old }
     ensures parts { GivesFromContents IsIoOrMemory (F.contents files.old) (λ parts. parts.items) result (parts_before_limits certified) }

@@ -28,7 +28,7 @@ fn pack_fault_of(fault: BundleFault) -> PackFault
 
 /// Writes the bundle of the parts.
 fn write_parts<W: Output>(parts: &[Part<'_>], output: &mut W) -> Result<(), PackFault>
-    requires { W.failed output.old < u64.MAX }
+    requires failures { W.failed output.old < u64.MAX }
     ensures same { W.borrows output.new ≡ W.borrows output.old }
     ensures ok { OnOk result
         (AppendsBundle (W.written output.old) (W.written output.new) (part_texts parts.now)) }

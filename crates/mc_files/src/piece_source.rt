@@ -29,7 +29,7 @@ pub trait PieceSource: FileSource {
     ///
     /// `Failed` where the file isn't there or can't be opened, or `Memory`. No file is open then.
     fn open(&mut self, alloc: Global, name: &str) -> Result<(), FileFault>
-        requires { Self.failed self.old < u64.MAX }
+        requires failures { Self.failed self.old < u64.MAX }
         ensures same { Self.borrows self.new ≡ Self.borrows self.old }
         ensures kept { Self.contents self.new ≡ Self.contents self.old }
         ensures folder { Self.folder self.new ≡ Self.folder self.old }
@@ -50,7 +50,7 @@ pub trait PieceSource: FileSource {
     ///
     /// `Failed` where the file can't be read. No byte was taken of it then, and it stays open.
     fn read_piece(&mut self, buffer: &mut [u8]) -> Result<usize, FileFault>
-        requires { Self.failed self.old < u64.MAX }
+        requires failures { Self.failed self.old < u64.MAX }
         ensures same { Self.borrows self.new ≡ Self.borrows self.old }
         ensures kept { Self.contents self.new ≡ Self.contents self.old }
         ensures folder { Self.folder self.new ≡ Self.folder self.old }

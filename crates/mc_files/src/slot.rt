@@ -50,8 +50,8 @@ impl<'a> Slot<'a> {
 
     /// The slot of the vifs of the router with this name.
     pub fn vifs(router: &'a str) -> Slot<'a>
-        requires { IsTrue (is_name router.now) }
-        ensures { result ≡ vif_slot router.now }
+        requires valid { IsTrue (is_name router.now) }
+        ensures value { result ≡ vif_slot router.now }
     {
         Slot {
             kind: "vif",
@@ -61,8 +61,8 @@ impl<'a> Slot<'a> {
 
     /// The slot of the forwarding cache of the router with this name.
     pub fn cache(router: &'a str) -> Slot<'a>
-        requires { IsTrue (is_name router.now) }
-        ensures { result ≡ cache_slot router.now }
+        requires valid { IsTrue (is_name router.now) }
+        ensures value { result ≡ cache_slot router.now }
     {
         Slot {
             kind: "cache",
@@ -72,8 +72,8 @@ impl<'a> Slot<'a> {
 
     /// The slot of the reports of the LAN with this name.
     pub fn reports(lan: &'a str) -> Slot<'a>
-        requires { IsTrue (is_name lan.now) }
-        ensures { result ≡ reports_slot lan.now }
+        requires valid { IsTrue (is_name lan.now) }
+        ensures value { result ≡ reports_slot lan.now }
     {
         Slot {
             kind: "igmp",
@@ -129,8 +129,8 @@ impl<'a> Slot<'a> {
 
 /// The name of a part.
 fn to_part_name(name: &str) -> PartName
-    requires { IsPartName name.now }
-    ensures { result ≡ name.now }
+    requires valid { IsPartName name.now }
+    ensures value { result ≡ name.now }
 {
     let Some(name) = PartName::new(name.as_bytes()) else {
         unreachable!()
@@ -160,8 +160,8 @@ fn is_joined_by_slash(bytes: &[u8], kind: &[u8], owner: &[u8]) -> bool
 
 /// The slot of a table of a router: of its vifs where the number is even, else of its cache.
 fn router_slot(topology: &Topology, number: u32) -> Slot<'_>
-    requires { number < 2 * length topology.now.routers }
-    ensures { (more : List SlotText)
+    requires known { number < 2 * length topology.now.routers }
+    ensures item { (more : List SlotText)
         → slice_get (flat_map router_slots topology.now.routers ++ more) number ≡ Some result }
 {
     let router = topology.router_name(RouterNo(number / 2));

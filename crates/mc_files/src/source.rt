@@ -30,7 +30,7 @@ pub trait FileSource {
     /// `Failed` where the file isn't there or can't be read, `TooLarge` where it has more bytes, or
     /// `Memory`.
     fn read(&mut self, alloc: Global, name: &str, limit: usize) -> Result<Vec<u8>, FileFault>
-        requires { failed self.old < u64.MAX }
+        requires failures { failed self.old < u64.MAX }
         ensures same { borrows self.new ≡ borrows self.old }
         ensures kept { contents self.new ≡ contents self.old }
         ensures folder { folder self.new ≡ folder self.old }

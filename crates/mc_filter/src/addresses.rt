@@ -9,7 +9,10 @@ use mc_text::Addr;
 use std::alloc::AllocError;
 
 /// Appends the sources of a record.
-pub(crate) fn append_sources(addresses: &mut Vec<Addr>, sources: &Sources<'_>) -> Result<(), AllocError>
+pub(crate) fn append_sources(
+    addresses: &mut Vec<Addr>,
+    sources: &Sources<'_>,
+) -> Result<(), AllocError>
     ensures { OnOk result (addresses.new.items ≡ addresses.old.items ++ sources.now) }
 {
     for source in sources.iter() {
@@ -30,8 +33,8 @@ pub(crate) fn sort_and_dedup(addresses: &mut Vec<Addr>)
 
 /// Whether the address is among addresses that ascend.
 pub(crate) fn is_listed(addresses: &[Addr], address: Addr) -> bool
-    requires { IsStrictlyIncreasing addresses.now }
-    ensures { result ≡ has addresses.now address }
+    requires valid { IsStrictlyIncreasing addresses.now }
+    ensures value { result ≡ has addresses.now address }
 {
     addresses.binary_search(&address).is_ok()
 }

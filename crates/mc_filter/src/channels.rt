@@ -94,7 +94,11 @@ fn tally_of(
 }
 
 /// Whether each channel is wanted, by what the records of a list told.
-fn wanted_answers(alloc: Global, tally: &Tally, places: &[ChannelPlace]) -> Result<Vec<bool>, Memory>
+fn wanted_answers(
+    alloc: Global,
+    tally: &Tally,
+    places: &[ChannelPlace],
+) -> Result<Vec<bool>, Memory>
     requires groups { All (λ place. place.group < length tally.now.excludes.items) places.now }
     requires channels { All (λ place. place.channel < length tally.now.states.items) places.now }
     ensures count { IfOk result (λ answers. length answers.items ≡ length places.now) }

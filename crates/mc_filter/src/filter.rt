@@ -8,7 +8,7 @@ ghost use Rattle.mc_filter.specs.SourceFilter.{has};
 ghost use Rattle.mc_filter.specs.SourceFilter.{FilterAdmits, ChangesNoFilter, include_nothing};
 ghost use Rattle.mc_filter.specs.SourceFilter.{admits, admits_by};
 
-use crate::addresses::{append_sources, is_listed, retain_common, sort_and_dedup, remove_common};
+use crate::addresses::{append_sources, is_listed, remove_common, retain_common, sort_and_dedup};
 use mc_igmp::{Kind, Record};
 use mc_text::{Addr, Memory};
 use std::alloc::Global;

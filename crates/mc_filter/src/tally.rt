@@ -34,8 +34,8 @@ impl ChannelState {
     /// What a record that lists the source makes of it, where so many EXCLUDE records were seen
     /// before it, and so many with it.
     fn after_listing(self, kind: Kind, before: u32, with: u32) -> ChannelState
-        requires { with ≡ excludes_with kind before }
-        ensures { result ≡ state_after_listing kind before self }
+        requires kind { with ≡ excludes_with kind before }
+        ensures value { result ≡ state_after_listing kind before self }
     {
         match kind {
             Kind::Include => ChannelState::Included,
@@ -94,7 +94,11 @@ impl Tally {
         for source in group_record.sources.iter() {
             let number = pair_number(source, group_record.group);
             if let Some(place) = channels.place_of(number) {
-                self.states[place] = self.states[place].after_listing(group_record.kind, before, with);
+                self.states[place] = self.states[place].after_listing(
+                    group_record.kind,
+                    before,
+                    with,
+                );
             }
         }
     }

@@ -6,13 +6,13 @@ ghost use Rattle.mc_forward.specs.Assembling.{AreAnswers, HaveMatchingCounts, Is
 ghost use Rattle.mc_forward.specs.Domains.{IsDomain};
 ghost use Rattle.mc_forward.specs.DomainParts.{domain_with, AreDerivedTables};
 
-use crate::domain::{Domain, DerivedTables};
+use crate::domain::{DerivedTables, Domain};
 use crate::flow_rows::rows_of_routers;
 use crate::interfaces::interfaces_of_lans;
 use crate::items::Items;
-use crate::vif_lans::vif_lans_of_routers;
 use crate::refused::{DomainFault, Refused};
 use crate::tables::Tables;
+use crate::vif_lans::vif_lans_of_routers;
 use crate::wants::wants_of_lans;
 use mc_igmp::ReportList;
 use mc_text::Memory;
@@ -51,7 +51,7 @@ fn derive_tables_from_reports(
     tables: &[Tables],
     reports: &[ReportList],
 ) -> Result<DerivedTables, Memory>
-    requires { HaveMatchingCounts topology.now tables.now reports.now }
+    requires given { HaveMatchingCounts topology.now tables.now reports.now }
     ensures derived { IfOk result (λ w.
         AreDerivedTables (domain_with topology.now tables.now w.wants.items)
         w.vif_lans.items w.interfaces.items w.rows.items) }

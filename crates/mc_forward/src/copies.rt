@@ -14,8 +14,8 @@ ghost use Rattle.mc_forward.specs.OutcomeValues.{outcome_value};
 use crate::copy::{CarriedCopy, Stray, WaitingCopy};
 use crate::event::{Event, Outcome};
 use crate::flow_view::FlowView;
-use crate::row::RowFor;
 use crate::flow_with_rows::FlowWithRows;
+use crate::row::RowFor;
 use mc_tables::Oif;
 use mc_text::Memory;
 use mc_topology::RouterNo;
@@ -59,7 +59,7 @@ fn wait_at_hearers(
     view: &FlowView<'_>,
     copy: &CarriedCopy,
 ) -> Result<(), Memory>
-    requires { copy.now.lan < length view.now.domain.topology.lans }
+    requires within { copy.now.lan < length view.now.domain.topology.lans }
     ensures ok { OnOk result (waiting.new.items ≡
         waiting.old.items ++ map (waits_at copy.now.ttl) (hearers (net_in view.now) copy.now)) }
     ensures kept { take (length waiting.old.items) waiting.new.items ≡ waiting.old.items }
@@ -80,8 +80,8 @@ fn wait_at_hearers(
 /// Takes the copy with this index away. The others keep their order, and the fewer of those before
 /// and after it are moved.
 fn remove_waiting(waiting: &mut VecDeque<WaitingCopy>, index: usize)
-    requires { index < length waiting.old.items }
-    ensures { waiting.new.items ≡ remove waiting.old.items index }
+    requires known { index < length waiting.old.items }
+    ensures removed { waiting.new.items ≡ remove waiting.old.items index }
 {
     let _taken = if index == 0 {
         waiting.pop_front()
@@ -125,7 +125,7 @@ impl Copies {
     /// A copy is put on its LAN.
     #[inline(always)]
     pub(crate) fn put(&mut self, view: &FlowView<'_>, copy: &CarriedCopy) -> Result<(), Memory>
-        requires { copy.now.lan < length view.now.domain.topology.lans }
+        requires within { copy.now.lan < length view.now.domain.topology.lans }
         ensures ok { OnOk result (self.new ≡ put (net_in view.now) copy.now self.old) }
         ensures kept { Extends self.old self.new }
     {
@@ -136,7 +136,7 @@ impl Copies {
     /// A router sends by a vif, for a copy that came with one more time to live. Whether that puts
     /// one on a LAN.
     fn send(&mut self, view: &FlowView<'_>, taken: &WaitingCopy, vif: u8) -> Result<bool, Memory>
-        requires { 0 < taken.now.ttl }
+        requires positive { 0 < taken.now.ttl }
         ensures ok { OnOk result (self.new ≡ leave (net_in view.now) (taken.now.ttl - 1)
             (taken.now.router, vif) ((net_in view.now).placed taken.now.router vif) self.old) }
         ensures onto { IfOk result (λ onto.
@@ -168,7 +168,7 @@ impl Copies {
         taken: &WaitingCopy,
         oifs: &[Oif],
     ) -> Result<Outcome, Memory>
-        requires { length oifs.now ≤ 32 }
+        requires bounded { length oifs.now ≤ 32 }
         ensures ok { OnOk result (self.new ≡
             sends (net_in view.now) taken.now.router taken.now.ttl (oif_pairs oifs.now) self.old) }
         ensures outcome { IfOk result (λ outcome. outcome_value outcome ≡ Sent
@@ -220,7 +220,7 @@ impl Copies {
     /// so that nothing is changed where memory runs out.
     #[inline(always)]
     pub(crate) fn handle(&mut self, flow: &FlowWithRows<'_>, index: usize) -> Result<Event, Memory>
-        requires { index < length self.old.waiting }
+        requires known { index < length self.old.waiting }
         ensures ok { OnOk result (self.new ≡ step (net_in flow.now) index self.old) }
         ensures event { IfOk result (λ event.
             option_map (event_of (net_in flow.now)) (slice_get self.old.waiting index)
@@ -252,8 +252,8 @@ impl Copies {
 
     /// The waiting copy with this index is taken away.
     pub(crate) fn lose(&mut self, lost: usize)
-        requires { lost < length self.old.waiting }
-        ensures { self.new ≡ without_waiting lost self.old }
+        requires known { lost < length self.old.waiting }
+        ensures change { self.new ≡ without_waiting lost self.old }
     {
         remove_waiting(&mut self.waiting, lost);
     }

@@ -10,9 +10,9 @@ ghost use Rattle.mc_forward.specs.RowValues.{row_value, HasValidEntry};
 use crate::flow_rows::RouterRows;
 use crate::interfaces::Interfaces;
 use crate::items::Items;
-use crate::vif_lans::VifLans;
 use crate::row::RowFor;
 use crate::tables::Tables;
+use crate::vif_lans::VifLans;
 use mc_tables::Vif;
 use mc_topology::{LanNo, RouterNo, Topology};
 use std::marker::Model;
@@ -85,9 +85,9 @@ fn vif_of_router(tables: &[Tables], router: RouterNo, vif: u8) -> Option<&Vif>
 impl Domain {
     /// The domain of a topology, the routers' tables, and what was worked out of them.
     pub(crate) fn new(topology: Topology, tables: Vec<Tables>, derived: DerivedTables) -> Domain
-        requires { AreDerivedTables (domain_with topology tables.items derived.wants.items)
+        requires valid { AreDerivedTables (domain_with topology tables.items derived.wants.items)
             derived.vif_lans.items derived.interfaces.items derived.rows.items }
-        ensures { result ≡ domain_with topology tables.items derived.wants.items }
+        ensures value { result ≡ domain_with topology tables.items derived.wants.items }
     {
         Domain {
             topology,
@@ -108,7 +108,7 @@ impl Domain {
     /// The LAN that a router's vif is placed on. None for a vif that its table hasn't, for a tunnel
     /// or a register interface, and for a device of which the topology has no interface.
     pub fn placed(&self, router: RouterNo, vif: u8) -> Option<LanNo>
-        requires { router < length self.now.topology.routers }
+        requires known { router < length self.now.topology.routers }
         ensures lan { result ≡ placed_of self.now router vif }
         ensures listed { IfSome result (λ lan. lan < length self.now.topology.lans) }
     {
@@ -140,7 +140,7 @@ impl Domain {
     pub fn wants(&self, lan: LanNo, flow: u32) -> bool
         requires lan { lan < length self.now.topology.lans }
         requires flow { flow < length self.now.topology.flows }
-        ensures { result ≡ wants_of self.now flow lan }
+        ensures value { result ≡ wants_of self.now flow lan }
     {
         let wanted = &self.derived.wants[lan.0 as usize];
         wanted.items[flow as usize]
@@ -148,8 +148,8 @@ impl Domain {
 
     /// The vifs that are placed on a LAN, by router and then by vif.
     pub fn interfaces(&self, lan: LanNo) -> Interfaces<'_>
-        requires { lan < length self.now.topology.lans }
-        ensures { (flow : ℕ) → result ≡ interfaces (net_of self.now flow) lan }
+        requires known { lan < length self.now.topology.lans }
+        ensures each_flow { (flow : ℕ) → result ≡ interfaces (net_of self.now flow) lan }
     {
         let interfaces = &self.derived.interfaces[lan.0 as usize];
         Interfaces::new(interfaces)

@@ -47,8 +47,8 @@ impl Model for RouterRows {
 impl RouterRows {
     /// The row of the flow with this number.
     pub(crate) fn row(&self, flow: u32) -> RowFor<'_>
-        requires { flow < length self.now }
-        ensures { slice_get self.now flow ≡ Some (row_value result) }
+        requires known { flow < length self.now }
+        ensures item { slice_get self.now flow ≡ Some (row_value result) }
     {
         let (head, oifs) = self.rows.at(flow);
         match head {
@@ -63,7 +63,7 @@ impl RouterRows {
 fn push_row(rows: &mut FlatOifs<RowHead>, row: &RowFor<'_>) -> Result<(), Memory>
     requires count { length rows.old.lists < 65536 }
     requires valid { HasValidEntry row.now }
-    ensures { OnOk result
+    ensures added { OnOk result
         (rows_of rows.new.lists ≡ rows_of rows.old.lists ++ row_value row.now ∷ []) }
 {
     match row {
@@ -98,7 +98,7 @@ fn flow_rows_of(
     tables: &Tables,
     hints: &mut Vec<usize>,
 ) -> Result<RouterRows, Memory>
-    requires { length hints.old.items ≡ length topology.now.flows }
+    requires lengths { length hints.old.items ≡ length topology.now.flows }
     ensures rows { IfOk result (λ rows. rows ≡ map (row_in_cache tables.now.cache) topology.now.flows) }
     ensures hints { OnOk result (length hints.new.items ≡ length topology.now.flows) }
 {

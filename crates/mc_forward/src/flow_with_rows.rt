@@ -36,7 +36,7 @@ impl<'d> Model for FlowWithRows<'d> {
 
 /// The same row once more.
 fn copy_row<'d>(row: &RowFor<'d>) -> RowFor<'d>
-    requires { HasValidEntry row.now }
+    requires valid { HasValidEntry row.now }
     ensures row { row_value result ≡ row_value row.now }
     ensures valid { HasValidEntry result }
 {

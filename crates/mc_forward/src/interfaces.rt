@@ -75,7 +75,7 @@ fn add_router(
     router: RouterNo,
     vif_lans: &VifLans,
 ) -> Result<(), Memory>
-    requires { (vif lan : ℕ) → slice_index_or vif_lans.now vif None ≡ Some lan →
+    requires within { (vif lan : ℕ) → slice_index_or vif_lans.now vif None ≡ Some lan →
         lan < length lists.old.items }
     ensures count { length lists.new.items ≡ length lists.old.items }
     ensures each { OnOk result ((lan : ℕ) → lan < length lists.old.items →
@@ -100,7 +100,7 @@ pub(crate) fn interfaces_of_lans(
     requires at_most_256 { length vif_lans.now ≤ 256 }
     requires listed { (router vif lan : ℕ) →
         vif_lan_in vif_lans.now router vif ≡ Some lan → lan < lans }
-    ensures { IfOk result (λ lists. lists.items ≡
+    ensures ok { IfOk result (λ lists. lists.items ≡
         map (interfaces_by_vif_lans vif_lans.now (length vif_lans.now)) (below lans)) }
 {
     let mut lists = empty_interface_lists(alloc, lans)?;

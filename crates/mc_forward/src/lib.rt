@@ -11,16 +11,16 @@ mod flight;
 mod flow_laws;
 mod flow_rows;
 mod flow_view;
+mod flow_with_rows;
 mod interfaces;
 mod items;
 mod laws;
 mod outgoing;
 mod per_lan;
-mod vif_lans;
 mod refused;
 mod row;
-mod flow_with_rows;
 mod tables;
+mod vif_lans;
 mod wants;
 
 pub use copy::{CarriedCopy, Stray};
@@ -28,10 +28,10 @@ pub use domain::Domain;
 pub use event::{Event, Outcome};
 pub use flight::Flight;
 pub use flow_laws::{
-    finding_shows_that_a_flow_is_wrong, flow_is_right_iff_a_list_is_accepted,
-    run_with_one_more_pick, a_travel_through_a_domain_ends, an_accepted_list_keeps_the_headline,
+    a_travel_through_a_domain_ends, an_accepted_list_keeps_the_headline,
     clean_travels_certify_a_flow, every_complete_run_of_a_flow_delivers,
-    every_run_of_a_flow_is_safe, no_reason_iff_list_is_accepted,
+    every_run_of_a_flow_is_safe, finding_shows_that_a_flow_is_wrong,
+    flow_is_right_iff_a_list_is_accepted, no_reason_iff_list_is_accepted, run_with_one_more_pick,
 };
 pub use flow_view::FlowView;
 pub use interfaces::Interfaces;

@@ -13,8 +13,8 @@ use mc_tables::{Entry, Oif};
 /// places tell: vifs ascend, and none is higher than 31. Where an entry sends by all vifs but one,
 /// as many routers' do, the vif itself is one of the first two that are left.
 pub fn outgoing_from<'a>(entry: &Entry<'a>, vif: u8) -> &'a [Oif]
-    requires { IsValidEntry entry.now }
-    ensures { (lower : List OifValue) × (lower ++ result.now ≡ entry.now.oifs)
+    requires valid { IsValidEntry entry.now }
+    ensures rest { (lower : List OifValue) × (lower ++ result.now ≡ entry.now.oifs)
         × AllByRecursion (λ o. o.vif < vif) lower }
 {
     let oifs = entry.oifs;
@@ -24,8 +24,8 @@ pub fn outgoing_from<'a>(entry: &Entry<'a>, vif: u8) -> &'a [Oif]
 
 /// The threshold of a vif's pair, 0 where it has none.
 pub fn threshold_of(vif: u8, entry: &Entry<'_>) -> u8
-    requires { IsValidEntry entry.now }
-    ensures { result ≡ threshold_of vif (oif_pairs entry.now.oifs) }
+    requires valid { IsValidEntry entry.now }
+    ensures value { result ≡ threshold_of vif (oif_pairs entry.now.oifs) }
 {
     for oif in outgoing_from(entry, vif) {
         if oif.vif == vif {

@@ -56,7 +56,7 @@ impl<T: Copy> PerLan<T> {
 
     /// Puts an item on a LAN, unless one was put there before. Whether it was put.
     pub fn put_first(&mut self, lan: LanNo, item: T) -> bool
-        requires { lan < length self.old }
+        requires known { lan < length self.old }
         ensures free { IsTrue result → item_on_lan self.old lan ≡ None }
         ensures put { IsTrue result → self.new ≡ slice_set self.old lan (Some item) }
         ensures earlier { IsFalse result → IsSome (item_on_lan self.old lan) }

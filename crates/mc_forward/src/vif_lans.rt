@@ -30,7 +30,12 @@ fn lan_of_vif(topology: &Topology, router: RouterNo, vif: &Vif) -> Option<LanNo>
 }
 
 /// The LAN of the vif with this index, if the router has one.
-fn lan_of_vif_number(topology: &Topology, router: RouterNo, tables: &Tables, vif: u8) -> Option<LanNo>
+fn lan_of_vif_number(
+    topology: &Topology,
+    router: RouterNo,
+    tables: &Tables,
+    vif: u8,
+) -> Option<LanNo>
     ensures { result ≡
         option_and_then (lan_of_vif topology.now router) (finite.get tables.now.vifs vif) }
 {
@@ -68,7 +73,7 @@ pub(crate) fn vif_lans_of_routers(
     topology: &Topology,
     tables: &[Tables],
 ) -> Result<Vec<VifLans>, Memory>
-    requires { length tables.now ≡ length topology.now.routers }
+    requires lengths { length tables.now ≡ length topology.now.routers }
     ensures vif_lans { IfOk result (λ vif_lans. vif_lans.items ≡
         map (λ router. map (placed_in topology.now tables.now router) (below 32))
         (below (length topology.now.routers))) }

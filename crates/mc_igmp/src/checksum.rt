@@ -13,7 +13,7 @@ const PIECE_LEN: usize = 65_536;
 /// The one's complement sum of a sum and a number: the carries out of the sixteen bits are added at
 /// their end.
 fn add_with_carries(sum: u64, number: u32) -> u64
-    requires { sum ≤ ALL_ONES }
+    requires bounded { sum ≤ ALL_ONES }
     ensures bound { result ≤ ALL_ONES }
     ensures congruent { result % 65535 ≡ (sum + number) % 65535 }
     ensures zero { (result ≡ 0) ↔ (sum + number ≡ 0) }
@@ -29,8 +29,8 @@ fn add_with_carries(sum: u64, number: u32) -> u64
 /// The sum of the big-endian words of a piece, an odd last byte being taken with a zero byte after
 /// it.
 fn sum_of_words(piece: &[u8]) -> u32
-    requires { length piece.now ≤ PIECE_LEN }
-    ensures { result ≡ word_sum piece.now }
+    requires bounded { length piece.now ≤ PIECE_LEN }
+    ensures value { result ≡ word_sum piece.now }
 {
     let mut sum = 0u32;
     let mut rest = piece;

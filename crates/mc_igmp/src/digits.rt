@@ -40,7 +40,7 @@ fn byte_of(high: u8, low: u8) -> u8
 /// Writes the bytes of a few digits by a table, as `decode_all` does. The values of all digits are
 /// looked at together, once, since a branch at each would be guessed wrong too often.
 fn decode_by_table(digits: &[u8], bytes: &mut [u8]) -> bool
-    requires { length digits.now ≡ 2 * length bytes.old }
+    requires lengths { length digits.now ≡ 2 * length bytes.old }
     ensures found { result ≡ true → decode_of digits.now ≡ Ok bytes.new }
     ensures only { result ≡ false → (out : List ℕ) → decode_of digits.now ≢ Ok out }
 {

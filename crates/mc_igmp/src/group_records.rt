@@ -68,8 +68,8 @@ impl<'a> GroupRecords<'a> {
 
     /// So many records that follow one another and end with the bytes.
     pub(crate) fn new(count: usize, bytes: &'a [u8]) -> GroupRecords<'a>
-        requires { AreWholeRecords count bytes.now }
-        ensures { result ≡ records_in count bytes.now }
+        requires valid { AreWholeRecords count bytes.now }
+        ensures value { result ≡ records_in count bytes.now }
     {
         GroupRecords {
             left: count,

@@ -15,7 +15,7 @@ mod records;
 
 pub use fault::{ListFault, ListFaultKind};
 pub use group_records::GroupRecords;
-pub use laws::{report_lists_are_read_exactly, messages_are_read_exactly};
+pub use laws::{messages_are_read_exactly, report_lists_are_read_exactly};
 pub use list::{ListRecords, ReportList};
 pub use list_reader::ListReader;
 pub use message::{Message, MessageFault};

@@ -76,8 +76,8 @@ fn decode_line<'a>(
 
 /// The number of the first record, counted from 1, that tells of a change.
 fn first_change_of(records: &Records<'_>) -> Option<u32>
-    requires { length records.now < 2 ^ 16 }
-    ensures { result ≡ first_change 1 records.now }
+    requires bounded { length records.now < 2 ^ 16 }
+    ensures value { result ≡ first_change 1 records.now }
 {
     if records.has_no_changes() {
         return None;
@@ -93,7 +93,10 @@ fn first_change_of(records: &Records<'_>) -> Option<u32>
 }
 
 /// The records of the message on a line, none if the list takes it and it is no report.
-fn accepted_records_of_line(line_number: u32, bytes: &[u8]) -> Result<Option<Records<'_>>, ListFault>
+fn accepted_records_of_line(
+    line_number: u32,
+    bytes: &[u8],
+) -> Result<Option<Records<'_>>, ListFault>
     ensures { MatchResult result
         (λ records. accepted_records line_number (read_message bytes.now) ≡ Ok (unwrap_or records []))
         (λ fault. accepted_records line_number (read_message bytes.now) ≡ Err fault) }
@@ -223,8 +226,8 @@ impl ReportList {
 
     // Appends group records that follow one another in the bytes.
     fn append_bytes(&mut self, count: usize, bytes: &[u8]) -> Result<(), AllocError>
-        requires { AreWholeRecords count bytes.now }
-        ensures { OnOk result (self.new ≡ self.old ++ records_in count bytes.now) }
+        requires valid { AreWholeRecords count bytes.now }
+        ensures added { OnOk result (self.new ≡ self.old ++ records_in count bytes.now) }
     {
         self.bytes.extend_from_slice(bytes)?;
         self.count += count;

@@ -33,7 +33,7 @@ fn join_line<'a>(begun: &'a mut Vec<u8>, bytes: &'a [u8]) -> Result<&'a [u8], Al
 fn line_feed_after_digits(digits: usize, text: &[u8]) -> Option<usize>
     requires within { digits ≤ length text.now }
     requires digits { list_all is_hex_digit (take digits text.now) ≡ true }
-    ensures { result ≡ position (λ b. b == 10) text.now }
+    ensures value { result ≡ position (λ b. b == 10) text.now }
 {
     let place = find_byte(b'\n', &text[digits..])?;
     Some(digits + place)

@@ -49,8 +49,8 @@ pub enum MessageFault {
 
 /// What the bytes of a message with a right checksum stand for.
 fn parse_by_type(bytes: &[u8]) -> Result<Message<'_>, MessageFault>
-    requires { HEADER_LEN ≤ length bytes.now }
-    ensures { result ≡ read_by_type bytes.now (slice_index bytes.now 0) }
+    requires within { HEADER_LEN ≤ length bytes.now }
+    ensures value { result ≡ read_by_type bytes.now (slice_index bytes.now 0) }
 {
     match bytes[0] {
         VERSION_3_REPORT => {

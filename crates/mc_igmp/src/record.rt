@@ -124,8 +124,8 @@ impl<'a> Record<'a> {
 
 /// The group in bytes 4 to 7, where records and reports of versions 1 and 2 have it.
 pub(crate) fn group_of(bytes: &[u8]) -> Addr
-    requires { 8 ≤ length bytes.now }
-    ensures { result ≡ group_at bytes.now }
+    requires within { 8 ≤ length bytes.now }
+    ensures value { result ≡ group_at bytes.now }
 {
     Addr::from_octets([bytes[4], bytes[5], bytes[6], bytes[7]])
 }

@@ -16,11 +16,11 @@ ghost use Rattle.mc_input.specs.PartsReading.{first_lan_number};
 ghost use Rattle.mc_input.specs.SourceFault.{is_read};
 
 use crate::bundle_part::{cache_in, certificate_in, vifs_in, wanted_in};
+use crate::part_result::listed_pairs;
 use crate::slot_part::check_names_to_end;
 use crate::source_fault::SourceFault;
-use crate::part_result::listed_pairs;
-use mc_forward::{FlowChannels, Items, Tables};
 use mc_files::slot_count;
+use mc_forward::{FlowChannels, Items, Tables};
 use mc_tables::{CacheReader, ListedPairs};
 use mc_text::{Input, Parts};
 use mc_topology::{RouterNo, Topology};

@@ -23,12 +23,12 @@ ghost use Rattle.mc_input.specs.declared.source_fault.SourceFault.TheVariants.{I
 
 use crate::fault::InputFault;
 use crate::fed_part::feed_slot;
-use crate::slot_part::{open_named, open_slot, check_names_to_end, drain};
-use crate::source_fault::SourceFault;
 use crate::part_result::{cache_or_fault, topology_of, vifs_or_fault, wanted_or_fault};
+use crate::slot_part::{check_names_to_end, drain, open_named, open_slot};
+use crate::source_fault::SourceFault;
+use mc_files::Slot;
 use mc_forward::{FlowChannels, Items};
 use mc_igmp::ListReader;
-use mc_files::Slot;
 use mc_tables::{CacheReader, CacheTable, VifReader, VifTable};
 use mc_text::{Input, Part, Parts, collect_part};
 use mc_topology::Topology;

@@ -26,13 +26,13 @@ ghost use Rattle.mc_input.specs.declared.source_fault.SourceFault.TheVariants.{I
 
 use crate::bundle::read_contents;
 use crate::bundle_part::topology_in;
+use crate::excluded::check_names;
 use crate::file_part::topology_in as topology_of_files;
 use crate::files::read_contents as contents_of_files;
-use crate::excluded::check_names;
 use crate::source_fault::SourceFault;
 use crate::without_fault::WithoutFault;
-use mc_forward::Domain;
 use mc_files::PieceSource;
+use mc_forward::Domain;
 use mc_tables::CacheSummary;
 use mc_text::{Input, Parts};
 use mc_topology::Topology;
@@ -124,7 +124,7 @@ pub fn read_bundle_domain<R: Input>(
     input: &mut R,
     certified: bool,
 ) -> Result<BundleDomain, SourceFault>
-    requires { R.failed input.old < u64.MAX }
+    requires failures { R.failed input.old < u64.MAX }
     ensures same { R.borrows input.new ≡ R.borrows input.old }
     // The bundle means a domain with the certificate, and what was read says the same of each flow.
     ensures means { IfOk result (λ read. IfSome (R.remaining input.old) (λ text.
@@ -241,7 +241,7 @@ pub fn read_folder_domain<F: PieceSource>(
     without: &[&str],
     all: bool,
 ) -> Result<FolderDomain, WithoutFault>
-    requires { F.failed files.old < u64.MAX }
+    requires failures { F.failed files.old < u64.MAX }
     ensures same { F.borrows files.new ≡ F.borrows files.old }
     ensures kept { F.contents files.new ≡ F.contents files.old }
     // With the routers left out the files mean a domain, and what was read says the same of each

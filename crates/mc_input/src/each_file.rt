@@ -19,13 +19,13 @@ ghost use Rattle.mc_input.specs.SourceFault.{GivesFromContents};
 ghost use Rattle.mc_input.specs.declared.source_fault.SourceFault.TheVariants.{Input};
 
 use crate::domain::PIECE;
+use crate::excluded::is_excluded;
 use crate::fault::InputFault;
 use crate::file_part::{cache_in, topology_in, vifs_in, wanted_in};
-use crate::excluded::is_excluded;
-use crate::source_fault::SourceFault;
 use crate::part_result::summary_pairs;
-use mc_forward::FlowChannels;
+use crate::source_fault::SourceFault;
 use mc_files::{PieceSource, Slot, Unread};
+use mc_forward::FlowChannels;
 use mc_tables::SummaryPairs;
 use mc_text::{Memory, Order};
 use mc_topology::{LanNo, RouterNo, Topology};
@@ -50,7 +50,10 @@ pub struct RefusedFile {
 }
 
 /// The topology, unless the source counts no more failures.
-fn topology_unless_u64_max<F: PieceSource>(alloc: Global, files: &mut F) -> Result<Topology, SourceFault>
+fn topology_unless_u64_max<F: PieceSource>(
+    alloc: Global,
+    files: &mut F,
+) -> Result<Topology, SourceFault>
     ensures same { F.borrows files.new ≡ F.borrows files.old }
     ensures kept { F.contents files.new ≡ F.contents files.old }
     ensures topology { GivesFromContents (F.contents files.old) (λ topology. topology) result
@@ -297,7 +300,7 @@ fn judge_all_files<F: PieceSource>(
     without: &[&str],
     refused: &mut Vec<RefusedFile>,
 ) -> Result<(), Memory>
-    requires { refused.old.items ≡ [] }
+    requires empty { refused.old.items ≡ [] }
     ensures same { F.borrows files.new ≡ F.borrows files.old }
     ensures kept { F.contents files.new ≡ F.contents files.old }
     ensures refused { (contents : List FileText) → F.contents files.old ≡ Some contents →

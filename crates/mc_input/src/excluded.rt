@@ -19,8 +19,8 @@ ghost use Rattle.mc_input.specs.declared.source_fault.SourceFault.TheVariants.{I
 
 use crate::files::tables_of;
 use crate::without_fault::WithoutFault;
-use mc_forward::Tables;
 use mc_files::{MemoryFiles, Slot};
+use mc_forward::Tables;
 use mc_tables::{CacheSummary, SummaryPairs};
 use mc_text::{Memory, Order};
 use mc_topology::Topology;

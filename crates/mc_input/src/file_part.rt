@@ -13,11 +13,11 @@ ghost use Rattle.mc_input.specs.PartsReading.{topology_of as topology_reading, v
 ghost use Rattle.mc_input.specs.declared.source_fault.SourceFault.TheVariants.{Input};
 
 use crate::fed_file::feed_slot;
-use crate::source_fault::SourceFault;
 use crate::part_result::{cache_or_fault, topology_of, vifs_or_fault, wanted_or_fault};
+use crate::source_fault::SourceFault;
+use mc_files::{FileSource, PieceSource, Slot, part_of_file};
 use mc_forward::{FlowChannels, Items};
 use mc_igmp::ListReader;
-use mc_files::{FileSource, PieceSource, Slot, part_of_file};
 use mc_tables::{SummarizedCache, SummaryPairs, SummaryReader, VifReader, VifTable};
 use mc_text::Order;
 use mc_topology::Topology;

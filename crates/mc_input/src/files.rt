@@ -19,12 +19,12 @@ ghost use Rattle.mc_input.specs.PartsReading.{all_reports, all_tables, read_tabl
 ghost use Rattle.mc_input.specs.PartsReading.{router_tables};
 ghost use Rattle.mc_input.specs.declared.source_fault.SourceFault.TheVariants.{Input};
 
-use crate::file_part::{cache_in, vifs_in, wanted_in};
 use crate::excluded::{header_only_tables, is_excluded};
-use crate::source_fault::SourceFault;
+use crate::file_part::{cache_in, vifs_in, wanted_in};
 use crate::part_result::summary_pairs;
-use mc_forward::{FlowChannels, Items, Tables};
+use crate::source_fault::SourceFault;
 use mc_files::PieceSource;
+use mc_forward::{FlowChannels, Items, Tables};
 use mc_tables::{CacheSummary, SummaryPairs};
 use mc_text::Order;
 use mc_topology::{LanNo, RouterNo, Topology};

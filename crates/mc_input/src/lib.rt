@@ -7,27 +7,27 @@ mod bundle;
 mod bundle_part;
 mod domain;
 mod each_file;
+mod excluded;
 mod fault;
 mod fed_file;
 mod fed_part;
 mod file_part;
 mod files;
 mod laws;
-mod excluded;
+mod part_result;
 mod piece_reader;
 mod slot_part;
 mod source_fault;
-mod part_result;
 mod without_fault;
 
 pub use domain::{BundleDomain, FolderDomain, PIECE, read_bundle_domain, read_folder_domain};
 pub use each_file::{Refusal, RefusedFile, refused_files};
+pub use excluded::is_excluded;
 pub use fault::InputFault;
 pub use laws::{
-    files_denote_one_input, excluded_routers_have_no_vif_or_row, summaries_are_unique,
-    packed_bundle_denotes_input_of_files, excluded_routers_are_excluded_in_each_flow,
-    bundle_denotes_one_input,
+    bundle_denotes_one_input, excluded_routers_are_excluded_in_each_flow,
+    excluded_routers_have_no_vif_or_row, files_denote_one_input,
+    packed_bundle_denotes_input_of_files, summaries_are_unique,
 };
-pub use excluded::is_excluded;
 pub use source_fault::SourceFault;
 pub use without_fault::WithoutFault;

@@ -20,7 +20,7 @@ use mc_topology::Topology;
 
 /// Reads to the end of the bundle, whose framing has to be right.
 pub(crate) fn drain<R: Input>(parts: &mut Parts<R>) -> Result<(), SourceFault>
-    requires { parts.old.failed < u64.MAX }
+    requires failures { parts.old.failed < u64.MAX }
     ensures framing { (text : List ℕ) → parts.old.remaining ≡ Some text →
         Gives (λ done. done) result (map_fault refused (read_rest parts.old text (λ _. Ok tt))) }
     ensures advances { Advances parts.old parts.new }

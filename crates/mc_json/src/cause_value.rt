@@ -13,8 +13,8 @@ ghost use Rattle.mc_json.specs.CauseData.{unplaced_data, unplaced_kind};
 
 use crate::device_value::{NO_DEVICE, device_value};
 use crate::fields::Fields;
-use crate::row_value::{every_source_value, row_value};
 use crate::line_context::LineContext;
+use crate::row_value::{every_source_value, row_value};
 use mc_explain::Cause;
 use mc_forward::{FlowView, RowFor};
 use mc_tables::Vif;
@@ -164,7 +164,11 @@ fn unplaced_value(
 }
 
 /// The row that sent the copy.
-fn row_only_value(alloc: Global, context: &LineContext<'_>, router: RouterNo) -> Result<Value, AllocError>
+fn row_only_value(
+    alloc: Global,
+    context: &LineContext<'_>,
+    router: RouterNo,
+) -> Result<Value, AllocError>
     ensures { IfOk result (λ value. data_of value ≡ row_only_data (facts context.now.view.now.domain)
         context.now.flow.now ((net_in context.now.view.now).row router) router) }
 {
@@ -175,7 +179,12 @@ fn row_only_value(alloc: Global, context: &LineContext<'_>, router: RouterNo) ->
 }
 
 /// With which TTL a LAN is reached.
-fn least_ttl_value(alloc: Global, context: &LineContext<'_>, lan: LanNo, least: u8) -> Result<Value, AllocError>
+fn least_ttl_value(
+    alloc: Global,
+    context: &LineContext<'_>,
+    lan: LanNo,
+    least: u8,
+) -> Result<Value, AllocError>
     ensures { IfOk result (λ value. data_of value ≡ least_ttl_data (facts context.now.view.now.domain)
         context.now.flow.now lan least) }
 {
@@ -204,7 +213,13 @@ fn only_every_source_value(
         .router("router", context.view.topology(), router)
         .value(
             "row",
-            every_source_value(alloc, context.view, context.summary, context.flow.group, router),
+            every_source_value(
+                alloc,
+                context.view,
+                context.summary,
+                context.flow.group,
+                router,
+            ),
         )
         .count("vif", vif as u64)
         .object()
@@ -278,7 +293,9 @@ fn push_cause(
         Cause::Unplaced { router, vif } => {
             return push_unplaced_values(alloc, values, context, router, vif);
         }
-        Cause::OnlyEverySource { router, vif } => only_every_source_value(alloc, context, router, vif)?,
+        Cause::OnlyEverySource { router, vif } => only_every_source_value(
+            alloc, context, router, vif,
+        )?,
         Cause::LeastTtl { lan, least } => least_ttl_value(alloc, context, lan, least)?,
         Cause::StoppedAt {
             router,

@@ -61,8 +61,8 @@ fn push_vif(
     router: RouterNo,
     vif: u8,
 ) -> Result<(), AllocError>
-    requires { router < length domain.now.topology.routers }
-    ensures { OnOk result (map data_of values.new.items ≡ map data_of values.old.items
+    requires known { router < length domain.now.topology.routers }
+    ensures added { OnOk result (map data_of values.new.items ≡ map data_of values.old.items
         ++ vif_data (facts domain.now) router vif (vif_of domain.now.tables router vif)) }
 {
     let topology = domain.topology();
@@ -83,8 +83,8 @@ fn push_vifs(
     domain: &Domain,
     router: RouterNo,
 ) -> Result<(), AllocError>
-    requires { router < length domain.now.topology.routers }
-    ensures { OnOk result (map data_of values.new.items ≡ map data_of values.old.items
+    requires known { router < length domain.now.topology.routers }
+    ensures added { OnOk result (map data_of values.new.items ≡ map data_of values.old.items
         ++ vifs_data (facts domain.now) router) }
 {
     for vif in 0..32u8 {

@@ -63,7 +63,9 @@ fn event_value(alloc: Global, topology: &Topology, event: &Event) -> Result<Valu
         Outcome::Open => event_without_copies(alloc, topology, event, "open"),
         Outcome::NoRow => event_without_copies(alloc, topology, event, "no row"),
         Outcome::OtherVif => event_without_copies(alloc, topology, event, "other vif"),
-        Outcome::Sent { copies, strays } => event_with_copies(alloc, topology, event, copies, strays),
+        Outcome::Sent { copies, strays } => event_with_copies(
+            alloc, topology, event, copies, strays,
+        ),
     }
 }
 
@@ -84,7 +86,12 @@ pub(crate) fn event_values(
 }
 
 /// What is found at a LAN.
-fn finding_at_lan(alloc: Global, topology: &Topology, kind: &str, lan: LanNo) -> Result<Value, AllocError>
+fn finding_at_lan(
+    alloc: Global,
+    topology: &Topology,
+    kind: &str,
+    lan: LanNo,
+) -> Result<Value, AllocError>
     ensures { IfOk result (λ value. data_of value ≡ finding_at_lan topology.now kind.now lan) }
 {
     Fields::new(alloc)
@@ -102,7 +109,12 @@ fn clean_finding(alloc: Global) -> Result<Value, AllocError>
 }
 
 /// What is found at a vif that leads out of the listed LANs.
-fn stray_finding(alloc: Global, topology: &Topology, router: RouterNo, vif: u8) -> Result<Value, AllocError>
+fn stray_finding(
+    alloc: Global,
+    topology: &Topology,
+    router: RouterNo,
+    vif: u8,
+) -> Result<Value, AllocError>
     ensures { IfOk result (λ value. data_of value ≡ finding_data topology.now (Stray router vif)) }
 {
     Fields::new(alloc)

@@ -1,6 +1,7 @@
 //! What an audit tells, as JSON: an object a line.
 #![tactic(auto)]
 
+mod cause_value;
 mod device_value;
 mod domain_line;
 mod end_lines;
@@ -9,18 +10,18 @@ mod flow_fields;
 mod found_value;
 mod laws;
 mod line;
+mod line_context;
 mod name_values;
 mod right_line;
 mod row_value;
 mod search_value;
-mod line_context;
-mod cause_value;
 mod wanted;
 mod wrong_line;
 
 pub use domain_line::push_domain_line;
 pub use end_lines::{
-    push_summary_line, push_unlisted_lines, push_verdict_line, push_without_line, list_excluded_routers,
+    list_excluded_routers, push_summary_line, push_unlisted_lines, push_verdict_line,
+    push_without_line,
 };
 pub use laws::{each_line_is_an_object, the_verdict_is_a_line};
 pub use right_line::{push_right_line, push_tree_line};

@@ -11,8 +11,8 @@ use std::alloc::{AllocError, Global};
 
 /// Writes a value without a fraction, with no space, and a line feed behind it.
 pub(crate) fn push_line(alloc: Global, text: &mut String, value: &Value) -> Result<(), AllocError>
-    requires { has_float (data_of value.now) ≡ false }
-    ensures { OnOk result (string_bytes text.new ≡ string_bytes text.old ++ line_of (data_of value.now)) }
+    requires no_float { has_float (data_of value.now) ≡ false }
+    ensures added { OnOk result (string_bytes text.new ≡ string_bytes text.old ++ line_of (data_of value.now)) }
 {
     let line = value.to_string(alloc)?;
     text.push_str(line.as_str())?;

@@ -14,12 +14,12 @@ ghost use Rattle.mc_json.specs.SearchData.{reach_line, kind_lan_router, search_d
 ghost use Rattle.mc_json.specs.SearchData.{shown_line_data, stopped_line, waits_for_line, kind_lan_router_device};
 ghost use Rattle.mc_json.specs.CauseData.{router_data};
 
+use crate::cause_value::{incoming_device, incoming_vif};
 use crate::device_value::{NO_DEVICE, device_name, device_value};
 use crate::fields::Fields;
+use crate::line_context::LineContext;
 use crate::name_values::router_names;
 use crate::row_value::{every_source_value, row_value};
-use crate::line_context::LineContext;
-use crate::cause_value::{incoming_device, incoming_vif};
 use mc_explain::{ExpectingRouters, LanSearch, SearchLine, ShownLine, ShownLines};
 use mc_forward::{FlowView, RowFor};
 use mc_tables::Vif;
@@ -107,7 +107,13 @@ fn every_source_line_value(
         .router("router", topology, router)
         .value(
             "row",
-            every_source_value(alloc, context.view, context.summary, context.flow.group, router),
+            every_source_value(
+                alloc,
+                context.view,
+                context.summary,
+                context.flow.group,
+                router,
+            ),
         )
         .object()
 }
@@ -256,7 +262,11 @@ fn expected_value(
 }
 
 /// A line of a search.
-fn search_line_value(alloc: Global, context: &LineContext<'_>, line: SearchLine) -> Result<Value, AllocError>
+fn search_line_value(
+    alloc: Global,
+    context: &LineContext<'_>,
+    line: SearchLine,
+) -> Result<Value, AllocError>
     ensures { IfOk result (λ value. data_of value ≡ search_line_data (facts context.now.view.now.domain)
         context.now.summary.now context.now.view.now.flow context.now.flow.now line) }
 {
@@ -272,12 +282,18 @@ fn search_line_value(alloc: Global, context: &LineContext<'_>, line: SearchLine)
             router,
             interface,
         } => kind_lan_router_device(alloc, topology, "not_multicast", lan, router, interface),
-        SearchLine::NoRow { lan, router } => kind_lan_router(alloc, topology, "no_row", lan, router),
+        SearchLine::NoRow { lan, router } => kind_lan_router(
+            alloc, topology, "no_row", lan, router,
+        ),
         SearchLine::Unresolved { lan, router } => {
             kind_lan_router(alloc, topology, "unresolved", lan, router)
         }
-        SearchLine::EverySource { lan, router } => every_source_line_value(alloc, context, lan, router),
-        SearchLine::FromUnplaced { lan, router } => from_unplaced_value(alloc, context, lan, router),
+        SearchLine::EverySource { lan, router } => every_source_line_value(
+            alloc, context, lan, router,
+        ),
+        SearchLine::FromUnplaced { lan, router } => from_unplaced_value(
+            alloc, context, lan, router,
+        ),
         SearchLine::DoesNotSend {
             lan,
             router,
@@ -298,15 +314,22 @@ fn search_line_value(alloc: Global, context: &LineContext<'_>, line: SearchLine)
             vif,
             from,
         } => waits_for_value(alloc, context, lan, router, vif, from),
-        SearchLine::ExpectedFromHere { lan, router } => { expected_value(alloc, topology, lan, &[router]) }
+        SearchLine::ExpectedFromHere { lan, router } => {
+            expected_value(alloc, topology, lan, &[router])
+        }
         SearchLine::NoRouter { lan } => kind_and_lan(alloc, topology, "no_router", lan),
         SearchLine::NoSender { lan } => kind_and_lan(alloc, topology, "no_sender", lan),
-        SearchLine::Excluded { lan, router } => kind_lan_router(alloc, topology, "left_out", lan, router),
+        SearchLine::Excluded { lan, router } => kind_lan_router(
+            alloc, topology, "left_out", lan, router,
+        ),
     }
 }
 
 /// Routers that stand in one line.
-fn collect_routers(alloc: Global, routers: ExpectingRouters<'_>) -> Result<Vec<RouterNo>, AllocError>
+fn collect_routers(
+    alloc: Global,
+    routers: ExpectingRouters<'_>,
+) -> Result<Vec<RouterNo>, AllocError>
     ensures { IfOk result (λ list. list.items ≡ routers.entry) }
 {
     let mut list = Vec::new(alloc);
@@ -317,7 +340,11 @@ fn collect_routers(alloc: Global, routers: ExpectingRouters<'_>) -> Result<Vec<R
 }
 
 /// A line of a search as it is shown.
-fn shown_line_value(alloc: Global, context: &LineContext<'_>, line: ShownLine<'_>) -> Result<Value, AllocError>
+fn shown_line_value(
+    alloc: Global,
+    context: &LineContext<'_>,
+    line: ShownLine<'_>,
+) -> Result<Value, AllocError>
     ensures { IfOk result (λ value. data_of value ≡ shown_line_data (facts context.now.view.now.domain)
         context.now.summary.now context.now.view.now.flow context.now.flow.now line.entry) }
 {

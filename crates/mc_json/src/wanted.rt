@@ -33,7 +33,7 @@ pub(crate) fn lans_wanting(alloc: Global, view: &FlowView<'_>) -> Result<Vec<Lan
 
 /// Marks the LANs of copies.
 fn mark_lans(marks: &mut [bool], copies: &[CarriedCopy])
-    requires { All (λ c. c.lan < length marks.old) copies.now }
+    requires within { All (λ c. c.lan < length marks.old) copies.now }
     ensures count { length marks.new ≡ length marks.old }
     ensures marks { (lan : ℕ) → slice_index_or marks.new lan false
         ≡ (slice_index_or marks.old lan false || is_some (first_copy_on copies.now lan)) }
@@ -47,7 +47,7 @@ fn mark_lans(marks: &mut [bool], copies: &[CarriedCopy])
 fn is_wanted_and_unmarked(view: &FlowView<'_>, marks: &[bool], missed: LanNo, lan: LanNo) -> bool
     requires listed { lan < length view.now.domain.topology.lans }
     requires marked { lan < length marks.now }
-    ensures { (copies : List Copy) → AreMarksOfCopies marks.now copies →
+    ensures marked { (copies : List Copy) → AreMarksOfCopies marks.now copies →
         result ≡ is_also_missed (facts view.now.domain) view.now.flow copies missed lan }
 {
     view.wants(lan) && !marks[lan.0 as usize] && lan != missed
@@ -60,8 +60,8 @@ fn unmarked_lans(
     marks: &[bool],
     missed: LanNo,
 ) -> Result<Vec<LanNo>, AllocError>
-    requires { length view.now.domain.topology.lans ≤ length marks.now }
-    ensures { (copies : List Copy) → AreMarksOfCopies marks.now copies → IfOk result (λ lans. lans.items ≡
+    requires within { length view.now.domain.topology.lans ≤ length marks.now }
+    ensures marked { (copies : List Copy) → AreMarksOfCopies marks.now copies → IfOk result (λ lans. lans.items ≡
         filter (is_also_missed (facts view.now.domain) view.now.flow copies missed)
         (below (length view.now.domain.topology.lans))) }
 {

@@ -15,16 +15,16 @@ ghost use Rattle.mc_json.specs.RowData.{count_data, list_data, members};
 ghost use Rattle.mc_json.specs.CauseData.{lan_data};
 ghost use Rattle.mc_json.specs.WhyData.{why_data};
 
+use crate::cause_value::push_causes;
 use crate::fields::Fields;
 use crate::flow_fields::flow_fields;
 use crate::found_value::{event_values, finding_value};
 use crate::line::push_line;
+use crate::line_context::LineContext;
 use crate::name_values::lan_names;
 use crate::search_value::push_search_values;
-use crate::line_context::LineContext;
-use crate::cause_value::push_causes;
 use crate::wanted::missed_besides;
-use mc_explain::{LanSearch, Cause};
+use mc_explain::{Cause, LanSearch};
 use mc_forward::{Domain, FlowView};
 use mc_replay::FinishedTravel;
 use mc_tables::CacheSummary;
@@ -103,8 +103,8 @@ fn push_wrong_flow(
     events_asked: bool,
     why: Vec<Value>,
 ) -> Result<(), AllocError>
-    requires { items_have_float (items_of (map data_of why.items)) ≡ false }
-    ensures { OnOk result (string_bytes text.new ≡ string_bytes text.old
+    requires no_float { items_have_float (items_of (map data_of why.items)) ≡ false }
+    ensures added { OnOk result (string_bytes text.new ≡ string_bytes text.old
         ++ wrong_line_of_travel number flow.now ended.now found_ttl (map data_of why.items) events_asked) }
 {
     let value = wrong_value(alloc, number, flow, ended, found_ttl, events_asked, why)?;
@@ -112,7 +112,11 @@ fn push_wrong_flow(
 }
 
 /// The lines of an explanation.
-fn cause_values(alloc: Global, context: &LineContext<'_>, causes: &[Cause]) -> Result<Vec<Value>, AllocError>
+fn cause_values(
+    alloc: Global,
+    context: &LineContext<'_>,
+    causes: &[Cause],
+) -> Result<Vec<Value>, AllocError>
     ensures { IfOk result (λ values. map data_of values.items ≡ why_data
         (facts context.now.view.now.domain) context.now.summary.now context.now.view.now.flow context.now.flow.now causes.now
         None) }
@@ -172,7 +176,16 @@ pub fn push_missed_line(
         summary,
     };
     let why = cause_and_search_values(alloc, &context, causes, search)?;
-    push_wrong_flow(alloc, text, flow, listed, ended, found_ttl, events_asked, why)?;
+    push_wrong_flow(
+        alloc,
+        text,
+        flow,
+        listed,
+        ended,
+        found_ttl,
+        events_asked,
+        why,
+    )?;
     Ok(())
 }
 
@@ -208,6 +221,15 @@ pub fn push_wrong_line(
         summary,
     };
     let why = cause_values(alloc, &context, causes)?;
-    push_wrong_flow(alloc, text, flow, listed, ended, found_ttl, events_asked, why)?;
+    push_wrong_flow(
+        alloc,
+        text,
+        flow,
+        listed,
+        ended,
+        found_ttl,
+        events_asked,
+        why,
+    )?;
     Ok(())
 }

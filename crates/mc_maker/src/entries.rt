@@ -25,8 +25,8 @@ pub(crate) fn entry_at(by_lan: &PerLan<Reached>, place: Option<LanNo>) -> Option
 /// The least TTL with which packets come over a pair with this threshold, from a LAN with this
 /// entry.
 fn need_over(threshold: u8, base: Option<Reached>) -> u8
-    requires { need_over threshold base ≤ 255 }
-    ensures { result ≡ need_over threshold base }
+    requires bounded { need_over threshold base ≤ 255 }
+    ensures value { result ≡ need_over threshold base }
 {
     match base {
         Some(base) => base.need.max(base.rank + threshold + 1),
@@ -36,8 +36,8 @@ fn need_over(threshold: u8, base: Option<Reached>) -> u8
 
 /// The least TTL with which packets are sent by a router's vif.
 fn need_at_vif(view: &FlowView<'_>, by_lan: &PerLan<Reached>, router: RouterNo, vif: u8) -> u8
-    requires { need_by_held_entries (net_in view.now) by_lan.now (Some (router, vif)) ≤ 255 }
-    ensures { result ≡ need_by_held_entries (net_in view.now) by_lan.now (Some (router, vif)) }
+    requires bounded { need_by_held_entries (net_in view.now) by_lan.now (Some (router, vif)) ≤ 255 }
+    ensures value { result ≡ need_by_held_entries (net_in view.now) by_lan.now (Some (router, vif)) }
 {
     match view.row(router) {
         RowFor::Exact(entry) => {
@@ -49,9 +49,13 @@ fn need_at_vif(view: &FlowView<'_>, by_lan: &PerLan<Reached>, router: RouterNo, 
 }
 
 /// The least TTL with which packets reach the LAN of a copy with this sender, 1 for the source's.
-fn need_of_sender(view: &FlowView<'_>, by_lan: &PerLan<Reached>, sender: Option<(RouterNo, u8)>) -> u8
-    requires { need_by_held_entries (net_in view.now) by_lan.now sender ≤ 255 }
-    ensures { result ≡ need_by_held_entries (net_in view.now) by_lan.now sender }
+fn need_of_sender(
+    view: &FlowView<'_>,
+    by_lan: &PerLan<Reached>,
+    sender: Option<(RouterNo, u8)>,
+) -> u8
+    requires bounded { need_by_held_entries (net_in view.now) by_lan.now sender ≤ 255 }
+    ensures value { result ≡ need_by_held_entries (net_in view.now) by_lan.now sender }
 {
     match sender {
         Some((router, vif)) => need_at_vif(view, by_lan, router, vif),
@@ -61,8 +65,8 @@ fn need_of_sender(view: &FlowView<'_>, by_lan: &PerLan<Reached>, sender: Option<
 
 /// The entry of a copy, after those of the earlier ones.
 fn entry_of_copy(view: &FlowView<'_>, by_lan: &PerLan<Reached>, copy: &CarriedCopy) -> Reached
-    requires { need_by_held_entries (net_in view.now) by_lan.now copy.now.sender ≤ 255 }
-    ensures { result ≡ entry_by_held_entries (net_in view.now) by_lan.now copy.now }
+    requires bounded { need_by_held_entries (net_in view.now) by_lan.now copy.now.sender ≤ 255 }
+    ensures value { result ≡ entry_by_held_entries (net_in view.now) by_lan.now copy.now }
 {
     Reached {
         lan: copy.lan,
@@ -77,7 +81,7 @@ fn put_entries(view: &FlowView<'_>, by_lan: &mut PerLan<Reached>, copies: &[Carr
     requires empty { AreEntriesByLan by_lan.old [] }
     requires lans { All (λ c. c.lan < length by_lan.old) copies.now }
     requires needs { All (λ e. e.need ≤ 255) (entries_of (net_in view.now) copies.now) }
-    ensures { AreEntriesByLan by_lan.new (entries_of (net_in view.now) copies.now) }
+    ensures meaning { AreEntriesByLan by_lan.new (entries_of (net_in view.now) copies.now) }
 {
     for copy in copies {
         let entry = entry_of_copy(view, by_lan, copy);
@@ -93,7 +97,7 @@ pub(crate) fn entries_by_lan(
 ) -> Result<PerLan<Reached>, Memory>
     requires lans { All (λ c. c.lan < length view.now.domain.topology.lans) copies.now }
     requires needs { All (λ e. e.need ≤ 255) (entries_of (net_in view.now) copies.now) }
-    ensures { IfOk result (λ by_lan.
+    ensures ok { IfOk result (λ by_lan.
         AreEntriesByLan by_lan (entries_of (net_in view.now) copies.now)) }
 {
     let mut by_lan = PerLan::new(alloc, view.lans())?;

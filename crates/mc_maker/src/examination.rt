@@ -41,7 +41,7 @@ pub enum Examined {
 ///
 /// `Memory` where a growth was refused.
 pub fn examine(alloc: Global, domain: &Domain, flow: u32) -> Result<Examined, Memory>
-    requires { flow < length domain.now.topology.flows }
+    requires known { flow < length domain.now.topology.flows }
     // The entries of a certified flow are accepted,
     ensures accepted { IfOk result (IfCertified (IsAccepted (net_of domain.now flow))) }
     // by ascending numbers of their LANs,
@@ -81,7 +81,7 @@ pub fn examine(alloc: Global, domain: &Domain, flow: u32) -> Result<Examined, Me
 ///
 /// `Memory` where a growth was refused.
 pub fn make(alloc: Global, domain: &Domain, flow: u32) -> Result<Option<Vec<Reached>>, Memory>
-    requires { flow < length domain.now.topology.flows }
+    requires known { flow < length domain.now.topology.flows }
     // The entries are accepted,
     ensures accepted { IfOk result (λ made. IfSome made (λ es.
         IsAccepted (net_of domain.now flow) es.items)) }

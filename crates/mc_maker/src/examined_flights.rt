@@ -16,7 +16,7 @@ use crate::entries::{entries_by_lan, entries_in_lan_order};
 use crate::served::serves_all;
 use mc_cert::Reached;
 use mc_forward::{CarriedCopy, Domain, FlowView};
-use mc_replay::{FinishedTravel, Finding, First, Travel, replay_to_end};
+use mc_replay::{Finding, FinishedTravel, First, Travel, replay_to_end};
 use mc_text::Memory;
 use std::alloc::Global;
 
@@ -43,7 +43,7 @@ fn certificate_of(
     view: &FlowView<'_>,
     copies: &[CarriedCopy],
 ) -> Result<Option<Vec<Reached>>, Memory>
-    requires { AreCleanCopies view.now.domain view.now.flow copies.now }
+    requires valid { AreCleanCopies view.now.domain view.now.flow copies.now }
     ensures accepted { IfOk result (λ made. IfSome made (λ es.
         IsAccepted (net_in view.now) es.items)) }
     ensures ascending { IfOk result (λ made. IfSome made (λ es.
@@ -70,8 +70,12 @@ fn certificate_of(
 /// # Errors
 ///
 /// `Memory` where a growth was refused.
-pub fn examine_to_end<'d>(alloc: Global, domain: &'d Domain, flow: u32) -> Result<ExaminedFlights<'d>, Memory>
-    requires { flow < length domain.now.topology.flows }
+pub fn examine_to_end<'d>(
+    alloc: Global,
+    domain: &'d Domain,
+    flow: u32,
+) -> Result<ExaminedFlights<'d>, Memory>
+    requires known { flow < length domain.now.topology.flows }
     // The entries of a certified flow are accepted,
     ensures accepted { IfOk result (λ examined_flights. IfCertified (IsAccepted (net_of domain.now flow))
         (without_flights domain.now flow examined_flights)) }

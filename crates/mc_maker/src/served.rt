@@ -11,8 +11,8 @@ use mc_forward::FlowView;
 
 /// Whether all packets of the flow meet the need of an entry, if its LAN wants the flow.
 fn serves(view: &FlowView<'_>, entry: &Reached) -> bool
-    requires { entry.now.lan < length view.now.domain.topology.lans }
-    ensures { result ≡ serves (net_in view.now) entry.now }
+    requires within { entry.now.lan < length view.now.domain.topology.lans }
+    ensures value { result ≡ serves (net_in view.now) entry.now }
 {
     entry.need <= view.ttl() || !view.wants(entry.lan)
 }
@@ -20,7 +20,7 @@ fn serves(view: &FlowView<'_>, entry: &Reached) -> bool
 /// Whether each LAN of these entries is served, if it wants the flow. Where a travel found nothing,
 /// each LAN that wants the flow has an entry.
 pub(crate) fn serves_all(view: &FlowView<'_>, entries: &[Reached]) -> bool
-    requires { All (λ e. e.lan < length view.now.domain.topology.lans) entries.now }
+    requires within { All (λ e. e.lan < length view.now.domain.topology.lans) entries.now }
     ensures rules { IsFlowOfDomain view.now }
     ensures each { IsTrue result → All (λ e. serves (net_in view.now) e ≡ true) entries.now }
     ensures some { IsFalse result →

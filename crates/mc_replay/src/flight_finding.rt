@@ -22,8 +22,8 @@ fn walk_back_reaches_own_lan(
     firsts: &PerLan<CarriedCopy>,
     copy: &CarriedCopy,
 ) -> bool
-    requires { HoldsFirstOfEachKey (λ c. c.lan) firsts.now copies.now }
-    ensures { result ≡ walk_visits (net_in view.now) copies.now copy.now.lan (length copies.now)
+    requires given { HoldsFirstOfEachKey (λ c. c.lan) firsts.now copies.now }
+    ensures value { result ≡ walk_visits (net_in view.now) copies.now copy.now.lan (length copies.now)
         copy.now.sender }
 {
     let mut sender = copy.sender;
@@ -82,7 +82,7 @@ pub(crate) fn finding_of(
 ) -> Option<Finding>
     requires firsts { HoldsFirstOfEachKey (λ c. c.lan) firsts.now flight.now.flight.carried }
     requires second { second ≡ first_double [] flight.now.flight.carried }
-    ensures { optional_finding_value result ≡ finding (net_in view.now)
+    ensures meaning { optional_finding_value result ≡ finding (net_in view.now)
         (length view.now.domain.topology.lans) flight.now.flight }
 {
     if let Some(copy) = second {

@@ -14,7 +14,7 @@ pub trait Picker {
     /// The index of one of so many waiting copies: the first of its numbers, modulo so many, or
     /// after all numbers 0 or the greatest index.
     fn pick(&mut self, waiting: usize) -> usize
-        requires { 0 < waiting }
+        requires positive { 0 < waiting }
         ensures value { result ≡
             choice waiting (choices self.old).numbers (choices self.old).last }
         ensures rest { choices self.new ≡ after_choice (choices self.old) };

@@ -5,7 +5,7 @@ ghost use Rattle.mc_replay.specs.TravelText.{event_text, finding_text, outcome_t
 
 use crate::finding::Finding;
 use mc_forward::{Event, Outcome};
-use mc_topology::{WordAtLan, WordAtVif, Topology};
+use mc_topology::{Topology, WordAtLan, WordAtVif};
 use std::fmt;
 
 /// An outcome as it is written, as `sent 1 strayed 0`.

@@ -21,14 +21,14 @@ use crate::audit_flow::push_flow;
 use crate::audit_options::AuditOptions;
 use crate::audit_output::{AuditAnswer, AuditOutput, with_unwanted};
 use crate::audited_domain::AuditedDomain;
-use crate::fault::RunFault;
 use crate::excluded::excluded_marks;
-use crate::run_output::{RunOutput, write_output};
+use crate::fault::RunFault;
 use crate::flow_status::FlowCounts;
+use crate::run_output::{RunOutput, write_output};
 use mc_cert::DistinctTrees;
-use mc_input::{FolderDomain, read_folder_domain};
 use mc_explain::InterfacesOfLans;
 use mc_files::PieceSource;
+use mc_input::{FolderDomain, read_folder_domain};
 use mc_text::{Memory as NoMemory, Output};
 use std::alloc::Global;
 
@@ -40,8 +40,8 @@ fn push_flows(
     options: AuditOptions,
     text: &mut String,
 ) -> Result<FlowCounts, NoMemory>
-    requires { HasItsMarksAndInterfaces audited.now }
-    ensures { IfOk result (λ flow_counts. (printed : List Tree) × AreFlowsPushed (audited_value audited.now) options
+    requires valid { HasItsMarksAndInterfaces audited.now }
+    ensures ok { IfOk result (λ flow_counts. (printed : List Tree) × AreFlowsPushed (audited_value audited.now) options
         (length (audited_value audited.now).domain.topology.flows) flow_counts printed (string_bytes text.old)
         (string_bytes text.new)) }
 {
@@ -69,7 +69,7 @@ fn audit_all(
     audited: &AuditedDomain<'_>,
     options: AuditOptions,
 ) -> Result<AuditOutput, NoMemory>
-    requires { HasItsMarksAndInterfaces audited.now }
+    requires valid { HasItsMarksAndInterfaces audited.now }
     ensures text { IfOk result (λ audit. IsAudited (audited_value audited.now) options audit.run_output.yes
         (string_bytes audit.run_output.text)) }
     ensures unwanted { IfOk result (λ audit. HasUnwanted (audited_value audited.now) options audit.unwanted) }
@@ -121,7 +121,7 @@ fn audit_files<F: PieceSource>(
     options: AuditOptions,
     without: &[&str],
 ) -> Result<AuditOutput, RunFault>
-    requires { F.failed files.old < u64.MAX }
+    requires failures { F.failed files.old < u64.MAX }
     ensures same { F.borrows files.new ≡ F.borrows files.old }
     ensures text { IfOk result (λ audit. IfSome (F.contents files.old) (λ files.
         IsAuditText options (map (λ name. name.now) without.now) files audit.run_output.yes

@@ -14,8 +14,8 @@ use crate::verdict_text::push_overall_verdict;
 use mc_explain::{push_excluded, push_unlisted, push_without_lines};
 use mc_forward::Domain;
 use mc_json::{
-    push_domain_line, push_summary_line, push_unlisted_lines, push_verdict_line, push_without_line,
-    list_excluded_routers,
+    list_excluded_routers, push_domain_line, push_summary_line, push_unlisted_lines,
+    push_verdict_line, push_without_line,
 };
 use mc_text::Memory as NoMemory;
 use mc_topology::{RouterNo, Topology};

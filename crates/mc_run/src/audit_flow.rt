@@ -72,7 +72,7 @@ fn push_found_at_255(
     requires examined { IsExamined (audited_value audited.now).domain flow
         (without_flights (audited_value audited.now).domain flow flown.now) }
     requires is { flown.now ≡ FoundAtTtl255 ended.now }
-    ensures { IfOk result (λ flow_status. (shown_trees : List Tree) → IsFlowPushed (audited_value audited.now) options
+    ensures ok { IfOk result (λ flow_status. (shown_trees : List Tree) → IsFlowPushed (audited_value audited.now) options
         flow flow_status shown_trees shown_trees (string_bytes text.old) (string_bytes text.new)) }
 {
     let causes = causes_to_print(alloc, audited, flow, flown)?;
@@ -99,7 +99,7 @@ fn push_found_at_flow_ttl(
     requires examined { IsExamined (audited_value audited.now).domain flow
         (without_flights (audited_value audited.now).domain flow flown.now) }
     requires is { flown.now ≡ FoundAtFlowTtl greatest.now least.now }
-    ensures { IfOk result (λ flow_status. (shown_trees : List Tree) → IsFlowPushed (audited_value audited.now) options
+    ensures ok { IfOk result (λ flow_status. (shown_trees : List Tree) → IsFlowPushed (audited_value audited.now) options
         flow flow_status shown_trees shown_trees (string_bytes text.old) (string_bytes text.new)) }
 {
     let ttl = audited.domain.topology().flow(flow).ttl;
@@ -126,7 +126,7 @@ fn push_examined(
     requires flown { HasExaminedFlights (audited_value audited.now).domain flow flown.now }
     requires examined { IsExamined (audited_value audited.now).domain flow
         (without_flights (audited_value audited.now).domain flow flown.now) }
-    ensures { IfOk result (λ flow_status. IsFlowPushed (audited_value audited.now) options flow flow_status shown_trees.old
+    ensures ok { IfOk result (λ flow_status. IsFlowPushed (audited_value audited.now) options flow flow_status shown_trees.old
         shown_trees.new (string_bytes text.old) (string_bytes text.new)) }
 {
     match flown {
@@ -155,7 +155,7 @@ pub(crate) fn push_flow(
     requires flow { flow < length (audited_value audited.now).domain.topology.flows }
     requires ready { HasItsMarksAndInterfaces audited.now }
     requires few { length shown_trees.old < 4096 }
-    ensures { IfOk result (λ flow_status. IsFlowPushed (audited_value audited.now) options flow flow_status shown_trees.old
+    ensures ok { IfOk result (λ flow_status. IsFlowPushed (audited_value audited.now) options flow flow_status shown_trees.old
         shown_trees.new (string_bytes text.old) (string_bytes text.new)) }
 {
     let flown = examine_to_end(alloc, audited.domain, flow)?;

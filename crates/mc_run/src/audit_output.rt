@@ -32,7 +32,12 @@ impl AuditOutput {
         ensures unwanted { (run_output : AuditOutputValue) → audit ≡ Ok run_output → result.1 ≡ run_output.unwanted }
     {
         match audit {
-            Ok(AuditOutput { run_output, unwanted }) => (Ok(run_output), unwanted),
+            Ok(
+                AuditOutput {
+                    run_output,
+                    unwanted,
+                },
+            ) => (Ok(run_output), unwanted),
             Err(fault) => (Err(fault), 0),
         }
     }

@@ -57,7 +57,7 @@ fn push_right_lines(
     flow: u32,
     copies: u32,
 ) -> Result<FlowStatus, NoMemory>
-    requires { flow < length (audited_value audited.now).domain.topology.flows }
+    requires known { flow < length (audited_value audited.now).domain.topology.flows }
     ensures flow_status { IfOk result (λ flow_status.
         flow_status ≡ status_of_right (lans_wanting (facts (audited_value audited.now).domain) flow)) }
     ensures lines { OnOk result ((listed : FlowValue) →
@@ -86,7 +86,7 @@ fn push_tree_once(
     shown_trees: &mut DistinctTrees,
     entries: &[Reached],
 ) -> Result<u32, NoMemory>
-    requires { length shown_trees.old < 4096 }
+    requires bounded { length shown_trees.old < 4096 }
     ensures shown_trees { OnOk result (shown_trees.new ≡ with_tree shown_trees.old entries.now) }
     ensures number { IfOk result (λ number. number ≡ tree_number_of shown_trees.new entries.now) }
     ensures line { OnOk result (string_bytes text.new ≡
@@ -102,8 +102,8 @@ fn push_tree_once(
 
 /// How a flow that is right stands.
 fn status_of(domain: &Domain, flow: u32) -> FlowStatus
-    requires { flow < length domain.now.topology.flows }
-    ensures { result ≡ status_of_right (lans_wanting (facts domain.now) flow) }
+    requires known { flow < length domain.now.topology.flows }
+    ensures value { result ≡ status_of_right (lans_wanting (facts domain.now) flow) }
 {
     if count_wanted(domain, flow) == 0 {
         FlowStatus::Unwanted
@@ -208,7 +208,16 @@ fn push_with_verdict(
 {
     match answer {
         Ok(Verdict::Yes { copies }) => {
-            push_right(alloc, audited, flow, entries, copies, options, shown_trees, text)
+            push_right(
+                alloc,
+                audited,
+                flow,
+                entries,
+                copies,
+                options,
+                shown_trees,
+                text,
+            )
         }
         Ok(Verdict::No(_)) => Ok(FlowStatus::Wrong),
         Err(_) => Err(NoMemory),
@@ -244,5 +253,14 @@ pub(crate) fn push_checked(
         entries.now (lans_wanting (facts (audited_value audited.now).domain) flow)) }
 {
     let answer = check_flow(alloc, audited.domain, flow, entries);
-    push_with_verdict(alloc, audited, flow, entries, answer, options, shown_trees, text)
+    push_with_verdict(
+        alloc,
+        audited,
+        flow,
+        entries,
+        answer,
+        options,
+        shown_trees,
+        text,
+    )
 }

@@ -17,9 +17,9 @@ use crate::audit_options::AuditOptions;
 use crate::audited_domain::AuditedDomain;
 use crate::found_text::push_found_lines;
 use crate::travel_text::push_events;
-use mc_explain::{LanSearch, Cause, push_also_missed, push_search, push_causes, search};
+use mc_explain::{Cause, LanSearch, push_also_missed, push_causes, push_search, search};
 use mc_json::{push_missed_line, push_wrong_line};
-use mc_replay::{FinishedTravel, Finding, Travel};
+use mc_replay::{Finding, FinishedTravel, Travel};
 use mc_text::Memory as NoMemory;
 use mc_topology::Topology;
 use std::alloc::Global;
@@ -34,7 +34,7 @@ pub(crate) fn search_if_missed(
     requires flow { flow < length (audited_value audited.now).domain.topology.flows }
     requires ready { HasItsMarksAndInterfaces audited.now }
     requires ended { IsFinishedTravelOf (audited_value audited.now).domain flow 255 ended.now }
-    ensures { IfOk result (IsSearchIfMissed (search_context (facts (audited_value audited.now).domain)
+    ensures ok { IfOk result (IsSearchIfMissed (search_context (facts (audited_value audited.now).domain)
         (audited_value audited.now).summary (excluded (audited_value audited.now)) flow ended.now.flight.flight.carried)
         ended.now.travel.events.items ended.now.travel.finding) }
 {
@@ -64,8 +64,8 @@ fn push_search_if_any(
     flow: u32,
     found: &Option<LanSearch>,
 ) -> Result<(), NoMemory>
-    requires { flow < length (audited_value audited.now).domain.topology.flows }
-    ensures { OnOk result ((listed : FlowValue) →
+    requires known { flow < length (audited_value audited.now).domain.topology.flows }
+    ensures added { OnOk result ((listed : FlowValue) →
         slice_get (audited_value audited.now).domain.topology.flows flow ≡ Some listed →
         string_bytes text.new ≡ string_bytes text.old
         ++ searched_lines (facts (audited_value audited.now).domain) (audited_value audited.now).summary flow listed
@@ -101,7 +101,7 @@ fn push_explanation(
 ) -> Result<(), NoMemory>
     requires flow { flow < length (audited_value audited.now).domain.topology.flows }
     requires domain { ended.now.flight.domain ≡ (audited_value audited.now).domain }
-    ensures { OnOk result ((listed : FlowValue) →
+    ensures added { OnOk result ((listed : FlowValue) →
         slice_get (audited_value audited.now).domain.topology.flows flow ≡ Some listed →
         string_bytes text.new ≡ string_bytes text.old
         ++ explanation_lines (facts (audited_value audited.now).domain) (audited_value audited.now).summary flow listed
@@ -142,7 +142,7 @@ fn push_wrong_lines(
 ) -> Result<(), NoMemory>
     requires flow { flow < length (audited_value audited.now).domain.topology.flows }
     requires domain { ended.now.flight.domain ≡ (audited_value audited.now).domain }
-    ensures { OnOk result ((listed : FlowValue) →
+    ensures added { OnOk result ((listed : FlowValue) →
         slice_get (audited_value audited.now).domain.topology.flows flow ≡ Some listed →
         string_bytes text.new ≡ string_bytes text.old
         ++ wrong_lines travels (facts (audited_value audited.now).domain) (audited_value audited.now).summary flow listed
@@ -176,18 +176,24 @@ fn push_wrong_object(
 ) -> Result<(), NoMemory>
     requires flow { flow < length (audited_value audited.now).domain.topology.flows }
     requires domain { ended.now.flight.domain ≡ (audited_value audited.now).domain }
-    ensures { OnOk result ((listed : FlowValue) →
+    ensures added { OnOk result ((listed : FlowValue) →
         slice_get (audited_value audited.now).domain.topology.flows flow ≡ Some listed →
         string_bytes text.new ≡ string_bytes text.old
         ++ wrong_object travels (facts (audited_value audited.now).domain) (audited_value audited.now).summary flow
         listed ttl ended.now.travel (explanation_in ended.now causes.now found.now)) }
 {
-    let AuditedDomain { domain, summary, .. } = *audited;
+    let AuditedDomain {
+        domain,
+        summary,
+        ..
+    } = *audited;
     match found {
         Some(found) => push_missed_line(
             alloc, text, domain, summary, flow, ended, ttl, travels, causes, found,
         ),
-        None => push_wrong_line(alloc, text, domain, summary, flow, ended, ttl, travels, causes),
+        None => push_wrong_line(
+            alloc, text, domain, summary, flow, ended, ttl, travels, causes,
+        ),
     }
 }
 
@@ -207,7 +213,7 @@ pub(crate) fn push_wrong(
 ) -> Result<(), NoMemory>
     requires flow { flow < length (audited_value audited.now).domain.topology.flows }
     requires domain { ended.now.flight.domain ≡ (audited_value audited.now).domain }
-    ensures { OnOk result ((listed : FlowValue) →
+    ensures added { OnOk result ((listed : FlowValue) →
         slice_get (audited_value audited.now).domain.topology.flows flow ≡ Some listed →
         string_bytes text.new ≡ string_bytes text.old
         ++ wrong_flow_lines options (facts (audited_value audited.now).domain) (audited_value audited.now).summary flow listed
@@ -215,7 +221,9 @@ pub(crate) fn push_wrong(
 {
     let travels = options.travels;
     if options.json {
-        push_wrong_object(alloc, text, audited, flow, ended, ttl, travels, causes, found)
+        push_wrong_object(
+            alloc, text, audited, flow, ended, ttl, travels, causes, found,
+        )
     } else {
         push_wrong_lines(text, audited, flow, ended, ttl, travels, causes, found)
     }

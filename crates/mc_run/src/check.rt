@@ -23,8 +23,8 @@ use crate::run_output::{RunOutput, write_output};
 use crate::verdict_text::{are_yes, check_text};
 use mc_cert::Certificate;
 use mc_check::check_all;
-use mc_input::{BundleDomain, read_bundle_domain};
 use mc_forward::Domain;
+use mc_input::{BundleDomain, read_bundle_domain};
 use mc_text::{Input, Memory as NoMemory, Output};
 use std::alloc::Global;
 
@@ -66,7 +66,7 @@ fn with_certificate(alloc: Global, read: BundleDomain) -> Result<Certified, RunF
 /// The domain and the certificate that an input's bundle tells: it says of each flow what the
 /// bundle says.
 fn read_certified<R: Input>(alloc: Global, input: &mut R) -> Result<Certified, RunFault>
-    requires { R.failed input.old < u64.MAX }
+    requires failures { R.failed input.old < u64.MAX }
     ensures same { R.borrows input.new ≡ R.borrows input.old }
     ensures means { IfOk result (λ read. IfSome (R.remaining input.old) (λ text.
         MeansListedWith text read.domain read.certificate)) }
@@ -84,7 +84,7 @@ fn read_certified<R: Input>(alloc: Global, input: &mut R) -> Result<Certified, R
 
 /// The text of the verdicts on the flows of a domain, by its certificate, and whether all are yes.
 fn verdicts_of_domain(alloc: Global, read: &Certified) -> Result<RunOutput, NoMemory>
-    requires { BelongsTo read.now.domain.topology read.now.certificate }
+    requires valid { BelongsTo read.now.domain.topology read.now.certificate }
     ensures text { IfOk result (λ run_output. IsTextOfVerdicts read.now.domain read.now.certificate
         run_output.yes (string_bytes run_output.text)) }
     ensures headline { IfOk result (λ run_output.
@@ -98,7 +98,7 @@ fn verdicts_of_domain(alloc: Global, read: &Certified) -> Result<RunOutput, NoMe
 
 /// The verdicts on the flows of the domain that an input's bundle tells, by its certificate.
 fn verdicts_of_input<R: Input>(alloc: Global, input: &mut R) -> Result<RunOutput, RunFault>
-    requires { R.failed input.old < u64.MAX }
+    requires failures { R.failed input.old < u64.MAX }
     ensures same { R.borrows input.new ≡ R.borrows input.old }
     ensures text { IfOk result (λ run_output. IfSome (R.remaining input.old) (λ text.
         IsVerdictText text run_output.yes (string_bytes run_output.text))) }

@@ -10,15 +10,15 @@ ghost use Rattle.mc_run.specs.Failures.{is_read, is_write};
 ghost use Rattle.mc_run.specs.Faults.{IsFaultOfMake};
 
 use crate::fault::RunFault;
-use mc_input::read_bundle_domain;
 use mc_forward::Domain;
+use mc_input::read_bundle_domain;
 use mc_text::Input;
 use std::alloc::Global;
 
 /// The domain that an input's bundle tells, which has no certificate: it says of each flow what the
 /// bundle says.
 pub(crate) fn read_domain<R: Input>(alloc: Global, input: &mut R) -> Result<Domain, RunFault>
-    requires { R.failed input.old < u64.MAX }
+    requires failures { R.failed input.old < u64.MAX }
     ensures same { R.borrows input.new ≡ R.borrows input.old }
     ensures means { IfOk result (λ domain.
         IfSome (R.remaining input.old) (λ text. MeansDomainAsListed text None domain)) }

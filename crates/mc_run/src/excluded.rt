@@ -11,8 +11,8 @@ use std::alloc::Global;
 
 /// Whether a router has one of these names.
 fn has_excluded_name(topology: &Topology, without: &[&str], router: RouterNo) -> bool
-    requires { router < length topology.now.routers }
-    ensures { result ≡ is_among (map (λ name. name.now) without.now) (router_name topology.now router) }
+    requires known { router < length topology.now.routers }
+    ensures value { result ≡ is_among (map (λ name. name.now) without.now) (router_name topology.now router) }
 {
     is_excluded(without, topology.router_name_or_empty(router))
 }

@@ -7,9 +7,9 @@ ghost use Rattle.mc_run.specs.RunFault.{from_cert_fault, from_source_fault, from
 ghost use Rattle.mc_run.specs.RunFault.{from_without_fault};
 
 use mc_cert::{CertFault, CertFaultKind};
-use mc_input::{InputFault, SourceFault, WithoutFault};
-use mc_igmp::{ListFault, ListFaultKind};
 use mc_files::PackFault;
+use mc_igmp::{ListFault, ListFaultKind};
+use mc_input::{InputFault, SourceFault, WithoutFault};
 use mc_tables::TableFault;
 use mc_text::{BundleFault, Memory as NoMemory, PartName, ReadFault};
 use mc_topology::TopologyFault;

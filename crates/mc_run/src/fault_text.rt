@@ -6,8 +6,8 @@ ghost use Rattle.mc_run.specs.FaultText.{list_word as word_of_list, table_fault_
 ghost use Rattle.mc_run.specs.FaultText.{table_word as word_of_table, topology_fault_text};
 ghost use Rattle.mc_run.specs.FaultText.{topology_word as word_of_topology};
 
-use mc_input::InputFault;
 use mc_igmp::{ListFault, ListFaultKind};
+use mc_input::InputFault;
 use mc_tables::{TableFault, TableFaultKind};
 use mc_text::MAX_PART;
 use mc_topology::{TopologyFault, TopologyFaultKind};

@@ -44,7 +44,7 @@ impl FlowCounts {
         requires right { self.right < 4096 }
         requires wrong { self.wrong < 4096 }
         requires unwanted { self.unwanted < 4096 }
-        ensures { result ≡ with_status self flow_status }
+        ensures value { result ≡ with_status self flow_status }
     {
         let FlowCounts {
             right,

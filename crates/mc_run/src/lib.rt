@@ -5,17 +5,18 @@ mod audit;
 mod audit_end;
 mod audit_flow;
 mod audit_options;
-mod audit_right;
 mod audit_output;
+mod audit_right;
 mod audit_wrong;
 mod audited_domain;
 mod check;
 mod domain_input;
+mod excluded;
 mod fault;
 mod fault_text;
+mod flow_status;
 mod found_text;
 mod laws;
-mod excluded;
 mod line_front;
 mod make;
 mod pack;
@@ -23,7 +24,6 @@ mod quoted;
 mod refusal_text;
 mod replay;
 mod run_output;
-mod flow_status;
 mod task;
 mod task_files;
 mod task_input;
@@ -38,12 +38,12 @@ pub use audit_output::AuditAnswer;
 pub use check::run_check;
 pub use fault::RunFault;
 pub use laws::{
-    audit_of_same_files_is_the_same, check_accepts_made_certificates, input_means_one_domain_at_most,
-    verdict_yes_line_only_where_all_right,
+    audit_of_same_files_is_the_same, check_accepts_made_certificates,
+    input_means_one_domain_at_most, verdict_yes_line_only_where_all_right,
 };
 pub use make::run_make;
 pub use pack::run_pack;
-pub use refusal_text::{refusal_lines, print_refused_files};
+pub use refusal_text::{print_refused_files, refusal_lines};
 pub use replay::run_replay;
 pub use task::run_task;
 pub use wants::run_wants;

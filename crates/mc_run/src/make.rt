@@ -58,8 +58,8 @@ fn examine_all(alloc: Global, domain: &Domain) -> Result<MadeLists, NoMemory>
 
 /// The text of the certificate of these lists, one for each flow of the topology, and a line feed.
 fn certificate_text(alloc: Global, topology: &Topology, lists: Trees) -> Result<String, NoMemory>
-    requires { BelongsTo topology.now lists }
-    ensures { IfOk result (λ text. string_bytes text ≡
+    requires valid { BelongsTo topology.now lists }
+    ensures ok { IfOk result (λ text. string_bytes text ≡
         text_of_certificate topology.now lists ++ codes "\n") }
 {
     let mut text = lists.to_json(alloc, topology)?;
@@ -84,7 +84,7 @@ fn make_for_domain(alloc: Global, domain: &Domain) -> Result<RunOutput, NoMemory
 
 /// What is written of the domain that an input's bundle tells.
 fn make_for_input<R: Input>(alloc: Global, input: &mut R) -> Result<RunOutput, RunFault>
-    requires { R.failed input.old < u64.MAX }
+    requires failures { R.failed input.old < u64.MAX }
     ensures same { R.borrows input.new ≡ R.borrows input.old }
     ensures text { IfOk result (λ run_output. IfSome (R.remaining input.old) (λ text.
         IsMadeText text run_output.yes (string_bytes run_output.text))) }

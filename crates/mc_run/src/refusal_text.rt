@@ -16,8 +16,8 @@ use crate::fault::RunFault;
 use crate::fault_text::{ShownFault, line_of_fault};
 use crate::line_front::front_of_line;
 use crate::quoted::Quoted;
-use mc_input::{InputFault, PIECE, Refusal, RefusedFile, refused_files};
 use mc_files::{PieceSource, Unread};
+use mc_input::{InputFault, PIECE, Refusal, RefusedFile, refused_files};
 use mc_text::{Memory as NoMemory, Output, write_all};
 use std::alloc::Global;
 

@@ -42,7 +42,7 @@ fn travel_in_domain<P: Picker>(
     ttl: u8,
     picker: &mut P,
 ) -> Result<RunOutput, RunFault>
-    requires { 0 < ttl }
+    requires positive { 0 < ttl }
     ensures text { IfOk result (λ run_output. IsTextOfTravel domain.now flow ttl (P.choices picker.old)
         run_output.yes (string_bytes run_output.text)) }
     ensures none { IfErr result (HasNoTravel domain.now flow) }

@@ -19,7 +19,10 @@ pub(crate) struct RunOutput {
 
 /// Writes what is to be said, and answers whether it says yes. A fault in its place is handed on,
 /// and nothing is written.
-pub(crate) fn write_output<W: Output>(run_output: Result<RunOutput, RunFault>, output: &mut W) -> Result<bool, RunFault>
+pub(crate) fn write_output<W: Output>(
+    run_output: Result<RunOutput, RunFault>,
+    output: &mut W,
+) -> Result<bool, RunFault>
     requires writes { W.failed output.old < u64.MAX }
     requires unsaid { IfErr run_output (λ fault. is_write fault ≡ false) }
     ensures same { W.borrows output.new ≡ W.borrows output.old }

@@ -13,9 +13,9 @@ use crate::fault::RunFault;
 use crate::task_files::{audit_task, pack_task};
 use crate::task_input::{check_task, make_task, replay_task, wants_task};
 use crate::task_text::{VERSION_LINE, text_task};
+use mc_cli::Task;
 use mc_files::PieceSource;
 use mc_text::{Input, Output};
-use mc_cli::Task;
 use std::alloc::Global;
 
 /// Does a task: its run, with its own arguments, over the input, over the files, which have to be those

@@ -11,9 +11,9 @@ use crate::audit_options::AuditOptions;
 use crate::audit_output::AuditAnswer;
 use crate::fault::RunFault;
 use crate::pack::run_pack;
+use mc_cli::{AuditOptions as WordsOptions, AuditWords};
 use mc_files::PieceSource;
 use mc_text::Output;
-use mc_cli::{AuditOptions as WordsOptions, AuditWords};
 use std::alloc::Global;
 
 /// `mcaudit pack`, which answers yes where the bundle is written.

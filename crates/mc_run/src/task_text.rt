@@ -13,7 +13,7 @@ pub(crate) const VERSION_LINE: &str = "mcaudit 0.2.0\n";
 
 /// `mcaudit --version` and `mcaudit help`: writes the text, and answers yes.
 pub(crate) fn text_task<W: Output>(text: &str, output: &mut W) -> Result<bool, RunFault>
-    requires { W.failed output.old < u64.MAX }
+    requires failures { W.failed output.old < u64.MAX }
     ensures same { W.borrows output.new ≡ W.borrows output.old }
     ensures run { IsTextRun text.now result (W.written output.old) (W.written output.new) }
     ensures unwritten { IfErr result (λ fault. fault ≢ RunFault.Write → output.new ≡ output.old) }

@@ -65,8 +65,8 @@ pub(crate) fn check_text(
     topology: &Topology,
     verdicts: &[Verdict],
 ) -> Result<String, NoMemory>
-    requires { length verdicts.now ≡ length topology.now.flows }
-    ensures { IfOk result (λ text. string_bytes text ≡ text_of_check topology.now verdicts.now) }
+    requires lengths { length verdicts.now ≡ length topology.now.flows }
+    ensures ok { IfOk result (λ text. string_bytes text ≡ text_of_check topology.now verdicts.now) }
 {
     let mut text = String::new(alloc);
     for flow in 0..topology.flows() {

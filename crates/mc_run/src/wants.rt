@@ -78,7 +78,7 @@ fn wanted_in_input<R: Input>(
     source: Addr,
     input: &mut R,
 ) -> Result<bool, RunFault>
-    requires { R.failed input.old < u64.MAX }
+    requires failures { R.failed input.old < u64.MAX }
     ensures same { R.borrows input.new ≡ R.borrows input.old }
     ensures answer { IfSome (R.remaining input.old) (λ text. AnswersWants text group source result) }
     ensures consumed { ConsumesUpTo (max_text + 1) (R.remaining input.old) (R.remaining input.new) }

@@ -15,8 +15,8 @@ const LANES: usize = 16;
 /// lanes.
 #[inline(always)]
 fn digits_of_both(line: &[u8]) -> u8x32
-    requires { 9 + LANES ≤ length line.now }
-    ensures { result ≡ (take 8 line.now ++ take 8 (drop 9 line.now))
+    requires within { 9 + LANES ≤ length line.now }
+    ensures value { result ≡ (take 8 line.now ++ take 8 (drop 9 line.now))
         ++ (take 8 line.now ++ take 8 (drop 9 line.now)) }
 {
     u8x16::from_slice(line).shuffle(
@@ -65,8 +65,8 @@ fn address_at_front(line: &[u8], order: Order) -> Option<Addr>
 /// What stands behind an address and its space.
 #[tactic(auto, using(crate::proofs::PlainRowLemmas::drop_as_take_drop))]
 fn after_address(line: &[u8]) -> &[u8]
-    requires { 9 ≤ length line.now }
-    ensures { result.now ≡ drop 9 line.now }
+    requires within { 9 ≤ length line.now }
+    ensures value { result.now ≡ drop 9 line.now }
 {
     &line[9..]
 }
@@ -95,8 +95,8 @@ pub fn addresses_at_front(line: &[u8], order: Order) -> Option<(Addr, Addr)>
 #[inline(always)]
 #[tactic(auto, using(crate::proofs::PlainRowLemmas::drop_as_take_drop))]
 pub fn after_addresses(line: &[u8]) -> &[u8]
-    requires { 18 ≤ length line.now }
-    ensures { result.now ≡ drop 18 line.now }
+    requires within { 18 ≤ length line.now }
+    ensures value { result.now ≡ drop 18 line.now }
 {
     &line[18..]
 }

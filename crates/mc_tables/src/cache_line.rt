@@ -61,8 +61,12 @@ pub fn read_row(
 
 /// Reads a row word by word.
 #[tactic(auto, using(crate::proofs::RowWordLemmas::row_in_too_few_words))]
-fn read_row_by_words(line: &[u8], order: Order, oifs: &mut Vec<Oif>) -> Result<CacheRow, TableFaultKind>
-    requires { oifs.old.items ≡ [] }
+fn read_row_by_words(
+    line: &[u8],
+    order: Order,
+    oifs: &mut Vec<Oif>,
+) -> Result<CacheRow, TableFaultKind>
+    requires empty { oifs.old.items ≡ [] }
     ensures few { OnOk result (length oifs.new.items ≤ 32) }
     ensures read { IfOk result (λ row.
         row_in_words order (words_of line.now) ≡ Ok (row_with_oifs row oifs.new.items)) }
@@ -98,7 +102,7 @@ fn read_cache_words(
     order: Order,
     oifs: &mut Vec<Oif>,
 ) -> Result<CacheRow, TableFaultKind>
-    requires { oifs.old.items ≡ [] }
+    requires empty { oifs.old.items ≡ [] }
     ensures few { OnOk result (length oifs.new.items ≤ 32) }
     ensures read { IfOk result (λ row.
         row_in_words order (row_words_before first.now outgoing.entry)
@@ -139,7 +143,7 @@ fn read_entry(
     outgoing: Words<'_>,
     oifs: &mut Vec<Oif>,
 ) -> Result<(), TableFaultKind>
-    requires { oifs.old.items ≡ [] }
+    requires empty { oifs.old.items ≡ [] }
     ensures few { OnOk result (length oifs.new.items ≤ 32) }
     ensures read { OnOk result (entry_in iif outgoing.entry ≡ Ok (entry_with iif oifs.new.items)) }
     ensures fault { IfErr result (λ fault. fault ≢ Memory → entry_in iif outgoing.entry ≡ Err fault) }

@@ -9,12 +9,12 @@ ghost use Rattle.mc_tables.specs.LinesSoFar.{IsValidLinesSoFar};
 ghost use Rattle.mc_tables.specs.ListedRows.{listed_in};
 ghost use Rattle.mc_tables.specs.RowsSoFar.{cache_start_for_set, cache_start, rows_end, cache_if};
 
-use crate::cache_table::CacheTable;
-use crate::fault::TableFault;
-use crate::entry_numbers::EntryNumbers;
-use crate::listed_pairs::ListedPairs;
 use crate::cache_row_reader::CacheRowReader;
+use crate::cache_table::CacheTable;
+use crate::entry_numbers::EntryNumbers;
+use crate::fault::TableFault;
 use crate::line_buffer::LineBuffer;
+use crate::listed_pairs::ListedPairs;
 use crate::rows::read_piece;
 use mc_text::Order;
 use std::alloc::Global;
@@ -72,8 +72,8 @@ impl CacheReader {
     }
 
     fn with_numbers(alloc: Global, order: Order, numbers: EntryNumbers) -> CacheReader
-        requires { numbers.numbers ≡ [] }
-        ensures { result ≡ cache_start_for_set order numbers.listed }
+        requires empty { numbers.numbers ≡ [] }
+        ensures value { result ≡ cache_start_for_set order numbers.listed }
     {
         CacheReader {
             lines: LineBuffer::new(alloc),

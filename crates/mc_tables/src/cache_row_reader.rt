@@ -17,12 +17,12 @@ use crate::cache_line::read_row;
 use crate::cache_row::CacheRow;
 use crate::cache_rows::CacheRows;
 use crate::entry::Oif;
+use crate::entry_numbers::EntryNumbers;
 use crate::fault::{TableFault, TableFaultKind};
 use crate::header::check_header;
-use crate::entry_numbers::EntryNumbers;
+use crate::rows::TableRows;
 use crate::summary_so_far::SummarySoFar;
 use crate::unlisted_rows::UnlistedRows;
-use crate::rows::TableRows;
 use mc_text::{Addr, Line, Order};
 use std::alloc::Global;
 use std::marker::Model;
@@ -66,8 +66,8 @@ impl Model for CacheRowReader {
 impl CacheRowReader {
     /// No rows.
     pub fn new(alloc: Global, order: Order, numbers: EntryNumbers) -> CacheRowReader
-        requires { numbers.numbers ≡ [] }
-        ensures { result ≡ rows_start order numbers.listed }
+        requires empty { numbers.numbers ≡ [] }
+        ensures value { result ≡ rows_start order numbers.listed }
     {
         // Until a row is read.
         let none = Addr::from_octets([0, 0, 0, 0]);

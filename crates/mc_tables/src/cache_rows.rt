@@ -17,9 +17,9 @@ ghost use Rattle.mc_tables.specs.SummarySoFar.{IsEntryInserted, with_entry_if_ne
 use crate::cache_row::CacheRow;
 use crate::digit_sort::sort_by_digits;
 use crate::entry::{Entry, Oif};
+use crate::entry_numbers::EntryNumbers;
 use crate::fault::TableFaultKind;
 use crate::flat_oifs::FlatOifs;
-use crate::entry_numbers::EntryNumbers;
 use crate::listed_entry_numbers::Inserted;
 use mc_text::Addr;
 use std::alloc::Global;
@@ -78,8 +78,8 @@ impl Model for CacheRows {
 impl CacheRows {
     /// No rows. Those of the numbers' sources and groups are kept.
     pub fn new(alloc: Global, numbers: EntryNumbers) -> CacheRows
-        requires { numbers.numbers ≡ [] }
-        ensures { result ≡ record { table = table_of []; listed = numbers.listed; groups = [] } }
+        requires empty { numbers.numbers ≡ [] }
+        ensures value { result ≡ record { table = table_of []; listed = numbers.listed; groups = [] } }
     {
         CacheRows {
             entries: FlatOifs::new(alloc),
@@ -221,8 +221,8 @@ impl CacheRows {
 
     /// The entry with this number.
     pub fn entry_at(&self, number: u32) -> Entry<'_>
-        requires { number < length self.now.table.numbered }
-        ensures { slice_get self.now.table.numbered number ≡ Some result }
+        requires known { number < length self.now.table.numbered }
+        ensures item { slice_get self.now.table.numbered number ≡ Some result }
     {
         let (iif, oifs) = self.entries.at(number);
         Entry { iif, oifs }
@@ -230,16 +230,16 @@ impl CacheRows {
 
     /// Whether a row for every source has this group or the group 0.0.0.0.
     pub fn has_wildcard(&self, group: Addr) -> bool
-        requires { IsSorted nat_cmp self.now.groups }
-        ensures { result ≡
+        requires valid { IsSorted nat_cmp self.now.groups }
+        ensures value { result ≡
             (set.contains self.now.table.wildcards group || set.contains self.now.table.wildcards 0) }
     {
         self.has_group(group) || self.has_group(Addr::from_octets([0, 0, 0, 0]))
     }
 
     fn has_group(&self, group: Addr) -> bool
-        requires { IsSorted nat_cmp self.now.groups }
-        ensures { result ≡ set.contains self.now.table.wildcards group }
+        requires valid { IsSorted nat_cmp self.now.groups }
+        ensures value { result ≡ set.contains self.now.table.wildcards group }
     {
         self.groups.binary_search(&group).is_ok()
     }

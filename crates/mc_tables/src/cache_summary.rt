@@ -45,8 +45,8 @@ impl Model for CacheSummary {
 impl CacheSummary {
     /// The notes of all rows.
     pub(crate) fn of(summary: SummarySoFar) -> CacheSummary
-        requires { HasValidEntries (finished_summary summary) }
-        ensures { result ≡ finished_summary summary }
+        requires valid { HasValidEntries (finished_summary summary) }
+        ensures value { result ≡ finished_summary summary }
     {
         let (unresolved, first, unlisted, lowest) = summary.into_parts();
         CacheSummary {

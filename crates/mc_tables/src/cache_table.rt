@@ -68,8 +68,8 @@ impl CacheTable {
 
     /// The table of rows that were read.
     pub(crate) fn from_rows(rows: CacheRows) -> CacheTable
-        requires { IsValidCache rows.table }
-        ensures { result ≡ rows.table }
+        requires valid { IsValidCache rows.table }
+        ensures value { result ≡ rows.table }
     {
         CacheTable {
             rows: rows.with_sorted_groups(),
@@ -113,7 +113,7 @@ impl CacheTable {
 
     /// The entry with this number.
     pub fn entry_at(&self, number: u32) -> Entry<'_>
-        requires { number < length self.now.numbered }
+        requires known { number < length self.now.numbered }
         ensures entry { slice_get self.now.numbered number ≡ Some result }
         ensures rules { IsValidCache self.now }
     {

@@ -25,7 +25,7 @@ fn slot_of(number: u64, slots: usize) -> usize
 fn put_in_slot(slots: &mut Vec<u64>, others: &mut Vec<u64>, number: u64) -> Result<bool, AllocError>
     requires some { 0 < length slots.old.items }
     requires few { length slots.old.items < 2 ^ 32 }
-    ensures { IfOk result (λ new. new ≡ true →
+    ensures ok { IfOk result (λ new. new ≡ true →
         IsPut slots.old.items others.old.items number slots.new.items others.new.items) }
 {
     let slot = slot_of(number, slots.len());

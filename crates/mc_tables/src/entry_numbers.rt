@@ -4,7 +4,7 @@ ghost use Rattle.std.specs.Prelude.{◌≡◌, [], ◌<◌, IfOk, None, OnErr, S
 ghost use Rattle.std.specs.FinSet as set;
 ghost use Rattle.mc_tables.specs.CacheNumbers.{IsNumberInserted, number_of_key};
 
-use crate::listed_entry_numbers::{ListedEntryNumbers, Inserted};
+use crate::listed_entry_numbers::{Inserted, ListedEntryNumbers};
 use crate::listed_pairs::ListedPairs;
 use mc_text::Addr;
 use std::alloc::{AllocError, Global};
@@ -65,7 +65,7 @@ impl EntryNumbers {
 
     /// Gives a source and a group this number, if they can have one and have none.
     pub fn add(&mut self, key: &(Addr, Addr), number: u32) -> Result<Inserted, AllocError>
-        requires { number < 65536 }
+        requires bounded { number < 65536 }
         ensures numbered { IfOk result (IsNumberInserted key.now number self.old self.new) }
         ensures refused { OnErr result (self.new ≡ self.old) }
     {

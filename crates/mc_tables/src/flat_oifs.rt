@@ -104,8 +104,8 @@ impl<H: Copy> FlatOifs<H> {
 
     /// The head and the list with this number.
     pub fn at(&self, number: u32) -> (H, &[Oif])
-        requires { number < length self.now.lists }
-        ensures { slice_get self.now.lists number ≡ Some (result.0, result.1.now) }
+        requires known { number < length self.now.lists }
+        ensures item { slice_get self.now.lists number ≡ Some (result.0, result.1.now) }
     {
         let list = &self.lists[number as usize];
         let start = list.start as usize;

@@ -23,8 +23,8 @@ pub const FOUR_LEN: usize = 28;
 /// or is the other one that may stand there: a space for the tens of a vif.
 #[inline(always)]
 fn starts_with_four_oifs(line: &[u8]) -> bool
-    requires { LANES ≤ length line.now }
-    ensures { result ≡ true → StartsWithFourOifs line.now }
+    requires within { LANES ≤ length line.now }
+    ensures value { result ≡ true → StartsWithFourOifs line.now }
 {
     let text = u8x32::from_slice(line);
     let least = u8x32::from_array([
@@ -49,7 +49,7 @@ fn starts_with_four_oifs(line: &[u8]) -> bool
 fn printed_oif(line: &[u8], at: usize) -> Oif
     requires long { at + 7 ≤ length line.now }
     requires printed { StartsWithPrintedOif (drop at line.now) }
-    ensures { result.vif ≤ MAX_VIF → (word : List ℕ)
+    ensures word { result.vif ≤ MAX_VIF → (word : List ℕ)
         × (words_of (drop at line.now) ≡ word ∷ words_of (drop (at + 7) line.now))
         × (oif_in word ≡ Ok (result.vif, result.threshold)) }
 {

@@ -77,7 +77,7 @@ impl LineBuffer {
     /// Takes the bytes up to the first line feed, and answers where it stands. With none it takes
     /// all.
     pub fn take_to_line_feed(&mut self, rest: &[u8]) -> Result<Option<usize>, AllocError>
-        requires { self.old.size + length rest.now ≤ max_text }
+        requires bounded { self.old.size + length rest.now ≤ max_text }
         ensures rules { IsValidLinesSoFar self.old }
         ensures taken { IfOk result (λ place. MatchOption place
             (HasNoLineFeed rest.now × (self.new ≡ with_begun self.old (length rest.now) rest.now))
@@ -115,7 +115,7 @@ impl LineBuffer {
     pub fn line_of<'a>(&self, bytes: &'a [u8]) -> Line<'a>
         requires few { self.now.ended < max_text }
         requires begun { self.now.begun ≡ [] }
-        ensures { line_text result ≡
+        ensures value { line_text result ≡
             line_begun (with_begun self.now (length bytes.now + 1) bytes.now) }
     {
         Line {
@@ -129,7 +129,7 @@ impl LineBuffer {
     pub fn skip_line(&mut self, len: usize)
         requires room { self.old.size + (len + 1) ≤ max_text }
         requires begun { self.old.begun ≡ [] }
-        ensures { self.new ≡ with_ended (with_begun self.old (len + 1) []) }
+        ensures change { self.new ≡ with_ended (with_begun self.old (len + 1) []) }
     {
         self.size += len + 1;
         self.ended += 1;
@@ -148,8 +148,8 @@ impl LineBuffer {
 
     /// The next line begins.
     pub fn begin_next_line(&mut self)
-        requires { self.old.ended + length self.old.begun < self.old.size }
-        ensures { self.new ≡ with_ended self.old }
+        requires bounded { self.old.ended + length self.old.begun < self.old.size }
+        ensures change { self.new ≡ with_ended self.old }
     {
         self.ended += 1;
         self.begun.clear();

@@ -74,7 +74,7 @@ impl ListedEntryNumbers {
 
     /// Gives a source and a group this number, if they are listed and have none.
     pub fn add(&mut self, key: &(Addr, Addr), number: u32) -> Result<Inserted, AllocError>
-        requires { number < 65536 }
+        requires bounded { number < 65536 }
         ensures numbered { IfOk result (IsNumberInserted key.now number self.old self.new) }
         ensures refused { OnErr result (self.new ≡ self.old) }
     {

@@ -26,8 +26,8 @@ pub struct MarkedLine<'a> {
 /// Which of the first bytes are decimal digits.
 #[inline(always)]
 fn digit_marks(line: &[u8]) -> u64
-    requires { LANES ≤ length line.now }
-    ensures { AreMarks is_ascii_digit line.now result }
+    requires within { LANES ≤ length line.now }
+    ensures marks { AreMarks is_ascii_digit line.now result }
 {
     let above = u8x32::from_slice(line) - u8x32::splat(b'0');
     above.simd_lt(u8x32::splat(10)).to_bitmask()
@@ -36,8 +36,8 @@ fn digit_marks(line: &[u8]) -> u64
 /// Which of the first bytes are spaces.
 #[inline(always)]
 fn space_marks(line: &[u8]) -> u64
-    requires { LANES ≤ length line.now }
-    ensures { AreMarks (λ b. b == 32) line.now result }
+    requires within { LANES ≤ length line.now }
+    ensures marks { AreMarks (λ b. b == 32) line.now result }
 {
     u8x32::from_slice(line)
         .simd_eq(u8x32::splat(b' '))
@@ -73,8 +73,8 @@ fn last_digits(digits: u64, spaces: u64) -> u64
 #[inline(always)]
 #[tactic(auto, using(crate::proofs::PlainRowLemmas::drop_as_take_drop))]
 fn without_front(line: &[u8], count: usize) -> &[u8]
-    requires { count ≤ length line.now }
-    ensures { result.now ≡ drop count line.now }
+    requires within { count ≤ length line.now }
+    ensures value { result.now ≡ drop count line.now }
 {
     &line[count..]
 }
@@ -100,8 +100,8 @@ impl<'a> MarkedLine<'a> {
     /// bytes with the spaces before it, and all are looked at.
     #[inline(always)]
     pub fn behind_counters(self) -> Option<&'a [u8]>
-        requires { IsMarked self }
-        ensures { IfSome result (λ after. HasCounters self.entry.bytes.now after.now) }
+        requires valid { IsMarked self }
+        ensures some { IfSome result (λ after. HasCounters self.entry.bytes.now after.now) }
     {
         let ends = last_digits(self.digits, self.spaces);
         let packets = lowest_mark(ends);

@@ -19,7 +19,7 @@ pub const MAX_THRESHOLD: u8 = 254;
 /// Reads the outgoing vifs, by ascending vif.
 #[tactic(auto, using(crate::proofs::EntryLemmas::oifs_in_gives_at_most_32))]
 pub fn read_oifs(words: Words<'_>, oifs: &mut Vec<Oif>) -> Result<(), TableFaultKind>
-    requires { oifs.old.items ≡ [] }
+    requires empty { oifs.old.items ≡ [] }
     ensures few { OnOk result (length oifs.new.items ≤ 32) }
     ensures read { OnOk result (oifs_in words.entry ≡ Ok oifs.new.items) }
     ensures fault { IfErr result (λ fault. fault ≢ Memory → oifs_in words.entry ≡ Err fault) }
@@ -98,8 +98,8 @@ fn threshold_of_word(word: &[u8]) -> Result<u8, TableFaultKind>
 /// Why a word is no threshold: it has a second colon, or it writes none.
 #[tactic(auto, using(crate::proofs::RowWordLemmas::threshold_refusals))]
 fn fault_of_threshold(word: &[u8]) -> TableFaultKind
-    requires { number_in 1 254 word.now ≡ None }
-    ensures { threshold_in (slice_split (λ b. b == 58) word.now) ≡ Err result }
+    requires refused { number_in 1 254 word.now ≡ None }
+    ensures fault { threshold_in (slice_split (λ b. b == 58) word.now) ≡ Err result }
 {
     if first_colon(word).is_some() {
         TableFaultKind::BadOif

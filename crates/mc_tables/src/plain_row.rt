@@ -262,8 +262,8 @@ fn oif_at_front(line: &[u8]) -> Option<(Oif, &[u8])>
 /// Reads the outgoing vifs of which a line is made, if they ascend. Whether they were read.
 #[tactic(auto, using(crate::proofs::PlainRowLemmas::greater_oif_is_appended, crate::proofs::OifLemmas::oifs_in_by_steps))]
 pub fn read_ascending_oifs(line: &[u8], oifs: &mut Vec<Oif>) -> Result<bool, AllocError>
-    requires { oifs.old.items ≡ [] }
-    ensures { IfOk result (λ read. read ≡ true →
+    requires empty { oifs.old.items ≡ [] }
+    ensures ok { IfOk result (λ read. read ≡ true →
         oifs_in (words_of line.now) ≡ Ok oifs.new.items) }
 {
     let mut rest = line;

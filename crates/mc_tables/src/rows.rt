@@ -47,7 +47,7 @@ pub fn read_piece<R: TableRows>(
     piece: &[u8],
 ) -> Result<(), TableFault>
     // the lines are read one after the other
-    requires { ReadsInSteps R.table R.step }
+    requires steps { ReadsInSteps R.table R.step }
     ensures reads { (more : List ℕ) → OnOk result
         (read_after R.header (R.table rows.old) lines.old (piece.now ++ more)
         ≡ read_after R.header (R.table rows.new) lines.new more) }

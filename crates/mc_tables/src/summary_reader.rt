@@ -8,11 +8,11 @@ ghost use Rattle.mc_tables.specs.Steps.{out_of_memory, fault_at};
 ghost use Rattle.mc_tables.specs.SummaryReading.{summary_start, summary_in, summary_if};
 
 use crate::fault::TableFault;
-use crate::summarized_cache::SummarizedCache;
-use crate::summary_pairs::SummaryPairs;
-use crate::summarized_rows::SummarizedRows;
 use crate::line_buffer::LineBuffer;
 use crate::rows::read_piece;
+use crate::summarized_cache::SummarizedCache;
+use crate::summarized_rows::SummarizedRows;
+use crate::summary_pairs::SummaryPairs;
 use mc_text::Order;
 use std::alloc::Global;
 use std::marker::Model;

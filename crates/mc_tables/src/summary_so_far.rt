@@ -14,8 +14,8 @@ ghost use Rattle.mc_tables.specs.SummarySoFar.{summary_with_unresolved, summary_
 use crate::cache_row::CacheRow;
 use crate::cache_rows::CacheRows;
 use crate::entry::{Entry, Oif};
-use crate::fault::TableFaultKind;
 use crate::entry_numbers::EntryNumbers;
+use crate::fault::TableFaultKind;
 use crate::listed_entry_numbers::ListedEntryNumbers;
 use crate::listed_pairs::ListedPairs;
 use crate::shown_pairs::ShownPairs;
@@ -70,7 +70,10 @@ impl SummarySoFar {
     {
         SummarySoFar {
             unresolved: ListedEntryNumbers::of(alloc, listed),
-            first: CacheRows::new(alloc, EntryNumbers::for_listed_pairs(alloc, for_every_source)),
+            first: CacheRows::new(
+                alloc,
+                EntryNumbers::for_listed_pairs(alloc, for_every_source),
+            ),
             unlisted: 0,
             lowest: ShownPairs::new(alloc, all),
         }
@@ -129,7 +132,7 @@ impl SummarySoFar {
     }
 
     fn add_unlisted(&mut self, key: &(Addr, Addr)) -> Result<(), TableFaultKind>
-        requires { self.old.unlisted < 65536 }
+        requires bounded { self.old.unlisted < 65536 }
         ensures summarized { OnOk result (self.new ≡ summary_with_unlisted self.old key.now) }
         ensures fault { IfErr result (λ fault. fault ≡ Memory) }
         ensures listed { self.new.listed ≡ self.old.listed }

@@ -78,8 +78,8 @@ impl UnlistedRows {
 /// The first line whose row repeats an earlier one, where the rows stand by source and group, and
 /// then by line.
 fn first_repeat_of_sorted(rows: &[UnlistedRow]) -> Option<u32>
-    requires { IsSorted row_cmp rows.now }
-    ensures { result ≡ first_repeat rows.now }
+    requires valid { IsSorted row_cmp rows.now }
+    ensures value { result ≡ first_repeat rows.now }
 {
     let mut first = None;
     for i in 1..rows.len() {

@@ -25,8 +25,8 @@ impl Model for DeviceName {
 impl DeviceName {
     /// The name of at most 15 bytes.
     pub fn new(name: &[u8]) -> DeviceName
-        requires { length name.now ≤ 15 }
-        ensures { result ≡ name.now }
+        requires bounded { length name.now ≤ 15 }
+        ensures value { result ≡ name.now }
     {
         let mut bytes = [0; 15];
         bytes[..name.len()].copy_from_slice(name);

@@ -117,7 +117,7 @@ fn hexadecimal(digits: &[u8]) -> Option<u32>
     requires some { 1 ≤ length digits.now }
     requires few { length digits.now ≤ 8 }
     requires digits { IsTrue (list_all is_ascii_hexdigit digits.now) }
-    ensures { result ≡ Some (digits_value 16 digits.now) }
+    ensures value { result ≡ Some (digits_value 16 digits.now) }
 {
     let text = str::from_utf8(digits).ok()?;
     u32::from_str_radix(text, 16).ok()

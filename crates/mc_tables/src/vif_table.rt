@@ -81,8 +81,8 @@ impl VifTable {
 
     /// The table of rows that were read.
     pub(crate) fn from_rows(rows: VifRows) -> VifTable
-        requires { AreValidVifRows rows }
-        ensures { result ≡ map.from_entries rows }
+        requires valid { AreValidVifRows rows }
+        ensures value { result ≡ map.from_entries rows }
     {
         VifTable {
             vifs: rows.into_vec(),

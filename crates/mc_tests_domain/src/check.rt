@@ -2,7 +2,8 @@
 //! The other lists of entries are rows of the command line's tables `check_*`.
 
 use crate::samples::{
-    CHAIN, FORWARDS, LAST_WANTS, Network, VIFS, retry_after_oom, entry_behind, chain_entries, source_entry, with_domain,
+    CHAIN, FORWARDS, LAST_WANTS, Network, VIFS, chain_entries, entry_behind, retry_after_oom,
+    source_entry, with_domain,
 };
 use mc_cert::Reached;
 use mc_check::{Reason, Verdict, check_flow};
@@ -73,7 +74,11 @@ fn assert_verdict_of_chain(
 }
 
 /// Needs of 0, routers that the topology hasn't, and a vif past the greatest.
-fn assert_verdicts_of_odd_entries(rt: &impl Abort, alloc: Global, domain: &Domain) -> Result<(), Fail> {
+fn assert_verdicts_of_odd_entries(
+    rt: &impl Abort,
+    alloc: Global,
+    domain: &Domain,
+) -> Result<(), Fail> {
     let nowhere = entry_behind(2, 3, 2, 1);
     let beyond = entry_behind(2, 3, u32::MAX, 255);
     assert_verdict_of_chain(
@@ -128,7 +133,11 @@ fn assert_reason_texts(rt: &impl Abort, alloc: Global, topology: &Topology) -> R
 }
 
 /// The verdict on what certifies the first flow.
-fn assert_certified_after_retry(rt: &(impl Abort + Print), alloc: Global, domain: &Domain) -> Result<(), Fail> {
+fn assert_certified_after_retry(
+    rt: &(impl Abort + Print),
+    alloc: Global,
+    domain: &Domain,
+) -> Result<(), Fail> {
     let entries = chain_entries();
     let verdict = retry_after_oom(rt, || verdict_of(rt, alloc, domain, 0, &entries))?;
     assert!(rt; verdict == Verdict::Yes { copies: 3 });

@@ -1,7 +1,9 @@
 //! The entries that `make` answers for flows of a small network. What is found of flows that can
 //! have none, the command line's cases and tables show.
 
-use crate::samples::{CHAIN, LAST_WANTS, Network, VIFS, retry_after_oom, chain_entries, with_domain};
+use crate::samples::{
+    CHAIN, LAST_WANTS, Network, VIFS, chain_entries, retry_after_oom, with_domain,
+};
 use mc_cert::Reached;
 use mc_forward::Domain;
 use mc_maker::make;
@@ -119,7 +121,11 @@ fn push_made(
     }
 }
 
-fn assert_entries_of_each_flow(rt: &impl Abort, alloc: Global, domain: &Domain) -> Result<(), Fail> {
+fn assert_entries_of_each_flow(
+    rt: &impl Abort,
+    alloc: Global,
+    domain: &Domain,
+) -> Result<(), Fail> {
     let mut text = String::new(alloc);
     for flow in 0..9 {
         push_made(rt, alloc, domain, flow, &mut text)?;
@@ -150,7 +156,11 @@ fn assert_made(
 }
 
 /// The first flow goes along the chain. Of the seventh a fault is found at its TTL, and of the eighth at 255.
-fn assert_made_after_retry(rt: &(impl Abort + Print), alloc: Global, domain: &Domain) -> Result<(), Fail> {
+fn assert_made_after_retry(
+    rt: &(impl Abort + Print),
+    alloc: Global,
+    domain: &Domain,
+) -> Result<(), Fail> {
     assert_made(rt, alloc, domain, 0, Some(&chain_entries()))?;
     assert_made(rt, alloc, domain, 6, None)?;
     assert_made(rt, alloc, domain, 7, None)

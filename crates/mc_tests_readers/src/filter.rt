@@ -201,7 +201,11 @@ fn queried_pairs(alloc: Global) -> Result<Vec<(Addr, Addr)>, Memory> {
 }
 
 // What one walk over the list answers of these sources and groups.
-fn channel_answers(alloc: Global, pairs: &[(Addr, Addr)], list: &ReportList) -> Result<Vec<bool>, Memory> {
+fn channel_answers(
+    alloc: Global,
+    pairs: &[(Addr, Addr)],
+    list: &ReportList,
+) -> Result<Vec<bool>, Memory> {
     Channels::of(alloc, pairs)?.wanted(alloc, list)
 }
 

@@ -102,7 +102,9 @@ fn list_is_read_in_pieces(rt: HostRuntime) -> Result<(), Fail> {
         b"11",
         b"",
     ] {
-        assert!(rt; read_byte_by_byte(rt.alloc(), text)?.err() == ReportList::read(rt.alloc(), text).err());
+        assert!(rt;
+            read_byte_by_byte(rt.alloc(), text)?.err() == ReportList::read(rt.alloc(), text).err()
+        );
     }
     Ok(())
 }

@@ -21,7 +21,7 @@ const MAX_SLOTS: usize = 65_536;
 
 /// The slot of a number, of so many.
 fn slot_of(number: u64, slots: usize) -> usize
-    requires { 0 < slots }
+    requires positive { 0 < slots }
     ensures within { result < slots }
     ensures value { result ≡ slot_in slots number }
 {

@@ -14,8 +14,8 @@ mod pair;
 mod text;
 
 pub use bundle::{
-    Bundle, BundleFault, MAX_PART, Part, PartName, Parts, collect_part, bundle_front_decides,
-    bundle_has_one_part_list, write_bundle, written_bundle_is_read,
+    Bundle, BundleFault, MAX_PART, Part, PartName, Parts, bundle_front_decides,
+    bundle_has_one_part_list, collect_part, write_bundle, written_bundle_is_read,
 };
 pub use index::Index;
 pub use io::{

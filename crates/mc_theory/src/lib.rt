@@ -9,47 +9,45 @@
 #![tactic(auto)]
 
 mod certificate_laws;
+mod example_path_laws;
+mod excluded_laws;
 mod headline_laws;
 mod hop_laws;
-mod excluded_laws;
-mod travel_laws;
 mod path_laws;
-mod example_path_laws;
+mod travel_laws;
 
 pub use certificate_laws::{
-    certificate_exists_iff_flow_is_right, a_right_flow_is_accepted,
-    an_accepted_flow_is_right, every_complete_run_delivers, every_run_is_safe,
-    no_reason_iff_accepted, order_of_entries_does_not_matter, accepted_flow_keeps_headline,
-};
-pub use headline_laws::{
-    stray_copy_is_wrong, unserved_lan_is_wrong,
-    twice_served_lan_is_wrong, fork_needs_ttl_above_threshold, the_headline_in_counts,
-    the_line_is_right,
-};
-pub use hop_laws::{
-    hop_is_found_by_its_interface, packet_below_need_stops_at_one_hop,
-    loop_copy_came_from_its_own_lan, stopping_hop_is_found, walk_back_finds_the_hops,
-    hops_of_a_copy_are_unique, fewer_hops_than_carried_copies, hops_are_found_one_by_one,
-    need_of_hops_is_least_ttl,
-};
-pub use excluded_laws::{
-    run_without_routers_occurs_with_them, r1_acts_alike_without_r2,
-    fault_without_routers_is_fault_with_them,
-};
-pub use travel_laws::{
-    a_clean_travel_makes_a_tree, finding_is_what_the_flight_shows, non_clean_finding_is_not_right,
-    a_travel_ends, travel_so_far_is_bounded, event_counts_what_its_step_did,
-    clean_travels_certify, each_copy_was_sent_on_from_an_earlier_one, needs_decide_the_second_travel,
-    the_walk_back_ends,
-};
-pub use path_laws::{
-    carried_copy_came_by_a_path, second_copy_came_by_another_path,
-    first_copy_has_the_least_rank, need_is_the_least_reaching_ttl, spare_interface_removal_keeps_reach,
-    complete_run_carries_reached_lans, packet_passes_iff_ttl_meets_need,
+    a_right_flow_is_accepted, accepted_flow_keeps_headline, an_accepted_flow_is_right,
+    certificate_exists_iff_flow_is_right, every_complete_run_delivers, every_run_is_safe,
+    no_reason_iff_accepted, order_of_entries_does_not_matter,
 };
 pub use example_path_laws::{
-    remedy_may_lose_packets_below_need, only_the_interface_is_taken_out,
-    other_choices_may_delay_a_first_copy, hops_are_read_from_rows,
     closed_diamond_has_a_remedy, diamond_has_an_upper_path, diamond_stops_low_ttl_packets,
-    line_with_loop_copy_came_from_its_lan, line_with_loop_has_a_remedy,
+    hops_are_read_from_rows, line_with_loop_copy_came_from_its_lan, line_with_loop_has_a_remedy,
+    only_the_interface_is_taken_out, other_choices_may_delay_a_first_copy,
+    remedy_may_lose_packets_below_need,
+};
+pub use excluded_laws::{
+    fault_without_routers_is_fault_with_them, r1_acts_alike_without_r2,
+    run_without_routers_occurs_with_them,
+};
+pub use headline_laws::{
+    fork_needs_ttl_above_threshold, stray_copy_is_wrong, the_headline_in_counts, the_line_is_right,
+    twice_served_lan_is_wrong, unserved_lan_is_wrong,
+};
+pub use hop_laws::{
+    fewer_hops_than_carried_copies, hop_is_found_by_its_interface, hops_are_found_one_by_one,
+    hops_of_a_copy_are_unique, loop_copy_came_from_its_own_lan, need_of_hops_is_least_ttl,
+    packet_below_need_stops_at_one_hop, stopping_hop_is_found, walk_back_finds_the_hops,
+};
+pub use path_laws::{
+    carried_copy_came_by_a_path, complete_run_carries_reached_lans, first_copy_has_the_least_rank,
+    need_is_the_least_reaching_ttl, packet_passes_iff_ttl_meets_need,
+    second_copy_came_by_another_path, spare_interface_removal_keeps_reach,
+};
+pub use travel_laws::{
+    a_clean_travel_makes_a_tree, a_travel_ends, clean_travels_certify,
+    each_copy_was_sent_on_from_an_earlier_one, event_counts_what_its_step_did,
+    finding_is_what_the_flight_shows, needs_decide_the_second_travel,
+    non_clean_finding_is_not_right, the_walk_back_ends, travel_so_far_is_bounded,
 };

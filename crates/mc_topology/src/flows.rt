@@ -57,15 +57,15 @@ impl Flows {
 
     /// The flow with this number.
     pub(crate) fn flow(&self, flow: u32) -> &Flow
-        requires { flow < length self.now }
-        ensures { slice_get self.now flow ≡ Some result.now }
+        requires known { flow < length self.now }
+        ensures item { slice_get self.now flow ≡ Some result.now }
     {
         &self.flows[flow as usize]
     }
 
     /// Adds a flow whose source and group no flow has.
     pub(crate) fn push(&mut self, flow: Flow) -> Result<(), TopologyFault>
-        requires { has_flow flow.source flow.group self.old ≡ false }
+        requires absent { has_flow flow.source flow.group self.old ≡ false }
         ensures added { OnOk result (self.new ≡ self.old ++ flow ∷ []) }
         ensures fault { IfErr result (λ fault. fault ≡ out_of_memory) }
     {

@@ -93,8 +93,8 @@ impl Interfaces {
 
     /// The interface with this number.
     pub(crate) fn interface(&self, interface: u32) -> Interface<'_>
-        requires { interface < length self.now }
-        ensures { slice_get self.now interface ≡ Some result }
+        requires known { interface < length self.now }
+        ensures item { slice_get self.now interface ≡ Some result }
     {
         let keys = self.lans.keys();
         let key = &keys.as_slice()[interface as usize];

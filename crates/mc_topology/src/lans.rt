@@ -55,7 +55,7 @@ impl Lans {
 
     /// The number of the LAN with the name.
     pub(crate) fn number_of(&self, name: &str) -> Option<LanNo>
-        requires { length self.now ≤ MAX_LANS }
+        requires bounded { length self.now ≤ MAX_LANS }
         ensures number { result ≡ index_of name.now self.now }
         ensures listed { IfSome result (λ lan. lan < length self.now) }
     {
@@ -65,8 +65,8 @@ impl Lans {
 
     /// The name of a LAN.
     pub(crate) fn name(&self, lan: LanNo) -> &str
-        requires { lan < length self.now }
-        ensures { slice_get self.now lan ≡ Some result.now }
+        requires known { lan < length self.now }
+        ensures item { slice_get self.now lan ≡ Some result.now }
     {
         let name = &self.names.as_slice()[lan.0 as usize];
         name.as_str()
@@ -74,7 +74,7 @@ impl Lans {
 
     /// Adds a LAN whose name no LAN has.
     pub(crate) fn push(&mut self, alloc: Global, name: &str) -> Result<(), TopologyFault>
-        requires { has_lan name.now self.old ≡ false }
+        requires absent { has_lan name.now self.old ≡ false }
         ensures added { OnOk result (self.new ≡ self.old ++ name.now ∷ []) }
         ensures fault { IfErr result (λ fault. fault ≡ out_of_memory) }
     {

@@ -87,8 +87,8 @@ fn sources_and_flows_in(
     lans: &Lans,
     table: &Table,
 ) -> Result<(Sources, Flows), TopologyFault>
-    requires { length lans.now ≤ MAX_LANS }
-    ensures { result ≢ Err out_of_memory →
+    requires bounded { length lans.now ≤ MAX_LANS }
+    ensures outcome { result ≢ Err out_of_memory →
         result ≡ sources_and_flows_in lans.now (table_view table.now) }
 {
     let sources = sources_in(alloc, lans, table)?;
@@ -106,7 +106,7 @@ fn interfaces_and_flows_in(
 ) -> Result<(Interfaces, Sources, Flows), TopologyFault>
     requires few_lans { length lans.now ≤ MAX_LANS }
     requires few_routers { length routers.now ≤ MAX_ROUTERS }
-    ensures { result ≢ Err out_of_memory →
+    ensures outcome { result ≢ Err out_of_memory →
         result ≡ interfaces_and_flows_in lans.now routers.now (table_view table.now) }
 {
     let interfaces = interfaces_in(alloc, lans, routers, table)?;
@@ -126,7 +126,7 @@ fn topology_with(
     requires routers { routers_in (table_view table.now) ≡ Ok routers }
     requires few_lans { length lans ≤ MAX_LANS }
     requires few_routers { length routers ≤ MAX_ROUTERS }
-    ensures { result ≢ Err out_of_memory → result ≡ topology_in (table_view table.now) }
+    ensures outcome { result ≢ Err out_of_memory → result ≡ topology_in (table_view table.now) }
 {
     let (interfaces, sources, flows) = interfaces_and_flows_in(alloc, &lans, &routers, table)?;
     Ok(Topology::new(lans, routers, interfaces, sources, flows))

@@ -56,7 +56,7 @@ impl Routers {
 
     /// The number of the router with the name.
     pub(crate) fn number_of(&self, name: &str) -> Option<RouterNo>
-        requires { length self.now ≤ MAX_ROUTERS }
+        requires bounded { length self.now ≤ MAX_ROUTERS }
         ensures number { result ≡ router_no_of name.now self.now }
         ensures listed { IfSome result (λ router. router < length self.now) }
     {
@@ -66,8 +66,8 @@ impl Routers {
 
     /// The name of a router.
     pub(crate) fn name(&self, router: RouterNo) -> &str
-        requires { router < length self.now }
-        ensures { option_map (λ r. r.name) (slice_get self.now router) ≡ Some result.now }
+        requires known { router < length self.now }
+        ensures item { option_map (λ r. r.name) (slice_get self.now router) ≡ Some result.now }
     {
         let names = self.orders.keys();
         let name = &names.as_slice()[router.0 as usize];
@@ -76,8 +76,8 @@ impl Routers {
 
     /// The byte order of a router's machine.
     pub(crate) fn order(&self, router: RouterNo) -> Order
-        requires { router < length self.now }
-        ensures { option_map (λ r. r.order) (slice_get self.now router) ≡ Some result }
+        requires known { router < length self.now }
+        ensures item { option_map (λ r. r.order) (slice_get self.now router) ≡ Some result }
     {
         self.orders[router.0 as usize]
     }
@@ -89,7 +89,7 @@ impl Routers {
         name: &str,
         order: Order,
     ) -> Result<(), TopologyFault>
-        requires { has_router name.now self.old ≡ false }
+        requires absent { has_router name.now self.old ≡ false }
         ensures added { OnOk result (self.new ≡
             self.old ++ (record { name = name.now; order = order }) ∷ []) }
         ensures fault { IfErr result (λ fault. fault ≡ out_of_memory) }

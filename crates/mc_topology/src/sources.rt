@@ -65,8 +65,8 @@ impl Sources {
 
     /// The source with this number.
     pub(crate) fn source(&self, source: u32) -> Source
-        requires { source < length self.now }
-        ensures { slice_get self.now source ≡ Some result }
+        requires known { source < length self.now }
+        ensures item { slice_get self.now source ≡ Some result }
     {
         let addresses = self.lans.keys();
         Source {
@@ -77,7 +77,7 @@ impl Sources {
 
     /// Adds a source whose address no source has.
     pub(crate) fn push(&mut self, source: Source) -> Result<(), TopologyFault>
-        requires { has_source source.address self.old ≡ false }
+        requires absent { has_source source.address self.old ≡ false }
         ensures added { OnOk result (self.new ≡ self.old ++ source ∷ []) }
         ensures fault { IfErr result (λ fault. fault ≡ out_of_memory) }
     {

@@ -86,14 +86,14 @@ impl Topology {
         sources: Sources,
         flows: Flows,
     ) -> Topology
-        requires { IsValidTopology (record {
+        requires valid { IsValidTopology (record {
           lans = lans;
           routers = routers;
           interfaces = interfaces;
           sources = sources;
           flows = flows;
         }) }
-        ensures { result ≡ record {
+        ensures value { result ≡ record {
           lans = lans;
           routers = routers;
           interfaces = interfaces;
@@ -173,8 +173,8 @@ impl Topology {
 
     /// The byte order of a router's machine.
     pub fn order(&self, router: RouterNo) -> Order
-        requires { router < length self.now.routers }
-        ensures { option_map (λ r. r.order) (slice_get self.now.routers router) ≡ Some result }
+        requires known { router < length self.now.routers }
+        ensures item { option_map (λ r. r.order) (slice_get self.now.routers router) ≡ Some result }
     {
         self.routers.order(router)
     }
@@ -191,7 +191,7 @@ impl Topology {
 
     /// The interface with this number, counted from 0 in the order of the topology.
     pub fn interface(&self, interface: u32) -> Interface<'_>
-        requires { interface < length self.now.interfaces }
+        requires known { interface < length self.now.interfaces }
         ensures interface { slice_get self.now.interfaces interface ≡ Some result }
         ensures valid { IsValidInterface self.now result }
     {
@@ -200,7 +200,7 @@ impl Topology {
 
     /// The source with this number, counted from 0 in the order of the topology.
     pub fn source(&self, source: u32) -> Source
-        requires { source < length self.now.sources }
+        requires known { source < length self.now.sources }
         ensures source { slice_get self.now.sources source ≡ Some result }
         ensures valid { IsValidSource self.now.lans result }
     {
@@ -209,7 +209,7 @@ impl Topology {
 
     /// The flow with this number, counted from 0 in the order of the topology.
     pub fn flow(&self, flow: u32) -> &Flow
-        requires { flow < length self.now.flows }
+        requires known { flow < length self.now.flows }
         ensures flow { slice_get self.now.flows flow ≡ Some result.now }
         ensures valid { IsValidFlow self.now.lans result.now }
     {
@@ -218,7 +218,7 @@ impl Topology {
 
     /// The name of a router.
     pub fn router_name(&self, router: RouterNo) -> &str
-        requires { router < length self.now.routers }
+        requires known { router < length self.now.routers }
         ensures name { option_map (λ r. r.name) (slice_get self.now.routers router) ≡
             Some result.now }
         ensures number { router_no_of result.now self.now.routers ≡ Some router }
@@ -229,7 +229,7 @@ impl Topology {
 
     /// The name of a LAN.
     pub fn lan_name(&self, lan: LanNo) -> &str
-        requires { lan < length self.now.lans }
+        requires known { lan < length self.now.lans }
         ensures name { slice_get self.now.lans lan ≡ Some result.now }
         ensures number { index_of result.now self.now.lans ≡ Some lan }
         ensures named { IsTrue (is_name result.now) }

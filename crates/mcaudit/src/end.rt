@@ -7,9 +7,9 @@ ghost use Rattle.mcaudit.specs.Status.{exit_status_of_answer};
 
 use crate::failure::Failure;
 use crate::standard_error::ToStandardError;
+use mc_cli::{AuditWords, Task};
 use mc_files::Folder;
 use mc_run::{RunFault, print_refused_files};
-use mc_cli::{AuditWords, Task};
 use std::process::ExitCode;
 use std::rt::Files;
 

@@ -4,8 +4,8 @@ ghost use Rattle.std.specs.Prelude.{◌≡◌};
 ghost use Rattle.mcaudit.specs.declared.failure.Failure.TheVariants.{Words, Run};
 ghost use Rattle.mcaudit.specs.Status.{exit_status_of_failure};
 
-use mc_run::RunFault;
 use mc_cli::WordsFault;
+use mc_run::RunFault;
 use thiserror::Error;
 
 /// Why the program gives no answer. Its text is what standard error gets.

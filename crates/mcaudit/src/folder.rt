@@ -3,8 +3,8 @@
 ghost use Rattle.std.specs.Prelude.{◌≡◌, false};
 ghost use Rattle.mc_run.specs.Task.{folder_of};
 
-use mc_files::Folder;
 use mc_cli::Task;
+use mc_files::Folder;
 use std::rt::Files;
 
 /// The folder that the task reads. For a task that reads none it is the present directory, of which

@@ -7,7 +7,9 @@ use std::alloc::Global;
 use std::test::Fail;
 
 /// Why a domain is refused, and how many routers, tables and lists are handed back.
-fn refused_parts_count(answer: &Result<Domain, Refused>) -> Option<(DomainFault, u32, usize, usize)> {
+fn refused_parts_count(
+    answer: &Result<Domain, Refused>,
+) -> Option<(DomainFault, u32, usize, usize)> {
     match answer {
         Ok(_) => None,
         Err(refused) => Some((

@@ -33,7 +33,11 @@ const ROUTERS: &[(&str, &str)] = &[(
 const LANS: &[&str] = &["", "", WANTED, "", "", WANTED, WANTED, "", "", WANTED];
 
 /// The waiting copies with these indexes are handled, one after the other.
-fn handle_in_order(rt: &impl Abort, flight: &mut Flight<'_>, indexes: &[usize]) -> Result<(), Fail> {
+fn handle_in_order(
+    rt: &impl Abort,
+    flight: &mut Flight<'_>,
+    indexes: &[usize],
+) -> Result<(), Fail> {
     for index in indexes {
         let _event = handle_copy(rt, flight, *index)?;
     }
@@ -74,7 +78,11 @@ fn assert_carried_by_new_flight(
 }
 
 /// A TTL of 2 is below the need of l5.
-fn assert_branches_in_every_order(rt: &impl Abort, alloc: Global, domain: &Domain) -> Result<(), Fail> {
+fn assert_branches_in_every_order(
+    rt: &impl Abort,
+    alloc: Global,
+    domain: &Domain,
+) -> Result<(), Fail> {
     let once = [(3, 1), (4, 1), (5, 1), (6, 1)];
     let low = [(3, 1), (4, 1), (5, 0), (6, 1)];
     for indexes in [[0, 0, 0], [0, 1, 0], [1, 0, 0]] {

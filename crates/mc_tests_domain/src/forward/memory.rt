@@ -41,10 +41,21 @@ const OTHER_ROUTER: (&str, &str) = (
 ",
 );
 
-const ROUTERS: &[(&str, &str)] = &[FIRST_ROUTER, OTHER_ROUTER, OTHER_ROUTER, OTHER_ROUTER, OTHER_ROUTER, OTHER_ROUTER];
+const ROUTERS: &[(&str, &str)] = &[
+    FIRST_ROUTER,
+    OTHER_ROUTER,
+    OTHER_ROUTER,
+    OTHER_ROUTER,
+    OTHER_ROUTER,
+    OTHER_ROUTER,
+];
 
 /// The domain of the parts that a refusal handed back.
-fn assemble_handed_back_parts(rt: &impl Abort, alloc: Global, refused: Refused) -> Result<Domain, Fail> {
+fn assemble_handed_back_parts(
+    rt: &impl Abort,
+    alloc: Global,
+    refused: Refused,
+) -> Result<Domain, Fail> {
     assert_eq!(rt; refused.fault, DomainFault::Memory);
     assemble_domain(alloc, refused.topology, (refused.tables, refused.reports))
 }
@@ -130,7 +141,11 @@ fn handle_or_leave_unchanged(
     handle_copy(rt, flight, 0)
 }
 
-fn handle_with_retry(rt: &impl Abort, alloc: Global, flight: &mut Flight<'_>) -> Result<Event, Fail> {
+fn handle_with_retry(
+    rt: &impl Abort,
+    alloc: Global,
+    flight: &mut Flight<'_>,
+) -> Result<Event, Fail> {
     let snapshot = snapshot_of(alloc, flight)?;
     handle_or_leave_unchanged(rt, flight, &snapshot)
 }
@@ -155,7 +170,11 @@ fn expected_outcome(number: u32) -> Outcome {
 fn handle_all_copies(rt: &impl Abort, alloc: Global, flight: &mut Flight<'_>) -> Result<(), Fail> {
     for number in 0..36 {
         let event = handle_with_retry(rt, alloc, flight)?;
-        assert_eq!(rt; event.outcome, expected_outcome(number), "handling {number}");
+        assert_eq!(rt;
+            event.outcome,
+            expected_outcome(number),
+            "handling {number}"
+        );
     }
     Ok(())
 }

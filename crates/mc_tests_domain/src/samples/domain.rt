@@ -33,7 +33,11 @@ pub(crate) fn parts_of(
 }
 
 /// The domain of these parts. A failure names the fault alone: the parts, which come back with it, would hide it.
-pub(crate) fn assemble_domain(alloc: Global, topology: Topology, parts: Parts) -> Result<Domain, Fail> {
+pub(crate) fn assemble_domain(
+    alloc: Global,
+    topology: Topology,
+    parts: Parts,
+) -> Result<Domain, Fail> {
     match Domain::assemble(alloc, topology, parts.0, parts.1) {
         Ok(domain) => Ok(domain),
         Err(refused) => {

@@ -25,5 +25,9 @@ pub(crate) fn entry_behind(lan: u8, need: u8, router: u32, vif: u8) -> Reached {
 
 /// What certifies a flow along the chain.
 pub(crate) fn chain_entries() -> [Reached; 3] {
-    [source_entry(1), entry_behind(1, 2, 0, 1), entry_behind(2, 3, 1, 1)]
+    [
+        source_entry(1),
+        entry_behind(1, 2, 0, 1),
+        entry_behind(2, 3, 1, 1),
+    ]
 }

@@ -2,7 +2,7 @@
 //! granted each text is read once. `rt try --test --fail-alloc N`, for N from 1 on, refuses one
 //! growth after the other: the reader answers that again, and the text is then read by another one.
 
-use super::memory::{has_entry_for, has_entry, has_vif, has_wildcard_row, oif, is_out_of_memory};
+use super::memory::{has_entry, has_entry_for, has_vif, has_wildcard_row, is_out_of_memory, oif};
 use mc_tables::{
     CacheReader, CacheTable, ListedPairs, TableFault, TableFaultKind, VifReader, VifTable,
 };

@@ -78,7 +78,7 @@ fn a_full_writer_fails(rt: HostRuntime) {
 /// Reads up to four bytes through a reference to the input. Its clauses show that the lender knows
 /// its device afterwards.
 fn read_lent<R: Input>(alloc: Global, input: &mut R) -> Result<Vec<u8>, ReadFault>
-    requires { R.failed input.old < u64.MAX }
+    requires failures { R.failed input.old < u64.MAX }
     ensures same { R.borrows input.new ≡ R.borrows input.old }
     ensures consumed { ConsumesUpTo 4 (R.remaining input.old) (R.remaining input.new) }
     ensures failures { R.failed input.new ≡ failures_after is_read result (R.failed input.old) }
@@ -89,7 +89,7 @@ fn read_lent<R: Input>(alloc: Global, input: &mut R) -> Result<Vec<u8>, ReadFaul
 
 /// Writes the text through a reference to the output.
 fn write_lent<W: Output>(output: &mut W, text: &[u8]) -> Result<(), DeviceFault>
-    requires { W.failed output.old < u64.MAX }
+    requires failures { W.failed output.old < u64.MAX }
     ensures same { W.borrows output.new ≡ W.borrows output.old }
     ensures ok { OnOk result (Appends (W.written output.old) (W.written output.new) text.now) }
     ensures err { OnErr result (AppendsProperPrefix (W.written output.old) (W.written output.new) text.now) }

@@ -56,7 +56,10 @@ const FAULTS: &str = "\
 
 /// The fault is met with the last of so many bytes.
 fn check_fault_at(rt: &impl Abort, text: &[u8], count: usize, fault: BundleFault) {
-    assert!(rt; fault_if_input_fails_after(text, count) == Some(fault), "{count} {fault}");
+    assert!(rt;
+        fault_if_input_fails_after(text, count) == Some(fault),
+        "{count} {fault}"
+    );
     let earlier = fault_if_input_fails_after(text, count.saturating_sub(1));
     assert!(rt;
         earlier == Some(BundleFault::Read),

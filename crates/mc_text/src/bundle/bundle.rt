@@ -96,7 +96,9 @@ fn check_end_is_last(place: &BundlePlace<'_>, after: &[u8]) -> Result<(), Bundle
 
 /// The part at a place and the place after it, or nothing at the end.
 #[tactic(auto, unfolding(crate::specs::BundleReading::next_part_from))]
-fn next_part_at<'a>(place: &BundlePlace<'a>) -> Result<Option<(Part<'a>, BundlePlace<'a>)>, BundleFault>
+fn next_part_at<'a>(
+    place: &BundlePlace<'a>,
+) -> Result<Option<(Part<'a>, BundlePlace<'a>)>, BundleFault>
     ensures { Gives (option_map part_and_place_text) result (next_part_from (place_text place.now)) }
 {
     let (line, after) = line_at(place.rest)?;
@@ -197,8 +199,8 @@ impl<'a> Bundle<'a> {
 
     /// The part at a place, which is counted from 0 and below `count`.
     pub fn part(&self, place: usize) -> Part<'a>
-        requires { place < length self.now }
-        ensures { slice_get self.now place ≡ Some (part_text result) }
+        requires known { place < length self.now }
+        ensures item { slice_get self.now place ≡ Some (part_text result) }
     {
         let part = &self.parts[place];
         Part {

@@ -24,7 +24,7 @@ use itoa::Buffer;
 /// `TooLarge` where the parts pass a limit, and nothing is written. `Write` at the first call that
 /// answers an error or takes no byte; a proper part of the bundle was written then, from its front.
 pub fn write_bundle<W: Output>(parts: &[Part<'_>], output: &mut W) -> Result<(), BundleFault>
-    requires { W.failed output.old < u64.MAX }
+    requires failures { W.failed output.old < u64.MAX }
     ensures same { W.borrows output.new ≡ W.borrows output.old }
     ensures ok { OnOk result
         (AppendsBundle (W.written output.old) (W.written output.new) (part_texts parts.now)) }
@@ -70,7 +70,7 @@ fn are_within_limits(parts: &[Part<'_>]) -> bool
 
 /// How many bytes a part takes, with its line.
 fn encoded_part_size(part: &Part<'_>) -> usize
-    requires { length part.now.bytes.now ≤ MAX_PART }
+    requires bounded { length part.now.bytes.now ≤ MAX_PART }
     ensures size { result ≡ length (part_spelling (part_text part.now)) }
     ensures bound { result ≤ MAX_PART + 92 }
     ensures named { IsPartName part.now.name }
@@ -83,7 +83,7 @@ fn encoded_part_size(part: &Part<'_>) -> usize
 
 /// Writes the bundle of the parts, whatever they are.
 fn write_parts<W: Output>(output: &mut W, parts: &[Part<'_>]) -> Result<(), DeviceFault>
-    requires { W.failed output.old < u64.MAX }
+    requires failures { W.failed output.old < u64.MAX }
     ensures same { W.borrows output.new ≡ W.borrows output.old }
     ensures ok { OnOk result
         (Appends (W.written output.old) (W.written output.new) (bundle_spelling (part_texts parts.now))) }
@@ -100,7 +100,7 @@ fn write_parts<W: Output>(output: &mut W, parts: &[Part<'_>]) -> Result<(), Devi
 
 /// Writes a part, with its line.
 fn write_part<W: Output>(output: &mut W, part: &Part<'_>) -> Result<(), DeviceFault>
-    requires { W.failed output.old < u64.MAX }
+    requires failures { W.failed output.old < u64.MAX }
     ensures same { W.borrows output.new ≡ W.borrows output.old }
     ensures ok { OnOk result
         (Appends (W.written output.old) (W.written output.new) (part_spelling (part_text part.now))) }
@@ -110,7 +110,10 @@ fn write_part<W: Output>(output: &mut W, part: &Part<'_>) -> Result<(), DeviceFa
 {
     let mut buffer = Buffer::new();
     let digits = buffer.format(part.bytes.len()).as_bytes();
-    write_pieces(output, &part_pieces(part.name.as_bytes(), digits, part.bytes))
+    write_pieces(
+        output,
+        &part_pieces(part.name.as_bytes(), digits, part.bytes),
+    )
 }
 
 /// The pieces of a part.

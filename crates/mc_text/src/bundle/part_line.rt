@@ -71,8 +71,8 @@ fn are_digits(word: &[u8]) -> bool
 /// The number that the digits write, or the greatest one of 64 bits.
 #[tactic(auto, using(crate::proofs::NumberReading::number_or_greatest))]
 fn length_or_max(digits: &[u8]) -> u64
-    requires { is_decimal digits.now ≡ true }
-    ensures { result ≡ min (digits_value 10 digits.now) u64.MAX }
+    requires decimal { is_decimal digits.now ≡ true }
+    ensures value { result ≡ min (digits_value 10 digits.now) u64.MAX }
 {
     decimal(digits, u64::MAX).unwrap_or(u64::MAX)
 }

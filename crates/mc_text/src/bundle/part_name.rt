@@ -98,7 +98,7 @@ fn is_name_byte(byte: u8) -> bool
 
 /// The bytes, and zeros after them.
 fn padded(bytes: &[u8]) -> [u8; MAX_NAME]
-    requires { length bytes.now ≤ MAX_NAME }
+    requires bounded { length bytes.now ≤ MAX_NAME }
     ensures value { result ≡ with_zeros bytes.now }
     ensures full { length result ≡ MAX_NAME }
 {

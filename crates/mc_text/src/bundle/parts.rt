@@ -72,7 +72,7 @@ impl<R: Input> Parts<R> {
     ///
     /// The first fault from the front, `Read` where the input failed, and `Failed` after either.
     pub fn next(&mut self) -> Result<bool, BundleFault>
-        requires { self.old.failed < u64.MAX }
+        requires failures { self.old.failed < u64.MAX }
         ensures borrows { self.new.borrows ≡ self.old.borrows }
         // Where a part was opened, the bundle is what was passed, with the present part, and what is
         // still to come.
@@ -141,16 +141,16 @@ impl<R: Input> Parts<R> {
 
     /// The name of the part that the last `next` opened, which has to be there.
     pub fn name(&self) -> PartName
-        requires { self.now.stage ≡ stages.Part }
-        ensures { self.now.name ≡ Some result }
+        requires in_part { self.now.stage ≡ stages.Part }
+        ensures item { self.now.name ≡ Some result }
     {
         self.name.unwrap()
     }
 
     /// The length of that part, in bytes.
     pub fn length(&self) -> u32
-        requires { self.now.stage ≡ stages.Part }
-        ensures { result ≡ self.now.size }
+        requires in_part { self.now.stage ≡ stages.Part }
+        ensures value { result ≡ self.now.size }
     {
         self.size as u32
     }
@@ -164,7 +164,7 @@ impl<R: Input> Parts<R> {
     /// `Truncated` where the input ends before the part does, `Read` where it failed, and `Failed`
     /// after either.
     pub fn read(&mut self, buffer: &mut [u8]) -> Result<usize, BundleFault>
-        requires { self.old.failed < u64.MAX }
+        requires failures { self.old.failed < u64.MAX }
         ensures borrows { self.new.borrows ≡ self.old.borrows }
         ensures bound { IfOk result (λ n. n ≤ length buffer.new) }
         // The bytes that were read move from what is to come to what was read of the part, and the

@@ -20,7 +20,7 @@ use crate::io::Input;
 
 /// Reads until the buffer is full or the input is at its end, and answers how many bytes.
 pub(crate) fn fill_buffer<R: Input>(input: &mut R, buffer: &mut [u8]) -> Result<usize, BundleFault>
-    requires { R.failed input.old < u64.MAX }
+    requires failures { R.failed input.old < u64.MAX }
     ensures same { R.borrows input.new ≡ R.borrows input.old }
     ensures bound { IfOk result (λ n. n ≤ length buffer.new) }
     ensures bytes { IfOk result
@@ -43,7 +43,7 @@ pub(crate) fn fill_buffer<R: Input>(input: &mut R, buffer: &mut [u8]) -> Result<
 
 /// Reads the first line.
 pub(crate) fn read_magic<R: Input>(input: &mut R) -> Result<(), BundleFault>
-    requires { R.failed input.old < u64.MAX }
+    requires failures { R.failed input.old < u64.MAX }
     ensures same { R.borrows input.new ≡ R.borrows input.old }
     ensures reads { ReadsAs (λ x. x) (R.remaining input.old) (R.remaining input.new) result magic_of }
     ensures consumed { ConsumesUpTo 17 (R.remaining input.old) (R.remaining input.new) }
@@ -60,7 +60,7 @@ pub(crate) fn read_magic<R: Input>(input: &mut R) -> Result<(), BundleFault>
 
 /// Reads the next byte, if there is one.
 fn next_byte<R: Input>(input: &mut R) -> Result<Option<u8>, BundleFault>
-    requires { R.failed input.old < u64.MAX }
+    requires failures { R.failed input.old < u64.MAX }
     ensures same { R.borrows input.new ≡ R.borrows input.old }
     ensures none { IfOk result (λ byte. byte ≡ None →
         Consumes (R.remaining input.old) (R.remaining input.new) [] × IsAtEnd (R.remaining input.new)) }
@@ -80,7 +80,7 @@ fn next_byte<R: Input>(input: &mut R) -> Result<Option<u8>, BundleFault>
 
 /// Reads a line without its line feed to the buffer's front, and answers its length.
 fn read_line<R: Input>(input: &mut R, line: &mut [u8; 96]) -> Result<usize, BundleFault>
-    requires { R.failed input.old < u64.MAX }
+    requires failures { R.failed input.old < u64.MAX }
     ensures same { R.borrows input.new ≡ R.borrows input.old }
     ensures bound { IfOk result (λ n. n < 96) }
     ensures reads { ReadsAs (λ n. take n line.new) (R.remaining input.old) (R.remaining input.new) result line_of }
@@ -106,7 +106,7 @@ fn read_line<R: Input>(input: &mut R, line: &mut [u8; 96]) -> Result<usize, Bund
 
 /// Passes what is left of a part, and its line feed.
 pub(crate) fn skip_rest<R: Input>(input: &mut R, left: usize) -> Result<(), BundleFault>
-    requires { R.failed input.old < u64.MAX }
+    requires failures { R.failed input.old < u64.MAX }
     ensures same { R.borrows input.new ≡ R.borrows input.old }
     ensures reads { ReadsAs (λ x. x) (R.remaining input.old) (R.remaining input.new) result (rest_of_part left) }
     ensures consumed { ConsumesUpTo (left + 1) (R.remaining input.old) (R.remaining input.new) }
@@ -131,7 +131,7 @@ pub(crate) fn skip_rest<R: Input>(input: &mut R, left: usize) -> Result<(), Bund
 
 /// Nothing may follow the line `end`.
 fn read_end<R: Input>(input: &mut R, room: usize) -> Result<(), BundleFault>
-    requires { R.failed input.old < u64.MAX }
+    requires failures { R.failed input.old < u64.MAX }
     ensures same { R.borrows input.new ≡ R.borrows input.old }
     ensures reads { ReadsAs (λ _. None) (R.remaining input.old) (R.remaining input.new) result (opened_end room) }
     ensures consumed { ConsumesUpTo 1 (R.remaining input.old) (R.remaining input.new) }
@@ -154,7 +154,7 @@ fn open_part(
     line: &[u8],
     header: Option<(PartName, u64)>,
 ) -> Result<OpenPart, BundleFault>
-    requires { length line.now < 96 }
+    requires bounded { length line.now < 96 }
     ensures opened { (exact : Option (List ℕ × ℕ)) →
         header ≡ option_map (λ s. (s.0, min s.1 u64.MAX)) exact →
         result ≡ opened_part parts room line.now exact }
@@ -189,7 +189,7 @@ pub(crate) fn open_next<R: Input>(
     parts: usize,
     room: usize,
 ) -> Result<Option<OpenPart>, BundleFault>
-    requires { R.failed input.old < u64.MAX }
+    requires failures { R.failed input.old < u64.MAX }
     ensures same { R.borrows input.new ≡ R.borrows input.old }
     ensures reads { ReadsAs (λ o. o) (R.remaining input.old) (R.remaining input.new) result
         (opened_at parts room) }
@@ -219,7 +219,7 @@ pub(crate) fn read_next<R: Input>(
     parts: usize,
     room: usize,
 ) -> Result<Option<OpenPart>, BundleFault>
-    requires { R.failed input.old < u64.MAX }
+    requires failures { R.failed input.old < u64.MAX }
     ensures same { R.borrows input.new ≡ R.borrows input.old }
     ensures reads { ReadsAs (λ o. o) (R.remaining input.old) (R.remaining input.new) result
         (opened_next start left parts room) }

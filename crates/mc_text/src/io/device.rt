@@ -38,7 +38,7 @@ pub trait Input {
     /// end of the input or for an empty buffer. A call that answers an error took no byte. It may
     /// be called while the count of failures is below `u64::MAX`.
     fn read(&mut self, buffer: &mut [u8]) -> Result<usize, DeviceFault>
-        requires { failed self.old < u64.MAX }
+        requires failures { failed self.old < u64.MAX }
         ensures same { borrows self.new ≡ borrows self.old }
         ensures bound { ReadsAtMost result buffer.new }
         ensures bytes { ReadConsumes (remaining self.old) (remaining self.new) result buffer.new }
@@ -79,7 +79,7 @@ pub trait Output {
     /// Takes bytes from the text's front, and answers how many. A call that answers an error took
     /// none. It may be called while the count of failures is below `u64::MAX`.
     fn write(&mut self, text: &[u8]) -> Result<usize, DeviceFault>
-        requires { failed self.old < u64.MAX }
+        requires failures { failed self.old < u64.MAX }
         ensures same { borrows self.new ≡ borrows self.old }
         ensures bound { WritesAtMost result text.now }
         ensures bytes { WriteAppends (written self.old) (written self.new) result text.now }

@@ -34,7 +34,7 @@ pub fn read_to_limit<R: Input>(
     input: &mut R,
     limit: usize,
 ) -> Result<Vec<u8>, ReadFault>
-    requires { R.failed input.old < u64.MAX }
+    requires failures { R.failed input.old < u64.MAX }
     ensures same { R.borrows input.new ≡ R.borrows input.old }
     ensures bound { IfOk result (λ bytes. vec_len bytes ≤ limit) }
     // All that the input still had, or its first bytes as many as the limit allows.

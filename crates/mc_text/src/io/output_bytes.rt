@@ -14,7 +14,7 @@ use crate::io::device::{DeviceFault, Output};
 /// At the first call of `write` that answers an error or takes no byte. A proper part of the text
 /// was taken then, from its front.
 pub fn write_all<W: Output>(output: &mut W, text: &[u8]) -> Result<(), DeviceFault>
-    requires { W.failed output.old < u64.MAX }
+    requires failures { W.failed output.old < u64.MAX }
     ensures same { W.borrows output.new ≡ W.borrows output.old }
     ensures ok { OnOk result (Appends (W.written output.old) (W.written output.new) text.now) }
     ensures err { OnErr result (AppendsProperPrefix (W.written output.old) (W.written output.new) text.now) }
@@ -33,7 +33,7 @@ pub fn write_all<W: Output>(output: &mut W, text: &[u8]) -> Result<(), DeviceFau
 
 /// Writes the pieces one after the other.
 pub(crate) fn write_pieces<W: Output>(output: &mut W, pieces: &[&[u8]]) -> Result<(), DeviceFault>
-    requires { W.failed output.old < u64.MAX }
+    requires failures { W.failed output.old < u64.MAX }
     ensures same { W.borrows output.new ≡ W.borrows output.old }
     ensures ok { OnOk result (Appends
         (W.written output.old) (W.written output.new) (flat_map (λ piece. piece.now) pieces.now)) }

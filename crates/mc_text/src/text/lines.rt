@@ -43,8 +43,8 @@ impl<'a> Lines<'a> {
 
     /// The lines of a text of at most 16,777,216 bytes.
     pub fn new(text: &'a [u8]) -> Lines<'a>
-        requires { length text.now ≤ max_text }
-        ensures { result ≡ lines_of text.now }
+        requires bounded { length text.now ≤ max_text }
+        ensures value { result ≡ lines_of text.now }
     {
         Lines {
             rest: text,

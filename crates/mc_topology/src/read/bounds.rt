@@ -118,8 +118,8 @@ fn is_mark(byte: u8) -> bool
 
 /// The brackets that are open behind a byte outside of strings and comments.
 fn nesting_after(nesting: usize, byte: u8) -> usize
-    requires { nesting < MAX_TEXT }
-    ensures { result ≡ nesting_after nesting byte }
+    requires bounded { nesting < MAX_TEXT }
+    ensures value { result ≡ nesting_after nesting byte }
 {
     match byte {
         b'[' | b'{' => nesting + 1,
@@ -196,8 +196,8 @@ impl LinePart {
 
     /// How many bytes the last header has behind a byte that leads to this place.
     fn header_after(self, header: usize, place: LexState, byte: u8) -> usize
-        requires { header < MAX_TEXT }
-        ensures { result ≡ header_after self header place byte }
+        requires bounded { header < MAX_TEXT }
+        ensures value { result ≡ header_after self header place byte }
     {
         match self {
             LinePart::Margin if byte == b'[' => 1,
@@ -215,7 +215,7 @@ impl Scan {
         requires short { self.header < MAX_TEXT }
         requires cheap { self.compared < 2 ^ 48 }
         requires few { self.marks < MAX_TEXT }
-        ensures { result ≡ with_byte self byte }
+        ensures value { result ≡ with_byte self byte }
     {
         let place = self.place.after_byte(byte);
         let is_outside = place.is_outside();
@@ -248,8 +248,8 @@ impl Scan {
 /// Whether the text has at most so many marks, and no more bytes are compared.
 #[tactic(auto, unfolding(crate::specs::Bounds::is_bounded))]
 pub(super) fn is_bounded(text: &[u8]) -> bool
-    requires { length text.now ≤ MAX_TEXT }
-    ensures { result ≡ is_bounded text.now }
+    requires bounded { length text.now ≤ MAX_TEXT }
+    ensures value { result ≡ is_bounded text.now }
 {
     let mut scan = Scan {
         place: LexState::Outside,

@@ -115,7 +115,7 @@ pub(crate) fn interfaces_in(
 ) -> Result<Interfaces, TopologyFault>
     requires few_lans { length lans.now ≤ MAX_LANS }
     requires few_routers { length routers.now ≤ MAX_ROUTERS }
-    ensures { result ≢ Err out_of_memory →
+    ensures outcome { result ≢ Err out_of_memory →
         result ≡ interfaces_in lans.now routers.now (table_view table.now) }
 {
     let rows = locate_fault(

@@ -46,7 +46,10 @@ fn order_of(text: Option<&str>) -> Result<Order, TopologyFaultKind>
 
 /// Reads one router, whose name none of the earlier ones has.
 #[tactic(auto, unfolding(crate::specs::Routers::router_of))]
-fn router_of<'a>(earlier: &Routers, value: &'a Value) -> Result<BorrowedRouter<'a>, TopologyFaultKind>
+fn router_of<'a>(
+    earlier: &Routers,
+    value: &'a Value,
+) -> Result<BorrowedRouter<'a>, TopologyFaultKind>
     ensures router { result ≡ router_of earlier.now (view value.now) }
     ensures new { IfOk result (λ r. has_router r.name earlier.now ≡ false) }
 {

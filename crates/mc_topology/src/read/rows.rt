@@ -38,7 +38,7 @@ pub(crate) trait SectionRows<B>: Drop {
         number: u32,
         row: &Value,
     ) -> Result<(), TopologyFault>
-        requires { few before.now }
+        requires bounded { few before.now }
         ensures added { OnOk result
             ((x : Row) × (row_value before.now (rows self.old) (view row.now) ≡ Ok x)
             × (rows self.new ≡ rows self.old ++ x ∷ [])) }

@@ -24,7 +24,7 @@ fn source_of_values(
     text: &str,
     lan_name: &str,
 ) -> Result<Source, TopologyFaultKind>
-    requires { length lans.now ≤ MAX_LANS }
+    requires bounded { length lans.now ≤ MAX_LANS }
     ensures source { result ≡ source_of_values lans.now earlier.now text.now lan_name.now }
     ensures new { IfOk result (λ s. has_source s.address earlier.now ≡ false) }
 {
@@ -41,7 +41,7 @@ fn source_of_values(
 /// Reads one source, whose address none of the earlier ones has.
 #[tactic(auto, unfolding(crate::specs::Sources::source_of))]
 fn source_of(lans: &Lans, earlier: &Sources, value: &Value) -> Result<Source, TopologyFaultKind>
-    requires { length lans.now ≤ MAX_LANS }
+    requires bounded { length lans.now ≤ MAX_LANS }
     ensures source { result ≡ source_of lans.now earlier.now (view value.now) }
     ensures new { IfOk result (λ s. has_source s.address earlier.now ≡ false) }
 {
@@ -84,8 +84,8 @@ pub(crate) fn sources_in(
     lans: &Lans,
     table: &Table,
 ) -> Result<Sources, TopologyFault>
-    requires { length lans.now ≤ MAX_LANS }
-    ensures { result ≢ Err out_of_memory → result ≡ sources_in lans.now (table_view table.now) }
+    requires bounded { length lans.now ≤ MAX_LANS }
+    ensures outcome { result ≢ Err out_of_memory → result ≡ sources_in lans.now (table_view table.now) }
 {
     let rows = locate_fault(Section::Source, 0, rows_at(table, "source", MAX_SOURCES))?;
     each_row(alloc, lans, Sources::new(alloc), rows)

@@ -7,7 +7,7 @@ pub loop-flow-preserved : goal.loop-flow-preserved
 loop-flow-preserved c =
     let numbers = c.args.numbers.now in
     let within : c.loop-flow.flow < length numbers =
-    omega (arith, c.requires, c.flows-flow-end.ensures.count, c.loop-flow-test.true) in
+    omega (arith, c.requires.lengths, c.flows-flow-end.ensures.count, c.loop-flow-test.true) in
     record {
       is_text = search rules;
       so_far =
@@ -15,7 +15,7 @@ loop-flow-preserved c =
           (string_bytes c.push_flow.new.text) c.args.topology.now.flows numbers
           c.loop-flow.flow c.flow.result.now
           c.flow.ensures.flow within
-          (c.in_ok-push_flow.ensures
+          (c.in_ok-push_flow.ensures.ok
           ∙ ap (λ s. s ++ flow_text c.flow.result.now (get_or numbers c.loop-flow.flow 0))
           c.in_ok-push_str.ensures.bytes) c.loop-flow.invariant.so_far;
     }

@@ -9,14 +9,16 @@ use Rattle.mc_cert.proofs.TextLemmas.{listed_after-more}
 use Rattle.mc_cert.proofs.json_text.push_trees.Goals as goal
 
 pub push_tree-requires : goal.push_tree-requires
-push_tree-requires c =
-    let trees = c.args.trees.now in
-    let i = c.loop-tree.tree-index in
-    subst (λ (es : Tree). All (IsEntryOf c.args.topology.now) es)
-    (get_or-map (λ t. t.value.items) trees i c.tree-item.result [] c.loop-tree-test.true
-    ∙ ap (λ t. t.value.items) (sym c.tree-item.is)
-    ∙ sym (c.as_slice.ensures.value ∙ ap (λ v. v.items) c.deref.ensures))
-    (c.requires i [] (omega (arith, c.loop-tree-test.true, length-map trees (λ t. t.value.items))))
+push_tree-requires c = record {
+  valid = (
+      let trees = c.args.trees.now in
+      let i = c.loop-tree.tree-index in
+      subst (λ (es : Tree). All (IsEntryOf c.args.topology.now) es)
+      (get_or-map (λ t. t.value.items) trees i c.tree-item.result [] c.loop-tree-test.true
+      ∙ ap (λ t. t.value.items) (sym c.tree-item.is)
+      ∙ sym (c.as_slice.ensures.value ∙ ap (λ v. v.items) c.deref.ensures))
+      (c.requires.valid i [] (omega (arith, c.loop-tree-test.true, length-map trees (λ t. t.value.items)))));
+}
 
 pub loop-tree-preserved : goal.loop-tree-preserved
 loop-tree-preserved c =

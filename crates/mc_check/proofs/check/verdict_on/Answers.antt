@@ -4,14 +4,18 @@ use Rattle.mc_check.proofs.VerdictLemmas.{is_first_reason-of_domain, entry_count
 use Rattle.mc_check.proofs.check.verdict_on.Goals as goal
 
 pub verdict_by-requires : goal.verdict_by-requires
-verdict_by-requires c =
-    let d = c.args.domain.now in
-    let ok = c.topology-rules.ensures.rules in
-    entry_count_fits d c.args.flow c.args.entries.now c.in_ok-reason.reason ok
-    (is_first_reason-of_domain d c.args.flow c.args.entries.now c.in_ok-reason.reason ok c.requires.flow
-    c.in_ok-reason.ensures) c.requires.lans
+verdict_by-requires c = record {
+  bounded = (
+      let d = c.args.domain.now in
+      let ok = c.topology-rules.ensures.rules in
+      entry_count_fits d c.args.flow c.args.entries.now c.in_ok-reason.reason ok
+      (is_first_reason-of_domain d c.args.flow c.args.entries.now c.in_ok-reason.reason ok c.requires.flow
+      c.in_ok-reason.ensures) c.requires.lans);
+}
 
 pub returns : goal.returns
-returns c =
-    correct_verdict-verdict_by c.args.domain.now c.args.flow c.args.entries.now c.in_ok-reason.reason c.verdict_by.result
-    c.topology-rules.ensures.rules c.requires.flow c.in_ok-reason.ensures c.verdict_by.ensures
+returns c = record {
+  ok = (
+      correct_verdict-verdict_by c.args.domain.now c.args.flow c.args.entries.now c.in_ok-reason.reason c.verdict_by.result
+      c.topology-rules.ensures.rules c.requires.flow c.in_ok-reason.ensures c.verdict_by.ensures.value);
+}

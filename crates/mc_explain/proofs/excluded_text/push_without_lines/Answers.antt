@@ -26,7 +26,7 @@ loop-number-preserved c =
           (sym c.is_excluded.ensures ∙ w.if-is_excluded.true)
           (w.in_ok-writeln.ensures.bytes
           ∙ ap (λ (name : List ℕ). now ++ (codes "without " ++ (name ++ codes "\n")))
-          w.router_name_or_empty-name.ensures))
+          w.router_name_or_empty-name.ensures.item))
       | else-is_left_out w ↦ rw w.text-is (
           flat_map_filter-failed marked line n old now c.loop-number.invariant
           (sym c.is_excluded.ensures ∙ w.if-is_excluded.false))

@@ -13,7 +13,7 @@ loop-router-preserved c = λ p marked_routers.
     let i = c.loop-router.router-index in
     let r = c.router-item.result in
     let lt : r < length marks =
-    subst (λ (x : ℕ). x < length marks) (sym c.router-item.is) (c.requires i r c.loop-router-test.true)
+    subst (λ (x : ℕ). x < length marks) (sym c.router-item.is) (c.requires.within i r c.loop-router-test.true)
     in
     let test : get_or marks c.router.inside.0 false ≡ p r =
     ap (λ (n : ℕ). get_or marks n false) c.router.view_is ∙ marked_routers r lt in

@@ -13,4 +13,4 @@ add_next_lans-requires-clause-lines c =
     added_line-inside s c.args.lan _
     (places_inside-from_is_domain c.args.lan_probe.now.view.now.domain s c.topology-rules.ensures.rules.domain refl)
     (take_drop-added c.args.lines_so_far.now.items c.deref.result.now _ c.len-before.result
-    (c.deref.ensures.value ∙ c.in_ok-add_lan_lines.ensures) count)
+    (c.deref.ensures.value ∙ c.in_ok-add_lan_lines.ensures.added) count)

@@ -51,12 +51,14 @@ loop-pair-preserved c =
     ]
 
 pub returns : goal.returns
-returns c =
-    let summary = c.args.summary.now in
-    let router = c.args.router in
-    let pairs = c.args.pairs.now in
-    let own = c.pairs_in-own.result.now in
-    c.loop-pair.invariant
-    ∙ ap (λ (l : List (ℕ × ℕ)). map (with_routers_so_far summary router l) pairs)
-    (take_all c.loop-pair.pair-index own c.loop-pair-test.false ∙ c.pairs_in-own.ensures)
-    ∙ with_routers_so_far-all summary router pairs
+returns c = record {
+  ok = (
+      let summary = c.args.summary.now in
+      let router = c.args.router in
+      let pairs = c.args.pairs.now in
+      let own = c.pairs_in-own.result.now in
+      c.loop-pair.invariant
+      ∙ ap (λ (l : List (ℕ × ℕ)). map (with_routers_so_far summary router l) pairs)
+      (take_all c.loop-pair.pair-index own c.loop-pair-test.false ∙ c.pairs_in-own.ensures)
+      ∙ with_routers_so_far-all summary router pairs);
+}

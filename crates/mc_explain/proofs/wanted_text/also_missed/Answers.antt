@@ -10,17 +10,21 @@ use Rattle.mc_explain.proofs.FirstEightLemmas.{unmarked_lans}
 use Rattle.mc_explain.proofs.wanted_text.also_missed.Goals as goal
 
 pub mark_lans-requires : goal.mark_lans-requires
-mark_lans-requires c = λ k copy lt.
-    let listed = c.copies.ensures.lans k copy lt in
-    let few = c.topology-rules.ensures.rules.domain.topology.few_lans in
-    let same = ap (λ (v : FlowOfDomain). length v.domain.topology.lans) c.flow_view-view.ensures in
-    omega (arith, listed, few, same)
+mark_lans-requires c = record {
+  within = (λ k copy lt.
+      let listed = c.copies.ensures.lans k copy lt in
+      let few = c.topology-rules.ensures.rules.domain.topology.few_lans in
+      let same = ap (λ (v : FlowOfDomain). length v.domain.topology.lans) c.flow_view-view.ensures in
+      omega (arith, listed, few, same));
+}
 
 pub unmarked_lans-requires : goal.unmarked_lans-requires
-unmarked_lans-requires c =
-    let few = c.topology-rules.ensures.rules.domain.topology.few_lans in
-    let marks = c.mark_lans.ensures.count in
-    omega (arith, few, marks)
+unmarked_lans-requires c = record {
+  within = (
+      let few = c.topology-rules.ensures.rules.domain.topology.few_lans in
+      let marks = c.mark_lans.ensures.count in
+      omega (arith, few, marks));
+}
 
 pub returns : goal.returns
 returns c =
@@ -32,4 +36,4 @@ returns c =
     subst (λ (v : FlowOfDomain). IsFirstEightOf c.unmarked_lans.result
     (filter (is_also_missed (facts v.domain) v.flow copies c.args.missed)
     (below (length v.domain.topology.lans)))) c.flow_view-view.ensures
-    (c.unmarked_lans.ensures copies marked)
+    (c.unmarked_lans.ensures.marked copies marked)

@@ -20,12 +20,12 @@ loop-number-preserved c =
     elim c.if-wants.branch [
       | then-wants w ↦ rw w.front-is (record {
         so_far = is_first_eight_of-filter_passed wants c.loop-number.front w.add.new.self n now.so_far
-            (sym c.wants.ensures ∙ w.if-wants.true) w.add.ensures.first w.add.ensures.count;
+            (sym c.wants.ensures.value ∙ w.if-wants.true) w.add.ensures.first w.add.ensures.count;
         few = let few = now.few in let more = w.add.ensures.count in omega (arith, few, more);
       })
       | else-wants w ↦ rw w.front-is (record {
         so_far = is_first_eight_of-filter_failed wants c.loop-number.front n now.so_far
-            (sym c.wants.ensures ∙ w.if-wants.false);
+            (sym c.wants.ensures.value ∙ w.if-wants.false);
         few = let few = now.few in omega (arith, few);
       })
     ]

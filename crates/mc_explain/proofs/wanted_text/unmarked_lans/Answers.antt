@@ -25,14 +25,14 @@ loop-number-preserved c =
       | then-is_unmarked w ↦ rw w.front-is (record {
         so_far = λ copies marked. is_first_eight_of-filter_passed (also_missed copies) c.loop-number.front
             w.add.new.self n (now.so_far copies marked)
-            (sym (c.is_wanted_and_unmarked.ensures copies marked) ∙ w.if-is_wanted_and_unmarked.true)
+            (sym (c.is_wanted_and_unmarked.ensures.marked copies marked) ∙ w.if-is_wanted_and_unmarked.true)
             w.add.ensures.first w.add.ensures.count;
         few = let few = now.few in let more = w.add.ensures.count in omega (arith, few, more);
       })
       | else-is_unmarked w ↦ rw w.front-is (record {
         so_far = λ copies marked. is_first_eight_of-filter_failed (also_missed copies) c.loop-number.front n
             (now.so_far copies marked)
-            (sym (c.is_wanted_and_unmarked.ensures copies marked) ∙ w.if-is_wanted_and_unmarked.false);
+            (sym (c.is_wanted_and_unmarked.ensures.marked copies marked) ∙ w.if-is_wanted_and_unmarked.false);
         few = let few = now.few in omega (arith, few);
       })
     ]

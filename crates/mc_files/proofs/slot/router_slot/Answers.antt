@@ -3,15 +3,19 @@ use Rattle.mc_files.proofs.SlotLemmas.{slice_get-vif_slot, slice_get-cache_slot}
 use Rattle.mc_files.proofs.slot.router_slot.Goals as goal
 
 pub returns-then-number-eq0 : goal.returns-then-number-eq0
-returns-then-number-eq0 c = λ more.
-    slice_get-vif_slot more c.args.topology.now.routers (c.args.number / 2) c.args.number
-    c.router_name-router.result.now (omega (arith, c.if-number-eq0.true))
-    c.router_name-router.ensures.name
-    ∙ ap Some (sym c.vifs.ensures)
+returns-then-number-eq0 c = record {
+  item = (λ more.
+      slice_get-vif_slot more c.args.topology.now.routers (c.args.number / 2) c.args.number
+      c.router_name-router.result.now (omega (arith, c.if-number-eq0.true))
+      c.router_name-router.ensures.name
+      ∙ ap Some (sym c.vifs.ensures.value));
+}
 
 pub returns : goal.returns
-returns c = λ more.
-    slice_get-cache_slot more c.args.topology.now.routers (c.args.number / 2) c.args.number
-    c.router_name-router.result.now (omega (arith, c.if-number-eq0.false))
-    c.router_name-router.ensures.name
-    ∙ ap Some (sym c.cache.ensures)
+returns c = record {
+  item = (λ more.
+      slice_get-cache_slot more c.args.topology.now.routers (c.args.number / 2) c.args.number
+      c.router_name-router.result.now (omega (arith, c.if-number-eq0.false))
+      c.router_name-router.ensures.name
+      ∙ ap Some (sym c.cache.ensures.value));
+}

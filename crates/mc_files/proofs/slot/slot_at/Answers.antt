@@ -5,11 +5,11 @@ use Rattle.mc_files.proofs.slot.slot_at.Goals as goal
 pub returns-then-number-tables : goal.returns-then-number-tables
 returns-then-number-tables c =
     sym (router_slot c.args.certified c.args.topology.now c.args.number (c.args.number - 1)
-    c.router_slot.result (omega (arith, c.if-number-eq0.false)) c.router_slot.ensures)
+    c.router_slot.result (omega (arith, c.if-number-eq0.false)) c.router_slot.ensures.item)
 
 pub returns-then-lan-lans : goal.returns-then-lan-lans
 returns-then-lan-lans c =
-    ap Some c.reports.ensures
+    ap Some c.reports.ensures.value
     ∙ sym (slots-reports_slot c.args.certified c.args.topology.now c.args.number
     (c.args.number - 1 - 2 * c.routers-tables.result) c.lan_name.result.now
     (omega (arith, c.routers-tables.ensures.count, c.if-number-tables.false))

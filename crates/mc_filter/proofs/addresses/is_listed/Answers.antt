@@ -3,5 +3,7 @@ use Rattle.mc_filter.proofs.AscendingLemmas.{binary_search-is_ok}
 use Rattle.mc_filter.proofs.addresses.is_listed.Goals as goal
 
 pub returns : goal.returns
-returns c =
-    c.is_ok.ensures.value ∙ binary_search-is_ok _ _ _ c.requires c.binary_search.ensures.position
+returns c = record {
+  value = (
+      c.is_ok.ensures.value ∙ binary_search-is_ok _ _ _ c.requires.valid c.binary_search.ensures.position);
+}

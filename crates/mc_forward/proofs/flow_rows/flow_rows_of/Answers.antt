@@ -11,7 +11,7 @@ loop-flow-preserved c =
     let flow = c.flow.result.now in
     let row = row_value c.row_of-row.result in
     record {
-      rows = c.in_ok-push_row.ensures
+      rows = c.in_ok-push_row.ensures.added
           ∙ ap (λ (rs : List Row). rs ++ row ∷ []) c.loop-flow.invariant.rows
           ∙ map_take-one_row_more c.args.tables.now.cache c.args.topology.now.flows c.loop-flow.flow flow row
           c.flow.ensures.flow

@@ -17,13 +17,15 @@ loop-number-init c = record {
 }
 
 pub add_router-requires : goal.add_router-requires
-add_router-requires c = λ vif lan at.
-    let row : c.index-vif_lans-number.result ≡ get_or c.args.vif_lans.now c.loop-number.number [] =
-    c.index-vif_lans-number.is ∙ get_or_default c.args.vif_lans.now c.loop-number.number
-    c.index-vif_lans-number.result [] c.loop-number-test.true in
-    let lt = c.requires.listed c.loop-number.number vif lan (ap (λ os. get_or os vif None) (sym row)
-    ∙ at) in
-    omega (arith, lt, c.loop-number.invariant.count)
+add_router-requires c = record {
+  within = (λ vif lan at.
+      let row : c.index-vif_lans-number.result ≡ get_or c.args.vif_lans.now c.loop-number.number [] =
+      c.index-vif_lans-number.is ∙ get_or_default c.args.vif_lans.now c.loop-number.number
+      c.index-vif_lans-number.result [] c.loop-number-test.true in
+      let lt = c.requires.listed c.loop-number.number vif lan (ap (λ os. get_or os vif None) (sym row)
+      ∙ at) in
+      omega (arith, lt, c.loop-number.invariant.count));
+}
 
 pub loop-number-preserved : goal.loop-number-preserved
 loop-number-preserved c = record {
@@ -35,10 +37,12 @@ loop-number-preserved c = record {
 }
 
 pub returns : goal.returns
-returns c =
-    let end : c.loop-number.number ≡ length c.args.vif_lans.now =
-    omega (arith, c.loop-number-test.false, c.loop-number.auto.number-end) in
-    map_below-from_items c.loop-number.lists.items (interfaces_by_vif_lans c.args.vif_lans.now (length c.args.vif_lans.now))
-    c.args.lans [] c.loop-number.invariant.count
-    (λ lan lt. c.loop-number.invariant.each lan lt
-    ∙ ap (λ (n : ℕ). interfaces_by_vif_lans c.args.vif_lans.now n lan) end)
+returns c = record {
+  ok = (
+      let end : c.loop-number.number ≡ length c.args.vif_lans.now =
+      omega (arith, c.loop-number-test.false, c.loop-number.auto.number-end) in
+      map_below-from_items c.loop-number.lists.items (interfaces_by_vif_lans c.args.vif_lans.now (length c.args.vif_lans.now))
+      c.args.lans [] c.loop-number.invariant.count
+      (λ lan lt. c.loop-number.invariant.each lan lt
+      ∙ ap (λ (n : ℕ). interfaces_by_vif_lans c.args.vif_lans.now n lan) end));
+}

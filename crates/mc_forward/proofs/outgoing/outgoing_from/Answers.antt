@@ -4,8 +4,10 @@ use Rattle.mc_forward.proofs.OutgoingLemmas.{append-lower_vifs_and_rest}
 use Rattle.mc_forward.proofs.outgoing.outgoing_from.Goals as goal
 
 pub returns : goal.returns
-returns c =
-    let oifs = c.entry.inside.oifs.now in
-    let is : c.min.result ≡ min (c.args.vif + length oifs - 32) (length oifs) = search rules in
-    append-lower_vifs_and_rest c.args.entry.now oifs c.args.vif c.min.result c.requires
-    (ap (λ (e : EntryValue). e.oifs) c.entry.view_is) is
+returns c = record {
+  rest = (
+      let oifs = c.entry.inside.oifs.now in
+      let is : c.min.result ≡ min (c.args.vif + length oifs - 32) (length oifs) = search rules in
+      append-lower_vifs_and_rest c.args.entry.now oifs c.args.vif c.min.result c.requires.valid
+      (ap (λ (e : EntryValue). e.oifs) c.entry.view_is) is);
+}

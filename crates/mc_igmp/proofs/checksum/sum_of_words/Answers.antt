@@ -21,9 +21,11 @@ overflow_add-result c =
     omega (arith, last, bound)
 
 pub returns-in-len1 : goal.returns-in-len1
-returns-in-len1 c = omega (arith, word_sum-last c.loop-rest.rest.now (omega arith))
+returns-in-len1 c = record { value = omega (arith, word_sum-last c.loop-rest.rest.now (omega arith)) }
 
 pub returns-in_default-rest : goal.returns-in_default-rest
-returns-in_default-rest c =
-    let none = get_or_past c.loop-rest.rest.now 0 0 (omega arith) in
-    omega (arith, word_sum-last c.loop-rest.rest.now (omega arith), none)
+returns-in_default-rest c = record {
+  value = (
+      let none = get_or_past c.loop-rest.rest.now 0 0 (omega arith) in
+      omega (arith, word_sum-last c.loop-rest.rest.now (omega arith), none));
+}

@@ -4,15 +4,19 @@ use Rattle.mc_igmp.proofs.ListLemmas.{first_change-none}
 use Rattle.mc_igmp.proofs.list.first_change_of.Goals as goal
 
 pub returns-then-has_no_changes : goal.returns-then-has_no_changes
-returns-then-has_no_changes c =
-    sym (first_change-none 1 c.args.records.now (c.if-has_no_changes.ensures refl))
+returns-then-has_no_changes c = record {
+  value = (
+      sym (first_change-none 1 c.args.records.now (c.if-has_no_changes.ensures refl)));
+}
 
 pub returns-then-is_change : goal.returns-then-is_change
 unfolding first_change
-returns-then-is_change c =
-    let others = rw c.in-Some.ensures.steps at c.loop-record.invariant.others in
-    let change = sym c.is_change.ensures ∙ c.if-is_change.true in
-    rw (← others, change) refl
+returns-then-is_change c = record {
+  value = (
+      let others = rw c.in-Some.ensures.steps at c.loop-record.invariant.others in
+      let change = sym c.is_change.ensures ∙ c.if-is_change.true in
+      rw (← others, change) refl);
+}
 
 pub loop-record-preserved : goal.loop-record-preserved
 unfolding first_change
@@ -26,4 +30,4 @@ loop-record-preserved c =
 
 pub returns : goal.returns
 unfolding first_change
-returns c = rw c.in-None.ensures.steps.0 at c.loop-record.invariant.others
+returns c = record { value = rw c.in-None.ensures.steps.0 at c.loop-record.invariant.others }

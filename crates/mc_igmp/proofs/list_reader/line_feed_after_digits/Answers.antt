@@ -5,15 +5,19 @@ use Rattle.mc_igmp.proofs.DecodeAheadLemmas.{position-line_feed_after_digits, po
 use Rattle.mc_igmp.proofs.list_reader.line_feed_after_digits.Goals as goal
 
 pub returns-in_err-place : goal.returns-in_err-place
-returns-in_err-place c =
-    let text = c.args.text.now in
-    let part = between_to_end text c.args.digits (length text) (omega (arith, c.requires.within)) in
-    c.from_residual.ensures ∙ sym (position-no_line_feed_after_digits c.args.digits text c.requires.within c.requires.digits
-    (ap (position (λ (b : ℕ). eqb b 10)) (sym part) ∙ sym c.in_err-place.ensures))
+returns-in_err-place c = record {
+  value = (
+      let text = c.args.text.now in
+      let part = between_to_end text c.args.digits (length text) (omega (arith, c.requires.within)) in
+      c.from_residual.ensures ∙ sym (position-no_line_feed_after_digits c.args.digits text c.requires.within c.requires.digits
+      (ap (position (λ (b : ℕ). eqb b 10)) (sym part) ∙ sym c.in_err-place.ensures)));
+}
 
 pub returns : goal.returns
-returns c =
-    let text = c.args.text.now in
-    let part = between_to_end text c.args.digits (length text) (omega (arith, c.requires.within)) in
-    sym (position-line_feed_after_digits c.args.digits text c.in_ok-place.place c.requires.within c.requires.digits
-    (ap (position (λ (b : ℕ). eqb b 10)) (sym part) ∙ sym c.in_ok-place.ensures))
+returns c = record {
+  value = (
+      let text = c.args.text.now in
+      let part = between_to_end text c.args.digits (length text) (omega (arith, c.requires.within)) in
+      sym (position-line_feed_after_digits c.args.digits text c.in_ok-place.place c.requires.within c.requires.digits
+      (ap (position (λ (b : ℕ). eqb b 10)) (sym part) ∙ sym c.in_ok-place.ensures)));
+}

@@ -3,14 +3,18 @@ use Rattle.mc_igmp.proofs.MessageLemmas.{read_by_type-version_3_report, read_by_
 use Rattle.mc_igmp.proofs.message.parse_by_type.Goals as goal
 
 pub returns-in-34 : goal.returns-in-34
-returns-in-34 c =
-    read_by_type-version_3_report c.args.bytes.now c.read_u16-count.result c.read.result c.map.result c.map_err.result
-    c.in-34.is c.read_u16-count.ensures c.read.ensures
-    (c.map.ensures.cases, c.map_err.ensures.cases)
+returns-in-34 c = record {
+  value = (
+      read_by_type-version_3_report c.args.bytes.now c.read_u16-count.result c.read.result c.map.result c.map_err.result
+      c.in-34.is c.read_u16-count.ensures c.read.ensures
+      (c.map.ensures.cases, c.map_err.ensures.cases));
+}
 
 pub returns-in-18 : goal.returns-in-18
-returns-in-18 c = rw (c.of_older_report.ensures, c.group_of.ensures)
-    (sym (read_by_type-older_report c.args.bytes.now (get_or c.args.bytes.now 0 0) assumption))
+returns-in-18 c = record {
+  value = (rw (c.of_older_report.ensures, c.group_of.ensures.value)
+      (sym (read_by_type-older_report c.args.bytes.now (get_or c.args.bytes.now 0 0) assumption)));
+}
 
 pub returns-in_default : goal.returns-in_default
-returns-in_default c = sym (read_by_type-other_type c.args.bytes.now _ (λ is. grind (arith, is)))
+returns-in_default c = record { value = sym (read_by_type-other_type c.args.bytes.now _ (λ is. grind (arith, is))) }

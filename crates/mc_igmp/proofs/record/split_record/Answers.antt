@@ -15,4 +15,4 @@ returns c =
     let count = c.read_u16.ensures ∙ big_number-at c.args.bytes.now 2 in
     let sources_end = 8 + 4 * c.from.result in
     read_record-from_parts c.args.bytes.now sources_end (sources_end + 4 * c.from-2.result) _
-    (omega arith) (omega arith) (omega arith) c.from_type.ensures c.group_of.ensures refl
+    (omega arith) (omega arith) (omega arith) c.from_type.ensures c.group_of.ensures.value refl

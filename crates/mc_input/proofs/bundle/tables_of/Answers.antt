@@ -33,7 +33,7 @@ cache_in-requires-clause-reader g c =
 pub returns-in_err-vifs-clause-fault : goal.returns-in_err-vifs-clause-fault
 returns-in_err-vifs-clause-fault g c = λ before.
     let p = err_from_is_err_and c.from_residual-in_err-vifs.result c.from_residual-in_err-vifs.ensures.1 in
-    let r = RouterRow-at_order c.args.topology.now.routers c.args.router c.order-order.result c.order-order.ensures in
+    let r = RouterRow-at_order c.args.topology.now.routers c.args.router c.order-order.result c.order-order.ensures.item in
     rw (p.1, p.2) (IsFaultOf-vifs c.args.certified c.args.topology.now c.args.router r.0 r.1
     c.args.parts.now before c.in_err-vifs.field-0.0 (1 + 2 * c.args.router) refl
     c.in_err-vifs.ensures.fault)
@@ -41,7 +41,7 @@ returns-in_err-vifs-clause-fault g c = λ before.
 pub returns-in_err-cache-clause-fault : goal.returns-in_err-cache-clause-fault
 returns-in_err-cache-clause-fault g c = λ before.
     let p = err_from_is_err_and c.from_residual-in_err-cache.result c.from_residual-in_err-cache.ensures.1 in
-    let r = RouterRow-at_order c.args.topology.now.routers c.args.router c.order-order.result c.order-order.ensures in
+    let r = RouterRow-at_order c.args.topology.now.routers c.args.router c.order-order.result c.order-order.ensures.item in
     rw (p.1, p.2) (IsFaultOf-cache c.args.certified c.args.topology.now c.args.router r.0 r.1
     c.args.parts.now c.vifs_in.new.parts before c.in_ok-vifs.vifs c.new-reader.result.rows.order
     c.in_err-cache.field-0.0 (1 + 2 * c.args.router) refl
@@ -55,7 +55,7 @@ returns-in_err-cache-clause-advances g c =
 
 pub returns-clause-tables : goal.returns-clause-tables
 returns-clause-tables g c =
-    let r = RouterRow-at_order c.args.topology.now.routers c.args.router c.order-order.result c.order-order.ensures in
+    let r = RouterRow-at_order c.args.topology.now.routers c.args.router c.order-order.result c.order-order.ensures.item in
     ReadsTables-from_parts c.args.certified c.args.topology.now c.args.router r.0 r.1
     c.args.parts.now c.vifs_in.new.parts c.cache_in.new.parts c.in_ok-vifs.vifs c.in_ok-cache.cache
     c.new-reader.result.rows.order (1 + 2 * c.args.router) refl

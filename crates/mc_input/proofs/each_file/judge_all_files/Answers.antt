@@ -13,7 +13,7 @@ returns-in-Ok-clause-refused g c = λ contents is.
     (g.F.FileSource.contents c.args.files.now) (g.F.FileSource.contents c.topology_unless_u64_max.new.files)
     c.in-Ok.topology (map as_judged_file c.args.refused.now.items) (map as_judged_file c.judge_topologys_files.new.refused.items)
     (g.F.FileSource.failed c.topology_unless_u64_max.new.files) (g.F.FileSource.failed c.judge_topologys_files.new.files)
-    is c.topology_unless_u64_max.ensures.kept (ap (map as_judged_file) c.requires)
+    is c.topology_unless_u64_max.ensures.kept (ap (map as_judged_file) c.requires.empty)
     (c.in-Ok.ensures.topology contents is) judges)
 
 pub returns-in-Ok-clause-failures : goal.returns-in-Ok-clause-failures
@@ -23,7 +23,7 @@ returns-in-Ok-clause-failures g c =
     (λ known. judged_with_topology (map (λ (n : Bor (List ℕ)). n.now) c.args.without.now) known (Ok c.in-Ok.topology))
     (map as_judged_file c.args.refused.now.items) (map as_judged_file c.judge_topologys_files.new.refused.items)
     (g.F.FileSource.failed c.args.files.now) (g.F.FileSource.failed c.topology_unless_u64_max.new.files)
-    (g.F.FileSource.failed c.judge_topologys_files.new.files) (ap (map as_judged_file) c.requires)
+    (g.F.FileSource.failed c.judge_topologys_files.new.files) (ap (map as_judged_file) c.requires.empty)
     c.in-Ok.ensures.failures judges)
 
 pub returns-in-Err-clause-refused : goal.returns-in-Err-clause-refused
@@ -32,7 +32,7 @@ returns-in-Err-clause-refused g c = λ contents is.
     AreRefusedFiles-topology_alone_of_source (map (λ (n : Bor (List ℕ)). n.now) c.args.without.now) contents
     (g.F.FileSource.contents c.args.files.now) c.in-Err.fault c.topology.result
     (map as_judged_file c.args.refused.now.items) (map as_judged_file c.push_if_fault.new.refused.items)
-    is c.topology.ensures (ap (map as_judged_file) c.requires) (c.in-Err.ensures.topology contents is) push_if_fault not_out_of_memory)
+    is c.topology.ensures (ap (map as_judged_file) c.requires.empty) (c.in-Err.ensures.topology contents is) push_if_fault not_out_of_memory)
 
 pub returns-in-Err-clause-failures : goal.returns-in-Err-clause-failures
 returns-in-Err-clause-failures g c =
@@ -40,4 +40,4 @@ returns-in-Err-clause-failures g c =
     saturating_failures-topology_alone c.in-Err.fault c.topology.result
     (map as_judged_file c.args.refused.now.items) (map as_judged_file c.push_if_fault.new.refused.items)
     (g.F.FileSource.failed c.args.files.now) (g.F.FileSource.failed c.topology_unless_u64_max.new.files)
-    (ap (map as_judged_file) c.requires) c.in-Err.ensures.failures push_if_fault)
+    (ap (map as_judged_file) c.requires.empty) c.in-Err.ensures.failures push_if_fault)

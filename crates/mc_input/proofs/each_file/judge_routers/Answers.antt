@@ -26,7 +26,7 @@ loop-router-preserved g c = record {
       (map as_judged_file c.args.refused.now.items) (map as_judged_file c.loop-router.refused.items)
       (map as_judged_file c.judge_tables.new.refused.items) (g.F.FileSource.failed c.args.files.now)
       (g.F.FileSource.failed c.loop-router.files) (g.F.FileSource.failed c.judge_tables.new.files)
-      c.router_name-name.ensures.name c.order-order.ensures c.loop-router.invariant.kept
+      c.router_name-name.ensures.name c.order-order.ensures.item c.loop-router.invariant.kept
       c.loop-router.invariant.judged
       (c.in_ok-judge_tables.ensures.judged c.args.topology.now.flows c.in-Ok.ensures.listed);
 }

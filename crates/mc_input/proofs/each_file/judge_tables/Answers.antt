@@ -29,9 +29,9 @@ returns-clause-judged g c = λ flows listed.
     JudgesFiles-router contents (map (λ (n : Bor (List ℕ)). n.now) c.args.without.now) row
     (sym c.is_excluded.ensures ∙ c.if-is_excluded.false) old between new before middle after
     (JudgesFiles-one_of_slot contents (vif_slot row.name) vifs_of c.vifs_fault-vifs.result old between before middle
-    c.vifs.result c.vifs.ensures c.in_ok-push_if_fault.ensures.listed c.in_ok-push_if_fault.ensures.not_out_of_memory
+    c.vifs.result c.vifs.ensures.value c.in_ok-push_if_fault.ensures.listed c.in_ok-push_if_fault.ensures.not_out_of_memory
     c.vifs_fault-vifs.ensures.failures c.vifs_fault-vifs.ensures.fault)
     (JudgesFiles-one_of_slot contents (cache_slot row.name) (cache_of row.order) c.cache_fault-cache.result between new
-    middle after c.cache.result c.cache.ensures push_if_fault not_out_of_memory c.cache_fault-cache.ensures.failures
+    middle after c.cache.result c.cache.ensures.value push_if_fault not_out_of_memory c.cache_fault-cache.ensures.failures
     (λ known is. c.cache_fault-cache.ensures.fault flows known listed
     (c.vifs_fault-vifs.ensures.kept ∙ is))))

@@ -28,7 +28,7 @@ returns-clause-part g c = λ text remaining.
     let part = fed.1 in
     let slot : part.name ≡ opened.0 = Some-injective (sym fed.4 ∙ opened.1.named) in
     let name : part.name ≡ c.name.result =
-    Some-injective (sym fed.4 ∙ sym c.in_ok-feed_part.ensures.named ∙ c.name.ensures) in (
+    Some-injective (sym fed.4 ∙ sym c.in_ok-feed_part.ensures.named ∙ c.name.ensures.item) in (
       fed.0,
       part,
       fed.2,

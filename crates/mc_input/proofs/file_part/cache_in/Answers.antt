@@ -16,7 +16,7 @@ returns-in_err-name-clause-cache g c =
     let p = err_from_is_err_and c.from_residual-in_err-name.result
     c.from_residual-in_err-name.ensures.1 in
     λ n pairs same contents is. rw (p.1 ∙ ap (λ f. Err f) p.2) (part_packed-Err contents n (cache_slot c.args.router.now)
-    c.cache.result (summary_of_part c.args.all c.args.order pairs) c.in_err-name.field-0.0 c.cache.ensures
+    c.cache.result (summary_of_part c.args.all c.args.order pairs) c.in_err-name.field-0.0 c.cache.ensures.value
     (c.in_err-name.ensures.fault contents is))
 
 pub returns-in_err-cache_or_fault-clause-cache : goal.returns-in_err-cache_or_fault-clause-cache
@@ -32,7 +32,7 @@ returns-in_err-cache_or_fault-clause-cache g c =
     ∙ summary_in-same_pairs c.args.all c.args.order c.args.listed.now pairs part.0.bytes same)
     ∙ part.4 ∙ sym c.finish.ensures) in
     read_part-kept_Err (λ kept summarized. kept ≡ summarized) contents n (cache_slot c.args.router.now) c.cache.result
-    (summary_of_part c.args.all c.args.order pairs) part.0 c.cache.ensures part.1 fault
+    (summary_of_part c.args.all c.args.order pairs) part.0 c.cache.ensures.value part.1 fault
     (subst (λ m. IsPartResult (λ kept summarized. kept ≡ summarized) (Err fault)
     (map_fault (RefusedCache m) (summary_in c.args.all c.args.order pairs part.0.bytes))) (sym part.2) own))
 
@@ -45,7 +45,7 @@ returns-clause-cache g c = λ n pairs same contents is.
     ∙ summary_in-same_pairs c.args.all c.args.order c.args.listed.now pairs part.0.bytes same)
     ∙ part.4 ∙ sym c.finish.ensures) in
     GivesKept-from_part_result (λ kept summarized. kept ≡ summarized) contents n (cache_slot c.args.router.now) c.cache.result
-    (summary_of_part c.args.all c.args.order pairs) part.0 c.cache.ensures part.1 c.in_ok-cache_or_fault.field-0
+    (summary_of_part c.args.all c.args.order pairs) part.0 c.cache.ensures.value part.1 c.in_ok-cache_or_fault.field-0
     (subst (λ m. IsPartResult (λ kept summarized. kept ≡ summarized) (Ok c.in_ok-cache_or_fault.field-0)
     (map_fault (RefusedCache m) (summary_in c.args.all c.args.order pairs part.0.bytes))) (sym part.2) own)
 

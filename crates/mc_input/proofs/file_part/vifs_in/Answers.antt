@@ -14,7 +14,7 @@ pub returns-in_err-name-clause-vifs : goal.returns-in_err-name-clause-vifs
 returns-in_err-name-clause-vifs g c =
     let p = err_from_is_err_and c.from_residual.result c.from_residual.ensures.1 in
     λ n contents is. rw (p.1 ∙ ap (λ f. Err f) p.2) (part_packed-Err contents n (vif_slot c.args.router.now)
-    c.vifs.result vifs_of c.in_err-name.field-0.0 c.vifs.ensures (c.in_err-name.ensures.fault contents is))
+    c.vifs.result vifs_of c.in_err-name.field-0.0 c.vifs.ensures.value (c.in_err-name.ensures.fault contents is))
 
 pub returns-in_err-vifs_or_fault-clause-vifs : goal.returns-in_err-vifs_or_fault-clause-vifs
 returns-in_err-vifs_or_fault-clause-vifs g c =
@@ -27,7 +27,7 @@ returns-in_err-vifs_or_fault-clause-vifs g c =
     sym (c.new-reader.ensures.reads part.0.bytes part.3)
     ∙ part.4 ∙ sym c.finish.ensures) in
     read_part-kept_Err (λ kept vifs. kept ≡ vifs) contents n (vif_slot c.args.router.now) c.vifs.result vifs_of
-    part.0 c.vifs.ensures part.1 fault
+    part.0 c.vifs.ensures.value part.1 fault
     (subst (λ m. IsPartResult (λ kept vifs. kept ≡ vifs) (Err fault)
     (map_fault (RefusedVif m) (vifs_in part.0.bytes))) (sym part.2) own))
 
@@ -38,7 +38,7 @@ returns-clause-vifs g c = λ n contents is.
     sym (c.new-reader.ensures.reads part.0.bytes part.3)
     ∙ part.4 ∙ sym c.finish.ensures) in
     GivesKept-from_part_result (λ kept vifs. kept ≡ vifs) contents n (vif_slot c.args.router.now) c.vifs.result vifs_of
-    part.0 c.vifs.ensures part.1 c.in_ok-vifs_or_fault.field-0
+    part.0 c.vifs.ensures.value part.1 c.in_ok-vifs_or_fault.field-0
     (subst (λ m. IsPartResult (λ kept vifs. kept ≡ vifs) (Ok c.in_ok-vifs_or_fault.field-0)
     (map_fault (RefusedVif m) (vifs_in part.0.bytes))) (sym part.2) own)
 

@@ -15,7 +15,7 @@ pub returns-in_err-name-clause-wanted : goal.returns-in_err-name-clause-wanted
 returns-in_err-name-clause-wanted g c =
     let p = err_from_is_err_and c.from_residual.result c.from_residual.ensures.1 in
     λ n contents is. rw (p.1 ∙ ap (λ f. Err f) p.2) (part_packed-Err contents n (reports_slot c.args.lan.now)
-    c.reports.result reports_of c.in_err-name.field-0.0 c.reports.ensures
+    c.reports.result reports_of c.in_err-name.field-0.0 c.reports.ensures.value
     (c.in_err-name.ensures.fault contents is))
 
 pub returns-in_err-wanted_or_fault-clause-wanted : goal.returns-in_err-wanted_or_fault-clause-wanted
@@ -28,7 +28,7 @@ returns-in_err-wanted_or_fault-clause-wanted g c =
     let own = c.in_err-wanted_or_fault.ensures.wanted (read_list part.0.bytes) (λ loud.
     sym (c.new-reader.ensures.reads part.0.bytes) ∙ part.4 ∙ sym c.finish.ensures.ends) in
     read_part-kept_Err (λ wanted records. AreChannelsWanted c.args.channels.now records wanted) contents n
-    (reports_slot c.args.lan.now) c.reports.result reports_of part.0 c.reports.ensures part.1 fault
+    (reports_slot c.args.lan.now) c.reports.result reports_of part.0 c.reports.ensures.value part.1 fault
     (subst (λ m. IsPartResult (λ wanted records. AreChannelsWanted c.args.channels.now records wanted)
     (Err fault) (map_fault (RefusedReports m) (read_list part.0.bytes))) (sym part.2) own))
 
@@ -38,7 +38,7 @@ returns-clause-wanted g c = λ n contents is.
     let own = c.in_ok-wanted_or_fault.ensures.wanted (read_list part.0.bytes) (λ loud.
     sym (c.new-reader.ensures.reads part.0.bytes) ∙ part.4 ∙ sym c.finish.ensures.ends) in
     GivesKept-from_part_result (λ wanted records. AreChannelsWanted c.args.channels.now records wanted) contents n
-    (reports_slot c.args.lan.now) c.reports.result reports_of part.0 c.reports.ensures part.1
+    (reports_slot c.args.lan.now) c.reports.result reports_of part.0 c.reports.ensures.value part.1
     c.in_ok-wanted_or_fault.field-0
     (subst (λ m. IsPartResult (λ wanted records. AreChannelsWanted c.args.channels.now records wanted)
     (Ok c.in_ok-wanted_or_fault.field-0) (map_fault (RefusedReports m) (read_list part.0.bytes)))

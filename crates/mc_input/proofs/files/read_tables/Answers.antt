@@ -29,7 +29,7 @@ returns-in_err-own-clause-tables g c =
     all_tables-Err Input (part_from_file (without c.args.without.now contents))
     left.0 (1 + 2 * c.loop-router.router) c.args.topology.now.routers
     c.loop-router.router c.router_name-name.result.now c.order-order.result _
-    c.in_err-own.field-0.0 c.router_name-name.ensures.name c.order-order.ensures left.2
+    c.in_err-own.field-0.0 c.router_name-name.ensures.name c.order-order.ensures.item left.2
     (c.in_err-own.ensures.tables (1 + 2 * c.loop-router.router) c.args.topology.now.flows
     c.in_ok-listed.ensures.listed contents
     (c.loop-router.invariant.kept ∙ is) no))
@@ -74,7 +74,7 @@ loop-router-preserved g c =
             all_tables-more Input (part_from_file (without c.args.without.now contents)) left.0 (left.0 ++ next.0 ∷ [])
                 (1 + 2 * router) (1 + 2 * (router + 1)) routers router name
                 order next.0 _ c.router_name-name.ensures.name
-                c.order-order.ensures left.2 next.1 refl (omega arith),
+                c.order-order.ensures.item left.2 next.1 refl (omega arith),
           );
       summary = λ contents is.
           subst (λ (ns : List SummaryValue). RelatedAtEachIndex (IsSummaryOf c.args.all
@@ -82,7 +82,7 @@ loop-router-preserved g c =
           (sym c.in_ok-push-2.ensures.items)
           (AreSummariesOf-more c.args.all (without c.args.without.now contents)
           c.args.topology.now c.loop-router.summary.items own.1 router name order
-          c.loop-router.invariant.summarized c.router_name-name.ensures.name c.order-order.ensures
+          c.loop-router.invariant.summarized c.router_name-name.ensures.name c.order-order.ensures.item
           (c.in_ok-own.ensures.summary flows contents c.in_ok-listed.ensures.listed
           (c.loop-router.invariant.kept ∙ is)) (c.loop-router.invariant.summary contents is));
     }

@@ -46,7 +46,7 @@ returns-in_err-drain-clause-fault g c =
     rw (p.1, p.2) (λ text remaining loud.
     let next = c.in_ok-next.ensures.opened text [] remaining (ap Ok more) in
     let here = rest_of_bundle-opened s [] text _ next.2
-    ∙ parts_from_current-in_part new c.name.result [] next.0 denotes.0 c.name.ensures in
+    ∙ parts_from_current-in_part new c.name.result [] next.0 denotes.0 c.name.ensures.item in
     read_rest-framing_Err s new text next.0
     (record { name = c.name.result; bytes = [] ++ take new.left next.0 } ∷ []) read c.in_err-drain.field-0.0 here
     (c.in_err-drain.ensures.framing next.0 next.1 loud))
@@ -67,7 +67,7 @@ returns-then-not-is_named-clause-fault g c = λ text remaining loud.
     let denotes = c.in_ok-next.ensures.open (ap Ok more) in
     let next = c.in_ok-next.ensures.opened text [] remaining (ap Ok more) in
     let here = rest_of_bundle-opened s [] text _ next.2
-    ∙ parts_from_current-in_part new c.name.result [] next.0 denotes.0 c.name.ensures in
+    ∙ parts_from_current-in_part new c.name.result [] next.0 denotes.0 c.name.ensures.item in
     let right = framing-Ok new next.0 tt (c.in_ok-drain.ensures.framing next.0 next.1) in
     let other : c.is_named.result ≡ false = grind arith in
     let differs : bytes_eq c.name.result (part_name c.args.slot.now) ≡ false =
@@ -94,7 +94,7 @@ returns-clause-opened g c =
     (sym c.is_named.ensures ∙ same) in
     record {
       stage = denotes.0;
-      named = c.name.ensures ∙ ap Some name;
+      named = c.name.ensures.item ∙ ap Some name;
       left = denotes.1;
       size = c.in_ok-next.ensures.bound (ap Ok more);
     }

@@ -14,4 +14,4 @@ pub loop-number-preserved : goal.loop-number-preserved
 loop-number-preserved c =
     flat_map-below_more (vifs_data (facts c.args.domain.now)) (map data_of c.args.values.now.items)
     (map data_of c.loop-number.values.items) (map data_of c.push_vifs.new.values.items)
-    c.loop-number.number c.loop-number.invariant c.in_ok-push_vifs.ensures
+    c.loop-number.number c.loop-number.invariant c.in_ok-push_vifs.ensures.added

@@ -6,6 +6,8 @@ use Rattle.mc_json.proofs.DomainNoFloatLemmas.{no_float-domain_data}
 use Rattle.mc_json.proofs.domain_line.push_domain_line.Goals as goal
 
 pub push_line-requires : goal.push_line-requires
-push_line-requires c =
-    ap has_float c.in_ok-value.ensures
-    ∙ no_float-domain_data (facts c.args.domain.now) (map string_bytes c.args.words.now)
+push_line-requires c = record {
+  no_float = (
+      ap has_float c.in_ok-value.ensures
+      ∙ no_float-domain_data (facts c.args.domain.now) (map string_bytes c.args.words.now));
+}

@@ -4,7 +4,9 @@ use Rattle.mc_json.proofs.NoFloatLemmas.{no_float-unlisted_data}
 use Rattle.mc_json.proofs.end_lines.push_unlisted_line.Goals as goal
 
 pub push_line-requires : goal.push_line-requires
-push_line-requires c =
-    let pair = c.args.pair.now in
-    ap has_float c.in_ok-value.ensures
-    ∙ no_float-unlisted_data c.args.topology.now pair.0.1 pair.0.0 pair.1
+push_line-requires c = record {
+  no_float = (
+      let pair = c.args.pair.now in
+      ap has_float c.in_ok-value.ensures
+      ∙ no_float-unlisted_data c.args.topology.now pair.0.1 pair.0.0 pair.1);
+}

@@ -7,10 +7,12 @@ use Rattle.mc_json.proofs.NoFloatLemmas.{HaveNoFloat, no_float-lans, no_float-ri
 use Rattle.mc_json.proofs.right_line.push_right_line.Goals as goal
 
 pub push_line-requires : goal.push_line-requires
-push_line-requires c =
-    let view = c.new-view.result in
-    let plain = subst HaveNoFloat (sym c.in_ok-wanted.ensures)
-    (no_float-lans view.domain.topology (lans_wanting (facts view.domain) view.flow)) in
-    ap has_float c.in_ok-value.ensures
-    ∙ no_float-right_data c.args.whole c.args.flow c.flow-listed.result.now c.args.copies c.args.tree
-    (map data_of c.in_ok-wanted.wanted.items) plain
+push_line-requires c = record {
+  no_float = (
+      let view = c.new-view.result in
+      let plain = subst HaveNoFloat (sym c.in_ok-wanted.ensures)
+      (no_float-lans view.domain.topology (lans_wanting (facts view.domain) view.flow)) in
+      ap has_float c.in_ok-value.ensures
+      ∙ no_float-right_data c.args.whole c.args.flow c.flow-listed.result.now c.args.copies c.args.tree
+      (map data_of c.in_ok-wanted.wanted.items) plain);
+}

@@ -4,6 +4,8 @@ use Rattle.mc_json.proofs.NoFloatLemmas.{no_float-tree_data}
 use Rattle.mc_json.proofs.right_line.push_tree_line.Goals as goal
 
 pub push_line-requires : goal.push_line-requires
-push_line-requires c =
-    ap has_float c.in_ok-value.ensures
-    ∙ no_float-tree_data c.args.topology.now c.args.entries.now c.args.tree
+push_line-requires c = record {
+  no_float = (
+      ap has_float c.in_ok-value.ensures
+      ∙ no_float-tree_data c.args.topology.now c.args.entries.now c.args.tree);
+}

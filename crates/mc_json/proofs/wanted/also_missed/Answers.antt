@@ -19,4 +19,4 @@ returns c =
     subst (λ (v : FlowOfDomain). IfOk c.unmarked_lans.result (λ lans. lans.items
     ≡ filter (is_also_missed (facts v.domain) v.flow copies c.args.missed)
     (below (length v.domain.topology.lans)))) c.flow_view-view.ensures
-    (c.unmarked_lans.ensures copies marked)
+    (c.unmarked_lans.ensures.marked copies marked)

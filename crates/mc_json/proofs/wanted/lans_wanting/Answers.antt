@@ -16,8 +16,8 @@ loop-number-preserved c =
     let n = c.loop-number.number in
     elim c.if-wants.branch [
       | then-wants+in_ok-push w ↦ rw w.lans-is (filter-below_passed wants xs w.push.new.self.items n
-          c.loop-number.invariant (sym c.wants.ensures ∙ w.if-wants.true)
+          c.loop-number.invariant (sym c.wants.ensures.value ∙ w.if-wants.true)
           w.in_ok-push.ensures.items)
       | else-wants w ↦ rw w.lans-is (filter-below_failed wants xs n c.loop-number.invariant
-          (sym c.wants.ensures ∙ w.if-wants.false))
+          (sym c.wants.ensures.value ∙ w.if-wants.false))
     ]

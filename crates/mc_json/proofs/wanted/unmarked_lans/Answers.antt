@@ -22,9 +22,9 @@ loop-number-preserved c =
       | then-is_unmarked+in_ok-push w ↦ rw w.lans-is (λ copies marked.
           filter-below_passed (also_missed copies) xs w.push.new.self.items n
           (c.loop-number.invariant copies marked)
-          (sym (c.is_wanted_and_unmarked.ensures copies marked) ∙ w.if-is_wanted_and_unmarked.true)
+          (sym (c.is_wanted_and_unmarked.ensures.marked copies marked) ∙ w.if-is_wanted_and_unmarked.true)
           w.in_ok-push.ensures.items)
       | else-is_unmarked w ↦ rw w.lans-is (λ copies marked.
           filter-below_failed (also_missed copies) xs n (c.loop-number.invariant copies marked)
-          (sym (c.is_wanted_and_unmarked.ensures copies marked) ∙ w.if-is_wanted_and_unmarked.false))
+          (sym (c.is_wanted_and_unmarked.ensures.marked copies marked) ∙ w.if-is_wanted_and_unmarked.false))
     ]

@@ -7,12 +7,14 @@ use Rattle.mc_json.proofs.NoFloatLemmas.{no_float-wrong_flow_of}
 use Rattle.mc_json.proofs.wrong_line.push_wrong_flow.Goals as goal
 
 pub push_line-requires : goal.push_line-requires
-push_line-requires c =
-    let ended = c.args.ended.now in
-    let flight = ended.flight in
-    let also = missed_besides (facts flight.domain) flight.flow flight.flight.carried
-    ended.travel.finding in
-    ap has_float c.in_ok-value.ensures
-    ∙ no_float-wrong_flow_of c.args.number c.args.flow.now flight.domain.topology c.args.found_ttl
-    ended.travel.finding ended.travel.events.items also (map data_of c.args.why.items) c.args.events_asked
-    c.requires
+push_line-requires c = record {
+  no_float = (
+      let ended = c.args.ended.now in
+      let flight = ended.flight in
+      let also = missed_besides (facts flight.domain) flight.flow flight.flight.carried
+      ended.travel.finding in
+      ap has_float c.in_ok-value.ensures
+      ∙ no_float-wrong_flow_of c.args.number c.args.flow.now flight.domain.topology c.args.found_ttl
+      ended.travel.finding ended.travel.events.items also (map data_of c.args.why.items) c.args.events_asked
+      c.requires.no_float);
+}

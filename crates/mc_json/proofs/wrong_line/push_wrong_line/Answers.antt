@@ -5,7 +5,9 @@ use Rattle.mc_json.proofs.SearchNoFloatLemmas.{no_float-why_data}
 use Rattle.mc_json.proofs.wrong_line.push_wrong_line.Goals as goal
 
 pub push_wrong_flow-requires : goal.push_wrong_flow-requires
-push_wrong_flow-requires c =
-    let view = c.new-view.result in
-    subst HaveNoFloat (sym c.in_ok-why.ensures) (no_float-why_data (facts view.domain) c.args.summary.now
-    view.flow c.flow-listed.result.now c.args.causes.now None)
+push_wrong_flow-requires c = record {
+  no_float = (
+      let view = c.new-view.result in
+      subst HaveNoFloat (sym c.in_ok-why.ensures) (no_float-why_data (facts view.domain) c.args.summary.now
+      view.flow c.flow-listed.result.now c.args.causes.now None));
+}

@@ -11,10 +11,12 @@ loop-copy-init c = entries_so_far-none (net_in c.args.view.now) c.args.by_lan.no
     c.requires.empty
 
 pub returns : goal.returns
-returns c =
-    entries_so_far-all (net_in c.args.view.now) c.loop-copy.by_lan c.args.by_lan.now c.args.copies.now
-    c.loop-copy.copy-index c.loop-copy.invariant
-    (omega (arith, c.loop-copy-test.false))
+returns c = record {
+  meaning = (
+      entries_so_far-all (net_in c.args.view.now) c.loop-copy.by_lan c.args.by_lan.now c.args.copies.now
+      c.loop-copy.copy-index c.loop-copy.invariant
+      (omega (arith, c.loop-copy-test.false)));
+}
 
 pub entry_of_copy-entry-requires : goal.entry_of_copy-entry-requires
 entry_of_copy-entry-requires c =

@@ -10,7 +10,7 @@ pub returns-in-Certified-clause-travels : goal.returns-in-Certified-clause-trave
 returns-in-Certified-clause-travels c = λ first second a b.
     (let d = c.args.domain.now in
     let ok = c.topology-rules.ensures.rules in
-    let high = ttl-at_most_255 d c.args.flow ok c.requires in
+    let high = ttl-at_most_255 d c.args.flow ok c.requires.known in
     let is_right = c.in_ok-entries.ensures.right.0 (ap is_certified c.in-Certified.is) in (
       (λ _. (
         finds_nothing-right_flow d c.args.flow 255 first ok high (omega arith) is_right a,
@@ -26,6 +26,6 @@ returns-clause-travels c = λ first second a b.
     let ok = c.topology-rules.ensures.rules in (
       (λ e. absurd cc),
       (λ both. sym (ap is_certified c.in-Found.is)
-          ∙ c.in_ok-entries.ensures.right.1 (is_right-both_travels_clean d c.args.flow first second ok c.requires a b
+          ∙ c.in_ok-entries.ensures.right.1 (is_right-both_travels_clean d c.args.flow first second ok c.requires.known a b
           both.0 both.1)),
     ))

@@ -19,15 +19,17 @@ if_none-no_some None not p = p
 if_none-no_some (Some x) not p = absurd (not x refl)
 
 pub certificate_of-requires : goal.certificate_of-requires
-certificate_of-requires c =
-    let d = c.args.domain.now in
-    let view = flow_view-same_domain_and_flow d c.args.flow c.in_ok-greatest.greatest.flight c.flow_view.result.now
-    c.in_ok-greatest.ensures.domain c.in_ok-greatest.ensures.flow c.flow_view.ensures in
-    rw view (are_clean_copies-of_travel c.args.domain.now c.in_ok-greatest.greatest.flight.domain c.args.flow
-    c.in_ok-greatest.greatest.travel c.in_ok-greatest.greatest.flight.flight c.copies.result.now
-    c.topology-topology.ensures.rules c.in_ok-greatest.ensures.domain c.in_ok-greatest.ensures.run
-    (ap finding_value c.in-Clean.is) c.copies.ensures.copies c.copies.ensures.lans
-    c.copies.ensures.senders)
+certificate_of-requires c = record {
+  valid = (
+      let d = c.args.domain.now in
+      let view = flow_view-same_domain_and_flow d c.args.flow c.in_ok-greatest.greatest.flight c.flow_view.result.now
+      c.in_ok-greatest.ensures.domain c.in_ok-greatest.ensures.flow c.flow_view.ensures in
+      rw view (are_clean_copies-of_travel c.args.domain.now c.in_ok-greatest.greatest.flight.domain c.args.flow
+      c.in_ok-greatest.greatest.travel c.in_ok-greatest.greatest.flight.flight c.copies.result.now
+      c.topology-topology.ensures.rules c.in_ok-greatest.ensures.domain c.in_ok-greatest.ensures.run
+      (ap finding_value c.in-Clean.is) c.copies.ensures.copies c.copies.ensures.lans
+      c.copies.ensures.senders));
+}
 
 pub returns-in_default : goal.returns-in_default
 returns-in_default c =
@@ -52,7 +54,7 @@ returns-in_default c =
       ttl = is_ttl_of_fault-255 d c.args.flow t is fault;
       right = (
         (λ e. absurd cc),
-        (λ r. absurd (not_right-by_fault d c.args.flow 255 t ok (ttl-at_most_255 d c.args.flow ok c.requires)
+        (λ r. absurd (not_right-by_fault d c.args.flow 255 t ok (ttl-at_most_255 d c.args.flow ok c.requires.known)
             (omega arith) is fault r)),
       );
     }
@@ -90,7 +92,7 @@ pub returns-in-Some-clause-right : goal.returns-in-Some-clause-right
 returns-in-Some-clause-right c =
     let d = c.args.domain.now in (
       (λ _. is_right-accepted d c.args.flow c.in-Some.entries.items c.topology-topology.ensures.rules
-          c.requires (returns-in-Some-clause-accepted c)),
+          c.requires.known (returns-in-Some-clause-accepted c)),
       (λ _. refl),
     )
 
@@ -119,5 +121,5 @@ returns-clause-right c =
     if_none-no_some c.in_ok-entries.field-0 c.in_default-2.not-Some made.none t is in (
       (λ e. absurd cc),
       (λ r. absurd (not_right-by_fault d c.args.flow (ttl_of d c.args.flow) t ok (omega arith)
-          (ttl-at_most_255 d c.args.flow ok c.requires) is fault r)),
+          (ttl-at_most_255 d c.args.flow ok c.requires.known) is fault r)),
     )

@@ -9,5 +9,5 @@ returns-then-not-serves-clause-some c = λ _. (
   slice_get-in c.args.entries.now c.loop-entry.entry-index c.entry-item.result
       (slice_get_read c.args.entries.now (length c.args.entries.now) c.loop-entry.entry-index
       c.entry-item.result refl c.loop-entry-test.true c.entry-item.is),
-  sym c.serves.ensures ∙ c.if-not-serves.true,
+  sym c.serves.ensures.value ∙ c.if-not-serves.true,
 )

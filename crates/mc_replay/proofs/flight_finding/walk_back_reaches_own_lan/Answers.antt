@@ -25,7 +25,7 @@ loop-step-preserved c =
     ∙ (sym c.eq.ensures ∙ c.if-eq.false) in
     let next : c.sender_on-sender.result ≡ sender_on cs p =
     c.sender_on-sender.ensures
-    ∙ (ap (option_and_then (λ (x : Copy). x.sender)) (c.requires p ∙ first_with_key-first_copy_on cs p)
+    ∙ (ap (option_and_then (λ (x : Copy). x.sender)) (c.requires.given p ∙ first_with_key-first_copy_on cs p)
     ∙ sender-copy_on cs p) in
     ap (λ (x : Option Interface). walk_visits n cs l k x) next
     ∙ (sym (meets-next_lan n cs l k c.loop-step.sender p from other)

@@ -16,15 +16,17 @@ push_wrong-requires-clause-domain c =
     c.requires.is c.requires.flown).domain
 
 pub returns : goal.returns
-returns c =
-    let v = audited_value c.args.audited.now in
-    let ended = c.args.ended.now in
-    let causes = c.in_ok-causes.causes.items in
-    let found = c.in_ok-found.found in
-    is_flow_pushed-wrong v c.args.options c.args.flow c.args.flown.now 255 ended.travel
-    (explanation_in ended causes found) _ _ c.requires.flow c.requires.flown
-    c.requires.examined (λ f at. ap (without_flights v.domain c.args.flow) c.requires.is)
-    (is_explanation-at_255 v c.args.flow c.args.flown.now ended causes found
-    c.requires.is c.requires.flown c.in_ok-causes.ensures.causes c.in_ok-found.ensures)
-    (wrong_flow_lines-same_causes v c.args.options c.args.flow 255 ended c.deref.result.now causes found _ _
-    c.deref.ensures.value c.in_ok-push_wrong.ensures)
+returns c = record {
+  ok = (
+      let v = audited_value c.args.audited.now in
+      let ended = c.args.ended.now in
+      let causes = c.in_ok-causes.causes.items in
+      let found = c.in_ok-found.found in
+      is_flow_pushed-wrong v c.args.options c.args.flow c.args.flown.now 255 ended.travel
+      (explanation_in ended causes found) _ _ c.requires.flow c.requires.flown
+      c.requires.examined (λ f at. ap (without_flights v.domain c.args.flow) c.requires.is)
+      (is_explanation-at_255 v c.args.flow c.args.flown.now ended causes found
+      c.requires.is c.requires.flown c.in_ok-causes.ensures.causes c.in_ok-found.ensures)
+      (wrong_flow_lines-same_causes v c.args.options c.args.flow 255 ended c.deref.result.now causes found _ _
+      c.deref.ensures.value c.in_ok-push_wrong.ensures.added));
+}

@@ -13,18 +13,20 @@ push_wrong-requires-clause-domain c =
     c.args.least.now c.requires.is c.requires.flown).domain
 
 pub returns : goal.returns
-returns c =
-    let v = audited_value c.args.audited.now in
-    let least = c.args.least.now in
-    let causes = c.in_ok-causes.causes.items in
-    let listed = c.flow.result.now in
-    let here = subst (λ (t : TopologyValue). slice_get t.flows c.args.flow ≡ Some listed)
-    c.topology.ensures.topology c.flow.ensures.flow in
-    is_flow_pushed-wrong v c.args.options c.args.flow c.args.flown.now listed.ttl least.travel
-    (explanation_in least causes None) _ _ c.requires.flow c.requires.flown c.requires.examined
-    (λ f at. ap (without_flights v.domain c.args.flow) c.requires.is
-    ∙ found-listed_ttl v.domain c.args.flow listed least.travel here)
-    (is_explanation-at_flow_ttl v c.args.flow c.args.flown.now c.args.greatest.now least causes
-    c.requires.is c.requires.flown c.in_ok-causes.ensures.causes)
-    (wrong_flow_lines-same_causes v c.args.options c.args.flow listed.ttl least c.deref.result.now causes None _ _
-    c.deref.ensures.value c.in_ok-push_wrong.ensures)
+returns c = record {
+  ok = (
+      let v = audited_value c.args.audited.now in
+      let least = c.args.least.now in
+      let causes = c.in_ok-causes.causes.items in
+      let listed = c.flow.result.now in
+      let here = subst (λ (t : TopologyValue). slice_get t.flows c.args.flow ≡ Some listed)
+      c.topology.ensures.topology c.flow.ensures.flow in
+      is_flow_pushed-wrong v c.args.options c.args.flow c.args.flown.now listed.ttl least.travel
+      (explanation_in least causes None) _ _ c.requires.flow c.requires.flown c.requires.examined
+      (λ f at. ap (without_flights v.domain c.args.flow) c.requires.is
+      ∙ found-listed_ttl v.domain c.args.flow listed least.travel here)
+      (is_explanation-at_flow_ttl v c.args.flow c.args.flown.now c.args.greatest.now least causes
+      c.requires.is c.requires.flown c.in_ok-causes.ensures.causes)
+      (wrong_flow_lines-same_causes v c.args.options c.args.flow listed.ttl least c.deref.result.now causes None _ _
+      c.deref.ensures.value c.in_ok-push_wrong.ensures.added));
+}

@@ -7,19 +7,21 @@ pub check_all-requires-clause-flows : goal.check_all-requires-clause-flows
 check_all-requires-clause-flows c = c.requires.count
 
 pub check_all-requires-clause-lans : goal.check_all-requires-clause-lans
-check_all-requires-clause-lans c = certificate_lans-of_topology _ _ c.requires
+check_all-requires-clause-lans c = certificate_lans-of_topology _ _ c.requires.valid
 
 pub check_text-requires : goal.check_text-requires
-check_text-requires c =
-    ap length c.deref.ensures.value ∙ c.in_ok-verdicts.ensures.count ∙ c.requires.count
-    ∙ sym (ap (λ t. length t.flows) c.topology.ensures.topology)
+check_text-requires c = record {
+  lengths = (
+      ap length c.deref.ensures.value ∙ c.in_ok-verdicts.ensures.count ∙ c.requires.count
+      ∙ sym (ap (λ t. length t.flows) c.topology.ensures.topology));
+}
 
 pub returns-clause-text : goal.returns-clause-text
 returns-clause-text c =
     let read = c.args.read.now in
     let run_output = c.in_ok-verdicts.ensures in
     let are = are_verdicts read.domain read.certificate c.in_ok-verdicts.verdicts.items run_output.count
-    c.requires run_output.accepted run_output.copies run_output.reason in
+    c.requires.valid run_output.accepted run_output.copies run_output.reason in
     is_text_of_verdicts-check_text read.domain read.certificate c.in_ok-verdicts.verdicts.items c.deref.result.now
     c.deref-2.result.now c.topology.result.now _ _ are c.deref.ensures.value
     c.deref-2.ensures.value c.topology.ensures.topology c.are_yes-yes.ensures c.in_ok-text.ensures
@@ -30,4 +32,4 @@ returns-clause-headline c = λ all.
     let run_output = c.in_ok-verdicts.ensures in
     let same = ap are_yes c.deref-2.ensures.value in
     keeps_headline read.domain read.certificate c.in_ok-verdicts.verdicts.items run_output.count
-    c.requires run_output.copies run_output.headline (sym same ∙ sym c.are_yes-yes.ensures ∙ all)
+    c.requires.valid run_output.copies run_output.headline (sym same ∙ sym c.are_yes-yes.ensures ∙ all)

@@ -16,5 +16,5 @@ loop-number-preserved c =
     let names = map (λ name. name.now) c.args.without.now in
     let marked = λ (r : ℕ). is_among names (router_name c.args.topology.now r) in
     c.in_ok-push.ensures.items ∙ ap (λ xs. xs ++ c.has_excluded_name.result ∷ []) c.loop-number.invariant
-    ∙ ap (λ b. map marked (below n) ++ b ∷ []) c.has_excluded_name.ensures
+    ∙ ap (λ b. map marked (below n) ++ b ∷ []) c.has_excluded_name.ensures.value
     ∙ sym (map-append marked (below n) (n ∷ [])) ∙ ap (map marked) (sym (below-more n))

@@ -10,11 +10,13 @@ returns-then-not-is_empty c =
     is_make_output-lines c.args.domain.now _ _ c.in_ok-made.ensures (λ none. there (size ∙ none))
 
 pub certificate_text-requires : goal.certificate_text-requires
-certificate_text-requires c =
-    let size = c.in_ok-made.made.lines.bytes.ok.0 in
-    belongs_to-made_lists c.args.domain.now c.topology.result.now _ _ c.in_ok-made.ensures
-    c.topology.ensures.topology
-    (sym size ∙ found_lines-empty _ _ c.is_empty.ensures c.if-not-is_empty.false)
+certificate_text-requires c = record {
+  valid = (
+      let size = c.in_ok-made.made.lines.bytes.ok.0 in
+      belongs_to-made_lists c.args.domain.now c.topology.result.now _ _ c.in_ok-made.ensures
+      c.topology.ensures.topology
+      (sym size ∙ found_lines-empty _ _ c.is_empty.ensures c.if-not-is_empty.false));
+}
 
 pub returns : goal.returns
 returns c =

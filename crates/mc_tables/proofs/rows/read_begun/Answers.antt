@@ -24,7 +24,7 @@ returns-clause-reads g c = λ more.
     ∙ ap (λ (l : LinesSoFar). read_after header (table new) (with_ended l)
     (drop (end + 1) rest ++ more)) (sym found.1)
     ∙ ap (λ (l : LinesSoFar). read_after header (table new) l (drop (end + 1) rest ++ more))
-    (sym c.begin_next_line.ensures)
+    (sym c.begin_next_line.ensures.change)
 
 pub returns-in_err-add_line-clause-fault : goal.returns-in_err-add_line-clause-fault
 returns-in_err-add_line-clause-fault g c = λ more.

@@ -17,11 +17,11 @@ returns-clause-reads g c = λ more.
     let new = c.add_line.new.self in
     let begun = with_begun lines (end + 1) (take end rest) in
     let judged = judge-begun_line (line_after header (step rows) rows) begun begun c.ended.result
-    (line_text c.line_of.result) refl c.ended.ensures.ended c.line_of.ensures in
+    (line_text c.line_of.result) refl c.ended.ensures.ended c.line_of.ensures.value in
     read_after-taken header table step c.requires.steps lines rows new rest more end
     c.ended.ensures.rules.begun c.requires.end (judged ∙ c.in_ok-add_line.ensures.added)
     ∙ ap (λ (l : LinesSoFar). read_after header (table new) l (drop (end + 1) rest ++ more))
-    (sym c.skip_line.ensures)
+    (sym c.skip_line.ensures.change)
 
 pub returns-in_err-add_line-clause-fault : goal.returns-in_err-add_line-clause-fault
 returns-in_err-add_line-clause-fault g c = λ more.
@@ -34,7 +34,7 @@ returns-in_err-add_line-clause-fault g c = λ more.
     let end = c.args.end in
     let begun = with_begun lines (end + 1) (take end rest) in
     let judged = judge-begun_line (line_after header (step rows) rows) begun begun c.ended.result
-    (line_text c.line_of.result) refl c.ended.ensures.ended c.line_of.ensures in
+    (line_text c.line_of.result) refl c.ended.ensures.ended c.line_of.ensures.value in
     let p = err_from_is_err_and c.from_residual.result c.from_residual.ensures.1 in
     rw (p.1, p.2) (λ there. read_after-refused header table step c.requires.steps lines rows
     c.in_err-add_line.field-0.0 rest more end c.ended.ensures.rules.begun c.requires.end

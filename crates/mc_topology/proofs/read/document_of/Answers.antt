@@ -9,13 +9,13 @@ unfolding document_of parse_toml require_utf8
 returns-in-Ok-clause-found c =
     let (utf8, reads) = c.in-Ok.ensures.ok in
     let few = le-leb _ _ c.if-text-gt-MAX_TEXT.false in
-    let bounded = sym c.if-not-is_bounded.ensures in
+    let bounded = sym c.if-not-is_bounded.ensures.value in
     rw (few, bounded, is_utf8-from_IsUtf8 c.args.text.now utf8, reads) refl
 
 pub returns-in-Err-2-clause-fault : goal.returns-in-Err-2-clause-fault
 returns-in-Err-2-clause-fault c =
     let none = c.in-Err.ensures.refused (λ m. let memory = c.is_memory.ensures.1 m in absurd cc) in
-    let bounded = sym c.if-not-is_bounded.ensures in
+    let bounded = sym c.if-not-is_bounded.ensures.value in
     rw (
       document_of-NotToml c.args.text.now c.if-text-gt-MAX_TEXT.false bounded none,
       c.at-in-Err-2.ensures,

@@ -8,17 +8,19 @@ use Rattle.mc_topology.proofs.ReadLemmas.{topology_in-Ok, topology_in-Err}
 use Rattle.mc_topology.proofs.read.topology_with.Goals as goal
 
 pub returns-in_err-interfaces : goal.returns-in_err-interfaces
-returns-in_err-interfaces c =
-    let p = err_from_is_err_and c.from_residual.result c.from_residual.ensures.1 in
-    let fault = c.in_err-interfaces.field-0.0 in
-    rw (p.1, p.2) (λ other.
-    let at_found =
-    c.in_err-interfaces.ensures
-    (λ e. let same : fault
-    ≡ out_of_memory = cc in other (ap (λ (f : TopologyFault). Err f) same)) in
-    sym
-    (topology_in-Err (table_view c.args.table.now) c.args.lans c.args.routers fault c.requires.version
-    c.requires.lans c.requires.routers (sym at_found)))
+returns-in_err-interfaces c = record {
+  outcome = (
+      let p = err_from_is_err_and c.from_residual.result c.from_residual.ensures.1 in
+      let fault = c.in_err-interfaces.field-0.0 in
+      rw (p.1, p.2) (λ other.
+      let at_found =
+      c.in_err-interfaces.ensures
+      (λ e. let same : fault
+      ≡ out_of_memory = cc in other (ap (λ (f : TopologyFault). Err f) same)) in
+      sym
+      (topology_in-Err (table_view c.args.table.now) c.args.lans c.args.routers fault c.requires.version
+      c.requires.lans c.requires.routers (sym at_found))));
+}
 
 pub new-requires : goal.new-requires
 new-requires c =
@@ -29,10 +31,12 @@ new-requires c =
     c.requires.routers (sym (c.in_ok-interfaces.ensures (λ e. absurd cc))))
 
 pub returns : goal.returns
-returns c =
-    λ other. rw c.new.ensures
-    (sym
-    (topology_in-Ok (table_view c.args.table.now) c.args.lans c.args.routers
-    c.in_ok-interfaces.interfaces
-    c.in_ok-interfaces.sources c.in_ok-interfaces.flows c.requires.version c.requires.lans
-    c.requires.routers (sym (c.in_ok-interfaces.ensures (λ e. absurd cc)))))
+returns c = record {
+  outcome = (
+      λ other. rw c.new.ensures.value
+      (sym
+      (topology_in-Ok (table_view c.args.table.now) c.args.lans c.args.routers
+      c.in_ok-interfaces.interfaces
+      c.in_ok-interfaces.sources c.in_ok-interfaces.flows c.requires.version c.requires.lans
+      c.requires.routers (sym (c.in_ok-interfaces.ensures (λ e. absurd cc))))));
+}

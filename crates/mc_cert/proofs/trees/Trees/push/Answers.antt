@@ -6,13 +6,15 @@ use Rattle.mc_cert.proofs.TreeLemmas.{length-AreSharedTrees, trees_of-push, AreS
 use Rattle.mc_cert.proofs.trees.Trees.push.Goals as goal
 
 pub number_of-requires : goal.number_of-requires
-number_of-requires c =
-    omega (
-      arith,
-      c.requires.few,
-      length-AreSharedTrees c.self.inside.distinct c.self.inside.numbers.items c.self.invariant,
-      ap (λ (ts : List Tree). length ts) c.self.view_is,
-    )
+number_of-requires c = record {
+  bounded = (
+      omega (
+        arith,
+        c.requires.few,
+        length-AreSharedTrees c.self.inside.distinct c.self.inside.numbers.items c.self.invariant,
+        ap (λ (ts : List Tree). length ts) c.self.view_is,
+      ));
+}
 
 pub invariant_of-self-2 : goal.invariant_of-self-2
 invariant_of-self-2 c =

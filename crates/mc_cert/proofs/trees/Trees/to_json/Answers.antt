@@ -8,10 +8,12 @@ use Rattle.mc_cert.proofs.WrittenCertificates.{certificate_text-denotes_as_writt
 use Rattle.mc_cert.proofs.trees.Trees.to_json.Goals as goal
 
 pub push_trees-requires : goal.push_trees-requires
-push_trees-requires c =
-    All-distinct_trees (All (IsEntryOf c.args.topology.now)) c.args.self.now c.args.self.now _ refl
-    c.requires.entries
-    (c.trees-trees.ensures ∙ c.self.invariant.distinct ∙ ap distinct_trees c.self.view_is)
+push_trees-requires c = record {
+  valid = (
+      All-distinct_trees (All (IsEntryOf c.args.topology.now)) c.args.self.now c.args.self.now _ refl
+      c.requires.entries
+      (c.trees-trees.ensures ∙ c.self.invariant.distinct ∙ ap distinct_trees c.self.view_is));
+}
 
 pub returns-clause-text : goal.returns-clause-text
 returns-clause-text c =
@@ -26,7 +28,7 @@ pub returns-clause-denotes : goal.returns-clause-denotes
 returns-clause-denotes c = λ few.
     certificate_text-denotes_as_written c.args.topology.now c.args.self.now
     (map (λ t. t.value.items) c.trees-trees.result.now) (string_bytes c.push_str-2.new.self)
-    c.flows-rules.ensures.rules c.requires
+    c.flows-rules.ensures.rules c.requires.valid
     (c.trees-trees.ensures ∙ c.self.invariant.distinct ∙ ap distinct_trees c.self.view_is)
     (subst (λ (ts : List Tree). All IsWritableTree ts) (sym c.trees-trees.ensures) c.self.invariant.lists)
     c.in_ok-push_trees.ensures.bytes (returns-clause-text c) few

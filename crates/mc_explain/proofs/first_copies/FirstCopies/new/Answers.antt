@@ -17,17 +17,19 @@ loop-copy-init c = first_copies_so_far-none c.in_ok-by_lan.by_lan c.args.copies.
     (holds_first-start (λ (x : Copy). x.lan) c.in_ok-by_lan.by_lan _ c.in_ok-by_lan.ensures) refl
 
 pub put_first-requires : goal.put_first-requires
-put_first-requires c =
-    let x = c.copy-item.result in
-    let lan : c.copy.inside.lan ≡ x.lan = ap (λ (y : Copy). y.lan) c.copy.view_is in
-    let within : x.lan < length c.args.view.now.domain.topology.lans =
-    subst (λ (y : Copy). y.lan < length c.args.view.now.domain.topology.lans) (sym c.copy-item.is)
-    (c.requires c.loop-copy.copy-index x c.loop-copy-test.true) in
-    let many : length c.in_ok-by_lan.by_lan ≡ c.lans.result = ap length c.in_ok-by_lan.ensures ∙
-    length-replicate _ _ in
-    let same = c.loop-copy.invariant.count in
-    let count = c.lans.ensures.count in
-    omega (arith, lan, within, many, same, count)
+put_first-requires c = record {
+  known = (
+      let x = c.copy-item.result in
+      let lan : c.copy.inside.lan ≡ x.lan = ap (λ (y : Copy). y.lan) c.copy.view_is in
+      let within : x.lan < length c.args.view.now.domain.topology.lans =
+      subst (λ (y : Copy). y.lan < length c.args.view.now.domain.topology.lans) (sym c.copy-item.is)
+      (c.requires.within c.loop-copy.copy-index x c.loop-copy-test.true) in
+      let many : length c.in_ok-by_lan.by_lan ≡ c.lans.result = ap length c.in_ok-by_lan.ensures ∙
+      length-replicate _ _ in
+      let same = c.loop-copy.invariant.count in
+      let count = c.lans.ensures.count in
+      omega (arith, lan, within, many, same, count));
+}
 
 pub loop-copy-preserved : goal.loop-copy-preserved
 loop-copy-preserved c =
@@ -45,7 +47,7 @@ loop-copy-preserved c =
     let count = c.lans.ensures.count in
     let on : x.lan < length c.args.view.now.domain.topology.lans =
     subst (λ (y : Copy). y.lan < length c.args.view.now.domain.topology.lans) (sym c.copy-item.is)
-    (c.requires k x c.loop-copy-test.true) in
+    (c.requires.within k x c.loop-copy-test.true) in
     let within : x.lan < length old = omega (arith, on, many, count) in
     let found : c.if-not-put_first.second ≡ second_copy_so_far second (not put) x =
     elim c.if-not-put_first.branch [

@@ -9,14 +9,18 @@ use Rattle.mc_explain.specs.TopologyLans.{interfaces_on_lan}
 use Rattle.mc_explain.proofs.lan_probe.LanProbe.routers_on.Goals as goal
 
 pub on-requires : goal.on-requires
-on-requires c =
-    let d = facts c.args.self.now.view.now.domain in
-    let lans = length d.topology.lans in
-    let size = ap length c.requires.lan_probe.interfaces
-    ∙ length-map (below lans) (interfaces_on_lan d) ∙ length-below lans in
-    subst (λ (n : ℕ). c.args.lan < n) (sym size) c.requires.lan
+on-requires c = record {
+  known = (
+      let d = facts c.args.self.now.view.now.domain in
+      let lans = length d.topology.lans in
+      let size = ap length c.requires.lan_probe.interfaces
+      ∙ length-map (below lans) (interfaces_on_lan d) ∙ length-below lans in
+      subst (λ (n : ℕ). c.args.lan < n) (sym size) c.requires.lan);
+}
 
 pub returns : goal.returns
-returns c =
-    c.new.ensures ∙ ap group_by_router (c.on.ensures (facts c.args.self.now.view.now.domain)
-    c.requires.lan_probe.interfaces c.requires.lan)
+returns c = record {
+  value = (
+      c.new.ensures.value ∙ ap group_by_router (c.on.ensures.item (facts c.args.self.now.view.now.domain)
+      c.requires.lan_probe.interfaces c.requires.lan));
+}

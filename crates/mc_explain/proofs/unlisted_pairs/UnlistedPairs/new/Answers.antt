@@ -9,9 +9,11 @@ use Rattle.mc_explain.proofs.UnlistedPairLemmas.{sum_by-map_lengths, is_strictly
 use Rattle.mc_explain.proofs.unlisted_pairs.UnlistedPairs.new.Goals as goal
 
 pub with_routers-requires : goal.with_routers-requires
-with_routers-requires c =
-    subst (IsStrictlySortedBy key_cmp) (sym (c.deref.ensures.value ∙ c.in_ok-pairs.ensures))
-    (is_strictly_sorted_by-shown_pairs c.args.all (flat_map (λ (own : SummaryValue). own.lowest) c.args.summary.now))
+with_routers-requires c = record {
+  valid = (
+      subst (IsStrictlySortedBy key_cmp) (sym (c.deref.ensures.value ∙ c.in_ok-pairs.ensures))
+      (is_strictly_sorted_by-shown_pairs c.args.all (flat_map (λ (own : SummaryValue). own.lowest) c.args.summary.now)));
+}
 
 pub returns : goal.returns
 returns c =

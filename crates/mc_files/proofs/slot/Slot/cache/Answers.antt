@@ -2,4 +2,4 @@ use Rattle.mc_files.proofs.SlotLemmas.{HasPartName-cache_slot}
 use Rattle.mc_files.proofs.slot.Slot.cache.Goals as goal
 
 pub invariant_of-result : goal.invariant_of-result
-invariant_of-result c = HasPartName-cache_slot c.args.router.now c.requires
+invariant_of-result c = HasPartName-cache_slot c.args.router.now c.requires.valid

@@ -2,4 +2,4 @@ use Rattle.mc_files.proofs.SlotLemmas.{HasPartName-reports_slot}
 use Rattle.mc_files.proofs.slot.Slot.reports.Goals as goal
 
 pub invariant_of-result : goal.invariant_of-result
-invariant_of-result c = HasPartName-reports_slot c.args.lan.now c.requires
+invariant_of-result c = HasPartName-reports_slot c.args.lan.now c.requires.valid

@@ -18,7 +18,7 @@ returns-clause-each c = λ groups records left up count at before.
       common_steps,
       read,
       c.excludes_with.ensures,
-      c.in_ok-with.ensures,
+      c.in_ok-with.ensures.value,
       c.in_ok-with.was,
     ) in
     rw (c.list_sources.ensures.excludes, with)

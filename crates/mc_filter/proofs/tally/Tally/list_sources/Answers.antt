@@ -7,7 +7,7 @@ use Rattle.mc_filter.proofs.tally.Tally.list_sources.Goals as goal
 pub loop-source-preserved-in-Some-place_of : goal.loop-source-preserved-in-Some-place_of
 loop-source-preserved-in-Some-place_of c =
     let before = c.loop-source.invariant in
-    rw c.after_listing.ensures (record {
+    rw c.after_listing.ensures.value (record {
       excludes = before.excludes;
       count = length-set _ c.in-Some-place_of.place _ ∙ before.count;
       each = AreListedUpTo-found c.args.channels.now c.args.group_record.now.group

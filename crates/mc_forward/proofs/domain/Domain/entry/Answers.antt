@@ -5,17 +5,19 @@ use Rattle.mc_forward.proofs.RowLemmas.{rows_of_router-at_index, length-rows_of_
 use Rattle.mc_forward.proofs.domain.Domain.entry.Goals as goal
 
 pub row-requires : goal.row-requires
-row-requires c =
-    let d = c.args.self.now in
-    let all = c.self.inside.derived.rows.items in
-    let own = rows_of_router-at_index d all c.index-rows.result.now c.args.router
-    (subst IsDomain c.self.view_is c.self.invariant.domain)
-    (subst (λ (e : DomainValue). all ≡ rows_by_tables e.topology.flows e.tables) c.self.view_is
-    c.self.invariant.rows)
-    c.requires.router
-    (c.index-rows.ensures ∙ ap (λ (k : ℕ). get_or all k c.index-rows.result.now) c.router.view_is) in
-    let count = length-rows_of_router d c.args.router c.index-rows.result.now own in
-    omega (arith, c.requires.flow, count)
+row-requires c = record {
+  known = (
+      let d = c.args.self.now in
+      let all = c.self.inside.derived.rows.items in
+      let own = rows_of_router-at_index d all c.index-rows.result.now c.args.router
+      (subst IsDomain c.self.view_is c.self.invariant.domain)
+      (subst (λ (e : DomainValue). all ≡ rows_by_tables e.topology.flows e.tables) c.self.view_is
+      c.self.invariant.rows)
+      c.requires.router
+      (c.index-rows.ensures ∙ ap (λ (k : ℕ). get_or all k c.index-rows.result.now) c.router.view_is) in
+      let count = length-rows_of_router d c.args.router c.index-rows.result.now own in
+      omega (arith, c.requires.flow, count));
+}
 
 pub returns-clause-row : goal.returns-clause-row
 returns-clause-row c =
@@ -28,7 +30,7 @@ returns-clause-row c =
     c.self.invariant.rows)
     c.requires.router
     (c.index-rows.ensures ∙ ap (λ (k : ℕ). get_or all k c.index-rows.result.now) c.router.view_is))
-    c.row.ensures
+    c.row.ensures.item
 
 pub returns-clause-valid : goal.returns-clause-valid
 returns-clause-valid c =

@@ -6,10 +6,12 @@ use Rattle.mc_forward.specs.FlightsInDomain.{FlowOfDomain, net_in}
 use Rattle.mc_forward.proofs.flow_with_rows.FlowWithRows.row.Goals as goal
 
 pub copy_row-requires : goal.copy_row-requires
-copy_row-requires c =
-    let found : slice_get c.self.inside.rows.items c.args.router ≡ Some c.in-Some.row.now =
-    grind (arith, common_steps, gets) in
-    (c.self.invariant c.args.router c.in-Some.row.now found).1
+copy_row-requires c = record {
+  valid = (
+      let found : slice_get c.self.inside.rows.items c.args.router ≡ Some c.in-Some.row.now =
+      grind (arith, common_steps, gets) in
+      (c.self.invariant c.args.router c.in-Some.row.now found).1);
+}
 
 pub returns-in-Some-clause-row : goal.returns-in-Some-clause-row
 returns-in-Some-clause-row c =

@@ -9,7 +9,7 @@ use Rattle.mc_igmp.proofs.list.ReportList.read.Goals as goal
 
 pub returns-then-text-gt-MAX_TEXT : goal.returns-then-text-gt-MAX_TEXT
 returns-then-text-gt-MAX_TEXT c =
-    report_list_answer-too_large c.args.text.now _ c.if-text-gt-MAX_TEXT.true (ap Err c.at.ensures)
+    report_list_answer-too_large c.args.text.now _ c.if-text-gt-MAX_TEXT.true (ap Err c.at.ensures.item)
 
 pub loop-line-init : goal.loop-line-init
 loop-line-init c =

@@ -18,7 +18,7 @@ returns-then-not-is_checksum_right-clause-fault c =
 
 pub returns-clause-fault : goal.returns-clause-fault
 unfolding read_message
-returns-clause-fault c = c.parse_by_type.ensures
+returns-clause-fault c = c.parse_by_type.ensures.value
     ∙ rw (le-ltb _ _ c.if-bytes-lt-HEADER_LEN.false, ← c.if-not-is_checksum_right.ensures) refl
 
 pub returns-clause-found : goal.returns-clause-found

@@ -22,7 +22,7 @@ pub returns : goal.returns
 returns c =
     let lines = c.self.inside.lines in
     let rows = c.self.inside.rows in
-    ap Ok (c.from_rows.ensures ∙ c.into_kept.ensures ∙ c.in_ok-check_end.ensures.table)
+    ap Ok (c.from_rows.ensures.value ∙ c.into_kept.ensures ∙ c.in_ok-check_end.ensures.table)
     ∙ ap (λ r. r >>= λ _. Ok rows.rows.table) c.in_ok-check_end.ensures.end
     ∙ sym (cache_after-end lines rows c.check_end.ensures.rules.begun)
     ∙ ap (λ fault. unless_fault fault (cache_after lines rows [])) (sym c.in_default.is)

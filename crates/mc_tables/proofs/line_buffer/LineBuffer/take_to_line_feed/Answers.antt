@@ -14,7 +14,7 @@ invariant_of-self-in-Some c =
     let taken = take end c.args.rest.now in
     let size : lines.size + length c.args.rest.now ≤ 16777216 =
     subst (λ (l : LinesSoFar). l.size + length c.args.rest.now ≤ 16777216) (sym c.self.view_is)
-    c.requires in
+    c.requires.bounded in
     let within : end + 1 ≤ length c.args.rest.now = position-within c.args.rest.now end (sym c.in-Some.ensures) in
     let kept = lines_so_far-with_begun lines (end + 1) taken c.self.invariant (omega arith)
     (omega (arith, length-take end c.args.rest.now))
@@ -30,7 +30,7 @@ invariant_of-self-in-None c =
     } in
     let size : lines.size + length c.args.rest.now ≤ 16777216 =
     subst (λ (l : LinesSoFar). l.size + length c.args.rest.now ≤ 16777216) (sym c.self.view_is)
-    c.requires in
+    c.requires.bounded in
     let kept = lines_so_far-with_begun lines (length c.args.rest.now) c.args.rest.now c.self.invariant size
     (omega arith) (no_line_feed-not_found c.args.rest.now (sym c.in-None.ensures)) in
     rw c.in_ok-extend_from_slice-in-None.ensures.items kept

@@ -4,26 +4,30 @@ use Rattle.mc_tables.proofs.MarkedLemmas.{digits_or_spaces-run, digits_or_spaces
 use Rattle.mc_tables.proofs.marked_line.MarkedLine.behind_counters.Goals as goal
 
 pub without_front-requires : goal.without_front-requires
-without_front-requires c =
-    let line = c.args.self.bytes.now in
-    let known = digits_or_spaces-run c.args.self.digits c.args.self.spaces c.front_run_length.result c.front_run_length.ensures in
-    let within = digits_or_spaces-within line c.args.self.digits c.args.self.spaces c.front_run_length.result
-    c.requires.digits c.requires.spaces known in
-    omega (arith, within, c.if-front_run_length-end.false)
+without_front-requires c = record {
+  within = (
+      let line = c.args.self.bytes.now in
+      let known = digits_or_spaces-run c.args.self.digits c.args.self.spaces c.front_run_length.result c.front_run_length.ensures in
+      let within = digits_or_spaces-within line c.args.self.digits c.args.self.spaces c.front_run_length.result
+      c.requires.digits c.requires.spaces known in
+      omega (arith, within, c.if-front_run_length-end.false));
+}
 
 pub returns : goal.returns
-returns c =
-    let line = c.args.self.bytes.now in
-    let digits = c.args.self.digits in
-    let spaces = c.args.self.spaces in
-    let a = c.lowest_mark-packets in
-    let b = c.lowest_mark-bytes in
-    let d = c.lowest_mark-wrong_if in
-    let known = digits_or_spaces-run digits spaces c.front_run_length.result c.front_run_length.ensures in
-    subst (HasCounters line) (sym c.without_front.ensures)
-    (has_counters-from_marks line digits spaces c.last_digits-ends.result a.result b.result d.result
-    c.requires.digits c.requires.spaces c.last_digits-ends.ensures
-    (λ k less. known k (omega (arith, less, c.if-front_run_length-end.false)))
-    a.ensures.lowest (a.ensures.set (omega (arith, c.if-packets-ge-MAX_COUNTER_WIDTH.false))) c.if-packets-ge-MAX_COUNTER_WIDTH.false
-    b.ensures.lowest (b.ensures.set (omega (arith, c.if-bytes-ge-MAX_COUNTER_WIDTH.false))) c.if-bytes-ge-MAX_COUNTER_WIDTH.false
-    d.ensures.lowest (d.ensures.set (omega (arith, c.if-wrong_if-ge-MAX_COUNTER_WIDTH.false))) c.if-wrong_if-ge-MAX_COUNTER_WIDTH.false)
+returns c = record {
+  some = (
+      let line = c.args.self.bytes.now in
+      let digits = c.args.self.digits in
+      let spaces = c.args.self.spaces in
+      let a = c.lowest_mark-packets in
+      let b = c.lowest_mark-bytes in
+      let d = c.lowest_mark-wrong_if in
+      let known = digits_or_spaces-run digits spaces c.front_run_length.result c.front_run_length.ensures in
+      subst (HasCounters line) (sym c.without_front.ensures.value)
+      (has_counters-from_marks line digits spaces c.last_digits-ends.result a.result b.result d.result
+      c.requires.digits c.requires.spaces c.last_digits-ends.ensures
+      (λ k less. known k (omega (arith, less, c.if-front_run_length-end.false)))
+      a.ensures.lowest (a.ensures.set (omega (arith, c.if-packets-ge-MAX_COUNTER_WIDTH.false))) c.if-packets-ge-MAX_COUNTER_WIDTH.false
+      b.ensures.lowest (b.ensures.set (omega (arith, c.if-bytes-ge-MAX_COUNTER_WIDTH.false))) c.if-bytes-ge-MAX_COUNTER_WIDTH.false
+      d.ensures.lowest (d.ensures.set (omega (arith, c.if-wrong_if-ge-MAX_COUNTER_WIDTH.false))) c.if-wrong_if-ge-MAX_COUNTER_WIDTH.false));
+}

@@ -5,5 +5,7 @@ use Rattle.mc_tables.specs.SummaryReading.{SummarizedRowsSoFar}
 use Rattle.mc_tables.proofs.summarized_rows.SummarizedRows.into_summarized.Goals as goal
 
 pub of-requires : goal.of-requires
-of-requires c =
-    subst (λ (s : SummarizedRowsSoFar). HasValidEntries (finished_summary s.summary)) (sym c.self.view_is) c.requires.summary
+of-requires c = record {
+  valid = (
+      subst (λ (s : SummarizedRowsSoFar). HasValidEntries (finished_summary s.summary)) (sym c.self.view_is) c.requires.summary);
+}

@@ -26,14 +26,14 @@ returns-then-unwrap_or c =
 pub returns : goal.returns
 returns c =
     let found : c.first_repeat_of_sorted.result ≡ first_repeat c.args.self.now =
-    c.first_repeat_of_sorted.ensures
+    c.first_repeat_of_sorted.ensures.value
     ∙ ap first_repeat c.as_slice.ensures.value
     ∙ first_repeat-permuted c.self.inside.rows.items c.sort_unstable.new.self.items
     c.sort_unstable.ensures.permutation
     ∙ ap first_repeat c.self.view_is in
     elim c.match-first_repeat_of_sorted.branch [
       | in-Some w ↦
-          w.result-is ∙ ap Err w.at.ensures
+          w.result-is ∙ ap Err w.at.ensures.item
           ∙ ap repeat_fault (sym w.in-Some.is ∙ found)
       | in-None w ↦ w.result-is ∙ ap repeat_fault (sym w.in-None.is ∙ found)
     ]

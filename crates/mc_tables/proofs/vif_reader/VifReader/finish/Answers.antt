@@ -22,7 +22,7 @@ pub returns : goal.returns
 returns c =
     let lines = c.self.inside.lines in
     let rows = c.self.inside.rows in
-    ap Ok c.from_rows.ensures
+    ap Ok c.from_rows.ensures.value
     ∙ ap (λ r. r >>= λ _. vifs_from_lines rows []) c.in_ok-check_end.ensures.end
     ∙ sym (vifs_after-end lines rows c.check_end.ensures.rules.begun)
     ∙ ap (λ fault. unless_fault fault (vifs_after lines rows [])) (sym c.in_default.is)

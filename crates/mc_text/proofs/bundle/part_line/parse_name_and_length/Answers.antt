@@ -29,5 +29,5 @@ returns c =
     let long = rw number at c.if-not-is_length.ensures in
     let name = c.in_ok-name.ensures.found in
     let named = rw name at (is_part_name-complete c.in_ok-name.name c.in_ok-name.ensures.is_name) in
-    rw (c.length_or_max.ensures, number, ← c.in_ok-space.ensures, and_from _ _ named (sym long), name)
+    rw (c.length_or_max.ensures.value, number, ← c.in_ok-space.ensures, and_from _ _ named (sym long), name)
     refl

@@ -6,17 +6,21 @@ use Rattle.mc_topology.proofs.read.bounds.is_bounded.Goals as goal
 pub loop-byte-preserved : goal.loop-byte-preserved
 loop-byte-preserved c =
     rw c.with_byte-scan.ensures (IsScannedTo-more c.args.text.now c.loop-byte.scan c.loop-byte.byte-index
-    c.loop-byte.invariant c.loop-byte-test.true c.requires)
+    c.loop-byte.invariant c.loop-byte-test.true c.requires.bounded)
 
 pub returns-then-scan-le-MAX_MARKS : goal.returns-then-scan-le-MAX_MARKS
-returns-then-scan-le-MAX_MARKS c =
-    let is = is_bounded-all c.args.text.now c.loop-byte.scan c.loop-byte.byte-index
-    c.loop-byte.invariant c.loop-byte-test.false in
-    rw (is, le-leb _ _ c.if-scan-le-MAX_MARKS.true) refl
+returns-then-scan-le-MAX_MARKS c = record {
+  value = (
+      let is = is_bounded-all c.args.text.now c.loop-byte.scan c.loop-byte.byte-index
+      c.loop-byte.invariant c.loop-byte-test.false in
+      rw (is, le-leb _ _ c.if-scan-le-MAX_MARKS.true) refl);
+}
 
 pub returns-else-scan-le-MAX_MARKS : goal.returns-else-scan-le-MAX_MARKS
-returns-else-scan-le-MAX_MARKS c =
-    let is = is_bounded-all c.args.text.now c.loop-byte.scan c.loop-byte.byte-index
-    c.loop-byte.invariant c.loop-byte-test.false in
-    let many = c.if-scan-le-MAX_MARKS.false in
-    rw is (grind (arith, nat_tests))
+returns-else-scan-le-MAX_MARKS c = record {
+  value = (
+      let is = is_bounded-all c.args.text.now c.loop-byte.scan c.loop-byte.byte-index
+      c.loop-byte.invariant c.loop-byte-test.false in
+      let many = c.if-scan-le-MAX_MARKS.false in
+      rw is (grind (arith, nat_tests)));
+}

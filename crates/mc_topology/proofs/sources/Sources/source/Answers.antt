@@ -5,11 +5,13 @@ use Rattle.mc_topology.proofs.Places.{slice_get-row}
 use Rattle.mc_topology.proofs.sources.Sources.source.Goals as goal
 
 pub returns : goal.returns
-returns c =
-    let entries = c.self.inside.lans.entries in
-    let rows : c.args.source < length (map source_row entries) = rw c.self.view_is c.requires in
-    let within : c.args.source < length entries = rw length-map at rows in
-    let is = rw (c.as_slice.ensures, c.keys-addresses.ensures.rest) at c.index-as_slice-source.is in
-    let at = slice_get-row source_row entries c.args.source c.index-as_slice-source.result
-    c.index.result.now within is c.index.ensures in
-    rw (← c.self.view_is) at
+returns c = record {
+  item = (
+      let entries = c.self.inside.lans.entries in
+      let rows : c.args.source < length (map source_row entries) = rw c.self.view_is c.requires.known in
+      let within : c.args.source < length entries = rw length-map at rows in
+      let is = rw (c.as_slice.ensures, c.keys-addresses.ensures.rest) at c.index-as_slice-source.is in
+      let at = slice_get-row source_row entries c.args.source c.index-as_slice-source.result
+      c.index.result.now within is c.index.ensures in
+      rw (← c.self.view_is) at);
+}

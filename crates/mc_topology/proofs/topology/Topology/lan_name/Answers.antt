@@ -5,4 +5,4 @@ pub returns-clause-number : goal.returns-clause-number
 returns-clause-number c =
     rw (← c.self.view_is)
     (index_of-lan_name c.self.inside.lans c.args.lan c.name.result.now c.self.invariant.lan_names
-    c.name.ensures)
+    c.name.ensures.item)

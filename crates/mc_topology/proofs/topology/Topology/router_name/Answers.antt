@@ -5,4 +5,4 @@ pub returns-clause-number : goal.returns-clause-number
 returns-clause-number c =
     rw (← c.self.view_is)
     (router_no_of-router_name c.self.inside.routers c.args.router c.name.result.now
-    c.self.invariant.router_names c.name.ensures)
+    c.self.invariant.router_names c.name.ensures.item)

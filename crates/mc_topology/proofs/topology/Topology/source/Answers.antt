@@ -3,4 +3,4 @@ use Rattle.mc_topology.proofs.topology.Topology.source.Goals as goal
 pub returns-clause-valid : goal.returns-clause-valid
 returns-clause-valid c =
     rw (← c.self.view_is)
-    (c.self.invariant.valid_sources c.args.source c.source.result c.source.ensures)
+    (c.self.invariant.valid_sources c.args.source c.source.result c.source.ensures.item)

@@ -7,6 +7,7 @@ use Rattle.mc_text.specs.Lines.{LineText, lines_from}
 use Rattle.mc_text.specs.Steps.{◌>>=◌}
 use Rattle.mc_igmp.specs.declared.record.Record.{Record}
 use Rattle.mc_igmp.specs.declared.fault.ListFault.{ListFault}
+use Rattle.mc_igmp.specs.declared.list_reader.LineReader.{LineReader}
 use Rattle.mc_igmp.specs.declared.fault.ListFaultKind.TheVariants.{TooLarge}
 use Rattle.mc_igmp.specs.ReadingList.{fault_at, read_lines}
 
@@ -24,6 +25,10 @@ pub record IsDecodedAhead (line message : List ℕ) (decoded : ℕ) : Type 0 whe
 abbrev pub read_rest_of_lines : List Record → ℕ → List ℕ → Result (List Record) ListFault
 read_rest_of_lines records ended bytes =
     read_lines (lines_from (ended + 1) bytes) >>= λ others. Ok (records ++ others)
+
+-- the records that the lines so far and these bytes after them are read as
+abbrev pub lines_if : LineReader → List ℕ → Result (List Record) ListFault
+lines_if lines more = read_rest_of_lines lines.list lines.ended (lines.begun.items ++ more)
 
 -- the line of these bytes, which a line feed ends, after `ended` lines
 abbrev pub line_after : ℕ → List ℕ → LineText

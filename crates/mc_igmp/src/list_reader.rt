@@ -8,7 +8,7 @@ ghost use Rattle.hex.specs.Hex.{is_hex_digit};
 ghost use Rattle.mc_text.specs.Lines.{max_text};
 ghost use Rattle.mc_igmp.specs.declared.record.Record.{Record};
 ghost use Rattle.mc_igmp.specs.ReadingList.{IsMemory, oom_fault, read_line, read_list};
-ghost use Rattle.mc_igmp.specs.ListSoFar.{IsDecodedAhead, WithoutLineFeed, line_after, read_rest_of_lines};
+ghost use Rattle.mc_igmp.specs.ListSoFar.{IsDecodedAhead, WithoutLineFeed, line_after, lines_if};
 ghost use Rattle.mc_igmp.specs.ListSoFar.{no_list, without_records, list_if};
 
 use crate::digits::decode_prefix;
@@ -115,11 +115,9 @@ impl LineReader {
             < u32.MAX }
         requires begun { WithoutLineFeed self.old.begun.items }
         ensures reads { (more : List ℕ) → OnOk result
-            (read_rest_of_lines self.old.list self.old.ended (self.old.begun.items ++ (piece.now ++ more))
-            ≡ read_rest_of_lines self.new.list self.new.ended (self.new.begun.items ++ more)) }
+            (lines_if self.old (piece.now ++ more) ≡ lines_if self.new more) }
         ensures fault { (more : List ℕ) → IfErr result (λ fault. IsMemory fault
-            ⊎ (read_rest_of_lines self.old.list self.old.ended
-            (self.old.begun.items ++ (piece.now ++ more)) ≡ Err fault)) }
+            ⊎ (lines_if self.old (piece.now ++ more) ≡ Err fault)) }
         ensures few { OnOk result (self.new.ended + length self.new.begun.items
             ≤ self.old.ended + (length self.old.begun.items + length piece.now)) }
         ensures begun { OnOk result (WithoutLineFeed self.new.begun.items) }

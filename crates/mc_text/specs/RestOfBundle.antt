@@ -1,5 +1,5 @@
 -- Reading a bundle part by part: the parts after the current one.
-use Rattle.std.specs.Prelude.{◌≡◌, ℕ, List, [], ◌∷◌, Option, Some, None, Result, Ok, Err}
+use Rattle.std.specs.Prelude.{◌≡◌, ℕ, List, [], ◌∷◌, ◌++◌, Option, Some, None, Result, Ok, Err}
 use Rattle.mc_text.specs.declared.bundle.bundle_fault.BundleFault.{BundleFault}
 use Rattle.mc_text.specs.declared.bundle.bundle_fault.BundleFault.TheVariants as faults
 use Rattle.mc_text.specs.declared.bundle.stage.Stage.{Stage}
@@ -7,8 +7,28 @@ use Rattle.mc_text.specs.declared.bundle.stage.Stage.TheVariants as stages
 use Rattle.mc_text.specs.Steps.{◌>>=◌}
 use Rattle.mc_text.specs.Bundle.{PartText}
 use Rattle.mc_text.specs.BundleReading.{part_bytes_at, parts_from, bundle_of}
-use Rattle.mc_text.specs.PartsReading.{PartsState, prepend_parts}
+use Rattle.mc_text.specs.PartsReading.{PartsState, prepend_parts, parts_from_current, current_part}
 use Rattle.mc_text.specs.PartsLimits.{ConsumesWithin, max_to_come}
+
+-- The current part was skipped: with it before them, the parts from the new one on are those that were
+-- to come.
+abbrev pub SkipsCurrentPart : PartsState → PartsState → (done text : List ℕ) → Type 0
+SkipsCurrentPart old new done text =
+    (later : List ℕ) × (new.remaining ≡ Some later)
+    × (parts_from_current old done text
+    ≡ prepend_parts (current_part old done text) (parts_from_current new [] later))
+
+-- These bytes of the current part were read: with them after those read before, the parts stay the same.
+abbrev pub ReadsOfPart : PartsState → PartsState → (done text bytes : List ℕ) → Type 0
+ReadsOfPart old new done text bytes =
+    (later : List ℕ) × (new.remaining ≡ Some later)
+    × (parts_from_current old done text ≡ parts_from_current new (done ++ bytes) later)
+
+-- These bytes of the current part were read, as above, and they are the next ones of the text.
+abbrev pub ReadsNextOfPart : PartsState → PartsState → (done text bytes : List ℕ) → Type 0
+ReadsNextOfPart old new done text bytes =
+    (later : List ℕ) × (new.remaining ≡ Some later) × (text ≡ bytes ++ later)
+    × (parts_from_current old done text ≡ parts_from_current new (done ++ bytes) later)
 
 -- the parts after the current one, in a part
 abbrev pub rest_after_part : Option (List ℕ) → PartsState → List ℕ → Result (List PartText) BundleFault

@@ -1,11 +1,11 @@
 //! Collecting the bytes of a bundle's current part.
 
-ghost use Rattle.std.specs.Prelude.{◌≡◌, ◌≢◌, ◌<◌, ◌++◌, ◌⊎◌, ℕ, List, Some, Err, IfOk, IfErr, OnOk};
+ghost use Rattle.std.specs.Prelude.{◌≡◌, ◌≢◌, ◌<◌, ◌⊎◌, ℕ, List, Some, Err, IfOk, IfErr, OnOk};
 ghost use Rattle.std.specs.Prelude.{length};
 ghost use Rattle.mc_text.specs.declared.bundle.stage.Stage.TheVariants as stages;
 ghost use Rattle.mc_text.specs.Device.{failures_after};
 ghost use Rattle.mc_text.specs.PartsReading.{is_read, parts_from_current};
-ghost use Rattle.mc_text.specs.RestOfBundle.{Advances};
+ghost use Rattle.mc_text.specs.RestOfBundle.{Advances, ReadsOfPart};
 
 use crate::bundle::bundle_fault::BundleFault;
 use crate::bundle::parts::Parts;
@@ -28,8 +28,7 @@ pub fn collect_part<R: Input>(
     requires failures { parts.old.failed < u64.MAX }
     // The bytes are those of the part that were still to come: the parts of the bundle stay the same.
     ensures bytes { (text done : List ℕ) → parts.old.remaining ≡ Some text → IfOk result (λ bytes.
-        (later : List ℕ) × (parts.new.remaining ≡ Some later)
-        × (parts_from_current parts.old done text ≡ parts_from_current parts.new (done ++ bytes.items) later)) }
+        ReadsOfPart parts.old parts.new done text bytes.items) }
     ensures whole { OnOk result ((parts.new.stage ≡ stages.Part)
         × (parts.new.name ≡ parts.old.name) × (parts.new.left ≡ 0)) }
     ensures advances { Advances parts.old parts.new }

@@ -1,12 +1,13 @@
 //! Reading a bundle part by part from an input.
 
-ghost use Rattle.std.specs.Prelude.{◌≡◌, ◌≢◌, ◌+◌, ◌<◌, ◌≤◌, ◌++◌, ◌⊎◌, ℕ, List, [], length, take};
+ghost use Rattle.std.specs.Prelude.{◌≡◌, ◌≢◌, ◌+◌, ◌<◌, ◌≤◌, ◌⊎◌, ℕ, List, [], length, take};
 ghost use Rattle.std.specs.Prelude.{Ok, Err, Some, true, false, IfOk, IfErr, IsSome, OnErr};
 ghost use Rattle.mc_text.specs.declared.bundle.stage.Stage.TheVariants as stages;
 ghost use Rattle.mc_text.specs.BundleFaults.{IsInputFault};
 ghost use Rattle.mc_text.specs.BundleReading.{bundle_of};
 ghost use Rattle.mc_text.specs.Device.{failures_after};
-ghost use Rattle.mc_text.specs.PartsReading.{prepend_parts, is_read, parts_from_current, current_part};
+ghost use Rattle.mc_text.specs.PartsReading.{is_read, parts_from_current, current_part};
+ghost use Rattle.mc_text.specs.RestOfBundle.{ReadsNextOfPart, SkipsCurrentPart};
 ghost use Rattle.mc_text.specs.PartsLimits.{ConsumesWithin, max_to_come};
 ghost use Rattle.mc_text.specs.Bundle.{max_bundle, max_line, max_part};
 
@@ -78,9 +79,7 @@ impl<R: Input> Parts<R> {
         // If a part was opened, the parts that were to come are the one that was skipped, if there
         // was one, and those that are still to come.
         ensures opened { (text done : List ℕ) → self.old.remaining ≡ Some text → result ≡ Ok true →
-            (later : List ℕ) × (self.new.remaining ≡ Some later)
-            × (parts_from_current self.old done text
-            ≡ prepend_parts (current_part self.old done text) (parts_from_current self.new [] later)) }
+            SkipsCurrentPart self.old self.new done text }
         // After the last part they are the one that was skipped, if there was one.
         ensures ended { (text done : List ℕ) → self.old.remaining ≡ Some text → result ≡ Ok false →
             parts_from_current self.old done text ≡ Ok (current_part self.old done text) }
@@ -170,8 +169,7 @@ impl<R: Input> Parts<R> {
         ensures bound { IfOk result (λ n. n ≤ length buffer.new) }
         // The bytes are the next ones of the part: the parts of the bundle stay the same.
         ensures bytes { (text done : List ℕ) → self.old.remaining ≡ Some text → IfOk result (λ n.
-            (later : List ℕ) × (self.new.remaining ≡ Some later) × (text ≡ take n buffer.new ++ later)
-            × (parts_from_current self.old done text ≡ parts_from_current self.new (done ++ take n buffer.new) later)) }
+            ReadsNextOfPart self.old self.new done text (take n buffer.new)) }
         ensures left { IfOk result (λ n. self.old.stage ≡ stages.Part →
             self.new.left + n ≡ self.old.left) }
         // In a part, 0 is returned only for an empty buffer or at the part's end.

@@ -2,5 +2,6 @@ pub mod SourceFilter
 pub mod Merged
 pub mod FilterBuilding
 pub mod Tallies
+pub mod Channels
 pub mod ChannelPlaces
 pub use Rattle.mc_igmp.specs.Wants

@@ -1,4 +1,4 @@
-//! The rows of a cache, of which those of listed sources and groups are kept.
+//! Reads the rows of a cache line by line, and keeps those of listed sources and groups.
 
 ghost use Rattle.std.specs.Prelude.{◌≡◌, ◌≢◌, [], ◌+◌, ◌<◌, ◌≤◌, length, OnOk, OnErr, IfErr, IfOk, Ok};
 ghost use Rattle.std.specs.Prelude.{Err};
@@ -30,12 +30,12 @@ use std::marker::Model;
 /// The greatest number of rows.
 const MAX_ROWS: usize = 65_536;
 
-/// The rows that are kept, what finds a repeated one of the others, and how many rows there are, of
-/// a router whose machine has this byte order.
+/// The rows that are kept, the keys of the others, by which a repeated one is found, and how many rows
+/// there are, of a router whose machine has this byte order.
 #[derive(Debug, Drop)]
 pub struct CacheRowReader {
     order: Order,
-    // the row that is read, and its outgoing vifs
+    // the row that was read last, and its outgoing vifs
     row: CacheRow,
     oifs: Vec<Oif>,
     kept: CacheRows,
@@ -69,7 +69,7 @@ impl CacheRowReader {
         requires empty { numbers.numbers ≡ [] }
         ensures value { result ≡ rows_start order numbers.listed }
     {
-        // Until a row is read.
+        // Overwritten by the first row.
         let none = Addr::from_octets([0, 0, 0, 0]);
         let row = CacheRow {
             group: none,
@@ -108,7 +108,7 @@ impl CacheRowReader {
         Ok(())
     }
 
-    /// The same, and notes the row.
+    /// Reads the row of a line, adds it, and adds it to the summary.
     pub fn add_summarized(
         &mut self,
         line: &Line<'_>,
@@ -135,7 +135,8 @@ impl CacheRowReader {
         summary.add(&self.row, &self.oifs, is_kept)
     }
 
-    /// What a line is refused for that has this fault: an earlier row that repeats one comes first.
+    /// The fault of the text whose line has this fault: an earlier row that repeats another one is
+    /// reported first.
     pub fn earliest_fault(&mut self, line: u32, kind: TableFaultKind) -> TableFault
         ensures memory { kind ≡ Memory → result ≡ out_of_memory }
         ensures first { kind ≢ Memory → result ≢ out_of_memory →
@@ -152,7 +153,7 @@ impl CacheRowReader {
         }
     }
 
-    /// Refuses rows of which one isn't kept and has the source and the group of an earlier line's.
+    /// Refuses rows of which one that isn't kept has the source and the group of an earlier one.
     pub fn check_repeats(&mut self) -> Result<(), TableFault>
         ensures repeats { result ≡ without_repeat self.old.rows.others }
         ensures table { self.new.rows.table ≡ self.old.rows.table }
@@ -163,7 +164,7 @@ impl CacheRowReader {
     }
 }
 
-/// Adds a row that was read, with its outgoing vifs, and answers whether it is kept.
+/// Adds a row that was read, with its outgoing vifs, and returns whether it is kept.
 fn add_read_row(
     kept: &mut CacheRows,
     others: &mut UnlistedRows,
@@ -199,7 +200,7 @@ fn add_read_row(
     Ok(is_kept)
 }
 
-/// Reads the row of a line after so many others.
+/// Reads the row of a line that comes after `count` others, if that isn't too many.
 fn read_row_with_room(
     count: usize,
     line: &Line<'_>,

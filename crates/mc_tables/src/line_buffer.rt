@@ -1,4 +1,4 @@
-//! The lines of a text that comes in pieces.
+//! Splits a text that comes in pieces into lines.
 
 ghost use Rattle.std.specs.Prelude.{◌≡◌, ◌+◌, ◌<◌, ◌≤◌, ◌==◌, [], length, take, IfOk, IfSome};
 ghost use Rattle.std.specs.Prelude.{MatchOption};
@@ -13,7 +13,7 @@ use mc_text::{Line, MAX_TEXT, find_byte};
 use std::alloc::{AllocError, Global};
 use std::marker::Model;
 
-/// How many lines have ended, how many bytes have come, and those after the last line feed.
+/// How many lines have ended, how many bytes have come, and the bytes after the last line feed.
 #[derive(Debug, Drop)]
 pub struct LineBuffer {
     ended: u32,
@@ -33,7 +33,7 @@ impl Model for LineBuffer {
 }
 
 impl LineBuffer {
-    /// Nothing has come.
+    /// The state before the first piece.
     pub fn new(alloc: Global) -> LineBuffer
         ensures { result ≡ lines_start }
     {
@@ -74,8 +74,7 @@ impl LineBuffer {
         Ok(())
     }
 
-    /// Takes the bytes up to the first line feed, and answers where it stands. With none it takes
-    /// all.
+    /// Takes the bytes up to the first line feed, and returns its place. Without one it takes all.
     pub fn take_to_line_feed(&mut self, rest: &[u8]) -> Result<Option<usize>, AllocError>
         requires bounded { self.old.size + length rest.now ≤ max_text }
         ensures rules { IsValidLinesSoFar self.old }
@@ -98,7 +97,7 @@ impl LineBuffer {
         }
     }
 
-    /// Where the first line feed stands, if the bytes are the first of a line.
+    /// The place of the first line feed, if the bytes are the first of a line.
     pub fn whole_line_end(&self, rest: &[u8]) -> Option<usize>
         ensures begun { IfSome result (λ end. self.now.begun ≡ []) }
         ensures end { IfSome result (λ end. position (λ b. b == 10) rest.now ≡ Some end) }
@@ -125,7 +124,7 @@ impl LineBuffer {
         }
     }
 
-    /// A line of so many bytes has passed, and the next one begins.
+    /// Skips a line of so many bytes and its line feed, of which nothing was taken before.
     pub fn skip_line(&mut self, len: usize)
         requires room { self.old.size + (len + 1) ≤ max_text }
         requires begun { self.old.begun ≡ [] }
@@ -146,7 +145,7 @@ impl LineBuffer {
         }
     }
 
-    /// The next line begins.
+    /// Begins the next line.
     pub fn begin_next_line(&mut self)
         requires bounded { self.old.ended + length self.old.begun < self.old.size }
         ensures change { self.new ≡ with_ended self.old }

@@ -1,8 +1,9 @@
 -- Outgoing vifs with thresholds of one digit, as ipmr_mfc_seq_show prints them: " %2d:%-3d"
 -- (net/ipv4/ipmr.c).
 use Rattle.std.specs.Prelude.{◌≡◌, ℕ, ◌+◌, ◌≤◌, ◌==◌, ◌||◌, ◌&&◌, nat_le, Bool, true, List, [], ◌∷◌}
-use Rattle.std.specs.Prelude.{drop, slice_index, Ok}
+use Rattle.std.specs.Prelude.{◌++◌, drop, slice_index, Ok}
 use Rattle.std.specs.Char.{is_ascii_digit}
+use Rattle.mc_text.specs.Lines.{words_of}
 use Rattle.mc_tables.specs.declared.entry.Oif.{Oif}
 use Rattle.mc_tables.specs.CacheReading.{oif_in}
 
@@ -34,3 +35,10 @@ DenoteAscendingOifs next (word ∷ words) (oif ∷ oifs) end =
     (oif_in word ≡ Ok (oif.vif, oif.threshold)) × (next ≤ oif.vif)
     × DenoteAscendingOifs (oif.vif + 1) words oifs end
 DenoteAscendingOifs next words oifs end = ⊥
+
+-- The words of a line before its rest denote outgoing vifs that ascend from `next` on and were added
+-- behind the old ones, and `end` is the number after the last one.
+abbrev pub AddsAscendingOifs : (line rest : List ℕ) (next : ℕ) (old new : List Oif) (end : ℕ) → Type 0
+AddsAscendingOifs line rest next old new end =
+    (words : List (List ℕ)) × (four : List Oif) × (words_of line ≡ words ++ words_of rest)
+    × (new ≡ old ++ four) × DenoteAscendingOifs next words four end

@@ -1,6 +1,7 @@
 -- A text that comes in pieces: how far its lines have come.
-use Rattle.std.specs.Prelude.{◌≡◌, ℕ, ◌+◌, ◌≤◌, ◌==◌, true, false, List, [], ◌∷◌, ◌++◌, length, Result, Ok, Err}
-use Rattle.std.specs.Prelude.{not, if◌then◌else◌}
+use Rattle.std.specs.Prelude.{◌≡◌, ℕ, ◌+◌, ◌≤◌, ◌==◌, true, false, List, [], ◌∷◌, ◌++◌, length}
+use Rattle.std.specs.Prelude.{Option, Some, MatchOption, Result, Ok, Err, position, take, not}
+use Rattle.std.specs.Prelude.{if◌then◌else◌}
 use Rattle.std.specs.List.{AllByRecursion}
 use Rattle.mc_text.specs.Lines.{LineText, lines_from, max_text}
 use Rattle.mc_text.specs.Lines.{words_of}
@@ -35,6 +36,13 @@ pub record IsValidLinesSoFar (lines : LinesSoFar) : Type 0 where
 abbrev pub with_begun : LinesSoFar → ℕ → List ℕ → LinesSoFar
 with_begun lines size bytes =
     record { ended = lines.ended; size = lines.size + size; begun = lines.begun ++ bytes }
+
+-- The bytes up to the first line feed were taken, whose place this is, or all where there is none.
+abbrev pub TakesToLineFeed : (old : LinesSoFar) (bytes : List ℕ) (new : LinesSoFar) → Option ℕ → Type 0
+TakesToLineFeed old bytes new place =
+    MatchOption place (HasNoLineFeed bytes × (new ≡ with_begun old (length bytes) bytes))
+    (λ end. (position (λ b. b == 10) bytes ≡ Some end)
+    × (new ≡ with_begun old (end + 1) (take end bytes)))
 
 -- the line that has begun has ended
 abbrev pub with_ended : LinesSoFar → LinesSoFar

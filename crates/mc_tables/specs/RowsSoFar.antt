@@ -10,6 +10,7 @@ use Rattle.mc_text.specs.Steps.{◌>>=◌}
 use Rattle.mc_tables.specs.Steps.{at_line, unless_fault}
 use Rattle.mc_tables.specs.LinesSoFar.{LinesSoFar, lines_start, check_end_of_lines, read_after}
 use Rattle.mc_tables.specs.CacheTable.{RowValue, CacheValue, cache_code, table_of}
+use Rattle.mc_tables.specs.CacheNumbers.{KeptRowsValue}
 use Rattle.mc_tables.specs.ListedRows.{Listed, ListedSet, listed_set, is_kept_by_set}
 use Rattle.mc_tables.specs.UnlistedRows.{UnlistedRow, without_repeat}
 use Rattle.mc_tables.specs.CacheSteps.{row_with_room, row_added}
@@ -21,6 +22,10 @@ pub record RowsSoFar : Type 0 where
   pub table : CacheValue
   pub others : List UnlistedRow
   pub count : ℕ
+
+-- the rows so far of their parts
+abbrev pub rows_of_parts : KeptRowsValue → List UnlistedRow → ℕ → RowsSoFar
+rows_of_parts kept others count = record { table = kept.table; others = others; count = count }
 
 -- the rows so far are stored as their fields
 abbrev pub rows_code : Coded RowsSoFar

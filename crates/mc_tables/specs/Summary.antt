@@ -2,11 +2,12 @@
 use Rattle.std.specs.Prelude.{Bool, ℕ, ◌==◌, not, List, ◌∷◌, length, take, filter}
 use Rattle.std.specs.Prelude.{map as map_list, Option, Some, None, IfSome, if◌then◌else◌}
 use Rattle.std.specs.Coded.{Coded, coded×, coded_ℕ}
-use Rattle.std.specs.List.{filter_map}
+use Rattle.std.specs.List.{filter_map, list_any}
 use Rattle.std.specs.Option.{option_map}
 use Rattle.std.specs.FinMap as map
 use Rattle.std.specs.FinSet as set
 use Rattle.mc_tables.specs.CacheTable.{EntryValue, IsValidEntry, RowValue, entry_code, key_cmp, key_of}
+use Rattle.mc_tables.specs.CacheTable.{same_key}
 use Rattle.mc_tables.specs.ListedRows.{is_listed}
 
 -- ---- rows
@@ -26,10 +27,23 @@ every_source_entry row =
     if row.origin == 0 then option_map (λ entry. ((row.origin, row.group), entry)) row.entry
     else None
 
+-- one of the rows is unresolved and has this key
+abbrev pub has_unresolved_row : List RowValue → ℕ × ℕ → Bool
+has_unresolved_row rows key = list_any (same_key key) (filter_map unresolved_key rows)
+
+-- the entry of the first row for every source that has this group
+abbrev pub first_wildcard_entry : List RowValue → ℕ → Option EntryValue
+first_wildcard_entry rows group =
+    map.find key_cmp (0, group) (filter_map every_source_entry rows)
+
 -- The keys of the rows for every source that concern packets of a listed source and group: those of
 -- the group, and those of the group 0.0.0.0 (ipmr_cache_find_any in net/ipv4/ipmr.c).
 abbrev pub keys_for_every_source : List (ℕ × ℕ) → List (ℕ × ℕ)
 keys_for_every_source listed = (0, 0) ∷ map_list (λ key. (0, key.1)) listed
+
+-- the group is that of a listed key, or 0.0.0.0
+abbrev pub is_listed_group : List (ℕ × ℕ) → ℕ → Bool
+is_listed_group listed group = is_listed (Some (keys_for_every_source listed)) (0, group)
 
 -- ---- the summary
 
@@ -81,6 +95,10 @@ HasValidEntries summary = (key : ℕ × ℕ) → IfSome (map.get summary.for_eve
 
 -- ---- look-ups
 
+-- the entry of the first row for every source of a group
+abbrev pub wildcard_entry : SummaryValue → ℕ → Option EntryValue
+wildcard_entry summary group = map.get summary.for_every_source (0, group)
+
 -- a group and its row, if there is one, or else another group and its row
 abbrev pub row_or_else : ℕ → Option EntryValue → Option (ℕ × EntryValue) → Option (ℕ × EntryValue)
 row_or_else group None other = other
@@ -89,5 +107,4 @@ row_or_else group (Some entry) other = Some (group, entry)
 -- the row for every source of a group, or else that of the group 0.0.0.0, with the group that it has
 abbrev pub every_source_row : SummaryValue → ℕ → Option (ℕ × EntryValue)
 every_source_row summary group =
-    row_or_else group (map.get summary.for_every_source (0, group))
-    (row_or_else 0 (map.get summary.for_every_source (0, 0)) None)
+    row_or_else group (wildcard_entry summary group) (row_or_else 0 (wildcard_entry summary 0) None)

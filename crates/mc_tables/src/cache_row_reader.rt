@@ -9,7 +9,8 @@ ghost use Rattle.mc_tables.specs.UnlistedRows.{without_repeat};
 ghost use Rattle.mc_tables.specs.CacheSteps.{row_with_room};
 ghost use Rattle.mc_tables.specs.FlatRows.{row_with_oifs};
 ghost use Rattle.mc_tables.specs.ListedRows.{is_kept_by_set};
-ghost use Rattle.mc_tables.specs.RowsSoFar.{rows_start, any_row_added, line_added, refusal_at};
+ghost use Rattle.mc_tables.specs.RowsSoFar.{rows_start, rows_of_parts, any_row_added, line_added};
+ghost use Rattle.mc_tables.specs.RowsSoFar.{refusal_at};
 ghost use Rattle.mc_tables.specs.SummarySoFar.{summary_with_line};
 ghost use Rattle.mc_tables.specs.Steps.{out_of_memory};
 
@@ -179,12 +180,10 @@ fn add_read_row(
     ensures kept { IfOk result (λ is_kept.
         is_kept ≡ is_kept_by_set kept.old.listed (row_with_oifs row.now oifs.now)) }
     ensures added { OnOk result (any_row_added kept.old.listed
-        (record { table = kept.old.table; others = others.old; count = count.old })
-        (row_with_oifs row.now oifs.now) line
-        ≡ Ok (record { table = kept.new.table; others = others.new; count = count.new })) }
+        (rows_of_parts kept.old others.old count.old) (row_with_oifs row.now oifs.now) line
+        ≡ Ok (rows_of_parts kept.new others.new count.new)) }
     ensures fault { IfErr result (λ fault. fault ≢ Memory → any_row_added kept.old.listed
-        (record { table = kept.old.table; others = others.old; count = count.old })
-        (row_with_oifs row.now oifs.now) line
+        (rows_of_parts kept.old others.old count.old) (row_with_oifs row.now oifs.now) line
         ≡ Err fault) }
     ensures others { OnErr result (others.new ≡ others.old) }
     ensures listed { kept.new.listed ≡ kept.old.listed }

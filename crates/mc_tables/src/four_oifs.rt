@@ -1,11 +1,11 @@
 //! Reads outgoing vifs as kernels print them, four at a time: each takes seven bytes, if its
 //! threshold has one digit.
 
-ghost use Rattle.std.specs.Prelude.{◌≡◌, ℕ, List, ◌++◌, ◌∷◌, ◌+◌, ◌≤◌, IfNone, IfOk, IfSome, Ok};
+ghost use Rattle.std.specs.Prelude.{◌≡◌, ℕ, List, ◌∷◌, ◌+◌, ◌≤◌, IfNone, IfOk, IfSome, Ok};
 ghost use Rattle.std.specs.Prelude.{drop, length, true};
 ghost use Rattle.mc_text.specs.Lines.{words_of};
 ghost use Rattle.mc_tables.specs.CacheReading.{oif_in};
-ghost use Rattle.mc_tables.specs.FourOifs.{StartsWithFourOifs, DenoteAscendingOifs, StartsWithPrintedOif};
+ghost use Rattle.mc_tables.specs.FourOifs.{StartsWithFourOifs, StartsWithPrintedOif, AddsAscendingOifs};
 
 use crate::entry::Oif;
 use crate::table_words::MAX_VIF;
@@ -61,10 +61,8 @@ fn printed_oif(line: &[u8], at: usize) -> Oif
 /// on, and returns the number after the last one.
 #[inline(always)]
 pub fn add_four_oifs(line: &[u8], next: u8, oifs: &mut Vec<Oif>) -> Result<Option<u8>, AllocError>
-    ensures added { IfOk result (λ added. IfSome added (λ after.
-        (words : List (List ℕ)) × (four : List Oif)
-        × (words_of line.now ≡ words ++ words_of (drop FOUR_LEN line.now))
-        × (oifs.new.items ≡ oifs.old.items ++ four) × DenoteAscendingOifs next words four after)) }
+    ensures added { IfOk result (λ added. IfSome added
+        (AddsAscendingOifs line.now (drop FOUR_LEN line.now) next oifs.old.items oifs.new.items)) }
     ensures none { IfOk result (λ added. IfNone added (oifs.new.items ≡ oifs.old.items)) }
     ensures long { IfOk result (λ added. IfSome added (λ after. FOUR_LEN ≤ length line.now)) }
 {

@@ -1,22 +1,20 @@
 //! Theorems about the definitions alone, for callers that build on them.
 
-ghost use Rattle.std.specs.Prelude.{◌≡◌, ◌≢◌, ◌≤◌, ◌↔◌, ◌&&◌, Bool, ℕ, List, IsSome, IfSome, Ok, Err, Some};
-ghost use Rattle.std.specs.Prelude.{true};
-ghost use Rattle.std.specs.List.{filter_map, list_any};
+ghost use Rattle.std.specs.Prelude.{◌≡◌, ◌≢◌, ◌≤◌, ◌↔◌, ◌&&◌, Bool, ℕ, List, IsSome, IfSome, Ok, Err};
+ghost use Rattle.std.specs.Prelude.{Some, true};
 ghost use Rattle.std.specs.FinSet as set;
 ghost use Rattle.std.specs.Ordering.{nat_cmp};
-ghost use Rattle.std.specs.FinMap.{FinMap, find, get};
+ghost use Rattle.std.specs.FinMap.{FinMap, get};
 ghost use Rattle.mc_text.specs.declared.text.addr.Order.{Order};
 ghost use Rattle.mc_tables.specs.declared.fault.TableFault.{TableFault};
 ghost use Rattle.mc_tables.specs.VifTable.{VifValue, no_device, DenotesVifs};
 ghost use Rattle.mc_tables.specs.VifLookups.{HasDevice, IsValidVifTable, index_of};
 ghost use Rattle.mc_tables.specs.CacheTable.{CacheValue, IsValidEntry, IsValidCache, RowValue, DenotesCache};
-ghost use Rattle.mc_tables.specs.CacheTable.{key_cmp, same_key};
 ghost use Rattle.mc_tables.specs.VifReading.{vifs_in};
 ghost use Rattle.mc_tables.specs.CacheReading.{cache_in};
 ghost use Rattle.mc_tables.specs.ListedRows.{Listed, is_listed, listed_in, IsListedPart};
-ghost use Rattle.mc_tables.specs.Summary.{every_source_entry, keys_for_every_source, summary_of};
-ghost use Rattle.mc_tables.specs.Summary.{unresolved_key};
+ghost use Rattle.mc_tables.specs.Summary.{summary_of, has_unresolved_row, is_listed_group};
+ghost use Rattle.mc_tables.specs.Summary.{wildcard_entry, first_wildcard_entry};
 ghost use Rattle.mc_tables.specs.SummaryReading.{summary_in, table_without_summary};
 
 /// A text is read as a table exactly if it denotes the table.
@@ -92,9 +90,8 @@ pub fn summary_changes_no_table()
 pub fn summary_answers_by_rows()
     ensures unresolved { (all : Bool) (listed : List (ℕ × ℕ)) (rows : List RowValue) (key : ℕ × ℕ) →
         set.contains (summary_of all listed rows).unresolved key
-        ≡ (is_listed (Some listed) key && list_any (same_key key) (filter_map unresolved_key rows)) }
+        ≡ (is_listed (Some listed) key && has_unresolved_row rows key) }
     ensures every_source { (all : Bool) (listed : List (ℕ × ℕ)) (rows : List RowValue) (group : ℕ) →
-        is_listed (Some (keys_for_every_source listed)) (0, group) ≡ true →
-        get (summary_of all listed rows).for_every_source (0, group)
-        ≡ find key_cmp (0, group) (filter_map every_source_entry rows) }
+        is_listed_group listed group ≡ true →
+        wildcard_entry (summary_of all listed rows) group ≡ first_wildcard_entry rows group }
 {}

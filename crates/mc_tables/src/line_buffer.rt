@@ -1,11 +1,10 @@
 //! Splits a text that comes in pieces into lines.
 
-ghost use Rattle.std.specs.Prelude.{◌≡◌, ◌+◌, ◌<◌, ◌≤◌, ◌==◌, [], length, take, IfOk, IfSome};
-ghost use Rattle.std.specs.Prelude.{MatchOption};
+ghost use Rattle.std.specs.Prelude.{◌≡◌, ◌+◌, ◌<◌, ◌≤◌, ◌==◌, [], length, IfOk, IfSome};
 ghost use Rattle.std.specs.Prelude.{position, Some};
 ghost use Rattle.mc_text.specs.LineView.{line_text};
 ghost use Rattle.mc_text.specs.Lines.{max_text};
-ghost use Rattle.mc_tables.specs.LinesSoFar.{lines_start, HasNoLineFeed, with_begun, with_ended};
+ghost use Rattle.mc_tables.specs.LinesSoFar.{lines_start, with_begun, with_ended, TakesToLineFeed};
 ghost use Rattle.mc_tables.specs.LinesSoFar.{IsValidLinesSoFar, line_begun, check_end_of_lines};
 
 use crate::fault::{TableFault, TableFaultKind};
@@ -78,10 +77,7 @@ impl LineBuffer {
     pub fn take_to_line_feed(&mut self, rest: &[u8]) -> Result<Option<usize>, AllocError>
         requires bounded { self.old.size + length rest.now ≤ max_text }
         ensures rules { IsValidLinesSoFar self.old }
-        ensures taken { IfOk result (λ place. MatchOption place
-            (HasNoLineFeed rest.now × (self.new ≡ with_begun self.old (length rest.now) rest.now))
-            (λ end. (position (λ b. b == 10) rest.now ≡ Some end)
-            × (self.new ≡ with_begun self.old (end + 1) (take end rest.now)))) }
+        ensures taken { IfOk result (TakesToLineFeed self.old rest.now self.new) }
     {
         match find_byte(b'\n', rest) {
             Some(end) => {

@@ -1,4 +1,4 @@
--- Numbers that are told apart by the slots that they are put in.
+-- Numbers that are shown to differ by the slots that they are put in.
 use Rattle.std.proofs.Common.{◌≡◌, ℕ, ◌+◌, ◌-◌, ◌<◌, ◌≤◌, Bool, true, false, List, [], ◌∷◌, ◌++◌, ◌⊎◌}
 use Rattle.std.proofs.Common.{length, get_or, Ok, Err, refl, sym, ap, subst, ◌∙◌, arith, inl, inr}
 use Rattle.std.specs.Prelude.{◌≢◌, nat_lt, slice_set, Result, IfOk}
@@ -19,14 +19,14 @@ use Rattle.mc_tables.specs.Distinct.{AreDistinct, slot_of, number_in_slot, IsPut
 
 -- ---- two numbers
 
--- numbers that differ are told apart
+-- numbers that differ are not the same
 eq_by_cmp-different : (x y : ℕ) → x ≢ y → eq_by_cmp nat_cmp x y ≡ false
 eq_by_cmp-different x y other = grind (arith, nat_tests)
 
 eq_by_cmp-equivalence : IsEquivalence (eq_by_cmp nat_cmp)
 eq_by_cmp-equivalence = eq_by_cmp_equiv nat_cmp_total
 
--- no two places have one number
+-- no two places have the same number
 abbrev AllPlacesDiffer : List ℕ → Type 0
 AllPlacesDiffer numbers = (a b : ℕ) → a < b → b < length numbers → get_or numbers a 0 ≢ get_or numbers b 0
 
@@ -38,11 +38,11 @@ all_places_differ-from_distinct numbers apart a b less within is =
 
 -- ---- the slots
 
--- a number stands somewhere
+-- a number is in the list
 abbrev IsAmong : List ℕ → ℕ → Type 0
 IsAmong others number = (j : ℕ) × (j < length others) × (get_or others j 0 ≡ number)
 
--- each of the first numbers has its slot or is among the others, and if those differ they do
+-- each of the first numbers has its slot or is among the others, and if those differ, all do
 pub record AreSlotted (slots others numbers : List ℕ) (i : ℕ) : Type 0 where
   pub full : (k : ℕ) → k < i → number_in_slot slots (get_or numbers k 0) ≢ 0
   pub placed : (k : ℕ) → k < i → (number_in_slot slots (get_or numbers k 0) ≡ get_or numbers k 0)
@@ -84,7 +84,7 @@ module _ (slots others numbers : List ℕ) (i : ℕ) (before : AreSlotted slots 
       → AreSlotted (slice_set slots (slot_of (length slots) number) number) others numbers (i + 1)
   are_slotted-in_slot within empty some =
       let place = slot_of (length slots) number in
-      -- the slot of an earlier one is another
+      -- an earlier one has another slot
       let elsewhere = λ (k : ℕ) (early : k < i)
       (is : slot_of (length slots) (get_or numbers k 0) ≡ place).
       before.full k early (ap (λ (p : ℕ). get_or slots p 0) is ∙ empty) in
@@ -151,7 +151,7 @@ module _ (slots others numbers : List ℕ) (i : ℕ) (before : AreSlotted slots 
             ];
       }
 
-  -- a number more that was put
+  -- one more number that was put
   pub are_slotted-push : (slots' others' : List ℕ) → IsPut slots others number slots' others'
       → AreSlotted slots' others' numbers (i + 1) × (length slots' ≡ length slots)
   are_slotted-push slots' others' (inl put) = (
@@ -167,7 +167,7 @@ module _ (slots others numbers : List ℕ) (i : ℕ) (before : AreSlotted slots 
     ap length put.same,
   )
 
--- where the others ascend, in their order, all are apart
+-- if the others ascend in some order, all numbers differ
 pub are_distinct-all : (slots others sorted numbers : List ℕ) (i : ℕ) → AreSlotted slots others numbers i
     → length numbers ≤ i → IsPermutation others sorted → IsStrictlyIncreasing sorted
     → AreDistinct numbers
@@ -182,7 +182,7 @@ are_distinct-all slots others sorted numbers i placed all moved up =
     (get_or_default numbers a 0 d (omega (arith, less, within)) ∙ is
     ∙ get_or_default numbers b d 0 within)))
 
--- numbers of which each was found less than the next
+-- numbers of which each was found less than the next ascend
 pub is_strictly_increasing-from_answer : (numbers : List ℕ) (r : Bool)
     → IsAllAdjacentAnswer (λ x y b. b ≡ nat_lt x y) numbers r → r ≡ true
     → IsStrictlyIncreasing numbers
@@ -190,7 +190,7 @@ is_strictly_increasing-from_answer numbers true each is = λ k lt.
     ltb-true (get_or numbers k 0) (get_or numbers (k + 1) 0) (sym (each k 0 lt))
 is_strictly_increasing-from_answer numbers false each is = absurd cc
 
--- what is said where it was found out is so
+-- what an answer `true` shows, where a fault counts as `false`
 pub if_ok-from_unwrap_or : {E : Type 0} (found : Result Bool E) (P : Type 0) → IfOk found (λ apart. apart ≡ true → P)
     → result_unwrap_or found false ≡ true → P
 if_ok-from_unwrap_or (Ok apart) P so is = so is

@@ -20,7 +20,7 @@ use Rattle.mc_tables.specs.FourOifs.{StartsWithPrintedOif, StartsWithFourOifs, D
 use Rattle.mc_tables.proofs.PlainRowLemmas.{one_digit_oif_is_first_word, two_digit_oif_is_first_word, drop_as_take_drop, greater_oif_is_appended}
 use Rattle.mc_tables.proofs.MarkedLemmas.{cond-one}
 
--- the vif of its two bytes
+-- the vif of its two digits
 abbrev printed_vif : ℕ → ℕ → ℕ
 printed_vif tens units = tens % 16 * 10 + (units - 48)
 
@@ -78,7 +78,7 @@ first_word-printed_oif line long printed few =
       | inr other ↦ first_word-with_tens line long printed other few
     ]
 
--- the units and the threshold of one are digits
+-- the units and the threshold are digits
 pub printed_oif-has_digits : (line : List ℕ) (at : ℕ) → StartsWithPrintedOif (drop at line)
     → (48 ≤ get_or line (at + 2) 0) × (get_or line (at + 2) 0 ≤ 57)
     × (49 ≤ get_or line (at + 4) 0) × (get_or line (at + 4) 0 ≤ 57)
@@ -99,7 +99,7 @@ printed_vif-fits line at printed =
     let digits = printed_oif-has_digits line at printed in
     record { fits = omega (arith, digits.1) }
 
--- so is what is printed at a place
+-- what is printed at a place is read
 pub first_word-printed_oif_at : (line : List ℕ) (at : ℕ) → at + 7 ≤ length line → StartsWithPrintedOif (drop at line)
     → printed_vif (get_or line (at + 1) 0) (get_or line (at + 2) 0) ≤ 31
     → FirstWordIsOif (drop at line) (drop (at + 7) line)
@@ -117,7 +117,7 @@ first_word-printed_oif_at line at long printed few =
       found.2 ∙ ap₂ (λ (v : ℕ) (b : ℕ). Ok (v, b - 48)) vif h,
     )
 
--- four that ascend are the first words
+-- four that ascend are a line's first words
 pub first_words-four_oifs : (line : List ℕ) (next : ℕ) (a b c d : Oif)
     → (a.vif ≤ 31 → FirstWordIsOif line (drop 7 line) a.vif a.threshold)
     → (b.vif ≤ 31 → FirstWordIsOif (drop 7 line) (drop 14 line) b.vif b.threshold)
@@ -146,7 +146,7 @@ first_words-four_oifs line next a b c d of_a of_b of_c of_d up up_b up_c up_d fe
       ),
     )
 
--- those that ascend are added one after another
+-- outgoing vifs that ascend are added one after another
 pub oifs_after_words-ascending : (oifs : List Oif) (next : ℕ) (words : List (List ℕ)) (more : List Oif) (end : ℕ)
     (rest : List (List ℕ)) → DenoteAscendingOifs next words more end
     → list_all (λ other. nat_lt other.vif next) oifs ≡ true
@@ -206,7 +206,7 @@ get_or-tested_lanes v least sizes others a b c d k within =
     (get_or-zip2 lane_minus v least k 0 0 0 (omega (arith, within, a)) (omega (arith, within, b))))
     (get_or-zip2 equal_lane v others k 0 0 0 (omega (arith, within, a)) (omega (arith, within, d))))
 
--- where all top bits are set, each lane passes
+-- if all top bits are set, each lane passes
 byte_passes-all_lanes : (v least sizes others : List ℕ) → length v ≡ 32 → length least ≡ 32
     → length sizes ≡ 32 → length others ≡ 32
     → eqb (mask_l (map (top 7) (tested_lanes v least sizes others)) % 2 ^ 64) 4294967295 ≡ true
@@ -220,7 +220,7 @@ byte_passes-all_lanes v least sizes others a b c d all k within bit =
     sym (get_or-tested_lanes v least sizes others a b c d k within)
     ∙ cond-one _ (sym (bit_mask_l tops k) ∙ ap (λ m. m / 2 ^ k % 2) mask ∙ bit)
 
--- ---- what may stand at each place
+-- ---- the bytes that are allowed at each place
 
 byte_passes-space : (b : ℕ) → b < 256 → byte_passes 32 1 32 b ≡ true → b ≡ 32
 byte_passes-space b fits e =

@@ -1,4 +1,4 @@
--- Sources and groups that are kept as numbers.
+-- Listed pairs that are stored as numbers.
 use Rattle.std.proofs.Common.{◌≡◌, ℕ, ◌<◌, false, List, [], ◌∷◌, length, get_or, map, Option}
 use Rattle.std.proofs.Common.{None, Some, sym, ap, ◌∙◌, inl, inr, arith, subst}
 use Rattle.std.specs.Prelude.{◌↔◌, IfNone}
@@ -72,7 +72,7 @@ pair_of-increasing_distinct ns up =
 
 -- ---- which pairs they are
 
--- the same pairs are the same set
+-- lists of the same pairs are the same set
 pub same_set : (xs ys : List (ℕ × ℕ)) → ((q : ℕ × ℕ) → Contains xs q ↔ Contains ys q)
     → set.from_list {R = key_cmp} xs ≡ set.from_list ys
 same_set xs ys same =
@@ -92,7 +92,7 @@ same_set xs ys same =
     ]
     ∙ sym (set.contains-from_list key_cmp-total ys q))
 
--- what elements among these give, those that are among others give too
+-- if these elements are among others, what they are mapped to is among what those are mapped to
 contains-map : {A : Type 0} (f : A → ℕ × ℕ) (d : A) (xs ys : List A)
     → ((x : A) → Contains xs x → Contains ys x) → (q : ℕ × ℕ)
     → Contains (map f xs) q → Contains (map f ys) q

@@ -1,4 +1,4 @@
--- The numbers of sources and groups that are listed.
+-- The numbers of listed keys.
 use Rattle.std.proofs.Common.{◌≡◌, ℕ, zero, suc, ◌+◌, ◌<◌, true, false, cond, List, [], ◌∷◌}
 use Rattle.std.proofs.Common.{◌++◌, length, get_or, Option, Some, None, Result, Ok, Err, refl, sym}
 use Rattle.std.proofs.Common.{add-one, ap, subst, ◌∙◌, inl, inr, arith}
@@ -18,7 +18,7 @@ use Rattle.mc_tables.specs.ListedRows.{set_has_key}
 use Rattle.mc_tables.proofs.CacheLemmas.{key_cmp-total, same_key-equivalence}
 use Rattle.mc_tables.proofs.UnlistedRowLemmas.{same_key-equal}
 
--- ---- a key that is none of the keys has no number
+-- ---- a key that isn't among the keys has no number
 
 pub number_of_key-missing : (key : ℕ × ℕ) (keys : List (ℕ × ℕ)) (ns : List ℕ)
     → list_any (same_key key) keys ≡ false → number_of_key (numbers_at_places keys ns) key ≡ None
@@ -39,13 +39,13 @@ number_of_key-missing key (k ∷ keys) (suc n ∷ ns) none =
 
 -- ---- a key at its place
 
--- a key that is the same as none of those after it
+-- a key at a place is equal to none of those after it
 list_any-none_same : (key : ℕ × ℕ) (keys : List (ℕ × ℕ)) → AllByRecursion (λ k. same_key key k ≡ false) keys
     → list_any (same_key key) keys ≡ false
 list_any-none_same key [] all = refl
 list_any-none_same key (k ∷ keys) all = rw (all.0) (list_any-none_same key keys all.1)
 
--- what all have, the one at a place has
+-- what holds of all holds of the one at a place
 all-get_or : (P : ℕ × ℕ → Type 0) (keys : List (ℕ × ℕ)) (i : ℕ) (d : ℕ × ℕ) → AllByRecursion P keys
     → i < length keys → P (get_or keys i d)
 all-get_or P [] i d all lt = absurd (omega (arith, lt))
@@ -55,7 +55,7 @@ all-get_or P (k ∷ keys) (suc i) d all lt = all-get_or P keys i d all.1 (omega 
 pub same_key-refl : (key : ℕ × ℕ) → same_key key key ≡ true
 same_key-refl key = same_key-equivalence.refl key
 
--- the number of a key is what its place says
+-- the number of a key is the one at its place
 pub number_of_key-at_place : (key : ℕ × ℕ) (keys : List (ℕ × ℕ)) (ns : List ℕ) (i : ℕ) → IsDistinct same_key keys
     → i < length keys → get_or keys i key ≡ key
     → number_of_key (numbers_at_places keys ns) key ≡ decoded_number (get_or ns i 0)
@@ -76,9 +76,9 @@ number_of_key-at_place key (k ∷ keys) (suc n ∷ ns) (suc i) distinct lt is =
     rw (other)
     (number_of_key-at_place key keys ns i (IsDistinct-tail same_key k keys distinct) (omega (arith, lt)) is)
 
--- ---- one number more
+-- ---- one more number
 
--- what another key has stays
+-- the number of another key stays the same
 number_of_key-set_other : (key q : ℕ × ℕ) (keys : List (ℕ × ℕ)) (ns : List ℕ) (i n : ℕ)
     → i < length keys → get_or keys i key ≡ key → same_key q key ≡ false
     → number_of_key (numbers_at_places keys (slice_set ns i n)) q ≡ number_of_key (numbers_at_places keys ns) q
@@ -125,7 +125,7 @@ numbers_at_places-append_zeros (k ∷ keys) [] n = numbers_at_places-zeros (k �
 numbers_at_places-append_zeros (k ∷ keys) (zero ∷ ns) n = numbers_at_places-append_zeros keys ns n
 numbers_at_places-append_zeros (k ∷ keys) (suc m ∷ ns) n = ap (λ rest. (k, m) ∷ rest) (numbers_at_places-append_zeros keys ns n)
 
--- ---- what is kept of a pair
+-- ---- places of pairs
 
 pub is_some-decoded_number : (n : ℕ) → n ≢ 0 → is_some (decoded_number n) ≡ true
 is_some-decoded_number zero some = absurd (some refl)
@@ -147,9 +147,9 @@ pub numbers_at_places-none : (keys : List (ℕ × ℕ)) → numbers_at_places ke
 numbers_at_places-none [] = refl
 numbers_at_places-none (k ∷ keys) = refl
 
--- ---- the pairs and their numbers
+-- ---- the value of listed numbers
 
--- what they keep
+-- the keys with the numbers at their places
 abbrev pub listed_numbers_value : List (ℕ × ℕ) → List ℕ → EntryNumbersValue
 listed_numbers_value keys ns = record { listed = Some (set.from_list keys); numbers = numbers_at_places keys ns }
 
@@ -175,12 +175,12 @@ listed_numbers_value-append_zeros keys ns more zeros s is kept =
     } in t) (ap (numbers_at_places keys) is ∙ numbers_at_places-append_zeros keys ns zeros)
     ∙ kept
 
--- a refusal leaves what holds
+-- what holds at any rate holds after an error
 pub on_err-kept : {A E : Type 0} (P : Type 0) (r : Result A E) → P → OnErr r P
 on_err-kept P (Ok x) holds = tt
 on_err-kept P (Err e) holds = holds
 
--- ---- where all are kept
+-- ---- where all keys can have a number
 
 pub is_some-false : {A : Type 0} (o : Option A) → is_some o ≡ false → o ≡ None
 is_some-false None none = refl

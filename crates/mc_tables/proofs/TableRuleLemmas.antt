@@ -1,4 +1,4 @@
--- What tables keep, whatever text they were read from.
+-- The rules of tables, whatever text they were read from.
 use Rattle.std.proofs.Common.{◌≡◌, ◌≢◌, ◌≤◌, ℕ, false, List, Option, Some, sym, subst, ◌∙◌}
 use Rattle.std.specs.Prelude.{IfSome, ◌↔◌}
 use Rattle.std.specs.List.{IsDistinct, AllByRecursion, filter_map}
@@ -18,11 +18,11 @@ use Rattle.mc_tables.proofs.CacheLemmas.{key_cmp-total}
 use Rattle.mc_tables.proofs.CacheLookupLemmas.{find-zero_source}
 use Rattle.mc_tables.proofs.EntryLemmas.{HaveValidEntries, rows-have_valid_entries, find-valid_entry}
 
--- one answer has one index
+-- a result that is found has one index
 some-injective : (i j : ℕ) (o : Option ℕ) → o ≡ Some i → o ≡ Some j → i ≡ j
 some-injective i j o a b = cc
 
--- rows whose indexes are 0 to 31 and whose devices differ make a table of vifs
+-- rows whose indexes are 0 to 31 and whose devices differ make a valid table of vifs
 pub vif_rows-valid_table : (rows : List (ℕ × VifValue)) → IsDistinct bytes_eq (filter_map device_of rows) →
     AllByRecursion (λ row. row.0 ≤ 31) rows → IsValidVifTable (from_entries rows)
 vif_rows-valid_table rows distinct all = record {
@@ -33,7 +33,7 @@ vif_rows-valid_table rows distinct all = record {
       (first_index_with-has_device device rows j some distinct has_j);
 }
 
--- rows whose entries are in range and ascend make a cache
+-- rows with valid entries make a valid cache
 pub cache_rows-valid_table : (rows : List RowValue) → HaveValidEntries rows → IsValidCache (table_of rows)
 cache_rows-valid_table rows valid =
     let at = λ (key : ℕ × ℕ). sym (get-from_entries key_cmp-total (filter_map exact_entry rows) key) in
@@ -43,7 +43,7 @@ cache_rows-valid_table rows valid =
       sources = λ group. sym (at (0, group)) ∙ find-zero_source group rows;
     }
 
--- the index of a device other than `none` is answered where, and only where, it has the device
+-- an index is found for a device other than `none` exactly if it has the device
 pub answer-iff_has_device : (vifs : FinMap nat_cmp VifValue) (device : List ℕ) (answer : Option ℕ) →
     bytes_eq device no_device ≡ false → IfSome answer (λ index. HasDevice vifs index device) →
     ((index : ℕ) → device ≢ no_device → HasDevice vifs index device → answer ≡ Some index) →
@@ -55,7 +55,7 @@ answer-iff_has_device vifs device answer some found only index =
       λ both. only index both.0 both.1,
     )
 
--- a table that a text stands for keeps the rules
+-- a table that a text denotes is valid
 pub cache-is_valid : (order : Order) (text : List ℕ) (table : CacheValue) → DenotesCache order text table
     → IsValidCache table
 cache-is_valid order text table denotes =

@@ -1,4 +1,4 @@
--- A table of vifs whose text comes in pieces.
+-- Reading a table of vifs in pieces.
 use Rattle.std.proofs.Common.{◌≡◌, ℕ, ◌+◌, ◌≤◌, false, eqb, length, List, [], ◌∷◌, ◌++◌, Result, Ok, Err}
 use Rattle.std.proofs.Common.{refl, ap, ◌∙◌, inl, inr}
 use Rattle.std.specs.Prelude.{codes}
@@ -33,7 +33,7 @@ vifs_read_in_steps = record {
   line = λ rows line lines. rows_after-line_first line.number rows lines (vif_in_line rows line);
 }
 
--- a line that none ends is refused
+-- a line that isn't ended is refused
 vif_in_line-unended : (rows : List (ℕ × VifValue)) (line : LineText) → line.ended ≡ false
     → vif_in_line rows line ≡ Err Unended
 unfolding vif_in_line
@@ -56,18 +56,18 @@ vifs_after-end lines rows without =
       ]
     ]
 
--- the empty list may stand
+-- no rows are valid
 pub vif_rows-valid_none : AreValidVifRows []
 unfolding IsDistinct
 vif_rows-valid_none = (tt, tt, tt)
 
--- what all have and one more has
+-- what holds of all and of one more
 all-push : {X : Type 0} (P : X → Type 0) (xs : List X) (y : X) → AllByRecursion P xs → P y
     → AllByRecursion P (xs ++ y ∷ [])
 all-push P [] y all here = (here, tt)
 all-push P (x ∷ xs) y all here = (all.0, all-push P xs y all.1 here)
 
--- and so may rows with one that was read after them
+-- valid rows stay valid with one that was read after them
 pub vif_rows-valid_push : (rows : List (ℕ × VifValue)) (line : LineText) (row : ℕ × VifValue)
     → vif_in_line rows line ≡ Ok row → AreValidVifRows rows → AreValidVifRows (rows ++ row ∷ [])
 vif_rows-valid_push rows line row is valid =

@@ -4,7 +4,7 @@ use Rattle.mc_tables.specs.SummarySoFar.{KeptPairs, with_pair, put_pair}
 use Rattle.mc_tables.proofs.LowestLemmas.{shown_pairs-push}
 use Rattle.mc_tables.proofs.shown_pairs.ShownPairs.add.Goals as goal
 
--- one more behind those that came, where all are kept
+-- one more pair behind the others, where all are kept
 shown_pairs-push_every : (all : Bool) (every more lowest : List (ℕ × ℕ)) (pair : ℕ × ℕ) → all ≡ true
     → more ≡ every ++ pair ∷ []
     → cond all (in_order more) lowest

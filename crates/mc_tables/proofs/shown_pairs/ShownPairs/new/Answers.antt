@@ -4,7 +4,7 @@ use Rattle.mc_tables.specs.SummarySoFar.{KeptPairs}
 use Rattle.mc_tables.proofs.LowestLemmas.{in_order-none}
 use Rattle.mc_tables.proofs.shown_pairs.ShownPairs.new.Goals as goal
 
--- nothing is nothing in order, and is kept either way
+-- no pairs are none in order, and are kept either way
 cond-none_kept : (all : Bool) (every lowest : List (ℕ × ℕ)) → every ≡ [] → lowest ≡ []
     → cond all (in_order every) lowest ≡ []
 cond-none_kept true every lowest none least = ap in_order none ∙ sym in_order-none

@@ -11,7 +11,7 @@ use Rattle.mc_tables.specs.SummaryReading.{SummarizedCacheSoFar, summary_after, 
 use Rattle.mc_tables.proofs.SummaryLemmas.{summary_after-end}
 use Rattle.mc_tables.proofs.summary_reader.SummaryReader.finish.Goals as goal
 
--- the table and the notes
+-- the table and the summary
 abbrev both : CacheValue → SummaryValue → Result SummarizedCache TableFault
 both table summary = Ok (record { table = table; summary = summary })
 

@@ -48,14 +48,14 @@ key_cmp-antisymmetric x y is =
       | Greater ↦ λ _ e. absurd cc
     ] refl is
 
--- looking up a key finds what the map has there
+-- a look-up of a key finds what the map has there
 lookup-find : (key : ℕ × ℕ) (es : List ((ℕ × ℕ) × EntryValue))
     → lookup (is_at (key_cmp key)) es ≡ map.find key_cmp key es
 lookup-find key [] = refl
 lookup-find key (e ∷ es) =
     ap (cond (eq_by_cmp key_cmp key e.0) (Some e.1)) (lookup-find key es)
 
--- looking up a key among the entries finds what their map has there
+-- a look-up of a key among the entries finds what their map has there
 pub lookup-from_entries : (key : ℕ × ℕ) (es : List ((ℕ × ℕ) × EntryValue)) →
     lookup (is_at (key_cmp key)) es ≡ map.get (map.from_entries {R = key_cmp} es) key
 lookup-from_entries key es = lookup-find key es ∙ sym (map.get-from_entries key_cmp-total es key)

@@ -42,7 +42,7 @@ lists_of ls oifs = map (list_of oifs) ls
 -- each list's outgoing vifs are among those of all, which are at most 32 for each list
 pub record AreFlatLists {H : Type 0} (ls : List (FlatList H)) (oifs : List Oif) : Type 0 where
   pub within : AllByRecursion (λ l. l.start + l.count ≤ length oifs) ls
-  pub few : length oifs ≤ 32 * length ls
+  pub bounded : length oifs ≤ 32 * length ls
 
 -- the entry of a list whose head is the incoming vif
 abbrev pub entry_of : ℕ × List Oif → EntryValue

@@ -41,7 +41,7 @@ pub fn read_row(
     row: &mut CacheRow,
     oifs: &mut Vec<Oif>,
 ) -> Result<(), TableFaultKind>
-    ensures few { OnOk result (length oifs.new.items ≤ 32) }
+    ensures at_most_32 { OnOk result (length oifs.new.items ≤ 32) }
     ensures read { OnOk result
         (row_in_words order (words_of line.now) ≡ Ok (row_with_oifs row.new oifs.new.items)) }
     ensures fault { IfErr result (λ fault. fault ≢ Memory →
@@ -67,7 +67,7 @@ fn read_row_by_words(
     oifs: &mut Vec<Oif>,
 ) -> Result<CacheRow, TableFaultKind>
     requires empty { oifs.old.items ≡ [] }
-    ensures few { OnOk result (length oifs.new.items ≤ 32) }
+    ensures at_most_32 { OnOk result (length oifs.new.items ≤ 32) }
     ensures read { IfOk result (λ row.
         row_in_words order (words_of line.now) ≡ Ok (row_with_oifs row oifs.new.items)) }
     ensures fault { IfErr result (λ fault. fault ≢ Memory →
@@ -103,7 +103,7 @@ fn read_cache_words(
     oifs: &mut Vec<Oif>,
 ) -> Result<CacheRow, TableFaultKind>
     requires empty { oifs.old.items ≡ [] }
-    ensures few { OnOk result (length oifs.new.items ≤ 32) }
+    ensures at_most_32 { OnOk result (length oifs.new.items ≤ 32) }
     ensures read { IfOk result (λ row.
         row_in_words order (row_words_before first.now outgoing.entry)
         ≡ Ok (row_with_oifs row oifs.new.items)) }
@@ -144,7 +144,7 @@ fn read_entry(
     oifs: &mut Vec<Oif>,
 ) -> Result<(), TableFaultKind>
     requires empty { oifs.old.items ≡ [] }
-    ensures few { OnOk result (length oifs.new.items ≤ 32) }
+    ensures at_most_32 { OnOk result (length oifs.new.items ≤ 32) }
     ensures read { OnOk result (entry_in iif outgoing.entry ≡ Ok (entry_with iif oifs.new.items)) }
     ensures fault { IfErr result (λ fault. fault ≢ Memory → entry_in iif outgoing.entry ≡ Err fault) }
 {

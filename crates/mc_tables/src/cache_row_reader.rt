@@ -175,7 +175,7 @@ fn add_read_row(
     line: u32,
 ) -> Result<bool, TableFaultKind>
     requires room { count.old < 65536 }
-    requires few { length oifs.now ≤ 32 }
+    requires at_most_32 { length oifs.now ≤ 32 }
     requires numbered { length kept.old.table.numbered ≤ count.old }
     ensures kept { IfOk result (λ is_kept.
         is_kept ≡ is_kept_by_set kept.old.listed (row_with_oifs row.now oifs.now)) }
@@ -208,7 +208,7 @@ fn read_row_with_room(
     oifs: &mut Vec<Oif>,
 ) -> Result<(), TableFaultKind>
     ensures room { OnOk result (count < 65536) }
-    ensures few { OnOk result (length oifs.new.items ≤ 32) }
+    ensures at_most_32 { OnOk result (length oifs.new.items ≤ 32) }
     ensures read { OnOk result
         (row_with_room order count (line_text line.now) ≡ Ok (row_with_oifs row.new oifs.new.items)) }
     ensures fault { IfErr result (λ fault. fault ≢ Memory →

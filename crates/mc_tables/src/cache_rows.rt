@@ -92,7 +92,7 @@ impl CacheRows {
     /// error the rows are of no use.
     pub fn add(&mut self, row: &CacheRow, oifs: &[Oif]) -> Result<bool, TableFaultKind>
         requires room { length self.old.table.numbered < 65536 }
-        requires few { length oifs.now ≤ 32 }
+        requires at_most_32 { length oifs.now ≤ 32 }
         ensures kept { IfOk result (λ kept.
             kept ≡ is_kept_by_set self.old.listed (row_with_oifs row.now oifs.now)) }
         ensures added { IfOk result (λ kept. kept ≡ true →
@@ -133,7 +133,7 @@ impl CacheRows {
         oifs: &[Oif],
     ) -> Result<bool, TableFaultKind>
         requires room { length self.old.table.numbered < 65536 }
-        requires few { length oifs.now ≤ 32 }
+        requires at_most_32 { length oifs.now ≤ 32 }
         ensures kept { IfOk result (λ kept. kept ≡ set_has_key self.old.listed key.now) }
         ensures added { IfOk result (λ kept. kept ≡ true →
             entry_added self.old.table key.now (record { iif = iif; oifs = oifs.now })
@@ -161,7 +161,7 @@ impl CacheRows {
         oifs: &[Oif],
     ) -> Result<(), TableFaultKind>
         requires room { length self.old.table.numbered < 65536 }
-        requires few { length oifs.now ≤ 32 }
+        requires at_most_32 { length oifs.now ≤ 32 }
         ensures added { OnOk result (self.new
             ≡ with_entry_if_new self.old key.now (record { iif = iif; oifs = oifs.now })) }
         ensures fault { IfErr result (λ fault. fault ≡ Memory) }
@@ -181,7 +181,7 @@ impl CacheRows {
         oifs: &[Oif],
     ) -> Result<Inserted, TableFaultKind>
         requires room { length self.old.table.numbered < 65536 }
-        requires few { length oifs.now ≤ 32 }
+        requires at_most_32 { length oifs.now ≤ 32 }
         ensures inserted { IfOk result
             (IsEntryInserted key.now (record { iif = iif; oifs = oifs.now }) self.old self.new) }
         ensures fault { IfErr result (λ fault. fault ≡ Memory) }
@@ -230,7 +230,7 @@ impl CacheRows {
 
     /// Whether a row for every source has this group or the group 0.0.0.0.
     pub fn has_wildcard(&self, group: Addr) -> bool
-        requires valid { IsSorted nat_cmp self.now.groups }
+        requires sorted { IsSorted nat_cmp self.now.groups }
         ensures value { result ≡
             (set.contains self.now.table.wildcards group || set.contains self.now.table.wildcards 0) }
     {
@@ -238,7 +238,7 @@ impl CacheRows {
     }
 
     fn has_group(&self, group: Addr) -> bool
-        requires valid { IsSorted nat_cmp self.now.groups }
+        requires sorted { IsSorted nat_cmp self.now.groups }
         ensures value { result ≡ set.contains self.now.table.wildcards group }
     {
         self.groups.binary_search(&group).is_ok()

@@ -11,8 +11,8 @@ const MAX_SLOTTED: usize = 65_536;
 
 /// The slot of a number among so many.
 fn slot_of(number: u64, slots: usize) -> usize
-    requires some { 0 < slots }
-    requires few { slots < 2 ^ 32 }
+    requires nonempty { 0 < slots }
+    requires bounded { slots < 2 ^ 32 }
     ensures slot { result ≡ slot_of slots number }
     ensures within { result < slots }
 {
@@ -23,9 +23,9 @@ fn slot_of(number: u64, slots: usize) -> usize
 /// Puts a number into its slot, or behind the others if another number has the slot. Returns whether
 /// it is new, as far as its slot shows.
 fn put_in_slot(slots: &mut Vec<u64>, others: &mut Vec<u64>, number: u64) -> Result<bool, AllocError>
-    requires some { 0 < length slots.old.items }
-    requires few { length slots.old.items < 2 ^ 32 }
-    ensures ok { IfOk result (λ new. new ≡ true →
+    requires nonempty { 0 < length slots.old.items }
+    requires bounded { length slots.old.items < 2 ^ 32 }
+    ensures put { IfOk result (λ new. new ≡ true →
         IsPut slots.old.items others.old.items number slots.new.items others.new.items) }
 {
     let slot = slot_of(number, slots.len());

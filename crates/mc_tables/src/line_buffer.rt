@@ -108,7 +108,7 @@ impl LineBuffer {
 
     /// The line of these bytes, whose line feed comes next.
     pub fn line_of<'a>(&self, bytes: &'a [u8]) -> Line<'a>
-        requires few { self.now.ended < max_text }
+        requires bounded { self.now.ended < max_text }
         requires begun { self.now.begun ≡ [] }
         ensures value { line_text result ≡
             line_begun (with_begun self.now (length bytes.now + 1) bytes.now) }

@@ -100,8 +100,8 @@ impl<'a> MarkedLine<'a> {
     /// more than twenty bytes with the spaces before it, or one isn't marked as a whole.
     #[inline(always)]
     pub fn behind_counters(self) -> Option<&'a [u8]>
-        requires valid { IsMarked self }
-        ensures some { IfSome result (λ after. HasCounters self.entry.bytes.now after.now) }
+        requires marked { IsMarked self }
+        ensures counters { IfSome result (λ after. HasCounters self.entry.bytes.now after.now) }
     {
         let ends = last_digits(self.digits, self.spaces);
         let packets = lowest_mark(ends);

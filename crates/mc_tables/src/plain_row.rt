@@ -262,7 +262,7 @@ fn oif_at_front(line: &[u8]) -> Option<(Oif, &[u8])>
 #[tactic(auto, using(crate::proofs::PlainRowLemmas::greater_oif_is_appended, crate::proofs::OifLemmas::oifs_in_by_steps))]
 pub fn read_ascending_oifs(line: &[u8], oifs: &mut Vec<Oif>) -> Result<bool, AllocError>
     requires empty { oifs.old.items ≡ [] }
-    ensures ok { IfOk result (λ read. read ≡ true →
+    ensures read { IfOk result (λ read. read ≡ true →
         oifs_in (words_of line.now) ≡ Ok oifs.new.items) }
 {
     let mut rest = line;

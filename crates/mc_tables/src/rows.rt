@@ -110,7 +110,7 @@ fn read_begun<R: TableRows>(
     rest: &[u8],
 ) -> Result<usize, TableFault>
     requires steps { ReadsInSteps R.table R.step }
-    requires some { 0 < length rest.now }
+    requires nonempty { 0 < length rest.now }
     requires room { lines.old.size + length rest.now ≤ max_text }
     ensures reads { (more : List ℕ) → IfOk result (λ taken.
         read_after R.header (R.table rows.old) lines.old (rest.now ++ more)

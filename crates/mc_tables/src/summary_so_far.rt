@@ -84,7 +84,7 @@ impl SummarySoFar {
         requires kept { kept ≡ is_kept_by_set self.old.listed (row_with_oifs row.now oifs.now) }
         requires room { length self.old.first.table.numbered < 65536 }
         requires unlisted { self.old.unlisted < 65536 }
-        requires few { length oifs.now ≤ 32 }
+        requires at_most_32 { length oifs.now ≤ 32 }
         ensures summarized { OnOk result
             (self.new ≡ summary_with_row self.old (row_with_oifs row.now oifs.now)) }
         ensures fault { IfErr result (λ fault. fault ≡ Memory) }
@@ -120,7 +120,7 @@ impl SummarySoFar {
         oifs: &[Oif],
     ) -> Result<(), TableFaultKind>
         requires room { length self.old.first.table.numbered < 65536 }
-        requires few { length oifs.now ≤ 32 }
+        requires at_most_32 { length oifs.now ≤ 32 }
         ensures summarized { OnOk result (self.new ≡ summary_with_every_source self.old
             (Some (key.now, record { iif = iif; oifs = oifs.now }))) }
         ensures fault { IfErr result (λ fault. fault ≡ Memory) }

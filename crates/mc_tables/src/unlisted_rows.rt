@@ -79,7 +79,7 @@ impl UnlistedRows {
 /// The first line whose row repeats an earlier one. The rows are sorted by source and group, and then
 /// by line.
 fn first_repeat_of_sorted(rows: &[UnlistedRow]) -> Option<u32>
-    requires valid { IsSorted row_cmp rows.now }
+    requires sorted { IsSorted row_cmp rows.now }
     ensures value { result ≡ first_repeat rows.now }
 {
     let mut first = None;

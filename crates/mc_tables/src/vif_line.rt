@@ -114,8 +114,8 @@ fn flags_of_word(word: &[u8]) -> Result<u32, TableFaultKind>
 
 /// The value of one to eight hexadecimal digits.
 fn hexadecimal(digits: &[u8]) -> Option<u32>
-    requires some { 1 ≤ length digits.now }
-    requires few { length digits.now ≤ 8 }
+    requires nonempty { 1 ≤ length digits.now }
+    requires at_most_8 { length digits.now ≤ 8 }
     requires digits { IsTrue (list_all is_ascii_hexdigit digits.now) }
     ensures value { result ≡ Some (digits_value 16 digits.now) }
 {

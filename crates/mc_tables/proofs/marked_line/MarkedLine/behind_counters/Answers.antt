@@ -15,7 +15,7 @@ without_front-requires c = record {
 
 pub returns : goal.returns
 returns c = record {
-  some = (
+  counters = (
       let line = c.args.self.bytes.now in
       let digits = c.args.self.digits in
       let spaces = c.args.self.spaces in

@@ -5,7 +5,6 @@ use Rattle.std.specs.List.{IsDistinct, AllByRecursion, filter_map}
 use Rattle.std.specs.Ordering.{nat_cmp}
 use Rattle.std.specs.Str.{bytes_eq}
 use Rattle.std.specs.FinMap.{FinMap, from_entries, get-from_entries}
-use Rattle.std.proofs.lemmas.Bool.{both_directions}
 use Rattle.std.proofs.lemmas.Slice.Eq.{bytes_eq-Decides}
 use Rattle.mc_text.specs.declared.text.addr.Order.{Order}
 use Rattle.mc_tables.specs.CacheTable.{EntryValue}
@@ -13,7 +12,7 @@ use Rattle.mc_tables.specs.VifTable.{VifValue, no_device, device_of}
 use Rattle.mc_tables.specs.VifLookups.{HasDevice, IsValidVifTable, first_index_with}
 use Rattle.mc_tables.specs.CacheTable.{RowValue, CacheValue, IsValidEntry, IsValidCache, DenotesCache}
 use Rattle.mc_tables.specs.CacheTable.{exact_entry, table_of}
-use Rattle.mc_tables.proofs.VifLookupLemmas.{first_index_with-has_device, get-at_most_31}
+use Rattle.mc_tables.proofs.VifLookupLemmas.{first_index_with-has_device, get-at_most_31, absurd-both_values}
 use Rattle.mc_tables.proofs.CacheLemmas.{key_cmp-total}
 use Rattle.mc_tables.proofs.CacheLookupLemmas.{find-zero_source}
 use Rattle.mc_tables.proofs.EntryLemmas.{HaveValidEntries, rows-have_valid_entries, find-valid_entry}
@@ -50,7 +49,7 @@ pub answer-iff_has_device : (vifs : FinMap nat_cmp VifValue) (device : List ℕ)
     (index : ℕ) → (answer ≡ Some index) ↔ ((device ≢ no_device) × HasDevice vifs index device)
 answer-iff_has_device vifs device answer some found only index =
     let named : device ≢ no_device = λ unnamed.
-    both_directions (bytes_eq device no_device) some ((bytes_eq-Decides device no_device).1 unnamed) in (
+    absurd-both_values (bytes_eq device no_device) some ((bytes_eq-Decides device no_device).1 unnamed) in (
       λ is. (named, subst (λ (a : Option ℕ). IfSome a (λ i. HasDevice vifs i device)) is found),
       λ both. only index both.0 both.1,
     )

@@ -11,7 +11,7 @@ use Rattle.std.specs.Str.{bytes_eq}
 use Rattle.std.specs.FinMap.{FinMap, find, get, from_entries, get-from_entries, entries, get-entries}
 use Rattle.std.specs.FinMap.{entries_sorted}
 use Rattle.std.specs.FinMap.Entries.{below_all, is_sorted}
-use Rattle.std.proofs.lemmas.Bool.{cases_eq, eq-eqb, ne_eqb, both_directions, or_left, or_right, or_from}
+use Rattle.std.proofs.lemmas.Bool.{cases_eq, eq-eqb, ne_eqb, true≢false, or_left, or_right, or_from}
 use Rattle.std.proofs.lemmas.Bool.{false_from_ne_true}
 use Rattle.std.proofs.lemmas.Cmp.{nat_cmp_total, nat_eq_equiv, nat_list_eq_equiv}
 use Rattle.std.proofs.lemmas.Map.Keys.{IsDistinct-head, IsDistinct-tail}
@@ -20,6 +20,10 @@ use Rattle.mc_tables.specs.TableLines.{is_among}
 use Rattle.mc_tables.specs.VifTable.{VifValue, no_device, device_of}
 use Rattle.mc_tables.specs.VifReading.{device_repeats}
 use Rattle.mc_tables.specs.VifLookups.{HasDevice, IsValidVifTable, first_index_with, index_of}
+
+-- no test is both false and true
+pub absurd-both_values : (b : Bool) → b ≡ false → b ≡ true → ⊥
+absurd-both_values b is_false is_true = true≢false (sym is_true ∙ is_false)
 
 -- ---- the tests of a row against the earlier ones
 
@@ -159,7 +163,7 @@ find-first_index_with device (row ∷ rows) index distinct e =
           let none = list_any-all_differ nat_eq row.0 (map (λ r. r.0) rows)
           (IsDistinct-head nat_eq row.0 _ distinct) in
           let apart : index ≡ row.0 → ⊥ =
-          λ same. both_directions (list_any (nat_eq index) (map (λ r. r.0) rows)) (rw same none) among in
+          λ same. absurd-both_values (list_any (nat_eq index) (map (λ r. r.0) rows)) (rw same none) among in
           subst (HasThisDevice device) (sym (find-other_index index row rows apart))
           (find-first_index_with device rows index (IsDistinct-tail nat_eq row.0 _ distinct) h)
     ] refl (sym (first_index_with-cons device row rows) ∙ e)
@@ -210,7 +214,7 @@ first_index_with-unique device (row ∷ rows) index some distinct h =
                 (IsDistinct-head bytes_eq row.1.device _
                 (subst (λ k. IsDistinct bytes_eq (cons_option k (filter_map device_of rows))) key
                 distinct)) in
-                absurd (both_directions (list_any (bytes_eq device) (filter_map device_of rows))
+                absurd (absurd-both_values (list_any (bytes_eq device) (filter_map device_of rows))
                 (ap (λ d. list_any (bytes_eq d) (filter_map device_of rows)) (sym same) ∙ none)
                 (sym (list_any-device device rows some) ∙ among))
             | false ↦ λ is. first_index_with-unique device rows index some
@@ -332,7 +336,7 @@ index_of-exact vifs device index rules = (
       → (device ≢ no_device) × HasDevice vifs index device) [
         | true ↦ λ is e. absurd cc
         | false ↦ λ is e. (
-          λ unnamed. both_directions (bytes_eq device no_device) is
+          λ unnamed. absurd-both_values (bytes_eq device no_device) is
               ((bytes_eq-Decides device no_device).1 unnamed),
           first_index_with-entries vifs device index e,
         )

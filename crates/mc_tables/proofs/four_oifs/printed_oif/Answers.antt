@@ -13,4 +13,6 @@ overflow_sub-threshold c =
     let at = printed_oif-has_digits c.args.line.now c.args.at c.requires.printed in omega (arith, at.2)
 
 pub returns : goal.returns
-returns c top = record { word = first_word-printed_oif_at c.args.line.now c.args.at c.requires.long c.requires.printed top }
+returns c = record {
+  word = λ top. first_word-printed_oif_at c.args.line.now c.args.at c.requires.long c.requires.printed top;
+}

@@ -13,4 +13,4 @@ cond-none_kept false every lowest none least = least
 pub returns : goal.returns
 returns c =
     let kept : List (ℕ × ℕ) → KeptPairs = λ pairs. record { all = c.args.all; pairs = pairs } in
-    ap kept (cond-none_kept c.args.all c.new.result.items c.new-2.result c.new.ensures.items c.new-2.ensures.value)
+    ap kept (cond-none_kept c.args.all c.new.result.items c.new-2.result c.new.ensures.items c.new-2.ensures)

@@ -75,7 +75,8 @@ address_of_octets-from_printed order decoded a small e =
 -- the address that is read is the one that the word denotes
 pub address_in-denotes : (order : Order) (word : List ℕ) (a : ℕ) → address_in order word ≡ Some a
     → WordDenotesAddress order word a
-address_in-denotes order word a e = address_of_octets-printed order (decode_of word) a (decode_of-below_256 word) e
+address_in-denotes order word a e =
+    address_of_octets-printed order (decode_of word) a (decode_of-below_256 word) e
 
 -- the address that the word denotes is read
 pub address_in-from_denotes : (order : Order) (word : List ℕ) (a : ℕ) → WordDenotesAddress order word a
@@ -95,5 +96,6 @@ pub address_in-from_clauses : (order : Order) (word : List ℕ) (read : Option �
     → read ≡ address_in order word
 address_in-from_clauses order word read small writes only =
     option_from_clauses (WordDenotesAddress order word) read (address_in order word)
-    (if_some-denotes_address order word read small writes) (λ a h. only a h.0 h.1) (address_in-denotes order word)
+    (if_some-denotes_address order word read small writes) (λ a h. only a h.0 h.1)
+        (address_in-denotes order word)
     (address_in-from_denotes order word)

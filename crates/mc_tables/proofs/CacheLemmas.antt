@@ -34,7 +34,8 @@ use Rattle.mc_tables.proofs.StepLemmas.{demand-bind_ok, at_line-ok}
 use Rattle.mc_tables.proofs.WordLemmas.{number_in-denotes, number_in-from_denotes}
 use Rattle.mc_tables.proofs.AddressLemmas.{address_in-denotes, address_in-from_denotes}
 use Rattle.mc_tables.proofs.KeyLemmas.{is_distinct-push_key, is_among-distinct_before}
-use Rattle.mc_tables.proofs.RowLemmas.{lines_in-has_header, lines_in-from_header, ReadsRows, rows_after-denotes, rows_after-from_denotes}
+use Rattle.mc_tables.proofs.RowLemmas.{lines_in-has_header, lines_in-from_header, ReadsRows}
+use Rattle.mc_tables.proofs.RowLemmas.{rows_after-denotes, rows_after-from_denotes}
 use Rattle.mc_tables.proofs.OifLemmas.{oifs_in-denotes, oifs_in-from_denotes}
 
 -- ---- the incoming vif and the outgoing ones
@@ -70,7 +71,8 @@ entry_in-denotes iif outgoing (Some number) entry incoming e =
     ]
 
 -- a word that denotes a number isn't `-1`
-bytes_eq-number_is_not_unresolved : (iif : List ℕ) (n : ℕ) → WordDenotesNumber 0 31 iif n → bytes_eq iif (codes "-1") ≡ false
+bytes_eq-number_is_not_unresolved : (iif : List ℕ) (n : ℕ) → WordDenotesNumber 0 31 iif n
+    → bytes_eq iif (codes "-1") ≡ false
 bytes_eq-number_is_not_unresolved iif n h =
     false_from_ne_true (bytes_eq iif (codes "-1")) (λ is.
     let same : iif ≡ codes "-1" = (bytes_eq-Decides iif (codes "-1")).0 is in
@@ -87,7 +89,8 @@ entry_in-from_denotes iif outgoing None h =
     (None, rw is refl, rw h.1 refl)
 entry_in-from_denotes iif outgoing (Some entry) h = (
   Some entry.iif,
-  rw (bytes_eq-number_is_not_unresolved iif entry.iif h.0, number_in-from_denotes 0 31 iif entry.iif h.0) refl,
+  rw (bytes_eq-number_is_not_unresolved iif entry.iif h.0, number_in-from_denotes 0 31 iif entry.iif h.0)
+      refl,
   rw (oifs_in-from_denotes outgoing entry.oifs h.1) refl,
 )
 
@@ -176,7 +179,8 @@ row_in_line-from_denotes : (order : Order) (earlier : List RowValue) (line : Lin
 unfolding row_in_line
 row_in_line-from_denotes order earlier line row denoted new =
     let room : ltb (length earlier) 65536 ≡ true = lt-ltb (length earlier) 65536 new.0 in
-    rw (denoted.ended, room, row_in_words-from_denotes order (words_of line.bytes) row denoted.words, new.1) refl
+    rw (denoted.ended, room, row_in_words-from_denotes order (words_of line.bytes) row denoted.words, new.1)
+        refl
 
 -- the same for reading with the line's number
 row_at_line-denotes : (order : Order) (earlier : List RowValue) (line : LineText) (row : RowValue)
@@ -188,7 +192,8 @@ row_at_line-denotes order earlier line row e =
 -- and the other direction
 row_at_line-from_denotes : (order : Order) (earlier : List RowValue) (line : LineText) (row : RowValue)
     → LineDenotesRow order line row → MayFollow earlier row → row_at_line order earlier line ≡ Ok row
-row_at_line-from_denotes order earlier line row denoted new = rw (row_in_line-from_denotes order earlier line row denoted new) refl
+row_at_line-from_denotes order earlier line row denoted new =
+    rw (row_in_line-from_denotes order earlier line row denoted new) refl
 
 -- allowed rows stay allowed when one that may follow them is added
 rows-valid_push : (earlier : List RowValue) (row : RowValue) → AreValid earlier → MayFollow earlier row
@@ -207,7 +212,8 @@ rows-may_follow earlier row later valid = (
 )
 
 -- so lines are read as the rows that they denote
-row_at_line-reads_rows : (order : Order) → ReadsRows (row_at_line order) (LineDenotesRow order) MayFollow AreValid
+row_at_line-reads_rows : (order : Order)
+    → ReadsRows (row_at_line order) (LineDenotesRow order) MayFollow AreValid
 row_at_line-reads_rows order = record {
   found = row_at_line-denotes order;
   only = row_at_line-from_denotes order;
@@ -223,7 +229,8 @@ rows-valid_none = (omega arith, tt)
 -- ---- the text
 
 -- the rows that are read are those that the text denotes
-cache_rows_in-denotes : (order : Order) (text : List ℕ) (rows : List RowValue) → cache_rows_in order text ≡ Ok rows
+cache_rows_in-denotes : (order : Order) (text : List ℕ) (rows : List RowValue)
+    → cache_rows_in order text ≡ Ok rows
     → DenotesCacheRows order text rows
 cache_rows_in-denotes order text rows e =
     let b = bind_ok (lines_in (codes "Group") text) (rows_after (row_at_line order) []) rows e in
@@ -238,7 +245,8 @@ cache_rows_in-denotes order text rows e =
     }
 
 -- the rows that the text denotes are read
-cache_rows_in-from_denotes : (order : Order) (text : List ℕ) (rows : List RowValue) → DenotesCacheRows order text rows
+cache_rows_in-from_denotes : (order : Order) (text : List ℕ) (rows : List RowValue)
+    → DenotesCacheRows order text rows
     → cache_rows_in order text ≡ Ok rows
 cache_rows_in-from_denotes order text rows h =
     let e = lines_in-from_header (codes "Group") text h.lines h.header in
@@ -259,7 +267,8 @@ cache_in-denotes order text table e =
 -- the table that the text denotes is read
 pub cache_in-from_denotes : (order : Order) (text : List ℕ) (table : CacheValue)
     → DenotesCache order text table → cache_in order text ≡ Ok table
-cache_in-from_denotes order text table h = rw (cache_rows_in-from_denotes order text h.rows h.lines) (ap Ok (sym h.as_table))
+cache_in-from_denotes order text table h =
+    rw (cache_rows_in-from_denotes order text h.rows h.lines) (ap Ok (sym h.as_table))
 
 -- unless memory runs out, the table that is read is the one that the text denotes
 pub cache_result-denotes : (order : Order) (text : List ℕ) (read : Result CacheValue TableFault)

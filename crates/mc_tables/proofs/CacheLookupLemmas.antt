@@ -63,7 +63,8 @@ same_key-zero_source group origin other apart =
     rw positive refl
 
 -- an entry whose origin isn't 0 isn't one of (0, group)
-entry_if_key-zero_source : (group : ℕ) (row : RowValue) → nat_eq row.origin 0 ≡ false → (entry : Option EntryValue)
+entry_if_key-zero_source : (group : ℕ) (row : RowValue) → nat_eq row.origin 0 ≡ false
+    → (entry : Option EntryValue)
     → entry_if_key (0, group) (option_map (λ e. ((row.origin, row.group), e)) entry) ≡ None
 entry_if_key-zero_source group row other None = refl
 entry_if_key-zero_source group row other (Some entry) =

@@ -15,7 +15,8 @@ use Rattle.std.proofs.lemmas.List.{length_push}
 use Rattle.std.specs.BTreeMap.{is_at}
 use Rattle.std.specs.Map.{lookup}
 use Rattle.mc_tables.specs.CacheTable.{EntryValue, CacheValue, key_cmp}
-use Rattle.mc_tables.specs.CacheNumbers.{entries_by_key, number_of_key, AreEntryNumbers, KeptRowsValue, AddsNumber}
+use Rattle.mc_tables.specs.CacheNumbers.{entries_by_key, number_of_key, AreEntryNumbers, KeptRowsValue}
+use Rattle.mc_tables.specs.CacheNumbers.{AddsNumber}
 use Rattle.mc_tables.specs.ListedRows.{ListedSet}
 use Rattle.mc_tables.proofs.CacheLemmas.{key_cmp-total, same_key-equivalence}
 
@@ -109,7 +110,8 @@ is_some-slice_get_number : (es : List EntryValue) (o : Option ℕ) → IfSome o 
 is_some-slice_get_number es None within = refl
 is_some-slice_get_number [] (Some n) within = absurd (omega (arith, within))
 is_some-slice_get_number (e ∷ es) (Some zero) within = refl
-is_some-slice_get_number (e ∷ es) (Some (suc n)) within = is_some-slice_get_number es (Some n) (omega (arith, within))
+is_some-slice_get_number (e ∷ es) (Some (suc n)) within =
+    is_some-slice_get_number es (Some n) (omega (arith, within))
 
 -- a key has an entry if it has a number
 pub is_some_get-entries_by_key : (key : ℕ × ℕ) (numbers : List ((ℕ × ℕ) × ℕ)) (es : List EntryValue)
@@ -117,11 +119,13 @@ pub is_some_get-entries_by_key : (key : ℕ × ℕ) (numbers : List ((ℕ × ℕ
     → is_some (map.get (map.from_entries {R = key_cmp} (entries_by_key numbers es)) key)
     ≡ is_some (number_of_key numbers key)
 is_some_get-entries_by_key key numbers es own =
-    ap is_some (sym (lookup-from_entries key (entries_by_key numbers es)) ∙ lookup-entries_by_key key numbers es (own key))
+    ap is_some (sym (lookup-from_entries key (entries_by_key numbers es))
+        ∙ lookup-entries_by_key key numbers es (own key))
     ∙ is_some-slice_get_number es (number_of_key numbers key) (own key)
 
 -- what a number finds stays found with one more entry behind
-slice_get-push_earlier : (es : List EntryValue) (entry : EntryValue) (o : Option ℕ) → IfSome o (λ n. n < length es)
+slice_get-push_earlier : (es : List EntryValue) (entry : EntryValue) (o : Option ℕ)
+    → IfSome o (λ n. n < length es)
     → option_and_then (slice_get (es ++ entry ∷ [])) o ≡ option_and_then (slice_get es) o
 slice_get-push_earlier es entry None within = refl
 slice_get-push_earlier [] entry (Some n) within = absurd (omega (arith, within))
@@ -164,7 +168,8 @@ pub lookup-entries_by_key_push : (key : ℕ × ℕ) (entry : EntryValue) (es : L
     ≡ cond (is_at (key_cmp key) q) (Some entry)
     (lookup (is_at (key_cmp q)) (entries_by_key numbers es))
 lookup-entries_by_key_push key entry es numbers more own grown q =
-    lookup-entries_by_key q more (es ++ entry ∷ []) (are_entry_numbers-push key entry es numbers more own grown q)
+    lookup-entries_by_key q more (es ++ entry ∷ [])
+        (are_entry_numbers-push key entry es numbers more own grown q)
     ∙ ap (option_and_then (slice_get (es ++ entry ∷ []))) (grown q)
     ∙ elim (is_at (key_cmp key) q) as
     (λ b. option_and_then (slice_get (es ++ entry ∷ []))

@@ -20,7 +20,8 @@ use Rattle.mc_tables.specs.TableLines.{is_among}
 use Rattle.mc_tables.specs.CacheTable.{RowValue, key_cmp, same_key, exact_entry, key_of}
 use Rattle.mc_tables.specs.CacheTable.{wildcard_group, table_of}
 use Rattle.mc_tables.specs.CacheReading.{entry_repeats}
-use Rattle.mc_tables.specs.CacheSteps.{has_key, with_exact_entry, with_numbered_entry, with_wildcard_group, row_added}
+use Rattle.mc_tables.specs.CacheSteps.{has_key, with_exact_entry, with_numbered_entry, with_wildcard_group}
+use Rattle.mc_tables.specs.CacheSteps.{row_added}
 use Rattle.mc_tables.proofs.CacheLemmas.{key_cmp-total}
 use Rattle.mc_tables.proofs.CacheLookupLemmas.{is_some_find-row_keys}
 use Rattle.mc_tables.proofs.CacheMapLemmas.{key_cmp-antisymmetric}

@@ -9,11 +9,13 @@ use Rattle.std.specs.List.Sorted.{IsPermutation, IsStrictlyIncreasing}
 use Rattle.std.specs.Ordering.{nat_cmp, eq_by_cmp}
 use Rattle.std.proofs.lemmas.Bool.{cases_lt, ltb-true, true≢false}
 use Rattle.std.proofs.lemmas.Bool.Decides.{nat_tests}
-use Rattle.std.proofs.lemmas.List.{get_or-append_right, get_or_append_left, get_or-set_other, get_or-set_same, get_or_default}
+use Rattle.std.proofs.lemmas.List.{get_or-append_right, get_or_append_left, get_or-set_other, get_or-set_same}
+use Rattle.std.proofs.lemmas.List.{get_or_default}
 use Rattle.std.proofs.lemmas.List.{length-append, length-set}
 use Rattle.std.proofs.lemmas.List.Sorted.{IsPermutation-sym}
 use Rattle.std.proofs.lemmas.Cmp.{nat_cmp_total, eq_by_cmp_equiv}
-use Rattle.std.proofs.lemmas.Map.Keys.{IsDistinct-IsPermutation, IsDistinct-from_sorted, IsDistinct-from_apart}
+use Rattle.std.proofs.lemmas.Map.Keys.{IsDistinct-IsPermutation, IsDistinct-from_sorted}
+use Rattle.std.proofs.lemmas.Map.Keys.{IsDistinct-from_apart}
 use Rattle.std.proofs.lemmas.Map.Keys.{apart_from_distinct, sorted_from_strictly_increasing}
 use Rattle.mc_tables.specs.Distinct.{AreDistinct, slot_of, number_in_slot, IsPut}
 
@@ -102,7 +104,8 @@ module _ (slots others numbers : List ℕ) (i : ℕ) (before : AreSlotted slots 
             | inr among ↦ inr among
           ]
           | inr late ↦ inl (in_slot-same_slot slots number within (get_or numbers k 0)
-              (ap (slot_of (length slots)) (number-at_last_place k late less)) ∙ sym (number-at_last_place k late less))
+              (ap (slot_of (length slots)) (number-at_last_place k late less))
+                  ∙ sym (number-at_last_place k late less))
         ];
         apart = λ all a b less below is. elim (cases_lt b i) [
           | inl early ↦ before.apart all a b less early is
@@ -191,7 +194,8 @@ is_strictly_increasing-from_answer numbers true each is = λ k lt.
 is_strictly_increasing-from_answer numbers false each is = absurd cc
 
 -- what an answer `true` shows, where a fault counts as `false`
-pub if_ok-from_unwrap_or : {E : Type 0} (found : Result Bool E) (P : Type 0) → IfOk found (λ apart. apart ≡ true → P)
+pub if_ok-from_unwrap_or : {E : Type 0} (found : Result Bool E) (P : Type 0)
+    → IfOk found (λ apart. apart ≡ true → P)
     → result_unwrap_or found false ≡ true → P
 if_ok-from_unwrap_or (Ok apart) P so is = so is
 if_ok-from_unwrap_or (Err e) P so is = absurd cc

@@ -17,7 +17,8 @@ use Rattle.mc_text.specs.Lines.{LineText, words_of}
 use Rattle.mc_tables.specs.declared.entry.Oif.{Oif}
 use Rattle.mc_tables.specs.CacheTable.{EntryValue}
 use Rattle.mc_tables.specs.TableLines.{EachDenotes}
-use Rattle.mc_tables.specs.CacheTable.{to_oif, oifs_by_vif, WordDenotesOif, WordsDenoteOifs, WordsDenoteEntry, RowValue}
+use Rattle.mc_tables.specs.CacheTable.{to_oif, oifs_by_vif, WordDenotesOif, WordsDenoteOifs, WordsDenoteEntry}
+use Rattle.mc_tables.specs.CacheTable.{RowValue}
 use Rattle.mc_tables.specs.CacheTable.{WordsDenoteRow}
 use Rattle.mc_tables.specs.CacheTable.{LineDenotesRow, key_cmp, same_key, exact_entry, IsValidEntry}
 use Rattle.mc_tables.specs.CacheReading.{oifs_in}
@@ -102,7 +103,8 @@ abbrev InRange : ℕ × ℕ → Type 0
 InRange oif = (oif.0 ≤ 31) × (1 ≤ oif.1) × (oif.1 ≤ 254)
 
 -- words denote outgoing vifs in range
-denoted_oifs-in_range : (words : List (List ℕ)) (denoted : List (ℕ × ℕ)) → EachDenotes WordDenotesOif words denoted
+denoted_oifs-in_range : (words : List (List ℕ)) (denoted : List (ℕ × ℕ))
+    → EachDenotes WordDenotesOif words denoted
     → AllByRecursion InRange denoted
 denoted_oifs-in_range [] [] each = tt
 denoted_oifs-in_range [] (oif ∷ denoted) each = absurd each
@@ -131,7 +133,8 @@ oifs-valid_entry outgoing entry iif h =
           (oifs_by_vif-ascends (fin.from_entries h.denoted));
       ranges = subst (AllByRecursion
           (λ oif. (oif.vif ≤ 31) × (1 ≤ oif.threshold) × (oif.threshold ≤ 254))) same
-          (to_oif-in_range (fin.entries (fin.from_entries h.denoted)) (all_entries-from_entries InRange h.denoted denoted));
+          (to_oif-in_range (fin.entries (fin.from_entries h.denoted))
+              (all_entries-from_entries InRange h.denoted denoted));
     }
 
 -- the entry that words denote is valid
@@ -141,7 +144,8 @@ entry-is_valid iif outgoing None h = tt
 entry-is_valid iif outgoing (Some entry) h = oifs-valid_entry outgoing entry h.0.2 h.1
 
 -- and so is that of a row
-pub row_entry-is_valid : (order : Order) (words : List (List ℕ)) (row : RowValue) → WordsDenoteRow order words row
+pub row_entry-is_valid : (order : Order) (words : List (List ℕ)) (row : RowValue)
+    → WordsDenoteRow order words row
     → IfSome row.entry IsValidEntry
 row_entry-is_valid order (group ∷ origin ∷ iif ∷ packets ∷ bytes ∷ wrong_if ∷ outgoing) row h =
     entry-is_valid iif outgoing row.entry h.5
@@ -162,19 +166,24 @@ AreInRange oifs =
     AllByRecursion (λ oif. (oif.vif ≤ 31) × (1 ≤ oif.threshold) × (oif.threshold ≤ 254)) oifs
 
 -- outgoing vifs that ascend from the first one up to 31 are few enough
-length_oifs-from_vif : (oif : Oif) (oifs : List Oif) → IsStrictlyIncreasing (map (λ (o : Oif). o.vif) (oif ∷ oifs))
+length_oifs-from_vif : (oif : Oif) (oifs : List Oif)
+    → IsStrictlyIncreasing (map (λ (o : Oif). o.vif) (oif ∷ oifs))
     → AreInRange (oif ∷ oifs) → oif.vif + length (oif ∷ oifs) ≤ 32
 length_oifs-from_vif oif [] up within = omega (arith, within.0.0)
 length_oifs-from_vif oif (next ∷ oifs) up within =
     let first : oif.vif < next.vif = up 0 (omega arith) in
-    let rest = length_oifs-from_vif next oifs (tail-ascends oif.vif (map (λ (o : Oif). o.vif) (next ∷ oifs)) up)
+    let rest = length_oifs-from_vif next oifs
+        (tail-ascends oif.vif (map (λ (o : Oif). o.vif) (next ∷ oifs)) up)
     within.1 in
     omega (arith, first, rest)
 
-length_oifs-at_most_32 : (oifs : List Oif) → IsStrictlyIncreasing (map (λ (o : Oif). o.vif) oifs) → AreInRange oifs
+length_oifs-at_most_32 : (oifs : List Oif) → IsStrictlyIncreasing (map (λ (o : Oif). o.vif) oifs)
+    → AreInRange oifs
     → length oifs ≤ 32
 length_oifs-at_most_32 [] up within = omega arith
-length_oifs-at_most_32 (oif ∷ oifs) up within = let h = length_oifs-from_vif oif oifs up within in omega (arith, h)
+length_oifs-at_most_32 (oif ∷ oifs) up within =
+    let h = length_oifs-from_vif oif oifs up within in
+    omega (arith, h)
 
 -- a valid entry has at most 32 outgoing vifs
 pub length_entry_oifs-at_most_32 : (entry : EntryValue) → IsValidEntry entry → length entry.oifs ≤ 32
@@ -185,7 +194,8 @@ pub oifs_in_gives_at_most_32 : (words : List (List ℕ)) (oifs : List Oif) → o
     → length oifs ≤ 32
 oifs_in_gives_at_most_32 words oifs e =
     let entry : EntryValue = record { iif = 0; oifs = oifs } in
-    length_entry_oifs-at_most_32 entry (oifs-valid_entry words entry (omega arith) (oifs_in-denotes words oifs e))
+    length_entry_oifs-at_most_32 entry
+        (oifs-valid_entry words entry (omega arith) (oifs_in-denotes words oifs e))
 
 -- ---- the entries of a table
 
@@ -200,7 +210,8 @@ rows-have_valid_entries order [] [] denoted = tt
 rows-have_valid_entries order [] (row ∷ rows) denoted = absurd denoted
 rows-have_valid_entries order (line ∷ lines) [] denoted = absurd denoted
 rows-have_valid_entries order (line ∷ lines) (row ∷ rows) denoted =
-    (row_entry-is_valid order (words_of line.bytes) row denoted.0.words, rows-have_valid_entries order lines rows denoted.1)
+    (row_entry-is_valid order
+        (words_of line.bytes) row denoted.0.words, rows-have_valid_entries order lines rows denoted.1)
 
 -- what is found is the first entry, or one of the others
 find-valid_entry_cons : (key : ℕ × ℕ) (o : Option ((ℕ × ℕ) × EntryValue)) (rest : List ((ℕ × ℕ) × EntryValue))

@@ -17,7 +17,8 @@ use Rattle.mc_tables.specs.declared.entry.Oif.{Oif}
 use Rattle.mc_tables.specs.CacheReading.{oif_in}
 use Rattle.mc_tables.specs.OutgoingSteps.{oifs_after_words}
 use Rattle.mc_tables.specs.FourOifs.{StartsWithPrintedOif, StartsWithFourOifs, DenoteAscendingOifs}
-use Rattle.mc_tables.proofs.PlainRowLemmas.{one_digit_oif_is_first_word, two_digit_oif_is_first_word, drop_as_take_drop, greater_oif_is_appended}
+use Rattle.mc_tables.proofs.PlainRowLemmas.{one_digit_oif_is_first_word, two_digit_oif_is_first_word}
+use Rattle.mc_tables.proofs.PlainRowLemmas.{drop_as_take_drop, greater_oif_is_appended}
 use Rattle.mc_tables.proofs.MarkedLemmas.{cond-one}
 
 -- the vif of its two digits
@@ -29,11 +30,14 @@ abbrev FirstWordIsOif : List ℕ → List ℕ → ℕ → ℕ → Type 0
 FirstWordIsOif line behind vif threshold =
     (word : List ℕ) × (words_of line ≡ word ∷ words_of behind) × (oif_in word ≡ Ok (vif, threshold))
 
-first_word-without_tens : (line : List ℕ) → 7 ≤ length line → StartsWithPrintedOif line → (get_or line 1 0 == 32) ≡ true
-    → FirstWordIsOif line (drop 7 line) (printed_vif (get_or line 1 0) (get_or line 2 0)) (get_or line 4 0 - 48)
+first_word-without_tens : (line : List ℕ) → 7 ≤ length line → StartsWithPrintedOif line
+    → (get_or line 1 0 == 32) ≡ true
+    → FirstWordIsOif line (drop 7 line) (printed_vif (get_or line 1 0) (get_or line 2 0))
+        (get_or line 4 0 - 48)
 first_word-without_tens line long printed space =
     let first = eqb-true (get_or line 1 0) 32 space in
-    let found = one_digit_oif_is_first_word line long printed.before first printed.units printed.colon printed.threshold
+    let found = one_digit_oif_is_first_word line long printed.before first printed.units printed.colon
+        printed.threshold
     printed.behind printed.last in
     let plain : get_or line 2 0 - 48 ≡ 0 + (get_or line 2 0 - 48) = omega arith in
     let vif : get_or line 2 0 - 48 ≡ printed_vif (get_or line 1 0) (get_or line 2 0) =
@@ -46,9 +50,11 @@ first_word-without_tens line long printed space =
 tens_digit-mod_16 : (tens : ℕ) → 49 ≤ tens → tens ≤ 51 → tens - 48 ≡ tens % 16
 tens_digit-mod_16 tens low high = omega (arith, low, high)
 
-first_word-with_tens : (line : List ℕ) → 7 ≤ length line → StartsWithPrintedOif line → (get_or line 1 0 == 32) ≡ false
+first_word-with_tens : (line : List ℕ) → 7 ≤ length line → StartsWithPrintedOif line
+    → (get_or line 1 0 == 32) ≡ false
     → printed_vif (get_or line 1 0) (get_or line 2 0) ≤ 31
-    → FirstWordIsOif line (drop 7 line) (printed_vif (get_or line 1 0) (get_or line 2 0)) (get_or line 4 0 - 48)
+    → FirstWordIsOif line (drop 7 line) (printed_vif (get_or line 1 0) (get_or line 2 0))
+        (get_or line 4 0 - 48)
 first_word-with_tens line long printed other few =
     let tens = get_or line 1 0 in
     let units = get_or line 2 0 in
@@ -71,7 +77,8 @@ first_word-with_tens line long printed other few =
 -- what is printed is read
 pub first_word-printed_oif : (line : List ℕ) → 7 ≤ length line → StartsWithPrintedOif line
     → printed_vif (get_or line 1 0) (get_or line 2 0) ≤ 31
-    → FirstWordIsOif line (drop 7 line) (printed_vif (get_or line 1 0) (get_or line 2 0)) (get_or line 4 0 - 48)
+    → FirstWordIsOif line (drop 7 line) (printed_vif (get_or line 1 0) (get_or line 2 0))
+        (get_or line 4 0 - 48)
 first_word-printed_oif line long printed few =
     elim (cases_Bool (get_or line 1 0 == 32)) [
       | inl space ↦ first_word-without_tens line long printed space
@@ -100,7 +107,8 @@ printed_vif-fits line at printed =
     record { fits = omega (arith, digits.1) }
 
 -- what is printed at a place is read
-pub first_word-printed_oif_at : (line : List ℕ) (at : ℕ) → at + 7 ≤ length line → StartsWithPrintedOif (drop at line)
+pub first_word-printed_oif_at : (line : List ℕ) (at : ℕ) → at + 7 ≤ length line
+    → StartsWithPrintedOif (drop at line)
     → printed_vif (get_or line (at + 1) 0) (get_or line (at + 2) 0) ≤ 31
     → FirstWordIsOif (drop at line) (drop (at + 7) line)
     (printed_vif (get_or line (at + 1) 0) (get_or line (at + 2) 0)) (get_or line (at + 4) 0 - 48)
@@ -147,7 +155,8 @@ first_words-four_oifs line next a b c d of_a of_b of_c of_d up up_b up_c up_d fe
     )
 
 -- outgoing vifs that ascend are added one after another
-pub oifs_after_words-ascending : (oifs : List Oif) (next : ℕ) (words : List (List ℕ)) (more : List Oif) (end : ℕ)
+pub oifs_after_words-ascending : (oifs : List Oif) (next : ℕ) (words : List (List ℕ)) (more : List Oif)
+    (end : ℕ)
     (rest : List (List ℕ)) → DenoteAscendingOifs next words more end
     → list_all (λ other. nat_lt other.vif next) oifs ≡ true
     → (oifs_after_words oifs (words ++ rest) ≡ oifs_after_words (oifs ++ more) rest)
@@ -159,7 +168,8 @@ oifs_after_words-ascending oifs next [] [] end rest ascend lane_below = (
 )
 oifs_after_words-ascending oifs next (word ∷ words) (oif ∷ more) end rest ascend lane_below =
     let step = greater_oif_is_appended oifs oif next word (words ++ rest) ascend.0 lane_below ascend.1 in
-    let others = oifs_after_words-ascending (oifs ++ oif ∷ []) (oif.vif + 1) words more end rest ascend.2 step.1 in
+    let others = oifs_after_words-ascending (oifs ++ oif ∷ [])
+        (oif.vif + 1) words more end rest ascend.2 step.1 in
     let whole = append_assoc oifs (oif ∷ []) more in (
       step.0 ∙ others.0 ∙ ap (λ os. oifs_after_words os rest) whole,
       ap (λ os. list_all (λ other. nat_lt other.vif end) os) (sym whole) ∙ others.1,

@@ -97,7 +97,8 @@ digits_value-fits_32_bits word few e =
 pub parse-hexadecimal : {E : Type 0} (word : List ℕ) (read : Result ℕ E) → 1 ≤ length word → length word ≤ 8
     → list_all is_ascii_hexdigit word ≡ true → ParsesUnsigned 32 16 word read
     → read ≡ Ok (digits_value 16 word)
-parse-hexadecimal word (Ok n) some few e h = ap Ok (h.1 ∙ ap (digits_value 16) (without_leading_plus-hexadecimal word e))
+parse-hexadecimal word (Ok n) some few e h =
+    ap Ok (h.1 ∙ ap (digits_value 16) (without_leading_plus-hexadecimal word e))
 parse-hexadecimal word (Err error) some few e h =
     let numeral : IsNumeral 16 word × (digits_value 16 word < 2 ^ 32) =
     ((some, all_digits-hexadecimal word e), digits_value-fits_32_bits word few e) in

@@ -74,7 +74,8 @@ any_key-unlisted_more listed key row others rows (Some other) own is rest =
     ]
 
 -- a key that isn't listed is among the keys of the rows exactly if it is among those of the others
-pub any_key-unlisted_rows : (listed : Listed) (key : ℕ × ℕ) (rows : List RowValue) → is_listed listed key ≡ false
+pub any_key-unlisted_rows : (listed : Listed) (key : ℕ × ℕ) (rows : List RowValue)
+    → is_listed listed key ≡ false
     → list_any (same_key key) (unlisted_row_keys listed rows)
     ≡ list_any (same_key key) (filter_map key_of rows)
 any_key-unlisted_rows listed key [] is = refl

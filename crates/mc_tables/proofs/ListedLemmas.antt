@@ -27,11 +27,13 @@ same_key-components : (key k : ℕ × ℕ) → same_key key k ≡ ((k.0 == key.0
 same_key-components key k = grind (arith, nat_tests)
 
 -- the set has the keys that are listed
-pub set_has_key-listed_set : (listed : Listed) (key : ℕ × ℕ) → set_has_key (listed_set listed) key ≡ is_listed listed key
+pub set_has_key-listed_set : (listed : Listed) (key : ℕ × ℕ)
+    → set_has_key (listed_set listed) key ≡ is_listed listed key
 set_has_key-listed_set None key = refl
 set_has_key-listed_set (Some keys) key =
     set.contains-from_list key_cmp-total keys key
-    ∙ list_any-same_tests (same_key key) (λ k. (k.0 == key.0) && (k.1 == key.1)) keys (same_key-components key)
+    ∙ list_any-same_tests (same_key key) (λ k. (k.0 == key.0) && (k.1 == key.1)) keys
+        (same_key-components key)
 
 -- so the same rows are kept
 is_key_kept_by_set-listed_set : (listed : Listed) (own : Option (ℕ × ℕ))

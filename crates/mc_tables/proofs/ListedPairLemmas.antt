@@ -66,7 +66,8 @@ pair_of-distinct (n ∷ ns) distinct = (
   pair_of-distinct ns (IsDistinct-tail (eq_by_cmp nat_cmp) n ns distinct),
 )
 
-pub pair_of-increasing_distinct : (ns : List ℕ) → IsStrictlyIncreasing ns → IsDistinct same_key (map pair_of ns)
+pub pair_of-increasing_distinct : (ns : List ℕ) → IsStrictlyIncreasing ns
+    → IsDistinct same_key (map pair_of ns)
 pair_of-increasing_distinct ns up =
     pair_of-distinct ns (IsDistinct-from_sorted nat_cmp ns (sorted_from_strictly_increasing ns up))
 

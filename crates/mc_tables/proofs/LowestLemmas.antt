@@ -1,11 +1,13 @@
 -- The lowest of many pairs, ascending and each once.
-use Rattle.std.proofs.Common.{◌≡◌, ℕ, zero, suc, ◌+◌, ◌<◌, ◌≤◌, Bool, true, false, cond, T, List, [], ◌∷◌, ◌++◌}
+use Rattle.std.proofs.Common.{◌≡◌, ℕ, zero, suc, ◌+◌, ◌<◌, ◌≤◌, Bool, true, false, cond, T, List, [], ◌∷◌}
+use Rattle.std.proofs.Common.{◌++◌}
 use Rattle.std.proofs.Common.{length, take, get_or, map, Option, None, Some, refl, sym, ap, subst, ◌∙◌, arith}
 use Rattle.std.specs.Prelude.{◌&&◌, ◌≢◌}
 use Rattle.std.specs.FinMap as fin
 use Rattle.std.specs.FinMap.Entries.{below_all, by_order, is_sorted, same_entries}
 use Rattle.std.specs.List.{AllByRecursion, Contains, dedup, insert}
-use Rattle.std.specs.List.Sorted.{IsStrictlySortedBy, IsPermutation, IsSorted, IsNonDecreasingBy, IsPartitionPoint}
+use Rattle.std.specs.List.Sorted.{IsStrictlySortedBy, IsPermutation, IsSorted, IsNonDecreasingBy}
+use Rattle.std.specs.List.Sorted.{IsPartitionPoint}
 use Rattle.std.specs.Cmp.{IsEquivalence, tied_itself}
 use Rattle.std.specs.Ordering.{eq_by_cmp, is_le, is_lt, is_some_and, nat_cmp, ordering_index}
 use Rattle.std.specs.Ordering.{ordering_reverse, ordering_then, partial_le, partial_ordering_then}
@@ -53,7 +55,8 @@ key_cmp-greater_than_lesser pair x p above less =
     elim (key_cmp pair x) as (λ r. key_cmp pair x ≡ r → key_cmp pair p ≡ Greater) [
       | Less ↦ λ is. absurd (above is)
       | Equal ↦ λ is. key_cmp-total.congr pair x p is ∙ key_cmp-less_flip p x less
-      | Greater ↦ λ is. key_cmp-less_flip p pair (key_cmp-total.trans p x pair less (key_cmp-greater_flip pair x is))
+      | Greater ↦ λ is. key_cmp-less_flip p pair
+          (key_cmp-total.trans p x pair less (key_cmp-greater_flip pair x is))
     ] refl
 
 -- ---- ascending pairs
@@ -93,7 +96,8 @@ put_pair-ascends pair (p ∷ ps) up =
     → IsStrictlySortedBy key_cmp (put_at r pair p ps (put_pair pair ps))) [
       | Less ↦ λ is. ((is, are_above-lesser pair p ps is up.0), up)
       | Equal ↦ λ is. up
-      | Greater ↦ λ is. (are_above-put_pair p pair ps (key_cmp-greater_flip pair p is) up.0, put_pair-ascends pair ps up.1)
+      | Greater ↦ λ is. (are_above-put_pair p pair ps
+          (key_cmp-greater_flip pair p is) up.0, put_pair-ascends pair ps up.1)
     ] refl
 
 -- the first ones of pairs that ascend do too
@@ -116,7 +120,8 @@ is_sorted-from_strict ps up = λ k d low high.
 
 search_order-from_strict : (ps : List (ℕ × ℕ)) (pair : ℕ × ℕ) → IsStrictlySortedBy key_cmp ps
     → IsNonDecreasingBy (λ p. ordering_index (key_cmp p pair)) ps
-search_order-from_strict ps pair up = searchable_from_sorted key_cmp-total (λ p. p) ps pair (is_sorted-from_strict ps up)
+search_order-from_strict ps pair up =
+    searchable_from_sorted key_cmp-total (λ p. p) ps pair (is_sorted-from_strict ps up)
 
 -- ---- a pair at its place
 
@@ -364,7 +369,8 @@ option-same_some None (Some y) there key_cmp-less_flip = key_cmp-less_flip refl
 option-same_some (Some x) b there key_cmp-less_flip = sym (there refl)
 
 -- a test of equality is an equivalence
-equivalence-from_same_key : (E : ℕ × ℕ → ℕ × ℕ → Bool) → ((x y : ℕ × ℕ) → E x y ≡ same_key x y) → IsEquivalence E
+equivalence-from_same_key : (E : ℕ × ℕ → ℕ × ℕ → Bool) → ((x y : ℕ × ℕ) → E x y ≡ same_key x y)
+    → IsEquivalence E
 equivalence-from_same_key E ties = record {
   refl = λ x. ties x x ∙ same_key-equivalence.refl x;
   symm = λ x y. ties x y ∙ same_key-equivalence.symm x y ∙ sym (ties y x);

@@ -167,8 +167,10 @@ record SpacesThenDigits (digits spaces from last : ℕ) : Type 0 where
   are_digits : (k : ℕ) → first ≤ k → k ≤ last → bit_at digits k ≡ 1
 
 -- a digit before them is one more digit
-spaces_then_digits-digit : (digits spaces from last : ℕ) → from < last → HasNoLastDigitBefore digits spaces last
-    → bit_at digits from ≡ 1 → SpacesThenDigits digits spaces (from + 1) last → SpacesThenDigits digits spaces from last
+spaces_then_digits-digit : (digits spaces from last : ℕ) → from < last
+    → HasNoLastDigitBefore digits spaces last
+    → bit_at digits from ≡ 1 → SpacesThenDigits digits spaces (from + 1) last
+        → SpacesThenDigits digits spaces from last
 spaces_then_digits-digit digits spaces from last below no_end digit split =
     elim (cases_lt (from + 1) split.first) [
       | inl space ↦ absurd (no_end from below digit (split.are_spaces (from + 1) (omega arith) space))
@@ -201,7 +203,8 @@ spaces_then_digits-space digits spaces from last space split =
       are_digits = split.are_digits;
     }
 
-spaces_then_digits-from : (d digits spaces from last : ℕ) → from + d ≡ last → HasNoLastDigitBefore digits spaces last
+spaces_then_digits-from : (d digits spaces from last : ℕ) → from + d ≡ last
+    → HasNoLastDigitBefore digits spaces last
     → AreDigitsOrSpaces digits spaces last → bit_at digits last ≡ 1 → SpacesThenDigits digits spaces from last
 spaces_then_digits-from zero digits spaces from last sum no_end known digit =
     record {
@@ -213,7 +216,8 @@ spaces_then_digits-from zero digits spaces from last sum no_end known digit =
           subst (λ i. bit_at digits i ≡ 1) is digit);
     }
 spaces_then_digits-from (suc d) digits spaces from last sum no_end known digit =
-    let others = spaces_then_digits-from d digits spaces (from + 1) last (omega (arith, sum)) no_end known digit in
+    let others = spaces_then_digits-from d digits spaces (from + 1) last
+        (omega (arith, sum)) no_end known digit in
     let below : from < last = omega (arith, sum) in
     elim (known from below) [
       | inl is_digit ↦ spaces_then_digits-digit digits spaces from last below no_end is_digit others
@@ -225,12 +229,14 @@ min-one : (a b : ℕ) → a < 2 → b < 2 → min a b ≡ 1 → (a ≡ 1) × (b 
 min-one a b few_a few_b is = (omega (arith, few_a, few_b, is), omega (arith, few_a, few_b, is))
 
 -- spaces, digits up to the last one and a space after it begin with a counter
-words_of-counter_after_spaces : (line : List ℕ) (digits spaces n more end : ℕ) → AreMarks is_ascii_digit line digits
+words_of-counter_after_spaces : (line : List ℕ) (digits spaces n more end : ℕ)
+    → AreMarks is_ascii_digit line digits
     → AreMarks (λ b. b == 32) line spaces → n + more ≡ end → 0 < more → more ≤ 20
     → ((k : ℕ) → k < n → bit_at spaces k ≡ 1) → ((k : ℕ) → k < more → bit_at digits (n + k) ≡ 1)
     → bit_at spaces end ≡ 1 → (word : List ℕ)
     × (words_of line ≡ word ∷ words_of (drop end line)) × (is_counter word ≡ true)
-words_of-counter_after_spaces line digits spaces n more end of_digits of_spaces sum some few are_spaces are_digits
+words_of-counter_after_spaces line digits spaces n more end of_digits of_spaces sum some few are_spaces
+    are_digits
     space =
     let found = words_of-marked_counter (drop n line) (digits / 2 ^ n) (spaces / 2 ^ n) more
     (are_marks-drop is_ascii_digit line digits n of_digits)
@@ -249,7 +255,8 @@ words_of-spaces_then_digits : (line : List ℕ) (digits spaces last : ℕ) → A
     → bit_at spaces (last + 1) ≡ 1 → (word : List ℕ)
     × (words_of line ≡ word ∷ words_of (drop (last + 1) line)) × (is_counter word ≡ true)
 words_of-spaces_then_digits line digits spaces last of_digits of_spaces few split space =
-    words_of-counter_after_spaces line digits spaces split.first (last + 1 - split.first) (last + 1) of_digits of_spaces
+    words_of-counter_after_spaces line digits spaces split.first (last + 1 - split.first)
+        (last + 1) of_digits of_spaces
     (omega (arith, split.within)) (omega (arith, split.within)) (omega (arith, few))
     (λ k less. split.are_spaces k (omega arith) less)
     (λ k less. split.are_digits (split.first + k) (omega arith) (omega (arith, less, split.within)))
@@ -322,7 +329,8 @@ pub has_counters-from_marks : (line : List ℕ) (digits spaces ends a b c : ℕ)
     → ((k : ℕ) → k < c → bit_at (ends / 2 ^ (a + 1) / 2 ^ (b + 1)) k ≡ 0)
     → bit_at (ends / 2 ^ (a + 1) / 2 ^ (b + 1)) c ≡ 1 → c < 20
     → HasCounters line (drop (a + 1 + (b + 1) + (c + 1)) line)
-has_counters-from_marks line digits spaces ends a b c of_digits of_spaces are_ends known low_a set_a few_a low_b
+has_counters-from_marks line digits spaces ends a b c of_digits of_spaces are_ends known low_a set_a few_a
+    low_b
     set_b few_b low_c set_c few_c =
     let first = words_of-first_counter line digits spaces ends a of_digits of_spaces are_ends
     (λ k less. known k (omega (arith, less))) low_a set_a few_a in

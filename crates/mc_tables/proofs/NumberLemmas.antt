@@ -10,7 +10,8 @@ use Rattle.std.proofs.lemmas.List.{get_or-set_same}
 use Rattle.std.proofs.lemmas.List.Folds.{list_any_at}
 use Rattle.std.proofs.lemmas.Map.Keys.{IsDistinct-head, IsDistinct-tail}
 use Rattle.mc_tables.specs.CacheTable.{key_cmp, same_key}
-use Rattle.mc_tables.specs.CacheNumbers.{IsNumberInserted, IsPlaceOf, EntryNumbersValue, AddsNumber, numbers_at_places, listed_or_all}
+use Rattle.mc_tables.specs.CacheNumbers.{IsNumberInserted, IsPlaceOf, EntryNumbersValue, AddsNumber}
+use Rattle.mc_tables.specs.CacheNumbers.{numbers_at_places, listed_or_all}
 use Rattle.mc_tables.specs.CacheNumbers.{number_of_key, decoded_number}
 use Rattle.mc_tables.specs.declared.listed_entry_numbers.Inserted.TheVariants.{New}
 use Rattle.std.specs.BTreeMap.{is_at}
@@ -56,7 +57,8 @@ pub same_key-refl : (key : ℕ × ℕ) → same_key key key ≡ true
 same_key-refl key = same_key-equivalence.refl key
 
 -- the number of a key is the one at its place
-pub number_of_key-at_place : (key : ℕ × ℕ) (keys : List (ℕ × ℕ)) (ns : List ℕ) (i : ℕ) → IsDistinct same_key keys
+pub number_of_key-at_place : (key : ℕ × ℕ) (keys : List (ℕ × ℕ)) (ns : List ℕ) (i : ℕ)
+    → IsDistinct same_key keys
     → i < length keys → get_or keys i key ≡ key
     → number_of_key (numbers_at_places keys ns) key ≡ decoded_number (get_or ns i 0)
 number_of_key-at_place key [] ns i distinct lt is = absurd (omega (arith, lt))
@@ -70,7 +72,8 @@ number_of_key-at_place key (k ∷ keys) (zero ∷ ns) (suc i) distinct lt is =
     number_of_key-at_place key keys ns i (IsDistinct-tail same_key k keys distinct) (omega (arith, lt)) is
 number_of_key-at_place key (k ∷ keys) (suc n ∷ ns) (suc i) distinct lt is =
     let apart : same_key k (get_or keys i key) ≡ false =
-    all-get_or (λ y. same_key k y ≡ false) keys i key (IsDistinct-head same_key k keys distinct) (omega (arith, lt)) in
+    all-get_or (λ y. same_key k y ≡ false) keys i key (IsDistinct-head same_key k keys distinct)
+        (omega (arith, lt)) in
     let other : same_key key k ≡ false =
     same_key-equivalence.symm key k ∙ subst (λ x. same_key k x ≡ false) is apart in
     rw (other)
@@ -81,7 +84,8 @@ number_of_key-at_place key (k ∷ keys) (suc n ∷ ns) (suc i) distinct lt is =
 -- the number of another key stays the same
 number_of_key-set_other : (key q : ℕ × ℕ) (keys : List (ℕ × ℕ)) (ns : List ℕ) (i n : ℕ)
     → i < length keys → get_or keys i key ≡ key → same_key q key ≡ false
-    → number_of_key (numbers_at_places keys (slice_set ns i n)) q ≡ number_of_key (numbers_at_places keys ns) q
+    → number_of_key (numbers_at_places keys (slice_set ns i n)) q
+        ≡ number_of_key (numbers_at_places keys ns) q
 number_of_key-set_other key q [] ns i n lt is other = absurd (omega (arith, lt))
 number_of_key-set_other key q (k ∷ keys) [] i n lt is other = refl
 number_of_key-set_other key q (k ∷ keys) (zero ∷ ns) zero zero lt is other = refl
@@ -105,9 +109,11 @@ adds_number-set key keys ns i n distinct place within = λ q.
           ≡ cond (same_key key x) (Some n) (number_of_key (numbers_at_places keys ns) x)) same
           (number_of_key-at_place key keys (slice_set ns i (suc n)) i distinct place.0 place.1
           ∙ ap decoded_number (get_or-set_same ns i (suc n) 0 within)
-          ∙ ap (λ b. cond b (Some n) (number_of_key (numbers_at_places keys ns) key)) (sym (same_key-refl key)))
+          ∙ ap (λ b. cond b (Some n) (number_of_key (numbers_at_places keys ns) key))
+              (sym (same_key-refl key)))
       | inr other ↦
-          number_of_key-set_other key q keys ns i (suc n) place.0 place.1 (same_key-equivalence.symm q key ∙ other)
+          number_of_key-set_other key q keys ns i (suc n) place.0 place.1
+              (same_key-equivalence.symm q key ∙ other)
           ∙ ap (λ b. cond b (Some n) (number_of_key (numbers_at_places keys ns) q)) (sym other)
     ])
 
@@ -123,7 +129,8 @@ pub numbers_at_places-append_zeros : (keys : List (ℕ × ℕ)) (ns : List ℕ) 
 numbers_at_places-append_zeros [] ns n = refl
 numbers_at_places-append_zeros (k ∷ keys) [] n = numbers_at_places-zeros (k ∷ keys) n
 numbers_at_places-append_zeros (k ∷ keys) (zero ∷ ns) n = numbers_at_places-append_zeros keys ns n
-numbers_at_places-append_zeros (k ∷ keys) (suc m ∷ ns) n = ap (λ rest. (k, m) ∷ rest) (numbers_at_places-append_zeros keys ns n)
+numbers_at_places-append_zeros (k ∷ keys) (suc m ∷ ns) n =
+    ap (λ rest. (k, m) ∷ rest) (numbers_at_places-append_zeros keys ns n)
 
 -- ---- places of pairs
 
@@ -151,7 +158,8 @@ numbers_at_places-none (k ∷ keys) = refl
 
 -- the keys with the numbers at their places
 abbrev pub listed_numbers_value : List (ℕ × ℕ) → List ℕ → EntryNumbersValue
-listed_numbers_value keys ns = record { listed = Some (set.from_list keys); numbers = numbers_at_places keys ns }
+listed_numbers_value keys ns =
+    record { listed = Some (set.from_list keys); numbers = numbers_at_places keys ns }
 
 pub number_of_key-here : (keys : List (ℕ × ℕ)) (ns : List ℕ) (key : ℕ × ℕ) (i : ℕ) (s : EntryNumbersValue)
     → listed_numbers_value keys ns ≡ s → IsDistinct same_key keys → IsPlaceOf keys key i
@@ -160,13 +168,15 @@ number_of_key-here keys ns key i s is distinct place =
     ap (λ (t : EntryNumbersValue). number_of_key t.numbers key) (sym is)
     ∙ number_of_key-at_place key keys ns i distinct place.0 place.1
 
-pub set_has_key-listed_place : (keys : List (ℕ × ℕ)) (ns : List ℕ) (key : ℕ × ℕ) (i : ℕ) (s : EntryNumbersValue)
+pub set_has_key-listed_place : (keys : List (ℕ × ℕ)) (ns : List ℕ) (key : ℕ × ℕ) (i : ℕ)
+    (s : EntryNumbersValue)
     → listed_numbers_value keys ns ≡ s → IsPlaceOf keys key i → set_has_key s.listed key ≡ true
 set_has_key-listed_place keys ns key i s is place =
     ap (λ (t : EntryNumbersValue). set_has_key t.listed key) (sym is) ∙ contains-listed_place keys key i place
 
 -- more places change nothing
-pub listed_numbers_value-append_zeros : (keys : List (ℕ × ℕ)) (ns more : List ℕ) (zeros : ℕ) (s : EntryNumbersValue)
+pub listed_numbers_value-append_zeros : (keys : List (ℕ × ℕ)) (ns more : List ℕ) (zeros : ℕ)
+    (s : EntryNumbersValue)
     → more ≡ ns ++ replicate zeros 0 → listed_numbers_value keys ns ≡ s → listed_numbers_value keys more ≡ s
 listed_numbers_value-append_zeros keys ns more zeros s is kept =
     ap (λ (l : List ((ℕ × ℕ) × ℕ)). let t : EntryNumbersValue = record {
@@ -187,14 +197,17 @@ is_some-false None none = refl
 is_some-false (Some x) none = absurd cc
 
 -- a key that has no number gets this one
-pub number_inserted-all_listed : (listed : Option EntryNumbersValue) (all more : List ((ℕ × ℕ) × ℕ)) (key : ℕ × ℕ) (n : ℕ)
+pub number_inserted-all_listed : (listed : Option EntryNumbersValue) (all more : List ((ℕ × ℕ) × ℕ))
+    (key : ℕ × ℕ) (n : ℕ)
     (s : EntryNumbersValue) → listed ≡ None → listed_or_all listed all ≡ s → number_of_key all key ≡ None
     → AddsNumber key n all more → IsNumberInserted key n s (listed_or_all listed more) New
-number_inserted-all_listed (Some keys) all more key n s is kept none listed_numbers_value-append_zeros = absurd cc
+number_inserted-all_listed (Some keys) all more key n s is kept none listed_numbers_value-append_zeros =
+    absurd cc
 number_inserted-all_listed None all more key n s is kept none listed_numbers_value-append_zeros = (
   ap (λ (t : EntryNumbersValue). set_has_key t.listed key) (sym kept),
   ap (λ (t : EntryNumbersValue). number_of_key t.numbers key) (sym kept) ∙ none,
   ap (λ (t : EntryNumbersValue). t.listed) kept,
-  λ q. listed_numbers_value-append_zeros q ∙ ap (λ (t : EntryNumbersValue). cond (is_at (key_cmp key) q) (Some n) (number_of_key t.numbers q))
+  λ q. listed_numbers_value-append_zeros q
+      ∙ ap (λ (t : EntryNumbersValue). cond (is_at (key_cmp key) q) (Some n) (number_of_key t.numbers q))
       kept,
 )

@@ -156,7 +156,8 @@ module _ {S A : Type 0} (first : List ℕ) (read : S → List LineText → Resul
     (step : S → LineText → Result S TableFault) (steps : ReadsInSteps read step) where
   -- one line after a state, of which the first is the header
   lines_after_header-one_line : (ended : ℕ) (state : S) (line : LineText) (lines : List LineText)
-      → cond (eqb ended 0) (lines_after_header first (line ∷ lines) >>= read state) (read state (line ∷ lines))
+      → cond (eqb ended 0) (lines_after_header first (line ∷ lines) >>= read state)
+          (read state (line ∷ lines))
       ≡ (line_after first (step state) state ended line >>= λ new. read new lines)
   lines_after_header-one_line ended state line lines = elim (cases_Bool (eqb ended 0)) [
     | inl none ↦ rw none (lines_after_header-steps read state lines (header_line first line))
@@ -184,7 +185,8 @@ module _ {S A : Type 0} (first : List ℕ) (read : S → List LineText → Resul
       let later = drop (end + 1) rest ++ more in
       ap (λ all. cond (eqb lines.ended 0) (lines_after_header first all >>= read state) (read state all))
       (lines_to_come-first lines rest more end without found)
-      ∙ lines_after_header-one_line lines.ended state (line_begun begun) (lines_to_come (with_ended begun) later)
+      ∙ lines_after_header-one_line lines.ended state (line_begun begun)
+          (lines_to_come (with_ended begun) later)
       ∙ bind-same (line_after first (step state) state lines.ended (line_begun begun))
       (λ new. read new (lines_to_come (with_ended begun) later))
       (λ new. read_after first (read new) (with_ended begun) later)
@@ -230,7 +232,8 @@ lines_to_come-begun lines without some =
     ∙ lines_from-last_line (lines.ended + 1) lines.begun without some
 
 -- and else there is none
-pub lines_to_come-none : (lines : LinesSoFar) → eqb (length lines.begun) 0 ≡ true → lines_to_come lines [] ≡ []
+pub lines_to_come-none : (lines : LinesSoFar) → eqb (length lines.begun) 0 ≡ true
+    → lines_to_come lines [] ≡ []
 lines_to_come-none lines none =
     ap (lines_from (lines.ended + 1)) (append-nil lines.begun ∙ length-zero_test lines.begun none)
 

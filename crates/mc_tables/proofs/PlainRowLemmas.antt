@@ -1,5 +1,6 @@
 -- A line whose words are read from its front.
-use Rattle.std.proofs.Common.{◌≡◌, ℕ, zero, suc, ◌+◌, ◌-◌, ◌*◌, ◌<◌, ◌≤◌, true, false, List, [], ◌∷◌, ◌++◌, length, take}
+use Rattle.std.proofs.Common.{◌≡◌, ℕ, zero, suc, ◌+◌, ◌-◌, ◌*◌, ◌<◌, ◌≤◌, true, false, List, [], ◌∷◌, ◌++◌}
+use Rattle.std.proofs.Common.{length, take}
 use Rattle.std.proofs.Common.{drop, get_or, Option, Some, None, Ok, refl, sym, ap, subst, ◌∙◌, arith}
 use Rattle.std.specs.Prelude.{◌==◌, ◌&&◌, Bool, nat_le, nat_lt, not, position, filter, unwrap_or, IfSome}
 use Rattle.std.specs.List.{list_all, slice_split}
@@ -10,7 +11,8 @@ use Rattle.std.proofs.lemmas.Bool.{leb-true, le-leb, ltb-true, lt-ltb}
 use Rattle.std.proofs.lemmas.List.Splits.{slice_split_at}
 use Rattle.std.proofs.lemmas.List.Sums.{AllPass-from_list_all, list_all-from_AllPass}
 use Rattle.std.proofs.lemmas.List.Quantifiers.{position-Some}
-use Rattle.std.proofs.lemmas.List.{length-drop, take_all, length-take-le, take-append-drop, drop_more, length-append, append_assoc}
+use Rattle.std.proofs.lemmas.List.{length-drop, take_all, length-take-le, take-append-drop, drop_more}
+use Rattle.std.proofs.lemmas.List.{length-append, append_assoc}
 use Rattle.std.proofs.lemmas.List.{get_or-take}
 use Rattle.std.proofs.lemmas.List.Folds.{list_all-append}
 use Rattle.std.proofs.lemmas.List.Elements.{All-from_get_or}
@@ -87,7 +89,8 @@ list_all-digits_before line end e =
     let below : k < end = omega (arith, within, size) in
     rw (get_or-take end line k 0 below) (not-false _ (first.2 k below))))
 
-pub front_digits_are_decimal : (line : List ℕ) (end : ℕ) → position (λ b. not (is_ascii_digit b)) line ≡ Some end
+pub front_digits_are_decimal : (line : List ℕ) (end : ℕ)
+    → position (λ b. not (is_ascii_digit b)) line ≡ Some end
     → (end ≡ 0 → ⊥) → is_decimal_word (take end line) ≡ true
 front_digits_are_decimal line end e some =
     let first = position-Some (λ b. not (is_ascii_digit b)) line end 0 e in
@@ -143,7 +146,8 @@ words_of_without_spaces line start e =
     ∙ sym (words_of-word line from start end e refl refl)
 
 -- a line of spaces has no words
-pub words_of_spaces : (line : List ℕ) → position (λ b. not (b == 32)) line ≡ None → words_of [] ≡ words_of line
+pub words_of_spaces : (line : List ℕ) → position (λ b. not (b == 32)) line ≡ None
+    → words_of [] ≡ words_of line
 words_of_spaces line e = sym (words_of-spaces line e)
 
 -- ---- an address
@@ -163,7 +167,8 @@ no_space-address : (order : Order) (word : List ℕ) (a : ℕ) → address_in or
     → (length word ≡ 8) × HasNoSpace word
 no_space-address order word a e =
     let printed = address_in-denotes order word a e in
-    let digits = decoded_word_has_eight_digits word (printed_octets order a) (length-printed_octets order a) printed.1 in (
+    let digits = decoded_word_has_eight_digits word (printed_octets order a)
+        (length-printed_octets order a) printed.1 in (
       digits.0,
       no_space-from_test is_hex_digit word refl
           (All-from_get_or (λ c. is_hex_digit c ≡ true) word 0 (λ k within.
@@ -251,13 +256,15 @@ words_of-one_digit_oif vif threshold after of_vif of_threshold =
     (number_in-one_digit 0 31 vif of_vif (omega arith) (omega (arith, top)))
     (number_in-one_digit 1 254 threshold digit (omega (arith, low)) (omega (arith, high)))
 
-pub one_digit_oif_is_first_word : (line : List ℕ) → 7 ≤ length line → get_or line 0 0 ≡ 32 → get_or line 1 0 ≡ 32
+pub one_digit_oif_is_first_word : (line : List ℕ) → 7 ≤ length line → get_or line 0 0 ≡ 32
+    → get_or line 1 0 ≡ 32
     → is_ascii_digit (get_or line 2 0) ≡ true → get_or line 3 0 ≡ 58
     → (nat_le 49 (get_or line 4 0) && nat_le (get_or line 4 0) 57) ≡ true → get_or line 5 0 ≡ 32
     → get_or line 6 0 ≡ 32 → (word : List ℕ)
     × (words_of line ≡ word ∷ words_of (take (length line - 7) (drop 7 line)))
     × (oif_in word ≡ Ok (get_or line 2 0 - 48, get_or line 4 0 - 48))
-one_digit_oif_is_first_word (s ∷ t ∷ a ∷ b ∷ c ∷ d ∷ e ∷ rest) long first second of_vif colon of_threshold third last =
+one_digit_oif_is_first_word
+    (s ∷ t ∷ a ∷ b ∷ c ∷ d ∷ e ∷ rest) long first second of_vif colon of_threshold third last =
     let found = words_of-one_digit_oif a c (32 ∷ rest) of_vif of_threshold in (
       found.0,
       ap (λ x. words_of (x ∷ t ∷ a ∷ b ∷ c ∷ d ∷ e ∷ rest)) first
@@ -300,7 +307,8 @@ pub two_digit_oif_is_first_word : (line : List ℕ) → 7 ≤ length line → ge
     → get_or line 6 0 ≡ 32 → (word : List ℕ)
     × (words_of line ≡ word ∷ words_of (take (length line - 7) (drop 7 line)))
     × (oif_in word ≡ Ok ((get_or line 1 0 - 48) * 10 + (get_or line 2 0 - 48), get_or line 4 0 - 48))
-two_digit_oif_is_first_word (s ∷ a ∷ b ∷ c ∷ d ∷ e ∷ f ∷ rest) long first tens units top colon of_threshold third last =
+two_digit_oif_is_first_word
+    (s ∷ a ∷ b ∷ c ∷ d ∷ e ∷ f ∷ rest) long first tens units top colon of_threshold third last =
     let t = and_parts (nat_le 49 d) (nat_le d 57) of_threshold in
     let low = leb-true 49 d t.0 in
     let high = leb-true d 57 t.1 in
@@ -393,7 +401,8 @@ greater_oif_is_appended oifs oif next word words is below up =
 -- ---- a row
 
 -- decimal digits aren't `-1`
-bytes_eq-decimal_is_not_unresolved : (word : List ℕ) → is_decimal_word word ≡ true → bytes_eq word (codes "-1") ≡ false
+bytes_eq-decimal_is_not_unresolved : (word : List ℕ) → is_decimal_word word ≡ true
+    → bytes_eq word (codes "-1") ≡ false
 bytes_eq-decimal_is_not_unresolved [] e = absurd cc
 bytes_eq-decimal_is_not_unresolved (c ∷ word) e =
     let p = and_parts (nat_le 1 (length (c ∷ word))) _ e in
@@ -405,7 +414,8 @@ bytes_eq-decimal_is_not_unresolved (c ∷ word) e =
 -- so they are an incoming vif
 pub incoming_in-decimal : (word : List ℕ) (i : ℕ) → is_decimal_word word ≡ true → number_in 0 31 word ≡ Some i
     → incoming_in word ≡ Ok (Some i)
-incoming_in-decimal word i digits e = rw (bytes_eq-decimal_is_not_unresolved word digits) (ap incoming_number e)
+incoming_in-decimal word i digits e =
+    rw (bytes_eq-decimal_is_not_unresolved word digits) (ap incoming_number e)
 
 -- the row of six words that are read, and of the outgoing vifs after them
 pub row_in_words-front : (order : Order) (words after : List (List ℕ)) (group origin iif a b c : List ℕ)

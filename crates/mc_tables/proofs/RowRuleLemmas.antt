@@ -45,7 +45,8 @@ insert-keeps_valid_cache entries source group entry apart valid all none = (
         | false ↦ all key
       ]),
   λ other. fin.get-insert key_cmp-total entries (source, group) entry (0, other)
-      ∙ ap (λ b. cond b (Some entry) (fin.get entries (0, other))) (same_key-zero_source other source group apart)
+      ∙ ap (λ b. cond b (Some entry) (fin.get entries (0, other)))
+          (same_key-zero_source other source group apart)
       ∙ none other,
 )
 
@@ -64,7 +65,8 @@ exact_entry-keeps_valid_cache table source group true entry numbered wildcards i
 exact_entry-keeps_valid_cache table source group false None numbered wildcards is valid rules =
     record { entries = rules.entries; sources = rules.sources }
 exact_entry-keeps_valid_cache table source group false (Some entry) numbered wildcards is valid rules =
-    let kept = insert-keeps_valid_cache table.entries source group entry is valid rules.entries rules.sources in
+    let kept = insert-keeps_valid_cache table.entries source group entry is valid rules.entries rules.sources
+        in
     record { entries = kept.0; sources = kept.1 }
 
 -- a valid table stays valid when a row is added
@@ -78,7 +80,8 @@ row_added-keeps_valid_cache table new row is valid rules =
     } in
     let demanded = demand-bind_ok (not (has_key table.entries (exact_entry row))) RepeatedEntry
     (λ _. Ok grown) new is in
-    let keeps : IsValidCache grown = exact_entry-keeps_valid_cache table row.origin row.group (eqb row.origin 0) row.entry
+    let keeps : IsValidCache grown =
+        exact_entry-keeps_valid_cache table row.origin row.group (eqb row.origin 0) row.entry
     grown.numbered grown.wildcards refl valid rules in
     subst IsValidCache (ok_injective {E = TableFaultKind} grown new demanded.1) keeps
 
@@ -106,7 +109,8 @@ any_row_added-keeps_valid_cache listed rows new row line is valid rules =
     ]
 
 -- and when the row of a line is
-pub line_added_keeps_valid_cache : (so_far new : ListedRowsSoFar) (line : LineText) → line_added so_far line ≡ Ok new
+pub line_added_keeps_valid_cache : (so_far new : ListedRowsSoFar) (line : LineText)
+    → line_added so_far line ≡ Ok new
     → IsValidCache so_far.rows.table → IsValidCache new.rows.table
 line_added_keeps_valid_cache so_far new line is rules =
     let both = bind_ok (row_with_room so_far.order so_far.rows.count line)

@@ -15,7 +15,8 @@ use Rattle.mc_tables.specs.TableWords.{number_in}
 use Rattle.mc_tables.specs.CacheReading.{oif_in_parts, oif_in, row_in_words}
 use Rattle.mc_tables.specs.OutgoingSteps.{threshold_in, oif_in_turn}
 use Rattle.mc_tables.proofs.WordLemmas.{number_in-denotes}
-use Rattle.mc_tables.proofs.ColonLemmas.{slice_split-none, slice_split-some, is_some-none_from, is_some-some_from}
+use Rattle.mc_tables.proofs.ColonLemmas.{slice_split-none, slice_split-some, is_some-none_from}
+use Rattle.mc_tables.proofs.ColonLemmas.{is_some-some_from}
 use Rattle.mc_tables.proofs.OifLemmas.{all_digits-no_colon}
 
 -- a word without a colon is no outgoing vif

@@ -35,8 +35,10 @@ use Rattle.mc_tables.proofs.CacheStepLemmas.{row_added-table_of}
 use Rattle.mc_tables.proofs.ListedLemmas.{is_kept_by_set-listed_set}
 use Rattle.mc_tables.proofs.UnlistedRowLemmas.{first_repeat-none, AreBefore, are_before-next, are_before-push}
 use Rattle.mc_tables.proofs.UnlistedRowLemmas.{first_repeat-stays, first_repeat-begins}
-use Rattle.mc_tables.proofs.PieceLemmas.{read_after-no_header, read_after-end_in_line, read_after-end_after_line}
-use Rattle.mc_tables.proofs.KeptRowLemmas.{is_among-kept_rows, any_key-unlisted_rows, key_of-unlisted_row, unlisted_row_keys}
+use Rattle.mc_tables.proofs.PieceLemmas.{read_after-no_header, read_after-end_in_line}
+use Rattle.mc_tables.proofs.PieceLemmas.{read_after-end_after_line}
+use Rattle.mc_tables.proofs.KeptRowLemmas.{is_among-kept_rows, any_key-unlisted_rows, key_of-unlisted_row}
+use Rattle.mc_tables.proofs.KeptRowLemmas.{unlisted_row_keys}
 
 -- ---- row by row
 
@@ -67,7 +69,8 @@ filter_map_key_of-push rows row key is =
     ∙ ap (λ k. filter_map key_of rows ++ cons_option k []) is
 
 -- one more row that is kept isn't among the others
-unlisted_row_keys-push_kept : (listed : Listed) (rows : List RowValue) (row : RowValue) → is_kept listed row ≡ true
+unlisted_row_keys-push_kept : (listed : Listed) (rows : List RowValue) (row : RowValue)
+    → is_kept listed row ≡ true
     → unlisted_row_keys listed (rows ++ row ∷ []) ≡ unlisted_row_keys listed rows
 unlisted_row_keys-push_kept listed rows row is =
     ap (filter_map key_of) (filter-push_failing (λ r. not (is_kept listed r)) rows row (ap not is))
@@ -145,7 +148,8 @@ line_added-grows_unlisted so_far new line added =
           inr (
             key,
             ap (λ (r : RowsSoFar). r.others)
-                (sym is ∙ sym (ok_injective {E = TableFaultKind} (unlisted_added rows key line.number) one.0 grown)),
+                (sym is ∙ sym (ok_injective {E = TableFaultKind}
+                    (unlisted_added rows key line.number) one.0 grown)),
           )
     ]
 
@@ -161,7 +165,8 @@ first_repeat-kept others new line first grew before is =
     ]
 
 -- if one of the others is a repeat, the first one is the fault, whatever lines follow
-table_from-repeat_fault : (so_far : ListedRowsSoFar) (lines : List LineText) (n first : ℕ) → AreNumberedFrom n lines
+table_from-repeat_fault : (so_far : ListedRowsSoFar) (lines : List LineText) (n first : ℕ)
+    → AreNumberedFrom n lines
     → AreBefore so_far.rows.others n → first_repeat so_far.rows.others ≡ Some first
     → table_from so_far lines ≡ Err (record { line = first; kind = RepeatedEntry })
 table_from-repeat_fault so_far [] n first numbered before is = rw is refl
@@ -222,7 +227,8 @@ module _ (order : Order) (listed : Listed) (lines : List LineText) (n : ℕ) (ro
       ap (λ b. cond b (kept_added so_far.rows row)
       (Ok (unlisted_added so_far.rows (row.origin, row.group) n)) >>= λ r. Ok (make r))
       (is_kept_by_set-listed_set listed row ∙ kept)
-      ∙ ap (λ r. (r >>= λ t. Ok (with t)) >>= λ r. Ok (make r)) (row_added-table_of (kept_rows listed rows) row)
+      ∙ ap (λ r. (r >>= λ t. Ok (with t)) >>= λ r. Ok (make r))
+          (row_added-table_of (kept_rows listed rows) row)
       ∙ ap (λ b. ((demand (not b) RepeatedEntry
       >>= λ _. Ok (table_of (kept_rows listed rows ++ row ∷ []))) >>= λ t. Ok (with t))
       >>= λ r. Ok (make r)) repeats
@@ -284,7 +290,8 @@ module _ (order : Order) (listed : Listed) (lines : List LineText) (n : ℕ) (ro
       ≡ ((at_line n (demand (not b) RepeatedEntry >>= λ _. Ok row)
       >>= λ row. rows_after (row_at_line order) (rows ++ row ∷ []) lines)
       >>= λ all. Ok (table_of (kept_rows listed all)))) [
-        | true ↦ λ is. table_from-repeat_fault (rows_so_far_of order listed (rows ++ row ∷ []) new) lines (n + 1) n
+        | true ↦ λ is. table_from-repeat_fault (rows_so_far_of order listed (rows ++ row ∷ []) new) lines
+            (n + 1) n
             numbered (are_before-push others key n before) is
         | false ↦ λ is. rest new
             (map-append (λ (r : UnlistedRow). r.0) others ((key, n) ∷ [])
@@ -352,7 +359,8 @@ pub table_reads_in_steps : ReadsInSteps table_from row_step
 table_reads_in_steps = record { line = λ so_far line lines. refl }
 
 -- the lines after the header are read from no rows on
-lines_after_header-table_from : (order : Order) (listed : Listed) (lines : List LineText) → AreNumberedFrom 1 lines
+lines_after_header-table_from : (order : Order) (listed : Listed) (lines : List LineText)
+    → AreNumberedFrom 1 lines
     → (lines_after_header (codes "Group") lines >>= table_from (rows_start order (listed_set listed)))
     ≡ ((lines_after_header (codes "Group") lines >>= rows_after (row_at_line order) [])
     >>= λ all. Ok (table_of (kept_rows listed all)))
@@ -371,7 +379,8 @@ pub cache_if-start : (order : Order) (listed : Listed) (text : List ℕ) → len
     → cache_if (cache_start order listed) text ≡ listed_in order listed text
 cache_if-start order listed text within =
     let fits : nat_lt 16777216 (length text) ≡ false = le-ltb 16777216 (length text) within in
-    lines_after_header-table_from order listed (lines_of text) (numbered-from 1 (slice_split (λ b. eqb b 10) text))
+    lines_after_header-table_from order listed (lines_of text)
+        (numbered-from 1 (slice_split (λ b. eqb b 10) text))
     ∙ ap (λ b. (cond b (Err (record { line = 0; kind = TooLarge }))
     (lines_after_header (codes "Group") (lines_of text)) >>= rows_after (row_at_line order) [])
     >>= λ all. Ok (table_of (kept_rows listed all))) (sym fits)
@@ -400,7 +409,8 @@ cache_after-end lines so_far without =
             ])
         | inr begun ↦ read_after-end_in_line (codes "Group") read lines without later begun
             ∙ rw (later, begun) (elim (first_repeat so_far.rows.others) as (λ o.
-            ((repeat_fault o >>= λ _. unended_fault {A = ListedRowsSoFar} lines) >>= λ more. table_from more [])
+            ((repeat_fault o >>= λ _. unended_fault {A = ListedRowsSoFar} lines) >>= λ more. table_from more
+                [])
             ≡ ((repeat_fault o >>= λ _. unended_fault {A = Unit {0}} lines)
             >>= λ _. Ok so_far.rows.table)) [
               | None ↦ refl

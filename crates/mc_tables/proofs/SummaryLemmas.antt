@@ -32,12 +32,16 @@ use Rattle.mc_tables.specs.RowsSoFar.{ListedRowsSoFar, RowsSoFar, cache_after, f
 use Rattle.mc_tables.specs.RowsSoFar.{row_added_so_far, any_row_added, row_step, rows_end, table_from}
 use Rattle.mc_tables.specs.Summary.{every_source_entry, group_first, in_order, keys_for_every_source}
 use Rattle.mc_tables.specs.Summary.{summary_of, shown_pairs, unresolved_key}
-use Rattle.mc_tables.specs.SummarySoFar.{KeptPairs, SummarySoFar, summary_with_every_source, summary_with_exact, summary_with_line}
-use Rattle.mc_tables.specs.SummarySoFar.{with_entry_if_new, empty_summary, summary_of_lines, with_pair, summary_with_read}
+use Rattle.mc_tables.specs.SummarySoFar.{KeptPairs, SummarySoFar, summary_with_every_source}
+use Rattle.mc_tables.specs.SummarySoFar.{summary_with_exact, summary_with_line}
+use Rattle.mc_tables.specs.SummarySoFar.{with_entry_if_new, empty_summary, summary_of_lines, with_pair}
+use Rattle.mc_tables.specs.SummarySoFar.{summary_with_read}
 use Rattle.mc_tables.specs.SummarySoFar.{summary_with_row, finished_summary}
 use Rattle.mc_tables.specs.SummarySoFar.{summary_with_unresolved, with_first_entry}
-use Rattle.mc_tables.specs.SummaryReading.{SummarizedRowsSoFar, summary_start, summary_rows_start, summary_after}
-use Rattle.mc_tables.specs.SummaryReading.{summary_from, summary_if, summary_in, summary_step, table_without_summary}
+use Rattle.mc_tables.specs.SummaryReading.{SummarizedRowsSoFar, summary_start, summary_rows_start}
+use Rattle.mc_tables.specs.SummaryReading.{summary_after}
+use Rattle.mc_tables.specs.SummaryReading.{summary_from, summary_if, summary_in, summary_step}
+use Rattle.mc_tables.specs.SummaryReading.{table_without_summary}
 use Rattle.mc_text.proofs.StepLemmas.{bind_ok, ok_injective}
 use Rattle.mc_tables.proofs.StepLemmas.{at_line-ok, demand-bind_ok}
 use Rattle.mc_tables.proofs.CacheLemmas.{key_cmp-total}
@@ -48,7 +52,8 @@ use Rattle.mc_tables.proofs.LowestLemmas.{shown_pairs-none, shown_pairs-push}
 use Rattle.mc_tables.proofs.NumberLemmas.{is_some-false}
 use Rattle.mc_tables.proofs.UnlistedRowLemmas.{same_key-equal}
 use Rattle.mc_tables.proofs.PieceLemmas.{lines_to_come-none}
-use Rattle.mc_tables.proofs.RowsSoFarLemmas.{cache_after-end, filter-push_passing, filter-push_failing, cache_if-start}
+use Rattle.mc_tables.proofs.RowsSoFarLemmas.{cache_after-end, filter-push_passing, filter-push_failing}
+use Rattle.mc_tables.proofs.RowsSoFarLemmas.{cache_if-start}
 
 -- ---- line by line
 
@@ -258,23 +263,27 @@ module _ (all : Bool) (listed unresolved : List (ℕ × ℕ)) (exacts : List ((�
     (keys : List (ℕ × ℕ)) (summary : SummarySoFar)
     (before : IsSummaryOfKeys all listed unresolved exacts keys summary) where
   set_has_key-listed : (key : ℕ × ℕ) → set_has_key summary.listed key ≡ is_listed (Some listed) key
-  set_has_key-listed key = ap (λ l. set_has_key l key) before.listed_is ∙ set_has_key-listed_set (Some listed) key
+  set_has_key-listed key =
+      ap (λ l. set_has_key l key) before.listed_is ∙ set_has_key-listed_set (Some listed) key
 
   -- one more row that may be unresolved
   is_summary-unresolved_more : (own : Option (ℕ × ℕ))
-      → IsSummaryOfKeys all listed (unresolved ++ cons_option own []) exacts keys (summary_with_unresolved summary own)
+      → IsSummaryOfKeys all listed (unresolved ++ cons_option own []) exacts keys
+          (summary_with_unresolved summary own)
   is_summary-unresolved_more None = rw append-nil before
   is_summary-unresolved_more (Some key) = record {
     listed_is = before.listed_is;
     first_listed = before.first_listed;
     unresolved_is = elim (cases_Bool (is_listed (Some listed) key)) [
       | inl is ↦
-          ap (λ b. cond b (set.insert summary.unresolved key) summary.unresolved) (set_has_key-listed key ∙ is)
+          ap (λ b. cond b (set.insert summary.unresolved key) summary.unresolved)
+              (set_has_key-listed key ∙ is)
           ∙ ap (λ s. set.insert s key) before.unresolved_is
           ∙ sym (set.from_list_push key_cmp-total key_cmp-antisymmetric (ListedOf listed unresolved) key)
           ∙ ap (λ l. set.from_list l) (sym (filter-push_passing (is_listed (Some listed)) unresolved key is))
       | inr other ↦
-          ap (λ b. cond b (set.insert summary.unresolved key) summary.unresolved) (set_has_key-listed key ∙ other)
+          ap (λ b. cond b (set.insert summary.unresolved key) summary.unresolved)
+              (set_has_key-listed key ∙ other)
           ∙ before.unresolved_is
           ∙ ap (λ l. set.from_list l)
           (sym (filter-push_failing (is_listed (Some listed)) unresolved key other))
@@ -286,7 +295,8 @@ module _ (all : Bool) (listed unresolved : List (ℕ × ℕ)) (exacts : List ((�
 
   -- one more row that may be for every source
   is_summary-every_source_more : (own : Option ((ℕ × ℕ) × EntryValue))
-      → IsSummaryOfKeys all listed unresolved (exacts ++ cons_option own []) keys (summary_with_every_source summary own)
+      → IsSummaryOfKeys all listed unresolved (exacts ++ cons_option own []) keys
+          (summary_with_every_source summary own)
   is_summary-every_source_more None = rw append-nil before
   is_summary-every_source_more (Some exact) =
       let groups = keys_for_every_source listed in
@@ -342,7 +352,8 @@ module _ (all : Bool) (listed unresolved : List (ℕ × ℕ)) (exacts : List ((�
 
   -- one more row that may be for one source
   is_summary-key_more : (own : Option (ℕ × ℕ))
-      → IsSummaryOfKeys all listed unresolved exacts (keys ++ cons_option own []) (summary_with_exact summary own)
+      → IsSummaryOfKeys all listed unresolved exacts (keys ++ cons_option own [])
+          (summary_with_exact summary own)
   is_summary-key_more None = rw append-nil before
   is_summary-key_more (Some key) =
       let passes : ℕ × ℕ → Bool = λ k. not (is_listed (Some listed) k) in
@@ -370,7 +381,8 @@ module _ (all : Bool) (listed unresolved : List (ℕ × ℕ)) (exacts : List ((�
                   ∙ ap length (sym (filter-push_passing passes keys key (ap not other)));
               lowest_is = ap (with_pair (group_first key)) before.lowest_is
                   ∙ ap (kept_pairs_of all)
-                  (sym (shown_pairs-push all (map_list group_first (UnlistedOf listed keys)) (group_first key)))
+                  (sym (shown_pairs-push all (map_list group_first (UnlistedOf listed keys))
+                      (group_first key)))
                   ∙ ap (λ l. kept_pairs_of all (shown_pairs all (in_order l)))
                   (sym (map-append group_first (UnlistedOf listed keys) (key ∷ [])))
                   ∙ ap (λ l. kept_pairs_of all (shown_pairs all (in_order (map_list group_first l))))
@@ -385,8 +397,10 @@ IsSummaryOfRows all listed rows summary =
     (filter_map key_of rows) summary
 
 -- with one more row
-is_summary-row_more : (all : Bool) (listed : List (ℕ × ℕ)) (rows : List RowValue) (row : RowValue) (summary : SummarySoFar)
-    → IsSummaryOfRows all listed rows summary → IsSummaryOfRows all listed (rows ++ row ∷ []) (summary_with_row summary row)
+is_summary-row_more : (all : Bool) (listed : List (ℕ × ℕ)) (rows : List RowValue) (row : RowValue)
+    (summary : SummarySoFar)
+    → IsSummaryOfRows all listed rows summary
+        → IsSummaryOfRows all listed (rows ++ row ∷ []) (summary_with_row summary row)
 is_summary-row_more all listed rows row summary before =
     let us = filter_map unresolved_key rows in
     let es = filter_map every_source_entry rows in
@@ -394,7 +408,8 @@ is_summary-row_more all listed rows row summary before =
     let u = unresolved_key row in
     let e = every_source_entry row in
     let first = is_summary-unresolved_more all listed us es ks summary before u in
-    let second = is_summary-every_source_more all listed (us ++ cons_option u []) es ks (summary_with_unresolved summary u) first e in
+    let second = is_summary-every_source_more all listed (us ++ cons_option u []) es ks
+        (summary_with_unresolved summary u) first e in
     let third = is_summary-key_more all listed (us ++ cons_option u []) (es ++ cons_option e []) ks
     (summary_with_every_source (summary_with_unresolved summary u) e) second (key_of row) in
     rw (
@@ -404,7 +419,8 @@ is_summary-row_more all listed rows row summary before =
     ) third
 
 -- the summary of no rows
-is_summary-none : (all : Bool) (listed : List (ℕ × ℕ)) → IsSummaryOfRows all listed [] (empty_summary all listed)
+is_summary-none : (all : Bool) (listed : List (ℕ × ℕ))
+    → IsSummaryOfRows all listed [] (empty_summary all listed)
 is_summary-none all listed = record {
   listed_is = refl;
   first_listed = refl;
@@ -415,7 +431,8 @@ is_summary-none all listed = record {
 }
 
 -- the summary when all rows have been read
-finished_summary-of_rows : (all : Bool) (listed : List (ℕ × ℕ)) (rows : List RowValue) (summary : SummarySoFar)
+finished_summary-of_rows : (all : Bool) (listed : List (ℕ × ℕ)) (rows : List RowValue)
+    (summary : SummarySoFar)
     → IsSummaryOfRows all listed rows summary → finished_summary summary ≡ summary_of all listed rows
 finished_summary-of_rows all listed rows summary summarizes =
     rw (summarizes.unresolved_is, summarizes.first_is, summarizes.unlisted_is, summarizes.lowest_is) refl
@@ -453,7 +470,8 @@ is_summary-lines all order listed (line ∷ lines) earlier rows summary summariz
     (λ row. rows_after (row_at_line order) (earlier ++ row ∷ []) lines) rows is in
     let row = read.0 in
     let words : row_in_words order (words_of line.bytes) ≡ Ok row =
-    row_in_line-words order earlier line row (at_line-ok line.number (row_in_line order earlier line) row read.1) in
+    row_in_line-words order earlier line row
+        (at_line-ok line.number (row_in_line order earlier line) row read.1) in
     let summarized : summary_with_line order summary line ≡ summary_with_row summary row =
     ap (summary_with_read summary) words in
     is_summary-lines all order listed lines (earlier ++ row ∷ []) rows (summary_with_line order summary line)
@@ -477,7 +495,8 @@ summary_if-start all order listed text within =
     let start = summary_rows_start all order listed in
     let left = drop 1 (lines_of text) in
     summary_after-cache_after lines_start start text
-    ∙ ap (λ r. r >>= with_summary order (empty_summary all listed) left) (cache_if-start order (Some listed) text within)
+    ∙ ap (λ r. r >>= with_summary order (empty_summary all listed) left)
+        (cache_if-start order (Some listed) text within)
     ∙ elim (cache_rows_in order text) as (λ r. cache_rows_in order text ≡ r
     → ((r >>= λ rows. Ok (table_of (kept_rows (Some listed) rows)))
     >>= with_summary order (empty_summary all listed) left)
@@ -487,12 +506,16 @@ summary_if-start all order listed text within =
     }))) [
       | Err fault ↦ λ is. refl
       | Ok rows ↦ λ is.
-          let read = bind_ok (lines_after_header (codes "Group") (lines_of text)) (rows_after (row_at_line order) [])
+          let read = bind_ok (lines_after_header (codes "Group") (lines_of text))
+              (rows_after (row_at_line order) [])
           rows (rw fits at is) in
-          let summarizes = is_summary-lines all order listed left [] rows (empty_summary all listed) (is_summary-none all listed)
-          (ap (rows_after (row_at_line order) []) (lines_after_header-drop (lines_of text) read.0 read.1) ∙ read.2) in
+          let summarizes = is_summary-lines all order listed left [] rows (empty_summary all listed)
+              (is_summary-none all listed)
+          (ap (rows_after (row_at_line order) []) (lines_after_header-drop (lines_of text) read.0 read.1)
+              ∙ read.2) in
           ap (λ n. Ok (record { table = table_of (kept_rows (Some listed) rows); summary = n }))
-          (finished_summary-of_rows all listed rows (summary_of_lines order (empty_summary all listed) left) summarizes)
+          (finished_summary-of_rows all listed rows
+              (summary_of_lines order (empty_summary all listed) left) summarizes)
     ] refl
 
 -- ---- what a summary says of the rows
@@ -518,7 +541,8 @@ and-false true = refl
 and-false false = refl
 
 -- a listed key is not the same as one that isn't listed
-is_listed-unlisted_key : (listed : List (ℕ × ℕ)) (key k : ℕ × ℕ) (b : Bool) → is_listed (Some listed) k ≡ false
+is_listed-unlisted_key : (listed : List (ℕ × ℕ)) (key k : ℕ × ℕ) (b : Bool)
+    → is_listed (Some listed) k ≡ false
     → (is_listed (Some listed) key && b) ≡ (is_listed (Some listed) key && (same_key key k || b))
 is_listed-unlisted_key listed key k b other =
     elim (cases_Bool (same_key key k)) [

@@ -7,14 +7,17 @@ use Rattle.std.specs.Option.{option_map}
 use Rattle.mc_text.specs.declared.text.addr.Order.{Order}
 use Rattle.mc_text.specs.Lines.{LineText, words_of}
 use Rattle.mc_tables.specs.declared.fault.TableFaultKind.{TableFaultKind}
-use Rattle.mc_tables.specs.CacheTable.{EntryValue, IsValidCache, IsValidEntry, RowValue, key_cmp, key_of, same_key}
+use Rattle.mc_tables.specs.CacheTable.{EntryValue, IsValidCache, IsValidEntry, RowValue, key_cmp, key_of}
+use Rattle.mc_tables.specs.CacheTable.{same_key}
 use Rattle.mc_tables.specs.CacheNumbers.{KeptRowsValue}
 use Rattle.mc_tables.specs.CacheReading.{row_in_words}
 use Rattle.mc_tables.specs.ListedRows.{set_has_key}
 use Rattle.mc_tables.specs.RowsSoFar.{ListedRowsSoFar, line_added}
 use Rattle.mc_tables.specs.Summary.{HasValidEntries, every_source_entry, unresolved_key}
-use Rattle.mc_tables.specs.SummarySoFar.{SummarySoFar, summary_with_every_source, summary_with_exact, with_entry_if_new}
-use Rattle.mc_tables.specs.SummarySoFar.{summary_with_line, empty_summary, summary_with_read, summary_with_row, finished_summary}
+use Rattle.mc_tables.specs.SummarySoFar.{SummarySoFar, summary_with_every_source, summary_with_exact}
+use Rattle.mc_tables.specs.SummarySoFar.{with_entry_if_new}
+use Rattle.mc_tables.specs.SummarySoFar.{summary_with_line, empty_summary, summary_with_read}
+use Rattle.mc_tables.specs.SummarySoFar.{summary_with_row, finished_summary}
 use Rattle.mc_tables.specs.SummarySoFar.{summary_with_unlisted, summary_with_unresolved, with_first_entry}
 use Rattle.mc_tables.proofs.CacheLemmas.{key_cmp-total, row_in_words-denotes}
 use Rattle.mc_tables.proofs.EntryLemmas.{row_entry-is_valid}
@@ -67,11 +70,14 @@ summary_with_exact-first summary (Some key) =
     ]
 
 -- with one more row
-summary_with_row-keeps_valid : (summary : SummarySoFar) (row : RowValue) → IfSome row.entry IsValidEntry → HasValidFirstEntries summary.first
+summary_with_row-keeps_valid : (summary : SummarySoFar) (row : RowValue) → IfSome row.entry IsValidEntry
+    → HasValidFirstEntries summary.first
     → HasValidFirstEntries (summary_with_row summary row).first
 summary_with_row-keeps_valid summary row valid all =
     let seen = summary_with_unresolved summary (unresolved_key row) in
-    subst HasValidFirstEntries (sym (summary_with_exact-first (summary_with_every_source seen (every_source_entry row)) (key_of row)))
+    subst HasValidFirstEntries
+        (sym (summary_with_exact-first (summary_with_every_source seen (every_source_entry row))
+        (key_of row)))
     (first_entries-every_source seen row (eqb row.origin 0) row.entry valid
     (subst HasValidFirstEntries (sym (summary_with_unresolved-first summary (unresolved_key row))) all))
 
@@ -81,10 +87,12 @@ summary_with_read-keeps_valid : (order : Order) (words : List (List ℕ)) (summa
     → HasValidFirstEntries summary.first → HasValidFirstEntries (summary_with_read summary read).first
 summary_with_read-keeps_valid order words summary (Err kind) is all = all
 summary_with_read-keeps_valid order words summary (Ok row) is all =
-    summary_with_row-keeps_valid summary row (row_entry-is_valid order words row (row_in_words-denotes order words row is)) all
+    summary_with_row-keeps_valid summary row
+        (row_entry-is_valid order words row (row_in_words-denotes order words row is)) all
 
 -- the table and the summary stay valid when the row of a line is added
-pub summary_with_line-keeps_valid : (so_far new : ListedRowsSoFar) (summary more : SummarySoFar) (line : LineText)
+pub summary_with_line-keeps_valid : (so_far new : ListedRowsSoFar) (summary more : SummarySoFar)
+    (line : LineText)
     → line_added so_far line ≡ Ok new → more ≡ summary_with_line so_far.order summary line
     → IsValidCache so_far.rows.table × HasValidEntries (finished_summary summary)
     → IsValidCache new.rows.table × HasValidEntries (finished_summary more)
@@ -96,6 +104,7 @@ summary_with_line-keeps_valid so_far new summary more line added summarized vali
 )
 
 -- the summary of no rows is valid
-pub empty_summary-is_valid : (all : Bool) (listed : List (ℕ × ℕ)) → HasValidEntries (finished_summary (empty_summary all listed))
+pub empty_summary-is_valid : (all : Bool) (listed : List (ℕ × ℕ))
+    → HasValidEntries (finished_summary (empty_summary all listed))
 empty_summary-is_valid all listed = λ key.
     subst (λ (o : Option EntryValue). IfSome o IsValidEntry) (sym (map.get-empty key_cmp key)) tt

@@ -10,7 +10,8 @@ use Rattle.std.proofs.lemmas.List.{length_push}
 use Rattle.mc_tables.specs.declared.listed_entry_numbers.Inserted.{Inserted}
 use Rattle.mc_tables.specs.declared.listed_entry_numbers.Inserted.TheVariants.{New, Repeated, Unlisted}
 use Rattle.mc_tables.specs.CacheTable.{EntryValue, key_cmp, same_key}
-use Rattle.mc_tables.specs.CacheNumbers.{IsNumberInserted, KeptRowsValue, EntryNumbersValue, AddsNumber, number_of_key}
+use Rattle.mc_tables.specs.CacheNumbers.{IsNumberInserted, KeptRowsValue, EntryNumbersValue, AddsNumber}
+use Rattle.mc_tables.specs.CacheNumbers.{number_of_key}
 use Rattle.mc_tables.specs.ListedRows.{set_has_key}
 use Rattle.mc_tables.specs.SummarySoFar.{with_first_entry, IsEntryInserted, with_entry_if_new}
 use Rattle.mc_tables.proofs.CacheLemmas.{same_key-equivalence, key_cmp-total}
@@ -31,7 +32,8 @@ with_entry_if_new-cases key entry old listed there is_listed is_there =
 pub entry_inserted-value : (key : ℕ × ℕ) (entry : EntryValue) (old new : KeptRowsValue) (is : Inserted)
     → IsEntryInserted key entry old new is → new ≡ with_entry_if_new old key entry
 entry_inserted-value key entry old new New e = e.2 ∙ with_entry_if_new-cases key entry old true false e.0 e.1
-entry_inserted-value key entry old new Repeated e = e.2 ∙ with_entry_if_new-cases key entry old true true e.0 e.1
+entry_inserted-value key entry old new Repeated e =
+    e.2 ∙ with_entry_if_new-cases key entry old true true e.0 e.1
 entry_inserted-value key entry old new Unlisted e =
     e.1 ∙ with_entry_if_new-cases key entry old false (is_some (map.get old.table.entries key)) e.0 refl
 
@@ -87,7 +89,8 @@ numbered_keys-push key n numbers more grown =
     ∙ sym (set.contains-insert key_cmp-total (numbered_keys numbers) key q))
 
 -- the keys with one that had a number already
-numbered_keys-repeated : (key : ℕ × ℕ) (numbers : List ((ℕ × ℕ) × ℕ)) → is_some (number_of_key numbers key) ≡ true
+numbered_keys-repeated : (key : ℕ × ℕ) (numbers : List ((ℕ × ℕ) × ℕ))
+    → is_some (number_of_key numbers key) ≡ true
     → numbered_keys numbers ≡ set.insert (numbered_keys numbers) key
 numbered_keys-repeated key numbers there =
     set.same_set key_cmp-total key_cmp-antisymmetric _ _ (λ q.

@@ -59,4 +59,5 @@ pub cache-is_valid : (order : Order) (text : List ℕ) (table : CacheValue) → 
     → IsValidCache table
 cache-is_valid order text table denotes =
     subst IsValidCache (sym denotes.as_table)
-    (cache_rows-valid_table denotes.rows (rows-have_valid_entries order denotes.lines.lines denotes.rows denotes.lines.denoted))
+    (cache_rows-valid_table denotes.rows
+        (rows-have_valid_entries order denotes.lines.lines denotes.rows denotes.lines.denoted))

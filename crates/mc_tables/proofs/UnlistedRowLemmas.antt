@@ -48,7 +48,8 @@ same_key-equal x y e = key_cmp-antisymmetric x y ((Equal-is (key_cmp x y)).0 e)
 -- ---- the least of some numbers
 
 -- the lesser of three doesn't depend on which two are compared first
-lesser_or-swap : (m n : ℕ) (o : Option ℕ) → lesser_or m (Some (lesser_or n o)) ≡ lesser_or n (Some (lesser_or m o))
+lesser_or-swap : (m n : ℕ) (o : Option ℕ)
+    → lesser_or m (Some (lesser_or n o)) ≡ lesser_or n (Some (lesser_or m o))
 lesser_or-swap m n None = grind (arith, nat_tests)
 lesser_or-swap m n (Some k) = grind (arith, nat_tests)
 
@@ -121,7 +122,8 @@ pub first_repeat-permuted : (rows sorted : List UnlistedRow) → IsPermutation r
 first_repeat-permuted rows sorted moved =
     least-unique (first_repeat sorted) (first_repeat rows) (λ most.
     is_at_most-first_repeat sorted most
-    ∙ list_any-same_tests (λ r. is_repeat sorted r && nat_le r.1 most) (λ r. is_repeat rows r && nat_le r.1 most)
+    ∙ list_any-same_tests (λ r. is_repeat sorted r && nat_le r.1 most)
+        (λ r. is_repeat rows r && nat_le r.1 most)
     sorted (λ r. ap (λ b. b && nat_le r.1 most)
     (sym (list_any-IsPermutation (repeats r) rows sorted moved)))
     ∙ sym (list_any-IsPermutation (λ r. is_repeat rows r && nat_le r.1 most) rows sorted moved)
@@ -225,7 +227,8 @@ is_repeat-later (r ∷ rows) key line before =
     ∙ ap (λ b. same_key key r.0 || b) (is_repeat-later rows key line before.1)
 
 -- a row up to a line, where all rows are before it
-list_any-before_line : (p : UnlistedRow → Bool) (rows : List UnlistedRow) (line most : ℕ) → AreBefore rows line
+list_any-before_line : (p : UnlistedRow → Bool) (rows : List UnlistedRow) (line most : ℕ)
+    → AreBefore rows line
     → list_any (λ r. p r && nat_le r.1 most) rows ≡ true
     → list_any (λ r. p r && nat_le r.1 line) rows ≡ true
 list_any-before_line p [] line most before some = absurd cc

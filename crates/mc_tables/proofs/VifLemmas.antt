@@ -31,8 +31,10 @@ use Rattle.mc_tables.specs.VifReading.{device_repeats, vif_in_line, vif_at_line,
 use Rattle.mc_text.proofs.StepLemmas.{bind_ok, if_ok, ok_or_ok, ok_injective}
 use Rattle.mc_tables.proofs.StepLemmas.{demand-bind_ok, at_line-ok}
 use Rattle.mc_tables.proofs.WordLemmas.{number_in-denotes, number_in-from_denotes}
-use Rattle.mc_tables.proofs.KeyLemmas.{list_any-distinct_middle, is_distinct-push_key, is_among-distinct_before}
-use Rattle.mc_tables.proofs.RowLemmas.{lines_in-has_header, lines_in-from_header, ReadsRows, rows_after-denotes, rows_after-from_denotes}
+use Rattle.mc_tables.proofs.KeyLemmas.{list_any-distinct_middle, is_distinct-push_key}
+use Rattle.mc_tables.proofs.KeyLemmas.{is_among-distinct_before}
+use Rattle.mc_tables.proofs.RowLemmas.{lines_in-has_header, lines_in-from_header, ReadsRows}
+use Rattle.mc_tables.proofs.RowLemmas.{rows_after-denotes, rows_after-from_denotes}
 
 -- the vif that is read is the one that the words denote
 pub vif_in_words-denotes : (words : List (List ℕ)) (row : ℕ × VifValue) → vif_in_words words ≡ Ok row
@@ -164,7 +166,8 @@ vif_at_line-denotes earlier line row e =
 -- and the other direction
 vif_at_line-from_denotes : (earlier : List (ℕ × VifValue)) (line : LineText) (row : ℕ × VifValue)
     → LineDenotesVif line row → MayFollow earlier row → vif_at_line earlier line ≡ Ok row
-vif_at_line-from_denotes earlier line row denoted new = rw (vif_in_line-from_denotes earlier line row denoted new) refl
+vif_at_line-from_denotes earlier line row denoted new =
+    rw (vif_in_line-from_denotes earlier line row denoted new) refl
 
 -- no vifs are allowed
 rows-valid_none : AreValid []
@@ -173,14 +176,17 @@ rows-valid_none = (tt, tt)
 
 -- so lines are read as the vifs that they denote
 pub vif_at_line-reads_rows : ReadsRows vif_at_line LineDenotesVif MayFollow AreValid
-vif_at_line-reads_rows = record { found = vif_at_line-denotes; only = vif_at_line-from_denotes; grows = rows-valid_push; follows = rows-may_follow }
+vif_at_line-reads_rows =
+    record { found = vif_at_line-denotes; only = vif_at_line-from_denotes; grows = rows-valid_push; follows =
+    rows-may_follow }
 
 -- the vifs that are read are those that the text denotes
 vif_rows_in-denotes : (text : List ℕ) (rows : List (ℕ × VifValue)) → vif_rows_in text ≡ Ok rows
     → DenotesVifRows text rows
 vif_rows_in-denotes text rows e =
     let b = bind_ok (lines_in (codes "Interface") text) (rows_after vif_at_line []) rows e in
-    let t = rows_after-denotes vif_at_line LineDenotesVif MayFollow AreValid vif_at_line-reads_rows b.0 [] rows rows-valid_none
+    let t = rows_after-denotes vif_at_line LineDenotesVif MayFollow AreValid vif_at_line-reads_rows b.0 []
+        rows rows-valid_none
     b.2 in
     record {
       lines = b.0;
@@ -195,7 +201,8 @@ vif_rows_in-from_denotes : (text : List ℕ) (rows : List (ℕ × VifValue)) →
     → vif_rows_in text ≡ Ok rows
 vif_rows_in-from_denotes text rows h =
     let e = lines_in-from_header (codes "Interface") text h.lines h.header in
-    rw e (rows_after-from_denotes vif_at_line LineDenotesVif MayFollow AreValid vif_at_line-reads_rows h.lines [] rows h.denoted
+    rw e (rows_after-from_denotes vif_at_line LineDenotesVif MayFollow AreValid vif_at_line-reads_rows h.lines
+        [] rows h.denoted
     (h.indexes_differ, h.devices_differ))
 
 -- the table that is read is the one that the text denotes
@@ -215,9 +222,11 @@ pub vifs_in-from_denotes : (text : List ℕ) (vifs : FinMap nat_cmp VifValue) �
 vifs_in-from_denotes text vifs h = rw (vif_rows_in-from_denotes text h.rows h.lines, h.as_map) refl
 
 -- words other than nine are no vif
-pub vif_needs_nine_words : (words : List (List ℕ)) → (length words ≡ 9 → ⊥) → vif_in_words words ≡ Err WordCount
+pub vif_needs_nine_words : (words : List (List ℕ)) → (length words ≡ 9 → ⊥)
+    → vif_in_words words ≡ Err WordCount
 unfolding vif_in_words
-vif_needs_nine_words (index ∷ device ∷ bytes_in ∷ packets_in ∷ bytes_out ∷ packets_out ∷ flags ∷ local ∷ remote
+vif_needs_nine_words
+    (index ∷ device ∷ bytes_in ∷ packets_in ∷ bytes_out ∷ packets_out ∷ flags ∷ local ∷ remote
     ∷ []) other = absurd (other refl)
 vif_needs_nine_words words other = refl
 
@@ -238,7 +247,8 @@ denoted_vifs-at_most_31 [] [] denoted = tt
 denoted_vifs-at_most_31 [] (row ∷ rows) denoted = absurd denoted
 denoted_vifs-at_most_31 (line ∷ lines) [] denoted = absurd denoted
 denoted_vifs-at_most_31 (line ∷ lines) (row ∷ rows) denoted =
-    (denoted_vif-at_most_31 (words_of line.bytes) row denoted.0.words, denoted_vifs-at_most_31 lines rows denoted.1)
+    (denoted_vif-at_most_31
+        (words_of line.bytes) row denoted.0.words, denoted_vifs-at_most_31 lines rows denoted.1)
 
 -- unless memory runs out, the table that is read is the one that the text denotes
 pub vifs_result-denotes : (text : List ℕ) (read : Result (FinMap nat_cmp VifValue) TableFault)

@@ -1,6 +1,7 @@
 -- The look-ups of a vif table find what its map has.
 use Rattle.std.proofs.Common.{◌≡◌, ℕ, ◌≤◌, arith, Bool, true, false, cond, List, [], ◌∷◌, Option}
-use Rattle.std.proofs.Common.{Some, None, refl, sym, ap, subst, ◌∙◌, inl, inr, ◌≢◌, Ordering, Less, Equal, Greater}
+use Rattle.std.proofs.Common.{Some, None, refl, sym, ap, subst, ◌∙◌, inl, inr, ◌≢◌, Ordering, Less, Equal}
+use Rattle.std.proofs.Common.{Greater}
 use Rattle.std.specs.Option.{option_map}
 use Rattle.std.specs.List as lists
 use Rattle.std.specs.Prelude.{nat_eq, map, IsSome, IsSomeAnd, IfSome, ◌||◌, ◌&&◌, ◌↔◌, T}
@@ -185,7 +186,8 @@ list_any-found_device device (row ∷ rows) index h =
           ((bytes_eq-Decides row.1.device device).1
           (subst (HasThisDevice device) (find-first_index index row rows same) h))
       | inr apart ↦ or_right (bytes_eq row.1.device device) _
-          (list_any-found_device device rows index (subst (HasThisDevice device) (find-other_index index row rows apart) h))
+          (list_any-found_device device rows index
+              (subst (HasThisDevice device) (find-other_index index row rows apart) h))
     ]
 
 -- the index that has the device is found
@@ -323,7 +325,8 @@ first_index_with-entries : (vifs : FinMap nat_cmp VifValue) (device : List ℕ) 
     → first_index_with device (entries vifs) ≡ Some index → HasDevice vifs index device
 first_index_with-entries vifs device index e =
     subst (HasThisDevice device) (sym (get-entries vifs index))
-    (find-first_index_with device (entries vifs) index (is_sorted-distinct (entries vifs) (entries_sorted vifs)) e)
+    (find-first_index_with device (entries vifs) index
+        (is_sorted-distinct (entries vifs) (entries_sorted vifs)) e)
 
 -- an index is found for a device exactly if its vif has the device, and it isn't `none`
 pub index_of-exact : (vifs : FinMap nat_cmp VifValue) (device : List ℕ) (index : ℕ)
@@ -344,7 +347,8 @@ index_of-exact vifs device index rules = (
   λ both.
       let some = false_from_ne_true (bytes_eq device no_device) (λ e. both.0 (bytes_eq-no_device device e)) in
       let first = first_index_with-exists device (entries vifs)
-      (list_any-found_device device (entries vifs) index (subst (HasThisDevice device) (get-entries vifs index) both.1)) in
+      (list_any-found_device device (entries vifs) index
+          (subst (HasThisDevice device) (get-entries vifs index) both.1)) in
       let same = rules.devices_differ device first.0 index both.0
       (first_index_with-entries vifs device first.0 first.1) both.1 in
       ap (λ b. cond b None (first_index_with device (entries vifs))) some ∙ first.1 ∙ ap Some same,

@@ -16,7 +16,8 @@ use Rattle.mc_tables.specs.VifReading.{vif_in_line, vif_at_line}
 use Rattle.mc_tables.specs.VifsSoFar.{vif_step, vifs_from_lines, vifs_after}
 use Rattle.mc_tables.proofs.VifLemmas.{vif_at_line-reads_rows, denoted_vifs-at_most_31}
 use Rattle.mc_tables.specs.LinesSoFar.{LinesSoFar, HasNoLineFeed, check_end_of_lines, ReadsInSteps}
-use Rattle.mc_tables.proofs.PieceLemmas.{last_line, read_after-no_header, read_after-end_in_line, read_after-end_after_line}
+use Rattle.mc_tables.proofs.PieceLemmas.{last_line, read_after-no_header, read_after-end_in_line}
+use Rattle.mc_tables.proofs.PieceLemmas.{read_after-end_after_line}
 
 -- one line and then the others
 rows_after-line_first : (n : ℕ) (rows : List (ℕ × VifValue)) (lines : List LineText)
@@ -44,11 +45,13 @@ pub vifs_after-end : (lines : LinesSoFar) (rows : List (ℕ × VifValue)) → Ha
     → vifs_after lines rows [] ≡ (check_end_of_lines lines >>= λ _. vifs_from_lines rows [])
 vifs_after-end lines rows without =
     elim (cases_Bool (eqb lines.ended 0)) [
-      | inl none ↦ read_after-no_header (codes "Interface") (vifs_from_lines rows) lines (vifs_from_lines rows []) without none
+      | inl none ↦ read_after-no_header (codes "Interface") (vifs_from_lines rows) lines
+          (vifs_from_lines rows []) without none
       | inr later ↦ elim (cases_Bool (eqb (length lines.begun) 0)) [
         | inl none ↦ read_after-end_after_line (codes "Interface") (vifs_from_lines rows) lines later none
             ∙ rw (none, later) refl
-        | inr begun ↦ read_after-end_in_line (codes "Interface") (vifs_from_lines rows) lines without later begun
+        | inr begun ↦ read_after-end_in_line (codes "Interface")
+            (vifs_from_lines rows) lines without later begun
             ∙ ap (λ r. (at_line (lines.ended + 1) r
             >>= λ row. rows_after vif_at_line (rows ++ row ∷ []) []) >>= λ all. Ok (from_entries all))
             (vif_in_line-unended rows (last_line lines) refl)

@@ -50,7 +50,8 @@ all_digits-decimal (c ∷ cs) e = let p = and_parts (is_ascii_digit c) _ e in
 -- digits to the base 10 pass the test
 list_all-decimal_digits : (word : List ℕ) → AllDigits 10 word → list_all is_ascii_digit word ≡ true
 list_all-decimal_digits [] h = refl
-list_all-decimal_digits (c ∷ cs) h = and_from (is_ascii_digit c) _ (is_ascii_digit-decimal c h.0) (list_all-decimal_digits cs h.1)
+list_all-decimal_digits (c ∷ cs) h =
+    and_from (is_ascii_digit c) _ (is_ascii_digit-decimal c h.0) (list_all-decimal_digits cs h.1)
 
 -- the number that is read is the one that the word denotes
 pub number_in-denotes : (least most : ℕ) (word : List ℕ) (n : ℕ) → number_in least most word ≡ Some n
@@ -84,4 +85,5 @@ pub number_in-none : (least most : ℕ) (word : List ℕ) (decimal : Option ℕ)
     → ((n : ℕ) → IsDecimal word n → n ≤ most → decimal ≡ Some n) → None ≡ number_in least most word
 number_in-none least most word decimal none only =
     option_from_clauses (WordDenotesNumber least most word) None (number_in least most word) tt
-    (λ n h. sym none ∙ only n h.0 h.2) (number_in-denotes least most word) (number_in-from_denotes least most word)
+    (λ n h. sym none ∙ only n h.0 h.2) (number_in-denotes least most word)
+        (number_in-from_denotes least most word)

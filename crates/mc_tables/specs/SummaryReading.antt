@@ -12,7 +12,8 @@ use Rattle.mc_tables.specs.CacheReading.{cache_rows_in}
 use Rattle.mc_tables.specs.ListedRows.{kept_rows, listed_set}
 use Rattle.mc_tables.specs.RowsSoFar.{ListedRowsSoFar, rows_start, row_step, table_from}
 use Rattle.mc_tables.specs.Summary.{summary_of}
-use Rattle.mc_tables.specs.SummarySoFar.{SummarySoFar, empty_summary, summary_with_line, summary_of_lines, finished_summary}
+use Rattle.mc_tables.specs.SummarySoFar.{SummarySoFar, empty_summary, summary_with_line, summary_of_lines}
+use Rattle.mc_tables.specs.SummarySoFar.{finished_summary}
 
 -- ---- the text
 
@@ -44,7 +45,8 @@ summary_step so_far line =
 abbrev pub summary_from : SummarizedRowsSoFar → List LineText → Result SummarizedCache TableFault
 summary_from so_far lines =
     table_from so_far.rows lines >>= λ table.
-    Ok (record { table = table; summary = finished_summary (summary_of_lines so_far.rows.order so_far.summary lines) })
+    Ok (record { table = table; summary =
+        finished_summary (summary_of_lines so_far.rows.order so_far.summary lines) })
 
 -- ---- how far reading has come
 

@@ -140,7 +140,8 @@ summary_with_exact summary (Some key) =
 abbrev pub summary_with_row : SummarySoFar → RowValue → SummarySoFar
 summary_with_row summary row =
     summary_with_exact
-    (summary_with_every_source (summary_with_unresolved summary (unresolved_key row)) (every_source_entry row))
+    (summary_with_every_source (summary_with_unresolved summary (unresolved_key row))
+        (every_source_entry row))
     (key_of row)
 
 -- the summary when all rows have been read
@@ -176,4 +177,5 @@ summary_with_line order summary line = summary_with_read summary (row_in_words o
 -- the summary with the rows of more lines
 abbrev pub summary_of_lines : Order → SummarySoFar → List LineText → SummarySoFar
 summary_of_lines order summary [] = summary
-summary_of_lines order summary (line ∷ lines) = summary_of_lines order (summary_with_line order summary line) lines
+summary_of_lines order summary (line ∷ lines) =
+    summary_of_lines order (summary_with_line order summary line) lines

@@ -9,7 +9,8 @@ ghost use Rattle.mc_tables.specs.FlatRows.{row_with_oifs};
 ghost use Rattle.mc_tables.specs.ListedRows.{set_has_key, is_kept_by_set};
 ghost use Rattle.mc_tables.specs.Summary.{keys_for_every_source};
 ghost use Rattle.mc_tables.specs.SummarySoFar.{empty_summary, summary_with_row};
-ghost use Rattle.mc_tables.specs.SummarySoFar.{summary_with_unresolved, summary_with_every_source, summary_with_unlisted};
+ghost use Rattle.mc_tables.specs.SummarySoFar.{summary_with_unresolved, summary_with_every_source};
+ghost use Rattle.mc_tables.specs.SummarySoFar.{summary_with_unlisted};
 
 use crate::cache_row::CacheRow;
 use crate::cache_rows::CacheRows;

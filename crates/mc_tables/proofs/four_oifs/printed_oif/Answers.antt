@@ -1,5 +1,6 @@
 use Rattle.std.proofs.Common.{arith}
-use Rattle.mc_tables.proofs.FourOifLemmas.{printed_oif-has_digits, printed_vif-fits, first_word-printed_oif_at}
+use Rattle.mc_tables.proofs.FourOifLemmas.{printed_oif-has_digits, printed_vif-fits}
+use Rattle.mc_tables.proofs.FourOifLemmas.{first_word-printed_oif_at}
 use Rattle.mc_tables.proofs.four_oifs.printed_oif.Goals as goal
 
 pub overflow_sub-vif : goal.overflow_sub-vif

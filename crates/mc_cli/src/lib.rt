@@ -1,4 +1,4 @@
-//! The program's words: which task they ask for, and what is wrong with them.
+//! The command line: the task that the program's words ask for, or what is wrong with them.
 #![tactic(auto)]
 
 mod audit_words;

@@ -1,4 +1,4 @@
--- A part that is read stands for its value, and a part that stands for a value is read as that.
+-- A part that is read denotes its value, and a part that denotes a value is read as that.
 use Rattle.std.proofs.Common.{◌≡◌, ℕ, ◌+◌, ◌<◌, ◌≤◌, All, IfSome, true, List, [], ◌∷◌, ◌++◌, length}
 use Rattle.std.proofs.Common.{codes, Option, Some, None, Result, Ok, Err, nat_lt, refl, sym, ap}
 use Rattle.std.proofs.Common.{subst, ◌∙◌, arith, append_assoc}
@@ -233,7 +233,7 @@ entries_of-from_denotes t list rows es are =
     each-from_denotes_all (λ n d. place (entry_place list (n + 1)) (entry_of t d)) (λ _. DenotesEntry t)
     (λ n d x is. ap (place (entry_place list (n + 1))) (entry_of-from_denotes t d x is)) rows es are.each
 
--- what holds of each interface that is read holds of a forwarder
+-- what holds of each interface that is denoted holds of a forwarder
 pub IfSome-from_DenotesForwarder : (P : Interface → Type 0) (routers : List RouterRow)
     → ((d v : Data) (i : Interface) → DenotesInterface routers d v i → P i) → (router vif : Option Data)
     (forwarder : Option Interface) → DenotesForwarder routers router vif forwarder → IfSome forwarder P
@@ -250,7 +250,7 @@ IsWritableEntry-from_denotes t d e is =
           is.forwarder;
     }
 
--- entries that are read can be named
+-- entries that are denoted can be written
 pub IsWritableTree-from_denotes : (t : TopologyValue) (rows : List Data) (es : Tree) → DenotesEntries t rows es
     → IsWritableTree es
 IsWritableTree-from_denotes t rows es are =
@@ -323,7 +323,7 @@ flow_of-from_denotes t n d es is =
     )
     (entries_of-from_denotes t (at.Flow (n + 1)) is.rows es is.entries)
 
--- ---- trees and the flows that name them
+-- ---- trees, and the flows with the number of one
 
 pub tree_of-denotes : (t : TopologyValue) (n : ℕ) (d : Data) (es : Tree) → tree_of t n d ≡ Ok es
     → DenotesTree t d es
@@ -353,7 +353,7 @@ below_count-sound count (Some m) n e =
     let same : m ≡ n = ok_is m n t.1 in
     (ap Some same, subst (λ k. k < count) same (ltb-true m count t.0))
 
--- what is read of a flow that names a tree
+-- a flow of version 2 denotes the number of its tree
 pub record NamesTree (t : TopologyValue) (trees n : ℕ) (d : Data) (number : ℕ) : Type 0 where
   pub flow : Flow
   pub members : Members

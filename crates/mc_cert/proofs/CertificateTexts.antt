@@ -1,5 +1,4 @@
--- A text that is read stands for what is read, and a text that stands for a certificate is read as
--- that.
+-- A text that is read denotes what is read, and a text that denotes a certificate is read as that.
 use Rattle.std.proofs.Common.{◌≡◌, ℕ, ◌+◌, ◌<◌, ◌≤◌, All, Bool, true, false, cond, List}
 use Rattle.std.proofs.Common.{[], ◌∷◌, length, map, codes, Option, Some, None, Ok, Err, nat_le, eqb}
 use Rattle.std.proofs.Common.{le-leb, refl, ap, subst, ◌∙◌}
@@ -80,7 +79,7 @@ flows_in-from_denotes t ms flows is =
     rw (flow_rows-from_HasRows t ms is.rows is.list is.count)
     (list_or_empty-from_AreRows (flow_of t) (DenotesFlow t) (flow_of-from_denotes t) is.rows flows is.each)
 
--- the lists that are read keep to their rules
+-- the entries of flows that are read can be written
 pub IsWritableTree-from_flow_rows : (t : TopologyValue) (rows : List Data) (flows : List Tree)
     → each (flow_of t) [] rows ≡ Ok flows → All IsWritableTree flows
 IsWritableTree-from_flow_rows t rows flows e =
@@ -201,7 +200,7 @@ shared_flows_in-from_denotes t ms flows is =
     )
     (ap Ok same)
 
--- what is read keeps to the rules of a certificate
+-- trees that are read can be written, and the numbers of trees are below their count
 pub IsWritableTree-from_tree_rows : (t : TopologyValue) (rows : List Data) (trees : List Tree)
     → each (tree_of t) [] rows ≡ Ok trees → All IsWritableTree trees
 IsWritableTree-from_tree_rows t rows trees e =
@@ -276,7 +275,7 @@ flows_of_version-from_denotes Two t ms flows is = shared_flows_in-from_denotes t
 
 -- ---- the text
 
--- a text that is read stands for what is read
+-- a text that is read denotes what is read
 pub parse_certificate-denotes : (t : TopologyValue) (text : List ℕ) (flows : List Tree)
     → parse_certificate t text ≡ Ok flows → DenotesCertificate t text flows
 unfolding parse_certificate parse_bounded_json parse_json
@@ -302,7 +301,7 @@ parse_certificate-denotes t text flows e =
       denotes = flows_of_version-denotes version.0 t m.0 flows version.2;
     }
 
--- a text that stands for a certificate is read as that
+-- a text that denotes a certificate is read as that
 pub parse_certificate-from_denotes : (t : TopologyValue) (text : List ℕ) (flows : List Tree)
     → DenotesCertificate t text flows → parse_certificate t text ≡ Ok flows
 unfolding parse_certificate parse_bounded_json parse_json

@@ -5,7 +5,7 @@ use Rattle.std.proofs.lemmas.List.{drop_more, drop_all, map-append, length-map}
 use Rattle.mc_cert.specs.declared.fault.CertFault.{CertFault}
 use Rattle.mc_cert.specs.Answer.{each}
 
--- what was read of earlier rows is kept in another form
+-- where the loop holds what it read in another form, seen by view
 module _ {A D X Y : Type 0} (one : ℕ → D → Result X CertFault) (see : A → D) (f : Y → X) where
   -- a row that is read
   pub each-more : (earlier : List Y) (rows : List A) (i : ℕ) (row : A) (y : Y) → i < length rows
@@ -17,7 +17,7 @@ module _ {A D X Y : Type 0} (one : ℕ → D → Result X CertFault) (see : A �
       rw (drop_more rows i row lt, ← is, map-append f earlier (y ∷ []), length-map earlier f, ok)
       refl
 
-  -- a row that is refused
+  -- a row with a fault
   pub each-Err : (earlier : List Y) (rows : List A) (i : ℕ) (row : A) (fault : CertFault)
       → i < length rows → row ≡ get_or rows i row → one (length earlier) (see row) ≡ Err fault
       → each one (map f earlier) (map see (drop i rows)) ≡ Err fault

@@ -1,4 +1,4 @@
--- A text that is read from the front, piece by piece.
+-- A text that is read piece by piece.
 use Rattle.std.proofs.Common.{◌≡◌, ℕ, ◌+◌, ◌*◌, ◌/◌, ◌%◌, ◌^◌, ◌<◌, List, [], ◌∷◌, ◌++◌, map}
 use Rattle.std.proofs.Common.{codes, decimal, Option, Some, sym, ap, ap₂, ◌∙◌, arith, append_assoc}
 use Rattle.std.specs.Prelude.{unwrap_or}
@@ -19,7 +19,7 @@ use Rattle.mc_cert.specs.CertificateText.{tree_text, version_two_text, entry_tex
 pub decimal-one_digit : (d : ℕ) (s rest : List ℕ) → d < 10 → s ≡ (48 + d) ∷ rest → s ≡ decimal d ++ rest
 decimal-one_digit d s rest small e = e ∙ ap (λ x. x ++ rest) (sym (decimal_digit d small))
 
--- one digit more
+-- a number with one more digit
 pub decimal-digit_more : (n d : ℕ) (s rest : List ℕ) → 0 < n → n < 10 ^ 8 → d < 10
     → s ≡ (48 + d) ∷ rest → decimal (n * 10 + d) ++ rest ≡ decimal n ++ s
 decimal-digit_more n d s rest some small digit e =
@@ -32,7 +32,7 @@ decimal-digit_more n d s rest some small digit e =
 
 -- ---- names
 
--- a name that is found in the list of LANs is that of the LAN with the number
+-- a name with a number in the list of LANs is the name of that LAN
 pub lan_name-from_index_of : (t : TopologyValue) (lan : ℕ) (s name rest : List ℕ) → s ≡ name ++ rest
     → index_of name t.lans ≡ Some lan → s ≡ lan_name t lan ++ rest
 lan_name-from_index_of t lan s name rest e is =
@@ -45,7 +45,7 @@ router_name-from_router_no_of t router s name rest e is =
     e ∙ ap (λ (o : Option (List ℕ)). unwrap_or o [] ++ rest)
     (sym (router_name-router_no_of t.routers router name is))
 
--- ---- one piece behind another
+-- ---- one piece after another
 
 -- the pieces of a flow
 pub flow_text-pieces : (f : Flow) (place : ℕ) (s a b c d e g h : List ℕ)
@@ -62,7 +62,7 @@ pub need_and_rank-pieces : (need rank : ℕ) (s a b c d : List ℕ) → s ≡ co
     → s ≡ (codes "\",\"need\":" ++ decimal need ++ codes ",\"rank\":" ++ decimal rank) ++ d
 need_and_rank-pieces need rank s a b c d p1 p2 p3 p4 = rw (p1, p2, p3, p4) (simp append_assoc)
 
--- five pieces, each behind the one before
+-- five pieces, each after the one before
 append-five : (s x1 x2 x3 x4 x5 a b c d e : List ℕ) → s ≡ x1 ++ a → a ≡ x2 ++ b → b ≡ x3 ++ c
     → c ≡ x4 ++ d → d ≡ x5 ++ e → s ≡ (x1 ++ x2 ++ x3 ++ x4 ++ x5) ++ e
 append-five s x1 x2 x3 x4 x5 a b c d e p1 p2 p3 p4 p5 = rw (p1, p2, p3, p4, p5) (simp append_assoc)

@@ -1,4 +1,4 @@
--- What the text of any trees that can be written stands for, where each flow has the number of one.
+-- What the text of any trees that can be written denotes, where each flow has the number of one.
 use Rattle.std.proofs.Common.{◌≡◌, ℕ, zero, suc, ◌+◌, ◌^◌, ◌<◌, ◌≤◌, All, List, [], ◌∷◌, ◌++◌}
 use Rattle.std.proofs.Common.{length, map, Some, ◌⊎◌, inl, inr, IsUtf8, refl, sym, ap, subst, ◌∙◌}
 use Rattle.std.proofs.Common.{arith, append-nil}
@@ -43,7 +43,7 @@ flow_data-denotes t trees n f place listed lt =
       tree = slice_get-unwrap_or trees place [] lt;
     }
 
--- the flows from the front, each with the number of its tree
+-- all flows, each with the number of its tree
 flow_data-denotes_all : (t : TopologyValue) (trees : List Tree) (n : ℕ) (fs : List Flow)
     (places : List ℕ)
     → ((k : ℕ) (f : Flow) → slice_get fs k ≡ Some f → slice_get t.flows (n + k) ≡ Some f)
@@ -110,7 +110,7 @@ document-denotes t places trees text rules count named few_trees written few utf
       };
     }
 
--- what may stand behind a text: it is UTF-8, and no text is read otherwise with it
+-- what may follow a text: it is UTF-8, and no text is read otherwise with it
 pub record IsTextEnd (rest : List ℕ) : Type 0 where
   pub utf8 : IsUtf8 rest
   pub same : (s : List ℕ) → read (s ++ rest) ≡ read s
@@ -122,8 +122,8 @@ IsTextEnd-from_rest rest (inl none) = subst IsTextEnd (sym none)
 IsTextEnd-from_rest rest (inr feed) = subst IsTextEnd (sym feed)
     (record { utf8 = IsUtf8-are_ascii (10 ∷ []) refl; same = read-with_line_feed })
 
--- The text of trees that can be written, with the number of each flow's and with what may stand
--- behind a text, stands for the trees with these numbers.
+-- the text of trees that can be written, with the number of each flow's tree and with what may follow a
+-- text, denotes the trees with these numbers
 pub version_two_text-denotes : (t : TopologyValue) (places : List ℕ) (trees : List Tree) (text rest : List ℕ)
     → IsValidTopology t → length places ≡ length t.flows → AllByRecursion (λ n. n < length trees) places
     → length trees ≤ 4096 → All (IsWritableTreeFor t) trees → length text ≤ 16777216

@@ -54,7 +54,7 @@ flow_of t n d = do
   rows ← place (at.Flow (n + 1)) (reached_rows flow d)
   entries_of t (at.Flow (n + 1)) rows
 
--- the flows from the front
+-- the flows, from the first one
 unfoldable pub flows_in : TopologyValue → Members → Result (List Tree) CertFault
 flows_in t ms = do
   rows ← place at.Top (flow_rows t ms)

@@ -25,13 +25,13 @@ tree_rows ms = list_at (codes "trees") ms >>= at_most 4096
 unfoldable pub tree_entry_rows : Data → Result (List Data) CertFaultKind
 tree_entry_rows d = list_of d >>= at_most 1024
 
--- a tree, whose entries are judged before the next tree
+-- a tree, with its entries
 unfoldable pub tree_of : TopologyValue → ℕ → Data → Result Tree CertFault
 tree_of t n d = do
   rows ← place (at.Tree (n + 1)) (tree_entry_rows d)
   entries_of t (at.Tree (n + 1)) rows
 
--- a whole number below a count, of which there may be none
+-- a whole number below a count, where the number is whole at all
 abbrev pub below_count : ℕ → Option ℕ → Result ℕ CertFaultKind
 below_count count None = Err BadNumber
 below_count count (Some n) = if nat_lt n count then Ok n else Err BadNumber
@@ -59,7 +59,7 @@ shared_flow_of t trees n d = do
   flow ← place (at.Flow (n + 1)) (flow_at t n)
   place (at.Flow (n + 1)) (tree_no_of flow trees d)
 
--- the two lists, then the trees from the front, and then the flows from the front
+-- the two lists, then the trees from the first one, and then the flows from the first one
 unfoldable pub shared_flows_in : TopologyValue → Members → Result (List Tree) CertFault
 shared_flows_in t ms = do
   rows ← place at.Top (flow_rows t ms)

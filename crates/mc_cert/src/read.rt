@@ -1,4 +1,4 @@
-//! Reading a certificate.
+//! Reads a certificate: the text as JSON, its version and keys, and then its flows.
 
 ghost use Rattle.std.specs.Prelude.{◌≡◌};
 ghost use Rattle.serde_json.specs.View.{view, number_view, members_view};
@@ -21,7 +21,7 @@ use mc_topology::Topology;
 use serde_json::{Map, Number, Value};
 use std::alloc::Global;
 
-/// The value that a text is.
+/// Parses a text as JSON.
 #[tactic(auto, unfolding(crate::specs::Reading::parse_json))]
 fn parse_json(alloc: Global, text: &[u8]) -> Result<Value, CertFault>
     ensures { Gives view result (place Top (parse_json text.now)) }
@@ -44,7 +44,7 @@ fn version_of(number: &Number) -> Result<Version, CertFaultKind>
     }
 }
 
-/// The keys of a certificate of this version.
+/// Whether the object has no other keys than those of this version.
 fn has_only_keys_of(version: Version, object: &Map<String, Value>) -> bool
     ensures { result ≡ has_only (top_keys version) (members_view object.now.entries) }
 {
@@ -54,7 +54,7 @@ fn has_only_keys_of(version: Version, object: &Map<String, Value>) -> bool
     }
 }
 
-/// Looks at the version and the keys.
+/// Reads the version, and checks the keys.
 #[tactic(auto, unfolding(crate::specs::Reading::version_in))]
 fn version_in(object: &Map<String, Value>) -> Result<Version, CertFaultKind>
     ensures { ResultsAgree (λ v. v) result (version_in (members_view object.now.entries)) }
@@ -67,7 +67,7 @@ fn version_in(object: &Map<String, Value>) -> Result<Version, CertFaultKind>
     Ok(version)
 }
 
-/// The certificate of an object of this version.
+/// Reads the certificate of an object of this version.
 #[tactic(auto, unfolding(crate::specs::Reading::flows_of_version))]
 fn flows_of_version(
     alloc: Global,
@@ -84,7 +84,7 @@ fn flows_of_version(
     }
 }
 
-/// The value of a text that isn't too long.
+/// Parses a text as JSON, if it isn't too long.
 #[tactic(auto, unfolding(crate::specs::Reading::parse_bounded_json))]
 fn parse_bounded_json(alloc: Global, text: &[u8]) -> Result<Value, CertFault>
     ensures { Gives view result (place Top (parse_bounded_json text.now)) }
@@ -95,7 +95,7 @@ fn parse_bounded_json(alloc: Global, text: &[u8]) -> Result<Value, CertFault>
     parse_json(alloc, text)
 }
 
-/// The object that a value is.
+/// The value as an object.
 fn members_of(value: &Value) -> Result<&Map<String, Value>, CertFaultKind>
     ensures { ResultsAgree (λ object. members_view object.now.entries) result
         (members_of (view value.now)) }
@@ -106,7 +106,7 @@ fn members_of(value: &Value) -> Result<&Map<String, Value>, CertFaultKind>
     }
 }
 
-/// The certificate of a text.
+/// Reads the certificate of a text.
 #[tactic(auto, unfolding(crate::specs::Reading::parse_certificate))]
 pub(crate) fn parse_certificate(
     alloc: Global,

@@ -1,4 +1,4 @@
-//! Reading rows, one after the other.
+//! Reads the rows of a list, one after the other.
 
 ghost use Rattle.std.specs.Prelude.{◌≡◌, ℕ, ◌<◌, [], length, vec_len, map, Result, IfOk};
 ghost use Rattle.serde_json.specs.Data.{Data};
@@ -10,20 +10,20 @@ use crate::fault::CertFault;
 use serde_json::Value;
 use std::alloc::Global;
 
-/// What each row of a list is read as.
+/// How a row of a list is read.
 pub(crate) trait RowReader {
     /// What a row is read as.
     type Item: Drop;
 
-    // what it stands for
+    // what a row denotes
     ghost Row: { Type 0 };
 
     ghost item_view: { Self.Item → Row };
 
-    // whether a row may have this number
+    // the numbers that rows may have
     ghost is_row_number: { Self → ℕ → Type 0 };
 
-    // the row with this number
+    // what the row with this number denotes, or its fault
     ghost row_value: { Self → ℕ → Data → Result Row CertFault };
 
     /// Reads the row with this number, counted from 0.
@@ -32,7 +32,7 @@ pub(crate) trait RowReader {
         ensures gives { Gives item_view result (row_value self.now number (view value.now)) };
 }
 
-/// The rows, one after the other.
+/// Reads the rows, one after the other.
 pub(crate) fn each<R: RowReader>(
     alloc: Global,
     rows: &R,

@@ -138,27 +138,27 @@ pub find_tree-push_new : (trees : List Tree) (es : Tree) → find_tree trees es 
 find_tree-push_new trees es none = position-push_new (same_tree es) trees es none
     ((same_tree-Decides es es).1 refl)
 
-pub with_tree-known : (trees : List Tree) (es : Tree) (place : ℕ) → find_tree trees es ≡ Some place
+pub with_tree-known : (trees : List Tree) (es : Tree) (tree_no : ℕ) → find_tree trees es ≡ Some tree_no
     → with_tree trees es ≡ trees
-with_tree-known trees es place e = rw e refl
+with_tree-known trees es tree_no e = rw e refl
 
 pub with_tree-new : (trees : List Tree) (es : Tree) → find_tree trees es ≡ None
     → with_tree trees es ≡ trees ++ es ∷ []
 with_tree-new trees es e = rw e refl
 
 -- a tree keeps its number
-pub find_tree-with_tree : (trees : List Tree) (es more : Tree) (place : ℕ) → find_tree trees es ≡ Some place
-    → find_tree (with_tree trees more) es ≡ Some place
-find_tree-with_tree trees es more place e = by (is_some (find_tree trees more)) where
-  by : (b : Bool) → find_tree (cond b trees (trees ++ more ∷ [])) es ≡ Some place
+pub find_tree-with_tree : (trees : List Tree) (es more : Tree) (tree_no : ℕ) → find_tree trees es ≡ Some tree_no
+    → find_tree (with_tree trees more) es ≡ Some tree_no
+find_tree-with_tree trees es more tree_no e = by (is_some (find_tree trees more)) where
+  by : (b : Bool) → find_tree (cond b trees (trees ++ more ∷ [])) es ≡ Some tree_no
   by true = e
-  by false = position-append (same_tree es) trees (more ∷ []) place e
+  by false = position-append (same_tree es) trees (more ∷ []) tree_no e
 
-pub find_tree-fold_with_tree : (trees : List Tree) (es : Tree) (place : ℕ) (flows : List Tree)
-    → find_tree trees es ≡ Some place → find_tree (fold with_tree trees flows) es ≡ Some place
-find_tree-fold_with_tree trees es place [] e = e
-find_tree-fold_with_tree trees es place (f ∷ flows) e = find_tree-fold_with_tree (with_tree trees f) es place flows
-    (find_tree-with_tree trees es f place e)
+pub find_tree-fold_with_tree : (trees : List Tree) (es : Tree) (tree_no : ℕ) (flows : List Tree)
+    → find_tree trees es ≡ Some tree_no → find_tree (fold with_tree trees flows) es ≡ Some tree_no
+find_tree-fold_with_tree trees es tree_no [] e = e
+find_tree-fold_with_tree trees es tree_no (f ∷ flows) e = find_tree-fold_with_tree (with_tree trees f) es tree_no flows
+    (find_tree-with_tree trees es f tree_no e)
 
 -- ---- an added tree
 

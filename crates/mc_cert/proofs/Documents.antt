@@ -65,8 +65,8 @@ abbrev pub flow_data : Flow × ℕ → Data
 flow_data p = object (flow_members p)
 
 abbrev pub document : TopologyValue → List ℕ → List Tree → Members
-document t places trees =
-    member (codes "flows") (array (items_from flow_data (zip t.flows places)))
+document t tree_numbers trees =
+    member (codes "flows") (array (items_from flow_data (zip t.flows tree_numbers)))
     (member (codes "trees") (array (items_from (tree_data t) trees))
     (member (codes "version") (number (unsigned 2)) no_members))
 
@@ -137,20 +137,20 @@ flow_text-compact p =
     spelled (dotted p.0.group) (escape (dotted p.0.group)) (dotted p.0.source)
     (escape (dotted p.0.source)) (decimal p.1) (escape-plain _ (IsPlain-dotted p.0.group))
     (escape-plain _ (IsPlain-dotted p.0.source)) where
-      spelled : (group escaped_group source escaped_source place : List ℕ) → escaped_group ≡ group
+      spelled : (group escaped_group source escaped_source tree_no : List ℕ) → escaped_group ≡ group
           → escaped_source ≡ source
           → codes "{\"group\":\"" ++ group ++ codes "\",\"source\":\"" ++ source ++ codes
-          "\",\"tree\":" ++ place ++ codes "}"
+          "\",\"tree\":" ++ tree_no ++ codes "}"
           ≡ 123 ∷ (quoted (codes "group") ++ 58 ∷ ((34 ∷ (escaped_group ++ 34 ∷ []))
           ++ (44 ∷ (quoted (codes "source") ++ 58
           ∷ ((34 ∷ (escaped_source ++ 34 ∷ []))
-          ++ (44 ∷ (quoted (codes "tree") ++ 58 ∷ (place ++ 125 ∷ []))))))))
-      spelled group escaped_group source escaped_source place e f =
+          ++ (44 ∷ (quoted (codes "tree") ++ 58 ∷ (tree_no ++ 125 ∷ []))))))))
+      spelled group escaped_group source escaped_source tree_no e f =
           let start = codes "{\"group\":\"" in
           let middle = codes ",\"source\":\"" in
-          let tail = 44 ∷ (quoted (codes "tree") ++ 58 ∷ (place ++ 125 ∷ [])) in
+          let tail = 44 ∷ (quoted (codes "tree") ++ 58 ∷ (tree_no ++ 125 ∷ [])) in
           let flat : start ++ group ++ codes "\",\"source\":\"" ++ source ++ codes
-          "\",\"tree\":" ++ place ++ codes "}"
+          "\",\"tree\":" ++ tree_no ++ codes "}"
           ≡ start ++ (group ++ 34 ∷ (middle ++ (source ++ 34 ∷ tail))) =
           simp append_assoc in
           flat ∙ ap (λ s. start ++ (group ++ 34 ∷ (middle ++ s)))
@@ -447,19 +447,19 @@ of_members-document : (flows trees : Items) (n : ℕ) → of_items (items_outlin
 of_members-document flows trees n e f small = rw (e, f, number_of-decimal n small) refl
 
 -- the value of the whole text is read back from it
-pub IsReadBack-document : (t : TopologyValue) (places : List ℕ) (trees : List Tree) → IsValidTopology t
-    → AllByRecursion (λ n. n < 2 ^ 64) places → AllByRecursion (IsWritableTreeFor t) trees
-    → IsReadBack 127 (object (document t places trees))
-IsReadBack-document t places trees rules small written =
+pub IsReadBack-document : (t : TopologyValue) (tree_numbers : List ℕ) (trees : List Tree) → IsValidTopology t
+    → AllByRecursion (λ n. n < 2 ^ 64) tree_numbers → AllByRecursion (IsWritableTreeFor t) trees
+    → IsReadBack 127 (object (document t tree_numbers trees))
+IsReadBack-document t tree_numbers trees rules small written =
     let flows_good =
-    AreReadBack-items_from flow_data 2 (zip t.flows places)
+    AreReadBack-items_from flow_data 2 (zip t.flows tree_numbers)
     (AllByRecursion-implies (λ (p : Flow × ℕ). p.1 < 2 ^ 64) (λ (p : Flow × ℕ). IsReadBack 2 (flow_data p))
-    IsReadBack-flow_data (zip t.flows places) (AllByRecursion-zip (λ n. n < 2 ^ 64) t.flows places small)) in
+    IsReadBack-flow_data (zip t.flows tree_numbers) (AllByRecursion-zip (λ n. n < 2 ^ 64) t.flows tree_numbers small)) in
     let trees_good = AreReadBack-items_from (tree_data t) 2 trees
     (AllByRecursion-implies (IsWritableTreeFor t) (λ es. IsReadBack 2 (tree_data t es))
     (λ es is. IsReadBack-tree_data t es rules is) trees written) in
     IsReadBack-deeper 4 127 _ (omega arith)
-    (IsReadBack-object 3 (document t places trees) (of_members-document _ _ 2 flows_good.reads trees_good.reads
+    (IsReadBack-object 3 (document t tree_numbers trees) (of_members-document _ _ 2 flows_good.reads trees_good.reads
     (omega arith))
     (HasReadBack-member 3 (codes "flows") _ _ (IsUtf8-are_ascii _ refl) (IsReadBack-array 2 _ flows_good)
     (HasReadBack-member 3 (codes "trees") _ _ (IsUtf8-are_ascii _ refl) (IsReadBack-array 2 _ trees_good)
@@ -467,15 +467,15 @@ IsReadBack-document t places trees rules small written =
     (IsReadBack-number 3 2 (omega arith)) (HasReadBack-none 3)))))
 
 -- its text is that of these numbers and trees
-pub version_two_text-compact : (t : TopologyValue) (places : List ℕ) (trees : List Tree) → IsValidTopology t
-    → AllByRecursion (IsWritableTreeFor t) trees → version_two_text t places trees
-    ≡ compact_text (object (document t places trees))
+pub version_two_text-compact : (t : TopologyValue) (tree_numbers : List ℕ) (trees : List Tree) → IsValidTopology t
+    → AllByRecursion (IsWritableTreeFor t) trees → version_two_text t tree_numbers trees
+    ≡ compact_text (object (document t tree_numbers trees))
 unfolding escape_byte
-version_two_text-compact t places trees rules written =
-    certificate_text-compact (listed (flow_texts t.flows places)) (listed (map (tree_text t) trees)) _ _
-    (listed_after-items_text (λ p. flow_text p.0 p.1) flow_data false (zip t.flows places)
+version_two_text-compact t tree_numbers trees rules written =
+    certificate_text-compact (listed (flow_texts t.flows tree_numbers)) (listed (map (tree_text t) trees)) _ _
+    (listed_after-items_text (λ p. flow_text p.0 p.1) flow_data false (zip t.flows tree_numbers)
     (AllByRecursion-from_always (λ p. flow_text p.0 p.1 ≡ compact_text (flow_data p)) flow_text-compact
-    (zip t.flows places)))
+    (zip t.flows tree_numbers)))
     (listed_after-items_text (tree_text t) (tree_data t) false trees
     (AllByRecursion-implies (IsWritableTreeFor t) (λ es. tree_text t es ≡ compact_text (tree_data t es))
     (λ es is. tree_text-of_writable t es rules is) trees written))

@@ -48,12 +48,12 @@ router_name-from_router_no_of t router s name rest e is =
 -- ---- one piece after another
 
 -- the pieces of a flow
-pub flow_text-pieces : (f : Flow) (place : ℕ) (s a b c d e g h : List ℕ)
+pub flow_text-pieces : (f : Flow) (tree_no : ℕ) (s a b c d e g h : List ℕ)
     → s ≡ codes "{\"group\":\"" ++ a → a ≡ dotted f.group ++ b
     → b ≡ codes "\",\"source\":\"" ++ c → c ≡ dotted f.source ++ d
-    → d ≡ codes "\",\"tree\":" ++ e → e ≡ decimal place ++ g → g ≡ codes "}" ++ h
-    → s ≡ flow_text f place ++ h
-flow_text-pieces f place s a b c d e g h p1 p2 p3 p4 p5 p6 p7 =
+    → d ≡ codes "\",\"tree\":" ++ e → e ≡ decimal tree_no ++ g → g ≡ codes "}" ++ h
+    → s ≡ flow_text f tree_no ++ h
+flow_text-pieces f tree_no s a b c d e g h p1 p2 p3 p4 p5 p6 p7 =
     rw (p1, p2, p3, p4, p5, p6, p7) (simp append_assoc)
 
 -- the pieces of a need and a rank
@@ -79,10 +79,10 @@ tree_text-pieces t es s a b c p1 p2 p3 =
     append-three s (codes "[") (listed (map (entry_text t) es)) (codes "]") a b c p1 p2 p3
 
 -- the pieces of the whole text
-pub version_two_text-pieces : (t : TopologyValue) (places : List ℕ) (trees : List Tree) (s a b c d e : List ℕ)
-    → s ≡ codes "{\"flows\":[" ++ a → a ≡ listed (flow_texts t.flows places) ++ b
+pub version_two_text-pieces : (t : TopologyValue) (tree_numbers : List ℕ) (trees : List Tree) (s a b c d e : List ℕ)
+    → s ≡ codes "{\"flows\":[" ++ a → a ≡ listed (flow_texts t.flows tree_numbers) ++ b
     → b ≡ codes "],\"trees\":[" ++ c → c ≡ listed (map (tree_text t) trees) ++ d
-    → d ≡ codes "],\"version\":2}" ++ e → s ≡ version_two_text t places trees ++ e
-version_two_text-pieces t places trees s a b c d e p1 p2 p3 p4 p5 =
-    append-five s (codes "{\"flows\":[") (listed (flow_texts t.flows places)) (codes "],\"trees\":[")
+    → d ≡ codes "],\"version\":2}" ++ e → s ≡ version_two_text t tree_numbers trees ++ e
+version_two_text-pieces t tree_numbers trees s a b c d e p1 p2 p3 p4 p5 =
+    append-five s (codes "{\"flows\":[") (listed (flow_texts t.flows tree_numbers)) (codes "],\"trees\":[")
     (listed (map (tree_text t) trees)) (codes "],\"version\":2}") a b c d e p1 p2 p3 p4 p5

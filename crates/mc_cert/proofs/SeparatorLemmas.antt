@@ -107,17 +107,17 @@ separator_of-none (f ∷ flows) = refl
 
 -- the next flow is read, with the number of its tree, and then the separator is a comma
 pub flow_texts-push : (s before after later separator : List ℕ) (flows : List Flow)
-    (places new : List ℕ) (f : Flow) (place n : ℕ) → n ≡ length places
-    → slice_get flows n ≡ Some f → new ≡ places ++ place ∷ []
-    → s ≡ listed (flow_texts flows places) ++ before → before ≡ separator ++ after
-    → after ≡ flow_text f place ++ later → separator ≡ separator_of (zip flows places)
+    (tree_numbers new : List ℕ) (f : Flow) (tree_no n : ℕ) → n ≡ length tree_numbers
+    → slice_get flows n ≡ Some f → new ≡ tree_numbers ++ tree_no ∷ []
+    → s ≡ listed (flow_texts flows tree_numbers) ++ before → before ≡ separator ++ after
+    → after ≡ flow_text f tree_no ++ later → separator ≡ separator_of (zip flows tree_numbers)
     → (s ≡ listed (flow_texts flows new) ++ later) × (codes "," ≡ separator_of (zip flows new))
-flow_texts-push s before after later separator flows places new f place n long here made e cut piece is =
-    let there : slice_get flows (length places) ≡ Some f =
+flow_texts-push s before after later separator flows tree_numbers new f tree_no n long here made e cut piece is =
+    let there : slice_get flows (length tree_numbers) ≡ Some f =
     ap (slice_get flows) (sym long) ∙ here in
-    let grown : zip flows new ≡ zip flows places ++ (f, place) ∷ [] =
-    ap (λ (l : List ℕ). zip flows l) made ∙ zip-push flows places f place there in (
+    let grown : zip flows new ≡ zip flows tree_numbers ++ (f, tree_no) ∷ [] =
+    ap (λ (l : List ℕ). zip flows l) made ∙ zip-push flows tree_numbers f tree_no there in (
       listed-push (λ (p : Flow × ℕ). flow_text p.0 p.1) s before after later separator
-          (zip flows places) (zip flows new) (f, place) grown e cut piece is,
-      separator_of-comma_next (zip flows places) (zip flows new) (f, place) grown,
+          (zip flows tree_numbers) (zip flows new) (f, tree_no) grown e cut piece is,
+      separator_of-comma_next (zip flows tree_numbers) (zip flows new) (f, tree_no) grown,
     )

@@ -68,7 +68,7 @@ certificate_text-denotes_by_trees : (t : TopologyValue) (flows : List Tree) → 
     → DenotesCertificate t (certificate_text t flows) flows
 certificate_text-denotes_by_trees t flows rules count all few =
     let trees = distinct_trees flows in
-    let places = map (tree_number_of trees) flows in
+    let tree_numbers = map (tree_number_of trees) flows in
     let few_trees : length trees ≤ 4096 = omega (
       arith,
       length-fold_with_tree [] flows,
@@ -76,13 +76,13 @@ certificate_text-denotes_by_trees t flows rules count all few =
       rules.few_flows,
     ) in
     let at = find_tree-each_flow [] flows in
-    let named : AllByRecursion (λ n. n < length trees) places =
+    let named : AllByRecursion (λ n. n < length trees) tree_numbers =
     AllByRecursion-map (λ n. n < length trees) (tree_number_of trees) flows
     (AllByRecursion-implies (λ es. (k : ℕ) × (find_tree trees es ≡ Some k))
     (λ es. tree_number_of trees es < length trees) (tree_number_of-below_length trees) flows at) in
     subst (λ (own : List Tree). DenotesCertificate t (certificate_text t flows) own)
     (tree_at-tree_number_of trees flows at)
-    (version_two_text-denotes t places trees (certificate_text t flows) [] rules
+    (version_two_text-denotes t tree_numbers trees (certificate_text t flows) [] rules
     (omega (arith, length-map flows (tree_number_of trees), count)) named few_trees all few
     (sym (append-nil (certificate_text t flows))) (IsTextEnd-from_rest [] (inl refl)))
 

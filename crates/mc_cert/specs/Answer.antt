@@ -11,9 +11,9 @@ use Rattle.mc_topology.specs.Answer.{◌>>=◌}
 use Rattle.std.specs.Prelude.{codes, decimal}
 
 -- the result of a step, with its fault placed here
-abbrev pub place : {A : Type 0} → At → Result A CertFaultKind → Result A CertFault
-place at (Ok x) = Ok x
-place at (Err kind) = Err (record { place = at; kind = kind })
+abbrev pub locate_fault : {A : Type 0} → At → Result A CertFaultKind → Result A CertFault
+locate_fault at (Ok x) = Ok x
+locate_fault at (Err kind) = Err (record { place = at; kind = kind })
 
 -- the place of the entry with this number of a flow or a tree
 abbrev pub entry_place : At → ℕ → At
@@ -36,10 +36,10 @@ abbrev pub Gives : {X Y : Type 0} → (X → Y) → Result X CertFault → Resul
 Gives = Steps.Gives IsOutOfMemory
 
 -- The values of rows, each read by its number, counted from 0, or the first fault.
-unfoldable pub each : {D X : Type 0} → (ℕ → D → Result X CertFault) → List X → List D
+unfoldable pub each_row : {D X : Type 0} → (ℕ → D → Result X CertFault) → List X → List D
     → Result (List X) CertFault
-each one earlier [] = Ok earlier
-each one earlier (d ∷ ds) = one (length earlier) d >>= λ x. each one (earlier ++ x ∷ []) ds
+each_row one earlier [] = Ok earlier
+each_row one earlier (d ∷ ds) = one (length earlier) d >>= λ x. each_row one (earlier ++ x ∷ []) ds
 
 -- the text of a place
 abbrev pub place_text : At → List ℕ

@@ -36,18 +36,18 @@ tree_text t es = codes "[" ++ listed (map (entry_text t) es) ++ codes "]"
 
 -- a flow of the topology, and the number of its tree
 abbrev pub flow_text : Flow → ℕ → List ℕ
-flow_text f place =
+flow_text f tree_no =
     codes "{\"group\":\"" ++ dotted f.group ++ codes "\",\"source\":\"" ++ dotted f.source
-    ++ codes "\",\"tree\":" ++ decimal place
+    ++ codes "\",\"tree\":" ++ decimal tree_no
     ++ codes "}"
 
 abbrev pub flow_texts : List Flow → List ℕ → List (List ℕ)
-flow_texts flows places = map (λ p. flow_text p.0 p.1) (zip flows places)
+flow_texts flows tree_numbers = map (λ p. flow_text p.0 p.1) (zip flows tree_numbers)
 
 -- the flows of the topology with these numbers of their trees, and the trees
 abbrev pub version_two_text : TopologyValue → List ℕ → List Tree → List ℕ
-version_two_text t places trees =
-    codes "{\"flows\":[" ++ listed (flow_texts t.flows places) ++ codes "],\"trees\":["
+version_two_text t tree_numbers trees =
+    codes "{\"flows\":[" ++ listed (flow_texts t.flows tree_numbers) ++ codes "],\"trees\":["
     ++ listed (map (tree_text t) trees)
     ++ codes "],\"version\":2}"
 

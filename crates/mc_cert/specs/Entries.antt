@@ -14,7 +14,7 @@ use Rattle.mc_cert.specs.declared.fault.At.{At}
 use Rattle.mc_cert.specs.declared.fault.CertFaultKind.{CertFaultKind}
 use Rattle.mc_cert.specs.declared.fault.CertFaultKind.TheVariants.{MissingKey, UnknownName}
 use Rattle.mc_cert.specs.declared.fault.CertFault.{CertFault}
-use Rattle.mc_cert.specs.Answer.{place, entry_place, each}
+use Rattle.mc_cert.specs.Answer.{locate_fault, entry_place, each_row}
 use Rattle.mc_cert.specs.Object.{text_of, number_of, text_at, whole_at, in_range, object_of}
 
 -- the keys of an entry
@@ -61,4 +61,4 @@ entry_of t d = do
 
 -- the entries of a flow or a tree, from the first one, each with its number, counted from 1
 unfoldable pub entries_of : TopologyValue → At → List Data → Result (List Entry) CertFault
-entries_of t at rows = each (λ n d. place (entry_place at (n + 1)) (entry_of t d)) [] rows
+entries_of t at rows = each_row (λ n d. locate_fault (entry_place at (n + 1)) (entry_of t d)) [] rows

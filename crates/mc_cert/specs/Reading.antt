@@ -14,7 +14,7 @@ use Rattle.mc_cert.specs.declared.fault.CertFaultKind.TheVariants.{BadKind, TooM
 use Rattle.mc_cert.specs.declared.fault.CertFault.{CertFault}
 use Rattle.mc_cert.specs.declared.version.Version.{Version}
 use Rattle.mc_cert.specs.declared.version.Version.TheVariants.{One, Two}
-use Rattle.mc_cert.specs.Answer.{place}
+use Rattle.mc_cert.specs.Answer.{locate_fault}
 use Rattle.mc_cert.specs.Certificate.{Tree}
 use Rattle.mc_cert.specs.Object.{has_only, number_at}
 use Rattle.mc_cert.specs.VersionOne.{flows_in}
@@ -58,7 +58,7 @@ flows_of_version Two t ms = shared_flows_in t ms
 -- the certificate of a text: first the text as a whole, at `top`, and then its flows
 unfoldable pub parse_certificate : TopologyValue → List ℕ → Result (List Tree) CertFault
 parse_certificate t text = do
-  value ← place Top (parse_bounded_json text)
-  members ← place Top (members_of value)
-  version ← place Top (version_in members)
+  value ← locate_fault Top (parse_bounded_json text)
+  members ← locate_fault Top (members_of value)
+  version ← locate_fault Top (version_in members)
   flows_of_version version t members

@@ -12,7 +12,7 @@ ghost use Rattle.mc_cert.specs.Writable.{IsWritableEntryFor, IsWritableTreeFor};
 
 use crate::certificate::Certificate;
 use crate::entry::MAX_ENTRIES;
-use crate::pieces::{after_prefix, number, read_until_quote};
+use crate::pieces::{after_prefix, read_number, read_until_quote};
 use crate::reached::Reached;
 use crate::version_two::MAX_TREES;
 use mc_text::{Addr, MAX_TEXT};
@@ -74,9 +74,9 @@ fn read_numbers(text: &[u8]) -> Option<(u8, u8, &[u8])>
     ensures need { IfSome result (λ r. 1 ≤ r.0) }
 {
     let rest = after_prefix(text, b"\",\"need\":")?;
-    let (need, rest) = number(rest)?;
+    let (need, rest) = read_number(rest)?;
     let rest = after_prefix(rest, b",\"rank\":")?;
-    let (rank, rest) = number(rest)?;
+    let (rank, rest) = read_number(rest)?;
     if need == 0 || need > 255 || rank > 255 {
         return None;
     }
@@ -100,7 +100,7 @@ fn read_forwarder<'a>(
         return None;
     };
     let rest = after_prefix(rest, b"\",\"vif\":")?;
-    let (vif, rest) = number(rest)?;
+    let (vif, rest) = read_number(rest)?;
     if vif > 31 {
         return None;
     }
@@ -206,9 +206,9 @@ fn read_flow<'a>(flow: &Flow, text: &'a [u8]) -> Option<(u32, &'a [u8])>
     let rest = after_prefix(rest, b"\",\"source\":\"")?;
     let rest = after_address(rest, flow.source)?;
     let rest = after_prefix(rest, b"\",\"tree\":")?;
-    let (place, rest) = number(rest)?;
+    let (tree_no, rest) = read_number(rest)?;
     let rest = after_prefix(rest, b"}")?;
-    Some((place, rest))
+    Some((tree_no, rest))
 }
 
 /// Reads the flows of the topology with commas between them, and gives the numbers of their trees and
@@ -223,20 +223,20 @@ fn read_flows<'a>(
     ensures count { IfOk result (λ r. vec_len r.0 ≡ length topology.now.flows) }
 {
     let mut rest = text;
-    let mut places = Vec::new(alloc);
+    let mut tree_numbers = Vec::new(alloc);
     let mut separator: &[u8] = b"";
     for number in 0..topology.flows() {
         let Some(after) = after_prefix(rest, separator) else {
             return Err(NotCompact);
         };
-        let Some((place, after)) = read_flow(topology.flow(number), after) else {
+        let Some((tree_no, after)) = read_flow(topology.flow(number), after) else {
             return Err(NotCompact);
         };
-        places.push(place)?;
+        tree_numbers.push(tree_no)?;
         rest = after;
         separator = b",";
     }
-    Ok((places, rest))
+    Ok((tree_numbers, rest))
 }
 
 /// Whether each number is below the count.
@@ -271,7 +271,7 @@ pub(crate) fn compact_certificate(
     let Some(rest) = after_prefix(text, b"{\"flows\":[") else {
         return Err(NotCompact);
     };
-    let Ok((places, rest)) = read_flows(alloc, topology, rest) else {
+    let Ok((tree_numbers, rest)) = read_flows(alloc, topology, rest) else {
         return Err(NotCompact);
     };
     let Some(rest) = after_prefix(rest, b"],\"trees\":[") else {
@@ -283,8 +283,8 @@ pub(crate) fn compact_certificate(
     let Some(rest) = after_prefix(rest, b"],\"version\":2}") else {
         return Err(NotCompact);
     };
-    if !is_end(rest) || !are_below(&places, trees.len()) {
+    if !is_end(rest) || !are_below(&tree_numbers, trees.len()) {
         return Err(NotCompact);
     }
-    Ok(Certificate::from_trees(trees, places))
+    Ok(Certificate::from_trees(trees, tree_numbers))
 }

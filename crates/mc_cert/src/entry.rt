@@ -3,14 +3,14 @@
 ghost use Rattle.std.specs.Prelude.{◌≡◌, ◌+◌, ◌<◌, ◌≤◌, map, length, option_map};
 ghost use Rattle.serde_json.specs.View.{view, members_view};
 ghost use Rattle.mc_topology.specs.Answer.{ResultsAgree};
-ghost use Rattle.mc_cert.specs.Answer.{Gives, place, entry_place};
+ghost use Rattle.mc_cert.specs.Answer.{Gives, locate_fault, entry_place};
 ghost use Rattle.mc_cert.specs.Entries.{lan_in, router_of, vif_of, forwarder_of, entry_of};
 ghost use Rattle.mc_cert.specs.Entries.{entries_of};
 
 use crate::fault::{At, CertFault, CertFaultKind};
 use crate::object::{in_range, number_of, object_of, text_at, text_of, value_at, whole_at};
 use crate::reached::Reached;
-use crate::rows::{RowReader, each};
+use crate::rows::{RowReader, each_row};
 use mc_topology::{LanNo, RouterNo, Topology};
 use serde_json::{Map, Value};
 use std::alloc::Global;
@@ -93,12 +93,12 @@ fn entry_of(topology: &Topology, value: &Value) -> Result<Reached, CertFaultKind
 
 /// Reads the entries of the flow or the tree at a place.
 #[derive(Drop)]
-struct Entries<'t> {
+struct EntryReader<'t> {
     topology: &'t Topology,
     list: At,
 }
 
-impl<'t> RowReader for Entries<'t> {
+impl<'t> RowReader for EntryReader<'t> {
     ghost use Rattle.mc_cert.specs.declared.entry.TheConstants.{MAX_ENTRIES};
     ghost use Rattle.mc_theory.specs.Certificates.{Entry};
 
@@ -111,7 +111,7 @@ impl<'t> RowReader for Entries<'t> {
     ghost is_row_number = { λ _ n. n < MAX_ENTRIES };
 
     ghost row_value = { λ entries n d.
-        place (entry_place entries.list (n + 1)) (entry_of entries.topology.now d) };
+        locate_fault (entry_place entries.list (n + 1)) (entry_of entries.topology.now d) };
 
     /// Reads an entry, and gives a fault its place.
     fn read_row(&self, number: usize, value: &Value) -> Result<Reached, CertFault> {
@@ -133,5 +133,5 @@ pub(crate) fn entries_of(
     ensures gives { Gives (λ entries. entries.items) result
         (entries_of topology.now list (map view rows.now)) }
 {
-    each(alloc, &Entries { topology, list }, rows)
+    each_row(alloc, &EntryReader { topology, list }, rows)
 }

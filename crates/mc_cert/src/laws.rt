@@ -1,11 +1,12 @@
 //! Theorems over the definitions alone, for crates that use them.
 
-ghost use Rattle.std.specs.Prelude.{◌≡◌, ◌↔◌, ℕ, ◌<◌, ◌≤◌, All, List, [], ◌∷◌, ◌++◌, length, Ok};
+ghost use Rattle.std.specs.Prelude.{◌≡◌, ◌↔◌, ℕ, ◌<◌, ◌≤◌, List, [], ◌∷◌, ◌++◌, length, Ok};
 ghost use Rattle.mc_topology.specs.Topology.{TopologyValue, IsValidTopology};
-ghost use Rattle.mc_cert.specs.Certificate.{Tree, IsWritableTree, HasByteNumbers, BelongsTo};
+ghost use Rattle.mc_cert.specs.Certificate.{Tree, BelongsTo};
 ghost use Rattle.mc_cert.specs.CertificateText.{certificate_text};
 ghost use Rattle.mc_cert.specs.Reading.{parse_certificate};
 ghost use Rattle.mc_cert.specs.Denotation.{DenotesCertificate};
+ghost use Rattle.mc_cert.specs.Writable.{IsWritableFor};
 
 /// Reading gives a certificate exactly where the text denotes it, so a text denotes one certificate of a
 /// topology at most.
@@ -22,11 +23,10 @@ pub fn denoted_certificate_belongs_to_topology()
         DenotesCertificate t text flows → BelongsTo t flows }
 {}
 
-/// The text of a certificate that belongs to a valid topology denotes it, where it isn't longer than a
-/// text may be. Each topology in memory is valid, by the clauses `rules` of its methods.
+/// The text of a certificate that can be written for a valid topology denotes it, where it isn't longer
+/// than a text may be. Each topology in memory is valid, by the clauses `rules` of its methods.
 pub fn certificate_text_denotes_certificate()
-    ensures { (t : TopologyValue) (flows : List Tree) → IsValidTopology t → BelongsTo t flows →
-        All IsWritableTree flows → All (All HasByteNumbers) flows →
+    ensures { (t : TopologyValue) (flows : List Tree) → IsValidTopology t → IsWritableFor t flows →
         length (certificate_text t flows) ≤ 16777216 →
         DenotesCertificate t (certificate_text t flows) flows }
 {}

@@ -12,7 +12,7 @@ pub(crate) fn after_prefix<'a>(text: &'a [u8], front: &[u8]) -> Option<&'a [u8]>
 }
 
 /// Reads a decimal digit, and gives the rest of the text.
-fn digit(text: &[u8]) -> Option<(u32, &[u8])>
+fn read_digit(text: &[u8]) -> Option<(u32, &[u8])>
     ensures text { IfSome result (λ r. text.now ≡ (48 + r.0) ∷ r.1.now) }
     ensures small { IfSome result (λ r. r.0 < 10) }
 {
@@ -31,18 +31,18 @@ fn with_next_digit(number: u32, text: &[u8]) -> (u32, &[u8])
     ensures some { 0 < result.0 }
     ensures small { result.0 ≤ number * 10 + 9 }
 {
-    match digit(text) {
+    match read_digit(text) {
         Some((digit, rest)) => (number * 10 + digit, rest),
         None => (number, text),
     }
 }
 
 /// Reads a decimal number of at most four digits without a leading zero, and gives the rest of the text.
-pub(crate) fn number(text: &[u8]) -> Option<(u32, &[u8])>
+pub(crate) fn read_number(text: &[u8]) -> Option<(u32, &[u8])>
     ensures text { IfSome result (λ r. text.now ≡ decimal r.0 ++ r.1.now) }
     ensures small { IfSome result (λ r. r.0 < 10000) }
 {
-    let (first, rest) = digit(text)?;
+    let (first, rest) = read_digit(text)?;
     if first == 0 {
         return Some((first, rest));
     }

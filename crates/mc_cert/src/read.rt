@@ -5,7 +5,7 @@ ghost use Rattle.serde_json.specs.View.{view, number_view, members_view};
 ghost use Rattle.serde_json.specs.Find.{as_u64};
 ghost use Rattle.mc_topology.specs.Answer.{ResultsAgree};
 ghost use Rattle.mc_cert.specs.declared.fault.At.TheVariants.{Top};
-ghost use Rattle.mc_cert.specs.Answer.{Gives, place};
+ghost use Rattle.mc_cert.specs.Answer.{Gives, locate_fault};
 ghost use Rattle.mc_cert.specs.Object.{has_only};
 ghost use Rattle.mc_cert.specs.Reading.{parse_json, parse_bounded_json, members_of, version_of, top_keys};
 ghost use Rattle.mc_cert.specs.Reading.{version_in, flows_of_version, parse_certificate};
@@ -24,7 +24,7 @@ use std::alloc::Global;
 /// Parses a text as JSON.
 #[tactic(auto, unfolding(crate::specs::Reading::parse_json))]
 fn parse_json(alloc: Global, text: &[u8]) -> Result<Value, CertFault>
-    ensures { Gives view result (place Top (parse_json text.now)) }
+    ensures { Gives view result (locate_fault Top (parse_json text.now)) }
 {
     match Value::from_slice(alloc, text) {
         Ok(value) => Ok(value),
@@ -87,7 +87,7 @@ fn flows_of_version(
 /// Parses a text as JSON, if it isn't too long.
 #[tactic(auto, unfolding(crate::specs::Reading::parse_bounded_json))]
 fn parse_bounded_json(alloc: Global, text: &[u8]) -> Result<Value, CertFault>
-    ensures { Gives view result (place Top (parse_bounded_json text.now)) }
+    ensures { Gives view result (locate_fault Top (parse_bounded_json text.now)) }
 {
     if text.len() > MAX_TEXT {
         return Err(CertFaultKind::TooMany.at(At::Top));

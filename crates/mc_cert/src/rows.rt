@@ -4,7 +4,7 @@ ghost use Rattle.std.specs.Prelude.{◌≡◌, ℕ, ◌<◌, [], length, vec_len
 ghost use Rattle.serde_json.specs.Data.{Data};
 ghost use Rattle.serde_json.specs.View.{view};
 ghost use Rattle.mc_cert.specs.declared.fault.CertFault.{CertFault};
-ghost use Rattle.mc_cert.specs.Answer.{Gives, each};
+ghost use Rattle.mc_cert.specs.Answer.{Gives, each_row};
 
 use crate::fault::CertFault;
 use serde_json::Value;
@@ -28,19 +28,19 @@ pub(crate) trait RowReader {
 
     /// Reads the row with this number, counted from 0.
     fn read_row(&self, number: usize, value: &Value) -> Result<Self::Item, CertFault>
-        requires given { is_row_number self.now number }
+        requires number { is_row_number self.now number }
         ensures gives { Gives item_view result (row_value self.now number (view value.now)) };
 }
 
 /// Reads the rows, one after the other.
-pub(crate) fn each<R: RowReader>(
+pub(crate) fn each_row<R: RowReader>(
     alloc: Global,
     rows: &R,
     values: &[Value],
 ) -> Result<Vec<R::Item>, CertFault>
     requires within { (n : ℕ) → n < length values.now → R.is_row_number rows.now n }
     ensures rows { Gives (λ items. map R.item_view items.items) result
-        (each (R.row_value rows.now) [] (map view values.now)) }
+        (each_row (R.row_value rows.now) [] (map view values.now)) }
     ensures count { IfOk result (λ items. vec_len items ≡ length values.now) }
 {
     let mut items = Vec::with_capacity(alloc, values.len())?;

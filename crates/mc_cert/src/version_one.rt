@@ -14,7 +14,7 @@ use crate::entry::{MAX_ENTRIES, entries_of};
 use crate::fault::{At, CertFault, CertFaultKind};
 use crate::object::{at_most, list_at, object_of, text_at};
 use crate::reached::Reached;
-use crate::rows::{RowReader, each};
+use crate::rows::{RowReader, each_row};
 use mc_text::Addr;
 use mc_topology::{Flow, Topology};
 use serde_json::{Map, Value};
@@ -117,6 +117,6 @@ pub(crate) fn flows_in(
     ensures { Gives (λ c. c) result (flows_in topology.now (members_view object.now.entries)) }
 {
     let rows = flow_rows(topology, object).map_err(|kind| kind.at(At::Top))?;
-    let flows = each(alloc, &FlowReader { alloc, topology }, rows)?;
+    let flows = each_row(alloc, &FlowReader { alloc, topology }, rows)?;
     Ok(Certificate::from_flows(flows))
 }

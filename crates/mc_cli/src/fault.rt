@@ -43,7 +43,7 @@ pub fn refusal(alloc: Global, error: &clap::Error) -> WordsFault {
 }
 
 /// Clap's error for a broken rule, with the usage of the command.
-fn explained(
+fn usage_error(
     command: Result<Command<'_>, AllocError>,
     rule: &str,
 ) -> Result<clap::Error, AllocError> {
@@ -57,7 +57,7 @@ pub fn usage_refusal(
     command: Result<Command<'_>, AllocError>,
     rule: &str,
 ) -> WordsFault {
-    match explained(command, rule) {
+    match usage_error(command, rule) {
         Ok(error) => refusal(alloc, &error),
         Err(_) => WordsFault::Memory,
     }

@@ -1,11 +1,11 @@
 //! The command line: the task that the program's words ask for, or what is wrong with them.
 #![tactic(auto)]
 
+mod arguments;
 mod audit_words;
 mod command;
 mod draft;
 mod fault;
-mod found;
 mod task;
 mod words;
 

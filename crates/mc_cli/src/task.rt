@@ -15,10 +15,10 @@ ghost use Rattle.mc_cli.specs.Task.{IsTaskOfCommand, is_topic, order_word};
 ghost use Rattle.mc_cli.specs.declared.task.Task.{Task};
 ghost use Rattle.mc_cli.specs.declared.fault.WordsFault.TheVariants.{Memory};
 
+use crate::arguments::{is_flag_set, word_of};
 use crate::audit_words::{AuditWords, audit_words_of};
 use crate::command::{clap_program, command_named, program, replay_command, wants_command};
 use crate::fault::{WordsFault, refusal_explained_by_clap, usage_refusal};
-use crate::found::{is_flag_set, word_of};
 use clap::error::ErrorKind;
 use clap::{ArgMatches, Command};
 use mc_text::{Addr, decimal};

@@ -36,15 +36,15 @@ nested_if-le_one_more : (b d : Bool) (n : ℕ) → (if b then n + 1 else if d th
 nested_if-le_one_more true d n = omega arith
 nested_if-le_one_more false d n = if_sub-le_one_more d n
 
-header_after-le_one_more : (part : LinePart) (header : ℕ) (place : LexState) (c : ℕ)
-    → header_after part header place c ≤ header + 1
-header_after-le_one_more Margin header place c = if-le_one_more (c == 91) header 1 (omega arith)
-header_after-le_one_more Header header place c = kept (is_skipped_in_header place c) header
+header_after-le_one_more : (part : LinePart) (header : ℕ) (state : LexState) (c : ℕ)
+    → header_after part header state c ≤ header + 1
+header_after-le_one_more Margin header state c = if-le_one_more (c == 91) header 1 (omega arith)
+header_after-le_one_more Header header state c = kept (is_skipped_in_header state c) header
   where
     kept : (b : Bool) (n : ℕ) → (if b then n else n + 1) ≤ n + 1
     kept true n = omega arith
     kept false n = omega arith
-header_after-le_one_more Rest header place c = omega arith
+header_after-le_one_more Rest header state c = omega arith
 
 -- how much a byte increases each number of a scan at most
 pub with_byte-growth : (scan : Scan) (c : ℕ) → ((with_byte scan c).nesting ≤ scan.nesting + 1)
@@ -53,11 +53,11 @@ pub with_byte-growth : (scan : Scan) (c : ℕ) → ((with_byte scan c).nesting �
     × ((with_byte scan c).marks ≤ scan.marks + 1)
 unfolding with_byte
 with_byte-growth scan c =
-    let place = after_byte scan.place c in
-    let outside = is_outside place in (
+    let state = after_byte scan.state c in
+    let outside = is_outside state in (
       if-le_one_more outside scan.nesting (nesting_after scan.nesting c)
           (nested_if-le_one_more (c == 91 || c == 123) (c == 93 || c == 125) scan.nesting),
-      header_after-le_one_more scan.part scan.header place c,
+      header_after-le_one_more scan.part scan.header state c,
       if_add-le (outside && c == 61) scan.compared scan.header,
       if-le_one_more (outside && is_mark c) scan.marks (scan.marks + 1) (omega arith),
     )

@@ -93,9 +93,9 @@ is_skipped_in_header MultiLineEscape c = false
 
 -- how many bytes the last header has after a byte
 abbrev pub header_after : LinePart → ℕ → LexState → ℕ → ℕ
-header_after Margin header place c = if c == 91 then 1 else header
-header_after Header header place c = if is_skipped_in_header place c then header else header + 1
-header_after Rest header place c = header
+header_after Margin header state c = if c == 91 then 1 else header
+header_after Header header state c = if is_skipped_in_header state c then header else header + 1
+header_after Rest header state c = header
 
 -- ---- marks
 
@@ -104,23 +104,23 @@ abbrev pub is_mark : ℕ → Bool
 is_mark c = list_any (λ mark. mark == c) (codes ".,={[")
 
 abbrev pub with_state : Scan → LexState → ℕ → Scan
-with_state scan place c = let outside = is_outside place in record {
-  place = place;
+with_state scan state c = let outside = is_outside state in record {
+  state = state;
   part = part_after scan.part scan.nesting outside c;
   nesting = if outside then nesting_after scan.nesting c else scan.nesting;
-  header = header_after scan.part scan.header place c;
+  header = header_after scan.part scan.header state c;
   compared = if outside && c == 61 then scan.compared + scan.header else scan.compared;
   marks = if outside && is_mark c then scan.marks + 1 else scan.marks;
 }
 
 -- the scan with the next byte
 unfoldable pub with_byte : Scan → ℕ → Scan
-with_byte scan c = with_state scan (after_byte scan.place c) c
+with_byte scan c = with_state scan (after_byte scan.state c) c
 
 -- the scan before the first byte
 abbrev pub initial_scan : Scan
 initial_scan =
-    record { place = Outside; part = Margin; nesting = 0; header = 0; compared = 0; marks = 0 }
+    record { state = Outside; part = Margin; nesting = 0; header = 0; compared = 0; marks = 0 }
 
 -- Outside of strings and comments there are at most 131,072 of the marks `.`, `,`, `=`, `{` and `[`, and
 -- at most 268,435,456 bytes are compared: for each `=` those of the last header above it.

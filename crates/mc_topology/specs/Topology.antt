@@ -53,6 +53,11 @@ AreDistinctBy {X} {K} key xs =
 abbrev pub IsIn : {X : Type 0} → List X → X → Type 0
 IsIn xs x = (n : ℕ) × (slice_get xs n ≡ Some x)
 
+-- the topology has an interface of this router and this device, on this LAN
+abbrev pub HasInterface : TopologyValue → ℕ → List ℕ → ℕ → Type 0
+HasInterface t router device lan =
+    IsIn t.interfaces (record { router = router; device = device; lan = lan })
+
 -- a device of one of the routers, on one of the LANs
 pub record IsValidInterface (t : TopologyValue) (i : InterfaceRow) : Type 0 where
   pub router : i.router < length t.routers

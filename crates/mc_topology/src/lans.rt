@@ -59,8 +59,8 @@ impl Lans {
         ensures number { result ≡ index_of name.now self.now }
         ensures listed { IfSome result (λ lan. lan < length self.now) }
     {
-        let place = self.names.get_index_of(name)?;
-        Some(LanNo(place as u32))
+        let index = self.names.get_index_of(name)?;
+        Some(LanNo(index as u32))
     }
 
     /// The name of the LAN with this number.

@@ -6,7 +6,7 @@ ghost use Rattle.mc_topology.specs.Names.{index_of};
 ghost use Rattle.mc_topology.specs.Reading.{parse_topology, parse_unbounded_topology};
 ghost use Rattle.mc_topology.specs.Lookup.{router_no_of};
 ghost use Rattle.mc_topology.specs.Denotation.{DenotesTopology, DenotesBoundedTopology};
-ghost use Rattle.mc_topology.specs.Topology.{TopologyValue, IsIn, IsValidTopology, lan_of_interface};
+ghost use Rattle.mc_topology.specs.Topology.{HasInterface, TopologyValue, IsValidTopology, lan_of_interface};
 
 use crate::number::{LanNo, RouterNo};
 
@@ -51,8 +51,7 @@ pub fn router_numbers_and_names_are_inverse()
 /// on this LAN.
 pub fn interfaces_are_found_by_router_and_device()
     ensures { (t : TopologyValue) (router lan : ℕ) (device : List ℕ) → IsValidTopology t →
-        ((lan_of_interface router device t.interfaces ≡ Some lan) ↔
-        IsIn t.interfaces (record { router = router; device = device; lan = lan })) }
+        ((lan_of_interface router device t.interfaces ≡ Some lan) ↔ HasInterface t router device lan) }
 {}
 
 /// LANs and routers are ordered by their numbers.

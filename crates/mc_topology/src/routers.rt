@@ -60,8 +60,8 @@ impl Routers {
         ensures number { result ≡ router_no_of name.now self.now }
         ensures listed { IfSome result (λ router. router < length self.now) }
     {
-        let place = self.orders.get_index_of(name)?;
-        Some(RouterNo(place as u32))
+        let index = self.orders.get_index_of(name)?;
+        Some(RouterNo(index as u32))
     }
 
     /// The name of the router with this number.

@@ -50,7 +50,7 @@ enum LinePart {
 /// What a pass over a text has found so far.
 #[derive(Clone, Copy)]
 struct Scan {
-    place: LexState,
+    state: LexState,
     part: LinePart,
     /// How many brackets are open.
     nesting: usize,
@@ -197,13 +197,13 @@ impl LinePart {
     }
 
     /// How many bytes the last header has after a byte that leads to this state.
-    fn header_after(self, header: usize, place: LexState, byte: u8) -> usize
+    fn header_after(self, header: usize, state: LexState, byte: u8) -> usize
         requires bounded { header < MAX_TEXT }
-        ensures value { result ≡ header_after self header place byte }
+        ensures value { result ≡ header_after self header state byte }
     {
         match self {
             LinePart::Margin if byte == b'[' => 1,
-            LinePart::Header if !place.is_skipped_in_header(byte) => header + 1,
+            LinePart::Header if !state.is_skipped_in_header(byte) => header + 1,
             _ => header,
         }
     }
@@ -219,8 +219,8 @@ impl Scan {
         requires few { self.marks < MAX_TEXT }
         ensures value { result ≡ with_byte self byte }
     {
-        let place = self.place.after_byte(byte);
-        let is_outside = place.is_outside();
+        let state = self.state.after_byte(byte);
+        let is_outside = state.is_outside();
         let nesting = if is_outside {
             nesting_after(self.nesting, byte)
         } else {
@@ -237,10 +237,10 @@ impl Scan {
             self.marks
         };
         Scan {
-            place,
+            state,
             part: self.part.after_byte(self.nesting, is_outside, byte),
             nesting,
-            header: self.part.header_after(self.header, place, byte),
+            header: self.part.header_after(self.header, state, byte),
             compared,
             marks,
         }
@@ -254,7 +254,7 @@ pub(super) fn is_bounded(text: &[u8]) -> bool
     ensures value { result ≡ is_bounded text.now }
 {
     let mut scan = Scan {
-        place: LexState::Outside,
+        state: LexState::Outside,
         part: LinePart::Margin,
         nesting: 0,
         header: 0,

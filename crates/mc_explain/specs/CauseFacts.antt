@@ -1,4 +1,4 @@
--- What is so of each line that is told, by the rows of the flow's routers.
+-- What holds of each reported cause, by the rows of the flow's routers.
 use Rattle.std.specs.Prelude.{◌≡◌, ℕ, ◌<◌, List, [], ◌∷◌, ◌++◌, map, reverse, length, Some, None}
 use Rattle.mc_theory.specs.Lists.{In}
 use Rattle.mc_theory.specs.Nets.{Net, Interface}
@@ -17,14 +17,14 @@ use Rattle.mc_maker.specs.declared.examined_flights.ExaminedFlights.TheVariants.
 use Rattle.mc_explain.specs.declared.causes.Cause.{Cause}
 use Rattle.mc_explain.specs.Explained.{IsExplained, circle_cause}
 
--- These lines are told of a domain's flow that was examined.
+-- These causes explain a domain's flow that was examined.
 pub record AreCausesOf (d : DomainValue) (flow : ℕ) (examined_flights : ExaminedFlights) (causes : List Cause) : Type 0 where
   pub domain : IsDomain d
   pub flow_in : flow < length d.topology.flows
   pub examined : HasExaminedFlights d flow examined_flights
   pub lines : IsExplained d flow examined_flights causes
 
--- what was found, at whichever TTL
+-- the finding, at TTL 255 or at the flow's TTL
 abbrev pub final_finding : ExaminedFlights → Finding
 final_finding (Certified entries) = Clean
 final_finding (FoundAtTtl255 ended) = finding_value ended.travel.finding
@@ -39,20 +39,20 @@ pub record HasPair (n : Net) (router vif threshold : ℕ) : Type 0 where
   pub row : n.row router ≡ Exact incoming pairs
   pub pair : In (vif, threshold) pairs
 
--- it has one, and the vif is placed on this LAN
+-- it has such a pair, and the vif is placed on this LAN
 pub record SendsOnto (n : Net) (router vif lan : ℕ) : Type 0 where
   pub threshold : ℕ
   pub has : HasPair n router vif threshold
   pub placed : n.placed router vif ≡ Some lan
 
--- it has one, and the vif is placed on no LAN
+-- it has such a pair, and the vif is placed on no LAN
 pub record LeadsOut (n : Net) (router vif : ℕ) : Type 0 where
   pub threshold : ℕ
   pub has : HasPair n router vif threshold
   pub unplaced : n.placed router vif ≡ None
 
--- The router has no row of the flow's source and group but one for every source, and the vif is
--- placed on a LAN that the flow's packets reach, the time to live aside.
+-- The router's only row for the flow is for every source, and the vif is placed on a LAN that the flow's
+-- packets reach, whatever their TTL.
 pub record ReachesEverySourceRow (n : Net) (router vif : ℕ) : Type 0 where
   pub row : n.row router ≡ Open
   pub lan : ℕ
@@ -61,7 +61,7 @@ pub record ReachesEverySourceRow (n : Net) (router vif : ℕ) : Type 0 where
 
 -- ---- a circle
 
--- The lines of some hops are told, in the order of the way, and these lead from the LAN back to it.
+-- The causes are the hops of a path from the LAN back to it, in order, and then a remedy.
 pub record IsClosedCircle (n : Net) (lan : ℕ) (causes : List Cause) : Type 0 where
   pub first : Hop
   pub others : List Hop
@@ -71,14 +71,14 @@ pub record IsClosedCircle (n : Net) (lan : ℕ) (causes : List Cause) : Type 0 w
 
 -- ---- a remedy
 
--- Without the interface a way with this need leads to the LAN.
+-- Without the interface a path with this need leads to the LAN.
 pub record StaysReached (n : Net) (i : Interface) (lan least : ℕ) : Type 0 where
   pub path : List Hop
   pub is_path : IsPath (take_out i n) n.source path lan
   pub least_is : need path ≡ least
 
--- Where these picks are a complete run without loss of a packet with TTL t in the one domain, each
--- LAN carried a copy to which those brought one in the other.
+-- If qs are a complete run without loss of a packet with TTL t in `left`, then it carries a copy on each
+-- LAN on which the run of ps in n carries one.
 abbrev pub CarriesAsMuch : (left n : Net) → (t : ℕ) → (qs ps : List Pick) → Type 0
 CarriesAsMuch left n t qs ps =
     InRange left qs (start left t) → IsLossless qs → (run left qs (start left t)).waiting ≡ [] →
@@ -87,8 +87,8 @@ CarriesAsMuch left n t qs ps =
 
 -- ---- a stop
 
--- The hop is on a way to the LAN, and a packet with the flow's TTL comes to it with what is left,
--- and is stopped.
+-- The hop is on a path to the LAN, and a packet with the flow's TTL comes to it with TTL `left` and is
+-- stopped there.
 pub record StopsOnPath (n : Net) (hop : Hop) (left lan : ℕ) : Type 0 where
   pub path : List Hop
   pub leads : IsPath n n.source path lan

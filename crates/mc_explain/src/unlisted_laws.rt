@@ -1,4 +1,4 @@
-//! Which unlisted pairs are shown.
+//! Theorem: which unlisted pairs are shown.
 
 ghost use Rattle.std.specs.Prelude.{◌≡◌, ℕ, Bool, List, filter, flat_map, length, map, slice_get};
 ghost use Rattle.mc_tables.specs.CacheTable.{RowValue};
@@ -7,9 +7,9 @@ ghost use Rattle.mc_topology.specs.Topology.{TopologyValue};
 ghost use Rattle.mc_theory.specs.Lists.{In, below};
 ghost use Rattle.mc_explain.specs.UnlistedText.{has_unlisted_row, shown_unlisted_pairs, routers_with};
 
-/// By the notes of the routers' caches all pairs are shown, or the lowest 20 of all, that stand in their
-/// resolved rows and are not listed: for these each router's own 20 suffice. And with each pair all
-/// routers are told that have such a row.
+/// The shown pairs are all unlisted ones of the caches' resolved rows, or the lowest 20 of all, though
+/// each summary then has only the lowest 20 of its own cache. With each pair all routers are shown that
+/// have a row of it.
 pub fn the_lowest_unlisted_pairs_are_shown()
     ensures pairs { (all : Bool) (listed : List (ℕ × ℕ)) (caches : List (List RowValue)) →
         shown_unlisted_pairs all (map (summary_of all listed) caches) ≡ shown_pairs all (in_order

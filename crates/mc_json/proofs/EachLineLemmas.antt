@@ -1,4 +1,4 @@
--- Each line but the verdict's is an object whose first key isn't the verdict's.
+-- Each line except the verdict's is an object whose first key isn't the verdict's.
 use Rattle.std.proofs.Common.{◌==◌, ℕ, Bool, true, false, cond, List, [], ◌∷◌, flat_map, map, refl}
 use Rattle.mc_tables.specs.Summary.{SummaryValue}
 use Rattle.mc_topology.specs.Topology.{TopologyValue}
@@ -49,7 +49,7 @@ are_object_lines-wrong d number f found_ttl finding events also why events_asked
     are_object_lines-one (wrong_data number f (wrong_flow_of d.topology found_ttl finding events also why events_asked))
     refl refl
 
--- ---- behind the flows
+-- ---- after the flows
 
 are_object_lines-unlisted : (t : TopologyValue) (source group : ℕ) (routers : List ℕ)
     → AreObjectLines (line_of (unlisted_data t source group routers))

@@ -1,4 +1,4 @@
-//! What is told of a flow's fault as JSON, line by line.
+//! The causes of a flow's fault as JSON values.
 
 ghost use Rattle.std.specs.Prelude.{◌≡◌, ◌++◌, IfOk, OnOk, Some, map};
 ghost use Rattle.serde_json.specs.View.{view as data_of};
@@ -22,7 +22,7 @@ use mc_topology::{LanNo, RouterNo};
 use serde_json::Value;
 use std::alloc::{AllocError, Global};
 
-/// The vif that a router's row for a flow takes from. Null where it has no row of the flow.
+/// The incoming vif of a router's row for a flow, or null if it has no row of the flow's source and group.
 pub(crate) fn incoming_vif(view: &FlowView<'_>, router: RouterNo) -> Value
     ensures { data_of result ≡ incoming_vif ((net_in view.now).row router) }
 {
@@ -32,7 +32,7 @@ pub(crate) fn incoming_vif(view: &FlowView<'_>, router: RouterNo) -> Value
     }
 }
 
-/// The device of that vif. Null where there is none, too.
+/// The device of that vif, or null if there is none.
 pub(crate) fn incoming_device(
     alloc: Global,
     view: &FlowView<'_>,
@@ -47,7 +47,7 @@ pub(crate) fn incoming_device(
     }
 }
 
-/// Who sent a copy onto a LAN.
+/// A `SentOnto` cause: the router and the vif that sent a copy onto a LAN.
 fn sent_onto_value(
     alloc: Global,
     context: &LineContext<'_>,
@@ -69,7 +69,7 @@ fn sent_onto_value(
         .object()
 }
 
-/// Which row of a circle takes copies from a LAN and sends them onto the next.
+/// A `Circle` cause: a row that takes copies from one LAN of a circle and sends them onto the next.
 fn circle_value(
     alloc: Global,
     context: &LineContext<'_>,
@@ -95,7 +95,7 @@ fn circle_value(
         .object()
 }
 
-/// What may be taken out.
+/// A `TakeOut` cause: the vif to take out of its router's row.
 fn take_out_value(
     alloc: Global,
     context: &LineContext<'_>,
@@ -120,7 +120,7 @@ fn take_out_value(
         .object()
 }
 
-/// Why a vif of a table is placed on no LAN.
+/// Why a vif with a line in its router's table is placed on no LAN.
 fn unplaced_vif_kind(vif: &Vif) -> &'static str
     ensures { result.now ≡ unplaced_kind (Some vif.now) }
 {
@@ -145,7 +145,7 @@ fn unplaced_kind(view: &FlowView<'_>, router: RouterNo, vif: u8) -> &'static str
     }
 }
 
-/// A vif that a copy was sent by, and why it is placed on no LAN.
+/// A vif by which a copy was sent, and why it is placed on no LAN.
 fn unplaced_value(
     alloc: Global,
     view: &FlowView<'_>,
@@ -178,7 +178,7 @@ fn row_only_value(
         .object()
 }
 
-/// With which TTL a LAN is reached.
+/// A `LeastTtl` cause: the least TTL with which packets reach a LAN.
 fn least_ttl_value(
     alloc: Global,
     context: &LineContext<'_>,
@@ -197,7 +197,7 @@ fn least_ttl_value(
         .object()
 }
 
-/// By which row for every source a copy was met.
+/// An `OnlyEverySource` cause: the row for every source of the router at which a copy arrived.
 fn only_every_source_value(
     alloc: Global,
     context: &LineContext<'_>,
@@ -225,7 +225,7 @@ fn only_every_source_value(
         .object()
 }
 
-/// Where the flow's packet was stopped.
+/// A `StoppedAt` cause: the vif whose threshold stopped the flow's packet.
 fn stopped_at_value(
     alloc: Global,
     view: &FlowView<'_>,
@@ -247,7 +247,7 @@ fn stopped_at_value(
         .object()
 }
 
-/// Tells of a vif that a copy was sent by, and of the row that sent it.
+/// Adds an `Unplaced` cause: the vif by which a copy was sent, and the row that sent it.
 fn push_unplaced_values(
     alloc: Global,
     values: &mut Vec<Value>,
@@ -264,7 +264,7 @@ fn push_unplaced_values(
     Ok(())
 }
 
-/// Tells one thing.
+/// Adds the values of one cause.
 fn push_cause(
     alloc: Global,
     values: &mut Vec<Value>,
@@ -308,7 +308,7 @@ fn push_cause(
     Ok(())
 }
 
-/// Tells all of a flow, in order.
+/// Adds the values of a flow's causes, in order.
 pub(crate) fn push_causes(
     alloc: Global,
     values: &mut Vec<Value>,

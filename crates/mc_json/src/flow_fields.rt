@@ -1,4 +1,4 @@
-//! What is told of any flow: its number, its source, its group and its TTL.
+//! The members of each flow's line: its number, its source, its group and its TTL.
 
 ghost use Rattle.std.specs.Prelude.{◌≡◌, ◌+◌, ◌∷◌, [], IfOk, codes};
 ghost use Rattle.serde_json.specs.Data.{string};
@@ -10,7 +10,7 @@ use crate::fields::Fields;
 use mc_topology::Flow;
 use std::alloc::Global;
 
-/// Those members of the object of a flow with its number, which counts from 0 here and is told from 1.
+/// These members of a flow. `number` counts from 0, and is written counted from 1.
 pub(crate) fn flow_fields(alloc: Global, number: u32, flow: &Flow) -> Fields
     ensures { IfOk result.built (λ map. members_view map.entries ≡ members (
         (codes "flow", count_data (number + 1))

@@ -1,4 +1,4 @@
-//! What each line is, whatever it tells: an object that only the last line has a verdict in.
+//! Theorems about the lines: each is a JSON object, and only the last one has a verdict.
 
 ghost use Rattle.std.specs.Prelude.{◌≡◌, ℕ, Bool, List, codes, false, true};
 ghost use Rattle.serde_json.specs.Data.{Data};
@@ -15,8 +15,8 @@ ghost use Rattle.mc_json.specs.FlowData.{right_data, tree_data, wrong_line};
 ghost use Rattle.mc_json.specs.ObjectLines.{AreObjectLines};
 ghost use Rattle.mc_json.specs.RowData.{line_of};
 
-/// Each line but the verdict's begins an object that isn't the verdict, and has no line feed but its
-/// end, also where words of a call, and names of LANs, routers and devices stand in it.
+/// Each line except the verdict's begins an object other than the verdict, and its only line feed ends it,
+/// whatever words of the command line and names of LANs, routers and devices it has.
 pub fn each_line_is_an_object()
     ensures domain { (d : DomainFacts) (words : List (List ℕ)) →
         AreObjectLines (line_of (domain_data d words)) }
@@ -35,7 +35,7 @@ pub fn each_line_is_an_object()
         AreObjectLines (line_of (summary_data right unwanted wrong)) }
 {}
 
-/// The verdict's line.
+/// The line of each verdict, letter by letter.
 pub fn the_verdict_is_a_line()
     ensures yes { line_of (verdict_data true) ≡ codes "{\"verdict\":\"yes\"}\n" }
     ensures no { line_of (verdict_data false) ≡ codes "{\"verdict\":\"no\"}\n" }

@@ -1,4 +1,4 @@
-//! A search for a missed LAN as JSON, line by line.
+//! The search for a missed LAN as JSON values, one for each line.
 
 ghost use Rattle.std.specs.Prelude.{◌≡◌, ◌++◌, IfOk, OnOk, Some, map};
 ghost use Rattle.std.specs.String.{string_bytes};
@@ -27,7 +27,7 @@ use mc_topology::{LanNo, RouterNo, Topology};
 use serde_json::Value;
 use std::alloc::{AllocError, Global};
 
-/// What is told of a LAN alone.
+/// A line about a LAN.
 fn kind_and_lan(
     alloc: Global,
     topology: &Topology,
@@ -42,7 +42,7 @@ fn kind_and_lan(
         .object()
 }
 
-/// What is told of a router alone.
+/// A line about a router on a LAN.
 fn kind_lan_router(
     alloc: Global,
     topology: &Topology,
@@ -59,7 +59,7 @@ fn kind_lan_router(
         .object()
 }
 
-/// The device of an interface of the topology, empty for one that it hasn't.
+/// The device of an interface of the topology, empty if the topology has no such interface.
 fn interface_name(alloc: Global, topology: &Topology, interface: u32) -> Result<String, AllocError>
     ensures { IfOk result (λ text. string_bytes text
         ≡ device_name_text (interface_at topology.now interface).device) }
@@ -70,7 +70,7 @@ fn interface_name(alloc: Global, topology: &Topology, interface: u32) -> Result<
     device_name(alloc, topology.interface(interface).device)
 }
 
-/// What is told of a router and a device that the topology has on the LAN.
+/// A line about a device of a router that the topology has on the LAN.
 fn kind_lan_router_device(
     alloc: Global,
     topology: &Topology,
@@ -90,7 +90,7 @@ fn kind_lan_router_device(
         .object()
 }
 
-/// Which row for every source a router has.
+/// An `EverySource` line: a router's row for every source.
 fn every_source_line_value(
     alloc: Global,
     context: &LineContext<'_>,
@@ -118,7 +118,7 @@ fn every_source_line_value(
         .object()
 }
 
-/// Why a vif of a table that a row takes from is placed on no LAN.
+/// Why an incoming vif with a line in its router's table is placed on no LAN.
 fn incoming_vif_kind(vif: &Vif) -> &'static str
     ensures { result.now ≡ incoming_kind_of (Some vif.now) }
 {
@@ -133,7 +133,7 @@ fn incoming_vif_kind(vif: &Vif) -> &'static str
     }
 }
 
-/// Why the vif that a router's row takes from is placed on no LAN.
+/// Why the incoming vif of a router's row is placed on no LAN.
 fn incoming_kind(view: &FlowView<'_>, router: RouterNo) -> &'static str
     ensures { result.now ≡ incoming_kind (facts view.now.domain) router ((net_in view.now).row router) }
 {
@@ -146,7 +146,7 @@ fn incoming_kind(view: &FlowView<'_>, router: RouterNo) -> &'static str
     }
 }
 
-/// A row that takes from a vif that is placed on no LAN.
+/// A `FromUnplaced` line: a row whose incoming vif is placed on no LAN.
 fn from_unplaced_value(
     alloc: Global,
     context: &LineContext<'_>,
@@ -167,7 +167,7 @@ fn from_unplaced_value(
         .object()
 }
 
-/// A row that doesn't send by a vif.
+/// A `DoesNotSend` line: a row that doesn't send by a vif.
 fn does_not_send_value(
     alloc: Global,
     context: &LineContext<'_>,
@@ -193,7 +193,7 @@ fn does_not_send_value(
         .object()
 }
 
-/// A row whose threshold stops the copy.
+/// A `Stopped` line: a row whose threshold stops the copy.
 fn stopped_value(
     alloc: Global,
     context: &LineContext<'_>,
@@ -219,7 +219,7 @@ fn stopped_value(
         .object()
 }
 
-/// A row that takes from a LAN that carried no copy.
+/// A `WaitsFor` line: a row that takes from a LAN that carried no copy.
 fn waits_for_value(
     alloc: Global,
     context: &LineContext<'_>,
@@ -245,7 +245,7 @@ fn waits_for_value(
         .object()
 }
 
-/// Which routers expect a copy from a LAN.
+/// The routers that expect copies from a LAN.
 fn expected_value(
     alloc: Global,
     topology: &Topology,
@@ -325,7 +325,7 @@ fn search_line_value(
     }
 }
 
-/// Routers that stand in one line.
+/// The routers of one `Expected` line.
 fn collect_routers(
     alloc: Global,
     routers: ExpectingRouters<'_>,
@@ -339,7 +339,7 @@ fn collect_routers(
     Ok(list)
 }
 
-/// A line of a search as it is shown.
+/// A shown line of a search.
 fn shown_line_value(
     alloc: Global,
     context: &LineContext<'_>,
@@ -357,7 +357,7 @@ fn shown_line_value(
     }
 }
 
-/// Tells the lines of a search.
+/// Adds the shown lines of a search.
 fn push_shown_lines(
     alloc: Global,
     values: &mut Vec<Value>,
@@ -374,7 +374,7 @@ fn push_shown_lines(
     Ok(())
 }
 
-/// Which routers sent copies on, or took none.
+/// The routers that sent copies on, or that took none.
 fn reach_value(
     alloc: Global,
     topology: &Topology,
@@ -389,7 +389,7 @@ fn reach_value(
         .object()
 }
 
-/// Tells what a search comes to, and its lines.
+/// Adds how far the packet came, and the lines of the search.
 #[tactic(auto, unfolding(crate::specs::SearchData::search_data))]
 pub(crate) fn push_search_values(
     alloc: Global,

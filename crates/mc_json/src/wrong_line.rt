@@ -33,7 +33,7 @@ use mc_topology::Flow;
 use serde_json::Value;
 use std::alloc::{AllocError, Global};
 
-/// The members of the object of a flow that isn't right, by its number, the TTL and why it is so.
+/// The members of each wrong flow: the flow, the TTL of the travel that shows it, and the causes.
 fn wrong_fields(alloc: Global, number: u32, flow: &Flow, found_ttl: u8, why: Vec<Value>) -> Fields
     ensures { IfOk result.built (λ built. members_view built.entries ≡ members (
         (codes "flow", count_data (number + 1))
@@ -50,7 +50,7 @@ fn wrong_fields(alloc: Global, number: u32, flow: &Flow, found_ttl: u8, why: Vec
         .list("why", Ok(why))
 }
 
-/// The LANs that a travel missed besides the one that was found.
+/// The names of the LANs that a travel missed besides the one of its finding.
 fn also_missed_values(alloc: Global, ended: &FinishedTravel<'_>) -> Result<Vec<Value>, AllocError>
     ensures { IfOk result (λ values. map data_of values.items
         ≡ map (lan_data ended.now.flight.domain.topology) (missed_besides
@@ -62,7 +62,7 @@ fn also_missed_values(alloc: Global, ended: &FinishedTravel<'_>) -> Result<Vec<V
     lan_names(alloc, topology, &lans)
 }
 
-/// A flow that a travel found not to be right, and why.
+/// The object of a flow that isn't right, by the travel that shows it.
 fn wrong_value(
     alloc: Global,
     number: u32,
@@ -92,7 +92,7 @@ fn wrong_value(
     fields.list("events", events).object()
 }
 
-/// Writes the line of such a flow.
+/// Writes the line of a flow that isn't right.
 fn push_wrong_flow(
     alloc: Global,
     text: &mut String,
@@ -111,7 +111,7 @@ fn push_wrong_flow(
     push_line(alloc, text, &value)
 }
 
-/// The lines of an explanation.
+/// The values of causes.
 fn cause_values(
     alloc: Global,
     context: &LineContext<'_>,
@@ -126,7 +126,7 @@ fn cause_values(
     Ok(values)
 }
 
-/// The same, and behind them what a search found.
+/// The values of causes, and then those of a search.
 fn cause_and_search_values(
     alloc: Global,
     context: &LineContext<'_>,
@@ -143,13 +143,14 @@ fn cause_and_search_values(
     Ok(values)
 }
 
-/// Writes the line of the flow with this number, of which a travel that starts with this TTL missed a
-/// LAN, and why: these lines and what a search found, by what is noted of each router's cache, the
-/// first router's first. It has the travel's events where they are asked for.
+/// Writes the line of a flow whose packet misses a LAN: the finished travel that shows it, the TTL with
+/// which that began, the causes, and the search for the LAN. The travel's events are written if they are
+/// asked for. `flow` counts from 0, and `summary` has the summary of each router's cache, in the
+/// topology's order.
 ///
 /// # Errors
 ///
-/// `Memory` where a growth was refused.
+/// `Memory` if an allocation fails.
 pub fn push_missed_line(
     alloc: Global,
     text: &mut String,
@@ -189,13 +190,13 @@ pub fn push_missed_line(
     Ok(())
 }
 
-/// Writes the line of the flow with this number, which a travel that starts with this TTL found not
-/// to be right, and why: these lines, by what is noted of each router's cache, the first router's
-/// first. It has the travel's events where they are asked for.
+/// Writes the line of a flow that isn't right: the finished travel that shows it, the TTL with which that
+/// began, and the causes. The travel's events are written if they are asked for. `flow` counts from 0,
+/// and `summary` has the summary of each router's cache, in the topology's order.
 ///
 /// # Errors
 ///
-/// `Memory` where a growth was refused.
+/// `Memory` if an allocation fails.
 pub fn push_wrong_line(
     alloc: Global,
     text: &mut String,

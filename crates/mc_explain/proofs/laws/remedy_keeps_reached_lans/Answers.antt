@@ -1,4 +1,4 @@
--- By the way of the first copy.
+-- By the path of the first copy.
 use Rattle.mc_explain.specs.declared.causes.Cause.TheVariants.{TakeOut}
 use Rattle.mc_forward.specs.Domains.{net_of}
 use Rattle.mc_forward.proofs.DomainLemmas.{is_net-net_of}

@@ -1,4 +1,4 @@
--- Line by line.
+-- Cause by cause.
 use Rattle.mc_explain.specs.declared.causes.Cause.TheVariants.{SentOnto}
 use Rattle.mc_explain.proofs.CauseLemmas.{causes_hold-all}
 use Rattle.mc_explain.proofs.laws.reported_sender_sends_onto_lan.Goals as goal

@@ -1,4 +1,4 @@
--- Since a stray of an exact row leaves by such a vif.
+-- A stray at an exact row leaves by such a vif.
 use Rattle.mc_explain.specs.declared.causes.Cause.TheVariants.{Unplaced}
 use Rattle.mc_explain.proofs.CauseLemmas.{causes_hold-all}
 use Rattle.mc_explain.proofs.laws.unplaced_vif_leads_out.Goals as goal

@@ -5,7 +5,7 @@ use Rattle.mc_explain.specs.SearchText.{shown_line_text}
 use Rattle.mc_explain.specs.ShownLines.{shown_lines}
 use Rattle.mc_explain.proofs.search_text.push_first_lines.Given as goal
 
--- the lines so far, and those of the first 40 that are left, are the first 40; and how many lines came
+-- the text so far, and the lines of the first 40 that are left, are the first 40; and how many lines came
 abbrev pub invariant-loop-line : goal.invariant-loop-line
 invariant-loop-line l = record {
   text : string_bytes l.text

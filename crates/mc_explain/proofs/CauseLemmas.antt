@@ -1,5 +1,5 @@
 -- What holds of each reported cause.
-use Rattle.std.proofs.Common.{◌≡◌, ℕ, ◌<◌, ◌≤◌, ◌↔◌, ◌⊎◌, inl, inr, false, List, [], ◌∷◌, ◌++◌, map, reverse}
+use Rattle.std.proofs.Common.{◌≡◌, ℕ, ◌<◌, ◌≤◌, ◌↔◌, inl, inr, false, List, [], ◌∷◌, ◌++◌, map, reverse}
 use Rattle.std.proofs.Common.{length, Option, Some, None, refl, ap, sym, subst, ◌∙◌, arith}
 use Rattle.std.proofs.lemmas.List.{reverse-append}
 use Rattle.mc_theory.specs.Lists.{In, Distinct}
@@ -39,7 +39,8 @@ use Rattle.mc_explain.specs.Explained.{ExplainsLeastTtl, ExplainsLoop, IsExplain
 use Rattle.mc_explain.specs.Explained.{circle_cause, sender_causes, stray_causes}
 use Rattle.mc_explain.specs.LastFlights.{EndsTravel}
 use Rattle.mc_explain.specs.CauseFacts.{AreCausesOf, LeadsOut, SendsOnto, StaysReached, StopsOnPath}
-use Rattle.mc_explain.specs.CauseFacts.{IsClosedCircle, ReachesEverySourceRow, final_finding}
+use Rattle.mc_explain.specs.CauseFacts.{IsClosedCircle, IsMissedOrClean, ReachesEverySourceRow}
+use Rattle.mc_explain.specs.CauseFacts.{final_finding}
 use Rattle.mc_explain.proofs.LastFlightLemmas.{ends_travel-from_finished, ends_travel-at_flow_ttl, last_flight, is_net-from_is_flow_in, shows-last_flight}
 use Rattle.mc_explain.proofs.StrayLemmas.{IsStrayAt, is_stray_at-run, leads_out-from_exact_row, reaches_every_source_row-from_open_row}
 
@@ -342,7 +343,7 @@ causes_hold-examined d flow (FoundAtFlowTtl greatest least) causes ok examined_f
 pub causes_hold-all : (d : DomainValue) (flow : ℕ) (examined_flights : ExaminedFlights) (causes : List Cause) →
     AreCausesOf d flow examined_flights causes → CausesHold (net_of d flow) causes causes
 causes_hold-all d flow examined_flights causes is = causes_hold-examined d flow examined_flights causes
-    (record { domain = is.domain; flow = is.flow_in }) is.examined is.lines
+    (record { domain = is.flow.domain; flow = is.flow.listed }) is.flow.examined is.explained
 
 -- ---- the whole circle
 
@@ -372,9 +373,6 @@ is_closed_circle-from_explained d flow (FoundAtFlowTtl greatest least) causes la
     is_closed_circle-from_loop n least.flight.flight lan causes l.circle l refl
 
 -- ---- what the flow's TTL can show
-
-abbrev pub IsMissedOrClean : Finding → Type 0
-IsMissedOrClean x = (x ≡ Clean) ⊎ ((lan : ℕ) × (x ≡ Missed lan))
 
 is_missed_or_clean-if_clean_at_255 : (f : FlowOfDomain) (x : Finding) (j k : FlightInDomain) → IsFlowOfDomain f →
     EndsTravel f 255 Clean j → EndsTravel f (net_in f).ttl x k → IsMissedOrClean x

@@ -1,7 +1,9 @@
 -- Lists, leading runs and marks that are indexed by numbers.
 use Rattle.std.specs.Prelude.{◌≡◌, ◌==◌, ℕ, ◌<◌, List, [], length, map, filter, slice_index_or}
 use Rattle.std.specs.Prelude.{zero, suc, if◌then◌else◌, ◌∷◌, Bool, false}
+use Rattle.mc_forward.specs.ListedTables.{DomainFacts}
 use Rattle.mc_explain.specs.declared.listed_interface.ListedInterface.{ListedInterface}
+use Rattle.mc_explain.specs.TopologyLans.{interface_at, listed_interface_at}
 use Rattle.std.specs.List.{list_any}
 
 -- ---- items in lists by a number
@@ -11,6 +13,11 @@ abbrev pub AreBuckets : {A : Type 0} → (ℕ → A) → (ℕ → ℕ) → List 
 AreBuckets f number lists ks =
     (b : ℕ) → b < length lists → slice_index_or lists b []
     ≡ map f (filter (λ k. number k == b) ks)
+
+-- each list has the interfaces on one LAN, among these interfaces by number
+abbrev pub AreInterfacesByLan : DomainFacts → List (List ListedInterface) → (numbers : List ℕ) → Type 0
+AreInterfacesByLan d lists numbers =
+    AreBuckets (listed_interface_at d) (λ k. (interface_at d.topology k).lan) lists numbers
 
 -- ---- adjacent interfaces of one router
 

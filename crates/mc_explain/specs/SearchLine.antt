@@ -1,6 +1,6 @@
 -- The search for a LAN that a packet missed: the lines of a LAN, by the tables of the routers that have an
 -- interface on it, and the LANs that are searched after it.
-use Rattle.std.specs.Prelude.{◌==◌, ◌&&◌, ◌||◌, ℕ, zero, suc, not, Bool, false, List, [], ◌∷◌}
+use Rattle.std.specs.Prelude.{◌≡◌, ◌==◌, ◌&&◌, ◌||◌, ℕ, zero, suc, not, Bool, false, List, [], ◌∷◌}
 use Rattle.std.specs.Prelude.{◌++◌, length, flat_map, Option, Some, None, is_some, slice_get}
 use Rattle.std.specs.Prelude.{if◌then◌else◌, option_map, slice_index_or, unwrap_or}
 use Rattle.std.specs.List.{filter_map, list_any}
@@ -12,9 +12,10 @@ use Rattle.mc_topology.specs.Topology.{flow_key}
 use Rattle.mc_theory.specs.Nets.{Net, Row, is_lan}
 use Rattle.mc_theory.specs.Nets.Row.{Exact, Open, NoRow as no_row}
 use Rattle.mc_theory.specs.Flights.{Copy}
-use Rattle.mc_theory.specs.Findings.{taken_from}
+use Rattle.mc_theory.specs.Findings.{first_copy_on, taken_from}
 use Rattle.mc_theory.specs.CertificateOfCopies.{row_pairs, threshold_of}
-use Rattle.mc_forward.specs.ListedTables.{DomainFacts}
+use Rattle.mc_forward.specs.Domains.{DomainValue, IsDomain}
+use Rattle.mc_forward.specs.ListedTables.{DomainFacts, facts}
 use Rattle.mc_explain.specs.declared.search_line.SearchLine.{SearchLine}
 use Rattle.mc_explain.specs.declared.search_line.SearchLine.TheVariants.{Excluded}
 use Rattle.mc_explain.specs.declared.search_line.SearchLine.TheVariants.{NoVif, NotMulticast, NoRow}
@@ -37,6 +38,21 @@ pub record Search : Type 0 where
   pub summary : List SummaryValue
   pub excluded : List Bool
   pub first_copy_on : ℕ → Option Copy
+
+-- the search of the flow with this number in a domain
+abbrev pub search_of : DomainValue → (flow : ℕ) → List SummaryValue → (excluded : List Bool) → List Copy → Search
+search_of d flow summary excluded copies = record {
+  domain = facts d;
+  flow = flow;
+  summary = summary;
+  excluded = excluded;
+  first_copy_on = first_copy_on copies;
+}
+
+-- The search reads the tables of a valid domain.
+pub record IsSearchIn (d : DomainValue) (s : Search) : Type 0 where
+  pub domain : IsDomain d
+  pub same : s.domain ≡ facts d
 
 abbrev pub net : Search → Net
 net s = s.domain.nets s.flow
@@ -216,7 +232,7 @@ visited_after s visited_lans None = visited_lans
 visited_after s visited_lans (Some lan) = append_new visited_lans (next_lans s lan)
 
 -- the visited LANs, in order, after the first ones of them are searched, as many as there are steps
-abbrev pub visited_lans : Search → (missed : ℕ) → (looked : ℕ) → List ℕ
+abbrev pub visited_lans : Search → (missed : ℕ) → (steps : ℕ) → List ℕ
 visited_lans s missed zero = missed ∷ []
 visited_lans s missed (suc k) = visited_after s (visited_lans s missed k) (slice_get (visited_lans s missed k) k)
 

@@ -20,6 +20,7 @@ use Rattle.mc_explain.specs.declared.search_line.SearchLine.TheVariants.{NoSende
 use Rattle.mc_explain.specs.declared.shown_line.ShownLine.{ShownLine}
 use Rattle.mc_explain.specs.declared.shown_line.ShownLine.TheVariants.{One, Expected}
 use Rattle.mc_explain.specs.EverySourceText.{every_source_text}
+use Rattle.mc_explain.specs.Indented.{AreIndented}
 use Rattle.mc_explain.specs.RouterText.{routers_text}
 use Rattle.mc_explain.specs.RowText.{device_text, incoming_text, device_name_text, row_text}
 use Rattle.mc_explain.specs.ShownLines.{shown_lines}
@@ -148,3 +149,9 @@ abbrev pub search_text : DomainFacts → List SummaryValue → (number : ℕ) �
     → (sent_on took_none : List ℕ) → List ℕ
 search_text d summary number f lines sent_on took_none =
     reach_text d.topology sent_on took_none ++ first_lines_text d summary number f (shown_lines lines)
+
+-- in a domain with these names each search is text of lines that begin with two spaces
+abbrev pub IsEachSearchIndented : DomainFacts → Type 0
+IsEachSearchIndented d =
+    (summary : List SummaryValue) (number : ℕ) (f : Flow) (lines : List SearchLine)
+    (sent_on took_none : List ℕ) → AreIndented (search_text d summary number f lines sent_on took_none)

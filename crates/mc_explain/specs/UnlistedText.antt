@@ -1,13 +1,13 @@
 -- The text of the resolved rows whose source and group are no flow's.
 use Rattle.std.specs.Prelude.{ℕ, ◌-◌, ◌==◌, ◌&&◌, nat_le, Bool, false, List, [], ◌++◌, length, Option}
 use Rattle.std.specs.Prelude.{Some, None, if◌then◌else◌, codes, decimal, filter, flat_map, map, slice_get}
-use Rattle.std.specs.Prelude.{sum_by}
+use Rattle.std.specs.Prelude.{◌≡◌, sum_by}
 use Rattle.mc_text.specs.Addr.{dotted, first_octet}
 use Rattle.mc_tables.specs.CacheTable.{RowValue}
 use Rattle.mc_tables.specs.ListedRows.{is_listed}
-use Rattle.mc_tables.specs.Summary.{SummaryValue, group_first, in_order, shown_pairs, unlisted_keys}
+use Rattle.mc_tables.specs.Summary.{SummaryValue, group_first, in_order, shown_pairs, summary_of, unlisted_keys}
 use Rattle.mc_topology.specs.Topology.{TopologyValue}
-use Rattle.mc_theory.specs.Lists.{below}
+use Rattle.mc_theory.specs.Lists.{In, below}
 use Rattle.mc_explain.specs.RouterText.{routers_text}
 
 -- ---- the pairs of a group and a source
@@ -32,11 +32,31 @@ routers_below summary number pair =
 abbrev pub routers_with : TopologyValue → List SummaryValue → ℕ × ℕ → List ℕ
 routers_with t summary pair = routers_below summary (length t.routers) pair
 
+-- the pairs of a cache's resolved rows that aren't listed
+abbrev pub unlisted_pairs : (listed : List (ℕ × ℕ)) → List RowValue → List (ℕ × ℕ)
+unlisted_pairs listed rows = map group_first (unlisted_keys listed rows)
+
+-- the summaries of caches
+abbrev pub summaries_of : (all : Bool) → (listed : List (ℕ × ℕ)) → List (List RowValue) → List SummaryValue
+summaries_of all listed caches = map (summary_of all listed) caches
+
 -- whether a router's cache has a row of the pair, which isn't listed
 abbrev pub has_unlisted_row : (listed : List (ℕ × ℕ)) → ℕ × ℕ → Option (List RowValue) → Bool
 has_unlisted_row listed pair None = false
 has_unlisted_row listed pair (Some rows) =
-    is_listed (Some (map group_first (unlisted_keys listed rows))) pair
+    is_listed (Some (unlisted_pairs listed rows)) pair
+
+-- the routers whose caches have a row of the pair, in order
+abbrev pub routers_with_row : TopologyValue → (listed : List (ℕ × ℕ)) → List (List RowValue) → ℕ × ℕ → List ℕ
+routers_with_row t listed caches pair =
+    filter (λ router. has_unlisted_row listed pair (slice_get caches router)) (below (length t.routers))
+
+-- each pair that is shown of these caches is shown with all routers whose caches have a row of it
+abbrev pub ShownPairsHaveAllRouters : (all : Bool) → TopologyValue → (listed : List (ℕ × ℕ)) → List (List RowValue)
+    → Type 0
+ShownPairsHaveAllRouters all t listed caches =
+    (pair : ℕ × ℕ) → In pair (shown_unlisted_pairs all (summaries_of all listed caches)) →
+    routers_with t (summaries_of all listed caches) pair ≡ routers_with_row t listed caches pair
 
 -- ---- a line for each
 

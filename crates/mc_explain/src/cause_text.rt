@@ -1,12 +1,12 @@
 //! The text of a fault's causes.
 
-ghost use Rattle.std.specs.Prelude.{◌≡◌, ◌<◌, ◌++◌, [], OnOk, Some, length, slice_get};
+ghost use Rattle.std.specs.Prelude.{◌≡◌, ◌<◌, ◌++◌, [], OnOk, Some, length};
 ghost use Rattle.std.specs.String.{string_bytes};
-ghost use Rattle.mc_topology.specs.declared.flow.Flow.{Flow};
 ghost use Rattle.mc_forward.specs.Domains.{vif_of};
 ghost use Rattle.mc_forward.specs.ListedTables.{facts};
 ghost use Rattle.mc_explain.specs.ExplanationText.{cost_text, unplaced_reason_text, causes_text, cause_text};
 ghost use Rattle.mc_explain.specs.ExplanationText.{only_every_source_text, stopped_text, unplaced_text};
+ghost use Rattle.mc_explain.specs.ListedFlow.{ForListedFlow};
 ghost use Rattle.mc_explain.specs.declared.causes.Cause.TheVariants.{SentOnto, Circle, TakeOut, Unplaced};
 ghost use Rattle.mc_explain.specs.declared.causes.Cause.TheVariants.{LeastTtl};
 
@@ -321,9 +321,8 @@ pub fn push_causes(
     causes: &[Cause],
 ) -> Result<(), Memory>
     requires flow { flow < length domain.now.topology.flows }
-    ensures lines { OnOk result ((listed : Flow) → slice_get domain.now.topology.flows flow ≡ Some listed
-        → string_bytes text.new ≡ string_bytes text.old
-        ++ causes_text (facts domain.now) summary.now flow listed causes.now) }
+    ensures lines { OnOk result (ForListedFlow domain.now flow (λ f. string_bytes text.new
+        ≡ string_bytes text.old ++ causes_text (facts domain.now) summary.now flow f causes.now)) }
 {
     let view = FlowView::new(domain, flow);
     push_cause_lines(text, &view, summary, domain.topology().flow(flow), causes)

@@ -1,6 +1,6 @@
 //! The lines that name the excluded routers.
 
-ghost use Rattle.std.specs.Prelude.{◌≡◌, ◌++◌, OnOk, slice_get};
+ghost use Rattle.std.specs.Prelude.{◌≡◌, ◌++◌, OnOk};
 ghost use Rattle.std.specs.String.{string_bytes};
 ghost use Rattle.mc_explain.specs.FirstEight.{IsFirstEightOf};
 ghost use Rattle.mc_explain.specs.ExcludedText.{excluded_routers, excluded_text, without_text};

@@ -1,7 +1,6 @@
 //! Explains why a flow isn't right, by the flights that show it.
 
 ghost use Rattle.std.specs.Prelude.{◌≡◌, ◌<◌, ◌++◌, ℕ, IfOk, OnOk, length, map, reverse};
-ghost use Rattle.mc_forward.specs.Domains.{net_of};
 ghost use Rattle.mc_forward.specs.FlightsInDomain.{net_in};
 ghost use Rattle.mc_forward.specs.PerLan.{HoldsFirstOfEachKey};
 ghost use Rattle.mc_replay.specs.FindingValues.{finding_value};

@@ -1,12 +1,12 @@
 //! The interfaces that the topology has on each LAN.
 
-ghost use Rattle.std.specs.Prelude.{◌≡◌, ◌<◌, ◌++◌, ◌∷◌, ℕ, [], All, IfOk, List, OnOk, length, map};
+ghost use Rattle.std.specs.Prelude.{◌≡◌, ◌<◌, ◌++◌, ℕ, [], All, IfOk, List, OnOk, length, map};
 ghost use Rattle.mc_theory.specs.Lists.{below};
 ghost use Rattle.mc_forward.specs.Domains.{vif_of};
 ghost use Rattle.mc_forward.specs.ListedTables.{DomainFacts, facts};
-ghost use Rattle.mc_explain.specs.TopologyLans.{listed_interface_at, listed_interface_of, interfaces_of_router, interfaces_on_lan, interfaces_on_lans};
-ghost use Rattle.mc_explain.specs.TopologyLans.{interface_at, vif_has_device, vif_of_device};
-ghost use Rattle.mc_explain.specs.BucketsAndMarks.{AreBuckets};
+ghost use Rattle.mc_explain.specs.TopologyLans.{listed_interface_of, interfaces_of_router, interfaces_on_lan};
+ghost use Rattle.mc_explain.specs.TopologyLans.{interfaces_on_lans, vif_has_device, vif_of_device};
+ghost use Rattle.mc_explain.specs.BucketsAndMarks.{AreInterfacesByLan};
 
 use crate::listed_interface::ListedInterface;
 use mc_forward::Domain;
@@ -118,11 +118,8 @@ fn add_interfaces(
     requires numbers { All (λ k. k < length domain.now.topology.interfaces) numbers.now }
     requires lans { length lists.old.items ≡ length domain.now.topology.lans }
     ensures count { length lists.new.items ≡ length domain.now.topology.lans }
-    ensures each { OnOk result ((earlier : List ℕ) →
-        AreBuckets (listed_interface_at (facts domain.now)) (λ k. (interface_at domain.now.topology k).lan)
-        lists.old.items earlier →
-        AreBuckets (listed_interface_at (facts domain.now)) (λ k. (interface_at domain.now.topology k).lan)
-        lists.new.items (earlier ++ numbers.now)) }
+    ensures each { OnOk result ((earlier : List ℕ) → AreInterfacesByLan (facts domain.now) lists.old.items earlier →
+        AreInterfacesByLan (facts domain.now) lists.new.items (earlier ++ numbers.now)) }
 {
     for number in numbers {
         let interface = domain.topology().interface(*number);

@@ -1,6 +1,6 @@
 //! Why one LAN carried no copy, by the tables of the routers on it.
 
-ghost use Rattle.std.specs.Prelude.{◌≡◌, ◌<◌, ◌++◌, OnOk, IfOk, flat_map, length};
+ghost use Rattle.std.specs.Prelude.{◌≡◌, ◌<◌, ◌++◌, OnOk, flat_map, length};
 ghost use Rattle.std.specs.List.{list_any};
 ghost use Rattle.mc_tables.specs.CacheTable.{IsValidEntry};
 ghost use Rattle.mc_forward.specs.Domains.{oif_pairs, vif_of};

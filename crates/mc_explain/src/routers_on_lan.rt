@@ -1,6 +1,6 @@
 //! The routers that have an interface on a LAN.
 
-ghost use Rattle.std.specs.Prelude.{◌≡◌, ◌≤◌, length};
+ghost use Rattle.std.specs.Prelude.{◌≡◌};
 ghost use Rattle.mc_explain.specs.BucketsAndMarks.{leading_of_router};
 
 use crate::listed_interface::ListedInterface;

@@ -1,16 +1,17 @@
 //! The text of the search for a missed LAN.
 
 ghost use Rattle.std.specs.Prelude.{◌≡◌, ◌<◌, ◌++◌, ◌==◌, ◌&&◌, ℕ, List, IfOk, OnOk, Some, codes};
-ghost use Rattle.std.specs.Prelude.{flat_map, length, slice_get, take};
+ghost use Rattle.std.specs.Prelude.{flat_map, length, take};
 ghost use Rattle.std.specs.String.{string_bytes};
-ghost use Rattle.mc_topology.specs.declared.flow.Flow.{Flow};
 ghost use Rattle.mc_forward.specs.FlightsInDomain.{net_in};
 ghost use Rattle.mc_forward.specs.ListedTables.{facts};
 ghost use Rattle.mc_explain.specs.FirstEight.{IsFirstEightOf};
-ghost use Rattle.mc_explain.specs.SearchText.{carries_text, expected_text, from_no_lan_text};
-ghost use Rattle.mc_explain.specs.SearchText.{interface_text, search_line_text, first_lines_text, more_lines_text};
-ghost use Rattle.mc_explain.specs.SearchText.{no_lan_reason, lan_line_text, router_line_text, lan_router_text, reach_text};
-ghost use Rattle.mc_explain.specs.SearchText.{routers_line, search_text, shown_line_text};
+ghost use Rattle.mc_explain.specs.ListedFlow.{ForListedFlow};
+ghost use Rattle.mc_explain.specs.SearchContext.{first_lines_text_in, search_line_text_in, shown_line_text_in};
+ghost use Rattle.mc_explain.specs.SearchReach.{lan_search_text};
+ghost use Rattle.mc_explain.specs.SearchText.{carries_text, expected_text, from_no_lan_text, interface_text};
+ghost use Rattle.mc_explain.specs.SearchText.{more_lines_text, no_lan_reason, lan_line_text, router_line_text};
+ghost use Rattle.mc_explain.specs.SearchText.{lan_router_text, reach_text, routers_line};
 ghost use Rattle.mc_explain.specs.ShownLines.{shown_lines};
 ghost use Rattle.mc_explain.specs.declared.search_line.SearchLine.TheVariants.{DoesNotSend, FromUnplaced};
 ghost use Rattle.mc_explain.specs.declared.search_line.SearchLine.TheVariants.{NotMulticast, NoVif};
@@ -232,8 +233,7 @@ fn push_every_source(
     router: RouterNo,
 ) -> Result<(), AllocError>
     ensures { OnOk result (string_bytes text.new ≡ string_bytes text.old
-        ++ search_line_text (facts context.now.view.now.domain) context.now.summary.now context.now.view.now.flow
-        context.now.flow.now (EverySource lan router)) }
+        ++ search_line_text_in context.now (EverySource lan router)) }
 {
     let view = context.view;
     let place = ShownLanRouter {
@@ -261,8 +261,7 @@ fn push_from_unplaced(
     router: RouterNo,
 ) -> Result<(), AllocError>
     ensures { OnOk result (string_bytes text.new ≡ string_bytes text.old
-        ++ search_line_text (facts context.now.view.now.domain) context.now.summary.now context.now.view.now.flow context.now.flow.now
-        (FromUnplaced lan router)) }
+        ++ search_line_text_in context.now (FromUnplaced lan router)) }
 {
     let (view, flow) = (context.view, context.flow);
     let topology = view.topology();
@@ -295,8 +294,7 @@ fn push_does_not_send(
     carried: bool,
 ) -> Result<(), AllocError>
     ensures { OnOk result (string_bytes text.new ≡ string_bytes text.old
-        ++ search_line_text (facts context.now.view.now.domain) context.now.summary.now context.now.view.now.flow context.now.flow.now
-        (DoesNotSend lan router vif from carried)) }
+        ++ search_line_text_in context.now (DoesNotSend lan router vif from carried)) }
 {
     let (view, flow) = (context.view, context.flow);
     let topology = view.topology();
@@ -326,8 +324,7 @@ fn push_stopped(
     ttl: u8,
 ) -> Result<(), AllocError>
     ensures { OnOk result (string_bytes text.new ≡ string_bytes text.old
-        ++ search_line_text (facts context.now.view.now.domain) context.now.summary.now context.now.view.now.flow context.now.flow.now
-        (Stopped lan router vif threshold ttl)) }
+        ++ search_line_text_in context.now (Stopped lan router vif threshold ttl)) }
 {
     let view = context.view;
     let place = ShownLanRouter {
@@ -352,8 +349,7 @@ fn push_waits_for(
     from: LanNo,
 ) -> Result<(), AllocError>
     ensures { OnOk result (string_bytes text.new ≡ string_bytes text.old
-        ++ search_line_text (facts context.now.view.now.domain) context.now.summary.now context.now.view.now.flow context.now.flow.now
-        (WaitsFor lan router vif from)) }
+        ++ search_line_text_in context.now (WaitsFor lan router vif from)) }
 {
     let (view, flow) = (context.view, context.flow);
     let topology = view.topology();
@@ -390,8 +386,7 @@ fn push_search_line(
     line: SearchLine,
 ) -> Result<(), AllocError>
     ensures { OnOk result (string_bytes text.new ≡ string_bytes text.old
-        ++ search_line_text (facts context.now.view.now.domain) context.now.summary.now context.now.view.now.flow
-        context.now.flow.now line) }
+        ++ search_line_text_in context.now line) }
 {
     let topology = context.view.topology();
     match line {
@@ -457,8 +452,7 @@ fn push_shown_line(
     line: &ShownLine<'_>,
 ) -> Result<(), AllocError>
     ensures { OnOk result (string_bytes text.new ≡ string_bytes text.old
-        ++ shown_line_text (facts context.now.view.now.domain) context.now.summary.now context.now.view.now.flow context.now.flow.now
-        line.now) }
+        ++ shown_line_text_in context.now line.now) }
 {
     match line {
         ShownLine::One(line) => push_search_line(text, context, *line),
@@ -475,8 +469,7 @@ fn push_first_lines(
     lines: &[SearchLine],
 ) -> Result<usize, Memory>
     ensures text { OnOk result (string_bytes text.new ≡ string_bytes text.old
-        ++ flat_map (shown_line_text (facts context.now.view.now.domain) context.now.summary.now
-        context.now.view.now.flow context.now.flow.now) (take 40 (shown_lines lines.now))) }
+        ++ flat_map (shown_line_text_in context.now) (take 40 (shown_lines lines.now))) }
     ensures count { IfOk result (λ count. count ≡ length (shown_lines lines.now)) }
 {
     let mut count: usize = 0;
@@ -496,8 +489,7 @@ fn push_shown_lines(
     lines: &[SearchLine],
 ) -> Result<(), Memory>
     ensures { OnOk result (string_bytes text.new ≡ string_bytes text.old
-        ++ first_lines_text (facts context.now.view.now.domain) context.now.summary.now context.now.view.now.flow context.now.flow.now
-        (shown_lines lines.now)) }
+        ++ first_lines_text_in context.now (shown_lines lines.now)) }
 {
     let count = push_first_lines(text, context, lines)?;
     let more = ShownMoreLines {
@@ -569,10 +561,8 @@ pub fn push_search(
     search: &LanSearch,
 ) -> Result<(), Memory>
     requires flow { flow < length domain.now.topology.flows }
-    ensures lines { OnOk result ((listed : Flow) → slice_get domain.now.topology.flows flow ≡ Some listed
-        → string_bytes text.new ≡ string_bytes text.old
-        ++ search_text (facts domain.now) summary.now flow listed search.now.lines.items
-        search.now.reach.sent_on.items search.now.reach.took_none.items) }
+    ensures lines { OnOk result (ForListedFlow domain.now flow (λ f. string_bytes text.new
+        ≡ string_bytes text.old ++ lan_search_text (facts domain.now) summary.now flow f search.now)) }
 {
     let view = FlowView::new(domain, flow);
     let topology = domain.topology();

@@ -2,12 +2,11 @@
 
 ghost use Rattle.std.specs.Prelude.{◌≡◌, ◌<◌, ◌++◌, All, IfOk, IfSome, OnOk, length};
 ghost use Rattle.std.specs.List.{filter_map};
-ghost use Rattle.mc_theory.specs.Findings.{first_copy_on};
 ghost use Rattle.mc_forward.specs.ListedTables.{facts};
 ghost use Rattle.mc_explain.specs.LanProbe.{IsLanProbe, search_in};
 ghost use Rattle.mc_explain.specs.LanProbe.{IsVisitedLans};
 ghost use Rattle.mc_explain.specs.SearchLine.{append_new, next_lan, next_lans, lines_of_lan, search_lines};
-ghost use Rattle.mc_explain.specs.SearchLine.{lans_of_search};
+ghost use Rattle.mc_explain.specs.SearchLine.{lans_of_search, search_of};
 ghost use Rattle.mc_explain.specs.TopologyLans.{interfaces_on_lans};
 ghost use Rattle.mc_explain.specs.SearchReach.{IsLanSearch};
 
@@ -142,13 +141,8 @@ pub fn search(
     requires interfaces { interfaces.now ≡ interfaces_on_lans (facts domain.now) }
     requires flight { flight.now.domain ≡ domain.now }
     requires missed { missed < length domain.now.topology.lans }
-    ensures ok { IfOk result (IsLanSearch (record {
-      domain = facts domain.now;
-      flow = flow;
-      summary = summary.now;
-      excluded = excluded.now;
-      first_copy_on = first_copy_on flight.now.flight.carried;
-    }) events.now missed) }
+    ensures ok { IfOk result (IsLanSearch
+        (search_of domain.now flow summary.now excluded.now flight.now.flight.carried) events.now missed) }
 {
     let view = FlowView::new(domain, flow);
     let first_copies = FirstCopies::new(alloc, &view, flight.copies())?;

@@ -1,10 +1,9 @@
 //! The lines of the LANs that want a flow, and of those that its packet also missed.
 
-ghost use Rattle.std.specs.Prelude.{◌≡◌, ℕ, ◌<◌, ◌≤◌, ◌++◌, ◌||◌, All, IfOk, List, OnOk, false, filter};
+ghost use Rattle.std.specs.Prelude.{◌≡◌, ℕ, ◌<◌, ◌≤◌, ◌++◌, ◌||◌, All, IfOk, List, OnOk, false};
 ghost use Rattle.std.specs.Prelude.{is_some, length, slice_index_or};
 ghost use Rattle.std.specs.String.{string_bytes};
 ghost use Rattle.mc_forward.specs.ListedTables.{facts};
-ghost use Rattle.mc_theory.specs.Lists.{below};
 ghost use Rattle.mc_theory.specs.Flights.{Copy};
 ghost use Rattle.mc_theory.specs.Findings.{first_copy_on};
 ghost use Rattle.mc_explain.specs.FirstEight.{AreMarksOfCopies, IsFirstEightOf};
@@ -95,8 +94,7 @@ fn is_wanted_and_unmarked(view: &FlowView<'_>, marks: &[bool], missed: LanNo, la
 fn unmarked_lans(view: &FlowView<'_>, marks: &[bool], missed: LanNo) -> FirstEight
     requires within { length view.now.domain.topology.lans ≤ length marks.now }
     ensures marked { (copies : List Copy) → AreMarksOfCopies marks.now copies → IsFirstEightOf result
-        (filter (is_also_missed (facts view.now.domain) view.now.flow copies missed)
-        (below (length view.now.domain.topology.lans))) }
+        (also_missed (facts view.now.domain) view.now.flow copies missed) }
 {
     let mut front = FirstEight::new();
     for number in 0..view.lans() {

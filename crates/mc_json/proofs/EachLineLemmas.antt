@@ -41,13 +41,16 @@ are_object_lines-right true number f copies tree wanted =
 are_object_lines-right false number f copies tree wanted =
     are_object_lines-one (right_data false number f copies tree wanted) refl refl
 
+pub are_object_lines-wrong_flow : (number : ℕ) (f : Flow) (w : WrongFlow)
+    → AreObjectLines (line_of (wrong_data number f w))
+unfolding escape_byte
+are_object_lines-wrong_flow number f w = are_object_lines-one (wrong_data number f w) refl refl
+
 pub are_object_lines-wrong : (d : DomainFacts) (number : ℕ) (f : Flow) (found_ttl : ℕ) (finding : Finding)
     (events : List Event) (also : List ℕ) (why : List Data) (events_asked : Bool)
     → AreObjectLines (wrong_line d number f found_ttl finding events also why events_asked)
-unfolding escape_byte
 are_object_lines-wrong d number f found_ttl finding events also why events_asked =
-    are_object_lines-one (wrong_data number f (wrong_flow_of d.topology found_ttl finding events also why events_asked))
-    refl refl
+    are_object_lines-wrong_flow number f (wrong_flow_of d.topology found_ttl finding events also why events_asked)
 
 -- ---- after the flows
 

@@ -18,6 +18,16 @@ use Rattle.serde_json.specs.Data.{Data, null, boolean, string}
 use Rattle.mc_json.specs.RowData.{count_data, line_of, list_data, object_data}
 use Rattle.mc_json.specs.CauseData.{lan_data, router_data}
 
+-- ---- any flow
+
+-- the flow with this number, which counts from 0
+abbrev pub flow_members : (number : ℕ) → Flow → List (List ℕ × Data)
+flow_members number f =
+    (codes "flow", count_data (number + 1))
+    ∷ (codes "group", string (dotted f.group))
+    ∷ (codes "source", string (dotted f.source))
+    ∷ (codes "ttl", count_data f.ttl) ∷ []
+
 -- ---- trees
 
 -- the router and the vif that send onto a LAN, null for the source's own
@@ -106,6 +116,17 @@ outcome_data t e (Sent copies strays) = object_data (
 abbrev pub event_data : TopologyValue → Event → Data
 event_data t e = outcome_data t e e.outcome
 
+-- the members that each flow has that isn't right, by the TTL of its finding
+abbrev pub each_wrong_members : (number : ℕ) → Flow → (found_ttl : ℕ) → (why : List Data) → List (List ℕ × Data)
+each_wrong_members number f found_ttl why =
+    (codes "flow", count_data (number + 1))
+    ∷ (codes "found_ttl", count_data found_ttl)
+    ∷ (codes "group", string (dotted f.group))
+    ∷ (codes "right", boolean false)
+    ∷ (codes "source", string (dotted f.source))
+    ∷ (codes "ttl", count_data f.ttl)
+    ∷ (codes "why", list_data why) ∷ []
+
 -- A flow that isn't right: the finding and its TTL, the LANs that were also missed, the travel's events
 -- if they are asked for, and the causes.
 pub record WrongFlow : Type 0 where
@@ -123,14 +144,7 @@ abbrev pub wrong_members : (number : ℕ) → Flow → WrongFlow → List (List 
 wrong_members number f w =
     (codes "also", list_data w.also)
     ∷ (events_member w.events
-    ++ ((codes "finding", w.finding)
-    ∷ (codes "flow", count_data (number + 1))
-    ∷ (codes "found_ttl", count_data w.found_ttl)
-    ∷ (codes "group", string (dotted f.group))
-    ∷ (codes "right", boolean false)
-    ∷ (codes "source", string (dotted f.source))
-    ∷ (codes "ttl", count_data f.ttl)
-    ∷ (codes "why", list_data w.why) ∷ []))
+    ++ ((codes "finding", w.finding) ∷ each_wrong_members number f w.found_ttl w.why))
 
 abbrev pub wrong_data : (number : ℕ) → Flow → WrongFlow → Data
 wrong_data number f w = object_data (wrong_members number f w)
@@ -156,10 +170,21 @@ abbrev pub wrong_line : DomainFacts → (number : ℕ) → Flow → (found_ttl :
 wrong_line d number f found_ttl finding events also why events_asked =
     line_of (wrong_data number f (wrong_flow_of d.topology found_ttl finding events also why events_asked))
 
+-- the LANs that a finished travel missed besides the one of its finding
+abbrev pub also_missed_by : FinishedTravel → List ℕ
+also_missed_by e =
+    missed_besides (facts e.flight.domain) e.flight.flow e.flight.flight.carried e.travel.finding
+
+-- by the finished travel that shows it
+abbrev pub wrong_flow_of_travel : FinishedTravel → (found_ttl : ℕ) → (why : List Data) → (events_asked : Bool)
+    → WrongFlow
+wrong_flow_of_travel e found_ttl why events_asked =
+    wrong_flow_of e.flight.domain.topology found_ttl e.travel.finding e.travel.events.items (also_missed_by e) why
+    events_asked
+
 -- the same, by the finished travel that shows it
 abbrev pub wrong_line_of_travel : (number : ℕ) → Flow → FinishedTravel → (found_ttl : ℕ) → (why : List Data)
     → (events_asked : Bool) → List ℕ
 wrong_line_of_travel number f e found_ttl why events_asked =
     wrong_line (facts e.flight.domain) number f found_ttl e.travel.finding e.travel.events.items
-    (missed_besides (facts e.flight.domain) e.flight.flow e.flight.flight.carried e.travel.finding)
-    why events_asked
+    (also_missed_by e) why events_asked

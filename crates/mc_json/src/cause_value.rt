@@ -6,10 +6,10 @@ ghost use Rattle.mc_forward.specs.Domains.{vif_of};
 ghost use Rattle.mc_forward.specs.FlightsInDomain.{net_in};
 ghost use Rattle.mc_forward.specs.ListedTables.{facts};
 ghost use Rattle.mc_explain.specs.declared.causes.Cause.TheVariants.{Unplaced};
-ghost use Rattle.mc_json.specs.CauseData.{causes_data, circle_data, incoming_device, incoming_vif};
-ghost use Rattle.mc_json.specs.CauseData.{least_ttl_data, only_every_source_data, row_only_data};
-ghost use Rattle.mc_json.specs.CauseData.{sent_onto_data, stopped_at_data, take_out_data, cause_data};
-ghost use Rattle.mc_json.specs.CauseData.{unplaced_data, unplaced_kind};
+ghost use Rattle.mc_json.specs.CauseData.{circle_data, incoming_device, incoming_vif, least_ttl_data};
+ghost use Rattle.mc_json.specs.CauseData.{only_every_source_data, row_only_data, sent_onto_data};
+ghost use Rattle.mc_json.specs.CauseData.{stopped_at_data, take_out_data, unplaced_data, unplaced_kind};
+ghost use Rattle.mc_json.specs.ContextData.{cause_data_in, causes_data_in};
 
 use crate::device_value::{NO_DEVICE, device_value};
 use crate::fields::Fields;
@@ -256,8 +256,7 @@ fn push_unplaced_values(
     vif: u8,
 ) -> Result<(), AllocError>
     ensures { OnOk result (map data_of values.new.items ≡ map data_of values.old.items
-        ++ cause_data (facts context.now.view.now.domain) context.now.summary.now context.now.view.now.flow
-        context.now.flow.now (Unplaced router vif)) }
+        ++ cause_data_in context.now (Unplaced router vif)) }
 {
     values.push(unplaced_value(alloc, context.view, router, vif)?)?;
     values.push(row_only_value(alloc, context, router)?)?;
@@ -272,8 +271,7 @@ fn push_cause(
     cause: Cause,
 ) -> Result<(), AllocError>
     ensures { OnOk result (map data_of values.new.items ≡ map data_of values.old.items
-        ++ cause_data (facts context.now.view.now.domain) context.now.summary.now context.now.view.now.flow
-        context.now.flow.now cause) }
+        ++ cause_data_in context.now cause) }
 {
     let view = context.view;
     let line = match cause {
@@ -316,8 +314,7 @@ pub(crate) fn push_causes(
     causes: &[Cause],
 ) -> Result<(), AllocError>
     ensures { OnOk result (map data_of values.new.items ≡ map data_of values.old.items
-        ++ causes_data (facts context.now.view.now.domain) context.now.summary.now context.now.view.now.flow
-        context.now.flow.now causes.now) }
+        ++ causes_data_in context.now causes.now) }
 {
     for line in causes {
         push_cause(alloc, values, context, *line)?;

@@ -6,12 +6,10 @@ ghost use Rattle.mc_tables.specs.Summary.{SummaryValue};
 ghost use Rattle.mc_topology.specs.declared.flow.Flow.{Flow};
 ghost use Rattle.mc_topology.specs.Topology.{TopologyValue};
 ghost use Rattle.mc_theory.specs.Certificates.{Entry};
-ghost use Rattle.mc_theory.specs.Events.{Event};
 ghost use Rattle.mc_forward.specs.ListedTables.{DomainFacts};
-ghost use Rattle.mc_replay.specs.declared.finding.Finding.{Finding};
 ghost use Rattle.mc_json.specs.DomainData.{domain_data};
 ghost use Rattle.mc_json.specs.EndData.{summary_data, unlisted_lines, verdict_data, without_line};
-ghost use Rattle.mc_json.specs.FlowData.{right_data, tree_data, wrong_line};
+ghost use Rattle.mc_json.specs.FlowData.{WrongFlow, right_data, tree_data, wrong_data};
 ghost use Rattle.mc_json.specs.ObjectLines.{AreObjectLines};
 ghost use Rattle.mc_json.specs.RowData.{line_of};
 
@@ -24,9 +22,7 @@ pub fn each_line_is_an_object()
         AreObjectLines (line_of (tree_data t es tree)) }
     ensures right { (whole : Bool) (number : ℕ) (f : Flow) (copies tree : ℕ) (wanted : List Data) →
         AreObjectLines (line_of (right_data whole number f copies tree wanted)) }
-    ensures wrong { (d : DomainFacts) (number : ℕ) (f : Flow) (found_ttl : ℕ) (finding : Finding)
-        (events : List Event) (also : List ℕ) (why : List Data) (events_asked : Bool) →
-        AreObjectLines (wrong_line d number f found_ttl finding events also why events_asked) }
+    ensures wrong { (number : ℕ) (f : Flow) (w : WrongFlow) → AreObjectLines (line_of (wrong_data number f w)) }
     ensures unlisted { (all : Bool) (t : TopologyValue) (summary : List SummaryValue) →
         AreObjectLines (unlisted_lines all t summary) }
     ensures without { (t : TopologyValue) (excluded : List Bool) →

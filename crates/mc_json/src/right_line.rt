@@ -1,11 +1,12 @@
 //! The lines of right flows and of their trees.
 
-ghost use Rattle.std.specs.Prelude.{◌≡◌, ◌<◌, ◌++◌, IfOk, OnOk, Some, codes, length, map, slice_get};
+ghost use Rattle.std.specs.Prelude.{◌≡◌, ◌<◌, ◌++◌, IfOk, OnOk, codes, length, map};
 ghost use Rattle.std.specs.String.{string_bytes};
 ghost use Rattle.serde_json.specs.Data.{Members, put as with_member};
-ghost use Rattle.serde_json.specs.View.{members_view, view as data_of};
-ghost use Rattle.mc_topology.specs.declared.flow.Flow.{Flow};
+ghost use Rattle.serde_json.specs.View.{view as data_of};
 ghost use Rattle.mc_forward.specs.ListedTables.{facts};
+ghost use Rattle.mc_explain.specs.ListedFlow.{ForListedFlow};
+ghost use Rattle.mc_json.specs.Fields.{HasMembers};
 ghost use Rattle.mc_json.specs.FlowData.{reached_data, right_data, right_mark, sender_router};
 ghost use Rattle.mc_json.specs.FlowData.{sender_vif, tree_data, wanted_data};
 ghost use Rattle.mc_json.specs.RowData.{line_of};
@@ -24,9 +25,8 @@ use std::alloc::{AllocError, Global};
 
 /// Adds the router and the vif that send onto a LAN of a tree, null for the source's own LAN.
 fn with_sender(fields: Fields, topology: &Topology, forwarder: Option<(RouterNo, u8)>) -> Fields
-    ensures { (ms : Members) → IfOk fields.built (λ map. members_view map.entries ≡ ms)
-        → IfOk result.built (λ map. members_view map.entries
-        ≡ with_member (codes "vif") (sender_vif forwarder)
+    ensures { (ms : Members) → HasMembers fields ms
+        → HasMembers result (with_member (codes "vif") (sender_vif forwarder)
         (with_member (codes "router") (sender_router topology.now forwarder) ms)) }
 {
     match forwarder {
@@ -157,10 +157,8 @@ pub fn push_right_line(
     tree: u32,
 ) -> Result<(), Memory>
     requires flow { flow < length domain.now.topology.flows }
-    ensures line { OnOk result ((listed : Flow) → slice_get domain.now.topology.flows flow ≡ Some listed
-        → string_bytes text.new ≡ string_bytes text.old
-        ++ line_of (right_data whole flow listed copies tree
-        (wanted_data (facts domain.now) flow))) }
+    ensures line { OnOk result (ForListedFlow domain.now flow (λ f. string_bytes text.new ≡ string_bytes text.old
+        ++ line_of (right_data whole flow f copies tree (wanted_data (facts domain.now) flow)))) }
 {
     let view = FlowView::new(domain, flow);
     let listed = domain.topology().flow(flow);

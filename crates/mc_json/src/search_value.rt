@@ -8,11 +8,11 @@ ghost use Rattle.mc_forward.specs.ListedTables.{facts};
 ghost use Rattle.mc_explain.specs.RowText.{device_name_text};
 ghost use Rattle.mc_explain.specs.ShownLines.{shown_lines};
 ghost use Rattle.mc_explain.specs.TopologyLans.{interface_at};
+ghost use Rattle.mc_json.specs.ContextData.{search_data_in, search_line_data_in, shown_line_data_in};
 ghost use Rattle.mc_json.specs.SearchData.{does_not_send_line, every_source_line, expected_line};
 ghost use Rattle.mc_json.specs.SearchData.{incoming_kind, incoming_kind_of, from_unplaced_line, kind_and_lan};
-ghost use Rattle.mc_json.specs.SearchData.{reach_line, kind_lan_router, search_data, search_line_data};
-ghost use Rattle.mc_json.specs.SearchData.{shown_line_data, stopped_line, waits_for_line, kind_lan_router_device};
-ghost use Rattle.mc_json.specs.CauseData.{router_data};
+ghost use Rattle.mc_json.specs.SearchData.{kind_lan_router, kind_lan_router_device, reach_line};
+ghost use Rattle.mc_json.specs.SearchData.{stopped_line, waits_for_line};
 
 use crate::cause_value::{incoming_device, incoming_vif};
 use crate::device_value::{NO_DEVICE, device_name, device_value};
@@ -267,8 +267,7 @@ fn search_line_value(
     context: &LineContext<'_>,
     line: SearchLine,
 ) -> Result<Value, AllocError>
-    ensures { IfOk result (λ value. data_of value ≡ search_line_data (facts context.now.view.now.domain)
-        context.now.summary.now context.now.view.now.flow context.now.flow.now line) }
+    ensures { IfOk result (λ value. data_of value ≡ search_line_data_in context.now line) }
 {
     let topology = context.view.topology();
     match line {
@@ -345,8 +344,7 @@ fn shown_line_value(
     context: &LineContext<'_>,
     line: ShownLine<'_>,
 ) -> Result<Value, AllocError>
-    ensures { IfOk result (λ value. data_of value ≡ shown_line_data (facts context.now.view.now.domain)
-        context.now.summary.now context.now.view.now.flow context.now.flow.now line.entry) }
+    ensures { IfOk result (λ value. data_of value ≡ shown_line_data_in context.now line.entry) }
 {
     match line {
         ShownLine::One(line) => search_line_value(alloc, context, line),
@@ -365,8 +363,7 @@ fn push_shown_lines(
     lines: &[SearchLine],
 ) -> Result<(), AllocError>
     ensures { OnOk result (map data_of values.new.items ≡ map data_of values.old.items
-        ++ map (shown_line_data (facts context.now.view.now.domain) context.now.summary.now context.now.view.now.flow
-        context.now.flow.now) (shown_lines lines.now)) }
+        ++ map (shown_line_data_in context.now) (shown_lines lines.now)) }
 {
     for line in ShownLines::new(lines) {
         values.push(shown_line_value(alloc, context, line)?)?;
@@ -397,9 +394,8 @@ pub(crate) fn push_search_values(
     context: &LineContext<'_>,
     search: &LanSearch,
 ) -> Result<(), AllocError>
-    ensures { OnOk result (map data_of values.new.items ≡ map data_of values.old.items ++ search_data
-        (facts context.now.view.now.domain) context.now.summary.now context.now.view.now.flow context.now.flow.now
-        search.now.lines.items search.now.reach.sent_on.items search.now.reach.took_none.items) }
+    ensures { OnOk result (map data_of values.new.items ≡ map data_of values.old.items
+        ++ search_data_in context.now search.now) }
 {
     let topology = context.view.topology();
     let sent_on = reach_value(alloc, topology, "gets_as_far_as", &search.reach.sent_on)?;

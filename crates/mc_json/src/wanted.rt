@@ -1,9 +1,8 @@
 //! The LANs that want a flow, and those of them that its packet missed.
 
-ghost use Rattle.std.specs.Prelude.{◌≡◌, ℕ, ◌<◌, ◌≤◌, ◌||◌, All, IfOk, List, false, filter, is_some};
+ghost use Rattle.std.specs.Prelude.{◌≡◌, ℕ, ◌<◌, ◌≤◌, ◌||◌, All, IfOk, List, false, is_some};
 ghost use Rattle.std.specs.Prelude.{length, slice_index_or};
 ghost use Rattle.mc_forward.specs.ListedTables.{facts};
-ghost use Rattle.mc_theory.specs.Lists.{below};
 ghost use Rattle.mc_theory.specs.Flights.{Copy};
 ghost use Rattle.mc_theory.specs.Findings.{first_copy_on};
 ghost use Rattle.mc_explain.specs.FirstEight.{AreMarksOfCopies};
@@ -61,9 +60,8 @@ fn unmarked_lans(
     missed: LanNo,
 ) -> Result<Vec<LanNo>, AllocError>
     requires within { length view.now.domain.topology.lans ≤ length marks.now }
-    ensures marked { (copies : List Copy) → AreMarksOfCopies marks.now copies → IfOk result (λ lans. lans.items ≡
-        filter (is_also_missed (facts view.now.domain) view.now.flow copies missed)
-        (below (length view.now.domain.topology.lans))) }
+    ensures marked { (copies : List Copy) → AreMarksOfCopies marks.now copies → IfOk result (λ lans. lans.items
+        ≡ also_missed (facts view.now.domain) view.now.flow copies missed) }
 {
     let mut lans = Vec::new(alloc);
     for number in 0..view.lans() {

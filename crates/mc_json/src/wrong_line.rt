@@ -1,19 +1,17 @@
 //! The line of a flow that isn't right.
 
-ghost use Rattle.std.specs.Prelude.{◌≡◌, ◌<◌, ◌+◌, ◌∷◌, ◌++◌, [], IfOk, OnOk, None, Some, codes, false};
-ghost use Rattle.std.specs.Prelude.{length, map, slice_get};
+ghost use Rattle.std.specs.Prelude.{◌≡◌, ◌<◌, ◌++◌, IfOk, OnOk, None, Some, false, length, map};
 ghost use Rattle.std.specs.String.{string_bytes};
-ghost use Rattle.serde_json.specs.Data.{boolean, string};
-ghost use Rattle.serde_json.specs.View.{items_of, members_view, view as data_of};
+ghost use Rattle.serde_json.specs.View.{items_of, view as data_of};
 ghost use Rattle.serde_json.specs.Written.{items_have_float};
-ghost use Rattle.mc_text.specs.Addr.{dotted};
-ghost use Rattle.mc_topology.specs.declared.flow.Flow.{Flow as FlowValue};
-ghost use Rattle.mc_forward.specs.ListedTables.{facts};
-ghost use Rattle.mc_explain.specs.WantedText.{missed_besides};
-ghost use Rattle.mc_json.specs.FlowData.{wrong_line_of_travel, wrong_data, wrong_flow_of};
-ghost use Rattle.mc_json.specs.RowData.{count_data, list_data, members};
+ghost use Rattle.mc_explain.specs.ListedFlow.{ForListedFlow};
 ghost use Rattle.mc_json.specs.CauseData.{lan_data};
-ghost use Rattle.mc_json.specs.WhyData.{why_data};
+ghost use Rattle.mc_json.specs.ContextData.{why_data_in};
+ghost use Rattle.mc_json.specs.Fields.{HasMembers};
+ghost use Rattle.mc_json.specs.FlowData.{also_missed_by, each_wrong_members, wrong_data};
+ghost use Rattle.mc_json.specs.FlowData.{wrong_flow_of_travel, wrong_line_of_travel};
+ghost use Rattle.mc_json.specs.RowData.{members};
+ghost use Rattle.mc_json.specs.WrongLine.{explained_line, missed_line};
 
 use crate::cause_value::push_causes;
 use crate::fields::Fields;
@@ -35,14 +33,8 @@ use std::alloc::{AllocError, Global};
 
 /// The members of each wrong flow: the flow, the TTL of the travel that shows it, and the causes.
 fn wrong_fields(alloc: Global, number: u32, flow: &Flow, found_ttl: u8, why: Vec<Value>) -> Fields
-    ensures { IfOk result.built (λ built. members_view built.entries ≡ members (
-        (codes "flow", count_data (number + 1))
-        ∷ (codes "found_ttl", count_data found_ttl)
-        ∷ (codes "group", string (dotted flow.now.group))
-        ∷ (codes "right", boolean false)
-        ∷ (codes "source", string (dotted flow.now.source))
-        ∷ (codes "ttl", count_data flow.now.ttl)
-        ∷ (codes "why", list_data (map data_of why.items)) ∷ [])) }
+    ensures { HasMembers result
+        (members (each_wrong_members number flow.now found_ttl (map data_of why.items))) }
 {
     flow_fields(alloc, number, flow)
         .count("found_ttl", found_ttl as u64)
@@ -53,9 +45,7 @@ fn wrong_fields(alloc: Global, number: u32, flow: &Flow, found_ttl: u8, why: Vec
 /// The names of the LANs that a travel missed besides the one of its finding.
 fn also_missed_values(alloc: Global, ended: &FinishedTravel<'_>) -> Result<Vec<Value>, AllocError>
     ensures { IfOk result (λ values. map data_of values.items
-        ≡ map (lan_data ended.now.flight.domain.topology) (missed_besides
-        (facts ended.now.flight.domain) ended.now.flight.flow ended.now.flight.flight.carried
-        ended.now.travel.finding)) }
+        ≡ map (lan_data ended.now.flight.domain.topology) (also_missed_by ended.now)) }
 {
     let topology = ended.flight.flow_view().topology();
     let lans = missed_besides(alloc, &ended.flight, ended.travel.finding)?;
@@ -73,10 +63,7 @@ fn wrong_value(
     why: Vec<Value>,
 ) -> Result<Value, AllocError>
     ensures { IfOk result (λ value. data_of value ≡ wrong_data number flow.now
-        (wrong_flow_of ended.now.flight.domain.topology found_ttl ended.now.travel.finding
-        ended.now.travel.events.items (missed_besides (facts ended.now.flight.domain)
-        ended.now.flight.flow ended.now.flight.flight.carried ended.now.travel.finding)
-        (map data_of why.items) events_asked)) }
+        (wrong_flow_of_travel ended.now found_ttl (map data_of why.items) events_asked)) }
 {
     let topology = ended.flight.flow_view().topology();
     let fields = wrong_fields(alloc, number, flow, found_ttl, why)
@@ -117,9 +104,7 @@ fn cause_values(
     context: &LineContext<'_>,
     causes: &[Cause],
 ) -> Result<Vec<Value>, AllocError>
-    ensures { IfOk result (λ values. map data_of values.items ≡ why_data
-        (facts context.now.view.now.domain) context.now.summary.now context.now.view.now.flow context.now.flow.now causes.now
-        None) }
+    ensures { IfOk result (λ values. map data_of values.items ≡ why_data_in context.now causes.now None) }
 {
     let mut values = Vec::new(alloc);
     push_causes(alloc, &mut values, context, causes)?;
@@ -133,9 +118,8 @@ fn cause_and_search_values(
     causes: &[Cause],
     search: &LanSearch,
 ) -> Result<Vec<Value>, AllocError>
-    ensures { IfOk result (λ values. map data_of values.items ≡ why_data
-        (facts context.now.view.now.domain) context.now.summary.now context.now.view.now.flow context.now.flow.now causes.now
-        (Some search.now)) }
+    ensures { IfOk result (λ values. map data_of values.items
+        ≡ why_data_in context.now causes.now (Some search.now)) }
 {
     let mut values = Vec::new(alloc);
     push_causes(alloc, &mut values, context, causes)?;
@@ -164,10 +148,8 @@ pub fn push_missed_line(
     search: &LanSearch,
 ) -> Result<(), Memory>
     requires flow { flow < length domain.now.topology.flows }
-    ensures line { OnOk result ((listed : FlowValue) →
-        slice_get domain.now.topology.flows flow ≡ Some listed → string_bytes text.new ≡
-        string_bytes text.old ++ wrong_line_of_travel flow listed ended.now found_ttl (why_data
-        (facts domain.now) summary.now flow listed causes.now (Some search.now)) events_asked) }
+    ensures line { OnOk result (ForListedFlow domain.now flow (λ f. string_bytes text.new ≡ string_bytes text.old
+        ++ missed_line domain.now summary.now flow f ended.now found_ttl causes.now search.now events_asked)) }
 {
     let view = FlowView::new(domain, flow);
     let listed = domain.topology().flow(flow);
@@ -209,10 +191,8 @@ pub fn push_wrong_line(
     causes: &[Cause],
 ) -> Result<(), Memory>
     requires flow { flow < length domain.now.topology.flows }
-    ensures line { OnOk result ((listed : FlowValue) →
-        slice_get domain.now.topology.flows flow ≡ Some listed → string_bytes text.new ≡
-        string_bytes text.old ++ wrong_line_of_travel flow listed ended.now found_ttl (why_data
-        (facts domain.now) summary.now flow listed causes.now None) events_asked) }
+    ensures line { OnOk result (ForListedFlow domain.now flow (λ f. string_bytes text.new ≡ string_bytes text.old
+        ++ explained_line domain.now summary.now flow f ended.now found_ttl causes.now events_asked)) }
 {
     let view = FlowView::new(domain, flow);
     let listed = domain.topology().flow(flow);

@@ -3,4 +3,5 @@ use Rattle.mc_explain.proofs.CauseLemmas.{is_missed_or_clean-at_flow_ttl}
 use Rattle.mc_explain.proofs.laws.low_ttl_finding_is_missed_or_clean.Goals as goal
 
 pub returns : goal.returns
-returns c = is_missed_or_clean-at_flow_ttl
+returns c = λ d flow greatest least e.
+    is_missed_or_clean-at_flow_ttl d flow greatest least e.domain e.listed e.examined

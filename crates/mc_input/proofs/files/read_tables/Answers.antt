@@ -19,7 +19,7 @@ use Rattle.mc_input.proofs.files.read_tables.Goals as goal
 
 -- the files that are read, where these routers are left out
 abbrev without : List (Bor (List ℕ)) → List FileText → List FileText
-without borrows contents = files_with_exclusions (map (λ (n : Bor (List ℕ)). n.now) borrows) contents
+without names contents = files_with_exclusions (map (λ (n : Bor (List ℕ)). n.now) names) contents
 
 pub returns-in_err-own-clause-tables : goal.returns-in_err-own-clause-tables
 returns-in_err-own-clause-tables g c =

@@ -1,5 +1,5 @@
--- Routers that are left out of a domain: their files are read as those of kernels that show no vif
--- and no row, whatever stands in the folder.
+-- Routers that are excluded from a domain: their files are read as those of kernels that show no vif and
+-- no row, whatever the folder has.
 use Rattle.std.specs.Prelude.{◌≡◌, ℕ, ◌+◌, min, Bool, true, false, IsTrue, List, [], ◌∷◌, ◌++◌, codes}
 use Rattle.std.specs.Prelude.{flat_map, Option, None, Some, Result, Ok, Err, if◌then◌else◌}
 use Rattle.std.specs.Prelude.{slice_get}
@@ -38,7 +38,7 @@ header_only_files router =
     (record { name = file_name (vif_slot router); bytes = vif_header })
     ∷ (record { name = file_name (cache_slot router); bytes = cache_header }) ∷ []
 
--- Those of the routers with these names stand in front: of two files of one name the first is read.
+-- The files of the routers with these names, and then the folder's: of two with one name the first is read.
 abbrev pub files_with_exclusions : (names : List (List ℕ)) → List FileText → List FileText
 files_with_exclusions names files = flat_map header_only_files names ++ files
 
@@ -48,26 +48,27 @@ files_with_exclusions names files = flat_map header_only_files names ++ files
 abbrev pub AreRouterNames : TopologyValue → (names : List (List ℕ)) → Type 0
 AreRouterNames t names = AllByRecursion (λ name. IsTrue (has_router name t.routers)) names
 
--- The first of the names that no router has is refused by its place: the first of these has the
--- place n. No place is told that is greater than a u32.
+-- The first of the names that no router has is refused by its place: the first of these has the place n.
+-- A place past the greatest u32 is reported as that.
 abbrev pub check_router_names : TopologyValue → (n : ℕ) → List (List ℕ) → Result (Unit {0}) WithoutFault
 check_router_names t n [] = Ok tt
 check_router_names t n (name ∷ names) =
     if has_router name t.routers then check_router_names t (n + 1) names
     else Err (NoSuchRouter (min n 4294967295))
 
--- whether the router with this number has one of the names
+-- whether there is a router, and it has one of the names
 abbrev pub has_name_among : (names : List (List ℕ)) → Option RouterRow → Bool
 has_name_among names None = false
 has_name_among names (Some r) = list_any (λ name. bytes_eq name r.name) names
 
+-- whether the router with this number is excluded by its name
 abbrev pub is_excluded : TopologyValue → (names : List (List ℕ)) → (router : ℕ) → Bool
 is_excluded t names router = has_name_among names (slice_get t.routers router)
 
 -- ---- the whole
 
--- The input of a folder's files, with the routers of these names left out, or the first reason why
--- it is refused: the topology is judged first, then the names, and then the rest.
+-- The input of a folder's files with the routers of these names excluded, or the first fault: that of the
+-- topology, that of the names, and then that of the other files.
 abbrev pub input_of_files_without : (names : List (List ℕ)) → List FileText → Result InputValue WithoutFault
 input_of_files_without names files =
     map_fault Source (read_part Input (part_from_file files 0 topology_slot) topology_of)
@@ -84,14 +85,14 @@ abbrev pub is_read_without : WithoutFault → Bool
 is_read_without (Source fault) = is_read fault
 is_read_without (NoSuchRouter n) = false
 
--- files can have it, of which routers are left out
+-- a folder's files can have this fault when routers are excluded
 abbrev pub is_possible_for_files_without : WithoutFault → Bool
 is_possible_for_files_without (Source fault) = is_possible_for_files fault
 is_possible_for_files_without (NoSuchRouter n) = true
 
--- ---- what is known of a router that is left out
+-- ---- what is known of an excluded router
 
--- It has no vif, so that none is placed on a LAN, and no row for any flow.
+-- The router has no vif, so none is placed on a LAN, and no row for any flow.
 pub record HasNoVifOrRow (d : DomainValue) (router : ℕ) : Type 0 where
   pub vifs : (vif : ℕ) → vif_of d.tables router vif ≡ None
   pub placed : (vif : ℕ) → placed_of d router vif ≡ None

@@ -1,5 +1,5 @@
--- What a folder's files are read as, or why they are refused. Each file is judged before the next
--- one is asked for, in the order of the slots.
+-- The input that a folder's files are read as, or the first fault. Each file is parsed before the next one
+-- is opened, in the order of the slots.
 use Rattle.std.specs.Prelude.{ℕ, List, Result, Ok}
 use Rattle.mc_text.specs.Steps.{map_fault}
 use Rattle.mc_text.specs.Bundle.{PartText}
@@ -12,7 +12,7 @@ use Rattle.mc_input.specs.PartsReading.{read_input}
 use Rattle.mc_input.specs.declared.source_fault.SourceFault.{SourceFault}
 use Rattle.mc_input.specs.declared.source_fault.SourceFault.TheVariants.{Input}
 
--- the part of a slot, as its file makes it
+-- the part that is made of a slot's file
 abbrev pub part_from_file : List FileText → ℕ → Slot → Result PartText SourceFault
 part_from_file files n slot = map_fault from_file_fault (file_part files slot)
 

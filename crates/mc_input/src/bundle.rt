@@ -1,4 +1,4 @@
-//! What the parts of a bundle tell of a domain, each read as it comes and let go.
+//! Reads the contents of a bundle's parts, one after another. No part's text is kept.
 
 ghost use Rattle.std.specs.Prelude.{◌≡◌, ◌<◌, ◌+◌, ◌*◌, ℕ, List, [], Some, Ok, IfOk, IfErr, drop, length};
 ghost use Rattle.std.specs.Prelude.{is_some};
@@ -29,15 +29,15 @@ use std::alloc::Global;
 /// What is kept of the parts after the topology.
 #[derive(Drop)]
 pub(crate) struct BundleContents {
-    /// Of each router the vifs, and of its cache what it says of the flows.
+    /// Each router's vifs, and the rows of its cache for the flows.
     pub(crate) tables: Vec<Tables>,
     /// For each LAN, which flows it wants.
     pub(crate) wants: Vec<Items<bool>>,
-    /// The text of the certificate, where one was to be there.
+    /// The text of the certificate, if one was asked for.
     pub(crate) certificate: Option<Vec<u8>>,
 }
 
-/// Both tables of a router, in the parts of two slots.
+/// Reads both tables of a router from the next two parts.
 fn tables_of<R: Input>(
     alloc: Global,
     parts: &mut Parts<R>,
@@ -68,7 +68,7 @@ fn tables_of<R: Input>(
     Ok(Tables { vifs, cache })
 }
 
-/// The tables of each router.
+/// Reads the tables of each router.
 fn read_tables<R: Input>(
     alloc: Global,
     parts: &mut Parts<R>,
@@ -94,7 +94,7 @@ fn read_tables<R: Input>(
     Ok(tables)
 }
 
-/// Which flows each LAN wants.
+/// Reads which flows each LAN wants.
 fn read_wants<R: Input>(
     alloc: Global,
     parts: &mut Parts<R>,
@@ -131,7 +131,7 @@ fn read_wants<R: Input>(
     Ok(wants)
 }
 
-/// The text of the certificate where one is to be there, after which no part may come.
+/// Reads the text of the certificate if `certified`. No part may come after it.
 fn read_certificate_and_end<R: Input>(
     alloc: Global,
     parts: &mut Parts<R>,
@@ -162,8 +162,8 @@ fn read_certificate_and_end<R: Input>(
     Ok(Some(text))
 }
 
-/// What the parts after the topology tell, of which the rows of listed flows are kept, and which
-/// LAN wants which flow.
+/// Reads the parts after the topology: the rows of listed flows, which LAN wants which flow, and the
+/// certificate if `certified`.
 pub(crate) fn read_contents<R: Input>(
     alloc: Global,
     parts: &mut Parts<R>,

@@ -1,4 +1,4 @@
-//! One part of a bundle, which has to have the name of its slot, and what is kept of what it tells.
+//! Reads one part of a bundle, which has to have the name of its slot.
 
 ghost use Rattle.std.specs.Prelude.{◌≡◌, ◌≢◌, ◌<◌, ◌≤◌, ℕ, List, Some, Ok, Err, IfOk, IfErr};
 ghost use Rattle.std.specs.Prelude.{drop, length, Result};
@@ -34,8 +34,8 @@ use mc_text::{Input, Part, Parts, collect_part};
 use mc_topology::Topology;
 use std::alloc::Global;
 
-/// What is kept of a part, or why it is refused: its fault is held back until all parts that come
-/// have the names of the slots from a number on.
+/// The value read from a part, or its fault. Before a fault is answered, the names of all further
+/// parts are checked against the slots from a number on: a wrong name is the earlier fault.
 fn fault_after_names<R: Input, K: Drop>(
     parts: &mut Parts<R>,
     topology: &Topology,
@@ -46,7 +46,7 @@ fn fault_after_names<R: Input, K: Drop>(
     requires within { number ≤ length (slots certified topology.now) }
     requires failures { parts.old.failed < u64.MAX }
     ensures kept { IfOk result (λ kept. (part_result ≡ Ok kept) × (parts.new ≡ parts.old)) }
-    // What is to come is refused for its framing or for a name, or for this fault.
+    // The rest of the bundle is refused for its framing or for a name, or for this fault.
     ensures fault { (text : List ℕ) (read : List PartText → Result (Unit {0}) FaultOfInput) →
         parts.old.remaining ≡ Some text → IfErr result (λ fault. ¬ IsReadOrMemory fault →
         (own : FaultOfInput) × (part_result ≡ Err own)
@@ -66,7 +66,7 @@ fn fault_after_names<R: Input, K: Drop>(
     }
 }
 
-/// What the part of a router's vifs tells.
+/// Reads the part of a router's vifs.
 fn read_vifs<R: Input>(
     alloc: Global,
     parts: &mut Parts<R>,
@@ -92,7 +92,7 @@ fn read_vifs<R: Input>(
     Ok(vifs_or_fault(name, reader.finish()))
 }
 
-/// The vifs of a router, in the part of the slot with a number.
+/// Reads a router's vifs from the part of the slot with a number.
 pub(crate) fn vifs_in<R: Input>(
     alloc: Global,
     parts: &mut Parts<R>,
@@ -116,7 +116,7 @@ pub(crate) fn vifs_in<R: Input>(
     fault_after_names(parts, topology, certified, number + 1, part_result)
 }
 
-/// What the part of a router's cache tells, of which the rows of these sources and groups are kept.
+/// Reads the part of a router's cache. The reader keeps the rows of listed flows.
 fn read_cache<R: Input>(
     parts: &mut Parts<R>,
     buffer: &mut [u8],
@@ -144,8 +144,8 @@ fn read_cache<R: Input>(
     Ok(cache_or_fault(name, reader.finish()))
 }
 
-/// The forwarding cache of a router, in the part of the slot with a number, of which this reader
-/// keeps the rows of listed flows.
+/// Reads a router's forwarding cache from the part of the slot with a number. The reader keeps the
+/// rows of listed flows.
 pub(crate) fn cache_in<R: Input>(
     parts: &mut Parts<R>,
     buffer: &mut [u8],
@@ -170,7 +170,7 @@ pub(crate) fn cache_in<R: Input>(
     fault_after_names(parts, topology, certified, number + 1, part_result)
 }
 
-/// What the part of a LAN's reports tells: which of these channels they want.
+/// Reads from the part of a LAN's reports which of these channels they want.
 fn read_reports<R: Input>(
     alloc: Global,
     parts: &mut Parts<R>,
@@ -200,7 +200,7 @@ fn read_reports<R: Input>(
     Ok(wanted_or_fault(alloc, channels, name, reader.finish()))
 }
 
-/// Which of these channels a LAN wants, by its reports in the part of the slot with a number.
+/// Reads which of these channels a LAN wants from the part of the slot with a number.
 pub(crate) fn wanted_in<R: Input>(
     alloc: Global,
     parts: &mut Parts<R>,
@@ -226,7 +226,7 @@ pub(crate) fn wanted_in<R: Input>(
     fault_after_names(parts, topology, certified, number + 1, part_result)
 }
 
-/// The text of the certificate, in the part of the slot with a number.
+/// Reads the text of the certificate from the part of the slot with a number.
 pub(crate) fn certificate_in<R: Input>(
     alloc: Global,
     parts: &mut Parts<R>,
@@ -250,7 +250,7 @@ pub(crate) fn certificate_in<R: Input>(
     Ok(collect_part(alloc, parts, buffer)?)
 }
 
-/// The topology, in the first part.
+/// Reads the topology from the first part.
 pub(crate) fn topology_in<R: Input>(
     alloc: Global,
     parts: &mut Parts<R>,

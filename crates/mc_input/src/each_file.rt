@@ -1,5 +1,4 @@
-//! All files of a folder that are refused, each by its own fault, so that one look tells whoever
-//! has to mend them what to mend.
+//! Lists all refused files of a folder, each with its own fault.
 
 ghost use Rattle.std.specs.Prelude.{◌≡◌, ◌≢◌, ◌<◌, ◌∷◌, ◌++◌, List, [], IfOk, IsTrue, Ok, OnOk, Some};
 ghost use Rattle.std.specs.Prelude.{flat_map, length, map};
@@ -36,7 +35,7 @@ use std::alloc::Global;
 pub enum Refusal {
     /// It can't be read.
     Unread(Unread),
-    /// What stands in it is refused, or how much that is.
+    /// Its text is refused, or it is too large.
     Fault(InputFault),
 }
 
@@ -45,11 +44,12 @@ pub enum Refusal {
 pub struct RefusedFile {
     /// Its name in the folder.
     pub name: String,
-    /// Why.
+    /// Why it is refused.
     pub refusal: Refusal,
 }
 
-/// The topology, unless the source counts no more failures.
+/// Reads the topology. Once the source's count of failures is at its maximum, this fails without a
+/// call.
 fn topology_unless_u64_max<F: PieceSource>(
     alloc: Global,
     files: &mut F,
@@ -67,7 +67,7 @@ fn topology_unless_u64_max<F: PieceSource>(
     topology_in(alloc, files)
 }
 
-/// The fault of the vifs of a router.
+/// The fault of a router's file of vifs, if it has one.
 fn vifs_fault<F: PieceSource>(
     alloc: Global,
     files: &mut F,
@@ -89,7 +89,7 @@ fn vifs_fault<F: PieceSource>(
     vifs_in(alloc, files, buffer, router).err()
 }
 
-/// The fault of the forwarding cache of a router, whose machine has this byte order.
+/// The fault of the file of the forwarding cache of a router with this byte order, if it has one.
 fn cache_fault<F: PieceSource>(
     alloc: Global,
     files: &mut F,
@@ -114,7 +114,7 @@ fn cache_fault<F: PieceSource>(
     cache_in(alloc, files, buffer, listed, router, order, false).err()
 }
 
-/// The fault of the reports of a LAN.
+/// The fault of a LAN's file of reports, if it has one.
 fn reports_fault<F: PieceSource>(
     alloc: Global,
     files: &mut F,
@@ -137,7 +137,7 @@ fn reports_fault<F: PieceSource>(
     wanted_in(alloc, files, buffer, channels, lan).err()
 }
 
-/// Why a file is refused that was judged so just now, unless memory ran out.
+/// Why the file that was just read is refused.
 fn refusal_of<F: PieceSource>(files: &F, fault: SourceFault) -> Result<Refusal, Memory>
     ensures { IfOk result (λ refusal. (fault_of_refusal refusal ≡ fault) × (fault ≢ Input InputFault.Memory)) }
 {
@@ -148,7 +148,7 @@ fn refusal_of<F: PieceSource>(files: &F, fault: SourceFault) -> Result<Refusal, 
     }
 }
 
-/// Puts the file of a slot behind those that are refused, if it has a fault.
+/// Appends the file of a slot to the refused ones, if it has a fault.
 fn push_if_fault<F: PieceSource>(
     alloc: Global,
     files: &F,
@@ -169,7 +169,7 @@ fn push_if_fault<F: PieceSource>(
     Ok(())
 }
 
-/// Judges the tables of a router, whose machine has this byte order, unless it is left out.
+/// Checks the tables of a router with this byte order, unless it is excluded.
 fn judge_tables<F: PieceSource>(
     alloc: Global,
     files: &mut F,
@@ -199,7 +199,7 @@ fn judge_tables<F: PieceSource>(
     push_if_fault(alloc, files, &Slot::cache(router), cache, refused)
 }
 
-/// Judges the reports of a LAN.
+/// Checks the reports of a LAN.
 fn judge_reports<F: PieceSource>(
     alloc: Global,
     files: &mut F,
@@ -221,7 +221,7 @@ fn judge_reports<F: PieceSource>(
     push_if_fault(alloc, files, &Slot::reports(lan), fault, refused)
 }
 
-/// Judges the tables of all routers but those that are left out.
+/// Checks the tables of all routers but the excluded ones.
 fn judge_routers<F: PieceSource>(
     alloc: Global,
     files: &mut F,
@@ -249,7 +249,7 @@ fn judge_routers<F: PieceSource>(
     Ok(())
 }
 
-/// Judges the reports of all LANs.
+/// Checks the reports of all LANs.
 fn judge_lans<F: PieceSource>(
     alloc: Global,
     files: &mut F,
@@ -273,7 +273,7 @@ fn judge_lans<F: PieceSource>(
     Ok(())
 }
 
-/// Judges all files that a topology names.
+/// Checks all files that a topology names.
 fn judge_topologys_files<F: PieceSource>(
     alloc: Global,
     files: &mut F,
@@ -293,7 +293,7 @@ fn judge_topologys_files<F: PieceSource>(
     judge_lans(alloc, files, &mut buffer, topology, refused)
 }
 
-/// Judges all files of a folder.
+/// Checks all files of a folder.
 fn judge_all_files<F: PieceSource>(
     alloc: Global,
     files: &mut F,
@@ -314,9 +314,9 @@ fn judge_all_files<F: PieceSource>(
     }
 }
 
-/// Judges each file of a folder by itself, in the order of a domain's files, and tells those that are
-/// refused. A topology that is refused is told alone, since it names the others. The files of routers
-/// with these names are left out, and not asked for.
+/// Checks each file of a folder by itself, in the order of a domain's slots, and lists those that are
+/// refused. A refused topology is listed alone, since it names the other files. The files of routers
+/// with these names are excluded, and aren't read.
 ///
 /// # Errors
 ///
@@ -328,15 +328,15 @@ pub fn refused_files<F: PieceSource>(
 ) -> Result<Vec<RefusedFile>, Memory>
     ensures same { F.borrows files.new ≡ F.borrows files.old }
     ensures kept { F.contents files.new ≡ F.contents files.old }
-    // Each file that has a fault is listed by it, as the source gives the files, and no other file.
+    // Exactly the files that have a fault are listed with it, as the source gives the files.
     ensures refused { (contents : List FileText) → F.contents files.old ≡ Some contents →
         IfOk result (λ refused.
         AreRefusedFiles (map (λ n. n.now) without.now) contents (map as_judged_file refused.items)) }
-    // Where the source fails at no file that is there, these are the refused files.
+    // If the source fails at no existing file, these are the refused files.
     ensures exact { (contents : List FileText) → F.contents files.old ≡ Some contents →
         IfOk result (λ refused. AreUnreadFilesMissing contents (map as_judged_file refused.items) →
         map as_judged_file refused.items ≡ refused_files_of (map (λ n. n.now) without.now) contents) }
-    // Each file that is listed as one that can't be read is one at which the source failed.
+    // The source failed at each file that is listed as unread.
     ensures failures { IfOk result (λ refused. F.failed files.new
         ≡ saturating_failures (unread_count (map as_judged_file refused.items)) (F.failed files.old)) }
 {

@@ -1,4 +1,4 @@
-//! Routers that are left out: which they are, and the tables that are read in place of theirs.
+//! Excluded routers: which they are, and the tables that are read in place of theirs.
 
 ghost use Rattle.std.specs.Prelude.{◌≡◌, ◌<◌, ℕ, false, true, List, Ok, IfErr, IfOk, IsTrue};
 ghost use Rattle.std.specs.Prelude.{length, map};
@@ -26,14 +26,14 @@ use mc_text::{Memory, Order};
 use mc_topology::Topology;
 use std::alloc::Global;
 
-/// The header of a kernel's table of vifs.
+/// The header line of a kernel's table of vifs.
 const VIF_HEADER: &[u8] =
     b"Interface      BytesIn  PktsIn  BytesOut PktsOut Flags Local    Remote\n";
 
-/// That of its forwarding cache.
+/// The header line of a kernel's forwarding cache.
 const CACHE_HEADER: &[u8] = b"Group    Origin   Iif     Pkts    Bytes    Wrong Oifs\n";
 
-/// Whether a router is one of those that are left out.
+/// Whether a router's name is one of the excluded ones.
 pub fn is_excluded(without: &[&str], router: &str) -> bool
     ensures { result ≡
         list_any (λ name. bytes_eq name router.now) (map (λ n. n.now) without.now) }
@@ -41,7 +41,7 @@ pub fn is_excluded(without: &[&str], router: &str) -> bool
     without.iter().any(|name| *name == router)
 }
 
-/// Refuses the first of the names that no router of the topology has.
+/// Refuses the first of the names that no router of the topology has, by its place, counted from 1.
 pub(crate) fn check_names(topology: &Topology, without: &[&str]) -> Result<(), WithoutFault>
     ensures names { result ≡ check_router_names topology.now 1 (map (λ n. n.now) without.now) }
     ensures fault { IfErr result (λ fault. is_read_without fault ≡ false) }
@@ -56,8 +56,7 @@ pub(crate) fn check_names(topology: &Topology, without: &[&str]) -> Result<(), W
     Ok(())
 }
 
-/// The tables of a router that is left out, and what is noted of its cache: those of files that have
-/// their headers alone.
+/// The tables of an excluded router and the summary of its cache: those of files with only a header.
 pub(crate) fn header_only_tables(
     alloc: Global,
     buffer: &mut [u8],
@@ -82,7 +81,7 @@ pub(crate) fn header_only_tables(
     let mut files = MemoryFiles::new(&bare);
     match tables_of(alloc, &mut files, buffer, listed, router, order, all) {
         Ok(own) => Ok(own),
-        // the files are there and have nothing wrong, so it is memory that ran out
+        // both files exist and are right, so memory ran out
         Err(_) => Err(Memory),
     }
 }

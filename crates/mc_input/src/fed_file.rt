@@ -1,4 +1,4 @@
-//! The files of a folder that are fed to their readers as they come.
+//! Feeds files of a folder to their readers in pieces.
 
 ghost use Rattle.std.specs.Prelude.{◌≡◌, ◌<◌, ◌≤◌, ℕ, List, [], Some, Ok, Err};
 ghost use Rattle.std.specs.Prelude.{IfErr, IfOk, OnOk, length};
@@ -14,8 +14,8 @@ use mc_files::{FileFault, PieceSource, Slot};
 use mc_text::{MAX_PART, PartName};
 use std::alloc::Global;
 
-/// Feeds the open file to a reader, piece by piece through the buffer, up to the file's end: one that
-/// is too large or can't be read is refused for that, whatever stands in it.
+/// Feeds the whole open file to a reader, in pieces through the buffer. A file that is too large or
+/// can't be read is refused for that, whatever its text.
 fn feed_open<F: PieceSource, P: PieceReader>(
     files: &mut F,
     buffer: &mut [u8],
@@ -26,7 +26,7 @@ fn feed_open<F: PieceSource, P: PieceReader>(
     requires reads { F.failed files.old < u64.MAX }
     ensures same { F.borrows files.new ≡ F.borrows files.old }
     ensures kept { F.contents files.new ≡ F.contents files.old }
-    // The reader's end is that of the whole file.
+    // The reader ends with the result of the whole file.
     ensures within { (bytes : List ℕ) → F.left files.old ≡ Some bytes → OnOk result
         ((length bytes ≤ max_part) × (P.result_after reader.old bytes ≡ P.result_after reader.new [])) }
     ensures past { (bytes : List ℕ) → F.left files.old ≡ Some bytes → IfErr result (λ fault.
@@ -49,7 +49,7 @@ fn feed_open<F: PieceSource, P: PieceReader>(
     }
 }
 
-/// Feeds the file with the name to a reader, and closes it.
+/// Feeds the file with this name to a reader, and closes it.
 fn feed_file<F: PieceSource, P: PieceReader>(
     alloc: Global,
     files: &mut F,
@@ -75,7 +75,7 @@ fn feed_file<F: PieceSource, P: PieceReader>(
     fed
 }
 
-/// Feeds the part of a slot, which is made of its file, to a reader. It answers the part's name.
+/// Feeds the file of a slot to a reader, and answers the name of the slot's part.
 pub(crate) fn feed_slot<F: PieceSource, P: PieceReader>(
     alloc: Global,
     files: &mut F,

@@ -1,4 +1,4 @@
-//! The parts of a bundle that are fed to their readers as they come.
+//! Feeds parts of a bundle to their readers in pieces.
 
 ghost use Rattle.std.specs.Prelude.{◌≡◌, ◌≢◌, ◌<◌, ◌≤◌, ℕ, List, [], ◌∷◌, Some, Err};
 ghost use Rattle.std.specs.Prelude.{IfErr, IfOk, OnOk, drop, length};
@@ -17,7 +17,7 @@ use crate::source_fault::SourceFault;
 use mc_text::{BundleFault, Input, PartName, Parts};
 use mc_topology::Topology;
 
-/// Feeds the present part to a reader, piece by piece through the buffer, up to the part's end.
+/// Feeds the whole current part to a reader, in pieces through the buffer.
 fn feed_part<R: Input, P: PieceReader>(
     parts: &mut Parts<R>,
     buffer: &mut [u8],
@@ -27,7 +27,7 @@ fn feed_part<R: Input, P: PieceReader>(
     requires room { 0 < length buffer.old }
     requires start { P.size reader.old ≡ 0 }
     requires failures { parts.old.failed < u64.MAX }
-    // The part has bytes, and the reader's end is that of them all.
+    // The bundle has this part, and the reader ends with the result of all its bytes.
     ensures part { (text : List ℕ) → parts.old.remaining ≡ Some text → OnOk result
         ((later : List ℕ) × (part : PartText) × (parts.new.remaining ≡ Some later)
         × (parts_from_current parts.old [] text ≡ prepend_parts (part ∷ []) (rest_of_bundle parts.new later))
@@ -35,7 +35,7 @@ fn feed_part<R: Input, P: PieceReader>(
         × (P.result_after reader.old part.bytes ≡ P.result_after reader.new [])) }
     ensures named { OnOk result (parts.new.name ≡ parts.old.name) }
     ensures open { OnOk result (parts.new.stage ≡ parts.old.stage) }
-    // Which fault it is, unless the input failed or memory ran out.
+    // The fault is that of the bundle's text, unless the input failed or memory ran out.
     ensures fault { (text : List ℕ) → parts.old.remaining ≡ Some text → IfErr result (λ fault.
         fault ≢ BundleFault.Read → fault ≢ BundleFault.Memory →
         parts_from_current parts.old [] text ≡ Err fault) }
@@ -53,8 +53,8 @@ fn feed_part<R: Input, P: PieceReader>(
     }
 }
 
-/// Feeds the part of the slot with a number, which has to come next, to a reader. It answers the
-/// part's name.
+/// Feeds the next part, which has to be that of the slot with a number, to a reader, and answers its
+/// name.
 pub(crate) fn feed_slot<R: Input, P: PieceReader>(
     parts: &mut Parts<R>,
     buffer: &mut [u8],

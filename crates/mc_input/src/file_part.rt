@@ -1,4 +1,4 @@
-//! What is kept of what one file of a folder tells, as the part that it makes.
+//! Reads one file of a folder as the part of its slot.
 
 ghost use Rattle.std.specs.Prelude.{◌≡◌, ◌<◌, ℕ, List, IfErr, IfOk, IsTrue, length, true};
 ghost use Rattle.mc_text.specs.Device.{failures_after};
@@ -23,7 +23,7 @@ use mc_text::Order;
 use mc_topology::Topology;
 use std::alloc::Global;
 
-/// The topology, in the file `topology`.
+/// Reads the topology from the file `topology`.
 pub(crate) fn topology_in<F: FileSource>(
     alloc: Global,
     files: &mut F,
@@ -40,7 +40,7 @@ pub(crate) fn topology_in<F: FileSource>(
     Ok(topology_of(alloc, &part.as_part())?)
 }
 
-/// The vifs of a router, in the file `vif-<router>`.
+/// Reads a router's vifs from the file `vif-<router>`.
 pub(crate) fn vifs_in<F: PieceSource>(
     alloc: Global,
     files: &mut F,
@@ -62,9 +62,9 @@ pub(crate) fn vifs_in<F: PieceSource>(
     Ok(vifs_or_fault(name, reader.finish())?)
 }
 
-/// The forwarding cache of a router, in the file `cache-<router>`, of which the rows of listed
-/// sources and groups are kept, with what is noted of all rows for those; and of the others the
-/// sources and groups of all rows or of the lowest.
+/// Reads a router's forwarding cache from the file `cache-<router>`. The rows of listed sources and
+/// groups are kept, with a summary of all rows; of the other sources and groups it holds all or the
+/// lowest ones.
 pub(crate) fn cache_in<F: PieceSource>(
     alloc: Global,
     files: &mut F,
@@ -90,7 +90,7 @@ pub(crate) fn cache_in<F: PieceSource>(
     Ok(cache_or_fault(name, reader.finish())?)
 }
 
-/// Which flows a LAN wants, by its reports in the file `igmp-<lan>`.
+/// Reads which flows a LAN wants from its reports in the file `igmp-<lan>`.
 pub(crate) fn wanted_in<F: PieceSource>(
     alloc: Global,
     files: &mut F,

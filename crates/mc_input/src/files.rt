@@ -1,6 +1,6 @@
-//! What a folder's files tell of a domain. The files are read one after another: each is judged
-//! before the next one is asked for, its text is let go, and of a table the rows of listed flows are
-//! kept, with what is noted of all. Of routers that are left out no file is asked for.
+//! Reads the contents of a folder's files, one after another: each is parsed before the next one is
+//! opened. No file's text is kept: of a cache just the rows of listed flows and a summary. Files of
+//! excluded routers aren't read.
 
 ghost use Rattle.std.specs.Prelude.{◌≡◌, ◌<◌, ℕ, List, IfErr, IfOk, IsTrue, Some, length, map, true};
 ghost use Rattle.mc_text.specs.Device.{failures_after};
@@ -30,18 +30,18 @@ use mc_text::Order;
 use mc_topology::{LanNo, RouterNo, Topology};
 use std::alloc::Global;
 
-/// What is kept of the files beside the topology.
+/// What is kept of the files after the topology.
 #[derive(Drop)]
 pub(crate) struct FolderContents {
-    /// Of each router the vifs, and of its cache what it says of the flows.
+    /// Each router's vifs, and the rows of its cache for the flows.
     pub(crate) tables: Vec<Tables>,
-    /// What is noted of each router's cache.
+    /// The summary of each router's cache.
     pub(crate) summary: Vec<CacheSummary>,
     /// For each LAN, which flows it wants.
     pub(crate) wants: Vec<Items<bool>>,
 }
 
-/// Both tables of a router, and what is noted of its cache.
+/// Reads both tables of a router, and the summary of its cache.
 pub(crate) fn tables_of<F: PieceSource>(
     alloc: Global,
     files: &mut F,
@@ -71,7 +71,7 @@ pub(crate) fn tables_of<F: PieceSource>(
     Ok((Tables { vifs, cache: table }, cache.summary))
 }
 
-/// The same, where some routers are left out: of those no file is asked for.
+/// The same, but no file of an excluded router is read.
 fn tables_unless_excluded<F: PieceSource>(
     alloc: Global,
     files: &mut F,
@@ -104,7 +104,7 @@ fn tables_unless_excluded<F: PieceSource>(
     tables_of(alloc, files, buffer, listed, router, order, all)
 }
 
-/// The tables of each router, and what is noted of its cache.
+/// Reads the tables of each router, and the summary of its cache.
 fn read_tables<F: PieceSource>(
     alloc: Global,
     files: &mut F,
@@ -141,7 +141,7 @@ fn read_tables<F: PieceSource>(
     Ok((tables, summary))
 }
 
-/// Which flows each LAN wants.
+/// Reads which flows each LAN wants.
 fn read_wants<F: PieceSource>(
     alloc: Global,
     files: &mut F,
@@ -168,8 +168,7 @@ fn read_wants<F: PieceSource>(
     Ok(wants)
 }
 
-/// What is kept of the files beside the topology, which are read one after another, those of routers
-/// that are left out as if they had their headers alone.
+/// Reads the files after the topology. Those of excluded routers count as having only a header.
 pub(crate) fn read_contents<F: PieceSource>(
     alloc: Global,
     files: &mut F,

@@ -10,7 +10,7 @@ use Rattle.mc_input.proofs.ExcludedLemmas.{all_reports-with_exclusions}
 use Rattle.mc_input.proofs.ReadingLemmas.{read_tables_and_reports-tables_Err, read_tables_and_reports-reports_Err, read_tables_and_reports-Ok}
 use Rattle.mc_input.proofs.files.read_contents.Goals as goal
 
--- the files that are read, where these routers are left out
+-- the files that are read with these routers excluded
 abbrev without : List (Bor (List ℕ)) → List FileText → List FileText
 without names contents = files_with_exclusions (map (λ (n : Bor (List ℕ)). n.now) names) contents
 

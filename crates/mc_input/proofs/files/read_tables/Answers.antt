@@ -17,7 +17,7 @@ use Rattle.mc_input.proofs.SummaryLemmas.{AreSummariesOf-more}
 use Rattle.mc_input.proofs.ReadingLemmas.{all_tables-Err, all_tables-more, all_tables-all}
 use Rattle.mc_input.proofs.files.read_tables.Goals as goal
 
--- the files that are read, where these routers are left out
+-- the files that are read with these routers excluded
 abbrev without : List (Bor (List ℕ)) → List FileText → List FileText
 without names contents = files_with_exclusions (map (λ (n : Bor (List ℕ)). n.now) names) contents
 

@@ -44,7 +44,8 @@ check_part_names certified parts t = part_name_fault (first_part_mismatch certif
 
 -- the input of the parts
 abbrev pub input_of_parts : Bool → List PartText → Result InputValue InputFault
-input_of_parts certified parts = read_input (λ fault. fault) (part_with_slot_name parts) (check_part_names certified parts)
+input_of_parts certified parts =
+    read_input (λ fault. fault) (part_with_slot_name parts) (check_part_names certified parts)
 
 -- the part with a number, or past the last one a part with no name
 abbrev pub part_at : List PartText → ℕ → PartText

@@ -38,7 +38,8 @@ abbrev pub cache_of : Order → PartText → Result CacheValue InputFault
 cache_of order part = map_fault (Cache part.name) (cache_in order part.bytes)
 
 -- the entries of these sources and groups in a part, and the summary of all rows beside them
-abbrev pub summary_of_part : (all : Bool) → Order → List (ℕ × ℕ) → PartText → Result SummarizedCache InputFault
+abbrev pub summary_of_part : (all : Bool) → Order → List (ℕ × ℕ) → PartText
+    → Result SummarizedCache InputFault
 summary_of_part all order pairs part = map_fault (Cache part.name) (summary_in all order pairs part.bytes)
 
 -- the records of a LAN's reports in a part

@@ -1,17 +1,20 @@
 -- Which files of a folder are refused, each checked by itself.
 use Rattle.std.specs.Prelude.{◌≡◌, ℕ, ◌+◌, max, min, Bool, false, List, [], ◌∷◌, ◌++◌, filter, flat_map, map}
-use Rattle.std.specs.Prelude.{◌≢◌, is_some, Option, Some, None, Result, Ok, Err, ◌⊎◌, ⊤}
+use Rattle.std.specs.Prelude.{◌≢◌, is_some, OnOk, Option, Some, None, Result, Ok, Err, ◌⊎◌, ⊤}
 use Rattle.std.specs.Prelude.{if◌then◌else◌, string_bytes}
 use Rattle.std.specs.List.{AllByRecursion, list_any}
 use Rattle.std.specs.Result.{result_err}
 use Rattle.std.specs.Str.{bytes_eq}
 use Rattle.mc_text.specs.Bundle.{PartText}
+use Rattle.mc_text.specs.declared.text.addr.Order.{Order}
 use Rattle.mc_topology.specs.SectionRows.{RouterRow}
 use Rattle.mc_topology.specs.Topology.{TopologyValue}
+use Rattle.mc_topology.specs.declared.flow.Flow.{Flow}
 use Rattle.mc_files.specs.Files.{FileText, file_named}
 use Rattle.mc_files.specs.Layout.{Slot, cache_slot, file_name, reports_slot, topology_slot, vif_slot}
 use Rattle.mc_forward.specs.ListedTables.{Pairwise}
 use Rattle.mc_input.specs.FilesReading.{part_from_file}
+use Rattle.mc_input.specs.Kept.{AreFlowPairs}
 use Rattle.mc_input.specs.PartsReading.{cache_of, reports_of, read_part, topology_of, vifs_of}
 use Rattle.mc_input.specs.SourceFault.{is_read}
 use Rattle.mc_input.specs.declared.each_file.RefusedFile.{RefusedFile}
@@ -34,6 +37,10 @@ abbrev pub file_fault : {X : Type 0} → List FileText → Slot → (PartText �
     → Option SourceFault
 file_fault files slot read = result_err (read_part Input (part_from_file files 0 slot) read)
 
+-- the first fault of the file of a router's cache
+abbrev pub cache_file_fault : List FileText → (router : List ℕ) → Order → Option SourceFault
+cache_file_fault files router order = file_fault files (cache_slot router) (cache_of order)
+
 -- a slot's file with its fault
 abbrev pub judged_file : {X : Type 0} → List FileText → Slot → (PartText → Result X InputFault)
     → JudgedFile
@@ -50,13 +57,24 @@ judged_tables names files r =
 abbrev pub judged_reports : List FileText → (lan : List ℕ) → JudgedFile
 judged_reports files lan = judged_file files (reports_slot lan) reports_of
 
+-- the files of all routers' tables but the excluded ones'
+abbrev pub judged_routers : (names : List (List ℕ)) → TopologyValue → List FileText → List JudgedFile
+judged_routers names t files = flat_map (judged_tables names files) t.routers
+
+-- the files of all LANs' reports
+abbrev pub judged_lans : TopologyValue → List FileText → List JudgedFile
+judged_lans t files = map (judged_reports files) t.lans
+
 -- all files that a topology names, or the topology's alone if that is refused
 abbrev pub judged_with_topology : (names : List (List ℕ)) → List FileText → Result TopologyValue SourceFault
     → List JudgedFile
 judged_with_topology names files (Err fault) =
     (record { name = file_name topology_slot; fault = Some fault }) ∷ []
-judged_with_topology names files (Ok t) =
-    flat_map (judged_tables names files) t.routers ++ map (judged_reports files) t.lans
+judged_with_topology names files (Ok t) = judged_routers names t files ++ judged_lans t files
+
+-- all files that this topology names
+abbrev pub judged_files_of : (names : List (List ℕ)) → TopologyValue → List FileText → List JudgedFile
+judged_files_of names t files = judged_with_topology names files (Ok t)
 
 -- the files of a folder, in the order of a domain's slots
 abbrev pub judged_files : (names : List (List ℕ)) → List FileText → List JudgedFile
@@ -109,6 +127,12 @@ abbrev pub AreUnreadFilesMissing : List FileText → (listed : List JudgedFile) 
 AreUnreadFilesMissing files listed =
     AllByRecursion (λ file. file.fault ≡ Some Read → file_named files file.name ≡ None) listed
 
+-- if the files that are listed as unread don't exist, the list holds exactly the refused files
+abbrev pub AreExactlyRefusedFiles : (names : List (List ℕ)) → List FileText → (listed : List JudgedFile)
+    → Type 0
+AreExactlyRefusedFiles names files listed =
+    AreUnreadFilesMissing files listed → listed ≡ refused_files_of names files
+
 -- ---- the list
 
 -- the fault for which a file is refused
@@ -146,3 +170,19 @@ pub record JudgesFiles (contents : Option (List FileText)) (files : List FileTex
   pub listed : new ≡ old ++ files_with_fault given
   pub failures : after ≡ saturating_failures (unread_count given) before
   pub each : (known : List FileText) → contents ≡ Some known → Pairwise IsSameFileOrUnread (files known) given
+
+-- the same for a list of refused files
+abbrev pub ListsRefused : (contents : Option (List FileText)) → (List FileText → List JudgedFile)
+    → (old new : List RefusedFile) → (before after : ℕ) → Type 0
+ListsRefused contents files old new before after =
+    JudgesFiles contents files (map as_judged_file old) (map as_judged_file new) before after
+
+-- if no memory ran out, the same for the tables of the router with this name and byte order, where the
+-- listed pairs are those of some flows
+abbrev pub ListsRefusedTables : {E : Type 0} → (listed : List (ℕ × ℕ)) → (names : List (List ℕ))
+    → (router : List ℕ) → Order → Result (Unit {0}) E → (contents : Option (List FileText))
+    → (old new : List RefusedFile) → (before after : ℕ) → Type 0
+ListsRefusedTables listed names router order result contents old new before after =
+    (flows : List Flow) → AreFlowPairs flows listed →
+    OnOk result (ListsRefused contents
+    (λ files. judged_tables names files (record { name = router; order = order })) old new before after)

@@ -1,25 +1,23 @@
 //! Reads one part of a bundle, which has to have the name of its slot.
 
-ghost use Rattle.std.specs.Prelude.{◌≡◌, ◌≢◌, ◌<◌, ◌≤◌, ℕ, List, Some, Ok, Err, IfOk, IfErr};
+ghost use Rattle.std.specs.Prelude.{◌≡◌, ◌<◌, ◌≤◌, ℕ, List, Some, Ok, IfOk, IfErr};
 ghost use Rattle.std.specs.Prelude.{drop, length, Result};
 ghost use Rattle.mc_text.specs.Bundle.{PartText};
 ghost use Rattle.mc_text.specs.Device.{failures_after};
 ghost use Rattle.mc_text.specs.RestOfBundle.{Advances, ReadsPart};
-ghost use Rattle.mc_text.specs.Steps.{map_fault};
 ghost use Rattle.mc_tables.specs.ListedRows.{IsListedPart};
-ghost use Rattle.mc_tables.specs.RowsSoFar.{cache_if, cache_start};
-ghost use Rattle.mc_text.specs.Lines.{max_text};
+ghost use Rattle.mc_tables.specs.RowsSoFar.{cache_start};
 ghost use Rattle.mc_files.specs.Layout.{part_name, slots, topology_slot};
 ghost use Rattle.mc_forward.specs.Assembling.{AreChannelsWanted};
 ghost use Rattle.mc_forward.specs.ListedTables.{flow_pairs};
-ghost use Rattle.mc_input.specs.PartsOneByOne.{HasNameOfSlot, IsPartResult, IsFaultOf, KeepsOfPart, read_rest, check_names_then, check_names_from};
-ghost use Rattle.mc_input.specs.PartsOneByOne.{read_first_part, read_first_topology};
+ghost use Rattle.mc_input.specs.Kept.{AreWantsOf};
+ghost use Rattle.mc_input.specs.PartsOneByOne.{HasNameOfSlot, IsFaultAfterNames, IsFaultOf, KeepsOfPart};
+ghost use Rattle.mc_input.specs.PartsOneByOne.{ReadsCachePart, ReadsPartResult, check_names_from};
+ghost use Rattle.mc_input.specs.PartsOneByOne.{check_names_then, read_first_part, read_first_topology};
 ghost use Rattle.mc_input.specs.PartsReading.{cache_of as cache_reading, reports_of as reports_reading};
 ghost use Rattle.mc_input.specs.PartsReading.{topology_of as topology_reading, vifs_of as vifs_reading};
-ghost use Rattle.mc_input.specs.SourceFault.{IsReadOrMemory, is_read};
-ghost use Rattle.mc_input.specs.declared.fault.InputFault.{InputFault as FaultOfInput};
-ghost use Rattle.mc_input.specs.declared.fault.InputFault.TheVariants.{Cache as RefusedCache};
-ghost use Rattle.mc_input.specs.declared.source_fault.SourceFault.TheVariants.{Input as refused};
+ghost use Rattle.mc_input.specs.SourceFault.{is_read};
+ghost use Rattle.mc_input.specs.declared.fault.InputFault.{InputFault as Fault};
 
 use crate::fault::InputFault;
 use crate::fed_part::feed_slot;
@@ -47,12 +45,9 @@ fn fault_after_names<R: Input, K: Drop>(
     requires failures { parts.old.failed < u64.MAX }
     ensures kept { IfOk result (λ kept. (part_result ≡ Ok kept) × (parts.new ≡ parts.old)) }
     // The rest of the bundle is refused for its framing or for a name, or for this fault.
-    ensures fault { (text : List ℕ) (read : List PartText → Result (Unit {0}) FaultOfInput) →
-        parts.old.remaining ≡ Some text → IfErr result (λ fault. ¬ IsReadOrMemory fault →
-        (own : FaultOfInput) × (part_result ≡ Err own)
-        × ((own ≢ InputFault.Memory → (others : List PartText) → read others ≡ Err own) →
-        map_fault refused (read_rest parts.old text (check_names_then certified topology.now number read))
-        ≡ Err fault)) }
+    ensures fault { (text : List ℕ) (read : List PartText → Result (Unit {0}) Fault) →
+        parts.old.remaining ≡ Some text → IfErr result
+        (IsFaultAfterNames parts.old certified topology.now number part_result text read) }
     ensures advances { Advances parts.old parts.new }
     ensures failures { parts.new.failed ≡ failures_after is_read result parts.old.failed }
 {
@@ -79,9 +74,8 @@ fn read_vifs<R: Input>(
     requires few { number < u32.MAX }
     requires room { 0 < length buffer.old }
     requires failures { parts.old.failed < u64.MAX }
-    ensures read { IfOk result (λ part_result. ReadsPart parts.old parts.new (λ part.
-        HasNameOfSlot certified topology.now number part.name
-        × IsPartResult (λ kept vifs. kept ≡ vifs) part_result (vifs_reading part))) }
+    ensures read { IfOk result (ReadsPartResult parts.old parts.new certified topology.now number
+        vifs_reading (λ kept vifs. kept ≡ vifs)) }
     ensures fault { IfErr result (IsFaultOf parts.old
         (check_names_from number (drop number (slots certified topology.now)))) }
     ensures advances { Advances parts.old parts.new }
@@ -130,10 +124,8 @@ fn read_cache<R: Input>(
     requires room { 0 < length buffer.old }
     requires start { reader.lines.size ≡ 0 }
     requires failures { parts.old.failed < u64.MAX }
-    ensures read { IfOk result (λ part_result. ReadsPart parts.old parts.new (λ part.
-        HasNameOfSlot certified topology.now number part.name × (length part.bytes ≤ max_text)
-        × IsPartResult (λ kept cache. kept ≡ cache) part_result
-        (map_fault (RefusedCache part.name) (cache_if reader part.bytes)))) }
+    ensures read { IfOk result
+        (ReadsCachePart parts.old parts.new certified topology.now number reader) }
     ensures fault { IfErr result (IsFaultOf parts.old
         (check_names_from number (drop number (slots certified topology.now)))) }
     ensures advances { Advances parts.old parts.new }
@@ -162,7 +154,8 @@ pub(crate) fn cache_in<R: Input>(
     ensures cache { IfOk result (λ kept. KeepsOfPart parts.old parts.new certified topology.now number
         (cache_reading reader.rows.order) (IsListedPart (Some (flow_pairs topology.now.flows)) kept)) }
     ensures fault { IfErr result (IsFaultOf parts.old
-        (check_names_then certified topology.now number (read_first_part (cache_reading reader.rows.order)))) }
+        (check_names_then certified topology.now number
+        (read_first_part (cache_reading reader.rows.order)))) }
     ensures advances { Advances parts.old parts.new }
     ensures failures { parts.new.failed ≡ failures_after is_read result parts.old.failed }
 {
@@ -184,10 +177,8 @@ fn read_reports<R: Input>(
     requires few { number < u32.MAX }
     requires room { 0 < length buffer.old }
     requires failures { parts.old.failed < u64.MAX }
-    ensures read { IfOk result (λ part_result. ReadsPart parts.old parts.new (λ part.
-        HasNameOfSlot certified topology.now number part.name
-        × IsPartResult (λ wanted records. AreChannelsWanted channels.now records wanted)
-        part_result (reports_reading part))) }
+    ensures read { IfOk result (ReadsPartResult parts.old parts.new certified topology.now number
+        reports_reading (AreWantsOf channels.now)) }
     ensures count { IfOk result (λ part_result. IfOk part_result (λ wanted.
         length wanted ≡ length channels.now)) }
     ensures fault { IfErr result (IsFaultOf parts.old

@@ -1,26 +1,25 @@
 //! Reads the domain that a bundle or a folder's files mean.
 
-ghost use Rattle.std.specs.Prelude.{◌≡◌, ◌<◌, ℕ, Err, IfErr, IfOk, IfSome, List, MatchResult, Option};
-ghost use Rattle.std.specs.Prelude.{Ok, Some, is_some, length, map, true};
+ghost use Rattle.std.specs.Prelude.{◌≡◌, ◌<◌, ℕ, Err, IfErr, IfOk, IfSome, List, Some, is_some, length};
+ghost use Rattle.std.specs.Prelude.{true};
 ghost use Rattle.mc_text.specs.Bundle.{max_input};
 ghost use Rattle.mc_text.specs.Device.{failures_after};
 ghost use Rattle.mc_text.specs.RestOfBundle.{Advances};
 ghost use Rattle.mc_text.specs.ReadFault.{ConsumesUpTo};
 ghost use Rattle.mc_text.specs.Steps.{map_fault};
-ghost use Rattle.mc_forward.specs.Domains.{DomainValue, IsDomain};
-ghost use Rattle.mc_forward.specs.ListedTables.{HaveSameFacts};
+ghost use Rattle.mc_forward.specs.Domains.{IsDomain};
 ghost use Rattle.mc_files.specs.Files.{FileText};
-ghost use Rattle.mc_input.specs.FilesReading.{input_of_files, part_from_file};
-ghost use Rattle.mc_input.specs.Input.{InputValue};
+ghost use Rattle.mc_input.specs.FilesReading.{input_of_files};
 ghost use Rattle.mc_input.specs.InputReading.{input_of_bundle};
 ghost use Rattle.mc_input.specs.InputView.{certificate_text};
-ghost use Rattle.mc_input.specs.Kept.{IsDomainOf, GivesKeptFromContents};
-ghost use Rattle.mc_input.specs.ExcludedRouters.{AreRouterNames, IsReadOrMemoryWithout, input_of_files_without, is_read_without};
-ghost use Rattle.mc_input.specs.ExcludedRouters.{is_possible_for_files_without, files_with_exclusions};
-ghost use Rattle.mc_input.specs.Meaning.{FilesMeanDomainAsListed, MeansDomain, FilesMeanDomain, MeansDomainAsListed};
+ghost use Rattle.mc_input.specs.Kept.{GivesKeptFromContents, IsDomainOf, IsDomainRead};
+ghost use Rattle.mc_input.specs.ExcludedRouters.{AreRouterNames, IsReadOrMemoryWithout, files_without};
+ghost use Rattle.mc_input.specs.ExcludedRouters.{input_of_files_without, input_of_other_files};
+ghost use Rattle.mc_input.specs.ExcludedRouters.{is_possible_for_files_without, is_read_without, names_of};
+ghost use Rattle.mc_input.specs.Meaning.{FilesMeanDomainAsListed, MeansDomainAsListed};
+ghost use Rattle.mc_input.specs.ReadAsMeant.{AreFilesReadAsMeant, IsBundleReadAsMeant};
 ghost use Rattle.mc_input.specs.SummariesOfFiles.{AreSummariesOf};
 ghost use Rattle.mc_input.specs.PartsOneByOne.{ReadsDomain, IsFaultOf, read_all_parts};
-ghost use Rattle.mc_input.specs.PartsReading.{read_tables_and_reports};
 ghost use Rattle.mc_input.specs.SourceFault.{IsReadOrMemory, is_possible_for_files, is_read};
 ghost use Rattle.mc_input.specs.declared.source_fault.SourceFault.TheVariants.{Input as refused};
 
@@ -91,11 +90,8 @@ fn read_with_buffer<R: Input>(
         MeansDomainAsListed text (certificate_text read.certificate) read.domain)) }
     ensures certified { IfOk result (λ read. is_some read.certificate ≡ certified) }
     ensures rules { IfOk result (λ read. IsDomain read.domain) }
-    ensures only { (text : List ℕ) (certificate : Option (List ℕ)) (domain : DomainValue) →
-        R.remaining input.old ≡ Some text → is_some certificate ≡ certified →
-        MeansDomain text certificate domain → MatchResult result
-        (λ read. HaveSameFacts domain read.domain × (certificate_text read.certificate ≡ certificate))
-        IsReadOrMemory }
+    ensures only { IsBundleReadAsMeant (R.remaining input.old) certified (λ read. read.domain)
+        (λ read. certificate_text read.certificate) result }
     ensures fault { (text : List ℕ) → R.remaining input.old ≡ Some text → IfErr result (λ fault.
         ¬ IsReadOrMemory fault → map_fault refused (input_of_bundle certified text) ≡ Err fault) }
     ensures consumed { ConsumesUpTo max_input (R.remaining input.old) (R.remaining input.new) }
@@ -133,11 +129,8 @@ pub fn read_bundle_domain<R: Input>(
     ensures certified { IfOk result (λ read. is_some read.certificate ≡ certified) }
     ensures rules { IfOk result (λ read. IsDomain read.domain) }
     // A bundle that means a domain is read as that, unless the input fails or memory runs out.
-    ensures only { (text : List ℕ) (certificate : Option (List ℕ)) (domain : DomainValue) →
-        R.remaining input.old ≡ Some text → is_some certificate ≡ certified →
-        MeansDomain text certificate domain → MatchResult result
-        (λ read. HaveSameFacts domain read.domain × (certificate_text read.certificate ≡ certificate))
-        IsReadOrMemory }
+    ensures only { IsBundleReadAsMeant (R.remaining input.old) certified (λ read. read.domain)
+        (λ read. certificate_text read.certificate) result }
     // The fault is the one of the definition, unless the input fails or memory runs out.
     ensures fault { (text : List ℕ) → R.remaining input.old ≡ Some text → IfErr result (λ fault.
         ¬ IsReadOrMemory fault → map_fault refused (input_of_bundle certified text) ≡ Err fault) }
@@ -174,13 +167,11 @@ fn read_rest_with_buffer<F: PieceSource>(
     ensures same { F.borrows files.new ≡ F.borrows files.old }
     ensures kept { F.contents files.new ≡ F.contents files.old }
     ensures domain { GivesKeptFromContents (F.contents files.old) (λ read. IsDomainOf read.domain) result
-        (λ contents. read_tables_and_reports refused
-        (part_from_file (files_with_exclusions (map (λ n. n.now) without.now) contents)) topology) }
+        (input_of_other_files topology (names_of without.now)) }
     ensures topology { IfOk result (λ read. read.domain.topology ≡ topology) }
     ensures rules { IfOk result (λ read. IsDomain read.domain) }
     ensures summary { (contents : List FileText) → F.contents files.old ≡ Some contents → IfOk result (λ read.
-        AreSummariesOf all (files_with_exclusions (map (λ n. n.now) without.now) contents)
-        read.domain.topology read.summary.items) }
+        AreSummariesOf all (files_without without.now contents) read.domain.topology read.summary.items) }
     ensures faults { IfErr result (λ fault. is_possible_for_files fault ≡ true) }
     ensures failures { F.failed files.new ≡ failures_after is_read result (F.failed files.old) }
 {
@@ -203,16 +194,14 @@ fn read_files_with_buffer<F: PieceSource>(
     ensures same { F.borrows files.new ≡ F.borrows files.old }
     ensures kept { F.contents files.new ≡ F.contents files.old }
     ensures domain { (contents : List FileText) → F.contents files.old ≡ Some contents → IfOk result (λ read.
-        (input : InputValue) × IsDomainOf read.domain input
-        × (input_of_files (files_with_exclusions (map (λ n. n.now) without.now) contents) ≡ Ok input)) }
-    ensures routers { IfOk result (λ read.
-        AreRouterNames read.domain.topology (map (λ n. n.now) without.now)) }
+        IsDomainRead (input_of_files (files_without without.now contents)) read.domain) }
+    ensures routers { IfOk result (λ read. AreRouterNames read.domain.topology (names_of without.now)) }
     ensures rules { IfOk result (λ read. IsDomain read.domain) }
     ensures summary { (contents : List FileText) → F.contents files.old ≡ Some contents → IfOk result (λ read.
-        AreSummariesOf all (files_with_exclusions (map (λ n. n.now) without.now) contents)
-        read.domain.topology read.summary.items) }
+        AreSummariesOf all (files_without without.now contents) read.domain.topology read.summary.items) }
     ensures fault { (contents : List FileText) → F.contents files.old ≡ Some contents → IfErr result (λ fault.
-        ¬ IsReadOrMemoryWithout fault → input_of_files_without (map (λ n. n.now) without.now) contents ≡ Err fault) }
+        ¬ IsReadOrMemoryWithout fault →
+        input_of_files_without (names_of without.now) contents ≡ Err fault) }
     ensures faults { IfErr result (λ fault. is_possible_for_files_without fault ≡ true) }
     ensures failures { F.failed files.new ≡ failures_after is_read_without result (F.failed files.old) }
 {
@@ -246,24 +235,21 @@ pub fn read_folder_domain<F: PieceSource>(
     ensures kept { F.contents files.new ≡ F.contents files.old }
     // With the routers excluded the files mean a domain, and the result has the same facts per flow.
     ensures means { IfOk result (λ read. IfSome (F.contents files.old) (λ contents.
-        FilesMeanDomainAsListed (files_with_exclusions (map (λ n. n.now) without.now) contents) read.domain)) }
+        FilesMeanDomainAsListed (files_without without.now contents) read.domain)) }
     // Each of the names is that of a router.
-    ensures routers { IfOk result (λ read.
-        AreRouterNames read.domain.topology (map (λ n. n.now) without.now)) }
+    ensures routers { IfOk result (λ read. AreRouterNames read.domain.topology (names_of without.now)) }
     ensures rules { IfOk result (λ read. IsDomain read.domain) }
     // If the files mean a domain with the routers excluded, and each name is that of a router, they
     // are read as that domain, unless the source fails or memory runs out.
-    ensures only { (contents : List FileText) (domain : DomainValue) → F.contents files.old ≡ Some contents →
-        FilesMeanDomain (files_with_exclusions (map (λ n. n.now) without.now) contents) domain →
-        AreRouterNames domain.topology (map (λ n. n.now) without.now) → MatchResult result
-        (λ read. HaveSameFacts domain read.domain) IsReadOrMemoryWithout }
+    ensures only { AreFilesReadAsMeant (F.contents files.old) (names_of without.now)
+        (λ read. read.domain) result }
     // Each router's summary is that of the rows in its file, or of no row if it is excluded.
     ensures summary { IfOk result (λ read. IfSome (F.contents files.old) (λ contents.
-        AreSummariesOf all (files_with_exclusions (map (λ n. n.now) without.now) contents)
-        read.domain.topology read.summary.items)) }
+        AreSummariesOf all (files_without without.now contents) read.domain.topology read.summary.items)) }
     // The fault is the one of the definition, unless the source fails or memory runs out.
     ensures fault { IfErr result (λ fault. IfSome (F.contents files.old) (λ contents.
-        ¬ IsReadOrMemoryWithout fault → input_of_files_without (map (λ n. n.now) without.now) contents ≡ Err fault)) }
+        ¬ IsReadOrMemoryWithout fault →
+        input_of_files_without (names_of without.now) contents ≡ Err fault)) }
     // Of a bundle's own faults only `TooLarge` is possible.
     ensures faults { IfErr result (λ fault. is_possible_for_files_without fault ≡ true) }
     // `Read` is answered only where the source's count of failures rose in the call.

@@ -1,19 +1,22 @@
 //! Lists all refused files of a folder, each with its own fault.
 
-ghost use Rattle.std.specs.Prelude.{◌≡◌, ◌≢◌, ◌<◌, ◌∷◌, ◌++◌, List, [], IfOk, IsTrue, Ok, OnOk, Some};
-ghost use Rattle.std.specs.Prelude.{flat_map, length, map};
+ghost use Rattle.std.specs.Prelude.{◌≡◌, ◌≢◌, ◌<◌, ◌∷◌, ◌++◌, List, [], IfOk, IsTrue, OnOk, Some};
+ghost use Rattle.std.specs.Prelude.{length, map};
 ghost use Rattle.std.specs.Result.{result_err};
 ghost use Rattle.mc_topology.specs.Names.{is_name};
 ghost use Rattle.mc_topology.specs.declared.flow.Flow.{Flow};
 ghost use Rattle.mc_files.specs.Files.{FileText};
-ghost use Rattle.mc_files.specs.Layout.{cache_slot, file_name, reports_slot, topology_slot, vif_slot};
+ghost use Rattle.mc_files.specs.Layout.{file_name, reports_slot, topology_slot, vif_slot};
+ghost use Rattle.mc_input.specs.ExcludedRouters.{names_of};
 ghost use Rattle.mc_input.specs.FilesReading.{part_from_file};
 ghost use Rattle.mc_input.specs.Kept.{AreFlowPairs};
-ghost use Rattle.mc_input.specs.PartsReading.{cache_of, reports_of, read_part, topology_of, vifs_of};
-ghost use Rattle.mc_input.specs.RefusedFiles.{AreUnreadFilesMissing, AreRefusedFiles, IsOwnFaultUnlessMemory, JudgesFiles};
-ghost use Rattle.mc_input.specs.RefusedFiles.{saturating_failures, failure_count, fault_of_refusal, file_fault};
-ghost use Rattle.mc_input.specs.RefusedFiles.{judged_with_topology, judged_reports, judged_tables, files_with_fault};
-ghost use Rattle.mc_input.specs.RefusedFiles.{refused_files_of, as_judged_file, unread_count};
+ghost use Rattle.mc_input.specs.PartsReading.{reports_of, read_part, topology_of, vifs_of};
+ghost use Rattle.mc_input.specs.RefusedFiles.{AreExactlyRefusedFiles, AreRefusedFiles};
+ghost use Rattle.mc_input.specs.RefusedFiles.{IsOwnFaultUnlessMemory, ListsRefused, ListsRefusedTables};
+ghost use Rattle.mc_input.specs.RefusedFiles.{as_judged_file, cache_file_fault, failure_count};
+ghost use Rattle.mc_input.specs.RefusedFiles.{fault_of_refusal, file_fault, files_with_fault};
+ghost use Rattle.mc_input.specs.RefusedFiles.{judged_files_of, judged_lans, judged_reports, judged_routers};
+ghost use Rattle.mc_input.specs.RefusedFiles.{saturating_failures, unread_count};
 ghost use Rattle.mc_input.specs.SourceFault.{GivesFromContents};
 ghost use Rattle.mc_input.specs.declared.source_fault.SourceFault.TheVariants.{Input};
 
@@ -104,7 +107,7 @@ fn cache_fault<F: PieceSource>(
     ensures kept { F.contents files.new ≡ F.contents files.old }
     ensures fault { (flows : List Flow) (contents : List FileText) → AreFlowPairs flows listed.now →
         F.contents files.old ≡ Some contents →
-        IsOwnFaultUnlessMemory result (file_fault contents (cache_slot router.now) (cache_of order)) }
+        IsOwnFaultUnlessMemory result (cache_file_fault contents router.now order) }
     ensures failures { F.failed files.new
         ≡ saturating_failures (failure_count result) (F.failed files.old) }
 {
@@ -139,7 +142,8 @@ fn reports_fault<F: PieceSource>(
 
 /// Why the file that was just read is refused.
 fn refusal_of<F: PieceSource>(files: &F, fault: SourceFault) -> Result<Refusal, Memory>
-    ensures { IfOk result (λ refusal. (fault_of_refusal refusal ≡ fault) × (fault ≢ Input InputFault.Memory)) }
+    ensures { IfOk result (λ refusal. (fault_of_refusal refusal ≡ fault)
+        × (fault ≢ Input InputFault.Memory)) }
 {
     match fault {
         SourceFault::Input(InputFault::Memory) => Err(Memory),
@@ -184,11 +188,9 @@ fn judge_tables<F: PieceSource>(
     requires room { 0 < length buffer.old }
     ensures same { F.borrows files.new ≡ F.borrows files.old }
     ensures kept { F.contents files.new ≡ F.contents files.old }
-    ensures judged { (flows : List Flow) → AreFlowPairs flows listed.now →
-        OnOk result (JudgesFiles (F.contents files.old) (λ contents.
-        judged_tables (map (λ n. n.now) without.now) contents (record { name = router.now; order = order }))
-        (map as_judged_file refused.old.items) (map as_judged_file refused.new.items)
-        (F.failed files.old) (F.failed files.new)) }
+    ensures judged { ListsRefusedTables listed.now (names_of without.now) router.now order result
+        (F.contents files.old) refused.old.items refused.new.items
+        (F.failed files.old) (F.failed files.new) }
 {
     if is_excluded(without, router) {
         return Ok(());
@@ -212,9 +214,8 @@ fn judge_reports<F: PieceSource>(
     requires room { 0 < length buffer.old }
     ensures same { F.borrows files.new ≡ F.borrows files.old }
     ensures kept { F.contents files.new ≡ F.contents files.old }
-    ensures judged { OnOk result (JudgesFiles (F.contents files.old) (λ contents.
-        judged_reports contents lan.now ∷ [])
-        (map as_judged_file refused.old.items) (map as_judged_file refused.new.items)
+    ensures judged { OnOk result (ListsRefused (F.contents files.old) (λ contents.
+        judged_reports contents lan.now ∷ []) refused.old.items refused.new.items
         (F.failed files.old) (F.failed files.new)) }
 {
     let fault = reports_fault(alloc, files, buffer, channels, lan);
@@ -233,9 +234,8 @@ fn judge_routers<F: PieceSource>(
     requires room { 0 < length buffer.old }
     ensures same { F.borrows files.new ≡ F.borrows files.old }
     ensures kept { F.contents files.new ≡ F.contents files.old }
-    ensures judged { OnOk result (JudgesFiles (F.contents files.old) (λ contents.
-        flat_map (judged_tables (map (λ n. n.now) without.now) contents) topology.now.routers)
-        (map as_judged_file refused.old.items) (map as_judged_file refused.new.items)
+    ensures judged { OnOk result (ListsRefused (F.contents files.old)
+        (judged_routers (names_of without.now) topology.now) refused.old.items refused.new.items
         (F.failed files.old) (F.failed files.new)) }
 {
     let Ok(listed) = summary_pairs(alloc, topology) else {
@@ -260,10 +260,8 @@ fn judge_lans<F: PieceSource>(
     requires room { 0 < length buffer.old }
     ensures same { F.borrows files.new ≡ F.borrows files.old }
     ensures kept { F.contents files.new ≡ F.contents files.old }
-    ensures judged { OnOk result (JudgesFiles (F.contents files.old) (λ contents.
-        map (judged_reports contents) topology.now.lans)
-        (map as_judged_file refused.old.items) (map as_judged_file refused.new.items)
-        (F.failed files.old) (F.failed files.new)) }
+    ensures judged { OnOk result (ListsRefused (F.contents files.old) (judged_lans topology.now)
+        refused.old.items refused.new.items (F.failed files.old) (F.failed files.new)) }
 {
     let channels = FlowChannels::of(alloc, topology)?;
     for lan in 0..topology.lans() {
@@ -283,9 +281,8 @@ fn judge_topologys_files<F: PieceSource>(
 ) -> Result<(), Memory>
     ensures same { F.borrows files.new ≡ F.borrows files.old }
     ensures kept { F.contents files.new ≡ F.contents files.old }
-    ensures judged { OnOk result (JudgesFiles (F.contents files.old) (λ contents.
-        judged_with_topology (map (λ n. n.now) without.now) contents (Ok topology.now))
-        (map as_judged_file refused.old.items) (map as_judged_file refused.new.items)
+    ensures judged { OnOk result (ListsRefused (F.contents files.old)
+        (judged_files_of (names_of without.now) topology.now) refused.old.items refused.new.items
         (F.failed files.old) (F.failed files.new)) }
 {
     let mut buffer = Vec::from_elem(alloc, 0u8, PIECE)?;
@@ -304,7 +301,8 @@ fn judge_all_files<F: PieceSource>(
     ensures same { F.borrows files.new ≡ F.borrows files.old }
     ensures kept { F.contents files.new ≡ F.contents files.old }
     ensures refused { (contents : List FileText) → F.contents files.old ≡ Some contents →
-        OnOk result (AreRefusedFiles (map (λ n. n.now) without.now) contents (map as_judged_file refused.new.items)) }
+        OnOk result
+        (AreRefusedFiles (names_of without.now) contents (map as_judged_file refused.new.items)) }
     ensures failures { OnOk result (F.failed files.new
         ≡ saturating_failures (unread_count (map as_judged_file refused.new.items)) (F.failed files.old)) }
 {
@@ -331,11 +329,11 @@ pub fn refused_files<F: PieceSource>(
     // Exactly the files that have a fault are listed with it, as the source gives the files.
     ensures refused { (contents : List FileText) → F.contents files.old ≡ Some contents →
         IfOk result (λ refused.
-        AreRefusedFiles (map (λ n. n.now) without.now) contents (map as_judged_file refused.items)) }
+        AreRefusedFiles (names_of without.now) contents (map as_judged_file refused.items)) }
     // If the source fails at no existing file, these are the refused files.
     ensures exact { (contents : List FileText) → F.contents files.old ≡ Some contents →
-        IfOk result (λ refused. AreUnreadFilesMissing contents (map as_judged_file refused.items) →
-        map as_judged_file refused.items ≡ refused_files_of (map (λ n. n.now) without.now) contents) }
+        IfOk result (λ refused.
+        AreExactlyRefusedFiles (names_of without.now) contents (map as_judged_file refused.items)) }
     // The source failed at each file that is listed as unread.
     ensures failures { IfOk result (λ refused. F.failed files.new
         ≡ saturating_failures (unread_count (map as_judged_file refused.items)) (F.failed files.old)) }

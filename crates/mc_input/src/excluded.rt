@@ -1,7 +1,7 @@
 //! Excluded routers: which they are, and the tables that are read in place of theirs.
 
 ghost use Rattle.std.specs.Prelude.{◌≡◌, ◌<◌, ℕ, false, true, List, Ok, IfErr, IfOk, IsTrue};
-ghost use Rattle.std.specs.Prelude.{length, map};
+ghost use Rattle.std.specs.Prelude.{length};
 ghost use Rattle.std.specs.List.{list_any};
 ghost use Rattle.std.specs.Str.{bytes_eq};
 ghost use Rattle.mc_topology.specs.Names.{is_name};
@@ -9,13 +9,11 @@ ghost use Rattle.mc_topology.specs.SectionRows.{RouterRow};
 ghost use Rattle.mc_topology.specs.declared.flow.Flow.{Flow};
 ghost use Rattle.mc_forward.specs.Domains.{TablesValue};
 ghost use Rattle.mc_forward.specs.ListedTables.{IsListedPartOfTables};
-ghost use Rattle.mc_input.specs.FilesReading.{part_from_file};
 ghost use Rattle.mc_input.specs.Kept.{AreFlowPairs};
-ghost use Rattle.mc_input.specs.ExcludedRouters.{header_only_files, check_router_names, is_possible_for_files_without};
-ghost use Rattle.mc_input.specs.ExcludedRouters.{is_read_without};
+ghost use Rattle.mc_input.specs.ExcludedRouters.{check_router_names, header_only_files};
+ghost use Rattle.mc_input.specs.ExcludedRouters.{is_possible_for_files_without, is_read_without};
+ghost use Rattle.mc_input.specs.ExcludedRouters.{names_of, tables_of_headers};
 ghost use Rattle.mc_input.specs.SummariesOfFiles.{IsSummaryOf};
-ghost use Rattle.mc_input.specs.PartsReading.{router_tables};
-ghost use Rattle.mc_input.specs.declared.source_fault.SourceFault.TheVariants.{Input};
 
 use crate::files::tables_of;
 use crate::without_fault::WithoutFault;
@@ -36,14 +34,14 @@ const CACHE_HEADER: &[u8] = b"Group    Origin   Iif     Pkts    Bytes    Wrong O
 /// Whether a router's name is one of the excluded ones.
 pub fn is_excluded(without: &[&str], router: &str) -> bool
     ensures { result ≡
-        list_any (λ name. bytes_eq name router.now) (map (λ n. n.now) without.now) }
+        list_any (λ name. bytes_eq name router.now) (names_of without.now) }
 {
     without.iter().any(|name| *name == router)
 }
 
 /// Refuses the first of the names that no router of the topology has, by its place, counted from 1.
 pub(crate) fn check_names(topology: &Topology, without: &[&str]) -> Result<(), WithoutFault>
-    ensures names { result ≡ check_router_names topology.now 1 (map (λ n. n.now) without.now) }
+    ensures names { result ≡ check_router_names topology.now 1 (names_of without.now) }
     ensures fault { IfErr result (λ fault. is_read_without fault ≡ false) }
     ensures faults { IfErr result (λ fault. is_possible_for_files_without fault ≡ true) }
 {
@@ -68,8 +66,8 @@ pub(crate) fn header_only_tables(
     requires name { IsTrue (is_name router.now) }
     requires room { 0 < length buffer.old }
     ensures tables { (n : ℕ) (flows : List Flow) → AreFlowPairs flows listed.now →
-        IfOk result (λ read. (whole : TablesValue) × (router_tables Input
-        (part_from_file (header_only_files router.now)) n router.now order ≡ Ok whole)
+        IfOk result (λ read. (whole : TablesValue)
+        × (tables_of_headers n router.now order ≡ Ok whole)
         × IsListedPartOfTables flows read.0 whole) }
     ensures summary { (flows : List Flow) → AreFlowPairs flows listed.now →
         IfOk result (λ read. (r : RouterRow) → r.name ≡ router.now → r.order ≡ order →

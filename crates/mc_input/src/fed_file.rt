@@ -1,13 +1,13 @@
 //! Feeds files of a folder to their readers in pieces.
 
-ghost use Rattle.std.specs.Prelude.{◌≡◌, ◌<◌, ◌≤◌, ℕ, List, [], Some, Ok, Err};
+ghost use Rattle.std.specs.Prelude.{◌≡◌, ◌<◌, ◌≤◌, ℕ, List, [], Some, Err};
 ghost use Rattle.std.specs.Prelude.{IfErr, IfOk, OnOk, length};
-ghost use Rattle.mc_text.specs.Bundle.{PartText, max_part};
+ghost use Rattle.mc_text.specs.Bundle.{max_part};
 ghost use Rattle.mc_text.specs.Device.{failures_after};
-ghost use Rattle.mc_text.specs.Lines.{max_text};
 ghost use Rattle.mc_files.specs.FilePart.{IsFailedOrMemory, file_part, bytes_within_max_part};
 ghost use Rattle.mc_files.specs.Files.{FileText, file_named, is_failure};
 ghost use Rattle.mc_files.specs.Layout.{part_name};
+ghost use Rattle.mc_input.specs.Feeding.{HasFedFile, HasFedSlot};
 
 use crate::piece_reader::PieceReader;
 use mc_files::{FileFault, PieceSource, Slot};
@@ -63,8 +63,7 @@ fn feed_file<F: PieceSource, P: PieceReader>(
     ensures same { F.borrows files.new ≡ F.borrows files.old }
     ensures kept { F.contents files.new ≡ F.contents files.old }
     ensures bytes { (contents : List FileText) → F.contents files.old ≡ Some contents → OnOk result
-        ((bytes : List ℕ) × (bytes_within_max_part (file_named contents name.now) ≡ Ok bytes)
-        × (length bytes ≤ max_text) × (P.result_after reader.old bytes ≡ P.result_after reader.new [])) }
+        (HasFedFile contents name.now (P.result_after reader.old) (P.result_after reader.new)) }
     ensures fault { (contents : List FileText) → F.contents files.old ≡ Some contents → IfErr result (λ fault.
         (¬ IsFailedOrMemory fault) → bytes_within_max_part (file_named contents name.now) ≡ Err fault) }
     ensures failures { F.failed files.new ≡ failures_after is_failure result (F.failed files.old) }
@@ -88,10 +87,8 @@ pub(crate) fn feed_slot<F: PieceSource, P: PieceReader>(
     requires reads { F.failed files.old < u64.MAX }
     ensures same { F.borrows files.new ≡ F.borrows files.old }
     ensures kept { F.contents files.new ≡ F.contents files.old }
-    ensures part { (contents : List FileText) → F.contents files.old ≡ Some contents → IfOk result (λ name.
-        (part : PartText) × (file_part contents slot.now ≡ Ok part) × (part.name ≡ name)
-        × (length part.bytes ≤ max_text)
-        × (P.result_after reader.old part.bytes ≡ P.result_after reader.new [])) }
+    ensures part { (contents : List FileText) → F.contents files.old ≡ Some contents → IfOk result
+        (HasFedSlot contents slot.now (P.result_after reader.old) (P.result_after reader.new)) }
     ensures fault { (contents : List FileText) → F.contents files.old ≡ Some contents → IfErr result (λ fault.
         (¬ IsFailedOrMemory fault) → file_part contents slot.now ≡ Err fault) }
     ensures failures { F.failed files.new ≡ failures_after is_failure result (F.failed files.old) }

@@ -2,22 +2,18 @@
 //! opened. No file's text is kept: of a cache just the rows of listed flows and a summary. Files of
 //! excluded routers aren't read.
 
-ghost use Rattle.std.specs.Prelude.{◌≡◌, ◌<◌, ℕ, List, IfErr, IfOk, IsTrue, Some, length, map, true};
+ghost use Rattle.std.specs.Prelude.{◌≡◌, ◌<◌, ℕ, List, IfErr, IfOk, IsTrue, Some, length, true};
 ghost use Rattle.mc_text.specs.Device.{failures_after};
 ghost use Rattle.mc_topology.specs.Names.{is_name};
-ghost use Rattle.mc_topology.specs.SectionRows.{RouterRow};
-ghost use Rattle.mc_topology.specs.declared.flow.Flow.{Flow};
 ghost use Rattle.mc_forward.specs.Assembling.{AreAnswers};
-ghost use Rattle.mc_forward.specs.ListedTables.{AreListedPartsOfTables, IsListedPartOfTables};
+ghost use Rattle.mc_forward.specs.ListedTables.{AreListedPartsOfTables};
 ghost use Rattle.mc_files.specs.Files.{FileText};
 ghost use Rattle.mc_input.specs.SourceFault.{is_possible_for_files, is_read};
-ghost use Rattle.mc_input.specs.FilesReading.{part_from_file};
-ghost use Rattle.mc_input.specs.Kept.{AreFlowPairs, AreWantedBy, AreListedContents, GivesKeptFromContents};
-ghost use Rattle.mc_input.specs.ExcludedRouters.{files_with_exclusions};
-ghost use Rattle.mc_input.specs.SummariesOfFiles.{IsSummaryOf, AreSummariesOf};
-ghost use Rattle.mc_input.specs.PartsReading.{all_reports, all_tables, read_tables_and_reports, first_lan_number};
-ghost use Rattle.mc_input.specs.PartsReading.{router_tables};
-ghost use Rattle.mc_input.specs.declared.source_fault.SourceFault.TheVariants.{Input};
+ghost use Rattle.mc_input.specs.FilesKept.{KeepsRouterTables, SummarizesRouter};
+ghost use Rattle.mc_input.specs.FilesReading.{read_all_reports, read_all_tables};
+ghost use Rattle.mc_input.specs.Kept.{AreContentsOf, AreWantedBy, GivesKeptFromContents};
+ghost use Rattle.mc_input.specs.ExcludedRouters.{files_without, input_of_other_files, names_of};
+ghost use Rattle.mc_input.specs.SummariesOfFiles.{AreSummariesOf};
 
 use crate::excluded::{header_only_tables, is_excluded};
 use crate::file_part::{cache_in, vifs_in, wanted_in};
@@ -56,12 +52,10 @@ pub(crate) fn tables_of<F: PieceSource>(
     requires reads { F.failed files.old < u64.MAX }
     ensures same { F.borrows files.new ≡ F.borrows files.old }
     ensures kept { F.contents files.new ≡ F.contents files.old }
-    ensures tables { (n : ℕ) (flows : List Flow) → AreFlowPairs flows listed.now →
-        GivesKeptFromContents (F.contents files.old) (λ read whole. IsListedPartOfTables flows read.0 whole) result
-        (λ contents. router_tables Input (part_from_file contents) n router.now order) }
-    ensures summary { (flows : List Flow) (contents : List FileText) → AreFlowPairs flows listed.now →
-        F.contents files.old ≡ Some contents → IfOk result (λ read. (r : RouterRow) →
-        r.name ≡ router.now → r.order ≡ order → IsSummaryOf all contents flows r read.1) }
+    ensures tables { KeepsRouterTables (F.contents files.old) (λ contents. contents) listed.now
+        router.now order (λ read. read.0) result }
+    ensures summary { SummarizesRouter (F.contents files.old) (λ contents. contents) listed.now
+        router.now order all (λ read. read.1) result }
     ensures faults { IfErr result (λ fault. is_possible_for_files fault ≡ true) }
     ensures failures { F.failed files.new ≡ failures_after is_read result (F.failed files.old) }
 {
@@ -87,14 +81,10 @@ fn tables_unless_excluded<F: PieceSource>(
     requires reads { F.failed files.old < u64.MAX }
     ensures same { F.borrows files.new ≡ F.borrows files.old }
     ensures kept { F.contents files.new ≡ F.contents files.old }
-    ensures tables { (n : ℕ) (flows : List Flow) → AreFlowPairs flows listed.now →
-        GivesKeptFromContents (F.contents files.old) (λ read whole. IsListedPartOfTables flows read.0 whole) result
-        (λ contents. router_tables Input
-        (part_from_file (files_with_exclusions (map (λ n. n.now) without.now) contents)) n router.now order) }
-    ensures summary { (flows : List Flow) (contents : List FileText) → AreFlowPairs flows listed.now →
-        F.contents files.old ≡ Some contents → IfOk result (λ read. (r : RouterRow) →
-        r.name ≡ router.now → r.order ≡ order →
-        IsSummaryOf all (files_with_exclusions (map (λ n. n.now) without.now) contents) flows r read.1) }
+    ensures tables { KeepsRouterTables (F.contents files.old) (files_without without.now) listed.now
+        router.now order (λ read. read.0) result }
+    ensures summary { SummarizesRouter (F.contents files.old) (files_without without.now) listed.now
+        router.now order all (λ read. read.1) result }
     ensures faults { IfErr result (λ fault. is_possible_for_files fault ≡ true) }
     ensures failures { F.failed files.new ≡ failures_after is_read result (F.failed files.old) }
 {
@@ -118,12 +108,11 @@ fn read_tables<F: PieceSource>(
     ensures same { F.borrows files.new ≡ F.borrows files.old }
     ensures kept { F.contents files.new ≡ F.contents files.old }
     ensures tables { GivesKeptFromContents (F.contents files.old)
-        (λ read wholes. AreListedPartsOfTables topology.now.flows read.0.items wholes) result
-        (λ contents. all_tables Input (part_from_file (files_with_exclusions (map (λ n. n.now) without.now) contents))
-        1 topology.now.routers) }
+        (λ read. AreListedPartsOfTables topology.now.flows read.0.items) result
+        (λ contents. read_all_tables topology.now (files_without without.now contents)) }
     ensures summary { (contents : List FileText) → F.contents files.old ≡ Some contents →
-        IfOk result (λ read. AreSummariesOf all (files_with_exclusions (map (λ n. n.now) without.now) contents)
-        topology.now read.1.items) }
+        IfOk result (λ read.
+        AreSummariesOf all (files_without without.now contents) topology.now read.1.items) }
     ensures count { IfOk result (λ read. length read.0.items ≡ length topology.now.routers) }
     ensures faults { IfErr result (λ fault. is_possible_for_files fault ≡ true) }
     ensures failures { F.failed files.new ≡ failures_after is_read result (F.failed files.old) }
@@ -154,7 +143,7 @@ fn read_wants<F: PieceSource>(
     ensures kept { F.contents files.new ≡ F.contents files.old }
     ensures wants { GivesKeptFromContents (F.contents files.old)
         (λ wants reports. AreWantedBy topology.now reports wants.items) result
-        (λ contents. all_reports Input (part_from_file contents) (first_lan_number topology.now) topology.now.lans) }
+        (read_all_reports topology.now) }
     ensures answers { IfOk result (λ wants. AreAnswers topology.now wants.items) }
     ensures faults { IfErr result (λ fault. is_possible_for_files fault ≡ true) }
     ensures failures { F.failed files.new ≡ failures_after is_read result (F.failed files.old) }
@@ -181,13 +170,12 @@ pub(crate) fn read_contents<F: PieceSource>(
     requires reads { F.failed files.old < u64.MAX }
     ensures same { F.borrows files.new ≡ F.borrows files.old }
     ensures kept { F.contents files.new ≡ F.contents files.old }
-    ensures read_tables_and_reports { GivesKeptFromContents (F.contents files.old)
-        (λ listed input. AreListedContents input topology.now listed.tables.items listed.wants.items) result
-        (λ contents. read_tables_and_reports Input (part_from_file (files_with_exclusions (map (λ n. n.now) without.now) contents))
-        topology.now) }
+    ensures read { GivesKeptFromContents (F.contents files.old)
+        (λ listed. AreContentsOf topology.now listed.tables.items listed.wants.items) result
+        (input_of_other_files topology.now (names_of without.now)) }
     ensures summary { (contents : List FileText) → F.contents files.old ≡ Some contents →
-        IfOk result (λ listed. AreSummariesOf all (files_with_exclusions (map (λ n. n.now) without.now) contents)
-        topology.now listed.summary.items) }
+        IfOk result (λ listed.
+        AreSummariesOf all (files_without without.now contents) topology.now listed.summary.items) }
     ensures count { IfOk result (λ listed.
         length listed.tables.items ≡ length topology.now.routers) }
     ensures answers { IfOk result (λ listed. AreAnswers topology.now listed.wants.items) }

@@ -1,18 +1,17 @@
 //! Laws that follow from the definitions alone.
 
-ghost use Rattle.std.specs.Prelude.{◌≡◌, ℕ, Bool, Contains, false, is_some, List, None, Option, Some};
-ghost use Rattle.std.specs.Prelude.{option_map, slice_get};
+ghost use Rattle.std.specs.Prelude.{◌≡◌, ℕ, Bool, false, is_some, List, None, Option};
 ghost use Rattle.mc_text.specs.Bundle.{PartText, IsBundle};
 ghost use Rattle.mc_tables.specs.Summary.{SummaryValue};
 ghost use Rattle.mc_topology.specs.Topology.{TopologyValue};
 ghost use Rattle.mc_files.specs.Files.{FileText};
 ghost use Rattle.mc_files.specs.Packing.{IsPacked};
-ghost use Rattle.mc_theory.specs.ExcludedRouters.{ExcludesRouters};
-ghost use Rattle.mc_forward.specs.Domains.{DomainValue, net_of};
+ghost use Rattle.mc_forward.specs.Domains.{DomainValue};
 ghost use Rattle.mc_input.specs.FilesInput.{FilesDenoteInput};
 ghost use Rattle.mc_input.specs.Input.{InputValue, DenotesInput};
-ghost use Rattle.mc_input.specs.ExcludedRouters.{HasNoVifOrRow, is_excluded, files_with_exclusions};
-ghost use Rattle.mc_input.specs.Meaning.{FilesMeanDomainAsListed, FilesMeanDomain};
+ghost use Rattle.mc_input.specs.ExcludedRouters.{ExcludesRoutersPerFlow, HasExcludedName, HasNoVifOrRow};
+ghost use Rattle.mc_input.specs.Meaning.{FilesMeanDomain};
+ghost use Rattle.mc_input.specs.ReadAsMeant.{FilesMeanDomainAsListedWithout, FilesMeanDomainWithout};
 ghost use Rattle.mc_input.specs.SummariesOfFiles.{AreSummariesOf};
 
 /// The text of a bundle denotes at most one input and one certificate, among those with a certificate
@@ -49,8 +48,7 @@ pub fn packed_bundle_denotes_input_of_files()
 /// no row.
 pub fn excluded_routers_have_no_vif_or_row()
     ensures { (names : List (List ℕ)) (files : List FileText) (d : DomainValue) (router : ℕ)
-        (name : List ℕ) → FilesMeanDomainAsListed (files_with_exclusions names files) d → Contains names name
-        → option_map (λ r. r.name) (slice_get d.topology.routers router) ≡ Some name
+        → FilesMeanDomainAsListedWithout names files d → HasExcludedName names d.topology router
         → HasNoVifOrRow d router }
 {}
 
@@ -58,6 +56,6 @@ pub fn excluded_routers_have_no_vif_or_row()
 /// the exclusion, but for those routers: the others and the hosts have the same facts.
 pub fn excluded_routers_are_excluded_in_each_flow()
     ensures { (names : List (List ℕ)) (files : List FileText) (part whole : DomainValue)
-        → FilesMeanDomain (files_with_exclusions names files) part → FilesMeanDomain files whole → (flow : ℕ)
-        → ExcludesRouters (is_excluded whole.topology names) (net_of part flow) (net_of whole flow) }
+        → FilesMeanDomainWithout names files part → FilesMeanDomain files whole
+        → ExcludesRoutersPerFlow names part whole }
 {}

@@ -11,8 +11,7 @@ ghost use Rattle.mc_tables.specs.declared.fault.TableFault.{TableFault as FaultO
 ghost use Rattle.mc_igmp.specs.ReadingList.{oom_fault};
 ghost use Rattle.mc_igmp.specs.declared.fault.ListFault.{ListFault as FaultOfList};
 ghost use Rattle.mc_igmp.specs.declared.record.Record.{Record};
-ghost use Rattle.mc_forward.specs.Assembling.{AreChannelsWanted};
-ghost use Rattle.mc_input.specs.Kept.{AreFlowPairs};
+ghost use Rattle.mc_input.specs.Kept.{AreFlowPairs, AreWantsOf};
 ghost use Rattle.mc_input.specs.PartsOneByOne.{IsPartResult};
 ghost use Rattle.mc_input.specs.declared.fault.InputFault.TheVariants.{Cache as RefusedCache};
 ghost use Rattle.mc_input.specs.declared.fault.InputFault.TheVariants.{Reports as RefusedReports};
@@ -113,8 +112,7 @@ pub(crate) fn wanted_or_fault(
 ) -> Result<Items<bool>, InputFault>
     ensures wanted { (read : Result (List Record) FaultOfList) →
         (found ≢ Err oom_fault → read ≡ found) →
-        IsPartResult (λ wanted records. AreChannelsWanted channels.now records wanted) result
-        (map_fault (RefusedReports name) read) }
+        IsPartResult (AreWantsOf channels.now) result (map_fault (RefusedReports name) read) }
     ensures count { IfOk result (λ wanted. length wanted ≡ length channels.now) }
 {
     match found {

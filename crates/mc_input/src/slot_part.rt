@@ -8,7 +8,8 @@ ghost use Rattle.mc_text.specs.RestOfBundle.{Advances, rest_of_bundle};
 ghost use Rattle.mc_text.specs.Steps.{map_fault};
 ghost use Rattle.mc_files.specs.Layout.{part_name, slots};
 ghost use Rattle.mc_input.specs.InputReading.{named};
-ghost use Rattle.mc_input.specs.PartsOneByOne.{HasNameOfSlot, IsOpened, IsFaultOf, read_rest, check_names_from};
+ghost use Rattle.mc_input.specs.PartsOneByOne.{HasNameOfSlot, IsFaultOf, IsOpened};
+ghost use Rattle.mc_input.specs.PartsOneByOne.{check_names_from, read_rest};
 ghost use Rattle.mc_input.specs.SourceFault.{Gives, is_read};
 ghost use Rattle.mc_input.specs.declared.source_fault.SourceFault.TheVariants.{Input as refused};
 

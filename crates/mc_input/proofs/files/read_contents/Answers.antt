@@ -14,15 +14,15 @@ use Rattle.mc_input.proofs.files.read_contents.Goals as goal
 abbrev without : List (Bor (List ℕ)) → List FileText → List FileText
 without names contents = files_with_exclusions (map (λ (n : Bor (List ℕ)). n.now) names) contents
 
-pub returns-in_err-tables-clause-read_tables_and_reports : goal.returns-in_err-tables-clause-read_tables_and_reports
-returns-in_err-tables-clause-read_tables_and_reports g c =
+pub returns-in_err-tables-clause-read : goal.returns-in_err-tables-clause-read
+returns-in_err-tables-clause-read g c =
     let p = err_from_is_err_and c.from_residual.result c.from_residual.ensures.1 in
     λ contents is. rw (p.1 ∙ ap (λ f. Err f) p.2) (λ no.
     read_tables_and_reports-tables_Err Input (part_from_file (without c.args.without.now contents))
     c.args.topology.now c.in_err-tables.field-0.0 (c.in_err-tables.ensures.tables contents is no))
 
-pub returns-in_err-wants-clause-read_tables_and_reports : goal.returns-in_err-wants-clause-read_tables_and_reports
-returns-in_err-wants-clause-read_tables_and_reports g c =
+pub returns-in_err-wants-clause-read : goal.returns-in_err-wants-clause-read
+returns-in_err-wants-clause-read g c =
     let p = err_from_is_err_and c.from_residual-in_err-wants.result
     c.from_residual-in_err-wants.ensures.1 in
     λ contents is. rw (p.1 ∙ ap (λ f. Err f) p.2) (λ no.
@@ -32,8 +32,8 @@ returns-in_err-wants-clause-read_tables_and_reports g c =
     (all_reports-with_exclusions (map (λ n. n.now) c.args.without.now) contents c.args.topology.now
     ∙ c.in_err-wants.ensures.wants contents (c.in_ok-tables.ensures.kept ∙ is) no))
 
-pub returns-clause-read_tables_and_reports : goal.returns-clause-read_tables_and_reports
-returns-clause-read_tables_and_reports g c = λ contents is.
+pub returns-clause-read : goal.returns-clause-read
+returns-clause-read g c = λ contents is.
     let t = c.args.topology.now in
     let tables = c.in_ok-tables.ensures.tables contents is in
     let reports = c.in_ok-wants.ensures.wants contents (c.in_ok-tables.ensures.kept ∙ is) in (

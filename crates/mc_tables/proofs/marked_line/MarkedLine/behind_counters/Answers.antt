@@ -9,7 +9,7 @@ without_front-requires c = record {
       let line = c.args.self.bytes.now in
       let known = digits_or_spaces-run c.args.self.digits c.args.self.spaces c.front_run_length.result c.front_run_length.ensures in
       let within = digits_or_spaces-within line c.args.self.digits c.args.self.spaces c.front_run_length.result
-      c.requires.digits c.requires.spaces known in
+      c.requires.valid.digits c.requires.valid.spaces known in
       omega (arith, within, c.if-front_run_length-end.false));
 }
 
@@ -25,7 +25,7 @@ returns c = record {
       let known = digits_or_spaces-run digits spaces c.front_run_length.result c.front_run_length.ensures in
       subst (HasCounters line) (sym c.without_front.ensures.value)
       (has_counters-from_marks line digits spaces c.last_digits-ends.result a.result b.result d.result
-      c.requires.digits c.requires.spaces c.last_digits-ends.ensures
+      c.requires.valid.digits c.requires.valid.spaces c.last_digits-ends.ensures
       (λ k less. known k (omega (arith, less, c.if-front_run_length-end.false)))
       a.ensures.lowest (a.ensures.set (omega (arith, c.if-packets-ge-MAX_COUNTER_WIDTH.false))) c.if-packets-ge-MAX_COUNTER_WIDTH.false
       b.ensures.lowest (b.ensures.set (omega (arith, c.if-bytes-ge-MAX_COUNTER_WIDTH.false))) c.if-bytes-ge-MAX_COUNTER_WIDTH.false

@@ -33,7 +33,7 @@ returns c =
     ∙ ap first_repeat c.self.view_is in
     elim c.match-first_repeat_of_sorted.branch [
       | in-Some w ↦
-          w.result-is ∙ ap Err w.at.ensures.item
+          w.result-is ∙ ap Err w.at.ensures
           ∙ ap repeat_fault (sym w.in-Some.is ∙ found)
       | in-None w ↦ w.result-is ∙ ap repeat_fault (sym w.in-None.is ∙ found)
     ]

@@ -160,7 +160,7 @@ fn is_joined_by_slash(bytes: &[u8], kind: &[u8], owner: &[u8]) -> bool
 
 /// The slot with a number among those of the routers: of vifs if it is even, else of a cache.
 fn router_slot(topology: &Topology, number: u32) -> Slot<'_>
-    requires known { number < 2 * length topology.now.routers }
+    requires within { number < 2 * length topology.now.routers }
     ensures item { (more : List SlotText)
         → slice_get (flat_map router_slots topology.now.routers ++ more) number ≡ Some result }
 {

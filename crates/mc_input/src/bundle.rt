@@ -49,7 +49,7 @@ fn tables_of<R: Input>(
 ) -> Result<Tables, SourceFault>
     requires listed { AreFlowPairs topology.now.flows listed.now }
     requires router { router < length topology.now.routers }
-    requires few { 2 + 2 * router < u32.MAX }
+    requires below_max { 2 + 2 * router < u32.MAX }
     requires room { 0 < length buffer.old }
     requires failures { parts.old.failed < u64.MAX }
     ensures tables { IfOk result
@@ -138,7 +138,7 @@ fn read_certificate_and_end<R: Input>(
 ) -> Result<Option<Vec<u8>>, SourceFault>
     requires room { 0 < length buffer.old }
     requires failures { parts.old.failed < u64.MAX }
-    ensures last { IfOk result (λ text.
+    ensures certificate { IfOk result (λ text.
         ReadsCertificate parts.old certified topology.now (certificate_text text)) }
     ensures certified { IfOk result (λ text. is_some text ≡ certified) }
     ensures fault { (input : InputValue) → IfErr result (IsFaultOf parts.old

@@ -71,7 +71,7 @@ fn read_vifs<R: Input>(
     number: u32,
 ) -> Result<Result<VifTable, InputFault>, SourceFault>
     requires within { number < length (slots certified topology.now) }
-    requires few { number < u32.MAX }
+    requires below_max { number < u32.MAX }
     requires room { 0 < length buffer.old }
     requires failures { parts.old.failed < u64.MAX }
     ensures read { IfOk result (ReadsPartResult parts.old parts.new certified topology.now number
@@ -96,7 +96,7 @@ pub(crate) fn vifs_in<R: Input>(
     number: u32,
 ) -> Result<VifTable, SourceFault>
     requires within { number < length (slots certified topology.now) }
-    requires few { number < u32.MAX }
+    requires below_max { number < u32.MAX }
     requires room { 0 < length buffer.old }
     requires failures { parts.old.failed < u64.MAX }
     ensures vifs { IfOk result (λ kept. KeepsOfPart parts.old parts.new certified topology.now number
@@ -120,7 +120,7 @@ fn read_cache<R: Input>(
     reader: CacheReader,
 ) -> Result<Result<CacheTable, InputFault>, SourceFault>
     requires within { number < length (slots certified topology.now) }
-    requires few { number < u32.MAX }
+    requires below_max { number < u32.MAX }
     requires room { 0 < length buffer.old }
     requires start { reader.lines.size ≡ 0 }
     requires failures { parts.old.failed < u64.MAX }
@@ -147,7 +147,7 @@ pub(crate) fn cache_in<R: Input>(
     reader: CacheReader,
 ) -> Result<CacheTable, SourceFault>
     requires within { number < length (slots certified topology.now) }
-    requires few { number < u32.MAX }
+    requires below_max { number < u32.MAX }
     requires room { 0 < length buffer.old }
     requires reader { reader ≡ cache_start reader.rows.order (Some (flow_pairs topology.now.flows)) }
     requires failures { parts.old.failed < u64.MAX }
@@ -174,7 +174,7 @@ fn read_reports<R: Input>(
     number: u32,
 ) -> Result<Result<Items<bool>, InputFault>, SourceFault>
     requires within { number < length (slots certified topology.now) }
-    requires few { number < u32.MAX }
+    requires below_max { number < u32.MAX }
     requires room { 0 < length buffer.old }
     requires failures { parts.old.failed < u64.MAX }
     ensures read { IfOk result (ReadsPartResult parts.old parts.new certified topology.now number
@@ -202,7 +202,7 @@ pub(crate) fn wanted_in<R: Input>(
     number: u32,
 ) -> Result<Items<bool>, SourceFault>
     requires within { number < length (slots certified topology.now) }
-    requires few { number < u32.MAX }
+    requires below_max { number < u32.MAX }
     requires room { 0 < length buffer.old }
     requires failures { parts.old.failed < u64.MAX }
     ensures wanted { IfOk result (λ wanted. KeepsOfPart parts.old parts.new certified topology.now number
@@ -227,7 +227,7 @@ pub(crate) fn certificate_in<R: Input>(
     number: u32,
 ) -> Result<Vec<u8>, SourceFault>
     requires within { number < length (slots certified topology.now) }
-    requires few { number < u32.MAX }
+    requires below_max { number < u32.MAX }
     requires room { 0 < length buffer.old }
     requires failures { parts.old.failed < u64.MAX }
     ensures text { IfOk result (λ text. ReadsPart parts.old parts.new (λ part.

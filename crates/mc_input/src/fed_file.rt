@@ -29,7 +29,7 @@ fn feed_open<F: PieceSource, P: PieceReader>(
     // The reader ends with the result of the whole file.
     ensures within { (bytes : List ℕ) → F.left files.old ≡ Some bytes → OnOk result
         ((length bytes ≤ max_part) × (P.result_after reader.old bytes ≡ P.result_after reader.new [])) }
-    ensures past { (bytes : List ℕ) → F.left files.old ≡ Some bytes → IfErr result (λ fault.
+    ensures too_large { (bytes : List ℕ) → F.left files.old ≡ Some bytes → IfErr result (λ fault.
         fault ≡ FileFault.TooLarge → max_part < length bytes) }
     ensures failures { F.failed files.new ≡ failures_after is_failure result (F.failed files.old) }
 {

@@ -60,7 +60,7 @@ pub(crate) fn feed_slot<R: Input, P: PieceReader>(
     reader: &mut P,
 ) -> Result<PartName, SourceFault>
     requires within { number < length (slots certified topology.now) }
-    requires few { number < u32.MAX }
+    requires below_max { number < u32.MAX }
     requires room { 0 < length buffer.old }
     requires start { P.size reader.old ≡ 0 }
     requires failures { parts.old.failed < u64.MAX }

@@ -37,7 +37,7 @@ pub(crate) fn open_named<R: Input>(
     slot: &Slot<'_>,
     number: u32,
 ) -> Result<(), SourceFault>
-    requires few { number < u32.MAX }
+    requires below_max { number < u32.MAX }
     requires failures { parts.old.failed < u64.MAX }
     ensures opened { OnOk result (IsOpened parts.new (part_name slot.now)) }
     ensures part { (text : List ℕ) → parts.old.remaining ≡ Some text → OnOk result
@@ -66,7 +66,7 @@ pub(crate) fn open_slot<R: Input>(
     number: u32,
 ) -> Result<(), SourceFault>
     requires within { number < length (slots certified topology.now) }
-    requires few { number < u32.MAX }
+    requires below_max { number < u32.MAX }
     requires failures { parts.old.failed < u64.MAX }
     ensures opened { OnOk result
         ((name : List ℕ) × IsOpened parts.new name × HasNameOfSlot certified topology.now number name) }

@@ -1,4 +1,4 @@
--- The part that a file of a folder makes, or why there is none.
+-- The part that is made of a folder's file, or why there is none.
 use Rattle.std.specs.Prelude.{ℕ, nat_le, List, length, Option, Some, None, Result, Ok, Err, ⊤}
 use Rattle.std.specs.Prelude.{if◌then◌else◌}
 use Rattle.mc_text.specs.Steps.{◌>>=◌}
@@ -13,12 +13,12 @@ abbrev pub IsFailedOrMemory : FileFault → Type 0
 IsFailedOrMemory TooLarge = ⊥
 IsFailedOrMemory fault = ⊤
 
--- the bytes of the file that was found, as those of a part
+-- the bytes of the file, if there is one and they are no more than a part may have
 abbrev pub bytes_within_max_part : Option (List ℕ) → Result (List ℕ) FileFault
 bytes_within_max_part None = Err Failed
 bytes_within_max_part (Some bytes) = if nat_le (length bytes) max_part then Ok bytes else Err TooLarge
 
--- the part of a slot, which is made of its file
+-- the part that is made of a slot's file
 abbrev pub file_part : List FileText → Slot → Result PartText FileFault
 file_part files slot =
     bytes_within_max_part (file_named files (file_name slot))

@@ -1,13 +1,10 @@
--- Why a file can't be read, in words, as they stand behind the file's name where a program says which
--- files of a folder it couldn't read.
+-- Why a file can't be read, as the text behind the file's name in a list of refused files.
 use Rattle.std.specs.Prelude.{ℕ, List, codes, Option, Some, None}
 use Rattle.mc_files.specs.declared.unread.Unread.{Unread}
 use Rattle.mc_files.specs.declared.unread.Unread.TheVariants.{NoSuchFile, NotRegular}
 use Rattle.mc_files.specs.declared.unread.Unread.TheVariants.{PermissionDenied, System, Failed}
 
--- The words of each reason, where they are known.
--- What the system says of a file that it doesn't open or read is said in the system's own words, of
--- which nothing is known here.
+-- The text of each reason. An error of the system has the system's own text, which isn't known here.
 abbrev pub unread_text : Unread → Option (List ℕ)
 unread_text NoSuchFile = Some (codes "no such file")
 unread_text NotRegular = Some (codes "not a regular file")

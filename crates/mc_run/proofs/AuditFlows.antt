@@ -68,7 +68,7 @@ headline_holds-verdict_yes n es (Err e) (Ok s) keeps is = absurd is
 headline_holds-verdict_yes n es (Ok v) (Ok s) keeps is =
     subst (λ (w : Verdict). YesKeepsHeadline n es w) is keeps
 
--- what is found is found by the travel that was flown
+-- what is found is found by the travel that was flights
 pub is_first_pick_travel-of_examined : (d : DomainValue) (flow : ℕ) (x : ExaminedFlights) → HasExaminedFlights d flow x
     → IfFound (IsFirstPickTravel d flow) (without_flights d flow x)
 is_first_pick_travel-of_examined d flow (Certified entries) is = tt
@@ -97,9 +97,9 @@ pub is_flow_pushed-right : {X : Type 0} (v : AuditedValue) (o : AuditOptions) (f
     → new ≡ old ++ right_flow_lines o (is_whole v) v.domain.topology printed flow f seen
     (lans_wanting (facts v.domain) flow))
     → IfOk r (λ s. IsFlowPushed v o flow s printed new_printed old new)
-is_flow_pushed-right v o flow (Err e) x entries seen printed new_printed old new lt flies is same list holds matches
+is_flow_pushed-right v o flow (Err e) x entries seen printed new_printed old new lt has_flights is same list holds matches
     shown_trees puts = tt
-is_flow_pushed-right v o flow (Ok s) x entries seen printed new_printed old new lt flies is same list holds matches
+is_flow_pushed-right v o flow (Ok s) x entries seen printed new_printed old new lt has_flights is same list holds matches
     shown_trees puts =
     let n = net_of v.domain flow in
     let wanted = lans_wanting (facts v.domain) flow in
@@ -111,10 +111,10 @@ is_flow_pushed-right v o flow (Ok s) x entries seen printed new_printed old new 
       answer = record { examined = certified; wanted = wanted; lines = lines };
       is = record {
         listed = f.0;
-        flown = x;
+        flights = x;
         explanation = explanation-none;
         matches = f.1;
-        flies = flies;
+        has_flights = has_flights;
         examined = sym so;
         checked = record {
           examined = subst (λ (y : Examined). IsExamined v.domain flow y) so is;
@@ -148,7 +148,7 @@ pub is_flow_pushed-wrong : (v : AuditedValue) (o : AuditOptions) (flow : ℕ) (x
     → ((f : Flow) → slice_get v.domain.topology.flows flow ≡ Some f
     → new ≡ old ++ wrong_flow_lines o (facts v.domain) v.summary flow f ttl travel e)
     → (shown_trees : List Tree) → IsFlowPushed v o flow Wrong shown_trees shown_trees old new
-is_flow_pushed-wrong v o flow x ttl travel e old new lt flies is so explained puts shown_trees =
+is_flow_pushed-wrong v o flow x ttl travel e old new lt has_flights is so explained puts shown_trees =
     let f = slice_get-exists v.domain.topology.flows flow lt in
     let is_found : Examined = examined.Found ttl travel in
     let same : without_flights v.domain flow x ≡ is_found = so f.0 f.1 in
@@ -160,10 +160,10 @@ is_flow_pushed-wrong v o flow x ttl travel e old new lt flies is so explained pu
       };
       is = record {
         listed = f.0;
-        flown = x;
+        flights = x;
         explanation = e;
         matches = f.1;
-        flies = flies;
+        has_flights = has_flights;
         examined = sym same;
         checked = record {
           examined = subst (λ (y : Examined). IsExamined v.domain flow y) same is;

@@ -237,24 +237,24 @@ says_yes_of-certified v o printed flow f entries e wanted lines checked wants is
 }
 
 says_yes_or_found-answer_lines : (v : AuditedValue) (o : AuditOptions) (printed : List Tree) (flow : ℕ) (f : Flow) (x : Examined)
-    (flown : ExaminedFlights) (e : Explanation) (wanted lines : List ℕ) → HasExaminedFlights v.domain flow flown
-    → IsChecked v.domain flow x → IsExplanation v.domain v.summary (excluded v) (is_whole v) flow flown e
+    (flights : ExaminedFlights) (e : Explanation) (wanted lines : List ℕ) → HasExaminedFlights v.domain flow flights
+    → IsChecked v.domain flow x → IsExplanation v.domain v.summary (excluded v) (is_whole v) flow flights e
     → wanted ≡ lans_wanting (facts v.domain) flow
     → lines ≡ answer_lines o (is_whole v) (facts v.domain) v.summary printed flow f x e wanted
     → SaysYesOf v o flow f lines ⊎ SaysWhatIsFound v o flow f lines
-says_yes_or_found-answer_lines v o printed flow f (Certified entries) flown e wanted lines flies checked explained wants is =
+says_yes_or_found-answer_lines v o printed flow f (Certified entries) flights e wanted lines has_flights checked explained wants is =
     inl (says_yes_of-certified v o printed flow f entries e wanted lines checked wants is)
-says_yes_or_found-answer_lines v o printed flow f (Found ttl travel) flown e wanted lines flies checked explained wants is =
+says_yes_or_found-answer_lines v o printed flow f (Found ttl travel) flights e wanted lines has_flights checked explained wants is =
     inr (record {
       ttl = ttl;
       travel = travel;
-      flown = flown;
+      flights = flights;
       explanation = e;
       wrong = λ so. false≢true (checked.examined.right.1 so);
       runs = checked.examined.travel;
       fault = checked.examined.fault;
       ttl_shown = checked.examined.ttl;
-      flies = flies;
+      has_flights = has_flights;
       explained = explained;
       spelled = is;
     })
@@ -271,8 +271,8 @@ writes_of_each-audited v o all written a =
       end = end_lines o v.domain.topology v.summary (excluded v) all answers;
       count = length-map answers (λ (b : FlowAnswer). b.lines) ∙ are.count;
       each = each_answer-each_lines (λ flow f ls. SaysYesOf v o flow f ls ⊎ SaysWhatIsFound v o flow f ls) v o answers
-          are (λ printed flow b is. says_yes_or_found-answer_lines v o printed flow is.listed b.examined is.flown is.explanation
-          b.wanted b.lines is.flies is.checked is.explained is.wanted is.spelled);
+          are (λ printed flow b is. says_yes_or_found-answer_lines v o printed flow is.listed b.examined is.flights is.explanation
+          b.wanted b.lines is.has_flights is.checked is.explained is.wanted is.spelled);
       spelled = audit_text-split_at_lines v o all written a;
     }
 

@@ -46,7 +46,7 @@ use Rattle.mc_run.specs.AuditEnd.{end_text, is_right, is_unwanted, is_wrong, opt
 use Rattle.mc_run.specs.AuditEnd.{summary_line}
 use Rattle.mc_run.specs.AuditObjects.{tree_line}
 use Rattle.mc_run.specs.AuditRun.{AreFlowAnswers, IsFlowAnswer, AuditedValue, is_whole, is_yes, excluded}
-use Rattle.mc_run.specs.AuditRun.{trees_shown, yes_object}
+use Rattle.mc_run.specs.AuditRun.{AreYesWords, trees_shown, yes_object}
 use Rattle.mc_run.specs.AuditText.{Explanation, events_if_shown, explanation_lines, right_line}
 use Rattle.mc_run.specs.AuditText.{searched_lines}
 use Rattle.mc_run.specs.AuditFlowText.{answer_lines, is_hidden, right_lines_or_object, wrong_lines_or_object}
@@ -55,7 +55,6 @@ use Rattle.mc_run.specs.MakeRun.{found_line, found_lines, no_certificate_line}
 use Rattle.mc_run.specs.ReplayRun.{event_line, event_lines}
 use Rattle.mc_run.specs.VerdictText.{flow_words}
 use Rattle.mc_explain.proofs.LineFeedLemmas.{no_feed-dotted, number, no_feed-from_list_all, no_feed-router_name, no_feed-append}
-use Rattle.mc_run.proofs.RunLemmas.{AreYesWords}
 use Rattle.mc_run.proofs.VerdictLines.{AreLinesWithoutYes, BeginsWithOtherByte, are_other-append, are_other-if, are_other-line}
 use Rattle.mc_run.proofs.VerdictLines.{lan_name-no_line_feed, router_and_vif-no_line_feed, are_other-no_lines, are_other-text_line, are_other-verdict_line}
 

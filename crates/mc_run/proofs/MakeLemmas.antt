@@ -35,11 +35,11 @@ pub is_examined-of_examination : {d : DomainValue} {flow : ℕ} {x : Examined}
     → IfCertified (AreEntriesOfCleanTravel d flow) x → IfFound (IsFirstPickTravel d flow) x
     → IfFound (λ ttl travel. FindsFault travel) x → IfFound (λ ttl travel. IsTtlOfFault d flow ttl) x
     → (IsTrue (is_certified x) ↔ IsRight (net_of d flow)) → IsExamined d flow x
-is_examined-of_examination accepted ascending listed list made travel fault ttl right = record {
+is_examined-of_examination accepted ascending listed writable made travel fault ttl right = record {
   accepted = accepted;
   ascending = ascending;
   listed = listed;
-  list = list;
+  writable = writable;
   made = made;
   travel = travel;
   fault = fault;
@@ -186,7 +186,7 @@ certified_lists-belong d xs are all = record {
 
 pub certified_lists-keep_headline : (d : DomainValue) (xs : List Examined) → AreExamined d xs
     → All IsWritableTree (certified_lists xs)
-certified_lists-keep_headline d xs are = certified_lists-each IsWritableTree xs (λ k x at. (are.each k x at).list)
+certified_lists-keep_headline d xs are = certified_lists-each IsWritableTree xs (λ k x at. (are.each k x at).writable)
 
 -- no line is written exactly where every flow is certified
 pub found_lines-none_if_certified : (t : TopologyValue) (fs : List Flow) (xs : List Examined) → length xs ≡ length fs

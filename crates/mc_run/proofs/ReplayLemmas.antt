@@ -14,7 +14,7 @@ use Rattle.mc_input.specs.Meaning.{MeansDomainAsListed}
 use Rattle.mc_run.specs.Failures.{IsNoDeviceFault}
 use Rattle.mc_run.specs.ReplayRun.{HasNoTravel, IsReplayRefused, IsTextOfTravel, is_clean}
 use Rattle.mc_run.specs.ReplayRun.{replay_text}
-use Rattle.mc_run.proofs.SameLemmas.{has_no_flow-same_domain}
+use Rattle.mc_run.proofs.SameFactsLemmas.{has_no_flow-same_domain}
 
 -- the text of a travel through a domain
 pub is_text_of_travel-replayed : (d : DomainValue) (flow ttl : ℕ) (choices : Choices) (place : ℕ)

@@ -1,6 +1,6 @@
 -- What a run shows of what it was handed, of its devices, and of what it says.
 use Rattle.std.proofs.Common.{◌≡◌, ℕ, Bool, true, false, List, [], ◌∷◌, ◌++◌, length, take, drop}
-use Rattle.std.proofs.Common.{◌⊎◌, inl, inr, Option, Some, None, Result, Ok, Err}
+use Rattle.std.proofs.Common.{inl, inr, Option, Some, None, Result, Ok, Err}
 use Rattle.std.proofs.Common.{refl, sym, ap, subst, ◌∙◌, arith, append_assoc}
 use Rattle.std.specs.Prelude.{◌+◌, ◌<◌, cond, IfErr, IfOk, IfSome, IsTrue, Vec, codes, is_some}
 use Rattle.std.specs.declared.alloc.Global.{Global}
@@ -26,7 +26,7 @@ use Rattle.mc_input.specs.SourceFault.{IsReadOrMemory}
 use Rattle.mc_input.specs.declared.source_fault.SourceFault.{SourceFault}
 use Rattle.mc_input.specs.declared.source_fault.SourceFault.TheVariants as source
 use Rattle.mc_run.specs.InputMeaning.{IsRefusedFor, MeansListedWith, MeansWithLists}
-use Rattle.mc_run.specs.AuditRun.{AuditSaysYes, yes_object}
+use Rattle.mc_run.specs.AuditRun.{AreYesWords, AuditSaysYes, yes_object}
 use Rattle.mc_run.specs.CheckRun.{IsLineStart, SaysYes, WroteAtStart}
 use Rattle.mc_text.specs.Device.{failures_after}
 use Rattle.mc_run.specs.Failures.{IsNoDeviceFault, is_read, is_write}
@@ -214,14 +214,14 @@ pub writes_part-output_written : {X : Type 0} (contents : Option X) (Says : X �
     (s : Result RunOutput RunFault) (r : Result Bool RunFault) (old new : Option (List ℕ))
     → IfErr s (λ fault. is_write fault ≡ false) → IsOutputOf contents Says s → IsOutputWritten s r old new
     → r ≡ Err Write → IfSome contents (λ x. WritesPart Says x old new)
-writes_part-output_written None Says s r old new unsaid says is write = tt
-writes_part-output_written (Some x) Says (Ok run_output) (Ok answer) old new unsaid says is write = absurd cc
-writes_part-output_written (Some x) Says (Ok run_output) (Err fault) old new unsaid says is write =
+writes_part-output_written None Says s r old new no_write says is write = tt
+writes_part-output_written (Some x) Says (Ok run_output) (Ok answer) old new no_write says is write = absurd cc
+writes_part-output_written (Some x) Says (Ok run_output) (Err fault) old new no_write says is write =
     (run_output.yes, string_bytes run_output.text, says, is.1)
-writes_part-output_written (Some x) Says (Err cause) (Ok answer) old new unsaid says is write = absurd is
-writes_part-output_written (Some x) Says (Err cause) (Err fault) old new unsaid says is write =
+writes_part-output_written (Some x) Says (Err cause) (Ok answer) old new no_write says is write = absurd is
+writes_part-output_written (Some x) Says (Err cause) (Err fault) old new no_write says is write =
     let same : fault ≡ Write = cc in
-    absurd (false≢true (sym unsaid ∙ ap is_write (sym is.0 ∙ same)))
+    absurd (false≢true (sym no_write ∙ ap is_write (sym is.0 ∙ same)))
 
 -- what follows of what is said
 pub is_output_of-implication : {X : Type 0} (contents : Option X) (Says More : X → Bool → List ℕ → Type 0)
@@ -239,10 +239,6 @@ is_output_of-implication (Some x) Says More (Ok run_output) follows says =
 pub append-cancel_front : (xs ys zs : List ℕ) → xs ++ ys ≡ xs ++ zs → ys ≡ zs
 append-cancel_front [] ys zs same = same
 append-cancel_front (x ∷ xs) ys zs same = append-cancel_front xs ys zs cc
-
--- with these words a line says yes: those of text, or an object
-abbrev pub AreYesWords : (words : List ℕ) → Type 0
-AreYesWords words = (words ≡ codes "verdict yes") ⊎ (words ≡ yes_object)
 
 -- these words stand in a text, at a line's start
 abbrev pub HasLineWith : (words text : List ℕ) → Type 0

@@ -16,9 +16,9 @@ use Rattle.mc_check.specs.declared.verdict.Reason.TheVariants.{Stray, Extra, Wro
 use Rattle.mc_check.specs.declared.verdict.Reason.TheVariants.{Unfed, Missed, Low}
 use Rattle.mc_check.specs.declared.verdict.Verdict.{Verdict}
 use Rattle.mc_check.specs.declared.verdict.Verdict.TheVariants.{Yes, No}
+use Rattle.mc_run.specs.AuditRun.{AreYesWords}
 use Rattle.mc_run.specs.CheckRun.{IsLineStart}
 use Rattle.mc_run.specs.VerdictText.{flow_words, flow_line, flow_lines}
-use Rattle.mc_run.proofs.RunLemmas.{AreYesWords}
 
 -- ---- no line feed stands in a verdict and a flow's words
 

@@ -1,6 +1,6 @@
 -- A line that says yes stands in what is written exactly where all is well: last, at a line's start.
 use Rattle.std.proofs.Common.{◌≡◌, ℕ, Bool, true, false, List, [], ◌∷◌, ◌++◌, inl, inr, Some, refl}
-use Rattle.std.proofs.Common.{cond, sym, ap, ◌∙◌, append_assoc, arith, Option, Result}
+use Rattle.std.proofs.Common.{sym, ap, ◌∙◌, append_assoc, arith, Option, Result}
 use Rattle.std.specs.Prelude.{◌==◌, codes, drop, flat_map, length, slice_index, IfOk, IfSome, IsTrue}
 use Rattle.std.proofs.lemmas.Bool.{and_parts, false≢true, ne_eqb}
 use Rattle.json.specs.Print.{escape_byte}
@@ -9,7 +9,7 @@ use Rattle.mc_explain.proofs.LineFeedLemmas.{no_feed-from_list_all}
 use Rattle.mc_files.specs.Files.{FileText}
 use Rattle.mc_forward.specs.ListedTables.{facts}
 use Rattle.mc_run.specs.AuditEnd.{begin_lines, end_lines, verdict_line}
-use Rattle.mc_run.specs.AuditRun.{IsAuditText, is_yes, excluded, yes_object}
+use Rattle.mc_run.specs.AuditRun.{AreYesWords, IsAuditText, is_yes, excluded, yes_object, yes_words}
 use Rattle.mc_run.specs.CheckRun.{BundleKeepsHeadline, IsLineStart, IsVerdictText, SaysYes, WroteAtStart}
 use Rattle.mc_run.specs.CheckRun.{WroteYes}
 use Rattle.mc_run.specs.RunOutput.{IsOutputWritten}
@@ -18,18 +18,14 @@ use Rattle.mc_run.specs.declared.audit_options.AuditOptions.{AuditOptions}
 use Rattle.mc_run.specs.declared.fault.RunFault.{RunFault}
 use Rattle.mc_run.specs.declared.run_output.RunOutput.{RunOutput}
 use Rattle.mc_run.proofs.AuditLines.{are_other-text_before_verdict, text_before_verdict}
-use Rattle.mc_run.proofs.RunLemmas.{IsOutputOf, AreYesWords, SaysYesByLine, headline-check_says_yes}
+use Rattle.mc_run.proofs.RunLemmas.{IsOutputOf, SaysYesByLine, headline-check_says_yes}
 use Rattle.mc_run.proofs.VerdictLines.{AreLinesWithoutYes, is_left-inside_line, are_other-flow_lines}
 
 -- ---- the last line
 
--- with these words it says yes,
-abbrev pub is_verdict_yes_words : (json : Bool) → List ℕ
-is_verdict_yes_words json = cond json yes_object (codes "verdict yes")
-
--- and these are its words
+-- the words of the last line
 abbrev last_words_of_verdict : (json all : Bool) → List ℕ
-last_words_of_verdict json true = is_verdict_yes_words json
+last_words_of_verdict json true = yes_words json
 last_words_of_verdict true false = codes "{\"verdict\":\"no\"}"
 last_words_of_verdict false false = codes "verdict no"
 
@@ -49,7 +45,7 @@ last_words-no_line_feed false false = no_feed-from_list_all (last_words_of_verdi
 -- Words that say yes stand here, and so all are, and this is the last line.
 pub record IsLastLineYes (json all : Bool) (words rest : List ℕ) : Type 0 where
   pub all_are : all ≡ true
-  pub these : words ≡ is_verdict_yes_words json
+  pub these : words ≡ yes_words json
   pub last : rest ≡ codes "\n"
 
 -- what stands in a line that words begin stands in them
@@ -112,7 +108,7 @@ has_line-last_words lines words front rest json all other are starts same =
 
 is_last_line_yes-wrote : (lines written old : List ℕ) (json : Bool) → AreLinesWithoutYes lines
     → written ≡ lines ++ verdict_line json true
-    → WroteAtStart (is_verdict_yes_words json) (Some old) (Some (old ++ written))
+    → WroteAtStart (yes_words json) (Some old) (Some (old ++ written))
 is_last_line_yes-wrote lines written old json other is = (
   lines,
   codes "\n",
@@ -182,7 +178,7 @@ are_other-before_verdict names files o all written a =
 
 pub has_line-audit_text : (names : List (List ℕ)) (files : List FileText) (o : AuditOptions)
     (written old : List ℕ) → IsAuditText o names files true written
-    → WroteAtStart (is_verdict_yes_words o.json) (Some old) (Some (old ++ written))
+    → WroteAtStart (yes_words o.json) (Some old) (Some (old ++ written))
 has_line-audit_text names files o written old a =
     is_last_line_yes-wrote (text_before_verdict a.domain o a.holds.answers) written old o.json
     (are_other-before_verdict names files o true written a) (audit_text-lines_and_verdict names files o true written a)
@@ -198,7 +194,7 @@ is_last_line_yes-audit_line names files o all words written front rest a starts 
 pub is_last_line_yes-audit_text : (names : List (List ℕ)) (files : List FileText) (o : AuditOptions) (all : Bool)
     (words written front rest : List ℕ) → IsAuditText o names files all written → IsLineStart front
     → AreYesWords words → written ≡ front ++ (words ++ rest)
-    → (all ≡ true) × (words ≡ is_verdict_yes_words o.json) × (rest ≡ codes "\n")
+    → (all ≡ true) × (words ≡ yes_words o.json) × (rest ≡ codes "\n")
 is_last_line_yes-audit_text names files o all words written front rest a starts are is =
     let line = is_last_line_yes-audit_line names files o all words written front rest a starts are is in
     (line.all_are, line.these, line.last)

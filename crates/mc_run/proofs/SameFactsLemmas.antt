@@ -24,7 +24,7 @@ use Rattle.mc_replay.specs.FindingValues.{finding_value}
 use Rattle.mc_replay.specs.declared.travel.FinishedTravel.{FinishedTravel}
 use Rattle.mc_maker.specs.ExaminedFlights.{IsFinishedTravelOf, HasExaminedFlights, without_flights}
 use Rattle.mc_maker.specs.declared.examined_flights.ExaminedFlights.{ExaminedFlights}
-use Rattle.mc_maker.specs.declared.examined_flights.ExaminedFlights.TheVariants as flown
+use Rattle.mc_maker.specs.declared.examined_flights.ExaminedFlights.TheVariants as flights
 use Rattle.mc_explain.specs.Explained.{ExplainsAtFlowTtl, ExplainsFinding, IsExplained}
 use Rattle.mc_explain.specs.WantedText.{lans_wanting}
 use Rattle.mc_explain.specs.declared.searching.LanSearch.{LanSearch}
@@ -150,7 +150,7 @@ is_examined-same_domain same flow x is = record {
   accepted = transport_topology_and_nets (λ t n. IfCertified (IsAccepted (n flow)) x) same is.accepted;
   ascending = is.ascending;
   listed = transport_topology_and_nets (λ t n. IfCertified (All (IsEntryOf t)) x) same is.listed;
-  list = is.list;
+  writable = is.writable;
   made = entries_of_clean_travel-same_domain same flow x is.made;
   travel = transport_topology_and_nets (λ t n. IfFound (λ ttl travel.
       IsRunOfChoices (replay_in t n flow ttl first_choices) travel) x) same is.travel;
@@ -204,9 +204,9 @@ finished_travel_in d ended = record {
 }
 
 abbrev examined_flights_in : DomainValue → ExaminedFlights → ExaminedFlights
-examined_flights_in d (flown.Certified entries) = flown.Certified entries
-examined_flights_in d (flown.FoundAtTtl255 ended) = flown.FoundAtTtl255 (finished_travel_in d ended)
-examined_flights_in d (flown.FoundAtFlowTtl greatest least) = flown.FoundAtFlowTtl (finished_travel_in d greatest) (finished_travel_in d least)
+examined_flights_in d (flights.Certified entries) = flights.Certified entries
+examined_flights_in d (flights.FoundAtTtl255 ended) = flights.FoundAtTtl255 (finished_travel_in d ended)
+examined_flights_in d (flights.FoundAtFlowTtl greatest least) = flights.FoundAtFlowTtl (finished_travel_in d greatest) (finished_travel_in d least)
 
 is_finished_travel-same_domain : {whole d : DomainValue} → HaveSameFacts whole d → (flow ttl : ℕ) (ended : FinishedTravel)
     → IsFinishedTravelOf d flow ttl ended → IsFinishedTravelOf whole flow ttl (finished_travel_in whole ended)
@@ -219,9 +219,9 @@ is_finished_travel-same_domain same flow ttl ended is = record {
 
 has_examined_flights-same_domain : {whole d : DomainValue} → HaveSameFacts whole d → (flow : ℕ) (x : ExaminedFlights)
     → HasExaminedFlights d flow x → HasExaminedFlights whole flow (examined_flights_in whole x)
-has_examined_flights-same_domain same flow (flown.Certified entries) is = tt
-has_examined_flights-same_domain same flow (flown.FoundAtTtl255 ended) is = is_finished_travel-same_domain same flow 255 ended is
-has_examined_flights-same_domain {whole = whole} {d = d} same flow (flown.FoundAtFlowTtl greatest least) is = (
+has_examined_flights-same_domain same flow (flights.Certified entries) is = tt
+has_examined_flights-same_domain same flow (flights.FoundAtTtl255 ended) is = is_finished_travel-same_domain same flow 255 ended is
+has_examined_flights-same_domain {whole = whole} {d = d} same flow (flights.FoundAtFlowTtl greatest least) is = (
   is_finished_travel-same_domain same flow 255 greatest is.0,
   is.1,
   subst (λ (n : ℕ). IsFinishedTravelOf whole flow n (finished_travel_in whole least))
@@ -232,34 +232,34 @@ has_examined_flights-same_domain {whole = whole} {d = d} same flow (flown.FoundA
 -- which show the same,
 without_flights-same_domain : {whole d : DomainValue} → HaveSameFacts whole d → (flow : ℕ) (x : ExaminedFlights)
     → without_flights whole flow (examined_flights_in whole x) ≡ without_flights d flow x
-without_flights-same_domain same flow (flown.Certified entries) = refl
-without_flights-same_domain same flow (flown.FoundAtTtl255 ended) = refl
-without_flights-same_domain same flow (flown.FoundAtFlowTtl greatest least) =
+without_flights-same_domain same flow (flights.Certified entries) = refl
+without_flights-same_domain same flow (flights.FoundAtTtl255 ended) = refl
+without_flights-same_domain same flow (flights.FoundAtFlowTtl greatest least) =
     ap (λ (n : Net). (let x : Examined = Found n.ttl least.travel in x)) (same.nets flow)
 
 -- of which the same is told,
 is_explained-same_domain : {whole d : DomainValue} → HaveSameFacts whole d → (flow : ℕ) (x : ExaminedFlights)
     (printed : List Cause) → IsExplained d flow x printed → IsExplained whole flow (examined_flights_in whole x) printed
-is_explained-same_domain same flow (flown.Certified entries) printed is = is
-is_explained-same_domain same flow (flown.FoundAtTtl255 ended) printed is =
+is_explained-same_domain same flow (flights.Certified entries) printed is = is
+is_explained-same_domain same flow (flights.FoundAtTtl255 ended) printed is =
     transport_topology_and_nets (λ t n. ExplainsFinding (n flow) ended.flight.flight (finding_value ended.travel.finding)
     printed) same is
-is_explained-same_domain same flow (flown.FoundAtFlowTtl greatest least) printed is =
+is_explained-same_domain same flow (flights.FoundAtFlowTtl greatest least) printed is =
     transport_topology_and_nets (λ t n. ExplainsAtFlowTtl (n flow) greatest.flight.flight least.flight.flight
     (finding_value least.travel.finding) printed) same is
 
 is_search_at_255-same_domain : (whole : DomainValue) (f : DomainFacts) (summary : List SummaryValue) (marks : List Bool)
     (flow : ℕ) (x : ExaminedFlights) (search : Option LanSearch) → IsSearchAt255 f summary marks flow x search
     → IsSearchAt255 f summary marks flow (examined_flights_in whole x) search
-is_search_at_255-same_domain whole f summary marks flow (flown.Certified entries) search is = is
-is_search_at_255-same_domain whole f summary marks flow (flown.FoundAtTtl255 ended) search is = is
-is_search_at_255-same_domain whole f summary marks flow (flown.FoundAtFlowTtl greatest least) search is = is
+is_search_at_255-same_domain whole f summary marks flow (flights.Certified entries) search is = is
+is_search_at_255-same_domain whole f summary marks flow (flights.FoundAtTtl255 ended) search is = is
+is_search_at_255-same_domain whole f summary marks flow (flights.FoundAtFlowTtl greatest least) search is = is
 
 also_missed-same_domain : (whole : DomainValue) (f : DomainFacts) (flow : ℕ) (x : ExaminedFlights)
     → also_missed f flow (examined_flights_in whole x) ≡ also_missed f flow x
-also_missed-same_domain whole f flow (flown.Certified entries) = refl
-also_missed-same_domain whole f flow (flown.FoundAtTtl255 ended) = refl
-also_missed-same_domain whole f flow (flown.FoundAtFlowTtl greatest least) = refl
+also_missed-same_domain whole f flow (flights.Certified entries) = refl
+also_missed-same_domain whole f flow (flights.FoundAtTtl255 ended) = refl
+also_missed-same_domain whole f flow (flights.FoundAtFlowTtl greatest least) = refl
 
 is_explanation-same_domain : {whole d : DomainValue} → HaveSameFacts whole d → (summary : List SummaryValue)
     (names : List (List ℕ)) (known : Bool) (flow : ℕ) (x : ExaminedFlights) (e : Explanation)
@@ -285,13 +285,13 @@ is_flow_answer-same_domain : {whole d : DomainValue} → HaveSameFacts whole d �
     → IsFlowAnswer (record { domain = whole; summary = summary; without = names }) o printed flow a
 is_flow_answer-same_domain {whole = whole} {d = d} same summary names o printed flow a is = record {
   listed = is.listed;
-  flown = examined_flights_in whole is.flown;
+  flights = examined_flights_in whole is.flights;
   explanation = is.explanation;
   matches = transport_topology_and_nets (λ t n. slice_get t.flows flow ≡ Some is.listed) same is.matches;
-  flies = has_examined_flights-same_domain same flow is.flown is.flies;
-  examined = is.examined ∙ sym (without_flights-same_domain same flow is.flown);
+  has_flights = has_examined_flights-same_domain same flow is.flights is.has_flights;
+  examined = is.examined ∙ sym (without_flights-same_domain same flow is.flights);
   checked = is_checked-same_domain same flow a.examined is.checked;
-  explained = is_explanation-same_domain same summary names (length names == 0) flow is.flown is.explanation
+  explained = is_explanation-same_domain same summary names (length names == 0) flow is.flights is.explanation
       is.explained;
   wanted = transport_facts (λ f. a.wanted ≡ lans_wanting f flow) same is.wanted;
   spelled = transport_facts (λ f. a.lines ≡ answer_lines o (length names == 0) f summary printed flow is.listed

@@ -44,8 +44,8 @@ use Rattle.mc_run.specs.AuditFlowText.{wrong_lines_or_object}
 use Rattle.mc_run.specs.MakeRun.{IsExamined, found_lines}
 use Rattle.mc_run.specs.ReplayRun.{event_lines}
 use Rattle.mc_run.specs.declared.audit_options.AuditOptions.{AuditOptions}
-use Rattle.mc_run.proofs.OneFlown.{IsSameFinishedTravel, IsSameExplanation, HaveSameFlights, HaveSameSearch}
-use Rattle.mc_run.proofs.OneFlown.{is_explanation-unique, examined_flights-unique}
+use Rattle.mc_run.proofs.UniqueExamination.{IsSameFinishedTravel, IsSameExplanation, HaveSameFlights, HaveSameSearch}
+use Rattle.mc_run.proofs.UniqueExamination.{is_explanation-unique, examined_flights-unique}
 
 -- ---- the lines of a flow that isn't right
 
@@ -198,11 +198,11 @@ same_answer-flow_answers v o printed flow a b ok p q =
     let listed = listed_flow-unique d.topology.flows flow p.listed q.listed p.matches q.matches in
     let examined = λ (x : Examined) (w : ExaminedFlights) (is : x ≡ without_flights d flow w)
     (e : IsExamined d flow x). subst (λ (y : Examined). IsExamined d flow y) is e in
-    let flown = examined_flights-unique d flow p.flown q.flown p.flies q.flies
-    (examined a.examined p.flown p.examined p.checked.examined)
-    (examined b.examined q.flown q.examined q.checked.examined) in
-    let explained = is_explanation-unique d v.summary (excluded v) (is_whole v) flow p.flown q.flown p.explanation
-    q.explanation ok flown p.explained q.explained in
+    let flights = examined_flights-unique d flow p.flights q.flights p.has_flights q.has_flights
+    (examined a.examined p.flights p.examined p.checked.examined)
+    (examined b.examined q.flights q.examined q.checked.examined) in
+    let explained = is_explanation-unique d v.summary (excluded v) (is_whole v) flow p.flights q.flights p.explanation
+    q.explanation ok flights p.explained q.explained in
     let wanted : a.wanted ≡ b.wanted = p.wanted ∙ sym q.wanted in
     let lines = λ (f : Flow) (x : Examined) (w : List ℕ) (y : Explanation).
     answer_lines o (is_whole v) (facts d) v.summary printed flow f x y w in
@@ -210,16 +210,16 @@ same_answer-flow_answers v o printed flow a b ok p q =
       lines = p.spelled
           ∙ ap₂ (λ (f : Flow) (w : List ℕ). lines f a.examined w p.explanation) listed wanted
           ∙ ap (λ (x : Examined). lines q.listed x b.wanted p.explanation) p.examined
-          ∙ answer_lines-same_flights o (is_whole v) d v.summary printed flow q.listed p.flown q.flown p.explanation
-          q.explanation b.wanted flown explained
+          ∙ answer_lines-same_flights o (is_whole v) d v.summary printed flow q.listed p.flights q.flights p.explanation
+          q.explanation b.wanted flights explained
           ∙ ap (λ (x : Examined). lines q.listed x b.wanted q.explanation) (sym q.examined)
           ∙ sym q.spelled;
       wanted = wanted;
-      right = ap is_certified p.examined ∙ is_certified-same_flights d flow p.flown q.flown flown
+      right = ap is_certified p.examined ∙ is_certified-same_flights d flow p.flights q.flights flights
           ∙ ap is_certified (sym q.examined);
       shown_trees = λ ts.
           ap₂ (λ (x : Examined) (w : List ℕ). shown_trees_with o ts x w) p.examined wanted
-          ∙ shown_trees_with-same_flights o d flow p.flown q.flown b.wanted ts flown
+          ∙ shown_trees_with-same_flights o d flow p.flights q.flights b.wanted ts flights
           ∙ ap (λ (x : Examined). shown_trees_with o ts x b.wanted) (sym q.examined);
     }
 

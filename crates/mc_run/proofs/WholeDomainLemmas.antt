@@ -84,10 +84,10 @@ is_found_in_whole-flow_answer : (o : AuditOptions) (names : List (List ℕ)) (fi
 is_found_in_whole-flow_answer o names files v printed flow a audited_value is =
     let lt = slice_get_within v.domain.topology.flows flow is.listed is.matches in
     let runs = subst (λ (x : Examined). IfFound (IsFirstPickTravel v.domain flow) x) (sym is.examined)
-    (is_first_pick_travel-of_examined v.domain flow is.flown is.flies) in
+    (is_first_pick_travel-of_examined v.domain flow is.flights is.has_flights) in
     let within = subst (λ (x : Examined).
     IfFound (λ ttl travel. (ttl_of v.domain flow ≤ ttl) × (ttl ≤ 255)) x) (sym is.examined)
-    (found_ttl-flow_ttl_or_255 v.domain flow is.flown audited_value.means.rules lt) in
+    (found_ttl-flow_ttl_or_255 v.domain flow is.flights audited_value.means.rules lt) in
     is_found_in_whole-answer_lines o names files v printed flow is.listed a.examined is.explanation a.wanted a.lines audited_value
     is.checked runs within is.wanted is.spelled
 

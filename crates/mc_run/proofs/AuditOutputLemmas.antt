@@ -15,10 +15,10 @@ use Rattle.mc_run.specs.declared.audit_output.AuditOutput.{AuditOutput}
 use Rattle.mc_run.specs.declared.fault.RunFault.{RunFault}
 use Rattle.mc_run.specs.declared.fault.RunFault.TheVariants.{Write}
 use Rattle.mc_run.specs.declared.run_output.RunOutput.{RunOutput}
-use Rattle.mc_run.proofs.AuditAll.{audit_answer-gives, is_output_written-parts, audit_unwanted-gives, audit_write_fault-gives, audit_yes-gives}
+use Rattle.mc_run.proofs.AuditTextLemmas.{audit_answer-gives, is_output_written-parts, audit_unwanted-gives, audit_write_fault-gives, audit_yes-gives}
 use Rattle.mc_run.proofs.AuditLemmas.{is_output_of-each_flow, headline_of_files-audit_yes, is_write_fault-audit_output, is_output_of-which_are_right, is_output_of-audit}
 use Rattle.mc_run.proofs.RunLemmas.{IsOutputOf, headline-audit_says_yes, writes_part-output_written, writes-output_written}
-use Rattle.mc_run.proofs.WholeLemmas.{is_output_of-found_in_whole}
+use Rattle.mc_run.proofs.WholeDomainLemmas.{is_output_of-found_in_whole}
 use Rattle.mc_run.proofs.YesLines.{says_yes_by_line-verdict_yes, says_yes_by_line-yes_object}
 
 -- what was put together is the text of these files
@@ -72,9 +72,9 @@ pub writes_of_each_in_part-run : (contents : Option (List FileText)) (o : AuditO
     (r : Result AuditAnswer RunFault) (old new : Option (List ℕ)) → HasText contents o names a
     → IfErr a (λ fault. is_write fault ≡ false) → p ≡ output_of a → IsOutputWritten p s old new
     → yes_of r ≡ s → r ≡ Err Write → IfSome contents (λ files. WritesPart (SaysOfEach o names) files old new)
-writes_of_each_in_part-run contents o names a p s r old new text unsaid parts is same =
+writes_of_each_in_part-run contents o names a p s r old new text no_write parts is same =
     audit_write_fault-gives (IfSome contents (λ files. WritesPart (SaysOfEach o names) files old new)) r s same
-    (writes_part-output_written contents (SaysOfEach o names) (output_of a) s old new (is_write_fault-audit_output a unsaid)
+    (writes_part-output_written contents (SaysOfEach o names) (output_of a) s old new (is_write_fault-audit_output a no_write)
     (is_output_of-each_flow contents o names (output_of a) (is_output_of-audit contents o names a text))
     (is_output_written-parts p (output_of a) s old new parts is))
 

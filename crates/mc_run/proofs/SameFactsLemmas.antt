@@ -1,4 +1,4 @@
--- What a run says of one domain holds of another one that says the same of each flow.
+-- What holds of one domain holds of any other domain with the same facts of each flow.
 use Rattle.std.proofs.Common.{◌≡◌, ℕ, ◌<◌, Bool, List, ◌++◌, length, Option, Some, ap, refl, sym}
 use Rattle.std.proofs.Common.{subst, subst₂, ◌∙◌}
 use Rattle.std.specs.Prelude.{◌↔◌, ◌⊎◌, ◌==◌, ◌&&◌, All, IsTrue, flat_map, slice_get, take}
@@ -42,7 +42,7 @@ use Rattle.mc_run.specs.ReplayRun.{IsTextOfTravel, replay_text}
 use Rattle.mc_run.specs.VerdictText.{AreVerdicts, IsVerdict, check_text}
 use Rattle.mc_run.specs.declared.audit_options.AuditOptions.{AuditOptions}
 
--- what holds of a domain by its topology and its flows' nets alone holds of one that says the same
+-- what holds of a domain by its topology and its flows' nets alone holds of any domain with the same facts
 transport_topology_and_nets : (P : TopologyValue → (ℕ → Net) → Type 0) {whole d : DomainValue} → HaveSameFacts whole d
     → P d.topology (net_of d) → P whole.topology (net_of whole)
 transport_topology_and_nets P same = subst₂ P (sym same.topology) (λ i flow. sym (same.nets flow) i)
@@ -69,7 +69,7 @@ is_text_of_verdicts-same_domain same lists all written is = record {
   spelled = transport_topology_and_nets (λ t n. written ≡ check_text t is.verdicts) same is.spelled;
 }
 
--- and the headline holds of each flow
+-- and the headline holds for each flow
 pub keeps_headline-same_domain : {whole d : DomainValue} → HaveSameFacts whole d → (lists : List Tree)
     → KeepsHeadline d lists → KeepsHeadline whole lists
 keeps_headline-same_domain same lists = transport_topology_and_nets (λ t n. (flow : ℕ) → flow < length t.flows
@@ -77,7 +77,7 @@ keeps_headline-same_domain same lists = transport_topology_and_nets (λ t n. (fl
 
 -- ---- replay
 
--- what a domain of this topology and these nets replays
+-- the replay in a domain, by its topology and its nets
 abbrev replay_in : TopologyValue → (ℕ → Net) → (flow ttl : ℕ) → Choices → Replay
 replay_in t n flow ttl choices = record {
   net = n flow;
@@ -102,7 +102,7 @@ is_text_of_travel-same_domain same flow ttl choices clean written is = record {
   spelled = transport_topology_and_nets (λ t n. written ≡ replay_text t is.listed ttl is.travel) same is.spelled;
 }
 
--- and the one topology lists no flow of this number if the other lists none
+-- and the one topology lists no flow with this number if the other lists none
 pub has_no_flow-same_domain : {whole d : DomainValue} → HaveSameFacts whole d → (flow : ℕ)
     → (flow ≡ 0) ⊎ (length d.topology.flows < flow)
     → (flow ≡ 0) ⊎ (length whole.topology.flows < flow)
@@ -136,14 +136,14 @@ is_ttl_of_fault-same_domain same flow ttl is = record {
       → ttl ≡ (n flow).ttl) same is.least;
 }
 
--- where one is found at all,
+-- if one is found at all,
 if_found_ttl-same_domain : {whole d : DomainValue} → HaveSameFacts whole d → (flow : ℕ) (x : Examined)
     → IfFound (λ ttl travel. IsTtlOfFault d flow ttl) x
     → IfFound (λ ttl travel. IsTtlOfFault whole flow ttl) x
 if_found_ttl-same_domain same flow (Certified entries) is = tt
 if_found_ttl-same_domain same flow (Found ttl travel) is = is_ttl_of_fault-same_domain same flow ttl is
 
--- so an examination says the same of a flow,
+-- so an examination has the same result for a flow,
 pub is_examined-same_domain : {whole d : DomainValue} → HaveSameFacts whole d → (flow : ℕ) (x : Examined)
     → IsExamined d flow x → IsExamined whole flow x
 is_examined-same_domain same flow x is = record {
@@ -167,7 +167,7 @@ are_examined-same_domain same xs are = record {
   each = λ flow x at. is_examined-same_domain same flow x (are.each flow x at);
 }
 
--- and what is written of that is the same,
+-- and the text of that is the same,
 pub is_make_output-same_domain : {whole d : DomainValue} → HaveSameFacts whole d → (certified : Bool)
     (written : List ℕ) → IsMakeOutput d certified written → IsMakeOutput whole certified written
 is_make_output-same_domain same certified written is = record {
@@ -179,7 +179,7 @@ is_make_output-same_domain same certified written is = record {
 
 -- ---- audit
 
--- the headline holds of a certified flow,
+-- the headline holds for a certified flow,
 pub is_checked-same_domain : {whole d : DomainValue} → HaveSameFacts whole d → (flow : ℕ) (x : Examined)
     → IsChecked d flow x → IsChecked whole flow x
 is_checked-same_domain same flow x is = record {
@@ -187,7 +187,7 @@ is_checked-same_domain same flow x is = record {
   headline = transport_topology_and_nets (λ t n. IfCertified (λ es. HeadlineHolds (n flow) (length es)) x) same is.headline;
 }
 
--- what is so of a domain's facts is so of those of one that says the same
+-- what holds of a domain's facts holds of those of any domain with the same facts
 transport_facts : (P : DomainFacts → Type 0) {whole d : DomainValue} → HaveSameFacts whole d
     → P (facts d) → P (facts whole)
 transport_facts P same = subst P (sym (facts-of_same_facts same))
@@ -229,7 +229,7 @@ has_examined_flights-same_domain {whole = whole} {d = d} same flow (flights.Foun
       (is_finished_travel-same_domain same flow (ttl_of d flow) least is.2),
 )
 
--- which show the same,
+-- which have the same finding,
 without_flights-same_domain : {whole d : DomainValue} → HaveSameFacts whole d → (flow : ℕ) (x : ExaminedFlights)
     → without_flights whole flow (examined_flights_in whole x) ≡ without_flights d flow x
 without_flights-same_domain same flow (flights.Certified entries) = refl
@@ -237,7 +237,7 @@ without_flights-same_domain same flow (flights.FoundAtTtl255 ended) = refl
 without_flights-same_domain same flow (flights.FoundAtFlowTtl greatest least) =
     ap (λ (n : Net). (let x : Examined = Found n.ttl least.travel in x)) (same.nets flow)
 
--- of which the same is told,
+-- which has the same explanation,
 is_explained-same_domain : {whole d : DomainValue} → HaveSameFacts whole d → (flow : ℕ) (x : ExaminedFlights)
     (printed : List Cause) → IsExplained d flow x printed → IsExplained whole flow (examined_flights_in whole x) printed
 is_explained-same_domain same flow (flights.Certified entries) printed is = is
@@ -278,7 +278,7 @@ is_explanation-same_domain {whole = whole} {d = d} same summary names known flow
       ∙ sym (also_missed-same_domain whole (facts whole) flow x);
 }
 
--- the same is answered of the flow,
+-- the flow has the same answer,
 is_flow_answer-same_domain : {whole d : DomainValue} → HaveSameFacts whole d → (summary : List SummaryValue)
     (names : List (List ℕ)) (o : AuditOptions) (printed : List Tree) (flow : ℕ) (a : FlowAnswer)
     → IsFlowAnswer (record { domain = d; summary = summary; without = names }) o printed flow a
@@ -309,7 +309,7 @@ are_flow_answers-same_domain same summary names o answers are = record {
       (are.each flow a at);
 }
 
--- and what is written of all is the same,
+-- and the whole text is the same,
 pub is_audited-same_domain : {whole d : DomainValue} → HaveSameFacts whole d → (summary : List SummaryValue)
     (names : List (List ℕ)) (o : AuditOptions) (all : Bool) (written : List ℕ)
     → IsAudited (record { domain = d; summary = summary; without = names }) o all written

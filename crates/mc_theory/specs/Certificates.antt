@@ -4,7 +4,7 @@ use Rattle.std.specs.Prelude.{Option, Some, None, IsSome, ◌↔◌}
 use Rattle.mc_theory.specs.Lists.{In, Distinct}
 use Rattle.mc_theory.specs.Nets.{Net, Interface, interfaces}
 use Rattle.mc_theory.specs.Nets.Row.{Exact, Open}
-use Rattle.mc_theory.specs.Flights.{Copy, Flight, Pick, IsLossless, EveryRun}
+use Rattle.mc_theory.specs.Flights.{Copy, Flight, Pick, start, run, IsLossless, EveryRun}
 
 -- ---- entries
 
@@ -90,10 +90,18 @@ pub record IsReordering (es others : List Entry) : Type 0 where
   pub to : (e : Entry) → In e es → In e others
   pub from : (e : Entry) → In e others → In e es
 
+-- The list names LAN l, with need k.
+abbrev pub IsNamedWithNeed : List Entry → (l k : ℕ) → Type 0
+IsNamedWithNeed es l k = (e : Entry) × In e es × (e.lan ≡ l) × (e.need ≡ k)
+
 -- ---- what holds of a run
 
 abbrev pub lans : List Copy → List ℕ
 lans cs = map (λ c. c.lan) cs
+
+-- LAN l carries a copy in the run of a packet with TTL t by these picks.
+abbrev pub CarriesCopy : Net → (t : ℕ) → List Pick → (l : ℕ) → Type 0
+CarriesCopy n t ps l = In l (lans (run n ps (start n t)).carried)
 
 -- no LAN carried two copies, and none left the known domain
 pub record IsClean (f : Flight) : Type 0 where

@@ -30,13 +30,15 @@ onto_lan_count n r t pairs = count_of (λ p. nat_lt p.1 t && is_some (n.placed r
 abbrev pub astray_count : Net → ℕ → ℕ → List (ℕ × ℕ) → ℕ
 astray_count n r t pairs = count_of (λ p. nat_lt p.1 t && not (is_some (n.placed r p.0))) pairs
 
+-- what comes of pairs that send a copy that came with TTL t
+abbrev pub outcome_of_sending : Net → (r t : ℕ) → List (ℕ × ℕ) → Outcome
+outcome_of_sending n r t pairs = Sent (onto_lan_count n r t pairs) (astray_count n r t pairs)
+
 abbrev pub outcome_by_row : Net → Waiting → Row → Outcome
 outcome_by_row n w open_row = Open
 outcome_by_row n w no_row = NoRow
 outcome_by_row n w (Exact incoming pairs) =
-    if incoming == w.vif
-    then Sent (onto_lan_count n w.router w.ttl pairs) (astray_count n w.router w.ttl pairs)
-    else OtherVif
+    if incoming == w.vif then outcome_of_sending n w.router w.ttl pairs else OtherVif
 
 -- what is seen of the handling of a waiting copy
 abbrev pub event_of : Net → Waiting → Event

@@ -1,11 +1,12 @@
 -- Small networks as values, on which the definitions are computed and what they promise is judged
 -- by hand. Routers r1 to r4 are 0 to 3, LANs l0 to l3 are 0 to 3, and the source sends on l0.
-use Rattle.std.specs.Prelude.{ℕ, Bool, cond, ◌&&◌, ◌||◌, ◌==◌, List, [], ◌∷◌, ◌++◌, Option}
+use Rattle.std.specs.Prelude.{ℕ, zero, suc, Bool, cond, ◌&&◌, ◌||◌, ◌==◌, List, [], ◌∷◌, ◌++◌, Option}
 use Rattle.std.specs.Prelude.{Some, None}
 use Rattle.mc_theory.specs.Nets.{Net, Row, Interface}
 use Rattle.mc_theory.specs.Nets.Row.{Exact, Open, NoRow}
-use Rattle.mc_theory.specs.Flights.{Copy, Flight}
+use Rattle.mc_theory.specs.Flights.{Copy, Flight, start, run}
 use Rattle.mc_theory.specs.Certificates.{Entry}
+use Rattle.mc_theory.specs.Findings.{handles}
 use Rattle.mc_theory.specs.Paths.{Hop}
 
 -- ---- networks from tables
@@ -47,6 +48,14 @@ copy lan ttl sender = record { lan = lan; ttl = ttl; sender = sender }
 -- the flight in which these copies were carried, none waits and none strayed
 abbrev pub finished_flight : List Copy → Flight
 finished_flight copies = record { carried = copies; waiting = []; strays = [] }
+
+-- the flight of a packet with TTL 255 after so many handlings of the first waiting copy
+abbrev pub fifo_picks : ℕ → List ℕ
+fifo_picks zero = []
+fifo_picks (suc k) = 0 ∷ fifo_picks k
+
+abbrev pub fifo_flight : Net → ℕ → Flight
+fifo_flight n k = run n (handles (fifo_picks k)) (start n 255)
 
 -- in by vif 0, out by vif 1 with threshold 1
 abbrev pub onward : Row

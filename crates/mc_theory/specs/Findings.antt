@@ -8,7 +8,7 @@ use Rattle.mc_theory.specs.Lists.{In, below}
 use Rattle.mc_theory.specs.Certificates.{lans}
 use Rattle.mc_theory.specs.Nets.{Net, Row, Interface}
 use Rattle.mc_theory.specs.Nets.Row.{Exact, Open, NoRow}
-use Rattle.mc_theory.specs.Flights.{Copy, Waiting, Flight, Pick, step}
+use Rattle.mc_theory.specs.Flights.{Copy, Waiting, Flight, Pick, start, step, run}
 use Rattle.mc_theory.specs.Flights.Pick.{Handles}
 
 pub data Finding : Type 0 where
@@ -170,3 +170,19 @@ IsTravelUnfinished n count numbers last (i ∷ is) f =
 abbrev pub handles : List ℕ → List Pick
 handles [] = []
 handles (i ∷ is) = Handles i ∷ handles is
+
+-- ---- what holds of travels, of a packet with TTL t and wanting LANs numbered below the count
+
+-- Where a travel finds x, P holds of its last flight, whatever the picker chooses.
+abbrev pub OnFinding : Net → (count t : ℕ) → Finding → (Flight → Type 0) → Type 0
+OnFinding n count t x P = (numbers : List ℕ) (last : Bool) (is : List ℕ) →
+    IsTravel n count numbers last is (start n t) x → P (run n (handles is) (start n t))
+
+-- P holds of each travel's last flight, whatever the travel finds.
+abbrev pub OnTravel : Net → (count t : ℕ) → (Flight → Type 0) → Type 0
+OnTravel n count t P = (x : Finding) → OnFinding n count t x P
+
+-- P holds of each travel's last flight, if the first waiting copy was handled each time (FIFO).
+abbrev pub OnFifoTravel : Net → (count t : ℕ) → (Flight → Type 0) → Type 0
+OnFifoTravel n count t P = (is : List ℕ) (x : Finding) →
+    IsTravel n count [] false is (start n t) x → P (run n (handles is) (start n t))

@@ -1,7 +1,7 @@
 -- A packet's copies on their way: which LANs carried one, where one waits for a router, and which
 -- left the known domain. One step is one router interface handling one waiting copy whole, or the
 -- loss of that copy; a run is a list of such steps, in any order.
-use Rattle.std.specs.Prelude.{ℕ, ◌-◌, ◌<◌, ◌≤◌, Bool, false, not, ◌&&◌, nat_lt, ◌==◌, if◌then◌else◌}
+use Rattle.std.specs.Prelude.{◌≡◌, ℕ, ◌-◌, ◌<◌, ◌≤◌, Bool, false, not, ◌&&◌, nat_lt, ◌==◌, if◌then◌else◌}
 use Rattle.std.specs.Prelude.{List, [], ◌∷◌, ◌++◌, map, filter, length, remove, slice_get, Option}
 use Rattle.std.specs.Prelude.{Some, None, ⊤}
 use Rattle.mc_theory.specs.Lists.{count_of}
@@ -138,6 +138,12 @@ abbrev pub IsLossless : List Pick → Type 0
 IsLossless [] = ⊤
 IsLossless (Handles i ∷ ps) = IsLossless ps
 IsLossless (Loses i ∷ ps) = ⊥
+
+-- The picks are a run of a packet with TTL t that lost no copy and is complete: none waits any more.
+pub record IsCompleteRun (n : Net) (t : ℕ) (ps : List Pick) : Type 0 where
+  pub in_range : InRange n ps (start n t)
+  pub lossless : IsLossless ps
+  pub none_waits : (run n ps (start n t)).waiting ≡ []
 
 -- P holds of every run: for each TTL t of a packet from `least` to 255, and each order ps in
 -- which its copies are handled or lost, P t ps holds of the flight that it ends with. The run is

@@ -48,6 +48,23 @@ hops_until n cs l (suc k) onto x =
     hop_then (λ h. if h.from == l then [] else hops_until n cs l k h.from (sender_on cs h.from))
     (hop_sent n x onto)
 
+-- The hops back from copy c, one of these carried copies, to the source's LAN, and to LAN l. In the
+-- flight of a travel there are fewer than carried copies.
+abbrev pub hops_of_copy : Net → List Copy → Copy → List Hop
+hops_of_copy n cs c = hops_back n cs (length cs) c.lan c.sender
+
+abbrev pub hops_of_copy_until : Net → List Copy → (l : ℕ) → Copy → List Hop
+hops_of_copy_until n cs l c = hops_until n cs l (length cs) c.lan c.sender
+
+-- The hop by which interface i sent copy c is found by its interface and the copy's LAN, and the LAN
+-- that it takes from has a first copy among the carried ones.
+pub record IsHopFound (n : Net) (cs : List Copy) (c : Copy) (i : Interface) : Type 0 where
+  pub hop : Hop
+  pub first : Copy
+  pub found : hop_by n i c.lan ≡ Some hop
+  pub sent : IsSentByHop n c hop
+  pub first_on : first_copy_on cs hop.from ≡ Some first
+
 -- ---- a part of the walk
 
 -- The walk back from copy c over these hops has come to copy b: each hop but the first is the one

@@ -1,11 +1,12 @@
 -- Ways of a flow's packets over the rows of the domain: which LANs they lead to, and which packets
 -- get through. A way is told backwards, its last hop first.
-use Rattle.std.specs.Prelude.{◌≡◌, ◌≢◌, ℕ, ◌+◌, ◌<◌, ◌≤◌, max, not, ◌==◌, if◌then◌else◌, List, []}
+use Rattle.std.specs.Prelude.{◌≡◌, ◌≢◌, ◌↔◌, ℕ, ◌+◌, ◌<◌, ◌≤◌, max, not, ◌==◌, if◌then◌else◌, List, []}
 use Rattle.std.specs.Prelude.{◌∷◌, ◌++◌, filter, length, map, Some, None, ⊤}
 use Rattle.mc_theory.specs.Lists.{In}
 use Rattle.mc_theory.specs.Nets.{Net, Row, Interface}
 use Rattle.mc_theory.specs.Nets.Row.{Exact, Open, NoRow}
-use Rattle.mc_theory.specs.Flights.{Copy, Flight}
+use Rattle.mc_theory.specs.Flights.{Copy, Flight, Pick, IsCompleteRun}
+use Rattle.mc_theory.specs.Certificates.{CarriesCopy}
 use Rattle.mc_theory.specs.Findings.{first_copy_on}
 use Rattle.mc_theory.specs.FindingMeaning.{IsFirstDouble}
 
@@ -32,6 +33,10 @@ pub record IsHop (n : Net) (h : Hop) : Type 0 where
 abbrev pub IsPath : Net → ℕ → List Hop → ℕ → Type 0
 IsPath n a [] b = a ≡ b
 IsPath n a (h ∷ hs) b = (h.onto ≡ b) × IsHop n h × IsPath n a hs h.from
+
+-- One of these hops takes from LAN l.
+abbrev pub PassesLan : ℕ → List Hop → Type 0
+PassesLan l hs = In l (map (λ (h : Hop). h.from) hs)
 
 -- ---- who gets through
 
@@ -63,6 +68,11 @@ IsReached n l = (hs : List Hop) × IsPath n n.source hs l
 -- and one by which packets sent with TTL t get through.
 abbrev pub IsReachedWithTtl : Net → ℕ → ℕ → Type 0
 IsReachedWithTtl n t l = (hs : List Hop) × IsPath n n.source hs l × PassesHops t hs
+
+-- The least TTL with which LAN l is reached is k: a TTL from 1 to 255 reaches it exactly if it is at
+-- least k.
+abbrev pub IsLeastReachingTtl : Net → (l k : ℕ) → Type 0
+IsLeastReachingTtl n l k = (t : ℕ) → 1 ≤ t → t ≤ 255 → IsReachedWithTtl n t l ↔ (k ≤ t)
 
 -- ---- the way of a copy
 
@@ -106,6 +116,16 @@ take_out i n = record {
   ttl = n.ttl;
 }
 
+-- Each LAN that a packet with TTL t reaches in the first domain it reaches in the second.
+abbrev pub KeepsReach : Net → Net → (t : ℕ) → Type 0
+KeepsReach n after t = (l : ℕ) → IsReachedWithTtl n t l → IsReachedWithTtl after t l
+
+-- Each LAN that carries a copy in some run of a packet with TTL t in the first domain carries one in
+-- each complete run in the second that loses none.
+abbrev pub KeepsDelivery : Net → Net → (t : ℕ) → Type 0
+KeepsDelivery n after t = (ps qs : List Pick) (l : ℕ) →
+    IsCompleteRun after t qs → CarriesCopy n t ps l → CarriesCopy after t qs l
+
 -- Interface i sent the flight's first double copy c, and the first copy of its LAN came by these
 -- hops.
 pub record IsSpareInterface (n : Net) (f : Flight) (c : Copy) (i : Interface) (hs : List Hop) : Type 0 where
@@ -132,7 +152,7 @@ pub record ReachedByTwoPaths (n : Net) (cs : List Copy) (l : ℕ) : Type 0 where
   pub second_path : List Hop
   pub second_came : CameByHops n cs second second_path
   pub second_leads : IsPath n n.source second_path l
-  pub not_before : In l (map (λ h. h.from) second_path) → ⊥
+  pub not_before : ¬ PassesLan l second_path
 
 -- Its second copy came from the LAN itself: the walk back from that copy to the LAN is a way that
 -- leads back to it, and the last hop's interface sent the copy. There are fewer hops than carried

@@ -45,12 +45,12 @@ returns-clause-least_ttl c = refl
 pub returns-clause-right : goal.returns-clause-right
 returns-clause-right c = one-twin-headline_holds
 
-pub returns-clause-before : goal.returns-clause-before
-returns-clause-before c = (
+pub returns-clause-reached_before : goal.returns-clause-reached_before
+returns-clause-reached_before c = (
   onward_hop 0 1 1 ∷ [],
   (refl, is_hop-onward twins 0 1 1 refl refl refl, refl),
   (omega arith, tt),
 )
 
-pub returns-clause-after : goal.returns-clause-after
-returns-clause-after c = one-twin-stops_ttl_2
+pub returns-clause-not_reached_after : goal.returns-clause-not_reached_after
+returns-clause-not_reached_after c = one-twin-stops_ttl_2

@@ -6,5 +6,5 @@ pub returns-clause-stopped : goal.returns-clause-stopped
 returns-clause-stopped c = λ t hs low.
     (is_stopped-from_need_above t hs low, λ s. need_above-from_stopped t hs s.0 s.1 s.2)
 
-pub returns-clause-once : goal.returns-clause-once
-returns-clause-once c = is_stopped-unique
+pub returns-clause-one_hop : goal.returns-clause-one_hop
+returns-clause-one_hop c = is_stopped-unique

@@ -6,7 +6,7 @@ use Rattle.mc_theory.proofs.ReachedLans.{entry-unique_on_lan}
 use Rattle.mc_theory.proofs.path_laws.need_is_the_least_reaching_ttl.Goals as goal
 
 pub returns : goal.returns
-returns c = λ n es e t tree e_in low high. (
+returns c = λ n es e tree e_in t low high. (
   (λ r. (let d = entry-at_path_end n es t tree high r.0 e.lan r.1 r.2 in
       let same = ap (λ (e : Entry). e.need) (entry-unique_on_lan n es d.0 e tree d.1 e_in d.2) in
       let least = need_at_most-from_passes t r.0 low r.2 in omega (arith, same, least, d.4))),

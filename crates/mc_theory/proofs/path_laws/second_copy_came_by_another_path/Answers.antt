@@ -12,7 +12,7 @@ use Rattle.mc_theory.proofs.SpareInterface.{distinct_senders-travel, earlier_cop
 use Rattle.mc_theory.proofs.path_laws.second_copy_came_by_another_path.Goals as goal
 
 pub returns-clause-loop_came_back : goal.returns-clause-loop_came_back
-returns-clause-loop_came_back c = λ n count t numbers last is x l travel shows.
+returns-clause-loop_came_back c = λ n count t l x numbers last is travel shows.
     let cs = (run n (handles is) (start n t)).carried in
     let d = shows.0 in
     let r = is_rooted-from_travel n count t numbers last is x travel in
@@ -34,7 +34,7 @@ returns-clause-loop_came_back c = λ n count t numbers last is x l travel shows.
     }
 
 pub returns-clause-duplicate_came_twice : goal.returns-clause-duplicate_came_twice
-returns-clause-duplicate_came_twice c = λ n count t numbers last is x l net travel shows.
+returns-clause-duplicate_came_twice c = λ n count t l net x numbers last is travel shows.
     let cs = (run n (handles is) (start n t)).carried in
     let d = shows.0 in
     let c_in = in-first_double cs d.copy d.first in

@@ -1,4 +1,4 @@
--- In a travel's last flight each copy came by a way.
+-- In a travel's last flight each copy came by a path.
 use Rattle.std.proofs.Common.{◌≡◌, ◌≢◌, ℕ, ◌+◌, inl, inr, Bool, true, false, List, [], ◌∷◌, ◌++◌}
 use Rattle.std.proofs.Common.{map, cond, ◌==◌, length, Option, Some, None, refl, ap, sym, ◌∙◌, ap₂}
 use Rattle.std.proofs.Common.{subst, arith, eqb-true}
@@ -53,7 +53,7 @@ source_copy-from_no_sender n t cs c h c_in e = elim (subst (λ xs. In c xs) h.he
   | inr k ↦ absurd (h.sent c k e)
 ]
 
--- ---- copies came by ways
+-- ---- copies came by paths
 
 pub copy_equal-from_some : (o : Option Copy) (b d : Copy) → o ≡ Some b → o ≡ Some d → b ≡ d
 copy_equal-from_some o b d p q = let both : Some b ≡ Some d = sym p ∙ q in cc
@@ -90,7 +90,7 @@ pub row_equal-from_exact : (row : Row) (v w : ℕ) (ps qs : List (ℕ × ℕ)) �
     (v ≡ w) × (ps ≡ qs)
 row_equal-from_exact row v w ps qs p q = let both : Exact v ps ≡ Exact w qs = sym p ∙ q in (cc, cc)
 
--- a hop by the sender of a copy has the LAN and the threshold that it was sent on by
+-- the hop of a copy's sender has the LAN that the copy was sent on from, and a threshold that it passed
 hop_fields-from_sent_on : (n : Net) (b c : Copy) (h : Hop) → IsNet n → IsHop n h →
     (s : IsSentOn n b c (h.router, h.vif)) → (h.from ≡ b.lan) × (h.threshold ≡ s.threshold)
 hop_fields-from_sent_on n b c h net hop s =
@@ -103,7 +103,7 @@ hop_fields-from_sent_on n b c h net hop s =
       ap (λ (p : ℕ × ℕ). p.1) one,
     )
 
--- the hops by which a copy came are a way, and it has the TTL that they leave
+-- the hops by which a copy came are a path, and it has the TTL that they leave
 pub is_path-from_came_by_hops : (n : Net) (t : ℕ) (cs : List Copy) (hs : List Hop) (c : Copy) → IsNet n →
     IsRooted n t cs → StartsWithSourceCopy n t cs → In c cs → CameByHops n cs c hs
     → IsPath n n.source hs c.lan × PassesHops t hs × (c.ttl + length hs ≡ t)
@@ -126,7 +126,7 @@ is_path-from_came_by_hops n t cs (h ∷ hs) c net r head c_in came_by_hops =
       omega (arith, ttl, sent, up.2),
     )
 
--- ---- of a travel
+-- ---- the copies of a travel's flight
 
 pub is_rooted-from_travel : (n : Net) (count t : ℕ) (numbers : List ℕ) (last : Bool) (is : List ℕ)
     (x : Finding) → IsTravel n count numbers last is (start n t) x →
@@ -178,7 +178,7 @@ first_double-not_earlier cs ds d zs e once again =
     let apart = subst Distinct (ap lans e ∙ map-append' lan ds (d ∷ zs)) once in
     distinct_append-disjoint (lans ds) (lans (d ∷ zs)) apart d.lan again (inl refl)
 
--- there is one
+-- a LAN that carried a copy has a first one
 pub first_double-unique : (cs : List Copy) (c d : Copy) → IsFirstDouble cs c → IsFirstDouble cs d → c ≡ d
 first_double-unique cs c d p q = elim
     (append_split-cases p.earlier c p.later q.earlier d q.later (sym p.split ∙ q.split)) [

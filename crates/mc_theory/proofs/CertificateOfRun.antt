@@ -103,7 +103,7 @@ handled-when_none_waits : (n : Net) (f : Flight) (c : Copy) (r v : ℕ) → RunI
 handled-when_none_waits n f c r v i done c_in on other = elim (i.all c r v c_in on other)
     [ inl z ↦ absurd z | inr (inl w) ↦ absurd (waiting_interfaces-none f (r, v) done w) | inr (inr a) ↦ a ]
 
--- what a live pair of a reached LAN's reader sent
+-- what a live pair sent of a router that takes from a reached LAN
 sends-by_live_pair : (n : Net) (f : Flight) (c : Copy) (r v h : ℕ) → RunInvariant n 255 [] f → f.waiting ≡ [] →
     In c f.carried → Feeds n (entry_of_copy n f.carried c) r v h → Sends n f.carried r c.ttl v
 sends-by_live_pair n f c r v h i done c_in feeds =

@@ -21,7 +21,7 @@ abbrev pub total : {A : Type 0} → (A → ℕ) → List A → ℕ
 total g [] = 0
 total g (x ∷ xs) = g x + total g xs
 
--- the list without one place of x
+-- the list without one x
 total-split_at_member : {A : Type 0} (g : A → ℕ) (x : A) (ys : List A) → In x ys →
     (zs : List A) × (total g ys ≡ g x + total g zs) × ((z : A) → In z ys → (x ≡ z) ⊎ In z zs)
 total-split_at_member g x [] h = absurd h
@@ -174,7 +174,7 @@ hearer_count-at_most_interfaces n (c ∷ cs) = omega (
   length_filter-at_most (λ (i : Interface). not (is_sender c.sender i)) (interfaces n c.lan),
 )
 
--- the lans of the copies are named
+-- the LANs of the copies are named
 lans-of_copies_are_named : (es : List Entry) (t : ℕ) (f : Flight) → CopiesFitEntries es t f → (l : ℕ) →
     In l (lans f.carried) → In l (map (λ (e : Entry). e.lan) es)
 lans-of_copies_are_named es t f named l h =
@@ -204,7 +204,7 @@ hearer_count-at_most_named n es t f d named =
     (map (λ (e : Entry). e.lan) es) d (lans-of_copies_are_named es t f named) in
     omega (arith, h, hearer_count-at_most_interfaces n f.carried, total-interface_counts n es)
 
--- ---- without a certificate: the interfaces of distinct LANs are apart
+-- ---- without a certificate: distinct LANs have no interface in common
 
 total-interface_lengths : (n : Net) (ls : List ℕ) → total (λ l. length (interfaces n l)) ls ≡ length
     (flat_map (interfaces n) ls)

@@ -24,7 +24,7 @@ use Rattle.mc_theory.proofs.CameByHops.{starts_with_source_copy-run, lan_equal-f
 
 -- ---- each interface of a carrying LAN but the sender waits, or its copy was handled
 
--- what comes of a copy with TTL t at (r, v) stands among the carried copies
+-- what comes of a copy with TTL t at (r, v) is among the carried copies
 abbrev pub IsForwarded : Net → List Copy → ℕ → ℕ → ℕ → Type 0
 IsForwarded n cs r v t = (pairs : List (ℕ × ℕ)) (k h l : ℕ) → n.row r ≡ Exact v pairs →
     In (k, h) pairs → h < t → n.placed r k ≡ Some l
@@ -83,7 +83,7 @@ wait_or_forwarded-sends n w r t (p ∷ ps) f net all = wait_or_forwarded-sends n
     (wait_or_forwarded-cond n w (nat_lt p.1 t) (leave n (t - 1) (r, p.0) (n.placed r p.0) f) f
     (wait_or_forwarded-leave n w (t - 1) (r, p.0) (n.placed r p.0) f net all) all)
 
--- ---- what a handling sends stands
+-- ---- what a handling sends stays carried
 
 -- a copy on LAN l that lost one of TTL t
 abbrev SentOnto : List Copy → ℕ → ℕ → Type 0
@@ -121,7 +121,7 @@ sent_onto-sends n r t l k h (p ∷ ps) f (inr z) lt on = sent_onto-sends n r t l
 
 -- ---- a step
 
--- once w's copy was handled, all are attended
+-- once w's copy was handled, every hearer waits or was handled
 wait_or_forwarded-after_handling : (n : Net) (w : Waiting) (f : Flight) → HearersWaitOrForwarded n (IsWaitingOr w) f →
     IsForwarded n f.carried w.router w.vif w.ttl → HearersWaitOrForwarded n IsWaiting f
 wait_or_forwarded-after_handling n w f all done c r v c_in on other = elim (all c r v c_in on other) [
@@ -180,9 +180,9 @@ wait_or_forwarded-start n t net c r v c_in on other = elim c_in [
   | inr z ↦ absurd z
 ]
 
--- ---- along a way
+-- ---- along a path
 
--- each copy comes of another one, and has no more than TTL t
+-- each copy was sent on from another one, and has at most TTL t
 record HaveOrigins (n : Net) (t : ℕ) (cs : List Copy) : Type 0 where
   base : (c : Copy) → In c cs → IsSentOnFromSome n cs c
   low : (c : Copy) → In c cs → c.ttl ≤ t
@@ -219,11 +219,11 @@ have_origins-run n t ps = run-preserves n (HaveOrigins n t) (have_origins-grows 
       low = λ c h. elim h [ inl e ↦ omega (arith, ap (λ (x : Copy). x.ttl) e) | inr z ↦ absurd z ];
     })
 
--- A copy on LAN l with at least TTL t that the reader at (r, v) hears.
+-- A copy on LAN l with at least TTL t that the interface (r, v) hears.
 abbrev HeardBy : List Copy → ℕ → ℕ → ℕ → ℕ → Type 0
 HeardBy cs l t r v = (b : Copy) × In b cs × (b.lan ≡ l) × (t ≤ b.ttl) × (b.sender ≢ Some (r, v))
 
--- where the reader sent the copy itself, it heard one before
+-- where (r, v) sent the copy itself, it heard one before
 heard_by-step : (n : Net) (t : ℕ) (cs : List Copy) (c : Copy) (r v : ℕ) (pairs : List (ℕ × ℕ))
     (test : Bool) → is_sender c.sender (r, v) ≡ test → HaveOrigins n t cs → In c cs →
     n.row r ≡ Exact v pairs → n.placed r v ≡ Some c.lan →
@@ -255,7 +255,7 @@ heard_by-some_copy n t (suc k) cs c r v pairs e s c_in row on = heard_by-step n 
     (λ b b_in lan q. subst (λ l. HeardBy cs l b.ttl r v) lan
     (heard_by-some_copy n t k cs b r v pairs (omega (arith, q, e)) s b_in row (on ∙ ap Some (sym lan))))
 
--- a copy on LAN l, no more hops on its way than k
+-- a copy on LAN l that lost at most k TTLs
 abbrev CarriedWithinHops : List Copy → ℕ → ℕ → ℕ → Type 0
 CarriedWithinHops cs t k l = (c : Copy) × In c cs × (c.lan ≡ l) × (t ≤ c.ttl + k)
 

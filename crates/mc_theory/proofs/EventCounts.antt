@@ -1,4 +1,4 @@
--- What is told of an event is what its step did.
+-- The counts of an event are what its step did.
 use Rattle.std.proofs.Common.{◌≡◌, ℕ, suc, ◌+◌, ◌-◌, Bool, true, false, cond, not, ◌&&◌, ◌==◌}
 use Rattle.std.proofs.Common.{nat_lt, List, [], ◌∷◌, length, slice_get, Option, Some, None}
 use Rattle.std.proofs.Common.{is_some, ap, ◌∙◌, arith, length-append}

@@ -1,4 +1,4 @@
--- The networks of specs/Worked.antt with a third router, on which more is computed.
+-- More networks like those of specs/ExampleNetworks.antt, with a third router.
 use Rattle.std.proofs.Common.{ℕ, ◌||◌, ◌==◌, List, [], ◌∷◌, ◌++◌, Some}
 use Rattle.mc_theory.specs.Nets.{Net}
 use Rattle.mc_theory.specs.Nets.Row.{Exact}

@@ -1,4 +1,4 @@
--- The worked networks that keep the headline.
+-- The example networks that keep the headline.
 use Rattle.std.proofs.Common.{◌≡◌, ℕ, ◌||◌, ◌==◌, [], ◌∷◌, Some, inl, inr, refl, ap}
 use Rattle.std.proofs.Common.{arith, eqb-true}
 use Rattle.std.proofs.lemmas.Bool.{or_cases}
@@ -115,7 +115,7 @@ pub one-twin-headline_holds : HeadlineHolds (take_out (1, 1) twins) 2
 one-twin-headline_holds = headline_holds-from_accepted (take_out (1, 1) twins) twins_entries (is_net-take_out twins (1, 1) twins-net)
     (omega arith) one-twin-accepted
 
--- a packet with TTL 2 doesn't get through there
+-- without r2 a packet with TTL 2 doesn't get through
 pub one-twin-stops_ttl_2 : IsReachedWithTtl (take_out (1, 1) twins) 2 1 → ⊥
 one-twin-stops_ttl_2 r =
     let e = entry-at_path_end (take_out (1, 1) twins) twins_entries 2 one-twin-accepted.is_tree

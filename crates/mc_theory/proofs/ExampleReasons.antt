@@ -1,4 +1,4 @@
--- Worked certificates: each first reason is computed.
+-- Certificates of the example networks: each first reason is computed.
 use Rattle.std.proofs.Common.{◌≡◌, false, ◌==◌, List, [], ◌∷◌, ◌++◌, length, Some, None, refl}
 use Rattle.mc_theory.specs.Lists.{below}
 use Rattle.mc_theory.specs.Nets.{Net}
@@ -40,7 +40,7 @@ the-source-alone-is-accepted : first_reason (network 3 line_places [] (λ l. l =
 unfolding below
 the-source-alone-is-accepted = refl
 
--- ---- a row too much
+-- ---- one row too many
 
 a-shortcut-is-extra : first_reason (line_with_shortcut 3) 3 line_entries ≡ Some (Extra 2 1 2)
 unfolding below

@@ -1,4 +1,4 @@
--- Worked runs: what LANs carried in every order, and after losses.
+-- Runs in the example networks: what LANs carried in every order, and after losses.
 use Rattle.std.proofs.Common.{◌≡◌, ℕ, List, [], ◌∷◌, map, refl}
 use Rattle.mc_theory.specs.Lists.{below}
 use Rattle.mc_theory.specs.Nets.{Net, interfaces}
@@ -64,7 +64,7 @@ the-branching-loses-one-branch : EndsWith (branching 3) 3 (Loses 0 ∷ Handles 0
 unfolding below interfaces
 the-branching-loses-one-branch = (refl, refl)
 
--- the loss of the second way's copy hides the fault
+-- the loss of the second path's copy hides the fault
 the-shortcut-loses-its-copy : copy_count_on (run (line_with_shortcut 3) (Loses 1 ∷ Handles 0 ∷ Handles 0 ∷ [])
     (start (line_with_shortcut 3) 3)).carried 2 ≡ 1
 unfolding below interfaces

@@ -1,4 +1,4 @@
--- Worked travels: what is seen, and the finding, are computed.
+-- Travels in the example networks: events and findings are computed.
 use Rattle.std.proofs.Common.{◌≡◌, ℕ, true, false, List, [], ◌∷◌, refl}
 use Rattle.mc_theory.specs.Lists.{below}
 use Rattle.mc_theory.specs.Nets.{interfaces}
@@ -15,7 +15,7 @@ use Rattle.mc_theory.proofs.ExampleBranching.{onto_itself}
 abbrev sent_event : ℕ → ℕ → ℕ → ℕ → Event
 sent_event r v t copies = record { router = r; vif = v; ttl = t; outcome = Sent copies 0 }
 
--- it took one that came by another vif than the expected one
+-- the copy came by another vif than the expected one
 abbrev other_vif_event : ℕ → ℕ → ℕ → Event
 other_vif_event r v t = record { router = r; vif = v; ttl = t; outcome = OtherVif }
 
@@ -50,7 +50,7 @@ line-copies-make-its-certificate : entries_of (line 3) (run (line 3) (handles tw
 unfolding below interfaces
 line-copies-make-its-certificate = refl
 
--- ---- a second way to l2
+-- ---- a second path to l2
 
 the-shortcut-duplicates : IsTravel (line_with_shortcut 3) 3 [] false three_first_picks (start (line_with_shortcut 3) 3)
     (Duplicate 2)
@@ -67,7 +67,7 @@ the-shortcut-duplicates-at-255 : IsTravel (line_with_shortcut 3) 3 [] false thre
 unfolding below interfaces
 the-shortcut-duplicates-at-255 = (refl, refl, (refl, refl, (refl, refl, refl)))
 
--- a picker of the number 1, and then of the first
+-- a picker that chooses number 1, and then always the first
 abbrev one_then_first_picks : List ℕ
 one_then_first_picks = 1 ∷ 0 ∷ 0 ∷ 0 ∷ []
 
@@ -81,7 +81,7 @@ events-of-the-shortcut-by-numbers : events (line_with_shortcut 3) one_then_first
 unfolding below interfaces
 events-of-the-shortcut-by-numbers = refl
 
--- a picker of the last
+-- a picker that always chooses the last
 abbrev last_picks : List ℕ
 last_picks = 1 ∷ 1 ∷ 0 ∷ 0 ∷ []
 
@@ -95,7 +95,7 @@ events-of-the-shortcut-by-last : events (line_with_shortcut 3) last_picks (start
 unfolding below interfaces
 events-of-the-shortcut-by-last = refl
 
--- ---- a way back to l0
+-- ---- a path back to l0
 
 the-line-with-loop-loops : IsTravel (line_with_loop 3) 3 [] false four_first_picks (start (line_with_loop 3) 4) (Loop 0)
 unfolding below interfaces
@@ -117,7 +117,7 @@ events-of-the-loop-with-a-low-ttl : events (line_with_loop 3) four_first_picks (
 unfolding below interfaces
 events-of-the-loop-with-a-low-ttl = refl
 
--- ---- a way from l1 onto l1
+-- ---- a path from l1 back to l1
 
 two-vifs-on-a-lan-loop : IsTravel (onto_itself 3) 3 [] false three_first_picks (start (onto_itself 3) 3)
     (Loop 1)

@@ -1,5 +1,5 @@
--- A run without the routers that are left out is one of the whole net, in which the copies that wait
--- at them stay where they are.
+-- A run without the excluded routers is one of the whole net, in which the copies that wait at them
+-- stay where they are.
 use Rattle.std.proofs.Common.{◌≡◌, ℕ, zero, suc, ◌-◌, ◌<◌, ◌≤◌, Bool, true, false, cond, not, ◌&&◌}
 use Rattle.std.proofs.Common.{nat_lt, ◌==◌, List, [], ◌∷◌, ◌++◌, map, filter, length, remove}
 use Rattle.std.proofs.Common.{slice_get, Option, Some, None, refl, ap, ap₂, sym, ◌∙◌, subst, arith}
@@ -99,7 +99,7 @@ index_in_whole-exists : {A : Type 0} (p : A → Bool) (xs : List A) (i : ℕ) �
 index_in_whole-exists p [] i lt = absurd (omega arith)
 index_in_whole-exists p (x ∷ xs) i lt = index_in_whole-exists_step p x xs i (p x) refl lt (index_in_whole-exists p xs)
 
--- ---- flights that go alongside: the part's, and the whole's
+-- ---- corresponding flights: the part's, and the whole's
 
 abbrev is_at_included_router : (ℕ → Bool) → Waiting → Bool
 is_at_included_router excluded w = not (excluded w.router)
@@ -223,7 +223,7 @@ step-alongside excluded n m f g i (Some w) leaves lt v s e =
     (without_waiting s.place g))) (sym e) (subst (λ o. Alongside excluded (handle n (Some w) (without_waiting i f))
     (handle m o (without_waiting s.place g))) (sym (s.found ∙ there)) h)
 
--- the whole's picks that go alongside the part's
+-- the whole's picks that correspond to the part's
 record HasPicksAlongside (excluded : ℕ → Bool) (n m : Net) (ps : List Pick) (f g : Flight) : Type 0
   where
     pub picks : List Pick
@@ -288,7 +288,7 @@ same_copies_and_strays-in_whole_net excluded part whole t ps leaves range =
       lossless = r.lossless;
     }
 
--- ---- what goes wrong
+-- ---- faults of the part are faults of the whole
 
 pub not_right-from_unclean_run : (excluded : ℕ → Bool) (part whole : Net) (t : ℕ) (ps : List Pick) →
     ExcludesRouters excluded part whole → part.ttl ≤ t → t ≤ 255 → InRange part ps (start part t) →

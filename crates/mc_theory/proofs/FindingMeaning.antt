@@ -1,4 +1,4 @@
--- A travel's finding says what its last flight shows.
+-- A travel's finding is what its last flight shows.
 use Rattle.std.proofs.Common.{◌≡◌, ℕ, zero, suc, ◌<◌, inl, inr, Bool, true, false}
 use Rattle.std.proofs.Common.{cond, List, [], ◌∷◌, ◌++◌, length, Option, Some, None, is_some}
 use Rattle.std.proofs.Common.{refl, ap, sym, ◌∙◌, subst, arith}

@@ -1,4 +1,4 @@
--- No reason is left exactly where the list is accepted.
+-- There is no reason to refuse a list exactly where it is accepted.
 use Rattle.std.proofs.Common.{◌≡◌, ◌≢◌, ℕ, ◌+◌, ◌<◌, ◌≤◌, max, inl, inr, Bool, true, false, cond}
 use Rattle.std.proofs.Common.{not, ◌&&◌, ◌||◌, ◌==◌, nat_lt, List, [], ◌∷◌, map, Option, Some, None}
 use Rattle.std.proofs.Common.{IsSome, is_some, refl, ap, sym, ◌∙◌, subst, arith, eqb-true, eq-eqb}
@@ -128,7 +128,7 @@ not_is_some-from_none : {A : Type 0} (o : Option A) → o ≡ None → not (is_s
 not_is_some-from_none None e = refl
 not_is_some-from_none (Some x) e = absurd cc
 
--- an entry that is found nowhere
+-- an entry that isn't found
 entry_on-from_absent : (es : List Entry) (l : ℕ) (o : Option Entry) → entry_on es l ≡ o →
     ((d : Entry) → In d es → d.lan ≢ l) → entry_on es l ≡ None
 entry_on-from_absent es l None e h = e
@@ -337,7 +337,7 @@ is_fed-from_feeds n es l (Some i) apart h =
     and_from (row_feeds n es i.0 i.1 (n.row i.0)) (is_lan (n.placed i.0 i.1) l) feeds
     (is_lan-from_equal (n.placed i.0 i.1) l f.4)
 
--- ---- what wants
+-- ---- wanting LANs are served
 
 is_served-from_no_reason : (n : Net) (es : List Entry) (l : ℕ) (o : Option Entry) → entry_on es l ≡ o →
     need_reason n.ttl l o ≡ None → (e : Entry) × In e es × (e.lan ≡ l) × (e.need ≤ n.ttl)
@@ -358,7 +358,7 @@ need_reason-from_served n es l apart e e_in on le =
     ap (need_reason n.ttl l) entry ∙ unless-from_true (not (nat_lt n.ttl e.need)) (Low l)
     (not_from_false (nat_lt n.ttl e.need) (le-ltb n.ttl e.need le))
 
--- ---- both ways
+-- ---- both directions
 
 abbrev first_router_reason : Net → List Entry → Option Reason
 first_router_reason n es = first_of (λ r. row_reason n es r (n.row r)) (below n.routers)

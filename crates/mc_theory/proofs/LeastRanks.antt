@@ -1,4 +1,4 @@
--- In a travel of the first waiting copy each time a LAN's first copy came as short a way as any.
+-- In a travel that handles the first waiting copy each time a LAN's first copy came by a shortest path.
 use Rattle.std.proofs.Common.{◌≡◌, ℕ, ◌+◌, ◌-◌, ◌<◌, ◌≤◌, ◌⊎◌, inl, inr, Bool, true}
 use Rattle.std.proofs.Common.{false, cond, ◌==◌, nat_lt, List, [], ◌∷◌, ◌++◌, map, length, remove}
 use Rattle.std.proofs.Common.{slice_get, Option, Some, None, refl, ap, sym, ◌∙◌, subst, arith}
@@ -25,7 +25,7 @@ use Rattle.mc_theory.proofs.CameByHops.{copy_equal-from_some, same-lan}
 
 -- ---- what each step of a travel keeps
 
--- P, of the numbers that are left and the flight
+-- what a step keeps: P, of the numbers that are left and of the flight
 abbrev pub IsKeptByStep : Net → ℕ → Bool → (List ℕ → Flight → Type 0) → Type 0
 IsKeptByStep n t last P = (numbers : List ℕ) (f : Flight) (i : ℕ) →
     i ≡ choice (length f.waiting) numbers last → i < length f.waiting → RunInvariant n t [] f →
@@ -215,14 +215,14 @@ ttl_level-start n t =
       ];
     }
 
--- ---- along a way
+-- ---- along a path
 
--- a LAN so many hops from the source carried a copy that lost no more, or one waits that lost less
+-- a LAN at the end of these hops carried a copy that lost no more TTL, or one waits that lost less
 abbrev IsCarriedOrComing : ℕ → Flight → ℕ → ℕ → Type 0
 IsCarriedOrComing t f l k = ((c : Copy) × In c f.carried × (c.lan ≡ l) × (t ≤ c.ttl + k)) ⊎
     ((w : Waiting) × In w f.waiting × (t < w.ttl + k))
 
--- what waits where LAN c.lan's copy came has its TTL
+-- a copy that waits on c's LAN has the TTL of c
 ttl-of_waiting_hearer : (n : Net) (t : ℕ) (f : Flight) (c : Copy) (r v : ℕ) → RunInvariant n t [] f → In c f.carried →
     n.placed r v ≡ Some c.lan → In (r, v) (waiting_interfaces f) →
     (w : Waiting) × In w f.waiting × (w.ttl ≡ c.ttl)
@@ -264,12 +264,12 @@ carried_or_coming-path n t f (h ∷ hs) l inv path p = elim (carried_or_coming-p
 
 -- ---- the least ranks
 
--- a LAN's first copy lost no more than a packet loses by any way that gets there
+-- a LAN's first copy lost no more than a packet loses on any path that gets there
 abbrev pub HaveLeastRanks : Net → ℕ → Flight → Type 0
 HaveLeastRanks n t f = (l : ℕ) (c : Copy) (hs : List Hop) → first_copy_on f.carried l ≡ Some c →
     IsPath n n.source hs l → PassesHops t hs → t ≤ c.ttl + length hs
 
--- what a LAN's only copy of a clean flight is stays its first copy
+-- the only copy of a LAN in a clean flight stays its first copy
 first_copy_on-after_growth : (f g : Flight) (n : Net) (b : Copy) (l : ℕ) → IsClean f → StepGrows n f g →
     In b f.carried → b.lan ≡ l → first_copy_on g.carried l ≡ Some b
 first_copy_on-after_growth f g n b l clean grows b_in lan =
@@ -294,7 +294,7 @@ have_least_ranks-step n t f inv level l c hs on path p = elim (carried_or_coming
       omega (arith, lt, high, behind))
 ]
 
--- what a travel of the first waiting copy keeps
+-- what a travel keeps that handles the first waiting copy each time
 abbrev FifoInvariant : Net → ℕ → List ℕ → Flight → Type 0
 FifoInvariant n t numbers f = (numbers ≡ []) × ((s : ℕ) × HasTtlLevel s f) × HaveLeastRanks n t f
 

@@ -13,7 +13,7 @@ use Rattle.mc_theory.proofs.Paths.{need_at_most-from_passes, passes_hops-from_ne
 use Rattle.mc_theory.proofs.ReachedLans.{entry-unique_on_lan}
 use Rattle.mc_theory.proofs.CameByHops.{is_path-from_travel}
 
--- a LAN's ways in a tree have one need
+-- all paths of a tree to one LAN have the same need
 pub reached_with_ttl-iff_need_in_tree : (n : Net) (es : List Entry) (hs : List Hop) (l t : ℕ) → IsTree n es →
     IsPath n n.source hs l → PassesHops 255 hs → 1 ≤ t → t ≤ 255 → IsReachedWithTtl n t l ↔ (need hs ≤ t)
 reached_with_ttl-iff_need_in_tree n es hs l t tree path through low high = (

@@ -27,7 +27,7 @@ sender-not_the_incoming_vif n t out f c r v pairs i c_in row on e =
     s.base_in c_in cc in
     omega (arith, s.ttl, ap (λ (x : Copy). x.ttl) copy)
 
--- entries of one LAN are one
+-- entries of one LAN are equal
 pub entry-unique_on_lan : (n : Net) (es : List Entry) (d e : Entry) → IsTree n es → In d es → In e es →
     d.lan ≡ e.lan → d ≡ e
 entry-unique_on_lan n es d e tree h k q = equal-from_same_image (λ (e : Entry). e.lan) d e es tree.one_entry h k q

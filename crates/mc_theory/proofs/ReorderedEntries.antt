@@ -1,4 +1,4 @@
--- The order of entries is of no account.
+-- The order of entries doesn't matter.
 use Rattle.std.proofs.Common.{◌≡◌, ℕ, zero, suc, ◌+◌, ◌<◌, inl, inr, Bool, true, false, cond}
 use Rattle.std.proofs.Common.{◌==◌, List, [], ◌∷◌, map, length, Contains, slice_index_or, refl}
 use Rattle.std.proofs.Common.{sym, ◌∙◌, arith}

@@ -43,7 +43,7 @@ pub record SentByInterface (n : Net) (f : Flight) (c : Copy) (r v : ℕ) : Type 
   pub onto : n.placed r v ≡ Some c.lan
   pub gone : In (r, incoming) (waiting_interfaces f) → ⊥
 
--- what the pair (k, h) of r sends for TTL t stands in the carried copies
+-- what the pair (k, h) of r sends for TTL t is among the carried copies
 abbrev pub Sends : Net → List Copy → ℕ → ℕ → ℕ → Type 0
 Sends n cs r t k = (d : Copy) × In d cs × (n.placed r k ≡ Some d.lan) × (d.sender ≡ Some (r, k)) ×
     (d.ttl + 1 ≡ t)
@@ -69,7 +69,7 @@ pub record RunInvariant (n : Net) (t : ℕ) (out : List Interface) (f : Flight) 
 
 -- ---- who hears a copy
 
--- interfaces with the same parts are one
+-- interfaces with the same parts are equal
 pub interface_equal-from_parts : (i j : Interface) → i.0 ≡ j.0 → i.1 ≡ j.1 → i ≡ j
 interface_equal-from_parts i j p q = let pair : ℕ → ℕ → Interface = λ a b. (a, b) in ap₂ pair p q
 
@@ -133,7 +133,7 @@ lans-put n c f = map-append' (λ (c : Copy). c.lan) f.carried (c ∷ [])
 some_injective : (a b : ℕ) → Some a ≡ Some b → a ≡ b
 some_injective a b e = cc
 
--- a place that waits after the put waited before, or is on the new copy's LAN
+-- an interface that waits after the put waited before, or is on the new copy's LAN
 waiting_interfaces-put_cases : (n : Net) (c : Copy) (f : Flight) (i : Interface) → In i (waiting_interfaces (put n c f)) →
     In i (waiting_interfaces f) ⊎ (n.placed i.0 i.1 ≡ Some c.lan)
 waiting_interfaces-put_cases n c f i h = elim (in-append_cases i (waiting_interfaces f) (hearers n c)
@@ -153,7 +153,7 @@ waiting_interfaces-put_new : (n : Net) (c : Copy) (f : Flight) (i : Interface) �
 waiting_interfaces-put_new n c f i h = subst (λ is. In i is) (sym (waiting_interfaces-put n c f))
     (in-append_right i (waiting_interfaces f) (hearers n c) h)
 
--- a base's incoming interface is on another LAN than a new copy
+-- the incoming interface of what a copy was sent on from is on another LAN than a new copy
 pub not_waiting-put : (n : Net) (c : Copy) (f : Flight) (b : Copy) (r v : ℕ) → In b f.carried →
     (In c.lan (lans f.carried) → ⊥) → n.placed r v ≡ Some b.lan → (In (r, v) (waiting_interfaces f) → ⊥) →
     In (r, v) (waiting_interfaces (put n c f)) → ⊥
@@ -163,7 +163,8 @@ not_waiting-put n c f b r v b_in new on gone h = elim (waiting_interfaces-put_ca
       (in-map (λ (c : Copy). c.lan) b f.carried b_in))
 ]
 
--- what was sent was so in another flight too that has its base and in which nothing waits there
+-- what was sent in one flight was sent in another, too, that has what it was sent on from and in which
+-- nothing waits there
 pub sent_by_interface-in_other_flight : (n : Net) (f g : Flight) (c : Copy) (r v : ℕ) → (s : SentByInterface n f c r v) →
     In s.base g.carried → (In (r, s.incoming) (waiting_interfaces g) → ⊥) → SentByInterface n g c r v
 sent_by_interface-in_other_flight n f g c r v s base_in gone = record {

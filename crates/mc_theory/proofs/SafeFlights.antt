@@ -1,4 +1,4 @@
--- Under a certificate each step is clean, and each copy is where its LAN's entry says.
+-- Under a certificate each step is clean, and each copy is as its LAN's entry says.
 use Rattle.std.proofs.Common.{◌≡◌, ℕ, ◌+◌, ◌-◌, ◌<◌, ◌≤◌, inl, inr, Bool, true, false, cond, ◌==◌}
 use Rattle.std.proofs.Common.{nat_lt, List, [], ◌∷◌, length, slice_get, Option, Some, None, IsSome}
 use Rattle.std.proofs.Common.{refl, ap, sym, ◌∙◌, subst, arith, eqb-true, ltb-true}
@@ -14,7 +14,7 @@ use Rattle.mc_theory.proofs.RunInvariant.{RunInvariant}
 use Rattle.mc_theory.proofs.StepInvariant.{run_invariant-start, run_invariant-without, SendingInvariant, sending_invariant-start, sending_invariant-put, copy_sent_by}
 use Rattle.mc_theory.proofs.StepInvariant.{run_invariant-send, run_invariant-step, run_invariant-loss, slice_get-none}
 
--- each carried copy is where its LAN's entry says
+-- each carried copy is as its LAN's entry says
 abbrev pub CopiesFitEntries : List Entry → ℕ → Flight → Type 0
 CopiesFitEntries es t f = (c : Copy) → In c f.carried → (e : Entry) × In e es × FitsEntry t e c
 
@@ -22,7 +22,7 @@ is_some-not_none : {A : Type 0} (o : Option A) → IsSome o → o ≡ None → �
 is_some-not_none None h e = absurd cc
 is_some-not_none (Some x) h e = absurd cc
 
--- a base's entry feeds by each pair that sends
+-- the entry of the LAN that a row takes from feeds by each pair that sends
 pub feeds-from_sent_pair : (n : Net) (t : ℕ) (out : List Interface) (r v s : ℕ) (all : List (ℕ × ℕ))
     (b : Copy) (p : ℕ × ℕ) (ps : List (ℕ × ℕ)) (f : Flight) (e : Entry) → t ≤ 255 →
     SendingInvariant n t out r v s all b (p ∷ ps) f → FitsEntry t e b → p.1 < s → Feeds n e r p.0 p.1

@@ -133,7 +133,7 @@ earlier_copy-of_first_double cs c d =
     let here = subst (λ xs. first_copy_on xs a.0.lan ≡ Some a.0) (sym d.split) stays in
     (a.0, subst (λ l. first_copy_on cs l ≡ Some a.0) a.2 here, a.1)
 
--- their senders are two
+-- their senders differ
 pub first_and_double-other_senders : (cs : List Copy) (c a : Copy) → Distinct (senders cs) → IsFirstDouble cs c →
     first_copy_on cs c.lan ≡ Some a → a.sender ≢ c.sender
 first_and_double-other_senders cs c a once d on e =
@@ -173,7 +173,7 @@ is_spare_interface-exists n count t numbers last is x c travel d =
     let path = came_by_hops n count t numbers last is x a.0 travel (in-first_copy_on cs c.lan a.0 a.1) in
     (i.0, path.0, record { first_double = d; sender = i.1; first = a.0; first_on = a.1; came_by_hops = path.1 })
 
--- ---- hops that stand without the interface
+-- ---- hops that are left without the interface
 
 row_without_vif-keeps_pair : (i : Interface) (r v h incoming : ℕ) (pairs : List (ℕ × ℕ)) (row : Row) (test : Bool) →
     (r == i.0) ≡ test → ◌≢◌ {A = Interface} (r, v) i → row ≡ Exact incoming pairs →
@@ -204,8 +204,7 @@ is_hop-take_out n i h other hop =
       sends = hop.sends;
     }
 
--- A first copy's way stands, where interface i is placed on LAN l, whose first copy a it didn't
--- send.
+-- A first copy's path is left, where interface i is placed on LAN l, whose first copy a it didn't send.
 is_path-take_out : (n : Net) (i : Interface) (l m : ℕ) (cs : List Copy) (a b : Copy) (hs : List Hop) →
     n.placed i.0 i.1 ≡ Some l → first_copy_on cs l ≡ Some a → a.sender ≢ Some i →
     first_copy_on cs b.lan ≡ Some b → CameByHops n cs b hs → IsPath n n.source hs m →
@@ -227,17 +226,17 @@ is_path-take_out n i l m cs a b (h ∷ hs) on first other b_on came_by_hops path
           path.2,
     )
 
--- ---- another way
+-- ---- another path
 
--- js serves as ks does, to which a hop can be added
+-- js can replace ks, at whose front a hop can be added
 abbrev IsClosedUnderHops : (List Hop → List Hop → Type 0) → Type 0
 IsClosedUnderHops R = R [] [] × ((k : Hop) (ks js : List Hop) → R ks js → R (k ∷ ks) (k ∷ js))
 
--- a way without i to LAN m that serves as this one does
+-- a path without i to LAN m that can replace this one
 abbrev pub HasPathWithout : Net → Interface → (List Hop → List Hop → Type 0) → List Hop → ℕ → Type 0
 HasPathWithout n i R ks m = (js : List Hop) × IsPath (take_out i n) n.source js m × R ks js
 
--- a way to LAN l that serves as each other does
+-- a path to LAN l that can replace each other one
 abbrev HasBestPathWithout : Net → Interface → (List Hop → List Hop → Type 0) → ℕ → Type 0
 HasBestPathWithout n i R l = (n.placed i.0 i.1 ≡ Some l) × ((hs : List Hop) ×
     IsPath (take_out i n) n.source hs l ×
@@ -271,7 +270,7 @@ path_without-any n i R l serves best (k ∷ ks) m path = path_without-hop n i R 
 
 -- ---- the remedy
 
--- the way of the first copy stands without the double copy's sender
+-- the path of the first copy is left without the double copy's sender
 pub is_path-without_spare : (n : Net) (count t : ℕ) (numbers : List ℕ) (last : Bool) (is : List ℕ) (x : Finding)
     (c : Copy) (i : Interface) (hs : List Hop) → IsNet n →
     IsTravel n count numbers last is (start n t) x →
@@ -293,7 +292,7 @@ is_path-without_spare n count t numbers last is x c i hs net travel s =
           (subst (IsPath n n.source hs) lan path.0),
     )
 
--- instead of each way there is one without it
+-- instead of each path there is one without the interface
 pub path_without-spare : (n : Net) (count t : ℕ) (numbers : List ℕ) (last : Bool) (is : List ℕ)
     (x : Finding) (c : Copy) (i : Interface) (hs : List Hop) → IsNet n →
     IsTravel n count numbers last is (start n t) x →
@@ -314,7 +313,7 @@ as_good_path-more t k ks js good p =
     let lt = p.0 in
     ((omega (arith, le, lt), j.0), omega (arith, le))
 
--- the first copy's way is as good as any
+-- the first copy's path is as good as any
 as_good_path-of_first_copy : (n : Net) (count high : ℕ) (is : List ℕ) (x : Finding) (c : Copy) (i : Interface)
     (hs : List Hop) (t : ℕ) → IsNet n → IsTravel n count [] false is (start n high) x →
     IsSpareInterface n (run n (handles is) (start n high)) c i hs → need hs ≤ t → t ≤ high →
@@ -329,7 +328,7 @@ as_good_path-of_first_copy n count high is x c i hs t net travel s least le ks p
     (passes_hops-from_need high ks (omega (arith, needed, le))) in
     (passes_hops-from_need t hs least, omega (arith, ttl, rank))
 
--- and one that is as good, if the first copy was the first by its rank, too
+-- and one that is as good, if the first copy has the least rank, too
 pub path_without-as_good : (n : Net) (count high : ℕ) (is : List ℕ) (x : Finding) (c : Copy)
     (i : Interface) (hs : List Hop) (t : ℕ) → IsNet n →
     IsTravel n count [] false is (start n high) x →

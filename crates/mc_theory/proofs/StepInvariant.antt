@@ -139,7 +139,7 @@ pub record SendingInvariant (n : Net) (t : ℕ) (out : List Interface) (r v s : 
   pub fresh : (c : Copy) (k : ℕ) → In c f.carried → c.sender ≡ Some (r, k) →
       In k (map (λ (p : ℕ × ℕ). p.0) ps) → ⊥
 
--- a pair that is passed over
+-- a pair that sends nothing
 pub sending_invariant-skip_pair : (n : Net) (t : ℕ) (out : List Interface) (r v s : ℕ) (all : List (ℕ × ℕ)) (b : Copy)
     (p : ℕ × ℕ) (ps : List (ℕ × ℕ)) (f : Flight) → SendingInvariant n t out r v s all b (p ∷ ps) f →
     SendingInvariant n t out r v s all b ps f
@@ -258,7 +258,7 @@ pub in_carried-sends : (n : Net) (r s : ℕ) (ps : List (ℕ × ℕ)) (f : Fligh
 in_carried-sends n r s [] f d h = h
 in_carried-sends n r s (p ∷ ps) f d h = in_carried-sends n r s ps (send n r s p f) d (in_carried-send n r s p f d h)
 
--- one pair, in a clean flight: the rest may go on, and what it sends stands
+-- one pair, in a clean flight: the rest may go on, and what it sends stays carried
 run_invariant-leave : (n : Net) (t : ℕ) (out : List Interface) (r v s : ℕ) (all : List (ℕ × ℕ)) (b : Copy)
     (p : ℕ × ℕ) (ps : List (ℕ × ℕ)) (f : Flight) (o : Option ℕ) → IsNet n →
     SendingInvariant n t out r v s all b (p ∷ ps) f → p.1 < s → n.placed r p.0 ≡ o →

@@ -135,7 +135,7 @@ missed-some n cs [] l h = absurd cc
 missed-some n cs (x ∷ ls) l h = missed-some_step n cs x ls l (n.wants x) (is_some (first_copy_on cs x))
     refl refl h (missed-some n cs ls l)
 
--- ---- what findings say
+-- ---- what findings mean
 
 -- no finding: clean, and something waits
 pub finding-none : (n : Net) (count : ℕ) (f : Flight) → finding n count f ≡ None →
@@ -299,7 +299,7 @@ length_bounded-travel_step n count k numbers last (i ∷ is) f x c le h =
     (handled_count-step n k i f lt c) (omega (arith, c, b, some.1)) h.2 in
     omega (arith, ih)
 
--- a travel under way: a next event is one of those, too
+-- an unfinished travel: its next event is one of those, too
 length_bounded-travel_so_far_step : (n : Net) (count k : ℕ) (numbers : List ℕ) (last : Bool) (is : List ℕ)
     (f : Flight) → HandledCountIs n k f → k ≤ length (placed_interfaces n) →
     IsTravelUnfinished n count numbers last is f → k + length is ≤ length (placed_interfaces n)
@@ -359,7 +359,7 @@ is-clean (Loop l) h = absurd (h (λ e. cc))
 is-clean (Stray r v) h = absurd (h (λ e. cc))
 is-clean (Missed l) h = absurd (h (λ e. cc))
 
--- under a tree the needs tell the finding at the flow's TTL
+-- under a tree the needs decide the finding at the flow's TTL
 pub is_clean-iff_served : (n : Net) (count : ℕ) (es : List Entry) (numbers : List ℕ) (last : Bool)
     (is : List ℕ) (x : Finding) → IsNet n → WantsBelow n count → 1 ≤ n.ttl → n.ttl ≤ 255 →
     IsTree n es → IsTravel n count numbers last is (start n n.ttl) x → (x ≡ Clean) ↔ IsServed n es

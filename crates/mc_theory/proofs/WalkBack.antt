@@ -17,12 +17,12 @@ use Rattle.mc_theory.proofs.CertificateOfRun.{first_copy_on-of_member}
 use Rattle.mc_theory.proofs.CopyAndStepBounds.{total-at_most_of_superset, total-of_ones}
 use Rattle.mc_theory.proofs.Travels.{finding-none}
 
--- the copy's base is its LAN's first copy
+-- the copy was sent on from a LAN's first copy
 abbrev pub IsSentOnFromFirst : Net → List Copy → Copy → Type 0
 IsSentOnFromFirst n cs c = (i : Interface) → c.sender ≡ Some i →
     (b : Copy) × (first_copy_on cs b.lan ≡ Some b) × IsSentOn n b c i
 
--- each copy of a flight has such a base, and no more than TTL t
+-- each copy of a flight was sent on from such a copy, and has at most TTL t
 pub record IsRooted (n : Net) (t : ℕ) (cs : List Copy) : Type 0 where
   pub base : (c : Copy) → In c cs → IsSentOnFromFirst n cs c
   pub low : (c : Copy) → In c cs → c.ttl ≤ t
@@ -93,7 +93,7 @@ is_rooted-start n t = record {
 
 -- ---- in rooted copies walks end
 
--- The walk back from c: its copies, all of the carried ones, each once and with a greater TTL.
+-- The walk back from c: its copies are carried ones, each with a greater TTL than the one before.
 pub record WalkOfCopy (n : Net) (cs : List Copy) (c : Copy) : Type 0 where
   pub walk : List Copy
   pub back : IsWalkBack n cs c walk
@@ -139,7 +139,7 @@ walk_of_copy-by_ttl n t zero cs c e r c_in = walk_of_copy-by_sender n t zero cs 
 walk_of_copy-by_ttl n t (suc k) cs c e r c_in = walk_of_copy-by_sender n t (suc k) cs c c.sender refl e r c_in
     (λ b b_in q. walk_of_copy-by_ttl n t k cs b (omega (arith, q, e)) r b_in)
 
--- the walk is shorter than the carried copies
+-- the walk has fewer copies than were carried
 walk-fewer_than_copies : (n : Net) (cs : List Copy) (c : Copy) → In c cs → (w : WalkOfCopy n cs c) →
     length w.walk < length cs
 walk-fewer_than_copies n cs c c_in w =
@@ -150,7 +150,7 @@ walk-fewer_than_copies n cs c c_in w =
     let all = total-of_ones cs in
     omega (arith, h, one, all)
 
--- ---- and meets tells what they come by
+-- ---- `walk_visits` decides which LANs they pass
 
 first_sender_on_step : (c : Copy) (cs : List Copy) (l : ℕ) (b : Copy) (test : Bool) →
     cond test (Some c) (first_copy_on cs l) ≡ Some b → (first_copy_on cs l ≡ Some b → sender_on cs l ≡ b.sender)

@@ -20,7 +20,7 @@ row_pairs (Exact incoming pairs) = pairs
 row_pairs Open = []
 row_pairs NoRow = []
 
--- what a copy needs that comes of this entry's LAN, over a pair with this threshold
+-- what a copy needs that comes from this entry's LAN over a pair with this threshold
 abbrev pub need_over : ℕ → Option Entry → ℕ
 need_over threshold None = 1
 need_over threshold (Some p) = max p.need (p.rank + threshold + 1)

@@ -6,7 +6,8 @@ use Rattle.mc_theory.specs.Nets.{Net}
 use Rattle.mc_theory.specs.Flights.{Flight, Pick, copy_count_on, start, run, InRange, IsLossless, EveryRun}
 use Rattle.mc_theory.specs.Flights.Pick.{Handles}
 
--- It is kept by the flight f that the picks ps end with, where the certificate names so many LANs.
+-- The promise is kept by the flight f that the picks ps end with, where the certificate names so many
+-- LANs.
 pub record PromiseHolds (n : Net) (named : ℕ) (ps : List Pick) (f : Flight) : Type 0 where
   -- no LAN carries two copies (the source's copy is one)
   pub no_two_copies : (l : ℕ) → copy_count_on f.carried l ≤ 1
@@ -18,8 +19,8 @@ pub record PromiseHolds (n : Net) (named : ℕ) (ps : List Pick) (f : Flight) : 
   pub each_wanting_one : IsLossless ps → f.waiting ≡ [] →
       (l : ℕ) → n.wants l ≡ true → copy_count_on f.carried l ≡ 1
 
--- It is kept for every packet sent with at least the flow's TTL, and every order in which routers
--- handle copies.
+-- The promise is kept for every packet sent with at least the flow's TTL, and every order in which
+-- routers handle copies.
 abbrev pub HeadlineHolds : Net → ℕ → Type 0
 HeadlineHolds n named = EveryRun n n.ttl (λ t ps f. PromiseHolds n named ps f)
 

@@ -32,45 +32,45 @@ pub fn the_headline_in_counts()
         → EveryHandledFlight n (λ f. length (filter (λ c. c.lan == l) f.carried) ≡ 1) }
 {}
 
-/// The line, r1 from l0 to l1 and r2 on to l2, where a host listens, keeps the headline at TTL 3.
+/// The line, where r1 forwards from l0 to l1 and r2 on to l2, keeps the headline at TTL 3.
 pub fn the_line_is_right()
-    // its packet's travel: l0, l1 and l2 carry one copy each, with TTL 3, 2 and 1
+    // l0, l1 and l2 carry one copy each, with TTL 3, 2 and 1.
     ensures travel { run (line 3) (Handles 0 ∷ Handles 0 ∷ []) (start (line 3) 3) ≡ line_end }
     ensures headline_holds { HeadlineHolds (line 3) 3 }
     ensures right { IsRight (line 3) }
-    // with a certificate that named one LAN less it would not
+    // A certificate that names one LAN less allows too few copies.
     ensures too_few_named { HeadlineHolds (line 3) 2 → ⊥ }
-    // each copy is handled at the four interfaces at most: a fifth step is one too many
+    // Copies are handled at the four interfaces at most: a fifth step is one too many.
     ensures one_step_too_many { (i j k l m : ℕ) (f : Flight) → IsSafe (line 3) line_entries 3
         (Handles i ∷ Handles j ∷ Handles k ∷ Handles l ∷ Handles m ∷ []) f → ⊥ }
 {}
 
-/// With a TTL of 2 r2 doesn't send on: 1 isn't greater than its threshold 1, and l2 isn't served.
+/// With a TTL of 2 r2 doesn't send on, since 1 isn't greater than its threshold 1, and l2 isn't served.
 pub fn unserved_lan_is_wrong()
     ensures headline_broken { (named : ℕ) → HeadlineHolds (line 2) named → ⊥ }
     ensures not_right { IsRight (line 2) → ⊥ }
 {}
 
-/// A copy that leaves the known domain: by a vif without a LAN, or at a row that isn't followed.
+/// A copy leaves the known domain by a vif without a LAN, or at a row that isn't followed.
 pub fn stray_copy_is_wrong()
     ensures headline_broken { (named : ℕ) → HeadlineHolds line_with_a_leak named → ⊥ }
     ensures not_right { IsRight line_with_a_leak → ⊥ }
-    // r2's row for every source isn't followed: the copy strays at the vif that it came in by
+    // r2's row for every source isn't followed: the copy strays at the vif that it came in by.
     ensures open_row { (run line_with_an_open_row (Handles 0 ∷ Handles 0 ∷ [])
         (start line_with_an_open_row 3)).strays ≡ (1, 0) ∷ [] }
     ensures open_row_headline_broken { (named : ℕ) → HeadlineHolds line_with_an_open_row named → ⊥ }
 {}
 
-/// A LAN that is served twice: by the diamond's two ways, or by a row that sends back.
+/// A LAN is served twice by the diamond's two paths, or by a row that sends back.
 pub fn twice_served_lan_is_wrong()
-    // the diamond is right as long as one of its ways is closed
+    // The diamond is right as long as one of its paths is closed.
     ensures headline_holds { HeadlineHolds diamond 4 }
-    // r3 and r4 send on l3, hear each other there, and don't forward what comes by that vif
+    // r3 and r4 send on l3, hear each other there, and don't forward what comes by that vif.
     ensures travel { run closed_diamond (map Handles (0 ∷ 0 ∷ 0 ∷ 0 ∷ 0 ∷ 0 ∷ []))
         (start closed_diamond 4) ≡ closed_diamond_end }
     ensures headline_broken { (named : ℕ) → HeadlineHolds closed_diamond named → ⊥ }
     ensures not_right { IsRight closed_diamond → ⊥ }
-    // two copies are too many before the rest of the flight is over, too
+    // Two copies are too many before the rest of the flight is over, too.
     ensures broken_in_flight { (named : ℕ) → HeadlineHolds line_that_sends_back named → ⊥ }
 {}
 

@@ -1,4 +1,4 @@
--- By the two laws above.
+-- By the laws of its two directions.
 use Rattle.mc_theory.proofs.CompleteRuns.{is_accepted-from_right}
 use Rattle.mc_theory.proofs.ReachedLans.{is_right-from_accepted}
 use Rattle.mc_theory.proofs.certificate_laws.certificate_exists_iff_flow_is_right.Goals

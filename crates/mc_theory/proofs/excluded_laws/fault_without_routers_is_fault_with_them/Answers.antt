@@ -1,4 +1,4 @@
--- By the run of the whole that goes alongside.
+-- By the corresponding run of the whole net.
 use Rattle.mc_theory.proofs.ExcludedRouters.{not_right-from_unclean_run, not_right-from_unclean_travel}
 use Rattle.mc_theory.proofs.excluded_laws.fault_without_routers_is_fault_with_them.Goals as goal
 

@@ -1,4 +1,4 @@
--- Since there are fewer than carried copies.
+-- Since there are fewer hops than carried copies.
 use Rattle.mc_theory.proofs.Hops.{came_by_hops-hops_back, hops_until-travel, came_from_lan-hops_until, hops_back-came_by_hops, hops_until-came_from_lan}
 use Rattle.mc_theory.proofs.hop_laws.hops_are_found_one_by_one.Goals as goal
 

@@ -1,4 +1,4 @@
--- By the walk back that the finding tells.
+-- By the walk back that the finding names.
 use Rattle.mc_theory.proofs.Hops.{came_from_lan-from_loop, is_path-from_came_from_lan, hops_from_lan-within_all_hops}
 use Rattle.mc_theory.proofs.hop_laws.loop_copy_came_from_its_own_lan.Goals as goal
 

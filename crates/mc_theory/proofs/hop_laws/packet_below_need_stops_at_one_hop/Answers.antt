@@ -1,4 +1,4 @@
--- By the hops in order: two by which it is stopped are one, since it gets through by those before.
+-- By the hops in order: it is stopped at one only, since it gets through by those before.
 use Rattle.mc_theory.proofs.StoppingHop.{is_stopped-from_need_above, need_above-from_stopped, is_stopped-unique}
 use Rattle.mc_theory.proofs.hop_laws.packet_below_need_stops_at_one_hop.Goals as goal
 

@@ -1,4 +1,4 @@
--- By the way down the tree, and by the entries along any way.
+-- By the path down the tree, and by the entries along any path.
 use Rattle.std.proofs.Common.{refl, ap, arith}
 use Rattle.mc_theory.specs.Certificates.{Entry}
 use Rattle.mc_theory.proofs.Paths.{need_at_most-from_passes, passes_hops-from_need, entry-at_path_end, path_to_entry-by_rank}

@@ -1,4 +1,4 @@
--- A way that uses the interface goes on from where the first copy came.
+-- A path that uses the interface can go by the first copy's path instead.
 use Rattle.mc_theory.specs.Paths.{take_out}
 use Rattle.mc_theory.proofs.Paths.{reached_with_ttl-from_carried}
 use Rattle.mc_theory.proofs.EachHearerForwards.{carried-from_path}

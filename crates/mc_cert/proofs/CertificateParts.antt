@@ -18,7 +18,7 @@ use Rattle.mc_topology.specs.Names.{index_of}
 use Rattle.mc_topology.specs.SectionRows.{RouterRow}
 use Rattle.mc_topology.specs.Lookup.{router_no_of}
 use Rattle.mc_topology.specs.Topology.{TopologyValue}
-use Rattle.mc_topology.proofs.Steps.{bind_ok, test_ok, ok_or_ok, ok_is}
+use Rattle.mc_topology.proofs.Steps.{bind_ok, test_ok, ok_or_ok, ok_injective}
 use Rattle.mc_cert.specs.declared.fault.At.{At}
 use Rattle.mc_cert.specs.declared.fault.At.TheVariants as at
 use Rattle.mc_cert.specs.declared.fault.CertFaultKind.{CertFaultKind}
@@ -57,7 +57,7 @@ module _ {X : Type 0} (one : ℕ → Data → Result X CertFault) (Denotation : 
       → (earlier : List X) (ds : List Data) (xs : List X) → each one earlier ds ≡ Ok xs
       → (ys : List X) × (xs ≡ earlier ++ ys) × EachDenotes Denotation (length earlier) ds ys
   unfolding each
-  each-denotes takes earlier [] xs e = ([], sym (ok_is earlier xs e) ∙ sym (append-nil earlier), tt)
+  each-denotes takes earlier [] xs e = ([], sym (ok_injective earlier xs e) ∙ sym (append-nil earlier), tt)
   each-denotes takes earlier (d ∷ ds) xs e =
       let a = bind_ok (one (length earlier) d) (λ x. each one (earlier ++ x ∷ []) ds) xs e in
       let (ys, is, denoted) = each-denotes takes (earlier ++ a.0 ∷ []) ds xs a.2 in (
@@ -129,7 +129,7 @@ forwarder_of-denotes : (routers : List RouterRow) (router vif : Option Data)
     (forwarder : Option Interface) → forwarder_of routers router vif ≡ Ok forwarder
     → DenotesForwarder routers router vif forwarder
 unfolding forwarder_of
-forwarder_of-denotes routers None None forwarder e = sym (ok_is None forwarder e)
+forwarder_of-denotes routers None None forwarder e = sym (ok_injective None forwarder e)
 forwarder_of-denotes routers None (Some v) forwarder e = absurd cc
 forwarder_of-denotes routers (Some d) None forwarder e =
     let a = bind_ok (router_of routers d) (λ _. Err MissingKey) forwarder e in
@@ -141,7 +141,7 @@ forwarder_of-denotes routers (Some d) (Some v) forwarder e =
     let (name, text, router) = router_of-denotes routers d a.0 a.1 in
     let (vif, vif_to) = vif_of-denotes v b.0 b.1 in (
       (a.0, b.0),
-      sym (ok_is (Some (a.0, b.0)) forwarder b.2),
+      sym (ok_injective (Some (a.0, b.0)) forwarder b.2),
       record { name = name; router_text = text; router = router; vif = vif; vif_to = vif_to },
     )
 
@@ -185,7 +185,7 @@ entry_of-denotes t d e read =
       forwarder =
           forwarder.0;
     } in
-    subst (DenotesEntry t d) (ok_is made e forwarder.2)
+    subst (DenotesEntry t d) (ok_injective made e forwarder.2)
     (record {
       members = o.0;
       lan_name = name.0;
@@ -350,7 +350,7 @@ below_count-sound : (count : ℕ) (o : Option ℕ) (n : ℕ) → below_count cou
 below_count-sound count None n e = absurd cc
 below_count-sound count (Some m) n e =
     let t = test_ok (nat_lt m count) BadNumber (Ok m) n e in
-    let same : m ≡ n = ok_is m n t.1 in
+    let same : m ≡ n = ok_injective m n t.1 in
     (ap Some same, subst (λ k. k < count) same (ltb-true m count t.0))
 
 -- what is read of a flow that names a tree
@@ -377,7 +377,7 @@ NamesTree-from_shared_flow_of t trees n d m e =
     let b = bind_ok (below_count trees (as_u64 num.0)) _ m num.2 in
     let t' = test_ok (are_texts_of_flow f.0 group.0 source.0) WrongFlows (Ok b.0) m b.2 in
     let (is_group, is_source) = are_texts_of_flow-sound f.0 group.0 source.0 t'.0 in
-    let same : b.0 ≡ m = ok_is b.0 m t'.1 in
+    let same : b.0 ≡ m = ok_injective b.0 m t'.1 in
     let (whole, lt) = below_count-sound trees (as_u64 num.0) b.0 b.1 in
     record {
       flow = f.0;

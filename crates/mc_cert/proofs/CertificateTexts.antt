@@ -13,7 +13,7 @@ use Rattle.serde_json.specs.Data.{Data, unsigned, number, Members}
 use Rattle.serde_json.specs.Find.{as_object, as_u64}
 use Rattle.serde_json.specs.Read.{read}
 use Rattle.mc_topology.specs.Topology.{TopologyValue}
-use Rattle.mc_topology.proofs.Steps.{bind_ok, test_ok, ok_or_ok, ok_is}
+use Rattle.mc_topology.proofs.Steps.{bind_ok, test_ok, ok_or_ok, ok_injective}
 use Rattle.mc_cert.specs.declared.fault.At.TheVariants.{Top}
 use Rattle.mc_cert.specs.declared.fault.CertFaultKind.TheVariants.{NotJson, BadVersion, UnknownKey}
 use Rattle.mc_cert.specs.declared.fault.CertFaultKind.TheVariants.{BadKind, WrongFlows, TooMany}
@@ -34,7 +34,7 @@ use Rattle.mc_cert.proofs.Fields.{object-from_as_object, unsigned-from_as_u64, H
 use Rattle.mc_cert.proofs.Fields.{HasRows-from_list_at, list_at-from_HasRows, at_most-sound, at_most-complete}
 use Rattle.mc_cert.proofs.Fields.{IsObject-from_object_of, object_of-from_IsObject}
 use Rattle.mc_cert.proofs.StoredTrees.{slice_get-unwrap_or}
-use Rattle.mc_cert.proofs.CertificateParts.{place_ok, each-denotes_all, list_or_empty-from_AreRows, All-from_EachDenotes}
+use Rattle.mc_cert.proofs.CertificateParts.{place_ok, each-denotes_all, each-from_denotes_all, All-from_EachDenotes}
 use Rattle.mc_cert.proofs.CertificateParts.{IsWritableTree-from_denotes, flow_of-denotes, flow_of-from_denotes, tree_of-denotes, tree_of-from_denotes}
 use Rattle.mc_cert.proofs.CertificateParts.{NamesTree, NamesTree-from_shared_flow_of, shared_flow_of-from_NamesTree}
 
@@ -47,7 +47,7 @@ HasRows-from_flow_rows t ms rows e =
     let a = bind_ok (list_at (codes "flows") ms)
     (λ rs. cond (eqb (length rs) (length t.flows)) (Ok rs) (Err WrongFlows)) rows e in
     let c = test_ok (eqb (length a.0) (length t.flows)) WrongFlows (Ok a.0) rows a.2 in
-    let same : a.0 ≡ rows = ok_is a.0 rows c.1 in
+    let same : a.0 ≡ rows = ok_injective a.0 rows c.1 in
     subst (λ (rs : List Data). HasRows (codes "flows") ms rs × (length rs ≡ length t.flows)) same
     (HasRows-from_list_at (codes "flows") ms a.0 a.1, eqb-true _ _ c.0)
 
@@ -78,7 +78,7 @@ flows_in-from_denotes : (t : TopologyValue) (ms : Members) (flows : List Tree) �
 unfolding flows_in
 flows_in-from_denotes t ms flows is =
     rw (flow_rows-from_HasRows t ms is.rows is.list is.count)
-    (list_or_empty-from_AreRows (flow_of t) (DenotesFlow t) (flow_of-from_denotes t) is.rows flows is.each)
+    (each-from_denotes_all (flow_of t) (DenotesFlow t) (flow_of-from_denotes t) is.rows flows is.each)
 
 -- the lists that are read keep to their rules
 pub IsWritableTree-from_flow_rows : (t : TopologyValue) (rows : List Data) (flows : List Tree)
@@ -181,7 +181,7 @@ shared_flows_in-denotes t ms flows e =
       few_trees = few;
       each_tree = each-denotes_all (tree_of t) (λ _. DenotesTree t) (tree_of-denotes t) l.0 trees.0 trees.1;
       each = subst (λ (xs : List Tree). EachDenotes (DenotesSharedFlow t trees.0) 0 r.0 xs)
-          (ok_is (map (tree_at trees.0) numbers.0) flows numbers.2)
+          (ok_injective (map (tree_at trees.0) numbers.0) flows numbers.2)
           (EachDenotes-from_NamesTree t trees.0 0 r.0 numbers.0 named);
     }
 
@@ -193,9 +193,9 @@ shared_flows_in-from_denotes t ms flows is =
     rw (
       flow_rows-from_HasRows t ms is.rows is.list is.count,
       tree_rows-from_HasRows ms is.tree_rows is.tree_list is.few_trees,
-      list_or_empty-from_AreRows (tree_of t) (λ _. DenotesTree t) (tree_of-from_denotes t) is.tree_rows is.trees
+      each-from_denotes_all (tree_of t) (λ _. DenotesTree t) (tree_of-from_denotes t) is.tree_rows is.trees
           is.each_tree,
-      list_or_empty-from_AreRows (shared_flow_of t (length is.trees))
+      each-from_denotes_all (shared_flow_of t (length is.trees))
           (NamesTree t (length is.trees)) (shared_flow_of-from_NamesTree t (length is.trees)) is.rows
           numbers named,
     )
@@ -242,7 +242,7 @@ HasNumber-from_version_in ms version e =
     let n = bind_ok (number_at (codes "version") ms) _ version e in
     let v = bind_ok (version_of (as_u64 n.0)) _ version n.2 in
     let c = test_ok (has_only (top_keys v.0) ms) UnknownKey (Ok v.0) version v.2 in
-    let same : v.0 ≡ version = ok_is v.0 version c.1 in
+    let same : v.0 ≡ version = ok_injective v.0 version c.1 in
     let whole = unsigned-from_as_u64 n.0 (version_no v.0) (version_no-from_version_of (as_u64 n.0) v.0 v.1) in
     subst (λ (w : Version). HasNumber (codes "version") ms (version_no w)
     × (has_only (top_keys w) ms ≡ true)) same (

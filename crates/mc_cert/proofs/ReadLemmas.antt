@@ -6,7 +6,7 @@ use Rattle.std.proofs.lemmas.Str.{IsUtf8-from_is_utf8}
 use Rattle.std.specs.Prelude.{IfOk, IsUtf8}
 use Rattle.serde_json.specs.Read.{read}
 use Rattle.mc_topology.specs.Topology.{TopologyValue}
-use Rattle.mc_topology.proofs.Steps.{ok_is}
+use Rattle.mc_topology.proofs.Steps.{ok_injective}
 use Rattle.mc_cert.specs.declared.fault.CertFault.{CertFault}
 use Rattle.mc_cert.specs.declared.fault.CertFaultKind.TheVariants.{NotJson}
 use Rattle.mc_cert.specs.Answer.{Gives}
@@ -40,5 +40,5 @@ Gives-from_denotes t text r gives flows is =
 -- a text stands for one certificate at most
 pub DenotesCertificate-unique : (t : TopologyValue) (text : List ℕ) (c d : List Tree)
     → DenotesCertificate t text c → DenotesCertificate t text d → c ≡ d
-DenotesCertificate-unique t text c d is_c is_d = ok_is {E = CertFault} c d
+DenotesCertificate-unique t text c d is_c is_d = ok_injective {E = CertFault} c d
     (sym (parse_certificate-from_denotes t text c is_c) ∙ parse_certificate-from_denotes t text d is_d)

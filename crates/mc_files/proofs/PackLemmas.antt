@@ -9,7 +9,7 @@ use Rattle.std.proofs.lemmas.List.{append-nil, append_assoc, drop_all}
 use Rattle.mc_text.specs.Steps.{◌>>=◌, Gives}
 use Rattle.mc_text.specs.Bundle.{PartText, IsPartName, AreWithinLimits, bundle_spelling}
 use Rattle.mc_text.specs.Bundle.{max_bundle, max_parts}
-use Rattle.mc_topology.proofs.Steps.{bind_ok, test_ok, ok_is}
+use Rattle.mc_topology.proofs.Steps.{bind_ok, test_ok, ok_injective}
 use Rattle.mc_topology.proofs.TopologyTexts.{parse_topology-denotes, parse_topology-from_denotes}
 use Rattle.mc_topology.proofs.Validity.{IsValidTopology-from_denotes}
 use Rattle.mc_topology.specs.Reading.{parse_topology}
@@ -79,7 +79,7 @@ ArePartsAfter-from_parts_after : (files : List FileText) (before : List PartText
 unfolding parts_after
 ArePartsAfter-from_parts_after files before [] parts e = record {
   rest = [];
-  in_order = sym (append-nil before ∙ ok_is before parts e);
+  in_order = sym (append-nil before ∙ ok_injective before parts e);
   packed = tt;
   sizes = tt;
   count = refl;
@@ -226,7 +226,7 @@ IsPacked-from_packed_parts files certified parts e =
       count = all.count;
       size = leb-true (length (bundle_spelling one.0)) max_bundle size.0;
     } in
-    subst (λ (ps : List PartText). IsPacked files certified ps) (ok_is one.0 parts size.1)
+    subst (λ (ps : List PartText). IsPacked files certified ps) (ok_injective one.0 parts size.1)
     (IsPacked-within_limits files certified one.0 one.1 limits)
 
 within_limits-Ok : (b : Bool) (parts : List PartText)
@@ -249,7 +249,7 @@ packed_parts-Ok files certified parts is =
 pub IsPacked-unique : (files : List FileText) (certified : Bool) (ps qs : List PartText)
     → IsPacked files certified ps → IsPacked files certified qs → ps ≡ qs
 IsPacked-unique files certified ps qs p q =
-    ok_is ps qs (sym (packed_parts-Ok files certified ps p) ∙ packed_parts-Ok files certified qs q)
+    ok_injective ps qs (sym (packed_parts-Ok files certified ps p) ∙ packed_parts-Ok files certified qs q)
 
 -- ---- the names of the parts
 

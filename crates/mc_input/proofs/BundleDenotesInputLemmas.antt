@@ -20,7 +20,7 @@ use Rattle.mc_input.specs.InputReading.{named, part_with_slot_name, part_name_fa
 use Rattle.mc_input.specs.InputReading.{input_of_parts, certificate_in}
 use Rattle.mc_input.specs.declared.fault.InputFault.TheVariants.{Parts}
 use Rattle.mc_input.proofs.ReadingLemmas.{drop-slice_get}
-use Rattle.mc_input.proofs.SourceOfPartsLemmas.{IsClosedUnderHops, GivesSlotNames, judged-from_read_input, HasInputParts-from_read_input, read_input-denoted}
+use Rattle.mc_input.proofs.SourceOfPartsLemmas.{Serves, GivesSlotNames, judged-from_read_input, HasInputParts-from_read_input, read_input-denoted}
 
 -- ---- one part
 
@@ -60,7 +60,7 @@ drop-more xs i y ys e =
 
 -- those that are given are the bundle's
 drop-from_Serves : (parts : List PartText) (n : ℕ) (slots : List Slot) (here end : List PartText)
-    → IsClosedUnderHops (part_with_slot_name parts) n slots here end → end ≡ drop (n + length slots) parts
+    → Serves (part_with_slot_name parts) n slots here end → end ≡ drop (n + length slots) parts
     → here ≡ drop n parts
 drop-from_Serves parts n [] here end h is =
     let same : n + 0 ≡ n = omega arith in h ∙ is ∙ ap (λ (k : ℕ). drop k parts) same
@@ -75,7 +75,7 @@ drop-from_Serves parts n (slot ∷ more) (part ∷ here) end h is =
 -- and those with the names of the slots are given for them
 Serves-from_names : (parts : List PartText) (n : ℕ) (slots more : List Slot) (here : List PartText)
     → drop n parts ≡ here → map (λ part. part.name) here ≡ map part_name (slots ++ more)
-    → IsClosedUnderHops (part_with_slot_name parts) n slots here (drop (n + length slots) parts)
+    → Serves (part_with_slot_name parts) n slots here (drop (n + length slots) parts)
 Serves-from_names parts n [] more here e names =
     let same : n ≡ n + 0 = omega arith in sym e ∙ ap (λ (k : ℕ). drop k parts) same
 Serves-from_names parts n (slot ∷ slots) more [] e names = absurd (cc)
@@ -84,7 +84,7 @@ Serves-from_names parts n (slot ∷ slots) more (part ∷ here) e names =
     let rest : map (λ (p : PartText). p.name) here ≡ map part_name (slots ++ more) = cc in
     let same : n + 1 + length slots ≡ n + length (slot ∷ slots) = omega arith in (
       part_with_slot_name-Ok parts n slot part (slice_get-from_drop parts n part here e) first,
-      subst (λ (k : ℕ). IsClosedUnderHops (part_with_slot_name parts) (n + 1) slots here (drop k parts)) same
+      subst (λ (k : ℕ). Serves (part_with_slot_name parts) (n + 1) slots here (drop k parts)) same
           (Serves-from_names parts (n + 1) slots more here (drop-more parts n part here e) rest),
     )
 

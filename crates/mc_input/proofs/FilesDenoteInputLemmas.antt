@@ -13,7 +13,7 @@ use Rattle.mc_input.specs.SourceFault.{from_file_fault}
 use Rattle.mc_input.specs.FilesInput.{FilesDenoteInput}
 use Rattle.mc_input.specs.FilesReading.{part_from_file, input_of_files}
 use Rattle.mc_input.specs.declared.source_fault.SourceFault.TheVariants.{Input}
-use Rattle.mc_input.proofs.SourceOfPartsLemmas.{IsClosedUnderHops, GivesSlotNames, HasInputParts-from_read_input, read_input-denoted}
+use Rattle.mc_input.proofs.SourceOfPartsLemmas.{Serves, GivesSlotNames, HasInputParts-from_read_input, read_input-denoted}
 
 GivesSlotNames-part_from_file : (files : List FileText) → GivesSlotNames (part_from_file files)
 GivesSlotNames-part_from_file files n slot part e =
@@ -21,7 +21,7 @@ GivesSlotNames-part_from_file files n slot part e =
 
 -- the parts that are made of the files are packed of them
 ArePacked-from_Serves : (files : List FileText) (n : ℕ) (slots : List Slot) (parts : List PartText)
-    → IsClosedUnderHops (part_from_file files) n slots parts []
+    → Serves (part_from_file files) n slots parts []
     → ArePacked files slots parts × AllByRecursion IsWithinMaxPart parts
 ArePacked-from_Serves files n [] [] h = (tt, tt)
 ArePacked-from_Serves files n [] (part ∷ parts) h = absurd (cc)
@@ -33,7 +33,7 @@ ArePacked-from_Serves files n (slot ∷ slots) (part ∷ parts) h =
 
 Serves-from_ArePacked : (files : List FileText) (n : ℕ) (slots : List Slot) (parts : List PartText)
     → ArePacked files slots parts → AllByRecursion IsWithinMaxPart parts
-    → IsClosedUnderHops (part_from_file files) n slots parts []
+    → Serves (part_from_file files) n slots parts []
 Serves-from_ArePacked files n [] [] packed small = refl
 Serves-from_ArePacked files n [] (part ∷ parts) packed small = absurd packed
 Serves-from_ArePacked files n (slot ∷ slots) [] packed small = absurd packed

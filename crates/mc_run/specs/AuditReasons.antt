@@ -2,7 +2,7 @@
 use Rattle.std.specs.Prelude.{◌≡◌, ℕ, Bool, true, false, not, List, [], filter, Option, Some, None}
 use Rattle.mc_tables.specs.Summary.{SummaryValue}
 use Rattle.mc_theory.specs.Events.{Event}
-use Rattle.mc_theory.specs.Findings.{copy_on}
+use Rattle.mc_theory.specs.Findings.{first_copy_on}
 use Rattle.mc_theory.specs.Flights.{Copy}
 use Rattle.mc_forward.specs.Domains.{DomainValue}
 use Rattle.mc_forward.specs.ListedTables.{DomainFacts, facts}
@@ -38,7 +38,7 @@ search_context d summary excluded flow copies = record {
   flow = flow;
   summary = summary;
   excluded = excluded;
-  copy_on = copy_on copies;
+  first_copy_on = first_copy_on copies;
 }
 
 -- a search, where a LAN is missed

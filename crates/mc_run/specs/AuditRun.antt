@@ -20,7 +20,7 @@ use Rattle.mc_explain.specs.WantedText.{lans_wanting}
 use Rattle.mc_input.specs.Meaning.{FilesMeanDomain, MeansDomainWhere}
 use Rattle.mc_input.specs.ExcludedRouters.{AreRouterNames, files_with_exclusions}
 use Rattle.mc_input.specs.SummariesOfFiles.{AreSummariesOf}
-use Rattle.mc_json.specs.FlowData.{Wrong, wrong_data}
+use Rattle.mc_json.specs.FlowData.{WrongFlow, wrong_data}
 use Rattle.mc_json.specs.RowData.{line_of}
 use Rattle.mc_run.specs.AuditEnd.{FlowAnswer, are_right, begin_lines, count, end_lines, is_unwanted}
 use Rattle.mc_run.specs.AuditEnd.{excluded_marks, verdict_line}
@@ -127,7 +127,7 @@ pub record HasUnwanted (v : AuditedValue) (o : AuditOptions) (unwanted : ℕ) : 
 
 -- this begins what is said of a flow that isn't right, with whatever was found
 abbrev pub SaysNoCertificate : (json : Bool) → (flow : ℕ) → Flow → (lines : List ℕ) → Type 0
-SaysNoCertificate true flow f lines = (w : Wrong) × (lines ≡ line_of (wrong_data flow f w))
+SaysNoCertificate true flow f lines = (w : WrongFlow) × (lines ≡ line_of (wrong_data flow f w))
 SaysNoCertificate false flow f lines = (more : List ℕ) × (lines ≡ no_certificate_line f ++ more)
 
 -- The lines say of a flow that it has a certificate, and which LANs want it, where it is right (where

@@ -21,7 +21,7 @@ use Rattle.mc_theory.proofs.ReachedLans.{sender-not_the_incoming_vif}
 use Rattle.mc_theory.proofs.CertificateOfRun.{first_copy_on-of_member}
 use Rattle.mc_theory.proofs.Travels.{finding-none, choice-below_waiting}
 use Rattle.mc_theory.proofs.WalkBack.{in-first_copy_on, first_copy_on-append}
-use Rattle.mc_theory.proofs.CameByHops.{copy_equal-from_some, same-lan}
+use Rattle.mc_theory.proofs.CameByHops.{copy_equal-from_some, lan_equal-from_some}
 
 -- ---- what each step of a travel keeps
 
@@ -231,7 +231,7 @@ ttl-of_waiting_hearer n t f c r v inv c_in on h =
     let d = inv.heard w.0 w.1 in
     let on' : n.placed r v ≡ Some d.0.lan = ap (λ (x : Interface). n.placed x.0 x.1) (sym w.2) ∙
     d.2 in
-    let lan = same-lan (n.placed r v) d.0.lan c.lan on' on in
+    let lan = lan_equal-from_some (n.placed r v) d.0.lan c.lan on' on in
     let same : d.0 ≡ c = equal-from_same_image (λ (x : Copy). x.lan) d.0 c f.carried inv.clean.once d.1 c_in
     lan in
     (w.0, w.1, sym d.3 ∙ ap (λ (x : Copy). x.ttl) same)
@@ -249,7 +249,7 @@ carried_or_coming-hop n t f h hs c inv path lt c_in lan le =
           inr (w.0, w.1, omega (arith, le, w.2)))
       | inr (inr a) ↦ (let d = a.sent hop.pairs h.vif h.threshold hop.row hop.pair
           (omega (arith, lt, le)) in
-          let onto = same-lan (n.placed h.router h.vif) d.0.lan h.onto d.2 hop.sends in
+          let onto = lan_equal-from_some (n.placed h.router h.vif) d.0.lan h.onto d.2 hop.sends in
           inl (d.0, d.1, onto, omega (arith, le, d.4)))
     ]
 

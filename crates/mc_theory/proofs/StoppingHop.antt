@@ -5,7 +5,7 @@ use Rattle.std.proofs.Common.{nat_lt, ltb-true, ltb-false, Option, Some, None}
 use Rattle.std.proofs.lemmas.Bool.{cases_lt, le-ltb}
 use Rattle.mc_theory.specs.Paths.{Hop, PassesHops, need, IsStopped}
 use Rattle.mc_theory.specs.Hops.{first_stop_or_here, stopping_hop}
-use Rattle.mc_theory.proofs.AppendSplits.{splits}
+use Rattle.mc_theory.proofs.AppendSplits.{append_split-cases}
 use Rattle.mc_theory.proofs.Paths.{passes_hops-from_need}
 
 -- each hop takes one TTL at least
@@ -85,7 +85,7 @@ not_passing-at_stopping_hop t hs h left s ks js e p =
 pub is_stopped-unique : (t : ℕ) (hs : List Hop) (h : Hop) (left : ℕ) (g : Hop) (more : ℕ) →
     IsStopped t hs h left → IsStopped t hs g more → (h ≡ g) × (left ≡ more)
 is_stopped-unique t hs h left g more p q = elim
-    (splits p.after h p.before q.after g q.before (sym p.split ∙ q.split)) [
+    (append_split-cases p.after h p.before q.after g q.before (sym p.split ∙ q.split)) [
       | inl s ↦ (let long : length p.before ≡ length q.before = ap (λ (ks : List Hop). length ks)
           s.2 in
           let ttl = p.ttl in

@@ -143,7 +143,8 @@ index-below_from_true (b ∷ rows) (suc i) j e = let h = index-below_from_true r
 -- only LANs of the topology want a flow
 pub wants-below_lan_count : (d : DomainValue) (flow lan : ℕ) → IsDomain d → wants_of d flow lan ≡ true
     → lan < length d.topology.lans
-wants-below_lan_count d flow lan ok e = subst (λ (n : ℕ). lan < n) ok.lans (index-below_from_true d.wants lan flow e)
+wants-below_lan_count d flow lan ok e =
+    subst (λ (n : ℕ). lan < n) ok.lans (index-below_from_true d.wants lan flow e)
 
 -- the flow of a number
 pub flow-exists_at_index : (flows : List Flow) (i : ℕ) → i < length flows

@@ -12,7 +12,8 @@ use Rattle.mc_forward.specs.Domains.{DomainValue, TablesValue, vif_of, row_at, l
 use Rattle.mc_forward.specs.Domains.{source_of, ttl_of}
 use Rattle.mc_forward.specs.Assembling.{RelatedAtEachIndex}
 use Rattle.mc_forward.specs.DomainParts.{domain_with}
-use Rattle.mc_forward.specs.ListedTables.{AreListedPartsOfTables, IsListedPartOfTables, Pairwise, HaveSameFacts}
+use Rattle.mc_forward.specs.ListedTables.{AreListedPartsOfTables, IsListedPartOfTables, Pairwise}
+use Rattle.mc_forward.specs.ListedTables.{HaveSameFacts}
 use Rattle.mc_forward.specs.ListedTables.{facts, flow_pairs}
 
 or-true : (b : Bool) → (b || true) ≡ true
@@ -36,7 +37,8 @@ row_at-of_listed_part flows part whole listed k (Some f) at =
     rw (listed.cache.entries (f.source, f.group) (is_listed-of_flow flows k f at), listed.cache.wildcards)
     refl
 
-row_at-of_listed_parts : (flows : List Flow) (parts wholes : List TablesValue) → AreListedPartsOfTables flows parts wholes
+row_at-of_listed_parts : (flows : List Flow) (parts wholes : List TablesValue) →
+    AreListedPartsOfTables flows parts wholes
     → (k router : ℕ) → row_at (slice_get parts router) (slice_get flows k)
     ≡ row_at (slice_get wholes router) (slice_get flows k)
 row_at-of_listed_parts flows [] [] are k router = refl
@@ -48,7 +50,8 @@ row_at-of_listed_parts flows (part ∷ parts) (whole ∷ wholes) are k (suc rout
     row_at-of_listed_parts flows parts wholes are.1 k router
 
 -- and its vifs are placed alike
-vif_of-of_listed_parts : (flows : List Flow) (parts wholes : List TablesValue) → AreListedPartsOfTables flows parts wholes
+vif_of-of_listed_parts : (flows : List Flow) (parts wholes : List TablesValue) →
+    AreListedPartsOfTables flows parts wholes
     → (router vif : ℕ) → vif_of parts router vif ≡ vif_of wholes router vif
 vif_of-of_listed_parts flows [] [] are router vif = refl
 vif_of-of_listed_parts flows [] (whole ∷ wholes) are router vif = absurd are
@@ -58,7 +61,8 @@ vif_of-of_listed_parts flows (part ∷ parts) (whole ∷ wholes) are zero vif =
 vif_of-of_listed_parts flows (part ∷ parts) (whole ∷ wholes) are (suc router) vif =
     vif_of-of_listed_parts flows parts wholes are.1 router vif
 
-pub have_same_facts-of_listed_parts : (t : TopologyValue) (parts wholes : List TablesValue) (wants : List (List Bool))
+pub have_same_facts-of_listed_parts : (t : TopologyValue) (parts wholes : List TablesValue)
+    (wants : List (List Bool))
     → AreListedPartsOfTables t.flows parts wholes
     → HaveSameFacts (domain_with t wholes wants) (domain_with t parts wants)
 have_same_facts-of_listed_parts t parts wholes wants are =

@@ -10,7 +10,8 @@ use Rattle.mc_topology.specs.declared.flow.Flow.{Flow}
 use Rattle.mc_topology.specs.Topology.{TopologyValue, IsValidTopology}
 use Rattle.mc_forward.specs.Domains.{TablesValue, AreTables, IsDomain}
 use Rattle.mc_forward.specs.DomainParts.{domain_with}
-use Rattle.mc_forward.specs.Assembling.{RelatedAtEachIndex, AreAnswers, HaveMatchingCounts, IsAssembled, AreWanted}
+use Rattle.mc_forward.specs.Assembling.{RelatedAtEachIndex, AreAnswers, HaveMatchingCounts}
+use Rattle.mc_forward.specs.Assembling.{IsAssembled, AreWanted}
 use Rattle.mc_forward.specs.Assembling.{AreChannelsWanted}
 use Rattle.mc_forward.specs.ListedTables.{flow_pairs}
 use Rattle.mc_forward.proofs.IndexLemmas.{slice_get-exists}

@@ -21,7 +21,8 @@ count_with_image-none f (x ∷ xs) l apart = count_none_step f x xs l (f x == l)
     (count_with_image-none f xs l (λ h. apart (inr h)))
 
 count_at_most_one_step : {A : Type 0} (f : A → ℕ) (x : A) (xs : List A) (l : ℕ) (b : Bool) → (f x == l) ≡ b →
-    Distinct (map f (x ∷ xs)) → count_with_image f xs l ≤ 1 → cond b (suc (count_with_image f xs l)) (count_with_image f xs l)
+    Distinct (map f (x ∷ xs)) → count_with_image f xs l ≤ 1 →
+        cond b (suc (count_with_image f xs l)) (count_with_image f xs l)
     ≤ 1
 count_at_most_one_step f x xs l true e apart h =
     let none = count_with_image-none f xs l (λ k. apart.0 (subst (λ y. In y (map f xs))
@@ -47,7 +48,8 @@ count_at_least_one_step f x xs l false e (inr k) ih = ih k
 pub count_with_image-at_least_one : {A : Type 0} (f : A → ℕ) (xs : List A) (l : ℕ) → In l (map f xs) →
     1 ≤ count_with_image f xs l
 count_with_image-at_least_one f [] l h = absurd h
-count_with_image-at_least_one f (x ∷ xs) l h = count_at_least_one_step f x xs l (f x == l) refl h (count_with_image-at_least_one f xs l)
+count_with_image-at_least_one f (x ∷ xs) l h =
+    count_at_least_one_step f x xs l (f x == l) refl h (count_with_image-at_least_one f xs l)
 
 count_in_tail_step : (b : Bool) (k : ℕ) → cond b (suc k) k ≤ 1 → k ≤ 1
 count_in_tail_step true k h = omega (arith, h)

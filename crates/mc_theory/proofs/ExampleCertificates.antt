@@ -26,7 +26,8 @@ line-wants : WantsBelow (line 3) 3
 line-wants l h = let e = eqb-true l 2 h in omega (arith, e)
 
 line-net : IsNet (line 3)
-line-net = network-is_net 2 line_places line_rows (λ l. l == 2) 3 refl (onward-distinct_vifs, (onward-distinct_vifs, tt))
+line-net = network-is_net 2 line_places line_rows (λ l. l == 2) 3 refl
+    (onward-distinct_vifs, (onward-distinct_vifs, tt))
 
 line-accepted : IsAccepted (line 3) line_entries
 unfolding below
@@ -50,7 +51,8 @@ unfolding below
 diamond-accepted = (first_reason-none_iff_accepted diamond 4 diamond_entries diamond-net diamond-wants).0 refl
 
 pub diamond-headline_holds : HeadlineHolds diamond 4
-diamond-headline_holds = headline_holds-from_accepted diamond diamond_entries diamond-net (omega arith) diamond-accepted
+diamond-headline_holds =
+    headline_holds-from_accepted diamond diamond_entries diamond-net (omega arith) diamond-accepted
 
 closed_diamond-net : IsNet closed_diamond
 closed_diamond-net = network-is_net 4 diamond_places ((3, onward) ∷ diamond_rows) (λ l. l == 3) 3 refl
@@ -112,7 +114,8 @@ one-twin-accepted = (first_reason-none_iff_accepted (take_out (1, 1) twins) 2 tw
     (is_net-take_out twins (1, 1) twins-net) twins-wants).0 refl
 
 pub one-twin-headline_holds : HeadlineHolds (take_out (1, 1) twins) 2
-one-twin-headline_holds = headline_holds-from_accepted (take_out (1, 1) twins) twins_entries (is_net-take_out twins (1, 1) twins-net)
+one-twin-headline_holds = headline_holds-from_accepted (take_out (1, 1) twins) twins_entries
+    (is_net-take_out twins (1, 1) twins-net)
     (omega arith) one-twin-accepted
 
 -- without r2 a packet with TTL 2 doesn't get through

@@ -19,7 +19,8 @@ a-repeated-vif-is-accepted : first_reason net_with_repeated_vif 3 line_entries �
 unfolding below
 a-repeated-vif-is-accepted = refl
 
-a-repeated-vif-duplicates : IsTravel net_with_repeated_vif 3 [] false (0 ∷ []) (start net_with_repeated_vif 3) (Duplicate 1)
+a-repeated-vif-duplicates : IsTravel net_with_repeated_vif 3 [] false (0 ∷ []) (start net_with_repeated_vif 3)
+    (Duplicate 1)
 unfolding below interfaces
 a-repeated-vif-duplicates = (refl, refl, refl)
 
@@ -47,6 +48,7 @@ a-dead-pair-is-accepted : first_reason net_with_dead_pair 3 (l0_entry ∷ l1_ent
 unfolding below
 a-dead-pair-is-accepted = refl
 
-a-dead-pair-sends-at-256 : copy_count_on (run net_with_dead_pair (handles (0 ∷ 0 ∷ [])) (start net_with_dead_pair 256)).carried 2 ≡ 1
+a-dead-pair-sends-at-256 : copy_count_on
+    (run net_with_dead_pair (handles (0 ∷ 0 ∷ [])) (start net_with_dead_pair 256)).carried 2 ≡ 1
 unfolding below interfaces
 a-dead-pair-sends-at-256 = refl

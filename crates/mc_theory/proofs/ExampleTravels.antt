@@ -35,7 +35,8 @@ too-low-a-ttl-misses-l2 : IsTravel (line 2) 3 [] false two_first_picks (start (l
 unfolding below interfaces
 too-low-a-ttl-misses-l2 = (refl, refl, (refl, refl, refl))
 
-events-of-a-too-low-ttl : events (line 2) two_first_picks (start (line 2) 2) ≡ sent_event 0 0 2 1 ∷ sent_event 1 0 1 0
+events-of-a-too-low-ttl : events (line 2) two_first_picks (start (line 2) 2) ≡ sent_event 0 0 2 1 ∷
+    sent_event 1 0 1 0
     ∷ []
 unfolding below interfaces
 events-of-a-too-low-ttl = refl
@@ -52,12 +53,14 @@ line-copies-make-its-certificate = refl
 
 -- ---- a second path to l2
 
-the-shortcut-duplicates : IsTravel (line_with_shortcut 3) 3 [] false three_first_picks (start (line_with_shortcut 3) 3)
+the-shortcut-duplicates : IsTravel (line_with_shortcut 3) 3 [] false three_first_picks
+    (start (line_with_shortcut 3) 3)
     (Duplicate 2)
 unfolding below interfaces
 the-shortcut-duplicates = (refl, refl, (refl, refl, (refl, refl, refl)))
 
-events-of-the-shortcut : events (line_with_shortcut 3) three_first_picks (start (line_with_shortcut 3) 3) ≡ sent_event 0 0 3 1
+events-of-the-shortcut : events (line_with_shortcut 3) three_first_picks (start (line_with_shortcut 3) 3)
+    ≡ sent_event 0 0 3 1
     ∷ sent_event 2 0 3 1 ∷ sent_event 1 0 2 1 ∷ []
 unfolding below interfaces
 events-of-the-shortcut = refl
@@ -76,7 +79,8 @@ the-shortcut-duplicates-by-numbers : IsTravel (line_with_shortcut 3) 3 (1 ∷ []
 unfolding below interfaces
 the-shortcut-duplicates-by-numbers = (refl, refl, (refl, refl, (refl, refl, (refl, refl, refl))))
 
-events-of-the-shortcut-by-numbers : events (line_with_shortcut 3) one_then_first_picks (start (line_with_shortcut 3) 3) ≡ sent_event 2 0
+events-of-the-shortcut-by-numbers : events (line_with_shortcut 3) one_then_first_picks
+    (start (line_with_shortcut 3) 3) ≡ sent_event 2 0
     3 1 ∷ sent_event 0 0 3 1 ∷ other_vif_event 1 1 2 ∷ sent_event 1 0 2 1 ∷ []
 unfolding below interfaces
 events-of-the-shortcut-by-numbers = refl
@@ -85,34 +89,40 @@ events-of-the-shortcut-by-numbers = refl
 abbrev last_picks : List ℕ
 last_picks = 1 ∷ 1 ∷ 0 ∷ 0 ∷ []
 
-the-shortcut-duplicates-by-last : IsTravel (line_with_shortcut 3) 3 [] true last_picks (start (line_with_shortcut 3) 3)
+the-shortcut-duplicates-by-last : IsTravel (line_with_shortcut 3) 3 [] true last_picks
+    (start (line_with_shortcut 3) 3)
     (Duplicate 2)
 unfolding below interfaces
 the-shortcut-duplicates-by-last = (refl, refl, (refl, refl, (refl, refl, (refl, refl, refl))))
 
-events-of-the-shortcut-by-last : events (line_with_shortcut 3) last_picks (start (line_with_shortcut 3) 3) ≡ sent_event 2 0 3 1
+events-of-the-shortcut-by-last : events (line_with_shortcut 3) last_picks (start (line_with_shortcut 3) 3)
+    ≡ sent_event 2 0 3 1
     ∷ other_vif_event 1 1 2 ∷ sent_event 0 0 3 1 ∷ sent_event 1 0 2 1 ∷ []
 unfolding below interfaces
 events-of-the-shortcut-by-last = refl
 
 -- ---- a path back to l0
 
-the-line-with-loop-loops : IsTravel (line_with_loop 3) 3 [] false four_first_picks (start (line_with_loop 3) 4) (Loop 0)
+the-line-with-loop-loops : IsTravel (line_with_loop 3) 3 [] false four_first_picks
+    (start (line_with_loop 3) 4) (Loop 0)
 unfolding below interfaces
 the-line-with-loop-loops = (refl, refl, (refl, refl, (refl, refl, (refl, refl, refl))))
 
-events-of-the-line-with-loop : events (line_with_loop 3) four_first_picks (start (line_with_loop 3) 4) ≡ sent_event 0 0 4 1
+events-of-the-line-with-loop : events (line_with_loop 3) four_first_picks (start (line_with_loop 3) 4)
+    ≡ sent_event 0 0 4 1
     ∷ other_vif_event 2 1 4 ∷ sent_event 1 0 3 1 ∷ sent_event 2 0 2 1 ∷ []
 unfolding below interfaces
 events-of-the-line-with-loop = refl
 
 -- with one TTL less the copy ends before it comes back
-a-low-ttl-ends-before-the-loop : IsTravel (line_with_loop 3) 3 [] false four_first_picks (start (line_with_loop 3) 3)
+a-low-ttl-ends-before-the-loop : IsTravel (line_with_loop 3) 3 [] false four_first_picks
+    (start (line_with_loop 3) 3)
     Clean
 unfolding below interfaces
 a-low-ttl-ends-before-the-loop = (refl, refl, (refl, refl, (refl, refl, (refl, refl, refl))))
 
-events-of-the-loop-with-a-low-ttl : events (line_with_loop 3) four_first_picks (start (line_with_loop 3) 3) ≡ sent_event 0 0 3 1
+events-of-the-loop-with-a-low-ttl : events (line_with_loop 3) four_first_picks (start (line_with_loop 3) 3)
+    ≡ sent_event 0 0 3 1
     ∷ other_vif_event 2 1 3 ∷ sent_event 1 0 2 1 ∷ sent_event 2 0 1 0 ∷ []
 unfolding below interfaces
 events-of-the-loop-with-a-low-ttl = refl
@@ -124,7 +134,8 @@ two-vifs-on-a-lan-loop : IsTravel (onto_itself 3) 3 [] false three_first_picks (
 unfolding below interfaces
 two-vifs-on-a-lan-loop = (refl, refl, (refl, refl, (refl, refl, refl)))
 
-events-of-two-vifs-on-a-lan : events (onto_itself 3) three_first_picks (start (onto_itself 3) 3) ≡ sent_event 0 0
+events-of-two-vifs-on-a-lan : events (onto_itself 3) three_first_picks (start (onto_itself 3) 3)
+    ≡ sent_event 0 0
     3 1 ∷ sent_event 1 0 2 1 ∷ sent_event 2 1 2 1 ∷ []
 unfolding below interfaces
 events-of-two-vifs-on-a-lan = refl

@@ -97,7 +97,8 @@ index_in_whole-exists_step p x xs (suc i) true e lt ih = index_in_whole-next p x
 index_in_whole-exists : {A : Type 0} (p : A → Bool) (xs : List A) (i : ℕ) → i < length (filter p xs) →
     IndexInWholeList p xs i
 index_in_whole-exists p [] i lt = absurd (omega arith)
-index_in_whole-exists p (x ∷ xs) i lt = index_in_whole-exists_step p x xs i (p x) refl lt (index_in_whole-exists p xs)
+index_in_whole-exists p (x ∷ xs) i lt =
+    index_in_whole-exists_step p x xs i (p x) refl lt (index_in_whole-exists p xs)
 
 -- ---- corresponding flights: the part's, and the whole's
 
@@ -123,7 +124,9 @@ hearers-without_excluded excluded n m c leaves =
     let K : Interface → Bool = λ i. not (excluded i.0) in
     let A : Interface → Bool = λ i. is_lan (n.placed i.0 i.1) c.lan in
     let B : Interface → Bool = λ i. is_lan (m.placed i.0 i.1) c.lan in
-    filter_filter-merge K S A B (router_vif_pairs 32 n.routers) (λ i. is_lan-without_excluded excluded n m i c.lan (excluded i.0) leaves
+    filter_filter-merge K S A B
+        (router_vif_pairs 32 n.routers) (λ i. is_lan-without_excluded excluded n m i c.lan
+        (excluded i.0) leaves
     refl) ∙ ap (λ k. filter K (filter S (filter B (router_vif_pairs 32 k)))) leaves.routers
 
 put-alongside : (excluded : ℕ → Bool) (n m : Net) (c : Copy) (f g : Flight) →
@@ -132,7 +135,8 @@ put-alongside : (excluded : ℕ → Bool) (n m : Net) (c : Copy) (f g : Flight) 
 put-alongside excluded n m c f g leaves v = record {
   carried = ap (λ cs. cs ++ c ∷ []) v.carried;
   strays = v.strays;
-  waiting = ap₂ (λ us ws. us ++ ws) v.waiting (ap (map (waits_at c.ttl)) (hearers-without_excluded excluded n m
+  waiting = ap₂ (λ us ws. us ++ ws) v.waiting
+      (ap (map (waits_at c.ttl)) (hearers-without_excluded excluded n m
       c leaves) ∙ sym (filter-map (is_at_included_router excluded) (waits_at c.ttl) (hearers m c))) ∙
       sym (filter-append (is_at_included_router excluded) g.waiting (map (waits_at c.ttl) (hearers m c)));
 }
@@ -220,7 +224,8 @@ step-alongside excluded n m f g i (Some w) leaves lt v s e =
     let h = handle-alongside excluded n m w (without_waiting i f) (without_waiting s.place g) leaves
     (not-true (excluded w.router) kept.1) (without-alongside excluded f g i v s) in
     subst (λ o. Alongside excluded (handle n o (without_waiting i f)) (handle m (slice_get g.waiting s.place)
-    (without_waiting s.place g))) (sym e) (subst (λ o. Alongside excluded (handle n (Some w) (without_waiting i f))
+    (without_waiting s.place g))) (sym e)
+        (subst (λ o. Alongside excluded (handle n (Some w) (without_waiting i f))
     (handle m o (without_waiting s.place g))) (sym (s.found ∙ there)) h)
 
 -- the whole's picks that correspond to the part's
@@ -245,7 +250,8 @@ run-alongside excluded n m [] f g leaves range v = record {
   lossless = λ h. h;
 }
 run-alongside excluded n m (Handles i ∷ ps) f g leaves range v =
-    let s = index_in_whole-exists (is_at_included_router excluded) g.waiting i (in_range-of_included excluded f g i v range.0) in
+    let s = index_in_whole-exists (is_at_included_router excluded) g.waiting i
+        (in_range-of_included excluded f g i v range.0) in
     let a = step-alongside excluded n m f g i (slice_get f.waiting i) leaves range.0 v s refl in
     let r = run-alongside excluded n m ps (step n i f) (step m s.place g) leaves range.1 a in
     record {
@@ -255,9 +261,11 @@ run-alongside excluded n m (Handles i ∷ ps) f g leaves range v =
       lossless = r.lossless;
     }
 run-alongside excluded n m (Loses i ∷ ps) f g leaves range v =
-    let s = index_in_whole-exists (is_at_included_router excluded) g.waiting i (in_range-of_included excluded f g i v range.0) in
+    let s = index_in_whole-exists (is_at_included_router excluded) g.waiting i
+        (in_range-of_included excluded f g i v range.0) in
     let a = without-alongside excluded f g i v s in
-    let r = run-alongside excluded n m ps (without_waiting i f) (without_waiting s.place g) leaves range.1 a in
+    let r = run-alongside excluded n m ps (without_waiting i f) (without_waiting s.place g) leaves
+        range.1 a in
     record {
       picks = Loses s.place ∷ r.picks;
       in_range = (s.in_range, r.in_range);
@@ -316,9 +324,11 @@ pub not_right-from_unclean_travel : (excluded : ℕ → Bool) (part whole : Net)
     (last : Bool) (is : List ℕ) (x : Finding) → ExcludesRouters excluded part whole → part.ttl ≤ t →
     t ≤ 255 → IsTravel part count numbers last is (start part t) x → IsSecondCopyOrStray x →
     IsRight whole → ⊥
-not_right-from_unclean_travel excluded part whole count t numbers last is x leaves low high travel unclean right =
+not_right-from_unclean_travel excluded part whole count t numbers last is x leaves low high travel
+    unclean right =
     let f = run part (handles is) (start part t) in
     not_right-from_unclean_run excluded part whole t (handles is) leaves low high
     (in_range-travel part count numbers last is (start part t) x travel)
-    (λ clean. end_finding-not_unclean part count f.carried f.waiting x (sym (finding-of_clean_flight part count f clean) ∙
+    (λ clean. end_finding-not_unclean part count f.carried f.waiting x
+        (sym (finding-of_clean_flight part count f clean) ∙
     finding-at_travel_end part count numbers last is (start part t) x travel) unclean) right

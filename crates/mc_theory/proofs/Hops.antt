@@ -18,7 +18,9 @@ use Rattle.mc_theory.specs.Hops.{IsPathPart}
 use Rattle.mc_theory.proofs.CertificateOfRun.{threshold_of-of_member}
 use Rattle.mc_theory.proofs.WalkBack.{in-first_copy_on, walk_ends-travel, first_sender_on}
 use Rattle.mc_theory.proofs.Paths.{hop_of_sent_on, is_hop-of_sent_on}
-use Rattle.mc_theory.proofs.CameByHops.{copy_equal-from_some, lan_equal-from_some, lan-first_copy_on, came_by_hops-from_walk, is_rooted-from_travel, came_by_hops}
+use Rattle.mc_theory.proofs.CameByHops.{copy_equal-from_some, lan_equal-from_some}
+use Rattle.mc_theory.proofs.CameByHops.{lan-first_copy_on, came_by_hops-from_walk}
+use Rattle.mc_theory.proofs.CameByHops.{is_rooted-from_travel, came_by_hops}
 use Rattle.mc_theory.proofs.CameByHops.{in-first_double, first_double-unique}
 
 -- ---- the hop of a sender
@@ -45,7 +47,8 @@ hop_by-is_hop n h net hop =
       threshold = k;
       onto = h.onto;
     } in
-    ap (hop_from_lan n (h.router, h.vif) h.onto) (from_lan-is_hop n h hop) ∙ ap (λ k. Some (above k)) threshold
+    ap (hop_from_lan n (h.router, h.vif) h.onto) (from_lan-is_hop n h hop) ∙
+        ap (λ k. Some (above k)) threshold
 
 -- the hop that a copy was sent by is found by its sender, and by its LAN
 pub hop_by-sent_by_hop : (n : Net) (c : Copy) (h : Hop) (i : Interface) → IsNet n → IsSentByHop n c h →
@@ -59,9 +62,11 @@ hop_equal-from_some : (o : Option Hop) (h g : Hop) → o ≡ Some h → o ≡ So
 hop_equal-from_some o h g p q = let both : Some h ≡ Some g = sym p ∙ q in cc
 
 -- each copy that an interface sent has such a hop
-pub sent_by_hop-unique : (n : Net) (c : Copy) (h g : Hop) → IsNet n → IsSentByHop n c h → IsSentByHop n c g → h ≡ g
+pub sent_by_hop-unique : (n : Net) (c : Copy) (h g : Hop) → IsNet n → IsSentByHop n c h →
+    IsSentByHop n c g → h ≡ g
 sent_by_hop-unique n c h g net p q = hop_equal-from_some (hop_by n (h.router, h.vif) c.lan) h g
-    (hop_by-sent_by_hop n c h (h.router, h.vif) net p p.0) (hop_by-sent_by_hop n c g (h.router, h.vif) net q p.0)
+    (hop_by-sent_by_hop n c h (h.router, h.vif) net p p.0)
+        (hop_by-sent_by_hop n c g (h.router, h.vif) net q p.0)
 
 pub is_hop-unique : (n : Net) (h g : Hop) → IsNet n → IsHop n h → IsHop n g → h.router ≡ g.router →
     h.vif ≡ g.vif → h ≡ g
@@ -92,7 +97,8 @@ is_path-from_came_from_lan n cs l c (h ∷ g ∷ hs) x =
     (x.0.1, x.0.2, subst (IsPath n l (g ∷ hs)) (lan-first_copy_on cs h.from b.0 b.1) up)
 
 -- A copy whose hops pass a LAN came from that LAN, by no more hops.
-pub came_from_lan-from_came_by_hops : (n : Net) (cs : List Copy) (l : ℕ) (c : Copy) (hs : List Hop) → CameByHops n cs c hs →
+pub came_from_lan-from_came_by_hops : (n : Net) (cs : List Copy) (l : ℕ) (c : Copy) (hs : List Hop) →
+    CameByHops n cs c hs →
     In l (map (λ (h : Hop). h.from) hs)
     → (h : Hop) × (ks : List Hop) × CameFromLan n cs l c (h ∷ ks) × (length (h ∷ ks) ≤ length hs)
 came_from_lan-from_came_by_hops n cs l c [] by k = absurd k
@@ -107,14 +113,18 @@ came_from_lan-from_came_by_hops n cs l c (h ∷ hs) by k =
     ]
 
 -- what two hops that a copy was sent by have in common, of any domain: the LAN that they take from
-from_lan-same_for_sent_by_hop : (n : Net) (c : Copy) (h g : Hop) → IsSentByHop n c h → IsSentByHop n c g → h.from ≡ g.from
-from_lan-same_for_sent_by_hop n c h g p q = lan_equal-from_some (from_lan n c.sender) h.from g.from (from_lan-sent_by_hop n c h p)
+from_lan-same_for_sent_by_hop : (n : Net) (c : Copy) (h g : Hop) → IsSentByHop n c h → IsSentByHop n c g →
+    h.from ≡ g.from
+from_lan-same_for_sent_by_hop n c h g p q =
+    lan_equal-from_some (from_lan n c.sender) h.from g.from (from_lan-sent_by_hop n c h p)
     (from_lan-sent_by_hop n c g q)
 
 -- so the first copy of that LAN is one
-first_copy-same_for_sent_by_hop : (n : Net) (cs : List Copy) (c : Copy) (h g : Hop) (b d : Copy) → IsSentByHop n c h →
+first_copy-same_for_sent_by_hop : (n : Net) (cs : List Copy) (c : Copy) (h g : Hop) (b d : Copy) →
+    IsSentByHop n c h →
     IsSentByHop n c g → first_copy_on cs h.from ≡ Some b → first_copy_on cs g.from ≡ Some d → b ≡ d
-first_copy-same_for_sent_by_hop n cs c h g b d p q on on' = copy_equal-from_some (first_copy_on cs h.from) b d on
+first_copy-same_for_sent_by_hop n cs c h g b d p q on on' =
+    copy_equal-from_some (first_copy_on cs h.from) b d on
     (ap (first_copy_on cs) (from_lan-same_for_sent_by_hop n c h g p q) ∙ on')
 
 absurd-sent_without_sender : (n : Net) (c : Copy) (h : Hop) → IsSentByHop n c h → c.sender ≡ None → ⊥
@@ -284,7 +294,8 @@ hops_until-came_from_lan n cs l (suc k) c (h ∷ g ∷ hs) net x few =
 -- ---- a loop
 
 -- A loop's first double copy came from its own LAN.
-pub came_from_lan-from_loop : (n : Net) (count t : ℕ) (numbers : List ℕ) (last : Bool) (is : List ℕ) (x : Finding)
+pub came_from_lan-from_loop : (n : Net) (count t : ℕ) (numbers : List ℕ) (last : Bool) (is : List ℕ)
+    (x : Finding)
     (l : ℕ) (c : Copy) → IsTravel n count numbers last is (start n t) x →
     Shows n (run n (handles is) (start n t)) (Loop l) →
     IsFirstDouble (run n (handles is) (start n t)).carried c →
@@ -321,7 +332,8 @@ came_by_hops-from_whole_path_part n cs c (h ∷ hs) b part none =
     (sent.0, sent.1, sent.2, (up.0, up.1, came_by_hops-from_whole_path_part n cs up.0 hs b up.2 none))
 
 -- the hops that are left are the rest of all by which the copy came
-pub came_by_hops-path_part_and_rest : (n : Net) (cs : List Copy) (c : Copy) (hs : List Hop) (b : Copy) (ks : List Hop) →
+pub came_by_hops-path_part_and_rest : (n : Net) (cs : List Copy) (c : Copy) (hs : List Hop) (b : Copy)
+    (ks : List Hop) →
     IsPathPart n cs c hs b → CameByHops n cs b ks → CameByHops n cs c (hs ++ ks)
 came_by_hops-path_part_and_rest n cs c [] b ks e by = subst (λ x. CameByHops n cs x ks) (sym e) by
 came_by_hops-path_part_and_rest n cs c (h ∷ hs) b ks part by =
@@ -330,11 +342,13 @@ came_by_hops-path_part_and_rest n cs c (h ∷ hs) b ks part by =
     (sent.0, sent.1, sent.2, (up.0, up.1, came_by_hops-path_part_and_rest n cs up.0 hs b ks up.2 by))
 
 -- and the rest of those from a LAN, if none of the hops so far takes from it
-pub came_from_lan-path_part_and_rest : (n : Net) (cs : List Copy) (l : ℕ) (c : Copy) (hs : List Hop) (b : Copy)
+pub came_from_lan-path_part_and_rest : (n : Net) (cs : List Copy) (l : ℕ) (c : Copy)
+    (hs : List Hop) (b : Copy)
     (k : Hop) (ks : List Hop) → IsPathPart n cs c hs b →
     (In l (map (λ (h : Hop). h.from) hs) → ⊥) → CameFromLan n cs l b (k ∷ ks) →
     CameFromLan n cs l c (hs ++ k ∷ ks)
-came_from_lan-path_part_and_rest n cs l c [] b k ks e apart from = subst (λ x. CameFromLan n cs l x (k ∷ ks)) (sym e)
+came_from_lan-path_part_and_rest n cs l c [] b k ks e apart from =
+    subst (λ x. CameFromLan n cs l x (k ∷ ks)) (sym e)
     from
 came_from_lan-path_part_and_rest n cs l c (h ∷ []) b k ks part apart from =
     let up = part.1 in (
@@ -346,14 +360,17 @@ came_from_lan-path_part_and_rest n cs l c (h ∷ g ∷ hs) b k ks part apart fro
     let up = part.1 in (
       part.0,
       (λ e. apart (inl e)),
-      (up.0, up.1, came_from_lan-path_part_and_rest n cs l up.0 (g ∷ hs) b k ks up.2 (λ j. apart (inr j)) from),
+      (up.0, up.1, came_from_lan-path_part_and_rest n cs l up.0 (g ∷ hs) b k ks
+          up.2 (λ j. apart (inr j)) from),
     )
 
 -- the next hop takes from the LAN
-pub came_from_lan-path_part_and_hop : (n : Net) (cs : List Copy) (l : ℕ) (c : Copy) (hs : List Hop) (b : Copy) (h : Hop)
+pub came_from_lan-path_part_and_hop : (n : Net) (cs : List Copy) (l : ℕ) (c : Copy) (hs : List Hop)
+    (b : Copy) (h : Hop)
     → IsPathPart n cs c hs b → (In l (map (λ (h : Hop). h.from) hs) → ⊥) → IsSentByHop n b h →
     h.from ≡ l → CameFromLan n cs l c (hs ++ h ∷ [])
-came_from_lan-path_part_and_hop n cs l c hs b h part apart sent e = came_from_lan-path_part_and_rest n cs l c hs b h [] part apart (sent, e)
+came_from_lan-path_part_and_hop n cs l c hs b h part apart sent e =
+    came_from_lan-path_part_and_rest n cs l c hs b h [] part apart (sent, e)
 
 -- the walk has come to a carried copy
 pub end_of_path_part-in_copies : (n : Net) (cs : List Copy) (c : Copy) (hs : List Hop) (b : Copy) → In c cs →
@@ -395,7 +412,8 @@ pub is_path_part-fewer_than_copies : (n : Net) (count t : ℕ) (numbers : List �
     length hs < length (run n (handles is) (start n t)).carried
 is_path_part-fewer_than_copies n count t numbers last is x c hs b travel c_in part =
     let cs = (run n (handles is) (start n t)).carried in
-    let by = came_by_hops n count t numbers last is x b travel (end_of_path_part-in_copies n cs c hs b c_in part) in
+    let by = came_by_hops n count t numbers last is x b travel
+        (end_of_path_part-in_copies n cs c hs b c_in part) in
     let all = came_by_hops-path_part_and_rest n cs c hs b by.0 part by.1 in
     let short = came_by_hops-fewer_than_copies n count t numbers last is x c (hs ++ by.0) travel c_in all in
     let long = length-append hs by.0 in

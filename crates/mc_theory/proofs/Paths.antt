@@ -61,8 +61,10 @@ entry-at_path_end n es t tree high (h ∷ hs) l path p =
 abbrev pub HasPathToEntry : Net → Entry → Type 0
 HasPathToEntry n e = (hs : List Hop) × IsPath n n.source hs e.lan × (length hs ≡ e.rank) × (need hs ≡ e.need)
 
-path_to_entry-by_forwarder : (n : Net) (es : List Entry) (e : Entry) (o : Option Interface) → e.forwarder ≡ o →
-    IsTree n es → In e es → ((p : Entry) → In p es → e.rank ≡ p.rank + 1 → HasPathToEntry n p) → HasPathToEntry n e
+path_to_entry-by_forwarder : (n : Net) (es : List Entry) (e : Entry) (o : Option Interface) →
+    e.forwarder ≡ o →
+    IsTree n es → In e es → ((p : Entry) → In p es → e.rank ≡ p.rank + 1 → HasPathToEntry n p) →
+        HasPathToEntry n e
 path_to_entry-by_forwarder n es e None q tree e_in up = elim (cases_eq e.lan n.source) [
   | inl z ↦ (let same : source_entry_of n ≡ e = entry-unique_on_lan n es (source_entry_of n) e tree
       tree.source_entry e_in (sym z) in subst (HasPathToEntry n) same ([], refl, refl, refl))
@@ -93,11 +95,14 @@ path_to_entry-by_forwarder n es e (Some i) q tree e_in up =
     let w = up fed.0 fed.2 rank in
     (hop ∷ w.0, (refl, is, w.1), omega (arith, rank, w.2), omega (arith, least, w.2, w.3))
 
-pub path_to_entry-by_rank : (n : Net) (es : List Entry) (k : ℕ) (e : Entry) → IsTree n es → In e es → e.rank ≡ k →
+pub path_to_entry-by_rank : (n : Net) (es : List Entry) (k : ℕ) (e : Entry) → IsTree n es → In e es →
+    e.rank ≡ k →
     HasPathToEntry n e
-path_to_entry-by_rank n es zero e tree e_in rank = path_to_entry-by_forwarder n es e e.forwarder refl tree e_in
+path_to_entry-by_rank n es zero e tree e_in rank =
+    path_to_entry-by_forwarder n es e e.forwarder refl tree e_in
     (λ p p_in q. absurd (omega arith))
-path_to_entry-by_rank n es (suc k) e tree e_in rank = path_to_entry-by_forwarder n es e e.forwarder refl tree e_in
+path_to_entry-by_rank n es (suc k) e tree e_in rank =
+    path_to_entry-by_forwarder n es e e.forwarder refl tree e_in
     (λ p p_in q. path_to_entry-by_rank n es k p tree p_in (omega arith))
 
 -- ---- the paths of copies
@@ -139,7 +144,8 @@ abbrev AreReachedByPaths : Net → ℕ → List Copy → Type 0
 AreReachedByPaths n t cs = (c : Copy) → In c cs → (hs : List Hop) × IsPath n n.source hs c.lan ×
     PassesHops t hs × (c.ttl + length hs ≡ t)
 
-are_reached_by_paths-grows : (n : Net) (t : ℕ) (f g : Flight) → StepGrows n f g → AreReachedByPaths n t f.carried →
+are_reached_by_paths-grows : (n : Net) (t : ℕ) (f g : Flight) → StepGrows n f g →
+    AreReachedByPaths n t f.carried →
     AreReachedByPaths n t g.carried
 are_reached_by_paths-grows n t f g (inr e) all = subst (AreReachedByPaths n t) (sym e) all
 are_reached_by_paths-grows n t f g (inl s) all = subst (AreReachedByPaths n t) (sym s.2.1) (λ c h. elim
@@ -160,7 +166,8 @@ pub reached_with_ttl-from_carried : (n : Net) (t : ℕ) (ps : List Pick) (l : �
     In l (lans (run n ps (start n t)).carried)
     → (hs : List Hop) × IsPath n n.source hs l × PassesHops t hs
 reached_with_ttl-from_carried n t ps l h =
-    let all = run-preserves n (AreReachedByPaths n t) (are_reached_by_paths-grows n t) ps (start n t) (all_heard-start n t)
+    let all = run-preserves n (AreReachedByPaths n t) (are_reached_by_paths-grows n t) ps (start n t)
+        (all_heard-start n t)
     (λ c k. elim k [
       | inl e ↦ ([], ap (λ (x : Copy). x.lan) e, tt, omega (arith, ap (λ (x : Copy). x.ttl) e))
       | inr z ↦ absurd z

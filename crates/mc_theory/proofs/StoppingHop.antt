@@ -135,7 +135,8 @@ pub not_passing-when_stopped : (t : ℕ) (hs : List Hop) (h : Hop) (left : ℕ) 
     PassesHops t hs → ⊥
 not_passing-when_stopped t hs h left s p = not_passing-at_stopping_hop t hs h left s hs s.after s.split p
 
-no_stop-from_passes : (t : ℕ) (hs : List Hop) (o : Option (Hop × ℕ)) → IsCorrectStop t hs o → PassesHops t hs →
+no_stop-from_passes : (t : ℕ) (hs : List Hop) (o : Option (Hop × ℕ)) → IsCorrectStop t hs o →
+    PassesHops t hs →
     o ≡ None
 no_stop-from_passes t hs None d p = refl
 no_stop-from_passes t hs (Some stop) d p = absurd (not_passing-when_stopped t hs stop.0 stop.1 d p)

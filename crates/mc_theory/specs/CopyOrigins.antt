@@ -27,4 +27,5 @@ IsSentOnFromSome n earlier c = (i : Interface) → c.sender ≡ Some i →
 -- Each of these copies was sent on from one before it in the list.
 abbrev pub AreInSendingOrder : Net → List Copy → List Copy → Type 0
 AreInSendingOrder n earlier [] = ⊤
-AreInSendingOrder n earlier (c ∷ cs) = IsSentOnFromSome n earlier c × AreInSendingOrder n (earlier ++ c ∷ []) cs
+AreInSendingOrder n earlier (c ∷ cs) =
+    IsSentOnFromSome n earlier c × AreInSendingOrder n (earlier ++ c ∷ []) cs

@@ -6,7 +6,8 @@ ghost use Rattle.mc_theory.specs.Flights.{Pick, InRange, start, EveryRun};
 ghost use Rattle.mc_theory.specs.Certificates.{IsClean, IsRight};
 ghost use Rattle.mc_theory.specs.Findings.{Finding, IsTravel, OnFinding};
 ghost use Rattle.mc_theory.specs.Findings.Finding.{Missed};
-ghost use Rattle.mc_theory.specs.ExcludedRouters.{ExcludesRouters, HasSameCopiesAndStrays, IsSecondCopyOrStray};
+ghost use Rattle.mc_theory.specs.ExcludedRouters.{ExcludesRouters, HasSameCopiesAndStrays};
+ghost use Rattle.mc_theory.specs.ExcludedRouters.{IsSecondCopyOrStray};
 ghost use Rattle.mc_theory.specs.ExampleNetworks.{line, line_that_sends_back, onward, r1_alone, sends_back};
 
 /// What comes of a packet without the excluded routers comes of it in the whole net as well,

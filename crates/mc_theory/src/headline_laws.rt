@@ -9,7 +9,8 @@ ghost use Rattle.mc_theory.specs.Certificates.{IsRight, IsSafe};
 ghost use Rattle.mc_theory.specs.Headline.{HeadlineHolds, EveryHandledFlight};
 ghost use Rattle.mc_theory.specs.ExampleNetworks.{line, line_entries, line_end, line_with_a_leak};
 ghost use Rattle.mc_theory.specs.ExampleNetworks.{line_with_an_open_row, line_that_sends_back};
-ghost use Rattle.mc_theory.specs.ExampleNetworks.{diamond, closed_diamond, closed_diamond_end, fork, fork_end};
+ghost use Rattle.mc_theory.specs.ExampleNetworks.{diamond, closed_diamond, closed_diamond_end};
+ghost use Rattle.mc_theory.specs.ExampleNetworks.{fork, fork_end};
 
 /// What the headline promises of a packet sent with the flow's TTL or more, after any picks of
 /// waiting copies, in counts of what was carried.

@@ -1,6 +1,7 @@
 use Rattle.std.proofs.Common.{◌<◌, Some, length, refl, sym, ap, ◌∙◌, arith}
 use Rattle.std.proofs.lemmas.List.{length-set}
-use Rattle.mc_forward.proofs.VifLanLemmas.{have_vifs-start, have_vifs-more_unplaced, have_vifs-more_placed, slice_index_or-from_read}
+use Rattle.mc_forward.proofs.VifLanLemmas.{have_vifs-start, have_vifs-more_unplaced}
+use Rattle.mc_forward.proofs.VifLanLemmas.{have_vifs-more_placed, slice_index_or-from_read}
 use Rattle.mc_forward.proofs.interfaces.add_router.Goals as goal
 use Rattle.mc_forward.proofs.interfaces.add_router.Goals.{in-Some+in_ok-push, in_default}
 

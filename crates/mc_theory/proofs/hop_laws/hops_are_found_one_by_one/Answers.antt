@@ -1,5 +1,7 @@
 -- Since there are fewer hops than carried copies.
-use Rattle.mc_theory.proofs.Hops.{came_by_hops-hops_back, hops_until-travel, came_from_lan-hops_until, hops_back-came_by_hops, hops_until-came_from_lan}
+use Rattle.mc_theory.proofs.Hops.{came_by_hops-hops_back, hops_until-travel}
+use Rattle.mc_theory.proofs.Hops.{came_from_lan-hops_until, hops_back-came_by_hops}
+use Rattle.mc_theory.proofs.Hops.{hops_until-came_from_lan}
 use Rattle.mc_theory.proofs.hop_laws.hops_are_found_one_by_one.Goals as goal
 
 pub returns-clause-all_hops : goal.returns-clause-all_hops

@@ -1,5 +1,6 @@
 -- Since a row has one pair for a vif, and a LAN one first copy.
-use Rattle.mc_theory.proofs.Hops.{came_by_hops-unique, came_from_lan-unique, is_hop-unique, sent_by_hop-unique}
+use Rattle.mc_theory.proofs.Hops.{came_by_hops-unique, came_from_lan-unique, is_hop-unique}
+use Rattle.mc_theory.proofs.Hops.{sent_by_hop-unique}
 use Rattle.mc_theory.proofs.hop_laws.hops_of_a_copy_are_unique.Goals as goal
 
 pub returns-clause-came_by_hops : goal.returns-clause-came_by_hops

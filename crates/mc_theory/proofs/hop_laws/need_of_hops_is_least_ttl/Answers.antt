@@ -1,5 +1,6 @@
 -- By the tree that the travel makes.
-use Rattle.mc_theory.proofs.LeastTtl.{reached_with_ttl-iff_need, has_entry_with_need-travel, reached_with_ttl-iff_need_in_tree}
+use Rattle.mc_theory.proofs.LeastTtl.{reached_with_ttl-iff_need, has_entry_with_need-travel}
+use Rattle.mc_theory.proofs.LeastTtl.{reached_with_ttl-iff_need_in_tree}
 use Rattle.mc_theory.proofs.hop_laws.need_of_hops_is_least_ttl.Goals as goal
 
 pub returns-clause-least : goal.returns-clause-least

@@ -1,5 +1,6 @@
 -- By the hops in order: it is stopped at one only, since it gets through by those before.
-use Rattle.mc_theory.proofs.StoppingHop.{is_stopped-from_need_above, need_above-from_stopped, is_stopped-unique}
+use Rattle.mc_theory.proofs.StoppingHop.{is_stopped-from_need_above, need_above-from_stopped}
+use Rattle.mc_theory.proofs.StoppingHop.{is_stopped-unique}
 use Rattle.mc_theory.proofs.hop_laws.packet_below_need_stops_at_one_hop.Goals as goal
 
 pub returns-clause-stopped : goal.returns-clause-stopped

@@ -1,9 +1,12 @@
 -- Hop by hop.
-use Rattle.mc_theory.proofs.Hops.{is_path_part-push, came_by_hops-from_whole_path_part, came_from_lan-path_part_and_hop, came_by_hops-path_part_and_rest, end_of_path_part-in_copies, is_path_part-fewer_than_copies}
+use Rattle.mc_theory.proofs.Hops.{is_path_part-push, came_by_hops-from_whole_path_part}
+use Rattle.mc_theory.proofs.Hops.{came_from_lan-path_part_and_hop, came_by_hops-path_part_and_rest}
+use Rattle.mc_theory.proofs.Hops.{end_of_path_part-in_copies, is_path_part-fewer_than_copies}
 use Rattle.mc_theory.proofs.hop_laws.walk_back_finds_the_hops.Goals as goal
 
 pub returns-clause-next_hop : goal.returns-clause-next_hop
-returns-clause-next_hop c = λ n cs d b first hs h part sent on. is_path_part-push n cs d hs b h first part sent on
+returns-clause-next_hop c =
+    λ n cs d b first hs h part sent on. is_path_part-push n cs d hs b h first part sent on
 
 pub returns-clause-ends_at_source : goal.returns-clause-ends_at_source
 returns-clause-ends_at_source c = came_by_hops-from_whole_path_part

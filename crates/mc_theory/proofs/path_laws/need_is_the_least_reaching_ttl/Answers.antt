@@ -1,7 +1,8 @@
 -- By the path down the tree, and by the entries along any path.
 use Rattle.std.proofs.Common.{refl, ap, arith}
 use Rattle.mc_theory.specs.Certificates.{Entry}
-use Rattle.mc_theory.proofs.Paths.{need_at_most-from_passes, passes_hops-from_need, entry-at_path_end, path_to_entry-by_rank}
+use Rattle.mc_theory.proofs.Paths.{need_at_most-from_passes, passes_hops-from_need}
+use Rattle.mc_theory.proofs.Paths.{entry-at_path_end, path_to_entry-by_rank}
 use Rattle.mc_theory.proofs.ReachedLans.{entry-unique_on_lan}
 use Rattle.mc_theory.proofs.path_laws.need_is_the_least_reaching_ttl.Goals as goal
 

@@ -2,7 +2,9 @@
 use Rattle.mc_theory.specs.Paths.{take_out}
 use Rattle.mc_theory.proofs.Paths.{reached_with_ttl-from_carried}
 use Rattle.mc_theory.proofs.EachHearerForwards.{carried-from_path}
-use Rattle.mc_theory.proofs.SpareInterface.{is_spare_interface-exists, is_path-without_spare, path_without-spare, path_without-as_good, is_net-take_out}
+use Rattle.mc_theory.proofs.SpareInterface.{is_spare_interface-exists, is_path-without_spare}
+use Rattle.mc_theory.proofs.SpareInterface.{path_without-spare, path_without-as_good}
+use Rattle.mc_theory.proofs.SpareInterface.{is_net-take_out}
 use Rattle.mc_theory.proofs.path_laws.spare_interface_removal_keeps_reach.Goals as goal
 
 pub returns-clause-one_exists : goal.returns-clause-one_exists

@@ -2,7 +2,8 @@
 use Rattle.std.proofs.Common.{◌≡◌, ◌<◌, List, length, get_or, ap, sym, subst, ◌∙◌}
 use Rattle.mc_theory.specs.Flights.{Waiting, Flight, without_waiting}
 use Rattle.mc_forward.specs.FlightsInDomain.{net_in, flight_of}
-use Rattle.mc_forward.proofs.HandleLemmas.{without_waiting-after_handle, event_of-handled_copy, still_waits-after_handle}
+use Rattle.mc_forward.proofs.HandleLemmas.{without_waiting-after_handle, event_of-handled_copy}
+use Rattle.mc_forward.proofs.HandleLemmas.{still_waits-after_handle}
 use Rattle.mc_forward.proofs.copies.Copies.handle.Goals as goal
 
 pub remove_waiting-requires : goal.remove_waiting-requires

@@ -1,7 +1,8 @@
 use Rattle.std.proofs.Common.{◌≡◌, ℕ, get_or, ap, subst, arith, ◌∙◌}
 use Rattle.mc_forward.specs.Domains.{DomainValue, IsDomain}
 use Rattle.mc_forward.specs.DomainParts.{rows_by_tables}
-use Rattle.mc_forward.proofs.RowLemmas.{rows_of_router-at_index, length-rows_of_router, row_of-rows_of_router, has_valid_entry-from_row_value}
+use Rattle.mc_forward.proofs.RowLemmas.{rows_of_router-at_index, length-rows_of_router}
+use Rattle.mc_forward.proofs.RowLemmas.{row_of-rows_of_router, has_valid_entry-from_row_value}
 use Rattle.mc_forward.proofs.domain.Domain.entry.Goals as goal
 
 pub row-requires : goal.row-requires

@@ -72,7 +72,7 @@ without_waiting-after_handle n f g i w lt read e =
     ap (without_waiting i) e ∙ (leaves_waiting-row n w (n.row w.router) i f lt).0
     ∙ ap (λ o. handle n o (without_waiting i f)) (sym at)
 
--- what is seen of the handling
+-- the event of the handling
 pub event_of-handled_copy : (n : Net) (ws : List Waiting) (i : ℕ) (w own : Waiting) (o : Outcome)
     → i < length ws → w ≡ get_or ws i w → own ≡ w
     → o ≡ outcome_by_row n w (n.row w.router)

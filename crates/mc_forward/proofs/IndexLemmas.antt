@@ -73,7 +73,7 @@ take-map_below xs f d each (suc k) h =
     more ∙ ap (λ ys. ys ++ get_or xs k d ∷ []) (take-map_below xs f d each k (omega (arith, h)))
     ∙ ap (λ y. map f (below k) ++ y ∷ []) (each k (omega (arith, h))) ∙ sym next
 
--- a list whose items are told by their places
+-- a list whose items are known by their places
 pub map_below-from_items : {A : Type 0} (xs : List A) (f : ℕ → A) (n : ℕ) (d : A) → length xs ≡ n
     → ((i : ℕ) → i < n → get_or xs i d ≡ f i)
     → xs ≡ map f (below n)
@@ -81,7 +81,7 @@ map_below-from_items xs f n d size each =
     sym (take_all n xs (omega (arith, size))) ∙ take-map_below xs f d
     (λ i lt. each i (omega (arith, lt, size))) n (omega (arith, size))
 
--- the same of a list that was seen to grow
+-- the same of a list that grew
 pub length-push : {A : Type 0} (ys now : List A) (y : A) (k : ℕ) → now ≡ ys ++ y ∷ []
     → length ys ≡ k → length now ≡ k + 1
 length-push ys now y k more size = ap length more ∙ length-append ys (y ∷ [])

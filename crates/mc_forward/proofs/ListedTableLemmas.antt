@@ -1,5 +1,5 @@
--- A domain of which each router's cache has the rows of the listed flows alone says of each flow
--- what the whole one says.
+-- A domain whose caches have the rows of the listed flows alone has the same facts of each flow as the
+-- whole one.
 use Rattle.std.proofs.Common.{◌≡◌, ℕ, zero, suc, Bool, true, List, [], ◌∷◌, ◌++◌, length}
 use Rattle.std.proofs.Common.{slice_get, Option, Some, None, refl, ap, sym, subst, arith, ◌||◌}
 use Rattle.std.specs.Prelude.{option_and_then}
@@ -83,7 +83,7 @@ have_same_facts-of_listed_parts t parts wholes wants are =
       vifs = λ router vif. sym (vif_of-of_listed_parts t.flows parts wholes are router vif);
     }
 
--- so all is the same that a domain says
+-- so both domains have the same facts
 pub facts-of_same_facts : {d e : DomainValue} → HaveSameFacts d e → facts d ≡ facts e
 facts-of_same_facts same = λ i. record {
   topology = same.topology i;

@@ -89,7 +89,7 @@ row_of-rows_of_router d router flow own r are at =
         → r ≡ row_at (Some t) (slice_get flows flow)
     by t flows e = by_flow t (slice_get flows flow) e
 
--- ---- an entry that is a row stands as a kernel has it
+-- ---- the entry of a row is one that a kernel may have
 
 map_to_oif-oif_pairs : (oifs : List Oif) → map to_oif (oif_pairs oifs) ≡ oifs
 map_to_oif-oif_pairs [] = refl

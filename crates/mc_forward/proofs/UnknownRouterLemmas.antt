@@ -1,4 +1,4 @@
--- What a domain has of a router that its topology hasn't: nothing.
+-- A domain has nothing of a router that isn't in its topology.
 use Rattle.std.proofs.Common.{◌≡◌, ℕ, ◌≤◌, length, slice_get, Option, Some, None, refl, arith}
 use Rattle.std.specs.Prelude.{option_and_then}
 use Rattle.std.specs.FinMap as finite

@@ -46,7 +46,7 @@ vifs_on-single vif_lans router lan k b e =
     ap (λ (t : Bool). map {B = Interface} (λ (vif : ℕ). (router, vif)) (cond t (k ∷ []) [])) e
     ∙ map-filter_of_one router k b
 
--- the lists have what stood in them at first, and a router's vifs so far
+-- the lists have what was in them at first, and a router's vifs so far
 abbrev pub HaveVifs : List (List Interface) → List (List Interface) → List (Option ℕ) → ℕ → ℕ
     → Type 0
 HaveVifs start lists vif_lans router k =
@@ -256,7 +256,7 @@ lists-after_next_router old now vif_lans own lans r size within read before adde
     ∙ ap (λ (o : List (Option ℕ)). interfaces_by_vif_lans vif_lans r lan ++ vifs_on o r lan (below 32)) row
     ∙ sym (interfaces_by_vif_lans-more vif_lans r lan)
 
--- a place that was read, whatever stands for one past the end
+-- a place that was read, whatever the default for one past the end
 pub slice_index_or-from_read : (vif_lans : List (Option ℕ)) (k : ℕ) (d o : Option ℕ) → k < length vif_lans
     → get_or vif_lans k d ≡ o → slice_index_or vif_lans k None ≡ o
 slice_index_or-from_read vif_lans k d o lt read = get_or_default vif_lans k None d lt ∙ read

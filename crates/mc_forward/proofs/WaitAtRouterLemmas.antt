@@ -72,7 +72,7 @@ pub wait_at_routers-none : (routers : ℕ) (f : Flight) → f ≡ record { carri
     → WaitAtRouters routers f
 wait_at_routers-none routers f e = subst (WaitAtRouters routers) (sym e) (λ w k. absurd k)
 
--- what holds of either outcome holds of the one that there was
+-- what holds of both outcomes holds of the one that there was
 pub from_either_outcome : {A T E : Type 0} (r : Result T E) (Q : A → Type 0) (x y z : A) → OnOk r (x ≡ y)
     → OnErr r (x ≡ z) → Q y → Q z → Q x
 from_either_outcome (Ok v) Q x y z same other ok err = subst Q (sym same) ok

@@ -83,7 +83,7 @@ impl<'d> Flight<'d> {
         Ok(Flight { flow, copies })
     }
 
-    /// The flow whose packet it is.
+    /// The flow of the packet.
     pub fn flow_view(&self) -> &FlowView<'d>
         ensures { result.now ≡ record { domain = self.now.domain; flow = self.now.flow } }
     {
@@ -114,7 +114,7 @@ impl<'d> Flight<'d> {
     /// The copies that LANs carried, in order. The first is the source's.
     pub fn copies(&self) -> &[CarriedCopy]
         ensures copies { result.now ≡ self.now.flight.carried }
-        // Each on a LAN of the topology, and sent by one of its routers if not by the source.
+        // Each is on a LAN of the topology, and one of its routers sent it if not the source.
         ensures lans { All (λ c. c.lan < length self.now.domain.topology.lans) result.now }
         ensures senders { All (λ c. IfSome c.sender (λ i.
             i.0 < length self.now.domain.topology.routers)) result.now }

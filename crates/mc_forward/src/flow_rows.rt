@@ -1,5 +1,5 @@
-//! What each router has for each flow, in the order of the flows: whoever goes from flow to flow
-//! reads the rows of each router one after another.
+//! Each router's rows for all flows, in the order of the flows, so that a pass over the flows reads them
+//! one after another.
 
 ghost use Rattle.std.specs.Prelude.{◌≡◌, ◌<◌, ◌++◌, ◌∷◌, [], IfOk, OnOk, Some, length, map};
 ghost use Rattle.std.specs.Prelude.{slice_get};
@@ -16,7 +16,7 @@ use mc_topology::{Flow, Topology};
 use std::alloc::Global;
 use std::marker::Model;
 
-/// What a row has before its outgoing vifs.
+/// A row without its outgoing vifs.
 #[derive(Clone, Copy, Debug)]
 pub(crate) enum RowHead {
     /// The incoming vif of an entry.
@@ -74,7 +74,8 @@ fn push_row(rows: &mut FlatOifs<RowHead>, row: &RowFor<'_>) -> Result<(), Memory
     Ok(())
 }
 
-/// What a cache has for a flow, where that of another router had it at this place.
+/// A cache's row for a flow. The hint is the place at which another router's cache had it, and becomes
+/// the place in this one.
 fn row_of<'c>(cache: &'c CacheTable, flow: &Flow, hint: &mut usize) -> RowFor<'c>
     ensures row { row_value result ≡ row_in_cache cache.now flow.now }
     ensures valid { HasValidEntry result }
@@ -91,7 +92,7 @@ fn row_of<'c>(cache: &'c CacheTable, flow: &Flow, hint: &mut usize) -> RowFor<'c
     }
 }
 
-/// A router's rows for the flows, of which other routers had those of entries at these places.
+/// A router's rows for the flows. The hints are the places at which other routers' caches had them.
 fn flow_rows_of(
     alloc: Global,
     topology: &Topology,

@@ -45,8 +45,7 @@ fn lan_of_vif_number(
     }
 }
 
-/// What the tables keep, as their look-ups tell. It is known of any tables, wherever they were
-/// read.
+/// The rules that all tables keep, wherever they were read. They are facts of the look-ups' contracts.
 fn recall_table_rules(tables: &Tables)
     ensures { AreTables tables.now }
 {

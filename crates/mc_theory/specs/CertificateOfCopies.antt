@@ -5,8 +5,8 @@ use Rattle.std.specs.Prelude.{ℕ, ◌+◌, ◌-◌, max, ◌==◌, if◌then◌
 use Rattle.std.specs.Prelude.{List, [], ◌∷◌, ◌++◌, Option, Some, None}
 use Rattle.mc_theory.specs.Nets.{Net, Row, Interface}
 use Rattle.mc_theory.specs.Nets.Row.{Exact, Open, NoRow}
-use Rattle.mc_theory.specs.Flights.{Copy}
-use Rattle.mc_theory.specs.Certificates.{Entry}
+use Rattle.mc_theory.specs.Flights.{Copy, Flight}
+use Rattle.mc_theory.specs.Certificates.{Entry, IsAccepted}
 use Rattle.mc_theory.specs.Reasons.{entry_at}
 use Rattle.mc_theory.specs.Findings.{from_lan}
 
@@ -50,3 +50,7 @@ entries_after n es (c ∷ cs) = entries_after n (es ++ entry_after n es c ∷ []
 -- the entries of the carried copies
 abbrev pub entries_of : Net → List Copy → List Entry
 entries_of n cs = entries_after n [] cs
+
+-- The entries of the flight's carried copies certify the flow.
+abbrev pub IsCertifiedBy : Net → Flight → Type 0
+IsCertifiedBy n f = IsAccepted n (entries_of n f.carried)

@@ -3,11 +3,11 @@
 ghost use Rattle.std.specs.Prelude.{◌≡◌, ◌≢◌, ◌↔◌, ◌≤◌, ◌+◌, ℕ, Bool, List, [], length, slice_get, Some};
 ghost use Rattle.mc_theory.specs.Nets.{Net, IsNet, WantsBelow, placed_interfaces};
 ghost use Rattle.mc_theory.specs.Flights.{Flight, Pick, Waiting, start, step, run};
-ghost use Rattle.mc_theory.specs.Certificates.{Entry, IsTree, IsServed, IsAccepted, IsRight};
+ghost use Rattle.mc_theory.specs.Certificates.{Entry, IsTree, IsServed, IsRight};
 ghost use Rattle.mc_theory.specs.Findings.{Finding, IsTravel, IsTravelUnfinished, AllWalksEnd};
 ghost use Rattle.mc_theory.specs.Findings.{OnTravel, OnFinding};
 ghost use Rattle.mc_theory.specs.Findings.Finding.{Clean};
-ghost use Rattle.mc_theory.specs.CertificateOfCopies.{entries_of};
+ghost use Rattle.mc_theory.specs.CertificateOfCopies.{entries_of, IsCertifiedBy};
 ghost use Rattle.mc_theory.specs.Events.{event_of, copies_in, strays_in};
 ghost use Rattle.mc_theory.specs.FindingMeaning.{Shows};
 ghost use Rattle.mc_theory.specs.CopyOrigins.{AreInSendingOrder};
@@ -38,7 +38,7 @@ pub fn travel_so_far_is_bounded()
 pub fn clean_travels_certify()
     ensures { (n : Net) (count : ℕ) → IsNet n → WantsBelow n count → 1 ≤ n.ttl → n.ttl ≤ 255 →
         OnFinding n count 255 Clean (λ f.
-        OnFinding n count n.ttl Clean (λ g. IsAccepted n (entries_of n f.carried))) }
+        OnFinding n count n.ttl Clean (λ g. IsCertifiedBy n f)) }
 {}
 
 /// A clean travel at TTL 255 makes entries that meet all conditions but the last.

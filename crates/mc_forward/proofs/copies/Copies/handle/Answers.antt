@@ -1,4 +1,4 @@
--- What was handled is taken away last.
+-- The handled copy is removed last.
 use Rattle.std.proofs.Common.{◌≡◌, ◌<◌, List, length, get_or, ap, sym, subst, ◌∙◌}
 use Rattle.mc_theory.specs.Flights.{Waiting, Flight, without_waiting}
 use Rattle.mc_forward.specs.FlightsInDomain.{net_in, flight_of}

@@ -108,20 +108,20 @@ twins-wants : WantsBelow twins 2
 twins-wants l h = let e = eqb-true l 1 h in omega (arith, e)
 
 -- the twins where r2 doesn't send
-one-twin-accepted : IsAccepted (take_out (1, 1) twins) twins_entries
+one_twin-accepted : IsAccepted (take_out (1, 1) twins) twins_entries
 unfolding below
-one-twin-accepted = (first_reason-none_iff_accepted (take_out (1, 1) twins) 2 twins_entries
+one_twin-accepted = (first_reason-none_iff_accepted (take_out (1, 1) twins) 2 twins_entries
     (is_net-take_out twins (1, 1) twins-net) twins-wants).0 refl
 
-pub one-twin-headline_holds : HeadlineHolds (take_out (1, 1) twins) 2
-one-twin-headline_holds = headline_holds-from_accepted (take_out (1, 1) twins) twins_entries
+pub one_twin-headline_holds : HeadlineHolds (take_out (1, 1) twins) 2
+one_twin-headline_holds = headline_holds-from_accepted (take_out (1, 1) twins) twins_entries
     (is_net-take_out twins (1, 1) twins-net)
-    (omega arith) one-twin-accepted
+    (omega arith) one_twin-accepted
 
 -- without r2 a packet with TTL 2 doesn't get through
-pub one-twin-stops_ttl_2 : IsReachedWithTtl (take_out (1, 1) twins) 2 1 → ⊥
-one-twin-stops_ttl_2 r =
-    let e = entry-at_path_end (take_out (1, 1) twins) twins_entries 2 one-twin-accepted.is_tree
+pub one_twin-stops_ttl_2 : IsReachedWithTtl (take_out (1, 1) twins) 2 1 → ⊥
+one_twin-stops_ttl_2 r =
+    let e = entry-at_path_end (take_out (1, 1) twins) twins_entries 2 one_twin-accepted.is_tree
     (omega arith) r.0 1 r.1 r.2 in
     let least = need_at_most-from_passes 2 r.0 (omega arith) r.2 in
     elim e.1 [

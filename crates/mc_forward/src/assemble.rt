@@ -51,7 +51,7 @@ fn derive_tables_from_reports(
     tables: &[Tables],
     reports: &[ReportList],
 ) -> Result<DerivedTables, Memory>
-    requires given { HaveMatchingCounts topology.now tables.now reports.now }
+    requires matching_counts { HaveMatchingCounts topology.now tables.now reports.now }
     ensures derived { IfOk result (λ w.
         AreDerivedTables (domain_with topology.now tables.now w.wants.items)
         w.vif_lans.items w.interfaces.items w.rows.items) }

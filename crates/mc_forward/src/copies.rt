@@ -58,7 +58,7 @@ fn wait_at_hearers(
     view: &FlowView<'_>,
     copy: &CarriedCopy,
 ) -> Result<(), Memory>
-    requires within { copy.now.lan < length view.now.domain.topology.lans }
+    requires listed_lan { copy.now.lan < length view.now.domain.topology.lans }
     ensures ok { OnOk result (waiting.new.items ≡
         waiting.old.items ++ map (waits_at copy.now.ttl) (hearers (net_in view.now) copy.now)) }
     ensures kept { take (length waiting.old.items) waiting.new.items ≡ waiting.old.items }
@@ -79,7 +79,7 @@ fn wait_at_hearers(
 /// Removes the copy with this index. The others keep their order; those before it are moved, or those
 /// after it, whichever are fewer.
 fn remove_waiting(waiting: &mut VecDeque<WaitingCopy>, index: usize)
-    requires known { index < length waiting.old.items }
+    requires waits { index < length waiting.old.items }
     ensures removed { waiting.new.items ≡ remove waiting.old.items index }
 {
     let _taken = if index == 0 {
@@ -124,7 +124,7 @@ impl Copies {
     /// Puts a copy on its LAN.
     #[inline(always)]
     pub(crate) fn put(&mut self, view: &FlowView<'_>, copy: &CarriedCopy) -> Result<(), Memory>
-        requires within { copy.now.lan < length view.now.domain.topology.lans }
+        requires listed_lan { copy.now.lan < length view.now.domain.topology.lans }
         ensures ok { OnOk result (self.new ≡ put (net_in view.now) copy.now self.old) }
         ensures kept { Extends self.old self.new }
     {
@@ -167,7 +167,7 @@ impl Copies {
         taken: &WaitingCopy,
         oifs: &[Oif],
     ) -> Result<Outcome, Memory>
-        requires bounded { length oifs.now ≤ 32 }
+        requires at_most_32 { length oifs.now ≤ 32 }
         ensures ok { OnOk result (self.new ≡
             sends (net_in view.now) taken.now.router taken.now.ttl (oif_pairs oifs.now) self.old) }
         ensures outcome { IfOk result (λ outcome. outcome_value outcome ≡ outcome_of_sending
@@ -218,7 +218,7 @@ impl Copies {
     /// changed where memory runs out.
     #[inline(always)]
     pub(crate) fn handle(&mut self, flow: &FlowWithRows<'_>, index: usize) -> Result<Event, Memory>
-        requires known { index < length self.old.waiting }
+        requires waits { index < length self.old.waiting }
         ensures ok { OnOk result (self.new ≡ step (net_in flow.now) index self.old) }
         ensures event { IfOk result (λ event.
             option_map (event_of (net_in flow.now)) (slice_get self.old.waiting index)
@@ -250,8 +250,8 @@ impl Copies {
 
     /// Removes the waiting copy with this index.
     pub(crate) fn lose(&mut self, lost: usize)
-        requires known { lost < length self.old.waiting }
-        ensures change { self.new ≡ without_waiting lost self.old }
+        requires waits { lost < length self.old.waiting }
+        ensures removed { self.new ≡ without_waiting lost self.old }
     {
         remove_waiting(&mut self.waiting, lost);
     }

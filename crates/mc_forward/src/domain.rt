@@ -109,7 +109,7 @@ impl Domain {
     /// The LAN that a router's vif is placed on. None for a vif that isn't in its table, for a tunnel
     /// or a register interface, and for a device of which the topology has no interface.
     pub fn placed(&self, router: RouterNo, vif: u8) -> Option<LanNo>
-        requires known { router < length self.now.topology.routers }
+        requires listed_router { router < length self.now.topology.routers }
         ensures lan { result ≡ placed_of self.now router vif }
         ensures listed { IfSome result (λ lan. lan < length self.now.topology.lans) }
     {
@@ -149,7 +149,7 @@ impl Domain {
 
     /// The vifs that are placed on a LAN, by router and then by vif.
     pub fn interfaces(&self, lan: LanNo) -> Interfaces<'_>
-        requires known { lan < length self.now.topology.lans }
+        requires listed_lan { lan < length self.now.topology.lans }
         ensures each_flow { (flow : ℕ) → result ≡ interfaces (net_of self.now flow) lan }
     {
         let interfaces = &self.derived.interfaces[lan.0 as usize];

@@ -47,7 +47,7 @@ impl Model for RouterRows {
 impl RouterRows {
     /// The row of the flow with this number.
     pub(crate) fn row(&self, flow: u32) -> RowFor<'_>
-        requires known { flow < length self.now }
+        requires listed_flow { flow < length self.now }
         ensures item { slice_get self.now flow ≡ Some (row_value result) }
     {
         let (head, oifs) = self.rows.at(flow);
@@ -99,7 +99,7 @@ fn flow_rows_of(
     tables: &Tables,
     hints: &mut Vec<usize>,
 ) -> Result<RouterRows, Memory>
-    requires lengths { length hints.old.items ≡ length topology.now.flows }
+    requires hint_per_flow { length hints.old.items ≡ length topology.now.flows }
     ensures rows { IfOk result (λ rows. rows ≡ map (row_in_cache tables.now.cache) topology.now.flows) }
     ensures hints { OnOk result (length hints.new.items ≡ length topology.now.flows) }
 {

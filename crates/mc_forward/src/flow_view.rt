@@ -37,7 +37,7 @@ impl<'d> Model for FlowView<'d> {
 impl<'d> FlowView<'d> {
     /// The flow with this number.
     pub fn new(domain: &'d Domain, flow: u32) -> FlowView<'d>
-        requires known { flow < length domain.now.topology.flows }
+        requires listed_flow { flow < length domain.now.topology.flows }
         ensures flow { result ≡ record { domain = domain.now; flow = flow } }
         ensures rules { IsFlowOfDomain result }
     {
@@ -87,7 +87,7 @@ impl<'d> FlowView<'d> {
 
     /// Whether a LAN wants the flow.
     pub fn wants(&self, lan: LanNo) -> bool
-        requires known { lan < length self.now.domain.topology.lans }
+        requires listed_lan { lan < length self.now.domain.topology.lans }
         ensures value { result ≡ (net_in self.now).wants lan }
     {
         self.domain.wants(lan, self.flow)
@@ -127,7 +127,7 @@ impl<'d> FlowView<'d> {
 
     /// The interfaces of a LAN.
     pub fn interfaces(&self, lan: LanNo) -> Interfaces<'d>
-        requires known { lan < length self.now.domain.topology.lans }
+        requires listed_lan { lan < length self.now.domain.topology.lans }
         ensures value { result ≡ interfaces (net_in self.now) lan }
     {
         self.domain.interfaces(lan)

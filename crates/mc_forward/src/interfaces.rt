@@ -75,7 +75,7 @@ fn add_router(
     router: RouterNo,
     vif_lans: &VifLans,
 ) -> Result<(), Memory>
-    requires within { (vif lan : ℕ) → slice_index_or vif_lans.now vif None ≡ Some lan →
+    requires listed_lans { (vif lan : ℕ) → slice_index_or vif_lans.now vif None ≡ Some lan →
         lan < length lists.old.items }
     ensures count { length lists.new.items ≡ length lists.old.items }
     ensures each { OnOk result ((lan : ℕ) → lan < length lists.old.items →

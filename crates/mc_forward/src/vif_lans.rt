@@ -72,7 +72,7 @@ pub(crate) fn vif_lans_of_routers(
     topology: &Topology,
     tables: &[Tables],
 ) -> Result<Vec<VifLans>, Memory>
-    requires lengths { length tables.now ≡ length topology.now.routers }
+    requires tables_per_router { length tables.now ≡ length topology.now.routers }
     ensures vif_lans { IfOk result (λ vif_lans. vif_lans.items ≡
         map (λ router. map (placed_in topology.now tables.now router) (below 32))
         (below (length topology.now.routers))) }

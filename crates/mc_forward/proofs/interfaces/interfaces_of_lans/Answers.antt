@@ -19,7 +19,7 @@ loop-number-init c = record {
 
 pub add_router-requires : goal.add_router-requires
 add_router-requires c = record {
-  within = (λ vif lan at.
+  listed_lans = (λ vif lan at.
       let row : c.index-vif_lans-number.result ≡ get_or c.args.vif_lans.now c.loop-number.number [] =
       c.index-vif_lans-number.is ∙ get_or_default c.args.vif_lans.now c.loop-number.number
       c.index-vif_lans-number.result [] c.loop-number-test.true in

@@ -7,7 +7,7 @@ use Rattle.mc_forward.proofs.domain.Domain.entry.Goals as goal
 
 pub row-requires : goal.row-requires
 row-requires c = record {
-  known = (
+  listed_flow = (
       let d = c.args.self.now in
       let all = c.self.inside.derived.rows.items in
       let own = rows_of_router-at_index d all c.index-rows.result.now c.args.router

@@ -17,12 +17,14 @@ use Rattle.mc_filter.specs.declared.tally.ChannelState.{ChannelState}
 use Rattle.mc_filter.specs.declared.tally.ChannelState.TheVariants.{Included, Listed}
 use Rattle.mc_filter.specs.SourceFilter.{has}
 use Rattle.mc_filter.specs.FilterBuilding.{kind_admits, wanted}
-use Rattle.mc_filter.specs.Tallies.{AreStatesAfterRecord, AreTallied, IsTallied, channel_numbered, excludes_with}
+use Rattle.mc_filter.specs.Tallies.{AreStatesAfterRecord, AreTallied, IsTallied, channel_numbered}
+use Rattle.mc_filter.specs.Tallies.{excludes_with}
 use Rattle.mc_filter.specs.Tallies.{state_after_listing, state_after_record}
 
 -- a source that a record lists twice counts once
 state_after_listing-twice : (of_kind : Kind) (excludes : ℕ) (state : ChannelState)
-    → state_after_listing of_kind excludes (state_after_listing of_kind excludes state) ≡ state_after_listing of_kind excludes state
+    → state_after_listing of_kind excludes (state_after_listing of_kind excludes state)
+    ≡ state_after_listing of_kind excludes state
 state_after_listing-twice kind.Include excludes state = refl
 state_after_listing-twice kind.Exclude excludes state = grind (arith, nat_tests)
 state_after_listing-twice (kind.Change type) excludes state = refl
@@ -35,14 +37,16 @@ state_after_record-listed true of_kind excludes state = state_after_listing-twic
 state_after_record-listed false of_kind excludes state = refl
 
 -- a record of the channel's group, with its source as the next one, updates the state as if it listed it
-state_after_record-own_source : (a b c : Bool) (of_kind : Kind) (excludes : ℕ) (state : ChannelState) → (a && b) ≡ true
+state_after_record-own_source : (a b c : Bool) (of_kind : Kind) (excludes : ℕ) (state : ChannelState)
+    → (a && b) ≡ true
     → state_after_record (a && (b || c)) of_kind excludes state ≡ state_after_listing of_kind excludes state
 state_after_record-own_source true true c of_kind excludes state h = refl
 state_after_record-own_source true false c of_kind excludes state h = absurd cc
 state_after_record-own_source false b c of_kind excludes state h = absurd cc
 
 -- updating the channels of the sources that are left gives the same as updating those of all sources
-abbrev pub AreListedUpTo : List ℕ → ℕ → Kind → ℕ → List ℕ → List ℕ → List ChannelState → List ChannelState → Type 0
+abbrev pub AreListedUpTo : List ℕ → ℕ → Kind → ℕ → List ℕ → List ℕ → List ChannelState → List ChannelState
+    → Type 0
 AreListedUpTo channels group of_kind excludes left sources now old =
     (c g s : ℕ) (d : ChannelState) → c < length channels → channel_numbered channels c ≡ (s, g)
     → state_after_record (eqb group g && has left s) of_kind excludes (get_or now c d)
@@ -92,7 +96,8 @@ AreListedUpTo-found channels group of_kind excludes x place own left sources now
           ∙ get_or-set_same now place (state_after_listing of_kind excludes own) d
           (omega (arith, found.0, count)) in
           rw new_own (state_after_record-listed (eqb group g && has left s) of_kind excludes own
-          ∙ sym (state_after_record-own_source (eqb group g) (eqb x s) (has left s) of_kind excludes own listed)
+          ∙ sym (state_after_record-own_source (eqb group g) (eqb x s)
+          (has left s) of_kind excludes own listed)
           ∙ ap (λ t. state_after_record (eqb group g && has (x ∷ left) s) of_kind excludes t) (sym old_own)
           ∙ state)
       | inr there ↦
@@ -223,9 +228,11 @@ AreTallied-more groups channels records left excludes state now place r up count
           let new_state_is : get_or now c d
           ≡ state_after_record (own && has r.sources s) r.kind (get_or excludes g 0) (get_or state c d) =
           state_is
-          ∙ ap (λ b. state_after_record (b && has r.sources s) r.kind (get_or excludes place 0) (get_or state c
+          ∙ ap (λ b. state_after_record (b && has r.sources s) r.kind (get_or excludes place 0)
+          (get_or state c
           d)) no
-          ∙ sym (ap (λ b. state_after_record (b && has r.sources s) r.kind (get_or excludes g 0) (get_or state c
+          ∙ sym (ap (λ b. state_after_record (b && has r.sources s) r.kind (get_or excludes g 0)
+          (get_or state c
           d)) no) in
           rw (new_state_is, seen) (tallied_more own (has r.sources s) r.kind (get_or excludes g 0)
           (get_or state c d) (wanted left group s) all old)

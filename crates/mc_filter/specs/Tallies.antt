@@ -33,7 +33,8 @@ state_after_listing (kind.Unknown type) excludes state = state
 
 -- the state after a record of a kind, by whether it lists the source
 abbrev pub state_after_record : Bool → Kind → ℕ → ChannelState → ChannelState
-state_after_record listed of_kind excludes state = cond listed (state_after_listing of_kind excludes state) state
+state_after_record listed of_kind excludes state =
+    cond listed (state_after_listing of_kind excludes state) state
 
 -- the new state of each channel is its old state after the record
 abbrev pub AreStatesAfterRecord : List ℕ → Record → ℕ → List ChannelState → List ChannelState → Type 0

@@ -18,7 +18,7 @@ use Rattle.mc_filter.specs.declared.tally.ChannelState.TheVariants.{Included, Li
 use Rattle.mc_filter.specs.SourceFilter.{has}
 use Rattle.mc_filter.specs.FilterBuilding.{kind_admits, wanted}
 use Rattle.mc_filter.specs.Tallies.{AreStatesAfterRecord, AreTallied, IsTallied, channel_numbered}
-use Rattle.mc_filter.specs.Tallies.{excludes_with}
+use Rattle.mc_filter.specs.Tallies.{excludes_after}
 use Rattle.mc_filter.specs.Tallies.{state_after_listing, state_after_record}
 
 -- a source that a record lists twice counts once
@@ -127,7 +127,7 @@ tallied-other_type false excludes state left all h = h
 tallied_more : (own listed : Bool) (of_kind : Kind) (excludes : ℕ) (state : ChannelState) (left all : Bool)
     → IsTallied state excludes ((own && kind_admits of_kind listed) || left) all
     → IsTallied (state_after_record (own && listed) of_kind excludes state)
-    (cond own (excludes_with of_kind excludes) excludes) left all
+    (cond own (excludes_after of_kind excludes) excludes) left all
 tallied_more false listed of_kind excludes state left all h = record {
   within = h.within;
   wants = h.wants;
@@ -185,7 +185,7 @@ pub AreTallied-more : (groups channels : List ℕ) (records left : List Record)
     → AreStatesAfterRecord channels r (get_or excludes place 0) state now
     → AreTallied groups channels records excludes state (r ∷ left)
     → AreTallied groups channels records
-    (set excludes place (excludes_with r.kind (get_or excludes place 0))) now left
+    (set excludes place (excludes_after r.kind (get_or excludes place 0))) now left
 AreTallied-more groups channels records left excludes state now place r up count inside at each before
     g c s d below within is =
     let rises = AllPairs-from_increasing groups up in
@@ -198,13 +198,13 @@ AreTallied-more groups channels records left excludes state now place r up count
       | inl here ↦
           let yes : own ≡ true = eq-eqb r.group group (sym at ∙ ap (λ n. get_or groups n 0) (sym
           here)) in
-          let seen : get_or (set excludes place (excludes_with r.kind (get_or excludes place 0))) g
+          let seen : get_or (set excludes place (excludes_after r.kind (get_or excludes place 0))) g
           0
-          ≡ cond own (excludes_with r.kind (get_or excludes place 0)) (get_or excludes place 0) =
-          ap (λ n. get_or (set excludes place (excludes_with r.kind (get_or excludes place 0))) n 0)
+          ≡ cond own (excludes_after r.kind (get_or excludes place 0)) (get_or excludes place 0) =
+          ap (λ n. get_or (set excludes place (excludes_after r.kind (get_or excludes place 0))) n 0)
           here
-          ∙ get_or-set_same excludes place (excludes_with r.kind (get_or excludes place 0)) 0 inside
-          ∙ sym (ap (λ b. cond b (excludes_with r.kind (get_or excludes place 0)) (get_or excludes
+          ∙ get_or-set_same excludes place (excludes_after r.kind (get_or excludes place 0)) 0 inside
+          ∙ sym (ap (λ b. cond b (excludes_after r.kind (get_or excludes place 0)) (get_or excludes
           place 0)) yes) in
           rw (state_is, seen) (tallied_more own (has r.sources s) r.kind (get_or excludes place 0)
           (get_or state c d)
@@ -219,11 +219,11 @@ AreTallied-more groups channels records left excludes state now place r up count
                 grind (arith, there, rises g place 0, rises place g 0, one, below, inside, count))
             | inr apart ↦ grind (arith, nat_tests, apart)
           ] in
-          let seen : get_or (set excludes place (excludes_with r.kind (get_or excludes place 0))) g
+          let seen : get_or (set excludes place (excludes_after r.kind (get_or excludes place 0))) g
           0
-          ≡ cond own (excludes_with r.kind (get_or excludes g 0)) (get_or excludes g 0) =
-          get_or-set_other excludes place g (excludes_with r.kind (get_or excludes place 0)) 0 there
-          ∙ sym (ap (λ b. cond b (excludes_with r.kind (get_or excludes g 0)) (get_or excludes g 0))
+          ≡ cond own (excludes_after r.kind (get_or excludes g 0)) (get_or excludes g 0) =
+          get_or-set_other excludes place g (excludes_after r.kind (get_or excludes place 0)) 0 there
+          ∙ sym (ap (λ b. cond b (excludes_after r.kind (get_or excludes g 0)) (get_or excludes g 0))
           no) in
           let new_state_is : get_or now c d
           ≡ state_after_record (own && has r.sources s) r.kind (get_or excludes g 0) (get_or state c d) =

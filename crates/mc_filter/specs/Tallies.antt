@@ -43,8 +43,8 @@ AreStatesAfterRecord channels r excludes old new =
     get_or new c d ≡ state_after_record (r.group == g && has r.sources s) r.kind excludes (get_or old c d)
 
 -- the number of EXCLUDE records, with one more record of this kind
-abbrev pub excludes_with : Kind → ℕ → ℕ
-excludes_with of_kind excludes = cond (is_exclude of_kind) (excludes + 1) excludes
+abbrev pub excludes_after : Kind → ℕ → ℕ
+excludes_after of_kind excludes = cond (is_exclude of_kind) (excludes + 1) excludes
 
 -- the state counts no more EXCLUDE records than there were
 abbrev pub IsCountWithin : ChannelState → ℕ → Type 0

@@ -22,7 +22,7 @@ missed-in_lans n cs [] l h = absurd cc
 missed-in_lans n cs (x ∷ ls) l h =
     missed-cons n cs x l ls (n.wants x) (is_some (first_copy_on cs x)) h (missed-in_lans n cs ls l)
 
--- what a flight shows that misses a LAN
+-- a flight with the finding `Missed`
 finding-missed_lan : (o : Option ℕ) (l : ℕ) → Some (missed_finding o) ≡ Some (Missed l) → o ≡ Some l
 finding-missed_lan None l h = absurd cc
 finding-missed_lan (Some m) l h = cc
@@ -49,7 +49,7 @@ finding-no_double_missed n count f None l h = finding-no_strays_missed n count f
 finding-no_double_missed n count f (Some c) l h =
     absurd (finding-other_than_missed (walk_visits n f.carried c.lan (length f.carried) c.sender) c.lan l h)
 
--- so one that a travel misses
+-- so is a LAN that a travel misses
 pub missed_lan-below_count : (n : Net) (count : ℕ) (numbers : List ℕ) (last : Bool) (picks : List ℕ)
     (f : Flight) (l : ℕ) → IsTravel n count numbers last picks f (Missed l) → l < count
 missed_lan-below_count n count numbers last [] f l is = finding-no_double_missed n count f (first_double [] f.carried) l is

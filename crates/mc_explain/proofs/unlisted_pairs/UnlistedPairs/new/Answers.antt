@@ -21,7 +21,7 @@ returns c =
     let summary = c.args.summary.now in
     let pairs = shown_unlisted_pairs c.args.all summary in
     let shown : c.in_ok-shown.shown.items ≡ map (with_routers t summary) pairs =
-    c.in_ok-shown.ensures
+    c.in_ok-shown.ensures.ok
     ∙ ap (map (with_routers t summary)) (c.deref.ensures.value ∙ c.in_ok-pairs.ensures) in
     let pair_rows : c.count_rows_of_pairs.result ≡ count_rows_of_pairs t summary pairs =
     c.count_rows_of_pairs.ensures

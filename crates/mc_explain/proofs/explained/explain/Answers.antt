@@ -15,8 +15,8 @@ explain_least_ttl-requires-clause-path c =
     c.in-FoundAtFlowTtl.least c.new-view.ensures.rules c.new-view.ensures.flow examined_flights.0 examined_flights.1 examined_flights.2
     (ap finding_value c.in-Missed.is)
 
-pub finding-requires-in_default : goal.finding-requires-in_default
-finding-requires-in_default c = record {
+pub explain_finding-requires-in_default : goal.explain_finding-requires-in_default
+explain_finding-requires-in_default c = record {
   travel = (
       let d = c.args.domain.now in
       let examined_flights = subst (λ (x : ExaminedFlights). HasExaminedFlights d c.args.flow x)

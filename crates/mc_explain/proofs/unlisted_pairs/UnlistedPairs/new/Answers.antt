@@ -10,7 +10,7 @@ use Rattle.mc_explain.proofs.unlisted_pairs.UnlistedPairs.new.Goals as goal
 
 pub with_routers-requires : goal.with_routers-requires
 with_routers-requires c = record {
-  valid = (
+  sorted = (
       subst (IsStrictlySortedBy key_cmp) (sym (c.deref.ensures.value ∙ c.in_ok-pairs.ensures))
       (is_strictly_sorted_by-shown_pairs c.args.all (flat_map (λ (own : SummaryValue). own.lowest) c.args.summary.now)));
 }
@@ -31,5 +31,5 @@ returns c =
       shown = shown;
       further = c.saturating_sub-further.ensures
           ∙ ap₂ (λ (a b : ℕ). a - b) c.count_unlisted_rows.ensures.rows pair_rows;
-      few = omega (arith, c.saturating_sub-further.ensures, c.count_unlisted_rows.ensures.few);
+      bounded = omega (arith, c.saturating_sub-further.ensures, c.count_unlisted_rows.ensures.bounded);
     }

@@ -4,7 +4,7 @@ use Rattle.mc_theory.specs.Flights.{Copy}
 use Rattle.mc_theory.specs.Paths.{Hop, need}
 use Rattle.mc_forward.specs.FlightsInDomain.{net_in}
 use Rattle.mc_explain.proofs.FoundCopyLemmas.{held-not_none_on_first, held-is_first_copy, found_hops-are_path, is_remedy-from_second_copy}
-use Rattle.mc_explain.proofs.explained.take_out.Goals as goal
+use Rattle.mc_explain.proofs.explained.remedy_for.Goals as goal
 
 pub unreachable-requires : goal.unreachable-requires
 unreachable-requires c =

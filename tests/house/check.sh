@@ -59,10 +59,10 @@ head='^(abbrev |unfoldable )?(pub )?'
 # --- how crates speak of steps, faults and failures ---
 rule 'a call that gives what a definition says (Gives, by cases)' 1..1 "$(lines '^Gives .*\(Err ' $specs)"
 rule 'a step after another (>>=)' 1..1 "$(lines "${head}◌>>=◌ :" $specs)"
-rule "another crate's fault as ours (refused_as)" 1..1 "$(lines "${head}(refused_as|judged) :" $specs)"
+rule "another crate's fault as ours (map_fault)" 1..1 "$(lines "${head}(map_fault|judged) :" $specs)"
 rule 'a step that was taken (bind_ok)' 1..1 "$(lines '^ *(pub )?bind_ok :' $proofs)"
 rule 'the octets of a number in an order' 1..1 "$(lines "${head}octets_in_order :" $specs)"
-rule 'a count of failures by its own cases' 2..2 "$(lines "${head}failed_[a-z_]* :" $specs)"
+rule 'a count of failures by its own cases' 2..2 "$(lines "${head}failures_after_[a-z_]+ :" $specs)"
 
 # --- the parts of a domain ---
 # (one more is how a vif is printed that has no device)
@@ -74,14 +74,14 @@ rule 'a file taken as a part (FilePart)' 1..1 "$(lines 'struct FilePart' $source
 # --- a flow, and a run ---
 rule 'a view of a flow' 1..1 "$(lines 'struct (FlowView|FlowRows|FlowNet|FlowTables|Followed)' $sources)"
 rule 'an item for each LAN, in a vector' 1..1 "$(lines ': Vec<Option<' $sources)"
-rule 'the text and the answer of a run' 1..1 "$(lines 'struct (Said|Told|Verdicts) ' $sources)"
-rule 'lines that prove what the runs answer' 100..180 "$(cat crates/*/proofs/*/run_*/Answers.antt | wc -l)"
+rule 'the text and the answer of a run' 1..1 "$(lines 'struct (RunOutput|RunText|Verdicts) ' $sources)"
+rule 'lines that prove what the runs answer' 100..180 "$(cat crates/mc_run/proofs/*/run_*/Answers.antt | wc -l)"
 
 # --- names ---
 rule 'identifiers that hold a word of several meanings' 0..0 "$(python3 tests/house/words.py | wc -l)"
 rule 'identifiers that were looked at' 9000..99999 "$(python3 tests/house/words.py count)"
 rule "a LAN's name by its number, and a router's" 2..2 "$(lines "${head}(lan_name|router_name) :" $specs)"
-rule "a word with a LAN's name, and with a router and its vif" 2..2 "$(lines 'struct At(Lan|Vif)' $sources)"
+rule "a word with a LAN's name, and with a router and its vif" 2..2 "$(lines 'struct WordAt(Lan|Vif)' $sources)"
 rule 'facts by the name IsKept' 0..0 "$(lines "${head}(record )?IsKept" $specs)"
 rule 'files of definitions of at most 15 lines' 1..5 "$(small 15 $specs)"
 rule 'lemmas and definitions that nothing leads to' 0..0 "$(python3 tests/house/uncited.py | wc -l)"

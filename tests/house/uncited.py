@@ -5,8 +5,8 @@
 
 Looked at are the lemmas of crates/*/proofs (not what stands in Answers, Invariants and Proof, whose names are the
 prover's own) and the definitions of crates/*/specs. One is cited by the code, in a clause, `using(..)` or
-`unfolding(..)`, by an answer, or by a lemma or definition that is itself cited. The sentences of Worked*.antt and
-Examples.antt are cited by nobody on purpose, and what they cite is cited.
+`unfolding(..)`, by an answer, or by a lemma or definition that is itself cited. The sentences of Example*.antt
+are cited by nobody on purpose, and what they cite is cited.
 
 A name is read with its module: a lemma of the same name in another crate's file is another. Each line that is printed
 is `FILE: NAME`. The status is 1 if there is one.
@@ -17,7 +17,7 @@ import sys
 
 TOP = os.path.join(os.path.dirname(os.path.abspath(__file__)), "..", "..")
 ANSWERS = ("Answers.antt", "Invariants.antt", "Proof.antt")
-SENTENCES = re.compile(r"(?:Worked\w*|Examples)\.antt$")
+SENTENCES = re.compile(r"Example\w*\.antt$")
 
 STRING = re.compile(r'"(?:[^"\\\n]|\\.)*"')
 IMPORT = re.compile(

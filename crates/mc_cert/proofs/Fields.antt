@@ -1,4 +1,4 @@
--- What stands under a key is read, and what is read stands there.
+-- What is read under a key is the key's value, and the key's value is read.
 use Rattle.std.proofs.Common.{◌≡◌, ℕ, ◌≤◌, cond, List, length, Option, Some, None, Ok, Err, nat_le}
 use Rattle.std.proofs.Common.{◌&&◌, le-leb, refl, sym, ap, subst, ◌∙◌}
 use Rattle.std.specs.Option.{ok_or}
@@ -6,7 +6,7 @@ use Rattle.std.proofs.lemmas.Bool.{leb-true, and_parts}
 use Rattle.serde_json.specs.Data.{Num, unsigned, negative, float, Data, null, boolean, number}
 use Rattle.serde_json.specs.Data.{string, array, object, Items, Members}
 use Rattle.serde_json.specs.Find.{get_member, as_str, as_number, as_array, as_object, as_u64}
-use Rattle.mc_topology.proofs.Steps.{bind_ok, test_ok, ok_or_ok, ok_is}
+use Rattle.mc_topology.proofs.Steps.{bind_ok, test_ok, ok_or_ok, ok_injective}
 use Rattle.mc_cert.specs.declared.fault.CertFaultKind.TheVariants.{MissingKey, BadKind, BadNumber}
 use Rattle.mc_cert.specs.declared.fault.CertFaultKind.TheVariants.{UnknownKey, TooMany}
 use Rattle.mc_cert.specs.Object.{has_only, rows_in, text_of, number_of, list_of, object_of, at_key}
@@ -89,7 +89,7 @@ pub in_range-sound : (low high : ℕ) (o : Option ℕ) (n : ℕ) → in_range lo
 in_range-sound low high None n e = absurd cc
 in_range-sound low high (Some m) n e =
     let t = test_ok (nat_le low m && nat_le m high) BadNumber (Ok m) n e in
-    let same : m ≡ n = ok_is m n t.1 in
+    let same : m ≡ n = ok_injective m n t.1 in
     let (from, to) = and_parts _ _ t.0 in (
       ap Some same,
       subst (λ k. low ≤ k) same (leb-true _ _ from),
@@ -122,7 +122,7 @@ IsObject-from_object_of known d ms e =
     let a = bind_ok (ok_or (as_object d) BadKind)
     (λ ns. cond (has_only known ns) (Ok ns) (Err UnknownKey)) ms e in
     let t = test_ok (has_only known a.0) UnknownKey (Ok a.0) ms a.2 in
-    let same : a.0 ≡ ms = ok_is a.0 ms t.1 in
+    let same : a.0 ≡ ms = ok_injective a.0 ms t.1 in
     record {
       members = object-from_as_object d ms (ok_or_ok (as_object d) BadKind a.0 a.1 ∙ ap Some same);
       keys = ap (has_only known) (sym same) ∙ t.0;
@@ -140,7 +140,7 @@ AreRows-from_list_of d rows e =
     let a = bind_ok (ok_or (as_array d) BadKind) (λ items. Ok (rows_in items)) rows e in (
       a.0,
       array-from_as_array d a.0 (ok_or_ok (as_array d) BadKind a.0 a.1),
-      sym (ok_is (rows_in a.0) rows a.2),
+      sym (ok_injective (rows_in a.0) rows a.2),
     )
 
 pub list_of-from_AreRows : (d : Data) (rows : List Data) → AreRows d rows → list_of d ≡ Ok rows
@@ -163,7 +163,7 @@ pub at_most-sound : (most : ℕ) (rows taken : List Data) → at_most most rows 
 unfolding at_most
 at_most-sound most rows taken e =
     let t = test_ok (nat_le (length rows) most) TooMany (Ok rows) taken e in
-    let same : rows ≡ taken = ok_is rows taken t.1 in
+    let same : rows ≡ taken = ok_injective rows taken t.1 in
     (same, subst (λ (rs : List Data). length rs ≤ most) same (leb-true (length rows) most t.0))
 
 pub at_most-complete : (most : ℕ) (rows : List Data) → length rows ≤ most → at_most most rows ≡ Ok rows

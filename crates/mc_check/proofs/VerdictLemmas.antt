@@ -1,4 +1,4 @@
--- What a verdict by the first reason says.
+-- What a verdict by the first reason promises.
 use Rattle.std.proofs.Common.{◌≡◌, ℕ, suc, ◌<◌, ◌≤◌, ◌^◌, inl, inr, All, List, [], ◌∷◌}
 use Rattle.std.proofs.Common.{map, length, Option, Some, None, refl, sym, subst, ◌∙◌, arith}
 use Rattle.std.proofs.lemmas.List.{length-map}
@@ -17,7 +17,7 @@ use Rattle.mc_check.specs.Verdicts.{verdict_by, YesIffAccepted, YesCountsEntries
 use Rattle.mc_check.specs.Verdicts.{YesDelivers, YesIsRight, YesKeepsHeadline}
 use Rattle.mc_check.specs.declared.verdict.Reason.{Reason}
 
--- the reason that was found is the first, and the net's tables are in order
+-- this is the first reason, on a net whose tables are valid
 pub record IsFirstReason (n : Net) (count : ℕ) (es : List Entry) (o : Option Reason) : Type 0 where
   pub net : IsNet n
   pub wants : WantsBelow n count
@@ -37,15 +37,15 @@ yes_iff_accepted n count es (Some r) j = (
       ∙ (first_reason-none_iff_accepted n count es j.net j.wants).1 acc in absurd cc),
 )
 
-pub copy_count : (n : Net) (es : List Entry) (o : Option Reason)
+pub yes_counts_entries : (n : Net) (es : List Entry) (o : Option Reason)
     → YesCountsEntries n es (verdict_by o (length es))
-copy_count n es None = refl
-copy_count n es (Some r) = tt
+yes_counts_entries n es None = refl
+yes_counts_entries n es (Some r) = tt
 
-pub reason_is_first : (n : Net) (count : ℕ) (es : List Entry) (o : Option Reason) → IsFirstReason n count es o
+pub no_gives_first_reason : (n : Net) (count : ℕ) (es : List Entry) (o : Option Reason) → IsFirstReason n count es o
     → NoGivesFirstReason count n es (verdict_by o (length es))
-reason_is_first n count es None j = tt
-reason_is_first n count es (Some r) j = sym j.reason_is_first
+no_gives_first_reason n count es None j = tt
+no_gives_first_reason n count es (Some r) j = sym j.reason_is_first
 
 pub yes_is_safe : (n : Net) (count : ℕ) (es : List Entry) (o : Option Reason) → IsFirstReason n count es o
     → YesIsSafe n es (verdict_by o (length es))
@@ -81,9 +81,9 @@ entry_lan-below_count (e ∷ es) count l all (inr h) = entry_lan-below_count es 
 pub length-accepted_entries : (n : Net) (es : List Entry) (count : ℕ) → IsAccepted n es
     → All (λ e. e.lan < count) es → length es ≤ count
 length-accepted_entries n es count acc all =
-    let entry_count_fits = length-of_distinct_below (map (λ (e : Entry). e.lan) es) count acc.is_tree.one_entry
+    let bound = length-of_distinct_below (map (λ (e : Entry). e.lan) es) count acc.is_tree.one_entry
     (λ l h. entry_lan-below_count es count l all h) in
-    omega (arith, entry_count_fits, length-map es (λ (e : Entry). e.lan))
+    omega (arith, bound, length-map es (λ (e : Entry). e.lan))
 
 pub is_first_reason-of_domain : (d : DomainValue) (flow : ℕ) (es : List Entry) (o : Option Reason) → IsDomain d
     → flow < length d.topology.flows
@@ -96,7 +96,7 @@ is_first_reason-of_domain d flow es o ok lt e = record {
   reason_is_first = e;
 }
 
--- with no reason the entries are few
+-- without a reason, the number of entries fits into 32 bits
 pub entry_count_fits : (d : DomainValue) (flow : ℕ) (es : List Entry) (o : Option Reason) → IsDomain d
     → IsFirstReason (net_of d flow) (length d.topology.lans) es o
     → All (λ e. e.lan < length d.topology.lans) es → o ≡ None → length es < 2 ^ 32

@@ -6,7 +6,7 @@ ghost use Rattle.std.specs.String.{string_bytes};
 ghost use Rattle.mc_forward.specs.FlightsInDomain.{net_in};
 ghost use Rattle.mc_forward.specs.ListedTables.{facts};
 ghost use Rattle.mc_explain.specs.FirstEight.{IsFirstEightOf};
-ghost use Rattle.mc_explain.specs.ListedFlow.{ForListedFlow};
+ghost use Rattle.mc_explain.specs.ExplanationText.{ForListedFlow};
 ghost use Rattle.mc_explain.specs.SearchContext.{first_lines_text_in, search_line_text_in, shown_line_text_in};
 ghost use Rattle.mc_explain.specs.SearchReach.{lan_search_text};
 ghost use Rattle.mc_explain.specs.SearchText.{carries_text, expected_text, from_no_lan_text, interface_text};

@@ -5,7 +5,7 @@ use Rattle.std.specs.Prelude.{nat_le, if◌then◌else◌}
 use Rattle.std.proofs.lemmas.Bool.{leb-true, le-leb}
 use Rattle.mc_text.specs.Steps.{◌>>=◌, map_fault}
 use Rattle.mc_text.specs.Bundle.{PartText, max_part}
-use Rattle.mc_topology.proofs.Steps.{ok_is}
+use Rattle.mc_topology.proofs.Steps.{ok_injective}
 use Rattle.mc_files.specs.FilePart.{bytes_within_max_part, file_part}
 use Rattle.mc_files.specs.Files.{FileText, file_named}
 use Rattle.mc_files.specs.Layout.{Slot, file_name, part_name}
@@ -31,7 +31,7 @@ IsPartOfFile-from_size_test : (b : Bool) (bytes name : List ℕ) (part : PartTex
     (record { name = name; bytes = bytes })) ≡ Ok part
     → IsPartOfFile (Some bytes) name part
 IsPartOfFile-from_size_test true bytes name part small e =
-    let is : record { name = name; bytes = bytes } ≡ part = ok_is _ part e in
+    let is : record { name = name; bytes = bytes } ≡ part = ok_injective _ part e in
     subst (λ (p : PartText). IsPartOfFile (Some bytes) name p) is
     (refl, refl, leb-true (length bytes) max_part small)
 IsPartOfFile-from_size_test false bytes name part small e = absurd cc

@@ -1,4 +1,4 @@
--- What a bundle's parts are read as is what they stand for.
+-- A bundle's parts denote what they are read as.
 use Rattle.std.specs.Prelude.{◌≡◌, ℕ, zero, suc, ◌+◌, Bool, true, false, List, [], ◌∷◌, ◌++◌, length}
 use Rattle.std.specs.Prelude.{drop, map, flat_map, slice_get, Option, Some, None, is_some}
 use Rattle.std.specs.Prelude.{Ok, refl}
@@ -20,7 +20,7 @@ use Rattle.mc_input.specs.InputReading.{named, part_with_slot_name, part_name_fa
 use Rattle.mc_input.specs.InputReading.{input_of_parts, certificate_in}
 use Rattle.mc_input.specs.declared.fault.InputFault.TheVariants.{Parts}
 use Rattle.mc_input.proofs.ReadingLemmas.{drop-slice_get}
-use Rattle.mc_input.proofs.SourceOfPartsLemmas.{IsClosedUnderHops, GivesSlotNames, judged-from_read_input, HasInputParts-from_read_input, read_input-denoted}
+use Rattle.mc_input.proofs.SourceOfPartsLemmas.{Serves, GivesSlotNames, judged-from_read_input, HasInputParts-from_read_input, read_input-denoted}
 
 -- ---- one part
 
@@ -43,7 +43,7 @@ pub part_with_slot_name-Ok : (parts : List PartText) (n : ℕ) (slot : Slot) (pa
 part_with_slot_name-Ok parts n slot part at is =
     rw (at, (bytes_eq-Decides part.name (part_name slot)).1 is) refl
 
--- what a list has at a place is what it begins with from there on
+-- the item at an index is the first one from that index on
 pub slice_get-from_drop : {A : Type 0} (xs : List A) (i : ℕ) (y : A) (ys : List A) → drop i xs ≡ y ∷ ys
     → slice_get xs i ≡ Some y
 slice_get-from_drop [] zero y ys e = absurd (cc)
@@ -60,7 +60,7 @@ drop-more xs i y ys e =
 
 -- those that are given are the bundle's
 drop-from_Serves : (parts : List PartText) (n : ℕ) (slots : List Slot) (here end : List PartText)
-    → IsClosedUnderHops (part_with_slot_name parts) n slots here end → end ≡ drop (n + length slots) parts
+    → Serves (part_with_slot_name parts) n slots here end → end ≡ drop (n + length slots) parts
     → here ≡ drop n parts
 drop-from_Serves parts n [] here end h is =
     let same : n + 0 ≡ n = omega arith in h ∙ is ∙ ap (λ (k : ℕ). drop k parts) same
@@ -75,7 +75,7 @@ drop-from_Serves parts n (slot ∷ more) (part ∷ here) end h is =
 -- and those with the names of the slots are given for them
 Serves-from_names : (parts : List PartText) (n : ℕ) (slots more : List Slot) (here : List PartText)
     → drop n parts ≡ here → map (λ part. part.name) here ≡ map part_name (slots ++ more)
-    → IsClosedUnderHops (part_with_slot_name parts) n slots here (drop (n + length slots) parts)
+    → Serves (part_with_slot_name parts) n slots here (drop (n + length slots) parts)
 Serves-from_names parts n [] more here e names =
     let same : n ≡ n + 0 = omega arith in sym e ∙ ap (λ (k : ℕ). drop k parts) same
 Serves-from_names parts n (slot ∷ slots) more [] e names = absurd (cc)
@@ -84,11 +84,11 @@ Serves-from_names parts n (slot ∷ slots) more (part ∷ here) e names =
     let rest : map (λ (p : PartText). p.name) here ≡ map part_name (slots ++ more) = cc in
     let same : n + 1 + length slots ≡ n + length (slot ∷ slots) = omega arith in (
       part_with_slot_name-Ok parts n slot part (slice_get-from_drop parts n part here e) first,
-      subst (λ (k : ℕ). IsClosedUnderHops (part_with_slot_name parts) (n + 1) slots here (drop k parts)) same
+      subst (λ (k : ℕ). Serves (part_with_slot_name parts) (n + 1) slots here (drop k parts)) same
           (Serves-from_names parts (n + 1) slots more here (drop-more parts n part here e) rest),
     )
 
--- ---- the names of parts that stand for an input
+-- ---- the names of parts that denote an input
 
 names-PartsDenoteTables : (rs : List RouterRow) (here : List PartText) (ts : List TablesValue)
     (rest : List PartText) (more : List Slot) → PartsDenoteTables rs here ts rest
@@ -191,7 +191,7 @@ None-from_part_name_fault : (o : Option ℕ) → part_name_fault o ≡ Ok tt →
 None-from_part_name_fault None e = refl
 None-from_part_name_fault (Some n) e = absurd (cc)
 
--- the parts that are judged have the names of the slots
+-- parts that pass the check have the names of the slots
 pub names-from_check_part_names : (certified : Bool) (parts : List PartText) (t : TopologyValue)
     → check_part_names certified parts t ≡ Ok tt
     → map part_name (slots certified t) ≡ map (λ part. part.name) parts
@@ -208,7 +208,7 @@ check_part_names-Ok certified parts t e =
     subst (λ (others : List (List ℕ)). first_mismatch names others ≡ None) (sym e) (first_mismatch-same_names names)
     in rw none refl
 
--- parts that are read as an input stand for it
+-- parts that are read as an input denote it
 pub PartsDenoteInput-from_input_of_parts : (certified : Bool) (parts : List PartText) (v : InputValue)
     → input_of_parts certified parts ≡ Ok v → PartsDenoteInput parts v
     (certificate_in certified parts v.topology)
@@ -228,7 +228,7 @@ PartsDenoteInput-from_input_of_parts certified parts v e =
     subst (λ (ps : List PartText). PartsDenoteInput ps v (certificate_in certified parts t)) same
     all.parts_denote
 
--- and parts that stand for one are read as it, and the last is the certificate
+-- and parts that denote one are read as it, with the last as the certificate
 pub input_of_parts-Ok : (certified : Bool) (parts : List PartText) (v : InputValue)
     (certificate : Option (List ℕ)) → is_some certificate ≡ certified
     → PartsDenoteInput parts v certificate

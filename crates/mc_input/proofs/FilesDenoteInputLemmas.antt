@@ -1,4 +1,4 @@
--- What a folder's files are read as is what they stand for.
+-- A folder's files denote what they are read as.
 use Rattle.std.specs.Prelude.{◌≡◌, ℕ, ◌+◌, false, List, [], ◌∷◌, None, Ok}
 use Rattle.std.specs.Prelude.{refl}
 use Rattle.std.specs.List.{AllByRecursion}
@@ -13,7 +13,7 @@ use Rattle.mc_input.specs.SourceFault.{from_file_fault}
 use Rattle.mc_input.specs.FilesInput.{FilesDenoteInput}
 use Rattle.mc_input.specs.FilesReading.{part_from_file, input_of_files}
 use Rattle.mc_input.specs.declared.source_fault.SourceFault.TheVariants.{Input}
-use Rattle.mc_input.proofs.SourceOfPartsLemmas.{IsClosedUnderHops, GivesSlotNames, HasInputParts-from_read_input, read_input-denoted}
+use Rattle.mc_input.proofs.SourceOfPartsLemmas.{Serves, GivesSlotNames, HasInputParts-from_read_input, read_input-denoted}
 
 GivesSlotNames-part_from_file : (files : List FileText) → GivesSlotNames (part_from_file files)
 GivesSlotNames-part_from_file files n slot part e =
@@ -21,7 +21,7 @@ GivesSlotNames-part_from_file files n slot part e =
 
 -- the parts that are made of the files are packed of them
 ArePacked-from_Serves : (files : List FileText) (n : ℕ) (slots : List Slot) (parts : List PartText)
-    → IsClosedUnderHops (part_from_file files) n slots parts []
+    → Serves (part_from_file files) n slots parts []
     → ArePacked files slots parts × AllByRecursion IsWithinMaxPart parts
 ArePacked-from_Serves files n [] [] h = (tt, tt)
 ArePacked-from_Serves files n [] (part ∷ parts) h = absurd (cc)
@@ -33,7 +33,7 @@ ArePacked-from_Serves files n (slot ∷ slots) (part ∷ parts) h =
 
 Serves-from_ArePacked : (files : List FileText) (n : ℕ) (slots : List Slot) (parts : List PartText)
     → ArePacked files slots parts → AllByRecursion IsWithinMaxPart parts
-    → IsClosedUnderHops (part_from_file files) n slots parts []
+    → Serves (part_from_file files) n slots parts []
 Serves-from_ArePacked files n [] [] packed small = refl
 Serves-from_ArePacked files n [] (part ∷ parts) packed small = absurd packed
 Serves-from_ArePacked files n (slot ∷ slots) [] packed small = absurd packed
@@ -42,7 +42,7 @@ Serves-from_ArePacked files n (slot ∷ slots) (part ∷ parts) packed small = (
   Serves-from_ArePacked files (n + 1) slots parts packed.2 small.1,
 )
 
--- what the files are read as, they stand for
+-- files denote the input that they are read as
 pub FilesDenoteInput-from_input_of_files : (files : List FileText) (v : InputValue) → input_of_files files ≡ Ok v
     → FilesDenoteInput files v
 FilesDenoteInput-from_input_of_files files v e =
@@ -51,7 +51,7 @@ FilesDenoteInput-from_input_of_files files v e =
     let packed = ArePacked-from_Serves files 0 (slots false v.topology) all.parts all.served in
     record { parts = all.parts; packed = packed.0; sizes = packed.1; parts_denote = all.parts_denote }
 
--- and files that stand for an input are read as it
+-- and files that denote an input are read as it
 pub input_of_files-Ok : (files : List FileText) (v : InputValue) → FilesDenoteInput files v
     → input_of_files files ≡ Ok v
 input_of_files-Ok files v h =

@@ -5,7 +5,7 @@ ghost use Rattle.std.specs.String.{string_bytes};
 ghost use Rattle.serde_json.specs.Data.{Data, Members, boolean, no_members, null, object};
 ghost use Rattle.serde_json.specs.Data.{put as with_member, string};
 ghost use Rattle.serde_json.specs.View.{members_view, view as data_of};
-ghost use Rattle.mc_json.specs.Fields.{HasMembers};
+ghost use Rattle.mc_json.specs.ObjectLines.{HasMembers};
 ghost use Rattle.mc_json.specs.RowData.{count_data, list_data};
 ghost use Rattle.mc_json.specs.CauseData.{lan_data, router_data};
 

@@ -1,4 +1,4 @@
--- What the copies of a clean travel at TTL 255 make.
+-- The certificate entries of the copies of a clean travel at TTL 255.
 use Rattle.std.proofs.Common.{◌≡◌, ℕ, ◌<◌, ◌≤◌, inl, inr, All, true, false, List, [], ◌∷◌, ◌++◌, map}
 use Rattle.std.proofs.Common.{length, Option, Some, None, refl, ap, sym, subst, ◌∙◌, arith}
 use Rattle.std.specs.Prelude.{IfSome}
@@ -28,7 +28,7 @@ use Rattle.mc_maker.proofs.FilledLemmas.{each_in-all, all-each_in}
 
 -- ---- of each entry
 
--- what holds of each copy's entry, whatever the entries before it, holds of all
+-- what holds of each copy's entry, whatever the entries before it, holds of all entries
 entries_after-each : (n : Net) (P : Entry → Type 0) (es : List Entry) (cs : List Copy)
     → ((ds : List Entry) (c : Copy) → In c cs → P (entry_after n ds c))
     → ((e : Entry) → In e es → P e) → (e : Entry) → In e (entries_after n es cs) → P e

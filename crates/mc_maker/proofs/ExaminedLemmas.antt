@@ -1,4 +1,4 @@
--- What an examination says, by the travels that were made.
+-- What the result of examining a flow means, by its travels.
 use Rattle.std.proofs.Common.{◌≡◌, ◌≢◌, ℕ, ◌≤◌, ◌<◌, All, Bool, true, false, List, [], ◌∷◌, map, length}
 use Rattle.std.proofs.Common.{Option, Some, None, refl, ap, sym, subst, ◌∙◌}
 use Rattle.std.specs.Prelude.{option_map, slice_get, unwrap_or}
@@ -29,7 +29,7 @@ use Rattle.mc_maker.specs.Examined.{AreCleanCopies}
 use Rattle.mc_maker.proofs.ListedLemmas.{ascending-held_entries, is_reordering-entries_by_lan}
 use Rattle.mc_maker.proofs.ServedLemmas.{served-each, served-not}
 
--- ---- a picker's travel is one
+-- ---- a picker's travel is unique
 
 is_travel-same_finding : (n : Net) (count : ℕ) (numbers : List ℕ) (last : Bool) (is js : List ℕ) (f : Flight)
     (x y : Finding)
@@ -52,7 +52,7 @@ finding_value-unique d flow ttl t u a b =
     (finding_value u.finding)
     a.1.travel b.1.travel
 
--- what the code finds is clean where its value is
+-- a finding of the code that isn't clean has a value that isn't clean
 pub finding_value-not_clean : (x : Found) → x ≢ Found.Clean → finding_value x ≢ Clean
 finding_value-not_clean Found.Clean other e = other refl
 finding_value-not_clean (Found.Duplicate l) other e = absurd cc
@@ -60,7 +60,7 @@ finding_value-not_clean (Found.Loop l) other e = absurd cc
 finding_value-not_clean (Found.Stray r v) other e = absurd cc
 finding_value-not_clean (Found.Missed l) other e = absurd cc
 
--- ---- something is found
+-- ---- a fault is found
 
 -- at TTL 255
 pub is_ttl_of_fault-255 : (d : DomainValue) (flow : ℕ) (t : Travel) → IsFirstPickTravel d flow 255 t
@@ -70,7 +70,7 @@ is_ttl_of_fault-255 d flow t is fault = record {
   least = λ u a none. absurd (fault (finding_value-unique d flow 255 t u is a ∙ none));
 }
 
--- or at the flow's
+-- or at the flow's TTL
 pub is_ttl_of_fault-flow_ttl : (d : DomainValue) (flow : ℕ) (t : Travel) → IsFirstPickTravel d flow 255 t
     → FindsNothing t → IsTtlOfFault d flow (ttl_of d flow)
 is_ttl_of_fault-flow_ttl d flow t is none = record {
@@ -141,7 +141,7 @@ finds_nothing-right_flow d flow ttl t ok low high is_right is =
     clean-not_not (finding_value t.finding) (λ fault. not_right-by_fault d flow ttl t ok low high is fault
     is_right)
 
--- where both find nothing, the flow is right
+-- where both travels find nothing, the flow is right
 pub is_right-both_travels_clean : (d : DomainValue) (flow : ℕ) (first second : Travel) → IsDomain d
     → flow < length d.topology.flows → IsFirstPickTravel d flow 255 first
     → IsFirstPickTravel d flow (ttl_of d flow) second → FindsNothing first → FindsNothing second
@@ -191,7 +191,7 @@ ascending-entries_by_lan f cs by_lan es is held =
     subst (λ xs. IsStrictlyIncreasing (map (λ (e : Entry). e.lan) xs)) (sym held)
     (ascending-held_entries by_lan (entries_of (net_in f) cs) is)
 
--- where each wanting LAN is served, they are accepted
+-- where each wanting LAN is served, the entries are accepted
 pub is_accepted-held_entries : (f : FlowOfDomain) (cs : List Copy) (by_lan : List (Option Entry))
     (es : List Entry) → AreCleanCopies f.domain f.flow cs
     → AreEntriesByLan by_lan (entries_of (net_in f) cs) → es ≡ held_entries by_lan

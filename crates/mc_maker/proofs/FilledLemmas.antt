@@ -1,4 +1,4 @@
--- The vector of entries, as it fills copy by copy.
+-- The vector of entries, filled copy by copy.
 use Rattle.std.proofs.Common.{◌≡◌, ℕ, zero, suc, ◌+◌, ◌-◌, ◌<◌, ◌≤◌, inl, inr, All, Bool}
 use Rattle.std.proofs.Common.{List, [], ◌∷◌, ◌++◌, length, take, drop}
 use Rattle.std.proofs.Common.{get_or, Option, Some, None, refl, ap, sym, subst, ◌∙◌}
@@ -46,7 +46,7 @@ in-entries_after n es (c ∷ cs) e h = in-entries_after n (es ++ entry_after n e
 
 -- ---- copy by copy
 
--- the entries of the first k copies were put
+-- the entries of the first k copies are stored
 pub record EntriesSoFar (n : Net) (by_lan old : List (Option Entry)) (cs : List Copy)
     (k : ℕ) : Type 0 where
   pub count : length by_lan ≡ length old
@@ -56,7 +56,7 @@ pub entries_so_far-none : (n : Net) (by_lan : List (Option Entry)) (cs : List Co
     → EntriesSoFar n by_lan by_lan cs 0
 entries_so_far-none n by_lan cs none = record { count = refl; places = none }
 
--- a copy's need by the entries that are held is that after the entries so far
+-- a copy's need by the held entries is its need after the entries so far
 need_by_held-need_after : (n : Net) (by_lan : List (Option Entry)) (es : List Entry) (x : Option Interface)
     → AreEntriesByLan by_lan es → need_by_held_entries n by_lan x ≡ need_after n es x
 need_by_held-need_after n by_lan es None is = refl
@@ -75,7 +75,7 @@ entries_of-take_more n cs k c lt at =
     ∙ ap (λ x. take k cs ++ x ∷ []) (sym at) in
     ap (entries_of n) more ∙ entries_after-append n [] (take k cs) (c ∷ [])
 
--- the next copy's entry is one of all
+-- the next copy's entry is one of all entries
 in-entries_of_next : (n : Net) (cs : List Copy) (k : ℕ) (c : Copy) → k < length cs → c ≡ get_or cs k c
     → In (entry_after n (entries_of n (take k cs)) c) (entries_of n cs)
 in-entries_of_next n cs k c lt at =

@@ -1,4 +1,4 @@
--- The entries that are held, in the order of their places.
+-- The held entries, in the order of their places.
 use Rattle.std.proofs.Common.{◌≡◌, ℕ, zero, suc, ◌+◌, ◌<◌, ◌≤◌, inl, inr, Bool, true, false, cond}
 use Rattle.std.proofs.Common.{◌==◌, List, [], ◌∷◌, map, slice_index, Option, Some, None}
 use Rattle.std.proofs.Common.{refl, ap, sym, subst, ◌∙◌, arith}

@@ -1,4 +1,4 @@
--- Whether each wanting LAN is served, by the entries of the copies.
+-- Whether the entries of the copies serve each LAN that wants the flow.
 use Rattle.std.proofs.Common.{◌≡◌, ℕ, Bool, true, false, not, ◌||◌, nat_le, All, inl, inr, List, []}
 use Rattle.std.proofs.Common.{◌∷◌, ◌++◌, map, refl, ap, ◌∙◌, arith}
 use Rattle.std.proofs.lemmas.Bool.{leb-true, leb-false}
@@ -30,7 +30,7 @@ entries_of-entry_of_lan n cs l h =
     let c = in-map_cases (λ (x : Copy). x.lan) l cs h in
     let e = entry_after-of_copy n [] cs c.0 c.1 in (e.0, e.1, e.2 ∙ c.2)
 
--- ---- what is served
+-- ---- served LANs
 
 served_if_wanted : (m w : Bool) → w ≡ true → (m || not w) ≡ true → m ≡ true
 served_if_wanted true w q e = refl

@@ -1,4 +1,4 @@
-pub mod FirstLemmas
+pub mod FirstCopiesLemmas
 pub mod MissedLemmas
 pub mod WalkLemmas
 pub mod TravelLemmas

@@ -1,11 +1,11 @@
--- The lowest LAN that was missed, in a loop over the LANs.
+-- The lowest missed LAN, as a loop over the LANs finds it.
 use Rattle.std.proofs.Common.{◌≡◌, ℕ, zero, suc, ◌+◌, ◌-◌, ◌<◌, Bool, true, false, cond, List, []}
 use Rattle.std.proofs.Common.{◌∷◌, ◌++◌, Some, None, Option, ◌||◌, ◌&&◌, not, is_some, refl, ap, ◌∙◌, subst, arith, add-one}
 use Rattle.mc_theory.specs.Lists.{below}
 use Rattle.mc_theory.specs.Nets.{Net}
 use Rattle.mc_theory.specs.Flights.{Copy}
 use Rattle.mc_theory.specs.Findings.{first_copy_on, missed}
-use Rattle.mc_replay.proofs.FirstLemmas.{first_some}
+use Rattle.mc_replay.proofs.FirstCopiesLemmas.{first_some}
 
 missed-push : (n : Net) (cs : List Copy) (xs : List ℕ) (x : ℕ)
     → missed n cs (xs ++ x ∷ []) ≡ first_some (missed n cs xs) (missed n cs (x ∷ []))
@@ -65,7 +65,7 @@ missed-kept_by_more n cs k (suc d) l h =
     subst (λ m. missed n cs (below m) ≡ Some l) e (missed-push n cs (below (k + 1 + d)) (k + 1 + d)
     ∙ ap (λ o. first_some o (missed n cs ((k + 1 + d) ∷ []))) (missed-kept_by_more n cs k d l h))
 
--- the first that wants the flow and carried none is the one that was missed
+-- the first LAN that wants the flow and carried no copy is the missed one
 pub missed-first_wanting : (n : Net) (cs : List Copy) (k m : ℕ) → missed n cs (below k) ≡ None
     → n.wants k ≡ true → is_some (first_copy_on cs k) ≡ false → k < m → missed n cs (below m) ≡ Some k
 missed-first_wanting n cs k m h w b lt =
@@ -73,7 +73,7 @@ missed-first_wanting n cs k m h w b lt =
     subst (λ x. missed n cs (below x) ≡ Some k) q
     (missed-kept_by_more n cs k (m - (k + 1)) k (missed-below_more n cs k h ∙ missed-one_wanting n cs k w b))
 
--- whether one was missed, by the numbers before and by the next
+-- whether a LAN is missed, by the numbers before the next one and by that
 is_some-first_some : (a b : Option ℕ) → is_some (first_some a b) ≡ (is_some a || is_some b)
 is_some-first_some None b = refl
 is_some-first_some (Some x) b = refl

@@ -1,4 +1,4 @@
--- What the run of a picker's choices shows.
+-- What the finding of a travel shows of its flow.
 use Rattle.std.proofs.Common.{ℕ, ◌≤◌, length, sym, subst}
 use Rattle.mc_theory.specs.Flights.{Flight}
 use Rattle.mc_theory.specs.Findings.{Choices, AllWalksEnd}

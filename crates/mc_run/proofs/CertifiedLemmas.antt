@@ -99,7 +99,7 @@ certified_lists-bytes d xs are =
 
 -- ---- the certificate's text
 
--- a line feed behind a certificate's text changes nothing
+-- a line feed after a certificate's text changes nothing
 denotes_certificate-line_feed : (t : TopologyValue) (text : List ℕ) (lists : List Tree)
     → length (text ++ 10 ∷ []) ≤ 16777216
     → DenotesCertificate t text lists → DenotesCertificate t (text ++ 10 ∷ []) lists
@@ -259,7 +259,7 @@ are_yes-accepted_lists d lists vs ok count are each = are_verdicts-each_yes vs (
 
 record AreVerdictsOfLists (d : DomainValue) (certificate : List ℕ) (lists : List Tree)
     (vs : List Verdict) : Type 0 where
-  pub stand : DenotesCertificate d.topology certificate lists
+  pub denoted : DenotesCertificate d.topology certificate lists
   pub are : AreVerdicts d lists vs
 
 pub is_verdict_text-only_yes : (text written bundle : List ℕ) (parts : List PartText) (all : Bool) (printed : List ℕ)
@@ -273,13 +273,13 @@ is_verdict_text-only_yes text written bundle parts all printed m is more v =
     let same = MeansDomain-unique bundle (Some v.means.certificate) (Some written) v.domain.domain d refl
     v.means.domain mine in
     let theirs : AreVerdictsOfLists v.domain.domain v.means.certificate v.domain.lists v.holds.verdicts =
-    record { stand = v.means.lists_denoted; are = v.holds.are_verdicts } in
+    record { denoted = v.means.lists_denoted; are = v.holds.are_verdicts } in
     let here : AreVerdictsOfLists d written v.domain.lists v.holds.verdicts =
     subst (λ (c : List ℕ). AreVerdictsOfLists d c v.domain.lists v.holds.verdicts) (some_is same.1)
     (subst (λ (e : DomainValue). AreVerdictsOfLists e v.means.certificate v.domain.lists v.holds.verdicts) same.0
     theirs) in
     let one : v.domain.lists ≡ lists =
-    DenotesCertificate-unique d.topology written v.domain.lists lists here.stand (denotes_certificate-made_text text written m few) in
+    DenotesCertificate-unique d.topology written v.domain.lists lists here.denoted (denotes_certificate-made_text text written m few) in
     let belong = certified_lists-belong d m.holds.examined m.holds.are_examined (sym m.holds.answer) in
     v.holds.answer ∙ are_yes-accepted_lists d lists v.holds.verdicts m.means.rules belong.count
     (subst (λ (ls : List Tree). AreVerdicts d ls v.holds.verdicts) one here.are)

@@ -1,4 +1,4 @@
--- What a run of `mcaudit check` shows of the text that it read.
+-- What the text of `mcaudit check` says of the bundle that was read.
 use Rattle.std.proofs.Common.{◌≡◌, ◌≢◌, ℕ, zero, suc, ◌<◌, Bool, true, List, [], ◌∷◌, length, All}
 use Rattle.std.proofs.Common.{Option, Some, Err, refl, sym, ap, subst, ◌∙◌, arith}
 use Rattle.std.specs.Prelude.{unwrap_or, slice_get}
@@ -42,7 +42,7 @@ is_refused_for-cert_fault_kind text f kinds.WrongFlows is bad = (refl, bad (λ e
 is_refused_for-cert_fault_kind text f kinds.TooMany is bad = (refl, bad (λ e. absurd (cc)))
 is_refused_for-cert_fault_kind text f kinds.Memory is bad = tt
 
--- a certificate that is refused, or for which there is no memory
+-- a certificate that is refused, or for which memory ran out
 pub is_refused_for-cert_fault : (text read : List ℕ) (o : Option (List ℕ)) (d : DomainValue)
     (t : TopologyValue) (f : CertFault) → MeansDomainAsListed text o d → o ≡ Some read → t ≡ d.topology
     → (f ≢ out_of_memory → parse_certificate t read ≡ Err f) → IsRefusedFor true text (from_cert_fault f)
@@ -117,7 +117,7 @@ headline_holds-flow_is_yes d lists flow es there keeps =
     subst (λ (o : Option Tree). HeadlineHolds (net_of d flow) (length (unwrap_or o [])))
     (sym there) keeps
 
--- where every verdict is yes, the headline is kept for each flow
+-- if every verdict is yes, the headline holds for each flow
 pub keeps_headline : (d : DomainValue) (lists : List Tree) (vs : List Verdict)
     → length vs ≡ length lists → BelongsTo d.topology lists → HoldsForEachFlow d lists vs YesCountsEntries
     → HoldsForEachFlow d lists vs YesKeepsHeadline → are_yes vs ≡ true → KeepsHeadline d lists

@@ -1,4 +1,4 @@
--- Which faults of what a run calls become its own.
+-- The faults that a run returns, by the faults of what it calls.
 use Rattle.std.proofs.Common.{◌≡◌, ◌⊎◌, ℕ, Bool, true, List, inl, inr, Option, Result, Ok, Err, refl, sym, subst}
 use Rattle.std.specs.Prelude.{IfErr}
 use Rattle.std.proofs.lemmas.Bool.{false≢true}
@@ -39,7 +39,7 @@ is_fault_of_make-source_fault (source.Input (input.Cache part fault)) = tt
 is_fault_of_make-source_fault (source.Input (input.Reports part fault)) = tt
 is_fault_of_make-source_fault (source.Input input.Memory) = tt
 
--- a run with a certificate, and one of a flow, answer these too
+-- a run with a certificate, and one with a flow's number, can return these too
 pub is_fault_of_check-make : (fault : RunFault) → IsFaultOfMake fault → IsFaultOfCheck fault
 is_fault_of_check-make (Certificate fault) is = tt
 is_fault_of_check-make fault is = is
@@ -58,7 +58,7 @@ pub is_fault_of_wants-list_fault : (fault : ListFault) (kind : ListFaultKind)
 is_fault_of_wants-list_fault fault list.Memory = tt
 is_fault_of_wants-list_fault fault kind = tt
 
--- what a list's input answers
+-- the faults of reading a list
 pub is_fault_of_wants-read_or_memory : (fault : RunFault) → (fault ≡ Read) ⊎ (fault ≡ Memory) → IsFaultOfWants fault
 is_fault_of_wants-read_or_memory fault (inl is) = subst IsFaultOfWants (sym is) tt
 is_fault_of_wants-read_or_memory fault (inr is) = subst IsFaultOfWants (sym is) tt
@@ -94,7 +94,7 @@ fault-of_answer : (P : RunFault → Type 0) (r : Result AuditAnswer RunFault) �
 fault-of_answer P (Ok answer) own = tt
 fault-of_answer P (Err fault) own = own
 
--- the same with the number beside the answer
+-- the same with the number of unwanted flows beside the answer
 pub fault-of_audit_answer : (P : RunFault → Type 0) (a : Result AuditOutput RunFault)
     (p : Result RunOutput RunFault) (s : Result Bool RunFault) (r : Result AuditAnswer RunFault)
     (old new : Option (List ℕ)) → P Write → IfErr a P → p ≡ output_of a → IsOutputWritten p s old new

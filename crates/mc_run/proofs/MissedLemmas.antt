@@ -5,7 +5,7 @@ use Rattle.std.specs.Prelude.{is_some}
 use Rattle.mc_theory.specs.Lists.{In, below}
 use Rattle.mc_theory.specs.Nets.{Net, Interface}
 use Rattle.mc_theory.specs.Flights.{Copy, Flight, Waiting, step}
-use Rattle.mc_theory.specs.Findings.{Finding, IsTravel, copy_on, double, double_finding, end_finding}
+use Rattle.mc_theory.specs.Findings.{Finding, IsTravel, first_copy_on, first_double, double_finding, end_finding}
 use Rattle.mc_theory.specs.Findings.{walk_visits, missed, missed_finding, numbers_left, stray_finding}
 use Rattle.mc_theory.specs.Findings.Finding.{Duplicate, Loop, Missed}
 use Rattle.mc_theory.proofs.ListLemmas.{in-below_cases}
@@ -20,9 +20,9 @@ missed-cons n cs x l ls false b h more = inr (more h)
 missed-in_lans : (n : Net) (cs : List Copy) (ls : List ℕ) (l : ℕ) → missed n cs ls ≡ Some l → In l ls
 missed-in_lans n cs [] l h = absurd cc
 missed-in_lans n cs (x ∷ ls) l h =
-    missed-cons n cs x l ls (n.wants x) (is_some (copy_on cs x)) h (missed-in_lans n cs ls l)
+    missed-cons n cs x l ls (n.wants x) (is_some (first_copy_on cs x)) h (missed-in_lans n cs ls l)
 
--- what a flight shows that misses a LAN
+-- a flight with the finding `Missed`
 finding-missed_lan : (o : Option ℕ) (l : ℕ) → Some (missed_finding o) ≡ Some (Missed l) → o ≡ Some l
 finding-missed_lan None l h = absurd cc
 finding-missed_lan (Some m) l h = cc
@@ -49,9 +49,9 @@ finding-no_double_missed n count f None l h = finding-no_strays_missed n count f
 finding-no_double_missed n count f (Some c) l h =
     absurd (finding-other_than_missed (walk_visits n f.carried c.lan (length f.carried) c.sender) c.lan l h)
 
--- so one that a travel misses
+-- so is a LAN that a travel misses
 pub missed_lan-below_count : (n : Net) (count : ℕ) (numbers : List ℕ) (last : Bool) (picks : List ℕ)
     (f : Flight) (l : ℕ) → IsTravel n count numbers last picks f (Missed l) → l < count
-missed_lan-below_count n count numbers last [] f l is = finding-no_double_missed n count f (double [] f.carried) l is
+missed_lan-below_count n count numbers last [] f l is = finding-no_double_missed n count f (first_double [] f.carried) l is
 missed_lan-below_count n count numbers last (i ∷ picks) f l is =
     missed_lan-below_count n count (numbers_left numbers) last picks (step n i f) l is.2

@@ -1,4 +1,4 @@
--- What packing shows, told with the run's faults.
+-- The result of packing, with the run's faults.
 use Rattle.std.proofs.Common.{◌≡◌, ℕ, Bool, List, Option, Some, None, Result, Ok, Err, refl, ap, ◌∙◌}
 use Rattle.std.specs.Prelude.{◌≢◌, IfErr, IfSome, IsErrAnd}
 use Rattle.mc_files.specs.Files.{FileText}
@@ -13,11 +13,11 @@ use Rattle.mc_run.specs.Failures.{is_read, is_write}
 use Rattle.mc_run.specs.Faults.{IsFaultOfPack}
 use Rattle.mc_run.specs.PackingRun.{IsPackRunAnswer, IsDeviceOrMemoryFault, from_pack_fault}
 
--- what a run answers that gives this fault of packing
+-- the answer of a run by this fault of packing
 abbrev FaultResult : PackFault → Result (Unit {0}) RunFault
 FaultResult f = Err (from_pack_fault f)
 
--- it does
+-- the fault is right for the run
 abbrev pub IsResultOfFault : PackFault → Result (Unit {0}) RunFault → Type 0
 IsResultOfFault f r = IsErrAnd r (λ fault. fault ≡ from_pack_fault f)
 
@@ -63,7 +63,7 @@ pub is_device_or_memory_fault-of_result : (f : PackFault) (r : Result (Unit {0})
     → IfErr r IsDeviceOrMemoryFault
 is_device_or_memory_fault-of_result f r e none = rw (result-of_pack_fault f r e) (is_device_or_memory_fault-silent f none)
 
--- a fault that is told as Write is packing's Write
+-- the run's `Write` is packing's `Write`
 from_pack_fault-write : (f : PackFault) → from_pack_fault f ≡ Write → f ≡ packing.Write
 from_pack_fault-write (packing.Topology f) e = absurd cc
 from_pack_fault-write packing.TooLarge e = absurd cc

@@ -1,10 +1,10 @@
--- Texts that are put behind one another, while a source's calls fail.
+-- Texts that are appended one after the other, while some of a source's calls fail.
 use Rattle.std.proofs.Common.{◌≡◌, ℕ, ◌+◌, ◌<◌, List, [], ◌∷◌, ◌++◌, Option, ap, ◌∙◌, refl, sym, subst, arith}
 use Rattle.std.proofs.Common.{◌-◌, Some, Result, IfSome, OnOk, append_assoc, get_or, length, map, min, take}
 use Rattle.std.proofs.lemmas.List.{append-nil, take_min, take_more}
 use Rattle.mc_text.proofs.StepLemmas.{on_ok_map}
 use Rattle.mc_files.specs.Files.{FileText}
-use Rattle.mc_files.specs.UnreadText.{unread_text}
+use Rattle.mc_files.specs.FilePart.{unread_text}
 use Rattle.mc_files.specs.declared.unread.Unread.{Unread}
 use Rattle.mc_input.specs.RefusedFiles.{AreUnreadFilesMissing, AreRefusedFiles, saturating_failures, refused_files_of, as_judged_file, unread_count}
 use Rattle.mc_input.specs.declared.each_file.Refusal.{Refusal}
@@ -16,12 +16,12 @@ use Rattle.mc_run.specs.RefusalText.{AppendsWithFailures, AreFirst50Lines, AreRe
 failures_with-none : (before : ℕ) → before ≡ saturating_failures 0 before
 failures_with-none before = omega arith
 
--- calls that failed, and some more
+-- some calls failed, and then some more
 failures_with-more : (one more before : ℕ)
     → saturating_failures more (saturating_failures one before) ≡ saturating_failures (one + more) before
 failures_with-more one more before = omega arith
 
--- a text was put there, and no call failed
+-- a text was appended, and no call failed
 appends_with_failures-text : (IsRight : (lost : ℕ) → (added : List ℕ) → Type 0) (old new text : List ℕ) (before : ℕ)
     → IsRight 0 text → new ≡ old ++ text → AppendsWithFailures IsRight old new before before
 appends_with_failures-text IsRight old new text before right whole = record {
@@ -32,7 +32,7 @@ appends_with_failures-text IsRight old new text before right whole = record {
   failures = failures_with-none before;
 }
 
--- one text was put there, and behind it another
+-- one text was appended, and then another
 appends_with_failures-append : (IsOne IsMore IsBoth : (lost : ℕ) → (added : List ℕ) → Type 0) (old between new : List ℕ)
     (before middle after : ℕ)
     → ((one more : ℕ) (text rest : List ℕ) → IsOne one text → IsMore more rest → IsBoth (one + more) (text ++ rest))
@@ -48,7 +48,7 @@ appends_with_failures-append IsOne IsMore IsBoth old between new before middle a
 
 -- ---- the lines of files
 
--- the line of one more file
+-- one more file's line
 refused_file_lines-push : (contents : Option (List FileText)) (files : List RefusedFile) (file : RefusedFile) (one more : ℕ)
     (text line : List ℕ) → AreRefusedFileLines contents files one text → IsRefusedFileLine contents file more line
     → AreRefusedFileLines contents (files ++ file ∷ []) (one + more) (text ++ line)
@@ -65,7 +65,7 @@ refused_file_lines-push contents (first ∷ files) file one more text line (a, b
   ap (λ t. t ++ line) whole ∙ append_assoc front rest line,
 )
 
--- the same of the files before an index of a list, and of the one there, by a source that tells the same
+-- the same for the files before an index of a list and the one there, with unchanged contents of the source
 pub refused_file_lines-more : (contents other : Option (List FileText)) (files : List RefusedFile) (i : ℕ) (file : RefusedFile)
     (old between new : List ℕ) (before middle after : ℕ) → other ≡ contents → i < length files
     → file ≡ get_or files i file → AppendsWithFailures (AreRefusedFileLines contents (take i files)) old between before middle
@@ -81,7 +81,7 @@ refused_file_lines-more contents other files i file old between new before middl
 
 -- ---- a file that can't be read, and all files
 
--- why it can't
+-- why it can't be read
 pub appends_with_failures-unread : {E : Type 0} (contents : Option (List FileText)) (name : List ℕ) (unread : Unread) (why : Refusal)
     (r : Result (Unit {0}) E) (old new : List ℕ) (before : ℕ) → why ≡ refusal.Unread unread
     → OnOk r ((words : List ℕ) × IfSome (unread_text unread) (λ known. words ≡ known) × (new ≡ old ++ words))
@@ -90,7 +90,7 @@ appends_with_failures-unread contents name unread why r old new before is there 
     on_ok_map r there (λ put. appends_with_failures-text (IsRefusalReason contents name why) old new put.0 before
     (subst (λ (w : Refusal). IsRefusalReason contents name w 0 put.0) (sym is) (refl, put.1)) put.2)
 
--- the first files, and how many more there are
+-- the first files, and the number of further ones
 pub appends_with_failures-first_50 : {E : Type 0} (contents : Option (List FileText)) (files : List RefusedFile) (first : ℕ)
     (r : Result (Unit {0}) E) (old between new : List ℕ) (before after : ℕ) → first ≡ min (length files) 50
     → AppendsWithFailures (AreRefusedFileLines contents (take first files)) old between before after

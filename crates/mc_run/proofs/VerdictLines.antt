@@ -16,11 +16,11 @@ use Rattle.mc_check.specs.declared.verdict.Reason.TheVariants.{Stray, Extra, Wro
 use Rattle.mc_check.specs.declared.verdict.Reason.TheVariants.{Unfed, Missed, Low}
 use Rattle.mc_check.specs.declared.verdict.Verdict.{Verdict}
 use Rattle.mc_check.specs.declared.verdict.Verdict.TheVariants.{Yes, No}
+use Rattle.mc_run.specs.AuditRun.{AreYesWords}
 use Rattle.mc_run.specs.CheckRun.{IsLineStart}
 use Rattle.mc_run.specs.VerdictText.{flow_words, flow_line, flow_lines}
-use Rattle.mc_run.proofs.RunLemmas.{AreYesWords}
 
--- ---- no line feed stands in a verdict and a flow's words
+-- ---- a verdict, and the words at a flow's line's start, have no line feed
 
 pub lan_name-no_line_feed : (front : List ℕ) (t : TopologyValue) (lan : ℕ) → HasNoByte 10 front → IsValidTopology t
     → HasNoByte 10 (front ++ lan_name t lan)
@@ -79,7 +79,7 @@ flow_line-line_body t f v = sym (append_assoc (flow_words f) (codes " " ++ verdi
 
 -- ---- where lines begin
 
--- A text whose first line feed stands after xs, and which has one after ys: ys is xs, or goes on
+-- A text with its first line feed after xs, and with a line feed after ys: ys is xs, or goes on
 -- after it.
 record AppendSplits (xs tail ys more : List ℕ) : Type 0 where
   rest : List ℕ
@@ -108,23 +108,23 @@ append-first_line_feed (x ∷ xs) tail (y ∷ ys) more none same =
       })
     ]
 
--- a line begins after lines behind lines
+-- a line starts after lines that follow lines
 is_line_start-append : (xs ys : List ℕ) → IsLineStart xs → IsLineStart ys → IsLineStart (xs ++ ys)
 is_line_start-append xs ys starts (inl none) =
     subst IsLineStart (sym (ap (λ zs. xs ++ zs) none ∙ append-nil xs)) starts
 is_line_start-append xs ys starts (inr (before, is)) =
     inr (xs ++ before, ap (λ zs. xs ++ zs) is ∙ sym (append_assoc xs before (codes "\n")))
 
--- what stands behind some lines has these words at a line's start
-pub record HasWordsBehindLines (begin tail rest : List ℕ) : Type 0 where
+-- the words are at the start of a line after some lines
+pub record HasWordsAfterLines (begin tail rest : List ℕ) : Type 0 where
   pub front : List ℕ
   pub starts : IsLineStart front
   pub is : tail ≡ front ++ (begin ++ rest)
 
--- where words stand at a line's start in a line or behind it, they begin the line or stand behind it
+-- words at the start of a line, in a line or after it, start that line or come after it
 pub is_left-inside_line : (begin xs tail front rest : List ℕ) → HasNoByte 10 xs → IsLineStart front
     → xs ++ (10 ∷ tail) ≡ front ++ (begin ++ rest)
-    → (xs ++ (10 ∷ tail) ≡ begin ++ rest) ⊎ HasWordsBehindLines begin tail rest
+    → (xs ++ (10 ∷ tail) ≡ begin ++ rest) ⊎ HasWordsAfterLines begin tail rest
 is_left-inside_line begin xs tail front rest none (inl empty) same =
     inl (same ∙ ap (λ ys. ys ++ (begin ++ rest)) empty)
 is_left-inside_line begin xs tail front rest none (inr (before, is)) same =
@@ -142,22 +142,22 @@ is_left-inside_line begin xs tail front rest none (inr (before, is)) same =
 
 -- ---- lines that don't say yes
 
--- These are whole lines, and none of them says yes: where words that do so stand at a line's start in
--- them or behind them, they stand behind them.
+-- Whole lines of which none says yes: the words of a yes at the start of a line, in these lines or after
+-- them, come after them.
 pub record AreLinesWithoutYes (xs : List ℕ) : Type 0 where
   pub starts : IsLineStart xs
   pub left : (begin front rest tail : List ℕ) → AreYesWords begin → IsLineStart front
-      → xs ++ tail ≡ front ++ (begin ++ rest) → HasWordsBehindLines begin tail rest
+      → xs ++ tail ≡ front ++ (begin ++ rest) → HasWordsAfterLines begin tail rest
 
-pub are_other-no_lines : AreLinesWithoutYes []
-are_other-no_lines = record {
+pub no_yes_line-no_lines : AreLinesWithoutYes []
+no_yes_line-no_lines = record {
   starts = inl refl;
   left = λ begin front rest tail are starts same.
       record { front = front; starts = starts; is = same };
 }
 
-pub are_other-append : (xs ys : List ℕ) → AreLinesWithoutYes xs → AreLinesWithoutYes ys → AreLinesWithoutYes (xs ++ ys)
-are_other-append xs ys p q = record {
+pub no_yes_line-append : (xs ys : List ℕ) → AreLinesWithoutYes xs → AreLinesWithoutYes ys → AreLinesWithoutYes (xs ++ ys)
+no_yes_line-append xs ys p q = record {
   starts = is_line_start-append xs ys p.starts q.starts;
   left = λ begin front rest tail are starts same.
       let l = p.left begin front rest (ys ++ tail) are starts (sym (append_assoc xs ys tail) ∙ same) in
@@ -165,10 +165,10 @@ are_other-append xs ys p q = record {
 }
 
 -- a line that such words don't begin
-pub are_other-line : (xs : List ℕ) → HasNoByte 10 xs
+pub no_yes_line-line : (xs : List ℕ) → HasNoByte 10 xs
     → ((begin tail rest : List ℕ) → AreYesWords begin → xs ++ (10 ∷ tail) ≡ begin ++ rest → ⊥)
     → AreLinesWithoutYes (xs ++ codes "\n")
-are_other-line xs none other = record {
+no_yes_line-line xs none other = record {
   starts = inr (xs, refl);
   left = λ begin front rest tail are starts same.
       elim (is_left-inside_line begin xs tail front rest none starts (sym (append_assoc xs (codes "\n") tail) ∙ same)) [
@@ -195,27 +195,27 @@ yes_words-other_first_byte (b ∷ xs) begin tail rest other (inr is) same =
     false≢true (sym other.1 ∙ eq-eqb b 123 here)
 
 -- a line of which that is so
-pub are_other-text_line : (line xs : List ℕ) → BeginsWithOtherByte xs → HasNoByte 10 xs → line ≡ xs ++ codes "\n"
+pub no_yes_line-text_line : (line xs : List ℕ) → BeginsWithOtherByte xs → HasNoByte 10 xs → line ≡ xs ++ codes "\n"
     → AreLinesWithoutYes line
-are_other-text_line line xs other none is =
+no_yes_line-text_line line xs other none is =
     subst AreLinesWithoutYes (sym is)
-    (are_other-line xs none (λ begin tail rest are same. yes_words-other_first_byte xs begin tail rest other are same))
+    (no_yes_line-line xs none (λ begin tail rest are same. yes_words-other_first_byte xs begin tail rest other are same))
 
-pub are_other-if : (b : Bool) (xs ys : List ℕ) → AreLinesWithoutYes xs → AreLinesWithoutYes ys → AreLinesWithoutYes (cond b xs ys)
-are_other-if true xs ys p q = p
-are_other-if false xs ys p q = q
+pub no_yes_line-if : (b : Bool) (xs ys : List ℕ) → AreLinesWithoutYes xs → AreLinesWithoutYes ys → AreLinesWithoutYes (cond b xs ys)
+no_yes_line-if true xs ys p q = p
+no_yes_line-if false xs ys p q = q
 
 -- ---- the lines of flows
 
-pub are_other-verdict_line : (t : TopologyValue) (f : Flow) (v : Verdict) → IsValidTopology t
+pub no_yes_line-verdict_line : (t : TopologyValue) (f : Flow) (v : Verdict) → IsValidTopology t
     → AreLinesWithoutYes (flow_line t f v)
-are_other-verdict_line t f v ok =
-    are_other-text_line (flow_line t f v) (line_body t f v) (refl, refl) (flow_line_body t f v ok) (flow_line-line_body t f v)
+no_yes_line-verdict_line t f v ok =
+    no_yes_line-text_line (flow_line t f v) (line_body t f v) (refl, refl) (flow_line_body t f v ok) (flow_line-line_body t f v)
 
-pub are_other-flow_lines : (t : TopologyValue) (fs : List Flow) (vs : List Verdict) → IsValidTopology t
+pub no_yes_line-flow_lines : (t : TopologyValue) (fs : List Flow) (vs : List Verdict) → IsValidTopology t
     → AreLinesWithoutYes (flow_lines t fs vs)
-are_other-flow_lines t [] vs ok = are_other-no_lines
-are_other-flow_lines t (f ∷ fs) [] ok = are_other-no_lines
-are_other-flow_lines t (f ∷ fs) (v ∷ vs) ok =
-    are_other-append (flow_line t f v) (flow_lines t fs vs) (are_other-verdict_line t f v ok)
-    (are_other-flow_lines t fs vs ok)
+no_yes_line-flow_lines t [] vs ok = no_yes_line-no_lines
+no_yes_line-flow_lines t (f ∷ fs) [] ok = no_yes_line-no_lines
+no_yes_line-flow_lines t (f ∷ fs) (v ∷ vs) ok =
+    no_yes_line-append (flow_line t f v) (flow_lines t fs vs) (no_yes_line-verdict_line t f v ok)
+    (no_yes_line-flow_lines t fs vs ok)

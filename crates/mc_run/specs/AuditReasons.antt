@@ -1,8 +1,8 @@
--- What explains what is found of a flow, by the flights of its packets.
+-- The explanation of a flow's finding, by the flights of its packets.
 use Rattle.std.specs.Prelude.{◌≡◌, ℕ, Bool, true, false, not, List, [], filter, Option, Some, None}
 use Rattle.mc_tables.specs.Summary.{SummaryValue}
 use Rattle.mc_theory.specs.Events.{Event}
-use Rattle.mc_theory.specs.Findings.{copy_on}
+use Rattle.mc_theory.specs.Findings.{first_copy_on}
 use Rattle.mc_theory.specs.Flights.{Copy}
 use Rattle.mc_forward.specs.Domains.{DomainValue}
 use Rattle.mc_forward.specs.ListedTables.{DomainFacts, facts}
@@ -21,7 +21,7 @@ use Rattle.mc_explain.specs.declared.causes.Cause.TheVariants.{Circle, LeastTtl,
 use Rattle.mc_explain.specs.declared.causes.Cause.TheVariants.{SentOnto, StoppedAt, TakeOut, Unplaced}
 use Rattle.mc_run.specs.AuditText.{Explanation}
 
--- the LANs that were missed besides, by the copies of the packet of which it is told
+-- the other LANs that the packet of the printed finding missed
 abbrev pub also_missed : DomainFacts → (flow : ℕ) → ExaminedFlights → List ℕ
 also_missed d flow (Certified entries) = []
 also_missed d flow (FoundAtTtl255 ended) =
@@ -29,8 +29,8 @@ also_missed d flow (FoundAtTtl255 ended) =
 also_missed d flow (FoundAtFlowTtl greatest least) =
     missed_besides d flow least.flight.flight.carried least.travel.finding
 
--- what a search goes by for a flow whose packet was carried as these copies, where the marked routers
--- are left out
+-- the context of a search for a flow whose packet was carried as these copies, with the marked routers
+-- excluded
 abbrev pub search_context : DomainFacts → List SummaryValue → (excluded : List Bool) → (flow : ℕ) → List Copy
     → Search
 search_context d summary excluded flow copies = record {
@@ -38,10 +38,10 @@ search_context d summary excluded flow copies = record {
   flow = flow;
   summary = summary;
   excluded = excluded;
-  copy_on = copy_on copies;
+  first_copy_on = first_copy_on copies;
 }
 
--- a search, where a LAN is missed
+-- the search for a missed LAN, where a LAN is missed
 abbrev pub IsSearchIfMissed : Search → List Event → Finding → Option LanSearch → Type 0
 IsSearchIfMissed s events (Missed lan) (Some found) = IsLanSearch s events lan found
 IsSearchIfMissed s events (Missed lan) None = ⊥
@@ -50,7 +50,7 @@ IsSearchIfMissed s events (Duplicate lan) search = search ≡ None
 IsSearchIfMissed s events (Loop lan) search = search ≡ None
 IsSearchIfMissed s events (Stray router vif) search = search ≡ None
 
--- by a packet with TTL 255
+-- the search for a LAN that a packet with TTL 255 missed
 abbrev pub IsSearchAt255 : DomainFacts → List SummaryValue → (excluded : List Bool) → (flow : ℕ) → ExaminedFlights
     → Option LanSearch → Type 0
 IsSearchAt255 d summary excluded flow (Certified entries) search = search ≡ None
@@ -59,7 +59,7 @@ IsSearchAt255 d summary excluded flow (FoundAtTtl255 ended) search =
     ended.travel.events.items ended.travel.finding search
 IsSearchAt255 d summary excluded flow (FoundAtFlowTtl greatest least) search = search ≡ None
 
--- whether it says how a fault can be ended
+-- whether a cause names an oif to remove
 abbrev pub is_remedy : Cause → Bool
 is_remedy (TakeOut lan router vif least) = true
 is_remedy (SentOnto lan router vif) = false
@@ -69,22 +69,22 @@ is_remedy (OnlyEverySource router vif) = false
 is_remedy (LeastTtl lan least) = false
 is_remedy (StoppedAt router vif threshold ttl) = false
 
--- All of this, where the whole domain is known. Else no remedy is among it: it would be one of the rows
--- that were read, and a router that is left out may need what it takes away.
+-- The causes; without remedies, unless the whole domain is known. A remedy is a change of the known rows,
+-- and an excluded router may need what it removes.
 abbrev pub without_remedies : (whole : Bool) → List Cause → List Cause
 without_remedies true printed = printed
 without_remedies false printed = filter (λ t. not (is_remedy t)) printed
 
--- what is told of a flow that was examined
-pub record ArePrintedCauses (whole : Bool) (d : DomainValue) (flow : ℕ) (flown : ExaminedFlights) (printed : List Cause)
+-- the printed causes of an examined flow
+pub record ArePrintedCauses (whole : Bool) (d : DomainValue) (flow : ℕ) (flights : ExaminedFlights) (printed : List Cause)
     : Type 0 where
   pub all : List Cause
-  pub explained : IsExplained d flow flown all
+  pub explained : IsExplained d flow flights all
   pub shown : printed ≡ without_remedies whole all
 
--- This explains what was found of a domain's flow, whose packets flew so.
+-- The explanation of the finding of a domain's flow, by the flights of its packets.
 pub record IsExplanation (d : DomainValue) (summary : List SummaryValue) (excluded : List Bool)
-    (whole : Bool) (flow : ℕ) (flown : ExaminedFlights) (x : Explanation) : Type 0 where
-  pub printed : ArePrintedCauses whole d flow flown x.printed
-  pub search : IsSearchAt255 (facts d) summary excluded flow flown x.search
-  pub also : x.also ≡ also_missed (facts d) flow flown
+    (whole : Bool) (flow : ℕ) (flights : ExaminedFlights) (x : Explanation) : Type 0 where
+  pub printed : ArePrintedCauses whole d flow flights x.printed
+  pub search : IsSearchAt255 (facts d) summary excluded flow flights x.search
+  pub also : x.also ≡ also_missed (facts d) flow flights

@@ -5,7 +5,7 @@ use Rattle.std.proofs.Common.{nat_lt, ltb-true, ltb-false, Option, Some, None}
 use Rattle.std.proofs.lemmas.Bool.{cases_lt, le-ltb}
 use Rattle.mc_theory.specs.Paths.{Hop, PassesHops, need, IsStopped}
 use Rattle.mc_theory.specs.Hops.{first_stop_or_here, stopping_hop}
-use Rattle.mc_theory.proofs.AppendSplits.{splits}
+use Rattle.mc_theory.proofs.AppendSplits.{append_split-cases}
 use Rattle.mc_theory.proofs.Paths.{passes_hops-from_need}
 
 -- each hop takes one TTL at least
@@ -60,7 +60,7 @@ need-append_right : (hs : List Hop) (h : Hop) (ks : List Hop) → need (h ∷ ks
 need-append_right [] h ks = omega arith
 need-append_right (g ∷ hs) h ks = let rest = need-append_right hs h ks in omega (arith, rest)
 
--- and no other
+-- only a packet below the need is stopped
 pub need_above-from_stopped : (t : ℕ) (hs : List Hop) (h : Hop) (left : ℕ) → IsStopped t hs h left →
     t < need hs
 need_above-from_stopped t hs h left s =
@@ -85,7 +85,7 @@ not_passing-at_stopping_hop t hs h left s ks js e p =
 pub is_stopped-unique : (t : ℕ) (hs : List Hop) (h : Hop) (left : ℕ) (g : Hop) (more : ℕ) →
     IsStopped t hs h left → IsStopped t hs g more → (h ≡ g) × (left ≡ more)
 is_stopped-unique t hs h left g more p q = elim
-    (splits p.after h p.before q.after g q.before (sym p.split ∙ q.split)) [
+    (append_split-cases p.after h p.before q.after g q.before (sym p.split ∙ q.split)) [
       | inl s ↦ (let long : length p.before ≡ length q.before = ap (λ (ks : List Hop). length ks)
           s.2 in
           let ttl = p.ttl in
@@ -97,7 +97,7 @@ is_stopped-unique t hs h left g more p q = elim
 
 -- ---- it is found hop by hop
 
--- what is known of the hop that `stopping_hop` finds, if it finds one
+-- what holds of the hop that `stopping_hop` finds, if it finds one
 abbrev pub IsCorrectStop : ℕ → List Hop → Option (Hop × ℕ) → Type 0
 IsCorrectStop t hs None = PassesHops t hs
 IsCorrectStop t hs (Some stop) = IsStopped t hs stop.0 stop.1
@@ -135,7 +135,8 @@ pub not_passing-when_stopped : (t : ℕ) (hs : List Hop) (h : Hop) (left : ℕ) 
     PassesHops t hs → ⊥
 not_passing-when_stopped t hs h left s p = not_passing-at_stopping_hop t hs h left s hs s.after s.split p
 
-no_stop-from_passes : (t : ℕ) (hs : List Hop) (o : Option (Hop × ℕ)) → IsCorrectStop t hs o → PassesHops t hs →
+no_stop-from_passes : (t : ℕ) (hs : List Hop) (o : Option (Hop × ℕ)) → IsCorrectStop t hs o →
+    PassesHops t hs →
     o ≡ None
 no_stop-from_passes t hs None d p = refl
 no_stop-from_passes t hs (Some stop) d p = absurd (not_passing-when_stopped t hs stop.0 stop.1 d p)

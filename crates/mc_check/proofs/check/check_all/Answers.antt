@@ -1,6 +1,6 @@
 -- Each flow's verdict by its first reason.
 use Rattle.std.proofs.Common.{◌≡◌, ◌+◌, ◌<◌, ◌++◌, ◌∷◌, [], length, sym, subst, arith}
-use Rattle.mc_check.proofs.AllLemmas.{AreVerdictsSoFar, verdicts_so_far-more, correct_verdict-verdict_by}
+use Rattle.mc_check.proofs.CheckAllLemmas.{AreVerdictsSoFar, verdicts_so_far-more, correct_verdict-verdict_by}
 use Rattle.mc_check.proofs.check.check_all.Goals as goal
 
 pub loop-flow-preserved : goal.loop-flow-preserved

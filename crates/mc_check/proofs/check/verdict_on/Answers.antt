@@ -1,5 +1,5 @@
 -- By the first reason.
-use Rattle.mc_check.proofs.AllLemmas.{correct_verdict-verdict_by}
+use Rattle.mc_check.proofs.CheckAllLemmas.{correct_verdict-verdict_by}
 use Rattle.mc_check.proofs.VerdictLemmas.{is_first_reason-of_domain, entry_count_fits}
 use Rattle.mc_check.proofs.check.verdict_on.Goals as goal
 

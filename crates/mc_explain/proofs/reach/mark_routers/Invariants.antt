@@ -1,7 +1,7 @@
 use Rattle.std.proofs.Common.{◌≡◌, ◌||◌, ℕ, ◌<◌, false, length, drop}
 use Rattle.std.specs.Prelude.{slice_index_or}
 use Rattle.mc_explain.specs.SearchReach.{has_event}
-use Rattle.mc_explain.proofs.reach.mark_lans.Given as goal
+use Rattle.mc_explain.proofs.reach.mark_routers.Given as goal
 
 abbrev pub invariant-loop-event : goal.invariant-loop-event
 invariant-loop-event l = record {

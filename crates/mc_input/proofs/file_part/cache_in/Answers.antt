@@ -6,7 +6,7 @@ use Rattle.mc_files.specs.Layout.{cache_slot}
 use Rattle.mc_input.specs.PartsOneByOne.{IsPartResult}
 use Rattle.mc_input.specs.PartsReading.{summary_of_part}
 use Rattle.mc_input.specs.declared.fault.InputFault.TheVariants.{Cache as RefusedCache}
-use Rattle.mc_input.proofs.FilesLemmas.{GivesKept-from_part_result, read_part-kept_Err, part_packed-Err}
+use Rattle.mc_input.proofs.FilesLemmas.{GivesKept-from_part_result, read_part-kept_Err, read_part-file_Err}
 use Rattle.mc_input.proofs.SummaryLemmas.{summary_in-same_pairs}
 use Rattle.mc_input.proofs.FaultLemmas.{is_possible_for_files-from_file_fault, is_possible_for_files-from_part_result}
 use Rattle.mc_input.proofs.file_part.cache_in.Goals as goal
@@ -15,7 +15,7 @@ pub returns-in_err-name-clause-cache : goal.returns-in_err-name-clause-cache
 returns-in_err-name-clause-cache g c =
     let p = err_from_is_err_and c.from_residual-in_err-name.result
     c.from_residual-in_err-name.ensures.1 in
-    λ n pairs same contents is. rw (p.1 ∙ ap (λ f. Err f) p.2) (part_packed-Err contents n (cache_slot c.args.router.now)
+    λ n pairs same contents is. rw (p.1 ∙ ap (λ f. Err f) p.2) (read_part-file_Err contents n (cache_slot c.args.router.now)
     c.cache.result (summary_of_part c.args.all c.args.order pairs) c.in_err-name.field-0.0 c.cache.ensures.value
     (c.in_err-name.ensures.fault contents is))
 

@@ -3,7 +3,7 @@ use Rattle.std.proofs.lemmas.Result.{err_from_is_err_and}
 use Rattle.mc_text.specs.BundleView.{part_text}
 use Rattle.mc_files.specs.Layout.{topology_slot}
 use Rattle.mc_input.specs.PartsReading.{topology_of}
-use Rattle.mc_input.proofs.FilesLemmas.{part_packed-Err, read_part-content_Err, read_part-Ok}
+use Rattle.mc_input.proofs.FilesLemmas.{read_part-file_Err, read_part-content_Err, read_part-Ok}
 use Rattle.mc_topology.specs.Reading.{parse_topology}
 use Rattle.mc_input.specs.declared.fault.InputFault.TheVariants.{Topology as RefusedTopology}
 use Rattle.mc_input.proofs.FaultLemmas.{is_possible_for_files-from_file_fault, is_possible_for_files-from_reader}
@@ -12,7 +12,7 @@ use Rattle.mc_input.proofs.file_part.topology_in.Goals as goal
 pub returns-in_err-part-clause-topology : goal.returns-in_err-part-clause-topology
 returns-in_err-part-clause-topology g c =
     let p = err_from_is_err_and c.from_residual.result c.from_residual.ensures.1 in
-    λ n contents is. rw (p.1 ∙ ap (λ f. Err f) p.2) (part_packed-Err contents n topology_slot
+    λ n contents is. rw (p.1 ∙ ap (λ f. Err f) p.2) (read_part-file_Err contents n topology_slot
     c.topology.result topology_of c.in_err-part.field-0.0 c.topology.ensures
     (c.in_err-part.ensures.part contents is))
 

@@ -7,14 +7,14 @@ use Rattle.mc_forward.specs.Assembling.{AreChannelsWanted}
 use Rattle.mc_input.specs.PartsOneByOne.{IsPartResult}
 use Rattle.mc_input.specs.PartsReading.{reports_of}
 use Rattle.mc_input.specs.declared.fault.InputFault.TheVariants.{Reports as RefusedReports}
-use Rattle.mc_input.proofs.FilesLemmas.{GivesKept-from_part_result, read_part-kept_Err, part_packed-Err}
+use Rattle.mc_input.proofs.FilesLemmas.{GivesKept-from_part_result, read_part-kept_Err, read_part-file_Err}
 use Rattle.mc_input.proofs.FaultLemmas.{is_possible_for_files-from_file_fault, is_possible_for_files-from_part_result}
 use Rattle.mc_input.proofs.file_part.wanted_in.Goals as goal
 
 pub returns-in_err-name-clause-wanted : goal.returns-in_err-name-clause-wanted
 returns-in_err-name-clause-wanted g c =
     let p = err_from_is_err_and c.from_residual.result c.from_residual.ensures.1 in
-    λ n contents is. rw (p.1 ∙ ap (λ f. Err f) p.2) (part_packed-Err contents n (reports_slot c.args.lan.now)
+    λ n contents is. rw (p.1 ∙ ap (λ f. Err f) p.2) (read_part-file_Err contents n (reports_slot c.args.lan.now)
     c.reports.result reports_of c.in_err-name.field-0.0 c.reports.ensures.value
     (c.in_err-name.ensures.fault contents is))
 

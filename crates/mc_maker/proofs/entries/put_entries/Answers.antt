@@ -12,7 +12,7 @@ loop-copy-init c = entries_so_far-none (net_in c.args.view.now) c.args.by_lan.no
 
 pub returns : goal.returns
 returns c = record {
-  meaning = (
+  entries = (
       entries_so_far-all (net_in c.args.view.now) c.loop-copy.by_lan c.args.by_lan.now c.args.copies.now
       c.loop-copy.copy-index c.loop-copy.invariant
       (omega (arith, c.loop-copy-test.false)));

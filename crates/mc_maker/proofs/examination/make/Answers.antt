@@ -1,4 +1,4 @@
--- By what was examined.
+-- By the result of the examination.
 use Rattle.std.proofs.Common.{ap, sym, ◌∙◌, refl, arith}
 use Rattle.mc_forward.specs.Domains.{ttl_of}
 use Rattle.mc_forward.proofs.DomainLemmas.{ttl-at_most_255}

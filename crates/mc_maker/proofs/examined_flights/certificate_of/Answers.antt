@@ -44,8 +44,8 @@ returns-clause-listed c =
     reordered-all_of_topology c.args.view.now.domain c.args.view.now.flow c.args.copies.now
     c.in_ok-entries.entries.items c.requires.valid (returns-clause-entries c)
 
-pub returns-clause-list : goal.returns-clause-list
-returns-clause-list c =
+pub returns-clause-writable : goal.returns-clause-writable
+returns-clause-writable c =
     is_list-reordered c.args.view.now.domain c.args.view.now.flow c.args.copies.now
     c.in_ok-entries.entries.items c.serves_all.ensures.rules.domain c.requires.valid
     (returns-clause-entries c)

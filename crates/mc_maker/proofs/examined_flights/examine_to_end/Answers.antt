@@ -1,4 +1,4 @@
--- By the travels that were made.
+-- By the travels.
 use Rattle.std.proofs.Common.{All, ℕ, ap, subst, sym, refl, arith}
 use Rattle.mc_cert.specs.Certificate.{IsEntryOf}
 use Rattle.std.specs.Prelude.{◌≢◌, IfNone, IfSome, Option, None, Some}
@@ -43,9 +43,9 @@ returns-in_default c =
       accepted = tt;
       ascending = tt;
       listed = tt;
-      list = tt;
+      writable = tt;
       made = tt;
-      examined_flights = record {
+      flights = record {
         domain = c.in_ok-greatest.ensures.domain;
         flow_of_flight = c.in_ok-greatest.ensures.flow;
         run = c.in_ok-greatest.ensures.run;

@@ -2,9 +2,9 @@
 use Rattle.std.proofs.Common.{◌≡◌, ◌+◌, ◌<◌, length, is_some, not, true, false, None, Some, ap, sym, subst}
 use Rattle.std.proofs.Common.{◌∙◌, arith}
 use Rattle.mc_theory.specs.Flights.{Copy}
-use Rattle.mc_replay.proofs.FirstLemmas.{FirstCopiesSoFar, first_copies_so_far-none, first_copies_so_far-more, second_copy_so_far-all, first_copies_so_far-all}
-use Rattle.mc_replay.proofs.FirstLemmas.{second_copy_so_far, second_copy_so_far-found_now, second_copy_so_far-found_before}
-use Rattle.mc_replay.proofs.FirstLemmas.{second_copy_so_far-first_on_lan, get_or-take_drop, length-take_drop_end}
+use Rattle.mc_replay.proofs.FirstCopiesLemmas.{FirstCopiesSoFar, first_copies_so_far-none, first_copies_so_far-more, second_copy_so_far-all, first_copies_so_far-all}
+use Rattle.mc_replay.proofs.FirstCopiesLemmas.{second_copy_so_far, second_copy_so_far-found_now, second_copy_so_far-found_before}
+use Rattle.mc_replay.proofs.FirstCopiesLemmas.{second_copy_so_far-first_on_lan, get_or-take_drop, length-take_drop_end}
 use Rattle.mc_replay.proofs.first_copies.record_first_copies.Goals as goal
 use Rattle.mc_replay.proofs.first_copies.record_first_copies.Goals.{then-not-put_first+then-is_none, else-not-put_first}
 use Rattle.mc_replay.proofs.first_copies.record_first_copies.Goals.{else-not-put_first-via-then-not-put_first+else-is_none}
@@ -14,7 +14,7 @@ pub loop-copy-init : goal.loop-copy-init
 loop-copy-init c =
     let e : c.args.seen ≡ c.args.seen + 0 = omega arith in
     subst (λ k. FirstCopiesSoFar c.args.firsts.now c.args.firsts.now c.args.copies.now k None) e
-    (first_copies_so_far-none c.args.firsts.now c.args.copies.now c.args.seen c.requires.firsts c.requires.once)
+    (first_copies_so_far-none c.args.firsts.now c.args.copies.now c.args.seen c.requires.firsts c.requires.distinct)
 
 pub loop-copy-preserved : goal.loop-copy-preserved
 loop-copy-preserved c =

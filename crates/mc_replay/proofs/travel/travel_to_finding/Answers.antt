@@ -6,7 +6,7 @@ use Rattle.mc_theory.specs.Findings.{finding}
 use Rattle.mc_forward.specs.Domains.{net_of}
 use Rattle.mc_forward.specs.PerLan.{HoldsFirstOfEachKey}
 use Rattle.mc_replay.proofs.TravelLemmas.{first_copies_recorded-none, first_copies_recorded-more, travel_so_far-from_start, length-travel_so_far_below, length-travel_so_far}
-use Rattle.mc_replay.proofs.TravelLemmas.{is_travel_to-travel_so_far, travel_so_far-more, flown-step_in_domain, event_of-in_domain, choice-same_count}
+use Rattle.mc_replay.proofs.TravelLemmas.{is_travel_to-travel_so_far, travel_so_far-more, flight-step_in_domain, event_of-in_domain, choice-same_count}
 use Rattle.mc_replay.proofs.travel.travel_to_finding.Goals as goal
 
 pub travel-init : goal.travel-init
@@ -53,7 +53,7 @@ travel-preserved g c =
     let chosen = choice-same_count (g.P.Picker.choices c.travel.picker) _ _ c.pick-pick.result
     c.pick-pick.ensures.value c.waiting.ensures in
     let inv = c.travel.invariant in
-    let next = flown-step_in_domain d c.args.view.now.flow c.pick-pick.result c.travel.flight
+    let next = flight-step_in_domain d c.args.view.now.flow c.pick-pick.result c.travel.flight
     c.handle.new.self inv.domain inv.flow c.in_ok-handle.ensures.ok in
     let event = event_of-in_domain d c.args.view.now.flow c.travel.flight
     (slice_get f.waiting c.pick-pick.result) c.in_ok-handle.field-0 inv.domain inv.flow

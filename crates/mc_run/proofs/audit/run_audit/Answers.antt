@@ -1,6 +1,6 @@
 use Rattle.std.proofs.Common.{map}
 use Rattle.mc_run.specs.Faults.{IsFaultOfAudit}
-use Rattle.mc_run.proofs.AuditOutput.{has_unwanted-run, writes_of_each-run, headline_of_files-run, are_found_in_whole-run, writes_of_each_in_part-run, writes_which_are_right-run}
+use Rattle.mc_run.proofs.AuditOutputLemmas.{has_unwanted-run, writes_of_each-run, headline_of_files-run, are_found_in_whole-run, writes_of_each_in_part-run, writes_which_are_right-run}
 use Rattle.mc_run.proofs.FaultLemmas.{fault-of_audit_answer}
 use Rattle.mc_run.proofs.audit.run_audit.Goals as goal
 

@@ -1,5 +1,5 @@
 use Rattle.mc_run.specs.AuditPieces.{audited_value}
-use Rattle.mc_run.proofs.ReasonLemmas.{explanation_lines-pushed}
+use Rattle.mc_run.proofs.ExplanationLemmas.{explanation_lines-pushed}
 use Rattle.mc_run.proofs.audit_wrong.push_explanation.Goals as goal
 
 pub returns : goal.returns

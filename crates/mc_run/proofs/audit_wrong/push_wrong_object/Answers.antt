@@ -1,6 +1,6 @@
 use Rattle.std.proofs.Common.{Some, None}
 use Rattle.mc_run.specs.AuditPieces.{audited_value}
-use Rattle.mc_run.proofs.ReasonLemmas.{wrong_object-pushed}
+use Rattle.mc_run.proofs.ExplanationLemmas.{wrong_object-pushed}
 use Rattle.mc_run.proofs.audit_wrong.push_wrong_object.Goals as goal
 
 pub returns-in-Some : goal.returns-in-Some

@@ -4,7 +4,7 @@ use Rattle.mc_run.proofs.CheckLemmas.{are_verdicts, keeps_headline, certificate_
 use Rattle.mc_run.proofs.check.verdicts_of_domain.Goals as goal
 
 pub check_all-requires-clause-flows : goal.check_all-requires-clause-flows
-check_all-requires-clause-flows c = c.requires.count
+check_all-requires-clause-flows c = c.requires.valid.count
 
 pub check_all-requires-clause-lans : goal.check_all-requires-clause-lans
 check_all-requires-clause-lans c = certificate_lans-of_topology _ _ c.requires.valid
@@ -12,7 +12,7 @@ check_all-requires-clause-lans c = certificate_lans-of_topology _ _ c.requires.v
 pub check_text-requires : goal.check_text-requires
 check_text-requires c = record {
   lengths = (
-      ap length c.deref.ensures.value ∙ c.in_ok-verdicts.ensures.count ∙ c.requires.count
+      ap length c.deref.ensures.value ∙ c.in_ok-verdicts.ensures.count ∙ c.requires.valid.count
       ∙ sym (ap (λ t. length t.flows) c.topology.ensures.topology));
 }
 

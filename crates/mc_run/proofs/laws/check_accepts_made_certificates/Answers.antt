@@ -11,4 +11,5 @@ pub returns-clause-yes : goal.returns-clause-yes
 returns-clause-yes c = is_verdict_text-made_bundle
 
 pub returns-clause-only : goal.returns-clause-only
-returns-clause-only c = is_verdict_text-only_yes
+returns-clause-only c = λ text written bundle parts made is more all printed verdicts.
+    is_verdict_text-only_yes text written bundle parts all printed made is more verdicts

@@ -2,7 +2,7 @@ use Rattle.std.proofs.Common.{◌≡◌, ◌-◌, ◌∙◌, ap, arith, drop, le
 use Rattle.std.proofs.lemmas.List.{length-append, take-append-le}
 use Rattle.std.proofs.Math.Seq.{take-nil}
 use Rattle.mc_run.specs.LineFront.{front_after_more}
-use Rattle.mc_run.proofs.LineFrontLemmas.{found_at_end, found_behind_piece, found_in_piece, left_after_piece-known, take-none_left}
+use Rattle.mc_run.proofs.LineFrontLemmas.{found_at_end, found_after_piece, found_in_piece, left_after_piece-known, take-none_left}
 use Rattle.mc_run.proofs.line_front.seek_front.Goals as goal
 
 pub returns-in-Ok-eq0-clause-front : goal.returns-in-Ok-eq0-clause-front
@@ -63,7 +63,7 @@ reading-preserved g c =
             next.0,
             next.1,
             ap (λ n. front_after_more c.take.new.self (take (c.reading.left - n) next.0)) (sym count)
-                ∙ found_behind_piece c.args.sought.now c.reading.sought c.reading.left so_far.0
+                ∙ found_after_piece c.args.sought.now c.reading.sought c.reading.left so_far.0
                 (take 16777216 text) so_far.2 c.take.new.self piece next.0 c.in-Ok-false.field-0
                 (omega (arith, taken, c.in-Ok.ensures.bound.0)) next.2 c.in-Ok-false.field-0-test takes,
           );

@@ -29,9 +29,9 @@ loop-flow-preserved c =
     let k = c.loop-flow.flow in
     let x = c.in_ok-entries.field-0 in
     let topology = c.topology-topology.ensures.topology in
-    let run_output = c.in_ok-entries.ensures in
-    let is = is_examined-of_examination run_output.accepted run_output.ascending run_output.listed run_output.list run_output.made run_output.travel
-    run_output.fault run_output.ttl run_output.right in
+    let examined = c.in_ok-entries.ensures in
+    let is = is_examined-of_examination examined.accepted examined.ascending examined.listed examined.writable examined.made examined.travel
+    examined.fault examined.ttl examined.right in
     elim c.match-branch-2.branch [
       | in-Certified+in_ok-push-in-Certified w ↦
           (let grown = w.lists-is ∙ w.in_ok-push-in-Certified.ensures.pushed in

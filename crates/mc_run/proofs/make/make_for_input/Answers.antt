@@ -2,7 +2,7 @@ use Rattle.std.specs.String.{string_bytes}
 use Rattle.mc_run.specs.MakeRun.{IsMakeOutput}
 use Rattle.mc_input.specs.Meaning.{MeansUncertifiedDomain}
 use Rattle.mc_run.proofs.RunLemmas.{of_domain-means_same}
-use Rattle.mc_run.proofs.SameLemmas.{is_make_output-same_domain}
+use Rattle.mc_run.proofs.SameFactsLemmas.{is_make_output-same_domain}
 use Rattle.mc_run.proofs.make.make_for_input.Goals as goal
 
 pub returns-in-Ok-clause-text : goal.returns-in-Ok-clause-text

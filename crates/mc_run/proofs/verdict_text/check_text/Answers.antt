@@ -1,7 +1,7 @@
 use Rattle.std.proofs.Common.{◌<◌, ◌++◌, ap, ◌∙◌, arith, length}
 use Rattle.mc_forward.proofs.IndexLemmas.{slice_get-from_read}
 use Rattle.mc_run.specs.VerdictText.{flow_lines, last_line}
-use Rattle.mc_run.proofs.TextLemmas.{flow_lines-all, flow_lines-more}
+use Rattle.mc_run.proofs.CheckTextLemmas.{flow_lines-all, flow_lines-more}
 use Rattle.mc_run.proofs.verdict_text.check_text.Goals as goal
 
 pub loop-flow-preserved : goal.loop-flow-preserved

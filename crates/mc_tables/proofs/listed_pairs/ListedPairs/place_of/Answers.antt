@@ -2,7 +2,7 @@ use Rattle.std.proofs.Common.{ℕ, List, subst}
 use Rattle.std.specs.List.{IsDistinct}
 use Rattle.mc_tables.specs.CacheTable.{same_key}
 use Rattle.mc_tables.proofs.ListedPairLemmas.{if_none-missing_pair, pair_of-increasing_distinct}
-use Rattle.mc_tables.proofs.listed_pairs.ListedPairs.place_by_vif.Goals as goal
+use Rattle.mc_tables.proofs.listed_pairs.ListedPairs.place_of.Goals as goal
 
 pub returns-clause-none : goal.returns-clause-none
 returns-clause-none c =
@@ -13,4 +13,5 @@ returns-clause-none c =
 pub returns-clause-distinct : goal.returns-clause-distinct
 returns-clause-distinct c =
     subst (λ (keys : List (ℕ × ℕ)). IsDistinct same_key keys) c.self.view_is
-    (pair_of-increasing_distinct c.self.inside.index.value (rw c.deref.ensures at c.place_of.ensures.ascending))
+    (pair_of-increasing_distinct c.self.inside.index.value
+        (rw c.deref.ensures at c.place_of.ensures.ascending))

@@ -1,4 +1,4 @@
--- What is written of all flows, before and behind them, and what it says of the files.
+-- The whole text of an audit, and what it says of the files.
 use Rattle.std.proofs.Common.{◌≡◌, ℕ, Bool, List, ◌++◌, length, Option, Some, None, Result, Ok, Err}
 use Rattle.std.proofs.Common.{refl, sym, ap, subst, ◌∙◌, append_assoc}
 use Rattle.std.specs.Prelude.{◌==◌, ◌&&◌, IfOk, IfSome, flat_map}
@@ -28,7 +28,7 @@ use Rattle.mc_run.proofs.AuditFlows.{are_right-zero_wrong}
 
 -- ---- one text
 
--- whether a list of names is empty, as it is counted
+-- whether a list of names is empty, by its length
 abbrev no_names-no_count : (v : AuditedValue) (k : ℕ) → length v.without ≡ k
     → (length v.without == 0) ≡ (k == 0)
 no_names-no_count v k same = ap (λ (n : ℕ). n == 0) same
@@ -80,7 +80,7 @@ is_audited-all_pushed v o s printed marks count every begin lines text same size
 
 -- ---- the files
 
--- what holds of the domain that was read, with its notes, holds of what the files mean
+-- what holds of the domain that was read, with its summaries, holds of the one that the files mean
 pub of_domain-means_audited : (Holds : AuditedValue → Type 0) (o : AuditOptions) (names : List (List ℕ))
     (contents : Option (List FileText)) (d : DomainValue) (summary : List SummaryValue)
     → ((whole : DomainValue) → HaveSameFacts whole d
@@ -104,9 +104,9 @@ of_domain-means_audited Holds o names (Some files) d summary moves means routers
   holds = moves means.whole means.same holds;
 }
 
--- ---- the answer, with the number beside it
+-- ---- the answer, with the number of unwanted flows
 
--- what follows of whether all are right follows of the answer
+-- what follows from the run's answer follows from the audit's
 pub audit_answer-gives : (P : Bool → Type 0) (r : Result AuditAnswer RunFault) (s : Result Bool RunFault)
     → yes_of r ≡ s → IfOk s P → IfOk (yes_of r) P
 audit_answer-gives P r s same holds = subst (λ (t : Result Bool RunFault). IfOk t P) (sym same) holds
@@ -121,13 +121,13 @@ pub audit_yes-gives : (Q : Type 0) (r : Result AuditAnswer RunFault) (s : Result
 audit_yes-gives Q r s old new same follows says =
     follows (subst (λ (t : Result Bool RunFault). AuditSaysYes t old new) same says)
 
--- what is said is what was to be said
+-- the output is that of the audit
 pub is_output_written-parts : (s t : Result RunOutput RunFault) (y : Result Bool RunFault) (old new : Option (List ℕ))
     → s ≡ t → IsOutputWritten s y old new → IsOutputWritten t y old new
 is_output_written-parts s t y old new same is =
     subst (λ (u : Result RunOutput RunFault). IsOutputWritten u y old new) same is
 
--- no answer comes where there was nothing to say
+-- a fault in place of the output gives no answer
 no_answer-without_output : (f : RunFault) (p : Result RunOutput RunFault) (s : Result Bool RunFault) (all : Bool)
     (old new : Option (List ℕ)) → p ≡ Err f → Ok all ≡ s → IsOutputWritten p s old new → ⊥
 no_answer-without_output f p s all old new none same is =
@@ -135,7 +135,7 @@ no_answer-without_output f p s all old new none same is =
     subst (λ (u : Result RunOutput RunFault). IsOutputWritten u s old new) none is in
     subst (λ (t : Result Bool RunFault). IsOutputWritten (Err f) t old new) (sym same) run_output
 
--- and what holds of the number that was counted holds of the number that is answered
+-- and what holds of the counted number holds of the returned one
 pub audit_unwanted-gives : (P : ℕ → Type 0) (a : Result AuditOutput RunFault) (p : Result RunOutput RunFault)
     (n : ℕ) (s : Result Bool RunFault) (r : Result AuditAnswer RunFault)
     (old new : Option (List ℕ)) → IfOk a (λ audit. P audit.unwanted) → p ≡ output_of a

@@ -1,4 +1,4 @@
--- The vector of first entries, as it fills.
+-- The vector of first entries, filled entry by entry.
 use Rattle.std.proofs.Common.{◌≡◌, ℕ, ◌+◌, ◌<◌, Bool, true, not, List, [], ◌∷◌, ◌++◌, length, take, drop}
 use Rattle.std.proofs.Common.{get_or, Option, Some, None, is_some, ap, sym, subst, ◌∙◌, arith}
 use Rattle.std.specs.Prelude.{slice_set, IsSome}
@@ -9,7 +9,7 @@ use Rattle.mc_theory.specs.Reasons.Reason.{TwoEntries}
 use Rattle.mc_forward.specs.PerLan.{item_on_lan, HoldsFirstOfEachKey}
 use Rattle.mc_forward.proofs.PerLanLemmas.{holds_first-put, first_with_key-entry_on}
 
--- the first k entries were taken in, no two of one LAN
+-- the first k entries are stored, and no two of them name the same LAN
 pub record FirstEntriesSoFar (firsts old : List (Option Entry)) (es : List Entry) (k : ℕ) : Type 0 where
   pub count : length firsts ≡ length old
   pub twice : twice (take k es) (drop k es) ≡ twice [] es
@@ -21,7 +21,7 @@ twice-cons_new_lan earlier es e none =
     ap (λ (o : Option Entry). unless (not (is_some o)) (TwoEntries e.lan) then twice
     (earlier ++ e ∷ []) es) none
 
--- the k-th entry is the first of a LAN that is named before
+-- the k-th entry is the first one whose LAN an earlier entry names
 pub twice-already_named : (firsts old : List (Option Entry)) (es : List Entry) (k : ℕ) (e : Entry)
     → FirstEntriesSoFar firsts old es k → k < length es → e ≡ get_or es k e → IsSome (item_on_lan firsts e.lan)
     → Some (TwoEntries e.lan) ≡ twice [] es

@@ -1,4 +1,4 @@
--- What a run says of one domain holds of another one that says the same of each flow.
+-- What holds of one domain holds of any other domain with the same facts of each flow.
 use Rattle.std.proofs.Common.{◌≡◌, ℕ, ◌<◌, Bool, List, ◌++◌, length, Option, Some, ap, refl, sym}
 use Rattle.std.proofs.Common.{subst, subst₂, ◌∙◌}
 use Rattle.std.specs.Prelude.{◌↔◌, ◌⊎◌, ◌==◌, ◌&&◌, All, IsTrue, flat_map, slice_get, take}
@@ -24,7 +24,7 @@ use Rattle.mc_replay.specs.FindingValues.{finding_value}
 use Rattle.mc_replay.specs.declared.travel.FinishedTravel.{FinishedTravel}
 use Rattle.mc_maker.specs.ExaminedFlights.{IsFinishedTravelOf, HasExaminedFlights, without_flights}
 use Rattle.mc_maker.specs.declared.examined_flights.ExaminedFlights.{ExaminedFlights}
-use Rattle.mc_maker.specs.declared.examined_flights.ExaminedFlights.TheVariants as flown
+use Rattle.mc_maker.specs.declared.examined_flights.ExaminedFlights.TheVariants as flights
 use Rattle.mc_explain.specs.Explained.{ExplainsAtFlowTtl, ExplainsFinding, IsExplained}
 use Rattle.mc_explain.specs.WantedText.{lans_wanting}
 use Rattle.mc_explain.specs.declared.searching.LanSearch.{LanSearch}
@@ -42,7 +42,7 @@ use Rattle.mc_run.specs.ReplayRun.{IsTextOfTravel, replay_text}
 use Rattle.mc_run.specs.VerdictText.{AreVerdicts, IsVerdict, check_text}
 use Rattle.mc_run.specs.declared.audit_options.AuditOptions.{AuditOptions}
 
--- what holds of a domain by its topology and its flows' nets alone holds of one that says the same
+-- what holds of a domain by its topology and its flows' nets alone holds of any domain with the same facts
 transport_topology_and_nets : (P : TopologyValue → (ℕ → Net) → Type 0) {whole d : DomainValue} → HaveSameFacts whole d
     → P d.topology (net_of d) → P whole.topology (net_of whole)
 transport_topology_and_nets P same = subst₂ P (sym same.topology) (λ i flow. sym (same.nets flow) i)
@@ -69,7 +69,7 @@ is_text_of_verdicts-same_domain same lists all written is = record {
   spelled = transport_topology_and_nets (λ t n. written ≡ check_text t is.verdicts) same is.spelled;
 }
 
--- and the headline holds of each flow
+-- and the headline holds for each flow
 pub keeps_headline-same_domain : {whole d : DomainValue} → HaveSameFacts whole d → (lists : List Tree)
     → KeepsHeadline d lists → KeepsHeadline whole lists
 keeps_headline-same_domain same lists = transport_topology_and_nets (λ t n. (flow : ℕ) → flow < length t.flows
@@ -77,7 +77,7 @@ keeps_headline-same_domain same lists = transport_topology_and_nets (λ t n. (fl
 
 -- ---- replay
 
--- what a domain of this topology and these nets replays
+-- the replay in a domain, by its topology and its nets
 abbrev replay_in : TopologyValue → (ℕ → Net) → (flow ttl : ℕ) → Choices → Replay
 replay_in t n flow ttl choices = record {
   net = n flow;
@@ -102,7 +102,7 @@ is_text_of_travel-same_domain same flow ttl choices clean written is = record {
   spelled = transport_topology_and_nets (λ t n. written ≡ replay_text t is.listed ttl is.travel) same is.spelled;
 }
 
--- and the one topology lists no flow of this number if the other lists none
+-- and the one topology lists no flow with this number if the other lists none
 pub has_no_flow-same_domain : {whole d : DomainValue} → HaveSameFacts whole d → (flow : ℕ)
     → (flow ≡ 0) ⊎ (length d.topology.flows < flow)
     → (flow ≡ 0) ⊎ (length whole.topology.flows < flow)
@@ -136,21 +136,21 @@ is_ttl_of_fault-same_domain same flow ttl is = record {
       → ttl ≡ (n flow).ttl) same is.least;
 }
 
--- where one is found at all,
+-- if one is found at all,
 if_found_ttl-same_domain : {whole d : DomainValue} → HaveSameFacts whole d → (flow : ℕ) (x : Examined)
     → IfFound (λ ttl travel. IsTtlOfFault d flow ttl) x
     → IfFound (λ ttl travel. IsTtlOfFault whole flow ttl) x
 if_found_ttl-same_domain same flow (Certified entries) is = tt
 if_found_ttl-same_domain same flow (Found ttl travel) is = is_ttl_of_fault-same_domain same flow ttl is
 
--- so an examination says the same of a flow,
+-- so an examination has the same result for a flow,
 pub is_examined-same_domain : {whole d : DomainValue} → HaveSameFacts whole d → (flow : ℕ) (x : Examined)
     → IsExamined d flow x → IsExamined whole flow x
 is_examined-same_domain same flow x is = record {
   accepted = transport_topology_and_nets (λ t n. IfCertified (IsAccepted (n flow)) x) same is.accepted;
   ascending = is.ascending;
   listed = transport_topology_and_nets (λ t n. IfCertified (All (IsEntryOf t)) x) same is.listed;
-  list = is.list;
+  writable = is.writable;
   made = entries_of_clean_travel-same_domain same flow x is.made;
   travel = transport_topology_and_nets (λ t n. IfFound (λ ttl travel.
       IsRunOfChoices (replay_in t n flow ttl first_choices) travel) x) same is.travel;
@@ -167,7 +167,7 @@ are_examined-same_domain same xs are = record {
   each = λ flow x at. is_examined-same_domain same flow x (are.each flow x at);
 }
 
--- and what is written of that is the same,
+-- and the text of that is the same,
 pub is_make_output-same_domain : {whole d : DomainValue} → HaveSameFacts whole d → (certified : Bool)
     (written : List ℕ) → IsMakeOutput d certified written → IsMakeOutput whole certified written
 is_make_output-same_domain same certified written is = record {
@@ -179,7 +179,7 @@ is_make_output-same_domain same certified written is = record {
 
 -- ---- audit
 
--- the headline holds of a certified flow,
+-- the headline holds for a certified flow,
 pub is_checked-same_domain : {whole d : DomainValue} → HaveSameFacts whole d → (flow : ℕ) (x : Examined)
     → IsChecked d flow x → IsChecked whole flow x
 is_checked-same_domain same flow x is = record {
@@ -187,7 +187,7 @@ is_checked-same_domain same flow x is = record {
   headline = transport_topology_and_nets (λ t n. IfCertified (λ es. HeadlineHolds (n flow) (length es)) x) same is.headline;
 }
 
--- what is so of a domain's facts is so of those of one that says the same
+-- what holds of a domain's facts holds of those of any domain with the same facts
 transport_facts : (P : DomainFacts → Type 0) {whole d : DomainValue} → HaveSameFacts whole d
     → P (facts d) → P (facts whole)
 transport_facts P same = subst P (sym (facts-of_same_facts same))
@@ -204,9 +204,9 @@ finished_travel_in d ended = record {
 }
 
 abbrev examined_flights_in : DomainValue → ExaminedFlights → ExaminedFlights
-examined_flights_in d (flown.Certified entries) = flown.Certified entries
-examined_flights_in d (flown.FoundAtTtl255 ended) = flown.FoundAtTtl255 (finished_travel_in d ended)
-examined_flights_in d (flown.FoundAtFlowTtl greatest least) = flown.FoundAtFlowTtl (finished_travel_in d greatest) (finished_travel_in d least)
+examined_flights_in d (flights.Certified entries) = flights.Certified entries
+examined_flights_in d (flights.FoundAtTtl255 ended) = flights.FoundAtTtl255 (finished_travel_in d ended)
+examined_flights_in d (flights.FoundAtFlowTtl greatest least) = flights.FoundAtFlowTtl (finished_travel_in d greatest) (finished_travel_in d least)
 
 is_finished_travel-same_domain : {whole d : DomainValue} → HaveSameFacts whole d → (flow ttl : ℕ) (ended : FinishedTravel)
     → IsFinishedTravelOf d flow ttl ended → IsFinishedTravelOf whole flow ttl (finished_travel_in whole ended)
@@ -219,9 +219,9 @@ is_finished_travel-same_domain same flow ttl ended is = record {
 
 has_examined_flights-same_domain : {whole d : DomainValue} → HaveSameFacts whole d → (flow : ℕ) (x : ExaminedFlights)
     → HasExaminedFlights d flow x → HasExaminedFlights whole flow (examined_flights_in whole x)
-has_examined_flights-same_domain same flow (flown.Certified entries) is = tt
-has_examined_flights-same_domain same flow (flown.FoundAtTtl255 ended) is = is_finished_travel-same_domain same flow 255 ended is
-has_examined_flights-same_domain {whole = whole} {d = d} same flow (flown.FoundAtFlowTtl greatest least) is = (
+has_examined_flights-same_domain same flow (flights.Certified entries) is = tt
+has_examined_flights-same_domain same flow (flights.FoundAtTtl255 ended) is = is_finished_travel-same_domain same flow 255 ended is
+has_examined_flights-same_domain {whole = whole} {d = d} same flow (flights.FoundAtFlowTtl greatest least) is = (
   is_finished_travel-same_domain same flow 255 greatest is.0,
   is.1,
   subst (λ (n : ℕ). IsFinishedTravelOf whole flow n (finished_travel_in whole least))
@@ -229,37 +229,37 @@ has_examined_flights-same_domain {whole = whole} {d = d} same flow (flown.FoundA
       (is_finished_travel-same_domain same flow (ttl_of d flow) least is.2),
 )
 
--- which show the same,
+-- which have the same finding,
 without_flights-same_domain : {whole d : DomainValue} → HaveSameFacts whole d → (flow : ℕ) (x : ExaminedFlights)
     → without_flights whole flow (examined_flights_in whole x) ≡ without_flights d flow x
-without_flights-same_domain same flow (flown.Certified entries) = refl
-without_flights-same_domain same flow (flown.FoundAtTtl255 ended) = refl
-without_flights-same_domain same flow (flown.FoundAtFlowTtl greatest least) =
+without_flights-same_domain same flow (flights.Certified entries) = refl
+without_flights-same_domain same flow (flights.FoundAtTtl255 ended) = refl
+without_flights-same_domain same flow (flights.FoundAtFlowTtl greatest least) =
     ap (λ (n : Net). (let x : Examined = Found n.ttl least.travel in x)) (same.nets flow)
 
--- of which the same is told,
+-- which has the same explanation,
 is_explained-same_domain : {whole d : DomainValue} → HaveSameFacts whole d → (flow : ℕ) (x : ExaminedFlights)
     (printed : List Cause) → IsExplained d flow x printed → IsExplained whole flow (examined_flights_in whole x) printed
-is_explained-same_domain same flow (flown.Certified entries) printed is = is
-is_explained-same_domain same flow (flown.FoundAtTtl255 ended) printed is =
+is_explained-same_domain same flow (flights.Certified entries) printed is = is
+is_explained-same_domain same flow (flights.FoundAtTtl255 ended) printed is =
     transport_topology_and_nets (λ t n. ExplainsFinding (n flow) ended.flight.flight (finding_value ended.travel.finding)
     printed) same is
-is_explained-same_domain same flow (flown.FoundAtFlowTtl greatest least) printed is =
+is_explained-same_domain same flow (flights.FoundAtFlowTtl greatest least) printed is =
     transport_topology_and_nets (λ t n. ExplainsAtFlowTtl (n flow) greatest.flight.flight least.flight.flight
     (finding_value least.travel.finding) printed) same is
 
 is_search_at_255-same_domain : (whole : DomainValue) (f : DomainFacts) (summary : List SummaryValue) (marks : List Bool)
     (flow : ℕ) (x : ExaminedFlights) (search : Option LanSearch) → IsSearchAt255 f summary marks flow x search
     → IsSearchAt255 f summary marks flow (examined_flights_in whole x) search
-is_search_at_255-same_domain whole f summary marks flow (flown.Certified entries) search is = is
-is_search_at_255-same_domain whole f summary marks flow (flown.FoundAtTtl255 ended) search is = is
-is_search_at_255-same_domain whole f summary marks flow (flown.FoundAtFlowTtl greatest least) search is = is
+is_search_at_255-same_domain whole f summary marks flow (flights.Certified entries) search is = is
+is_search_at_255-same_domain whole f summary marks flow (flights.FoundAtTtl255 ended) search is = is
+is_search_at_255-same_domain whole f summary marks flow (flights.FoundAtFlowTtl greatest least) search is = is
 
 also_missed-same_domain : (whole : DomainValue) (f : DomainFacts) (flow : ℕ) (x : ExaminedFlights)
     → also_missed f flow (examined_flights_in whole x) ≡ also_missed f flow x
-also_missed-same_domain whole f flow (flown.Certified entries) = refl
-also_missed-same_domain whole f flow (flown.FoundAtTtl255 ended) = refl
-also_missed-same_domain whole f flow (flown.FoundAtFlowTtl greatest least) = refl
+also_missed-same_domain whole f flow (flights.Certified entries) = refl
+also_missed-same_domain whole f flow (flights.FoundAtTtl255 ended) = refl
+also_missed-same_domain whole f flow (flights.FoundAtFlowTtl greatest least) = refl
 
 is_explanation-same_domain : {whole d : DomainValue} → HaveSameFacts whole d → (summary : List SummaryValue)
     (names : List (List ℕ)) (known : Bool) (flow : ℕ) (x : ExaminedFlights) (e : Explanation)
@@ -278,20 +278,20 @@ is_explanation-same_domain {whole = whole} {d = d} same summary names known flow
       ∙ sym (also_missed-same_domain whole (facts whole) flow x);
 }
 
--- the same is answered of the flow,
+-- the flow has the same answer,
 is_flow_answer-same_domain : {whole d : DomainValue} → HaveSameFacts whole d → (summary : List SummaryValue)
     (names : List (List ℕ)) (o : AuditOptions) (printed : List Tree) (flow : ℕ) (a : FlowAnswer)
     → IsFlowAnswer (record { domain = d; summary = summary; without = names }) o printed flow a
     → IsFlowAnswer (record { domain = whole; summary = summary; without = names }) o printed flow a
 is_flow_answer-same_domain {whole = whole} {d = d} same summary names o printed flow a is = record {
   listed = is.listed;
-  flown = examined_flights_in whole is.flown;
+  flights = examined_flights_in whole is.flights;
   explanation = is.explanation;
   matches = transport_topology_and_nets (λ t n. slice_get t.flows flow ≡ Some is.listed) same is.matches;
-  flies = has_examined_flights-same_domain same flow is.flown is.flies;
-  examined = is.examined ∙ sym (without_flights-same_domain same flow is.flown);
+  has_flights = has_examined_flights-same_domain same flow is.flights is.has_flights;
+  examined = is.examined ∙ sym (without_flights-same_domain same flow is.flights);
   checked = is_checked-same_domain same flow a.examined is.checked;
-  explained = is_explanation-same_domain same summary names (length names == 0) flow is.flown is.explanation
+  explained = is_explanation-same_domain same summary names (length names == 0) flow is.flights is.explanation
       is.explained;
   wanted = transport_facts (λ f. a.wanted ≡ lans_wanting f flow) same is.wanted;
   spelled = transport_facts (λ f. a.lines ≡ answer_lines o (length names == 0) f summary printed flow is.listed
@@ -309,7 +309,7 @@ are_flow_answers-same_domain same summary names o answers are = record {
       (are.each flow a at);
 }
 
--- and what is written of all is the same,
+-- and the whole text is the same,
 pub is_audited-same_domain : {whole d : DomainValue} → HaveSameFacts whole d → (summary : List SummaryValue)
     (names : List (List ℕ)) (o : AuditOptions) (all : Bool) (written : List ℕ)
     → IsAudited (record { domain = d; summary = summary; without = names }) o all written

@@ -1,4 +1,4 @@
--- The vector of first copies, as it fills.
+-- The vector of first copies, filled copy by copy.
 use Rattle.std.proofs.Common.{◌≡◌, ℕ, zero, suc, ◌+◌, ◌-◌, ◌<◌, ◌≤◌, Bool, true, false, cond}
 use Rattle.std.proofs.Common.{List, [], ◌∷◌, ◌++◌, length, take, drop, get_or}
 use Rattle.std.proofs.Common.{Option, Some, None, is_some, refl, ap, sym, subst, ◌∙◌, arith}
@@ -10,9 +10,9 @@ use Rattle.mc_theory.specs.Findings.{first_copy_on, first_double}
 use Rattle.mc_forward.specs.PerLan.{item_on_lan, HoldsFirstOfEachKey}
 use Rattle.mc_forward.proofs.PerLanLemmas.{first_with_key-first_copy_on, holds_first-more, length-after_put}
 
--- ---- the first second copy, among more copies
+-- ---- the first second copy, with more copies
 
--- what was found earlier, or else later
+-- the earlier one, or else the later one
 abbrev pub first_some : {A : Type 0} → Option A → Option A → Option A
 first_some None y = y
 first_some (Some x) y = Some x
@@ -38,7 +38,7 @@ double-append earlier (x ∷ xs) ys = by (is_some (first_copy_on earlier x.lan))
 
 -- ---- copy by copy
 
--- the first second copy so far, after one copy more, which is a second one or not
+-- the first second copy so far, and one copy more, which is a second one or isn't
 abbrev pub second_copy_so_far : Option Copy → Bool → Copy → Option Copy
 second_copy_so_far (Some d) is_second_copy c = Some d
 second_copy_so_far None true c = Some c
@@ -61,7 +61,7 @@ second_copy_so_far-first_on_lan None true c e = absurd cc
 second_copy_so_far-first_on_lan None false c e = refl
 second_copy_so_far-first_on_lan (Some d) is_second_copy c e = refl
 
--- the first k copies were taken in, and the first second copy among them is this
+-- the first k copies are stored, and this is the first second copy among them
 pub record FirstCopiesSoFar (firsts old : List (Option Copy)) (cs : List Copy) (k : ℕ)
     (found : Option Copy) : Type 0 where
   pub count : length firsts ≡ length old
@@ -88,7 +88,7 @@ second_copy_so_far-more None earlier cs c true q =
 second_copy_so_far-more None earlier cs c false q =
     sym (ap (λ (x : Bool). cond x (Some c) (first_double (earlier ++ c ∷ []) cs)) q)
 
--- whether the copy is a second one
+-- the copy is a second one, or isn't
 is_second_copy : (o : Option Copy) (put : Bool) → (IsTrue put → o ≡ None) → (IsFalse put → IsSome o)
     → is_some o ≡ not put
 is_second_copy o true free earlier = ap is_some (free refl)

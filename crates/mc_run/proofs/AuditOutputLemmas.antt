@@ -1,4 +1,4 @@
--- What the text of an audit says, of what the run writes and of the answer beside its number.
+-- The output of an audit: what its text says, and its answer with the number of unwanted flows.
 use Rattle.std.proofs.Common.{◌≡◌, ℕ, Bool, false, List, Option, Result, Ok, Err}
 use Rattle.std.specs.Prelude.{IfErr, IfOk, IfSome}
 use Rattle.std.specs.String.{string_bytes}
@@ -15,19 +15,19 @@ use Rattle.mc_run.specs.declared.audit_output.AuditOutput.{AuditOutput}
 use Rattle.mc_run.specs.declared.fault.RunFault.{RunFault}
 use Rattle.mc_run.specs.declared.fault.RunFault.TheVariants.{Write}
 use Rattle.mc_run.specs.declared.run_output.RunOutput.{RunOutput}
-use Rattle.mc_run.proofs.AuditAll.{audit_answer-gives, is_output_written-parts, audit_unwanted-gives, audit_write_fault-gives, audit_yes-gives}
+use Rattle.mc_run.proofs.AuditTextLemmas.{audit_answer-gives, is_output_written-parts, audit_unwanted-gives, audit_write_fault-gives, audit_yes-gives}
 use Rattle.mc_run.proofs.AuditLemmas.{is_output_of-each_flow, headline_of_files-audit_yes, is_write_fault-audit_output, is_output_of-which_are_right, is_output_of-audit}
 use Rattle.mc_run.proofs.RunLemmas.{IsOutputOf, headline-audit_says_yes, writes_part-output_written, writes-output_written}
-use Rattle.mc_run.proofs.WholeLemmas.{is_output_of-found_in_whole}
+use Rattle.mc_run.proofs.WholeDomainLemmas.{is_output_of-found_in_whole}
 use Rattle.mc_run.proofs.YesLines.{says_yes_by_line-verdict_yes, says_yes_by_line-yes_object}
 
--- what was put together is the text of these files
+-- the text that was put together is that of these files
 abbrev pub HasText : Option (List FileText) → AuditOptions → (names : List (List ℕ))
     → Result AuditOutput RunFault → Type 0
 HasText contents o names a = IfOk a (λ audit. IfSome contents (λ files.
     IsAuditText o names files audit.run_output.yes (string_bytes audit.run_output.text)))
 
--- what it says is written
+-- what the text says is written
 writes-output_text : (contents : Option (List FileText)) (Says : List FileText → Bool → List ℕ → Type 0)
     (a : Result AuditOutput RunFault) (p : Result RunOutput RunFault) (s : Result Bool RunFault)
     (r : Result AuditAnswer RunFault) (old new : Option (List ℕ)) → IsOutputOf contents Says (output_of a)
@@ -66,19 +66,19 @@ are_found_in_whole-run contents o names a p s r old new text parts is same =
     writes-output_text contents (AreFoundInWhole o names) a p s r old new
     (is_output_of-found_in_whole contents o names (output_of a) (is_output_of-audit contents o names a text)) parts is same
 
--- a part is written where the output fails
+-- a part of it is written if the output fails
 pub writes_of_each_in_part-run : (contents : Option (List FileText)) (o : AuditOptions) (names : List (List ℕ))
     (a : Result AuditOutput RunFault) (p : Result RunOutput RunFault) (s : Result Bool RunFault)
     (r : Result AuditAnswer RunFault) (old new : Option (List ℕ)) → HasText contents o names a
     → IfErr a (λ fault. is_write fault ≡ false) → p ≡ output_of a → IsOutputWritten p s old new
     → yes_of r ≡ s → r ≡ Err Write → IfSome contents (λ files. WritesPart (SaysOfEach o names) files old new)
-writes_of_each_in_part-run contents o names a p s r old new text unsaid parts is same =
+writes_of_each_in_part-run contents o names a p s r old new text no_write parts is same =
     audit_write_fault-gives (IfSome contents (λ files. WritesPart (SaysOfEach o names) files old new)) r s same
-    (writes_part-output_written contents (SaysOfEach o names) (output_of a) s old new (is_write_fault-audit_output a unsaid)
+    (writes_part-output_written contents (SaysOfEach o names) (output_of a) s old new (is_write_fault-audit_output a no_write)
     (is_output_of-each_flow contents o names (output_of a) (is_output_of-audit contents o names a text))
     (is_output_written-parts p (output_of a) s old new parts is))
 
--- and the headline holds where it says yes
+-- and the headline holds after a yes
 pub headline_of_files-run : (contents : Option (List FileText)) (o : AuditOptions) (names : List (List ℕ))
     (a : Result AuditOutput RunFault) (p : Result RunOutput RunFault) (s : Result Bool RunFault)
     (r : Result AuditAnswer RunFault) (old new : Option (List ℕ)) → HasText contents o names a
@@ -91,7 +91,7 @@ headline_of_files-run contents o names a p s r old new text parts is same =
     (says_yes_by_line-verdict_yes o names) (says_yes_by_line-yes_object o names) says
     (headline_of_files-audit_yes contents o names (output_of a) says) (is_output_written-parts p (output_of a) s old new parts is))
 
--- the number is that of the flows that are right and that nobody wants
+-- the number is that of the right flows that nobody wants
 pub has_unwanted-run : (contents : Option (List FileText)) (o : AuditOptions) (names : List (List ℕ))
     (a : Result AuditOutput RunFault) (p : Result RunOutput RunFault) (n : ℕ) (s : Result Bool RunFault)
     (r : Result AuditAnswer RunFault) (old new : Option (List ℕ))

@@ -1,4 +1,4 @@
--- What an audit says of one domain, and of one folder's files, is determined.
+-- The text of an audit is determined by the domain, and by the folder's files.
 use Rattle.std.proofs.Common.{◌≡◌, ℕ, suc, ◌+◌, Bool, true, false, cond, List, [], ◌∷◌, ◌++◌}
 use Rattle.std.proofs.Common.{length, Option, Some, None, refl, sym, ap, ap₂, subst, ◌∙◌, arith}
 use Rattle.std.proofs.Common.{filter, fold, take, ◌&&◌, not, slice_get}
@@ -44,8 +44,8 @@ use Rattle.mc_run.specs.AuditFlowText.{wrong_lines_or_object}
 use Rattle.mc_run.specs.MakeRun.{IsExamined, found_lines}
 use Rattle.mc_run.specs.ReplayRun.{event_lines}
 use Rattle.mc_run.specs.declared.audit_options.AuditOptions.{AuditOptions}
-use Rattle.mc_run.proofs.OneFlown.{IsSameFinishedTravel, IsSameExplanation, HaveSameFlights, HaveSameSearch}
-use Rattle.mc_run.proofs.OneFlown.{is_explanation-unique, examined_flights-unique}
+use Rattle.mc_run.proofs.UniqueExamination.{IsSameFinishedTravel, IsSameExplanation, HaveSameFlights, HaveSameSearch}
+use Rattle.mc_run.proofs.UniqueExamination.{is_explanation-unique, examined_flights-unique}
 
 -- ---- the lines of a flow that isn't right
 
@@ -125,9 +125,9 @@ wrong_flow_lines-same_travel true travels d summary flow f ttl a b x y ended sam
 wrong_flow_lines-same_travel false travels d summary flow f ttl a b x y ended same =
     wrong_lines-same_travel travels d summary flow f ttl a b x y ended same
 
--- ---- what is told of a flow
+-- ---- the answer of a flow
 
--- Of two flows the same is told, and the same ways with them.
+-- Two answers have the same result, the same lines, and print the same trees.
 record IsSameAnswer (o : AuditOptions) (a b : FlowAnswer) : Type 0 where
   lines : a.lines ≡ b.lines
   wanted : a.wanted ≡ b.wanted
@@ -135,7 +135,7 @@ record IsSameAnswer (o : AuditOptions) (a b : FlowAnswer) : Type 0 where
   shown_trees : (printed : List Tree)
       → shown_trees_with o printed a.examined a.wanted ≡ shown_trees_with o printed b.examined b.wanted
 
--- what is told of a flow as these examinations say
+-- the answers by two results of an examination
 answer_lines-same_flights : (o : AuditOptions) (whole : Bool) (d : DomainValue) (summary : List SummaryValue)
     (printed : List Tree) (flow : ℕ) (f : Flow) (a b : ExaminedFlights) (x y : Explanation) (wanted : List ℕ)
     → HaveSameFlights a b → IsSameExplanation x y
@@ -160,7 +160,7 @@ answer_lines-same_flights o whole d summary printed flow f (FoundAtFlowTtl a b) 
 answer_lines-same_flights o whole d summary printed flow f (FoundAtFlowTtl a b) (FoundAtTtl255 c) x y wanted same explained =
     absurd same
 
--- whether they are right, and the ways that are told
+-- whether they are right, and the printed trees
 is_certified-same_flights : (d : DomainValue) (flow : ℕ) (a b : ExaminedFlights) → HaveSameFlights a b
     → is_certified (without_flights d flow a) ≡ is_certified (without_flights d flow b)
 is_certified-same_flights d flow (Certified xs) (Certified ys) same = refl
@@ -198,11 +198,11 @@ same_answer-flow_answers v o printed flow a b ok p q =
     let listed = listed_flow-unique d.topology.flows flow p.listed q.listed p.matches q.matches in
     let examined = λ (x : Examined) (w : ExaminedFlights) (is : x ≡ without_flights d flow w)
     (e : IsExamined d flow x). subst (λ (y : Examined). IsExamined d flow y) is e in
-    let flown = examined_flights-unique d flow p.flown q.flown p.flies q.flies
-    (examined a.examined p.flown p.examined p.checked.examined)
-    (examined b.examined q.flown q.examined q.checked.examined) in
-    let explained = is_explanation-unique d v.summary (excluded v) (is_whole v) flow p.flown q.flown p.explanation
-    q.explanation ok flown p.explained q.explained in
+    let flights = examined_flights-unique d flow p.flights q.flights p.has_flights q.has_flights
+    (examined a.examined p.flights p.examined p.checked.examined)
+    (examined b.examined q.flights q.examined q.checked.examined) in
+    let explained = is_explanation-unique d v.summary (excluded v) (is_whole v) flow p.flights q.flights p.explanation
+    q.explanation ok flights p.explained q.explained in
     let wanted : a.wanted ≡ b.wanted = p.wanted ∙ sym q.wanted in
     let lines = λ (f : Flow) (x : Examined) (w : List ℕ) (y : Explanation).
     answer_lines o (is_whole v) (facts d) v.summary printed flow f x y w in
@@ -210,28 +210,28 @@ same_answer-flow_answers v o printed flow a b ok p q =
       lines = p.spelled
           ∙ ap₂ (λ (f : Flow) (w : List ℕ). lines f a.examined w p.explanation) listed wanted
           ∙ ap (λ (x : Examined). lines q.listed x b.wanted p.explanation) p.examined
-          ∙ answer_lines-same_flights o (is_whole v) d v.summary printed flow q.listed p.flown q.flown p.explanation
-          q.explanation b.wanted flown explained
+          ∙ answer_lines-same_flights o (is_whole v) d v.summary printed flow q.listed p.flights q.flights p.explanation
+          q.explanation b.wanted flights explained
           ∙ ap (λ (x : Examined). lines q.listed x b.wanted q.explanation) (sym q.examined)
           ∙ sym q.spelled;
       wanted = wanted;
-      right = ap is_certified p.examined ∙ is_certified-same_flights d flow p.flown q.flown flown
+      right = ap is_certified p.examined ∙ is_certified-same_flights d flow p.flights q.flights flights
           ∙ ap is_certified (sym q.examined);
       shown_trees = λ ts.
           ap₂ (λ (x : Examined) (w : List ℕ). shown_trees_with o ts x w) p.examined wanted
-          ∙ shown_trees_with-same_flights o d flow p.flown q.flown b.wanted ts flown
+          ∙ shown_trees_with-same_flights o d flow p.flights q.flights b.wanted ts flights
           ∙ ap (λ (x : Examined). shown_trees_with o ts x b.wanted) (sym q.examined);
     }
 
--- ---- what is told of all flows
+-- ---- the answers of all flows
 
--- the same is told of each
+-- each flow has the same answer
 abbrev HaveSameAnswers : AuditOptions → List FlowAnswer → List FlowAnswer → Type 0
 HaveSameAnswers o [] [] = ⊤
 HaveSameAnswers o (a ∷ xs) (b ∷ ys) = IsSameAnswer o a b × HaveSameAnswers o xs ys
 HaveSameAnswers o _ _ = ⊥
 
--- the answers from flow k on, where these ways had been told
+-- the answers from flow k on, after these trees were printed
 abbrev AreAnswersFrom : AuditedValue → AuditOptions → ℕ → List Tree → List FlowAnswer → Type 0
 AreAnswersFrom v o k printed answers =
     (i : ℕ) (a : FlowAnswer) → slice_get answers i ≡ Some a
@@ -307,7 +307,7 @@ count-same_answers o p (a ∷ xs) (b ∷ ys) tests same =
 
 -- ---- the text
 
--- what stands behind the lines of flows
+-- the lines after those of the flows
 end_lines-same_answers : (v : AuditedValue) (o : AuditOptions) (xs ys : List FlowAnswer) → length xs ≡ length ys
     → HaveSameAnswers o xs ys → is_yes v xs ≡ is_yes v ys
     → end_lines o v.domain.topology v.summary (excluded v) (is_yes v xs) xs
@@ -350,13 +350,13 @@ is_audited-unique v o all every text other ok p q =
 
 -- ---- the files
 
--- Of one folder's files and one topology one list of notes is told at most.
-abbrev HasOneListOfNotes : Type 0
-HasOneListOfNotes =
+-- One folder's files and one topology have at most one list of summaries.
+abbrev HasOneListOfSummaries : Type 0
+HasOneListOfSummaries =
     (all : Bool) (files : List FileText) (t : TopologyValue) (a b : List SummaryValue)
     → AreSummariesOf all files t a → AreSummariesOf all files t b → a ≡ b
 
-means_audited-unique : HasOneListOfNotes → (o : AuditOptions) (names : List (List ℕ)) (files : List FileText)
+means_audited-unique : HasOneListOfSummaries → (o : AuditOptions) (names : List (List ℕ)) (files : List FileText)
     (v w : AuditedValue) → MeansAudited o names files v → MeansAudited o names files w → v ≡ w
 means_audited-unique one_list o names files v w p q =
     let domain = FilesMeanDomain-unique (files_with_exclusions names files) v.domain w.domain p.means q.means in
@@ -367,8 +367,8 @@ means_audited-unique one_list o names files v w p q =
     let without = p.without ∙ sym q.without in
     λ i. record { domain = domain i; summary = summary i; without = without i }
 
--- one text is written of one folder's files, by these words, and one answer given
-pub is_audit_text-unique : HasOneListOfNotes → (names : List (List ℕ)) (files : List FileText) (o : AuditOptions)
+-- one folder's files and one set of options have one text and one answer
+pub is_audit_text-unique : HasOneListOfSummaries → (names : List (List ℕ)) (files : List FileText) (o : AuditOptions)
     (all every : Bool) (text other : List ℕ) → IsAuditText o names files all text
     → IsAuditText o names files every other → (all ≡ every) × (text ≡ other)
 is_audit_text-unique one_list names files o all every text other p q =

@@ -1,4 +1,4 @@
--- What an examination of a flow says is determined: its entries, or the travels, and what explains them.
+-- The result of examining a flow is determined: its entries, or the travels and their explanation.
 use Rattle.std.proofs.Common.{◌≡◌, ◌≢◌, ℕ, suc, ◌+◌, ◌<◌, inl, inr, Bool, true, false}
 use Rattle.std.proofs.Common.{List, [], ◌∷◌, length, map, get_or, Option, Some, None}
 use Rattle.std.proofs.Common.{refl, sym, ap, ap₂, subst, ◌∙◌, arith}
@@ -67,7 +67,7 @@ strictly_increasing-same_heads x y xs ys up rises (inr p) (inr q) =
     let more : x.lan < y.lan = strictly_increasing-later_greater x xs up y q in
     absurd (omega (arith, less, more))
 
--- what stands behind the first one of one list stands behind that of the other
+-- the entries after the first one are the same in both lists
 strictly_increasing-same_tails : (x y e : Entry) (ys : List Entry) → x ≡ y → x.lan < e.lan → In e (y ∷ ys) → In e ys
 strictly_increasing-same_tails x y e ys first less (inl same) =
     let lan : x.lan ≡ e.lan = ap (λ (z : Entry). z.lan) (first ∙ same) in
@@ -109,7 +109,7 @@ is_travel-unique n count numbers last (i ∷ is) (j ∷ js) f x y p q =
     (subst (λ (k : ℕ). IsTravel n count (numbers_left numbers) last is (step n k f) x) same p.2) q.2 in
     (λ k. same k ∷ more.0 k, more.1)
 
--- its events, its end and what that shows
+-- its events, its last flight and its finding
 is_travel_to-unique : (n : Net) (lans : ℕ) (choices : Choices) (f g h : Flight) (es fs : List Event)
     (x y : FindingValue) → IsTravelTo n lans choices f es g x → IsTravelTo n lans choices f fs h y
     → (es ≡ fs) × (g ≡ h) × (x ≡ y)
@@ -121,7 +121,7 @@ is_travel_to-unique n lans choices f g h es fs x y p q =
       same.1,
     )
 
--- the code's finding of a definition's
+-- the code's finding by its value
 abbrev finding_of_value : FindingValue → Finding
 finding_of_value FindingValue.Clean = Clean
 finding_of_value (FindingValue.Duplicate lan) = Duplicate lan
@@ -136,7 +136,7 @@ finding_value-injective (Loop lan) = refl
 finding_value-injective (Stray router vif) = refl
 finding_value-injective (Missed lan) = refl
 
--- Two travels ended with the same events, found the same, and carried the same copies.
+-- Two travels have the same events, the same finding, and the same copies.
 pub record IsSameFinishedTravel (a b : FinishedTravel) : Type 0 where
   pub events : a.travel.events.items ≡ b.travel.events.items
   pub finding : a.travel.finding ≡ b.travel.finding
@@ -158,7 +158,7 @@ is_finished_travel-unique d flow ttl a b p q =
 
 -- ---- an examination
 
--- Two examinations say the same.
+-- Two examinations have the same result.
 abbrev pub HaveSameFlights : ExaminedFlights → ExaminedFlights → Type 0
 HaveSameFlights (Certified xs) (Certified ys) = xs.items ≡ ys.items
 HaveSameFlights (FoundAtTtl255 a) (FoundAtTtl255 b) = IsSameFinishedTravel a b
@@ -183,7 +183,7 @@ entries_of_clean_travel-unique d flow xs ys p q up rises =
 certified-not_wrong : (W : Type 0) → IsTrue true ↔ W → IsTrue false ↔ W → ⊥
 certified-not_wrong W right wrong = false≢true (wrong.1 (right.0 refl))
 
--- a fault at 255 is none that is found at the flow's TTL alone
+-- a fault at TTL 255 isn't one that is found at the flow's TTL only
 fault_at_255-not_at_flow_ttl : (d : DomainValue) (flow : ℕ) (a b : FinishedTravel) → IsFinishedTravelOf d flow 255 a
     → IsFinishedTravelOf d flow 255 b → finding_value a.travel.finding ≢ FindingValue.Clean
     → finding_value b.travel.finding ≡ FindingValue.Clean → ⊥
@@ -211,7 +211,7 @@ examined_flights-unique d flow (FoundAtFlowTtl a b) (FoundAtTtl255 c) p q x y =
 examined_flights-unique d flow (FoundAtFlowTtl a b) (FoundAtFlowTtl c e) p q x y =
     (is_finished_travel-unique d flow 255 a c p.0 q.0, is_finished_travel-unique d flow (ttl_of d flow) b e p.2 q.2)
 
--- ---- what explains it
+-- ---- the explanation
 
 is_explained-same_flights : (d : DomainValue) (flow : ℕ) (a b : ExaminedFlights) (printed : List Cause) → HaveSameFlights a b
     → IsExplained d flow a printed → IsExplained d flow b printed
@@ -238,7 +238,7 @@ is_explained-same_flights d flow (FoundAtTtl255 a) (FoundAtFlowTtl b c) printed 
 is_explained-same_flights d flow (FoundAtFlowTtl a b) (Certified ys) printed same is = absurd same
 is_explained-same_flights d flow (FoundAtFlowTtl a b) (FoundAtTtl255 c) printed same is = absurd same
 
--- Two searches tell the same.
+-- Two searches are the same.
 abbrev pub HaveSameSearch : Option LanSearch → Option LanSearch → Type 0
 HaveSameSearch None None = ⊤
 HaveSameSearch (Some a) (Some b) =
@@ -302,7 +302,7 @@ also_missed-same_flights d flow (FoundAtTtl255 a) (FoundAtFlowTtl b c) same = ab
 also_missed-same_flights d flow (FoundAtFlowTtl a b) (Certified ys) same = absurd same
 also_missed-same_flights d flow (FoundAtFlowTtl a b) (FoundAtTtl255 c) same = absurd same
 
--- Two explanations tell the same.
+-- Two explanations are the same.
 pub record IsSameExplanation (x y : Explanation) : Type 0 where
   pub printed : x.printed ≡ y.printed
   pub search : HaveSameSearch x.search y.search

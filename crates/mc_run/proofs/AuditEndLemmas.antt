@@ -1,4 +1,4 @@
--- What is written behind the lines of all flows, part by part.
+-- The lines after those of the flows, part by part.
 use Rattle.std.proofs.Common.{◌≡◌, ℕ, Bool, List, ◌++◌, length, Result, Ok, Err}
 use Rattle.std.proofs.Common.{ap, ◌∙◌, append_assoc}
 use Rattle.std.specs.Prelude.{OnOk}
@@ -11,7 +11,7 @@ use Rattle.mc_json.specs.RowData.{line_of}
 use Rattle.mc_run.specs.AuditEnd.{end_objects, end_text, strict_lines, summary_line}
 use Rattle.mc_run.specs.declared.audit_options.AuditOptions.{AuditOptions}
 
--- parts that are written one behind the other
+-- parts that are written one after the other
 append-two_parts : {A X : Type 0} (r : Result A X) (old a b c one two new : List ℕ) → one ≡ old ++ a
     → two ≡ one ++ b → OnOk r (new ≡ two ++ c) → OnOk r (new ≡ old ++ (a ++ (b ++ c)))
 append-two_parts (Err e) old a b c one two new first second third = tt
@@ -19,7 +19,7 @@ append-two_parts (Ok x) old a b c one two new first second third =
     third ∙ ap (λ xs. xs ++ c) (second ∙ ap (λ xs. xs ++ b) first)
     ∙ append_assoc (old ++ a) b c ∙ append_assoc old a (b ++ c)
 
--- as text, by the topology that was asked
+-- as text, by the domain's topology
 pub end_text-parts : {A X : Type 0} (o : AuditOptions) (t u : TopologyValue) (summary : List SummaryValue)
     (marks : List Bool) (all : Bool) (flows right wrong unwanted : ℕ) (r : Result A X)
     (old one two three four new : List ℕ) → t ≡ u → flows ≡ length t.flows

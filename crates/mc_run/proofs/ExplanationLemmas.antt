@@ -1,4 +1,4 @@
--- What explains a finding, and how that is written.
+-- The explanation of a finding, and its lines.
 use Rattle.std.proofs.Common.{◌≡◌, ℕ, ◌<◌, Bool, true, false, not, filter, List, ◌++◌, length, Option, Some}
 use Rattle.std.proofs.Common.{None, Result, Ok}
 use Rattle.std.proofs.Common.{Err, refl, sym, ap, subst, ◌∙◌, append_assoc}
@@ -47,20 +47,20 @@ missed_lan-of_domain d flow ttl lan ended has same =
     (subst (λ (x : Finding). IsTravel n count first_choices.numbers first_choices.last run.picks
     (start n ttl) (finding_value x)) same run.travel)
 
--- ---- what explains it
+-- ---- the explanation
 
--- a travel that ended so is one of the domain's flow
+-- a finished travel of the flow is one in the domain
 pub is_finished_travel-at_255 : (d : DomainValue) (flow : ℕ) (x : ExaminedFlights) (ended : FinishedTravel) → x ≡ FoundAtTtl255 ended
     → HasExaminedFlights d flow x → IsFinishedTravelOf d flow 255 ended
-is_finished_travel-at_255 d flow x ended same flies = subst (λ (y : ExaminedFlights). HasExaminedFlights d flow y) same flies
+is_finished_travel-at_255 d flow x ended same has_flights = subst (λ (y : ExaminedFlights). HasExaminedFlights d flow y) same has_flights
 
 pub is_finished_travel-at_flow_ttl : (d : DomainValue) (flow : ℕ) (x : ExaminedFlights) (greatest least : FinishedTravel)
     → x ≡ FoundAtFlowTtl greatest least → HasExaminedFlights d flow x → IsFinishedTravelOf d flow (net_of d flow).ttl least
-is_finished_travel-at_flow_ttl d flow x greatest least same flies =
+is_finished_travel-at_flow_ttl d flow x greatest least same has_flights =
     (let both : HasExaminedFlights d flow (FoundAtFlowTtl greatest least) =
-    subst (λ (y : ExaminedFlights). HasExaminedFlights d flow y) same flies in both.2)
+    subst (λ (y : ExaminedFlights). HasExaminedFlights d flow y) same has_flights in both.2)
 
--- which LANs were missed besides is told of the domain's flow
+-- the other missed LANs are those of the domain's flow
 missed_besides-domain_flow : (d : DomainValue) (flow ttl : ℕ) (ended : FinishedTravel) → IsFinishedTravelOf d flow ttl ended
     → missed_besides (facts ended.flight.domain) ended.flight.flow ended.flight.flight.carried
     ended.travel.finding
@@ -71,7 +71,7 @@ missed_besides-domain_flow d flow ttl ended has =
     ap (λ (e : DomainValue). missed_besides (facts e) ended.flight.flow cs x) has.domain
     ∙ ap (λ (n : ℕ). missed_besides (facts d) n cs x) has.flow_of_flight
 
--- where routers are left out, what is kept is what is told
+-- with excluded routers, the kept causes are the printed ones
 pub without_remedies-filtered : (whole : Bool) (printed kept : List Cause) → whole ≡ false
     → kept ≡ filter (λ t. not (is_remedy t)) printed → kept ≡ without_remedies whole printed
 without_remedies-filtered true printed kept part same = absurd cc
@@ -83,28 +83,28 @@ pub is_explanation-at_255 : (v : AuditedValue) (flow : ℕ) (x : ExaminedFlights
     → IsSearchIfMissed (search_context (facts v.domain) v.summary (excluded v) flow ended.flight.flight.carried)
     ended.travel.events.items ended.travel.finding found
     → IsExplanation v.domain v.summary (excluded v) (is_whole v) flow x (explanation_in ended printed found)
-is_explanation-at_255 v flow x ended printed found same flies why search =
+is_explanation-at_255 v flow x ended printed found same has_flights why search =
     subst (λ (y : ExaminedFlights). IsExplanation v.domain v.summary (excluded v) (is_whole v) flow y
     (explanation_in ended printed found)) (sym same) (record {
       printed = subst (λ (y : ExaminedFlights). ArePrintedCauses (is_whole v) v.domain flow y printed) same why;
       search = search;
-      also = missed_besides-domain_flow v.domain flow 255 ended (is_finished_travel-at_255 v.domain flow x ended same flies);
+      also = missed_besides-domain_flow v.domain flow 255 ended (is_finished_travel-at_255 v.domain flow x ended same has_flights);
     })
 
 pub is_explanation-at_flow_ttl : (v : AuditedValue) (flow : ℕ) (x : ExaminedFlights) (greatest least : FinishedTravel)
     (printed : List Cause) → x ≡ FoundAtFlowTtl greatest least → HasExaminedFlights v.domain flow x
     → ArePrintedCauses (is_whole v) v.domain flow x printed
     → IsExplanation v.domain v.summary (excluded v) (is_whole v) flow x (explanation_in least printed None)
-is_explanation-at_flow_ttl v flow x greatest least printed same flies why =
+is_explanation-at_flow_ttl v flow x greatest least printed same has_flights why =
     subst (λ (y : ExaminedFlights). IsExplanation v.domain v.summary (excluded v) (is_whole v) flow y
     (explanation_in least printed None)) (sym same) (record {
       printed = subst (λ (y : ExaminedFlights). ArePrintedCauses (is_whole v) v.domain flow y printed) same why;
       search = refl;
       also = missed_besides-domain_flow v.domain flow (net_of v.domain flow).ttl least
-          (is_finished_travel-at_flow_ttl v.domain flow x greatest least same flies);
+          (is_finished_travel-at_flow_ttl v.domain flow x greatest least same has_flights);
     })
 
--- ---- how it is written
+-- ---- its lines
 
 -- as text
 pub explanation_lines-pushed : {A X : Type 0} (v : AuditedValue) (flow : ℕ) (ended : FinishedTravel) (printed : List Cause)

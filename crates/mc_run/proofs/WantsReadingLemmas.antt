@@ -1,4 +1,4 @@
--- A report list that is looked at as it comes.
+-- A report list that is read piece by piece.
 use Rattle.std.proofs.Common.{◌≡◌, ℕ, Bool, false, ◌||◌, List, [], ◌++◌, refl, sym, ap, ◌∙◌}
 use Rattle.std.proofs.Common.{append_assoc, arith, ◌+◌, ◌<◌, ◌⊎◌, ◌≢◌, inl, inr, length, Ok, Err}
 use Rattle.std.proofs.Common.{Option, Some, None}
@@ -26,7 +26,7 @@ use Rattle.mc_run.specs.WantsRun.{AnswersWants, IsWantsAnswer}
 use Rattle.mc_run.specs.WantsSoFar.{ReadsPiece, ReadsPieces, prepend_records}
 use Rattle.mc_run.proofs.WantsLemmas.{answers_wants-list_fault}
 
--- some record of two lists wants it if some of one does
+-- some record of two lists wants the flow if some record of one of them does
 wants-append : (xs ys : List Record) (group source : ℕ) (v w : Bool)
     → IsTrue v ↔ Wants xs group source → IsTrue w ↔ Wants ys group source
     → IsTrue (v || w) ↔ Wants (xs ++ ys) group source
@@ -40,7 +40,7 @@ wants-append xs ys group source v w here there =
       Decides-wanted (xs ++ ys) group source,
     )
 
--- no record wants it
+-- no records, no wish
 wants-no_records : (group source : ℕ) → IsTrue false ↔ Wants [] group source
 wants-no_records group source = grind (arith, nat_tests, Decides-wanted [] group source)
 
@@ -53,7 +53,7 @@ reads_piece-none so_far group source = record {
   wants = wants-no_records group source;
 }
 
--- bytes came, and then others
+-- some bytes came, and then others
 pub reads_piece-more : (old mid new : ListSoFar) (bytes more : List ℕ) (group source : ℕ) (v w : Bool)
     → ReadsPiece old mid bytes group source v → ReadsPiece mid new more group source w
     → ReadsPiece old new (bytes ++ more) group source (v || w)
@@ -68,13 +68,13 @@ reads_piece-more old mid new bytes more group source v w first then = record {
 
 -- ---- a whole input
 
--- past the limit it is of no account what comes
+-- past the limit, further bytes don't matter
 list_if-past_limit : (so_far : ListSoFar) (more : List ℕ) → 16777216 < so_far.size
     → list_if so_far more ≡ Err (fault_at 0 0 TooLarge)
 list_if-past_limit so_far more past =
     rw (lt-ltb 16777216 (so_far.size + length more) (omega arith)) refl
 
--- so reading ends as it would if nothing more came, where the input is at its end or past the limit
+-- so reading ends as if nothing more came, if the input is at its end or past the limit
 list_if-at_end_or_past_limit : (so_far : ListSoFar) (rest : List ℕ) → (so_far.size < 16777217 → rest ≡ [])
     → list_if so_far rest ≡ list_if so_far []
 list_if-at_end_or_past_limit so_far rest end = elim (cases_lt so_far.size 16777217) [
@@ -82,7 +82,7 @@ list_if-at_end_or_past_limit so_far rest end = elim (cases_lt so_far.size 167772
   | inr past ↦ list_if-past_limit so_far rest (omega arith) ∙ sym (list_if-past_limit so_far [] (omega arith))
 ]
 
--- what is known of the text, once it was looked through
+-- what is known of the text once it is read
 abbrev ReadingEndsWith : ListSoFar → ℕ → ℕ → Bool → List ℕ → Type 0
 ReadingEndsWith new group source wanted text =
     (seen : List Record) × (read_list text ≡ prepend_records seen (list_if new []))
@@ -101,7 +101,7 @@ reading_ends-reads_pieces (Some text) (Some rest) old new group source w reads (
   looks.wants,
 )
 
--- the answer, where reading ends with records
+-- the answer, if reading ends with records
 pub is_wants_answer-reads_pieces : (contents left : Option (List ℕ)) (old new : ListSoFar) (group source : ℕ)
     (w v : Bool) (last : List Record) → ((text : List ℕ) → list_if old text ≡ read_list text)
     → ReadsPieces contents left old new group source w → (new.size < 16777217 → IsAtEnd left)
@@ -115,7 +115,7 @@ is_wants_answer-reads_pieces (Some text) left old new group source w v last read
       wants-append known.0 last group source w v known.2 wants,
     )
 
--- and where it ends with a fault
+-- and if it ends with a fault
 pub answers_wants-list_refused : (contents left : Option (List ℕ)) (old new : ListSoFar) (group source : ℕ)
     (w : Bool) (fault : ListFault) → ((text : List ℕ) → list_if old text ≡ read_list text)
     → ReadsPieces contents left old new group source w → (new.size < 16777217 → IsAtEnd left)
@@ -126,7 +126,7 @@ answers_wants-list_refused (Some text) left old new group source w fault reads l
     let known = reading_ends-reads_pieces (Some text) left old new group source w reads looks end in
     answers_wants-list_fault text group source fault (inl (known.1 ∙ ap (prepend_records known.0) is))
 
--- where the input failed, or memory ran out, nothing is claimed
+-- if the input failed, or memory ran out, nothing is claimed
 pub answers_wants-failed_run : (contents : Option (List ℕ)) (group source : ℕ) (fault : RunFault)
     → (fault ≡ Read) ⊎ (fault ≡ Memory)
     → IfSome contents (λ text. AnswersWants text group source (Err fault))
@@ -134,11 +134,11 @@ answers_wants-failed_run None group source fault why = tt
 answers_wants-failed_run (Some text) group source fault (inl is) = rw is tt
 answers_wants-failed_run (Some text) group source fault (inr is) = rw is tt
 
--- and the output did not fail
+-- and the output didn't fail
 pub is_not_write-read_or_memory : (fault : RunFault) → (fault ≡ Read) ⊎ (fault ≡ Memory) → fault ≢ Write
 is_not_write-read_or_memory fault why = grind arith
 
--- a list's fault is none of a device
+-- a list's fault is no device's
 pub is_no_device_fault-list_fault : (f : ListFault) (kind : ListFaultKind)
     → (from_list_fault_kind f kind ≢ Write) × (is_read (from_list_fault_kind f kind) ≡ false)
 is_no_device_fault-list_fault f kind = grind arith

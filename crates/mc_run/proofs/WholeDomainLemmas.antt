@@ -1,4 +1,4 @@
--- What an audit finds with routers left out is so in the whole domain too.
+-- A fault that an audit finds with excluded routers is one in the whole domain too.
 use Rattle.std.proofs.Common.{◌≡◌, ◌≤◌, ◌<◌, ℕ, inl, inr, Bool, false, List, [], length, arith}
 use Rattle.std.proofs.Common.{Option, Result, ◌∙◌, subst, sym}
 use Rattle.std.specs.Prelude.{◌⊎◌, map}
@@ -45,7 +45,7 @@ found_ttl-flow_ttl_or_255 d flow (Certified entries) ok lt = tt
 found_ttl-flow_ttl_or_255 d flow (FoundAtTtl255 ended) ok lt = (ttl-at_most_255 d flow ok lt, omega arith)
 found_ttl-flow_ttl_or_255 d flow (FoundAtFlowTtl greatest least) ok lt = (omega arith, ttl-at_most_255 d flow ok lt)
 
--- it is one of the whole domain, whatever the routers have that were left out
+-- it is a fault of the whole domain, whatever the excluded routers have
 not_right-whole_domain : (o : AuditOptions) (names : List (List ℕ)) (files : List FileText) (v : AuditedValue)
     (flow ttl : ℕ) (travel : Travel) → MeansAudited o names files v → ttl_of v.domain flow ≤ ttl
     → ttl ≤ 255 → IsFirstPickTravel v.domain flow ttl travel → IsSecondCopyOrStray (finding_value travel.finding)
@@ -84,10 +84,10 @@ is_found_in_whole-flow_answer : (o : AuditOptions) (names : List (List ℕ)) (fi
 is_found_in_whole-flow_answer o names files v printed flow a audited_value is =
     let lt = slice_get_within v.domain.topology.flows flow is.listed is.matches in
     let runs = subst (λ (x : Examined). IfFound (IsFirstPickTravel v.domain flow) x) (sym is.examined)
-    (is_first_pick_travel-of_examined v.domain flow is.flown is.flies) in
+    (is_first_pick_travel-of_examined v.domain flow is.flights is.has_flights) in
     let within = subst (λ (x : Examined).
     IfFound (λ ttl travel. (ttl_of v.domain flow ≤ ttl) × (ttl ≤ 255)) x) (sym is.examined)
-    (found_ttl-flow_ttl_or_255 v.domain flow is.flown audited_value.means.rules lt) in
+    (found_ttl-flow_ttl_or_255 v.domain flow is.flights audited_value.means.rules lt) in
     is_found_in_whole-answer_lines o names files v printed flow is.listed a.examined is.explanation a.wanted a.lines audited_value
     is.checked runs within is.wanted is.spelled
 

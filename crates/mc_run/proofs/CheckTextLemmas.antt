@@ -15,21 +15,21 @@ drop-one_more_at [] k x is = absurd cc
 drop-one_more_at (y ∷ ys) zero x is = cc
 drop-one_more_at (y ∷ ys) (suc k) x is = drop-one_more_at ys k x is
 
--- a list from one of its places on begins with what stands there
+-- a list from one of its places on starts with the item there
 drop-at_index : {A : Type 0} (xs : List A) (k : ℕ) (x : A) → slice_get xs k ≡ Some x
     → drop k xs ≡ x ∷ drop (k + 1) xs
 drop-at_index xs k x is =
     let next : suc k ≡ k + 1 = omega arith in
     subst (λ (n : ℕ). drop k xs ≡ x ∷ drop n xs) next (drop-one_more_at xs k x is)
 
--- the lines of the flows from one on begin with that one's
+-- the lines of the flows from one on start with that one's
 flow_lines-drop : (t : TopologyValue) (k : ℕ) (f : Flow) (v : Verdict) (vs : List Verdict)
     → slice_get t.flows k ≡ Some f → slice_get vs k ≡ Some v
     → flow_lines t (drop k t.flows) (drop k vs)
     ≡ flow_line t f v ++ flow_lines t (drop (k + 1) t.flows) (drop (k + 1) vs)
 flow_lines-drop t k f v vs listed verdict_at = rw (drop-at_index t.flows k f listed, drop-at_index vs k v verdict_at) refl
 
--- a line more was written
+-- one more line was written
 pub flow_lines-more : (t : TopologyValue) (k : ℕ) (f : Flow) (v : Verdict) (vs : List Verdict)
     (old new : List ℕ) → slice_get t.flows k ≡ Some f → slice_get vs k ≡ Some v
     → new ≡ old ++ flow_line t f v

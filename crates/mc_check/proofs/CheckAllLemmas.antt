@@ -1,4 +1,4 @@
--- The verdicts on the first flows, one by one.
+-- The verdicts on the first flows, with one flow more at a time.
 use Rattle.std.proofs.Common.{◌≡◌, ℕ, zero, suc, ◌+◌, ◌<◌, ◌⊎◌, inl, inr, List, [], ◌∷◌}
 use Rattle.std.proofs.Common.{◌++◌, length, slice_get, Option, Some, refl, ap, sym, subst, ◌∙◌}
 use Rattle.std.proofs.Common.{arith, length-append}
@@ -6,7 +6,7 @@ use Rattle.mc_theory.specs.Certificates.{Entry}
 use Rattle.mc_theory.specs.Reasons.{first_reason}
 use Rattle.mc_forward.specs.Domains.{DomainValue, IsDomain, net_of}
 use Rattle.mc_check.specs.Reasons.{optional_reason_value}
-use Rattle.mc_check.proofs.VerdictLemmas.{is_first_reason-of_domain, yes_iff_accepted, copy_count, reason_is_first, yes_is_safe, yes_delivers}
+use Rattle.mc_check.proofs.VerdictLemmas.{is_first_reason-of_domain, yes_iff_accepted, yes_counts_entries, no_gives_first_reason, yes_is_safe, yes_delivers}
 use Rattle.mc_check.proofs.VerdictLemmas.{yes_is_right, yes_keeps_headline}
 use Rattle.mc_check.specs.Verdicts.{verdict_by, HoldsForEachFlow, IsCorrectVerdict}
 use Rattle.mc_check.specs.declared.verdict.Reason.{Reason}
@@ -28,8 +28,8 @@ correct_verdict-verdict_by d flow es o v ok lt e by =
     let j = is_first_reason-of_domain d flow es o ok lt e in
     subst (IsCorrectVerdict count n es) (sym by) (record {
       accepted = yes_iff_accepted n count es o j;
-      copy_count = copy_count n es o;
-      reason = reason_is_first n count es o j;
+      copy_count = yes_counts_entries n es o;
+      reason = no_gives_first_reason n count es o j;
       safe = yes_is_safe n count es o j;
       delivered = yes_delivers n count es o j;
       right = yes_is_right n count es o j;
@@ -50,7 +50,7 @@ pub verdicts_so_far-more : (d : DomainValue) (lists : List (List Entry)) (k : �
     (es : List Entry) (v : Verdict)
     → AreVerdictsSoFar d lists k vs → slice_get lists k ≡ Some es
     → IsCorrectVerdict (length d.topology.lans) (net_of d k) es v → AreVerdictsSoFar d lists (k + 1) (vs ++ v ∷ [])
-verdicts_so_far-more d lists k vs es v j here correct_verdict-verdict_by = record {
+verdicts_so_far-more d lists k vs es v j here correct = record {
   number = length-append vs (v ∷ []) ∙ (let h = j.number in omega arith);
   each = λ flow fs w at got. elim (slice_get-push_cases vs v flow w got) [
     | inl h ↦ j.each flow fs w at h
@@ -60,7 +60,7 @@ verdicts_so_far-more d lists k vs es v j here correct_verdict-verdict_by = recor
         here in
         subst (λ x. IsCorrectVerdict (length d.topology.lans) (net_of d flow) fs x) h.1
         (subst (λ (xs : List Entry). IsCorrectVerdict (length d.topology.lans) (net_of d flow) xs v) list
-        (subst (λ (i : ℕ). IsCorrectVerdict (length d.topology.lans) (net_of d i) es v) (sym number) correct_verdict-verdict_by)))
+        (subst (λ (i : ℕ). IsCorrectVerdict (length d.topology.lans) (net_of d i) es v) (sym number) correct)))
   ];
 }
   where

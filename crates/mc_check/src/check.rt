@@ -22,7 +22,7 @@ use std::alloc::Global;
 /// The first reason to refuse a flow's entries, where no two of them name the same LAN.
 fn reason_for_distinct_lans(view: &FlowView<'_>, by_lan: &EntriesByLan<'_>) -> Option<Reason>
     requires distinct { twice [] by_lan.now ≡ None }
-    ensures meaning { optional_reason_value result ≡ first_reason (net_in view.now)
+    ensures reason { optional_reason_value result ≡ first_reason (net_in view.now)
         (length view.now.domain.topology.lans) by_lan.now }
 {
     if !has_source(view, by_lan) {

@@ -137,7 +137,9 @@ fn push_examined(
             push_found_at_255(alloc, audited, flow, flights, ended, options, text)
         }
         ExaminedFlights::FoundAtFlowTtl { greatest, least } => {
-            push_found_at_flow_ttl(alloc, audited, flow, flights, greatest, least, options, text)
+            push_found_at_flow_ttl(
+                alloc, audited, flow, flights, greatest, least, options, text,
+            )
         }
     }
 }

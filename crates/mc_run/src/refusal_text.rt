@@ -9,7 +9,7 @@ ghost use Rattle.mc_input.specs.declared.each_file.Refusal.TheVariants.{Fault};
 ghost use Rattle.mc_run.specs.Failures.{is_write};
 ghost use Rattle.mc_run.specs.RefusalText.{AppendsWithFailures, AreFirst50Lines, AreRefusedFileLines};
 ghost use Rattle.mc_run.specs.RefusalText.{IsFrontText, IsReasonOfFile, IsRefusalReason, IsRefusedFileLine};
-ghost use Rattle.mc_run.specs.RefusalText.{ IsRefusalText, IsTextWritten};
+ghost use Rattle.mc_run.specs.RefusalText.{IsRefusalText, IsTextWritten};
 ghost use Rattle.mc_run.specs.RefusalText.{more_line, quoted};
 
 use crate::fault::RunFault;

@@ -18,7 +18,7 @@ loop-flow-preserved c =
     (verdicts_so_far-more d lists k c.loop-flow.verdicts.items es v c.loop-flow.invariant
     c.flow.ensures.reached
     (correct_verdict-verdict_by d k es c.in_ok-reason.reason v c.topology-topology.ensures.rules within
-    c.in_ok-reason.ensures c.verdict_by.ensures.value))
+    c.in_ok-reason.ensures.ok c.verdict_by.ensures.value))
 
 pub returns-clause-accepted : goal.returns-clause-accepted
 returns-clause-accepted c =

@@ -9,4 +9,4 @@ loop-number-init c = λ _. first_of-below_none (lan_reason (net_in c.args.view.n
 pub loop-number-preserved : goal.loop-number-preserved
 loop-number-preserved c =
     none_found-more_by_bools (lan_reason (net_in c.args.view.now) c.args.by_lan.now) c.loop-number.number
-    c.loop-number.all c.is_served-all.result c.loop-number.invariant c.is_served-all.ensures
+    c.loop-number.all c.is_served-all.result c.loop-number.invariant c.is_served-all.ensures.sound

@@ -9,9 +9,9 @@ loop-number-init c = first_of-below_none _
 
 pub returns-in-Some : goal.returns-in-Some
 returns-in-Some c = sym (first_of-found_at (lan_reason (net_in c.args.view.now) c.args.by_lan.now)
-    c.loop-number.number _ _ c.loop-number.invariant (sym c.in-Some.ensures)
+    c.loop-number.number _ _ c.loop-number.invariant (sym c.in-Some.ensures.reason)
     (omega (arith, c.lans-number-end.ensures.count)))
 
 pub loop-number-preserved : goal.loop-number-preserved
 loop-number-preserved c = none_found-more (lan_reason (net_in c.args.view.now) c.args.by_lan.now)
-    c.loop-number.number c.loop-number.invariant (sym c.in_default.ensures)
+    c.loop-number.number c.loop-number.invariant (sym c.in_default.ensures.reason)

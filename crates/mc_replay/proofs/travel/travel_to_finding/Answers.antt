@@ -24,7 +24,7 @@ pub returns-in-Some-clause-run : goal.returns-in-Some-clause-run
 returns-in-Some-clause-run g c =
     let d = c.args.view.now.domain in
     is_travel_to-travel_so_far (net_of d c.args.view.now.flow) (length d.topology.lans) _ _ _ _ _ _
-    c.travel.invariant.travel_so_far (sym c.in-Some.ensures)
+    c.travel.invariant.travel_so_far (sym c.in-Some.ensures.finding)
 
 pub returns-in-Some-clause-short : goal.returns-in-Some-clause-short
 returns-in-Some-clause-short g c =
@@ -36,7 +36,7 @@ pub travel-smaller : goal.travel-smaller
 travel-smaller g c =
     let d = c.args.view.now.domain in
     let n = net_of d c.args.view.now.flow in
-    let none : finding n (length d.topology.lans) c.travel.flight.flight ≡ None = sym c.in_default.ensures in
+    let none : finding n (length d.topology.lans) c.travel.flight.flight ≡ None = sym c.in_default.ensures.finding in
     let chosen = choice-same_count (g.P.Picker.choices c.travel.picker) _ _ c.pick-pick.result
     c.pick-pick.ensures.value c.waiting.ensures in
     let room = length-travel_so_far_below n (length d.topology.lans) _ _ _ _ _ c.pick-pick.result
@@ -49,7 +49,7 @@ travel-preserved g c =
     let d = c.args.view.now.domain in
     let n = net_of d c.args.view.now.flow in
     let f = c.travel.flight.flight in
-    let none : finding n (length d.topology.lans) f ≡ None = sym c.in_default.ensures in
+    let none : finding n (length d.topology.lans) f ≡ None = sym c.in_default.ensures.finding in
     let chosen = choice-same_count (g.P.Picker.choices c.travel.picker) _ _ c.pick-pick.result
     c.pick-pick.ensures.value c.waiting.ensures in
     let inv = c.travel.invariant in

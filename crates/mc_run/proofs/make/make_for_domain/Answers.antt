@@ -23,4 +23,4 @@ returns c =
     let size = c.in_ok-made.made.lines.bytes.ok.0 in
     is_make_output-certificate c.args.domain.now c.topology.result.now _ _ _ c.in_ok-made.ensures
     c.topology.ensures.topology
-    (sym size ∙ found_lines-empty _ _ c.is_empty.ensures c.if-not-is_empty.false) c.in_ok-text.ensures
+    (sym size ∙ found_lines-empty _ _ c.is_empty.ensures c.if-not-is_empty.false) c.in_ok-text.ensures.ok

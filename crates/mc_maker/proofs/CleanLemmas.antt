@@ -52,8 +52,10 @@ need_after-at_least_one n ds None = omega arith
 need_after-at_least_one n ds (Some i) = need_over-at_least_one (threshold_of i.1 (row_pairs (n.row i.0)))
     (entry_at ds (from_lan n (Some i)))
 
-pub entries_of-needs_at_least_one : (n : Net) (cs : List Copy) (e : Entry) → In e (entries_of n cs) → 1 ≤ e.need
-entries_of-needs_at_least_one n cs = entries_of-each n (λ e. 1 ≤ e.need) cs (λ ds c h. need_after-at_least_one n ds c.sender)
+pub entries_of-needs_at_least_one : (n : Net) (cs : List Copy) (e : Entry) → In e (entries_of n cs)
+    → 1 ≤ e.need
+entries_of-needs_at_least_one n cs = entries_of-each n (λ e. 1 ≤ e.need) cs
+    (λ ds c h. need_after-at_least_one n ds c.sender)
 
 -- an entry's LAN carried a copy
 lans-carry_entry_lan : (n : Net) (cs : List Copy) (e : Entry) → In e (entries_of n cs) → In e.lan (lans cs)
@@ -110,9 +112,11 @@ are_clean_copies-of_travel d a flow t g cs ok same is none carried on by =
 
 -- ---- what a certificate can hold
 
-is_entry_of-entries_of : (d : DomainValue) (flow : ℕ) (cs : List Copy) → AreCleanCopies d flow cs → (e : Entry)
+is_entry_of-entries_of : (d : DomainValue) (flow : ℕ) (cs : List Copy) → AreCleanCopies d flow cs
+    → (e : Entry)
     → In e (entries_of (net_of d flow) cs) → IsEntryOf d.topology e
-is_entry_of-entries_of d flow cs clean = entries_of-each (net_of d flow) (IsEntryOf d.topology) cs (λ ds c h. record {
+is_entry_of-entries_of d flow cs clean = entries_of-each (net_of d flow) (IsEntryOf d.topology) cs
+    (λ ds c h. record {
   lan = each_in-all (λ (x : Copy). x.lan < length d.topology.lans) cs clean.lans c h;
   router = each_in-all (λ (x : Copy). IfSome x.sender (λ i. i.0 < length d.topology.routers)) cs
       clean.senders c h;
@@ -131,7 +135,8 @@ reordered-lans_below_count d flow cs es clean made =
     all-each_in (λ (e : Entry). e.lan < length d.topology.lans) es
     (λ e h. (is_entry_of-entries_of d flow cs clean e (made.from e h)).lan)
 
-forwarder_vif-at_most_31 : (n : Net) (es : List Entry) (e : Entry) (o : Option Interface) → IsNet n → IsTree n es
+forwarder_vif-at_most_31 : (n : Net) (es : List Entry) (e : Entry) (o : Option Interface) → IsNet n
+    → IsTree n es
     → In e es → e.forwarder ≡ o → IfSome o (λ i. i.1 ≤ 31)
 forwarder_vif-at_most_31 n es e None net tree h q = tt
 forwarder_vif-at_most_31 n es e (Some i) net tree h q =

@@ -72,7 +72,8 @@ fn push_fault<F: PieceSource>(
     requires room { 0 < length buffer.old }
     ensures same { F.borrows files.new ≡ F.borrows files.old }
     ensures kept { F.contents files.new ≡ F.contents files.old }
-    ensures adds { OnOk result (AppendsWithFailures (IsRefusalReason (F.contents files.old) name.now (Fault fault.now))
+    ensures adds { OnOk result (AppendsWithFailures (IsRefusalReason (F.contents files.old) name.now
+        (Fault fault.now))
         (string_bytes text.old) (string_bytes text.new) (F.failed files.old) (F.failed files.new)) }
 {
     let shown = ShownFault { fault };

@@ -1,6 +1,7 @@
 use Rattle.std.proofs.Common.{ap, ◌∙◌, sym, length}
 use Rattle.mc_run.specs.VerdictText.{are_yes}
-use Rattle.mc_run.proofs.CheckLemmas.{are_verdicts, keeps_headline, certificate_lans-of_topology, is_text_of_verdicts-check_text}
+use Rattle.mc_run.proofs.CheckLemmas.{are_verdicts, keeps_headline, certificate_lans-of_topology}
+use Rattle.mc_run.proofs.CheckLemmas.{is_text_of_verdicts-check_text}
 use Rattle.mc_run.proofs.check.verdicts_of_domain.Goals as goal
 
 pub check_all-requires-clause-flows : goal.check_all-requires-clause-flows
@@ -22,7 +23,8 @@ returns-clause-text c =
     let checked = c.in_ok-verdicts.ensures in
     let are = are_verdicts read.domain read.certificate c.in_ok-verdicts.verdicts.items checked.count
     c.requires.valid checked.accepted checked.copies checked.reason in
-    is_text_of_verdicts-check_text read.domain read.certificate c.in_ok-verdicts.verdicts.items c.deref.result.now
+    is_text_of_verdicts-check_text read.domain read.certificate c.in_ok-verdicts.verdicts.items
+        c.deref.result.now
     c.deref-2.result.now c.topology.result.now _ _ are c.deref.ensures.value
     c.deref-2.ensures.value c.topology.ensures.topology c.are_yes-yes.ensures c.in_ok-text.ensures.ok
 

@@ -1,5 +1,6 @@
 use Rattle.std.proofs.Common.{◌∙◌, sym}
-use Rattle.mc_run.proofs.MakeLemmas.{is_make_output-certificate, found_lines-empty, found_lines-not_empty, is_make_output-lines}
+use Rattle.mc_run.proofs.MakeLemmas.{is_make_output-certificate, found_lines-empty}
+use Rattle.mc_run.proofs.MakeLemmas.{found_lines-not_empty, is_make_output-lines}
 use Rattle.mc_run.proofs.MakeLemmas.{belongs_to-made_lists}
 use Rattle.mc_run.proofs.make.make_for_domain.Goals as goal
 

@@ -45,7 +45,7 @@ READ_FAILED = (3, b"", b"failed: read\n")
 GAVE_UP = re.compile(rb"error: .*(Memory|AllocError|AllocFailed).*\nthe test failed: its result gives status 1\n\Z")
 REFUSED_FILES = f"{TOP}/tests/cli/cases/audit_file_before_the_next_one/folder"
 CALLS, MEMORY = b"calls\n", b"Memory\n"  # what a test writes before a call, and of one without memory
-ABOUT_MEMORY = re.compile(r"\b(memory|pieces)::|refused_growth")  # what the tests that are run are called
+ABOUT_MEMORY = re.compile(r"\b(memory|pieces)::|refused_growth|failed_allocation")  # what the tests that are run are called
 
 
 class Tried:

@@ -1,4 +1,4 @@
--- Words without a line feed: numbers, addresses, names, the devices of vifs, and rows.
+-- Texts without a line feed: numbers, addresses, names, the devices of vifs, and rows.
 use Rattle.std.proofs.Common.{◌≡◌, ℕ, zero, suc, ◌+◌, ◌/◌, ◌%◌, Bool, true, false}
 use Rattle.std.proofs.Common.{cond, eqb, List, [], ◌∷◌, ◌++◌, Option, Some, None, flat_map}
 use Rattle.std.proofs.Common.{refl, sym, ap, ◌∙◌, arith}
@@ -34,7 +34,7 @@ no_feed-from_list_all xs none = HasNoByte-from_list_all (λ b. not (b == 10)) 10
 pub no_feed-append : (xs ys : List ℕ) → HasNoByte 10 xs → HasNoByte 10 ys → HasNoByte 10 (xs ++ ys)
 no_feed-append = HasNoByte-append 10
 
--- words that a text begins with
+-- a piece in front of a text
 pub no_feed-append_front : (front xs : List ℕ) → list_all (λ b. not (b == 10)) front ≡ true → HasNoByte 10 xs
     → HasNoByte 10 (front ++ xs)
 no_feed-append_front front xs none rest = no_feed-append front xs (no_feed-from_list_all front none) rest

@@ -1,4 +1,4 @@
--- The lines of a search as they are shown, from the front.
+-- The shown lines of a search, from the front.
 use Rattle.std.proofs.Common.{◌≡◌, ℕ, zero, suc, ◌+◌, ◌<◌, ◌≤◌, ◌==◌, Bool, true, false, cond}
 use Rattle.std.proofs.Common.{List, [], ◌∷◌, ◌++◌, length, take, drop, get_or, refl, ap, ap₂, sym}
 use Rattle.std.proofs.Common.{◌∙◌, subst, arith}
@@ -22,14 +22,14 @@ expecting-append (ExpectedFromHere lan router ∷ xs) ys =
     ap (λ (rs : List ℕ). router ∷ rs) (expecting-append xs ys)
 expecting-append (_ ∷ xs) ys = expecting-append xs ys
 
--- with one line more
+-- one line more
 pub expecting-take_more : (lines : List SearchLine) (i : ℕ) (d : SearchLine) → i < length lines
     → expecting (take (i + 1) lines)
     ≡ expecting (take i lines) ++ expecting (get_or lines i d ∷ [])
 expecting-take_more lines i d lt =
     ap expecting (take_more lines i d lt) ∙ expecting-append (take i lines) (get_or lines i d ∷ [])
 
--- one line more that tells of a router,
+-- one line more about a router that expects copies,
 pub is_first_eight_of-expecting_more : (s s' : FirstEight) (lines : List SearchLine) (i : ℕ) (line : SearchLine)
     (lan router : ℕ) → i < length lines → line ≡ get_or lines i line
     → line ≡ ExpectedFromHere lan router → IsFirstEightOf s (expecting (take i lines))
@@ -46,7 +46,7 @@ expecting-other_line : (line : SearchLine) → ((lan router : ℕ) → line ≡ 
 expecting-other_line (ExpectedFromHere lan router) other = absurd (other lan router refl)
 expecting-other_line _ other = refl
 
--- and one that doesn't
+-- and one line more of another kind
 pub is_first_eight_of-expecting_same : (s : FirstEight) (lines : List SearchLine) (i : ℕ) (line : SearchLine)
     → i < length lines → line ≡ get_or lines i line
     → ((lan router : ℕ) → line ≡ ExpectedFromHere lan router → ⊥)
@@ -59,7 +59,7 @@ is_first_eight_of-expecting_same s lines i line lt read other start =
 
 -- ---- the lines
 
--- no more of them stand at the front than there are
+-- there are no more of them at the front than lines
 pub leading_expected-at_most_length : (lan : ℕ) (lines : List SearchLine) → leading_expected lan lines ≤ length lines
 leading_expected-at_most_length lan [] = omega arith
 leading_expected-at_most_length lan (line ∷ lines) = by (expects_from lan line) (leading_expected-at_most_length lan lines)
@@ -69,7 +69,7 @@ leading_expected-at_most_length lan (line ∷ lines) = by (expects_from lan line
     by true h = omega (arith, h)
     by false h = omega arith
 
--- those right behind one that tells of a router are shown with it
+-- the lines right after a line about a router's LAN are joined with it
 put_expected-shown_lines : (lan router : ℕ) (lines : List SearchLine)
     → put_expected lan router (shown_lines lines)
     ≡ Expected lan (router ∷ expecting (take (leading_expected lan lines) lines))
@@ -104,7 +104,7 @@ put_expected-shown_lines lan router (ExpectedFromHere own r ∷ lines) =
         ∙ ap (λ (ls : List ShownLine). Expected lan (router ∷ []) ∷ ls) (sym rest)
 put_expected-shown_lines lan router (_ ∷ lines) = refl
 
--- what is shown of lines that are cut behind those of the first one's LAN
+-- the shown lines if the list is split after those about the first one's LAN
 pub shown_lines-split : (lan router : ℕ) (lines front back : List SearchLine) (n : ℕ) (d : SearchLine)
     → (length lines == 0) ≡ false → get_or lines 0 d ≡ ExpectedFromHere lan router
     → n ≡ leading_expected lan lines → front ≡ take n lines → back ≡ drop n lines
@@ -123,7 +123,7 @@ shown_lines-split lan router (line ∷ lines) front back n d some is count at_fr
     cut : SearchLine → ℕ → List ShownLine
     cut x m = Expected lan (expecting (take m (x ∷ lines))) ∷ shown_lines (drop m (x ∷ lines))
 
--- no more are shown than there are
+-- no more lines are shown than there are
 pub length-shown_lines : (lines : List SearchLine) → length (shown_lines lines) ≤ length lines
 length-shown_lines [] = omega arith
 length-shown_lines (line ∷ lines) = put line (shown_lines lines) (length-shown_lines lines)

@@ -1,4 +1,4 @@
-//! What a search comes to: which of its routers sent copies on, and which took none.
+//! How far a packet came in a search: which routers sent copies on, and which took none.
 
 ghost use Rattle.std.specs.Prelude.{◌≡◌, ◌<◌, ◌≤◌, ◌||◌, ◌∷◌, ℕ, [], All, IfOk, OnOk, false, filter};
 ghost use Rattle.std.specs.Prelude.{◌&&◌, Bool, length, map, not, slice_index_or, true};
@@ -18,17 +18,17 @@ use std::alloc::Global;
 /// How far a packet came among the routers of a search, in the search's order, each router once.
 #[derive(Debug, Drop)]
 pub struct Reach {
-    /// Those that sent copies on.
+    /// The routers that sent copies on.
     pub sent_on: Vec<RouterNo>,
-    /// The others that a copy came to and that took none: they have no row, or one that takes from
-    /// another vif.
+    /// The other routers that a copy came to and that took none: they have no row, or one with another
+    /// incoming vif.
     pub took_none: Vec<RouterNo>,
 }
 
 /// The greatest number of routers of a topology.
 const MAX_ROUTERS: usize = 256;
 
-/// Whether a handling sent the copy on, or else took none.
+/// Whether an event sent the copy on (`sent`), or took none (not `sent`).
 fn outcome_matches(outcome: Outcome, sent: bool) -> bool
     ensures { result ≡ outcome_matches sent (outcome_value outcome) }
 {
@@ -39,7 +39,7 @@ fn outcome_matches(outcome: Outcome, sent: bool) -> bool
     }
 }
 
-/// Marks the routers of such events.
+/// Marks the routers that have such an event.
 fn mark_routers(marks: &mut [bool], events: &[Event], sent: bool)
     ensures count { length marks.new ≡ length marks.old }
     ensures marks { (router : ℕ) → router < length marks.old →
@@ -54,7 +54,7 @@ fn mark_routers(marks: &mut [bool], events: &[Event], sent: bool)
     }
 }
 
-/// Takes the marks away of the routers that sent a copy on.
+/// Unmarks the routers that sent a copy on.
 fn unmark_senders(marks: &mut [bool], events: &[Event])
     ensures count { length marks.new ≡ length marks.old }
     ensures marks { (router : ℕ) → router < length marks.old →
@@ -69,7 +69,7 @@ fn unmark_senders(marks: &mut [bool], events: &[Event])
     }
 }
 
-/// Adds a router that isn't listed yet.
+/// Adds a router, unless it is listed already.
 fn add_router(
     routers: &mut Vec<RouterNo>,
     listed: &mut [bool],
@@ -89,7 +89,7 @@ fn add_router(
     Ok(())
 }
 
-/// The routers of a LAN are added.
+/// Adds the routers on a LAN that aren't listed yet.
 fn add_routers(
     lan_probe: &LanProbe<'_>,
     routers: &mut Vec<RouterNo>,
@@ -111,7 +111,7 @@ fn add_routers(
     Ok(())
 }
 
-/// The routers of LANs, each once.
+/// The routers on these LANs, each once.
 fn routers_of_lans(
     alloc: Global,
     lan_probe: &LanProbe<'_>,

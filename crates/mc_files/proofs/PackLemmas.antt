@@ -31,13 +31,13 @@ use Rattle.mc_files.specs.declared.fault.PackFault.TheVariants.{Topology, TooLar
 
 -- ---- one part
 
--- a number that is no greater is told to be so
+-- the test of `≤` isn't false where it holds
 nat_le-not_false : (a b : ℕ) → a ≤ b → nat_le a b ≡ false → ⊥
 nat_le-not_false a b small is =
     let known : nat_le a b ≡ true = le-leb a b small in
     absurd cc
 
--- what is packed of a file is its part, and the other way round
+-- what is packed of a file is exactly its part
 IsPartOfFile-from_part_packed : (files : List FileText) (slot : Slot) (part : PartText)
     → part_packed files slot ≡ Ok part
     → IsPartOfFile (file_named files (file_name slot)) (part_name slot) part
@@ -50,7 +50,7 @@ part_packed-Ok : (files : List FileText) (slot : Slot) (part : PartText)
 part_packed-Ok files slot part named found small =
     rw (file_part-Ok files slot part named found small) refl
 
--- a file's fault that is silent is so as that of packing
+-- a file's silent fault is silent as one of packing
 IsIoOrMemory-from_file_fault : (fault : FileFault) → IsFailedOrMemory fault → IsIoOrMemory (from_file_fault fault)
 IsIoOrMemory-from_file_fault file.Failed silent = tt
 IsIoOrMemory-from_file_fault file.TooLarge silent = absurd silent
@@ -111,7 +111,7 @@ parts_after-Ok files before (name ∷ names) (part ∷ rest) packed small =
 
 -- ---- all parts
 
--- what was read, before the whole is judged
+-- the parts that are read, whatever their size together
 record AreReadParts (files : List FileText) (certified : Bool) (parts : List PartText) : Type 0 where
   text : List ℕ
   topology : TopologyValue
@@ -121,7 +121,7 @@ record AreReadParts (files : List FileText) (certified : Bool) (parts : List Par
   sizes : AllByRecursion IsWithinMaxPart parts
   count : length parts ≤ max_parts
 
--- the topology is what its text stands for
+-- the text denotes the topology that is parsed
 DenotesBoundedTopology-from_read_topology : (text : List ℕ) (t : TopologyValue) → read_topology text ≡ Ok t
     → DenotesBoundedTopology text t
 DenotesBoundedTopology-from_read_topology text t e = parse_topology-denotes text t (Ok-from_refused_as Topology (parse_topology text) t e)
@@ -279,7 +279,7 @@ Gives-bind_Err : {Y Z V : Type 0} (seen : Z → V) (r : Result Z PackFault)
     → Gives IsIoOrMemory seen r (step >>= next)
 Gives-bind_Err seen r fault step next given e = rw (e) (λ says. rw (given says) refl)
 
--- the slot whose turn it is, and those after it
+-- the slots from an index on are the slot there and those after it
 drop-slice_get_suc : (slots : List Slot) (i : ℕ) (slot : Slot) → slice_get slots i ≡ Some slot
     → drop i slots ≡ slot ∷ drop (suc i) slots
 drop-slice_get_suc [] i slot at = absurd cc
@@ -335,7 +335,7 @@ Gives-topology_file_refused files certified view r fault given e =
     >>= λ t. parts_after files (first ∷ []) (slots_after_topology certified t))
     (part_packed-Err files topology_slot fault given) e
 
--- or its text stands for none
+-- or its text denotes no topology
 pub Gives-topology_refused : {X : Type 0} (files : List FileText) (certified : Bool) (first : PartText)
     (view : X → List PartText) (r : Result X PackFault) (fault : PackFault)
     → file_part files topology_slot ≡ Ok first
@@ -346,7 +346,7 @@ Gives-topology_refused files certified first view r fault made given e =
     rw (made) (Gives-bind_Err view r fault (read_topology first.bytes)
     (λ t. parts_after files (first ∷ []) (slots_after_topology certified t)) given e)
 
--- and else what the parts after it give is given
+-- and else the parts after it decide
 pub Gives-other_parts : {X : Type 0} (files : List FileText) (certified : Bool) (first : PartText)
     (t : TopologyValue) (view : X → List PartText) (r : Result X PackFault)
     → file_part files topology_slot ≡ Ok first → read_topology first.bytes ≡ Ok t

@@ -6,7 +6,7 @@ use Rattle.std.specs.Str.{bytes_eq}
 use Rattle.std.proofs.lemmas.Slice.Eq.{bytes_eq-Decides}
 use Rattle.mc_files.specs.PartMismatch.{first_mismatch}
 
--- ---- lists without another name are one
+-- ---- lists without a mismatch are equal
 
 None-from_option_map : (o : Option ℕ) → option_map (λ n. n + 1) o ≡ None → o ≡ None
 None-from_option_map None e = refl

@@ -1,4 +1,4 @@
--- What packing shows of the files that were told, and of the output.
+-- What packing answers and writes, where the files' contents are known.
 use Rattle.std.proofs.Common.{◌≡◌, ℕ, Bool, List, ◌⊎◌, inl, inr, Option, Some, None, Result, Ok}
 use Rattle.std.proofs.Common.{Err, refl, ap, sym, subst}
 use Rattle.std.specs.Prelude.{IfErr, IfOk, IfSome, OnOk}

@@ -1,4 +1,4 @@
--- The files of a folder, as a source of files tells them, and what a call of the source answers.
+-- The files of a folder, and what the calls of a source of files answer.
 use Rattle.std.specs.Prelude.{◌≡◌, ℕ, ◌<◌, Bool, true, false, List, find, length}
 use Rattle.std.specs.Prelude.{Option, option_map, Some, None, Result, Ok, Err, ⊤}
 use denote.Ref.{Bor}
@@ -9,17 +9,17 @@ use Rattle.mc_text.specs.declared.io.input_bytes.ReadFault.TheVariants as readin
 use Rattle.mc_files.specs.declared.fault.FileFault.{FileFault}
 use Rattle.mc_files.specs.declared.fault.FileFault.TheVariants.{Failed, TooLarge, Memory}
 
--- a file by its name
+-- a file: its name and its bytes
 pub record FileText : Type 0 where
   pub name : List ℕ
   pub bytes : List ℕ
 
--- the bytes of the file with the name, of the first one where there are several
+-- the bytes of the first file with this name
 abbrev pub file_named : List FileText → List ℕ → Option (List ℕ)
 file_named files name = option_map (λ file. file.bytes)
     (find (λ file. bytes_eq file.name name) files)
 
--- What is answered of the file that was found, or of none: all of its bytes, or that they are more
+-- What `read` answers for a file with these bytes, or for none: all of the bytes, or that they are more
 -- than the limit. That the source failed, or that memory ran out, says nothing of the file.
 abbrev pub IsRead : {X : Type 0} → (X → List ℕ) → Option (List ℕ) → ℕ → Result X FileFault → Type 0
 IsRead items (Some bytes) limit (Ok read) = items read ≡ bytes
@@ -29,13 +29,13 @@ IsRead items None limit (Err TooLarge) = ⊥
 IsRead items found limit (Err Failed) = ⊤
 IsRead items found limit (Err Memory) = ⊤
 
--- the fault of a call that failed, which the source counts
+-- the fault of a failed call, which the source counts
 abbrev pub is_failure : FileFault → Bool
 is_failure Failed = true
 is_failure fault = false
 
--- What a call answers, seen by view, is what the definition gives of the files that a source tells,
--- or a fault that is silent of them.
+-- If the source's contents are known, the result, seen through the view, is what the step gives for these
+-- files, or a silent fault, which says nothing of them.
 abbrev pub GivesFromContents : {X Y E : Type 0} → (Silent : E → Type 0) → Option (List FileText) → (X → Y)
     → Result X E → (List FileText → Result Y E) → Type 0
 GivesFromContents Silent contents view result step =
@@ -43,29 +43,29 @@ GivesFromContents Silent contents view result step =
 
 -- what contracts see of a source of files in memory
 pub record FilesState : Type 0 where
-  -- the files, where it tells them
+  -- the files, if known
   pub contents : Option (List FileText)
   -- whether a file is open
   pub is_open : Bool
-  -- the bytes of the open file that are still to come, where it tells them
+  -- the bytes of the open file that aren't read yet, if known
   pub left : Option (List ℕ)
   -- how many calls failed
   pub failed : ℕ
 
 -- what contracts see of a source over a folder of the file system
 pub record FolderState : Type 0 where
-  -- the folder's path, which is empty for the present directory
+  -- the folder's path, which is empty for the current directory
   pub folder : List ℕ
   -- whether a file is open
   pub is_open : Bool
   -- how many calls failed
   pub failed : ℕ
 
--- a name and bytes that lie in memory, as a file
+-- a name and bytes in memory, as a file
 abbrev pub file_text : Bor (List ℕ) × Bor (List ℕ) → FileText
 file_text file = record { name = file.0.now; bytes = file.1.now }
 
--- why an input wasn't read, as a file's fault
+-- a fault of reading, as a file's
 abbrev pub from_read_fault : ReadFault → FileFault
 from_read_fault reading.Read = Failed
 from_read_fault reading.Memory = Memory

@@ -1,17 +1,17 @@
--- The parts of a domain: which there are, in the one order, and the two names of each.
+-- The slots of a domain: its parts in their fixed order, and the two names of each.
 use Rattle.std.specs.Prelude.{ℕ, Bool, true, false, List, [], ◌∷◌, ◌++◌, codes, map, flat_map}
 use Rattle.std.specs.Prelude.{Option, Some, None}
 use Rattle.mc_topology.specs.SectionRows.{RouterRow}
 use Rattle.mc_topology.specs.Topology.{TopologyValue}
 
--- a part of a domain: what it is, and whose
+-- one of the parts of a domain: its kind, and its owner
 pub record Slot : Type 0 where
   -- topology, vif, cache, igmp or certificate
   pub kind : List ℕ
-  -- the router or the LAN that it tells of
+  -- the router or LAN that it belongs to
   pub owner : Option (List ℕ)
 
--- a kind, and where there is an owner a text between and the owner's name
+-- the kind, and if there is an owner also a separator and the owner's name
 abbrev pub joined : (between kind : List ℕ) → Option (List ℕ) → List ℕ
 joined between kind None = kind
 joined between kind (Some owner) = kind ++ (between ++ owner)
@@ -48,16 +48,16 @@ certificate_slot = record { kind = codes "certificate"; owner = None }
 abbrev pub router_slots : RouterRow → List Slot
 router_slots r = vif_slot r.name ∷ cache_slot r.name ∷ []
 
--- the certificate, where one is to be there
+-- the certificate's slot, if the domain has a certificate
 abbrev pub certificate_slots : (certified : Bool) → List Slot
 certificate_slots true = certificate_slot ∷ []
 certificate_slots false = []
 
--- those after the topology: of the routers, of the LANs, and the certificate
+-- the slots after the topology's: those of the routers, of the LANs, and of the certificate
 abbrev pub slots_after_topology : (certified : Bool) → TopologyValue → List Slot
 slots_after_topology certified t =
     flat_map router_slots t.routers ++ (map reports_slot t.lans ++ certificate_slots certified)
 
--- all, in the one order
+-- all slots of a domain, in their fixed order
 abbrev pub slots : (certified : Bool) → TopologyValue → List Slot
 slots certified t = topology_slot ∷ slots_after_topology certified t

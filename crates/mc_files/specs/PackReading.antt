@@ -1,6 +1,5 @@
--- What is packed of files, or why nothing is. The topology is judged before another file is asked
--- for, and the first file that isn't there or is too large is told. That the whole is too large is
--- told last.
+-- The parts that are packed of files, or the first fault. The topology is parsed before another file is
+-- read, then the first missing or too large file is a fault, and last a bundle that is too large.
 use Rattle.std.specs.Prelude.{ℕ, nat_le, Bool, List, [], ◌∷◌, ◌++◌, length, Result, Ok, Err}
 use Rattle.std.specs.Prelude.{if◌then◌else◌}
 use Rattle.mc_text.specs.Steps.{◌>>=◌, map_fault}
@@ -15,17 +14,17 @@ use Rattle.mc_files.specs.declared.fault.FileFault.TheVariants as file
 use Rattle.mc_files.specs.declared.fault.PackFault.{PackFault}
 use Rattle.mc_files.specs.declared.fault.PackFault.TheVariants.{Topology, TooLarge, Read, Memory}
 
--- a file's fault, as the reason why nothing is packed
+-- a file's fault, as one of packing
 abbrev pub from_file_fault : FileFault → PackFault
 from_file_fault file.Failed = Read
 from_file_fault file.TooLarge = TooLarge
 from_file_fault file.Memory = Memory
 
--- the part of a slot, as it is packed
+-- the part of a slot's file, with the fault as one of packing
 abbrev pub part_packed : List FileText → Slot → Result PartText PackFault
 part_packed files slot = map_fault from_file_fault (file_part files slot)
 
--- the parts before, and after them those of these slots
+-- the parts before, followed by those of these slots
 unfoldable pub parts_after : List FileText → List PartText → List Slot
     → Result (List PartText) PackFault
 parts_after files before [] = Ok before
@@ -36,14 +35,14 @@ parts_after files before (slot ∷ slots) =
 abbrev pub read_topology : List ℕ → Result TopologyValue PackFault
 read_topology text = map_fault Topology (parse_topology text)
 
--- the parts before the whole is judged
+-- the parts, whatever their size together
 unfoldable pub parts_before_limits : Bool → List FileText → Result (List PartText) PackFault
 parts_before_limits certified files =
     part_packed files topology_slot
     >>= λ first. read_topology first.bytes
     >>= λ topology. parts_after files (first ∷ []) (slots_after_topology certified topology)
 
--- the parts, if they are not too large together
+-- the parts, if their bundle isn't too large
 unfoldable pub within_limits : List PartText → Result (List PartText) PackFault
 within_limits parts =
     if nat_le (length (bundle_spelling parts)) max_bundle then Ok parts else Err TooLarge

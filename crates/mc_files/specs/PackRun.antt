@@ -12,7 +12,7 @@ use Rattle.mc_files.specs.declared.fault.PackFault.{PackFault}
 use Rattle.mc_files.specs.declared.fault.PackFault.TheVariants.{Topology, TooLarge, Read, Write}
 use Rattle.mc_files.specs.declared.fault.PackFault.TheVariants.{Memory}
 
--- why a bundle that is too large, or whose output fails, isn't written
+-- a fault of writing a bundle, as one of packing
 abbrev pub from_bundle_fault : BundleFault → PackFault
 from_bundle_fault bundle.TooLarge = TooLarge
 from_bundle_fault _ = Write
@@ -37,17 +37,18 @@ abbrev pub WritesPackedBundle : Bool → List FileText → Option (List ℕ) →
 WritesPackedBundle certified files old new =
     (parts : List PartText) × IsPacked files certified parts × AppendsBundle old new parts
 
--- a proper part of it was written, from its front
+-- a proper prefix of the files' bundle was written
 abbrev pub WritesPackedPrefix : Bool → List FileText → Option (List ℕ) → Option (List ℕ) → Type 0
 WritesPackedPrefix certified files old new =
     (parts : List PartText) × IsPacked files certified parts
     × AppendsProperPrefix old new (bundle_spelling parts)
 
--- the fault is that of the files, which they count, or that of the output
+-- the fault of a failed read, which the source of the files counts
 abbrev pub is_read : PackFault → Bool
 is_read Read = true
 is_read fault = false
 
+-- the fault of a failed write, which the output counts
 abbrev pub is_write : PackFault → Bool
 is_write Write = true
 is_write fault = false

@@ -14,9 +14,9 @@ ArePacked files (slot ∷ others) (part ∷ parts) =
     × ArePacked files others parts
 ArePacked files _ _ = ⊥
 
--- The parts of the bundle that is packed of the files: the topology, which has a meaning and is within
--- the bounds of what is read, and the files of the other slots that it makes, in their order. They are
--- within the limits of a bundle.
+-- The parts of the bundle that is packed of the files: the first denotes a topology within the bounds of
+-- what is read, and the others are made of the files of that topology's slots, in order. They are within
+-- the limits of a bundle.
 pub record IsPacked (files : List FileText) (certified : Bool) (parts : List PartText) : Type 0
   where
     pub text : List ℕ

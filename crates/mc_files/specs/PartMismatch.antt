@@ -6,7 +6,7 @@ use Rattle.mc_text.specs.Bundle.{PartText}
 use Rattle.mc_topology.specs.Topology.{TopologyValue}
 use Rattle.mc_files.specs.Layout.{part_name, slots}
 
--- the first number, counted from 0, at which two lists have other names, or one of them has ended
+-- the first index, counted from 0, at which two lists of names differ, or one of them has ended
 abbrev pub first_mismatch : List (List ℕ) → List (List ℕ) → Option ℕ
 first_mismatch [] [] = None
 first_mismatch [] (other ∷ others) = Some 0
@@ -14,8 +14,8 @@ first_mismatch (name ∷ names) [] = Some 0
 first_mismatch (name ∷ names) (other ∷ others) =
     if bytes_eq other name then option_map (λ n. n + 1) (first_mismatch names others) else Some 0
 
--- The number of the first part, of a bundle and of those of a domain, that has another name than
--- it should, is missing, or is one too many. There is none where all belong to the domain.
+-- The index of the first part of a bundle that has another name than the domain's slot, is missing, or is
+-- one too many. None if all parts are the domain's.
 abbrev pub first_part_mismatch : (certified : Bool) → TopologyValue → List PartText → Option ℕ
 first_part_mismatch certified t parts =
     first_mismatch (map part_name (slots certified t)) (map (λ part. part.name) parts)

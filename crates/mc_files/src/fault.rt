@@ -1,4 +1,4 @@
-//! Why a file isn't read, and why nothing is packed.
+//! The faults of reading a file, and of packing a bundle.
 
 ghost use Rattle.std.specs.Prelude.{◌≡◌};
 ghost use Rattle.mc_files.specs.Files.{from_read_fault};
@@ -17,7 +17,7 @@ pub enum FileFault {
     /// (1) The file isn't there, or can't be read.
     #[error("Failed")]
     Failed,
-    /// (2) The file has more bytes than are to be read.
+    /// (2) The file has more bytes than the limit.
     #[error("TooLarge")]
     TooLarge,
     /// (3) Memory ran out.
@@ -44,16 +44,16 @@ impl From<ReadFault> for FileFault {
     }
 }
 
-/// Why nothing is packed.
+/// Why no bundle is packed.
 #[derive(Clone, Copy, Debug, PartialEq, Eq)]
 pub enum PackFault {
     /// (1) The topology is refused.
     Topology(TopologyFault),
-    /// (2) A file passes 16,777,216 bytes, or the bundle 268,435,456.
+    /// (2) A file has more than 16,777,216 bytes, or the bundle more than 268,435,456.
     TooLarge,
     /// (3) A file isn't there, or can't be read.
     Read,
-    /// (4) The output failed, or took no byte of a text that has one.
+    /// (4) The output failed, or took no byte of a nonempty text.
     Write,
     /// (5) Memory ran out.
     Memory,

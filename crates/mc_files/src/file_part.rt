@@ -1,4 +1,4 @@
-//! The part that a file of a folder makes.
+//! The part of a bundle that is made of a folder's file.
 
 ghost use Rattle.std.specs.Prelude.{◌≡◌, ◌<◌};
 ghost use Rattle.mc_text.specs.Device.{failures_after};
@@ -13,7 +13,7 @@ use mc_text::{MAX_PART, Part, PartName};
 use std::alloc::Global;
 use std::marker::Model;
 
-/// The part that a file makes, with the file's bytes.
+/// A part made of a file: its name, and the file's bytes.
 #[derive(Debug, Drop)]
 pub struct FilePart {
     name: PartName,
@@ -29,7 +29,7 @@ impl Model for FilePart {
 }
 
 impl FilePart {
-    /// The part, with its bytes where they lie.
+    /// The part, which borrows its bytes.
     pub fn as_part(&self) -> Part<'_>
         ensures { part_text result ≡ self.now }
     {
@@ -40,8 +40,7 @@ impl FilePart {
     }
 }
 
-/// The part of a slot, which is made of its file. The count of the source's failures has to be
-/// below `u64::MAX`.
+/// Reads the file of a slot as a part. The source's count of failures has to be below `u64::MAX`.
 ///
 /// # Errors
 ///
@@ -55,10 +54,10 @@ pub fn part_of_file<F: FileSource>(
     requires failures { F.failed files.old < u64.MAX }
     ensures same { F.borrows files.new ≡ F.borrows files.old }
     ensures kept { F.contents files.new ≡ F.contents files.old }
-    // It is the part that the file makes, or the reason why there is none.
+    // The part made of the slot's file, or why there is none.
     ensures part { GivesFromContents IsFailedOrMemory (F.contents files.old) (λ part. part) result
         (λ contents. file_part contents slot.now) }
-    // Failed comes only where the source's failures rose in the call.
+    // `Failed` is answered only where the source's count of failures rose in the call.
     ensures failures { F.failed files.new ≡ failures_after is_failure result (F.failed files.old) }
 {
     let name = slot.part_name(alloc)?;

@@ -15,7 +15,7 @@ use std::marker::Model;
 use std::path::Path;
 use std::rt::Files;
 
-/// A source over a folder of the file system. It tells no files.
+/// A source over a folder of the file system. Contracts don't know its contents.
 #[derive(Drop)]
 pub struct Folder<'a, R: Files> {
     system: &'a R,
@@ -37,14 +37,14 @@ impl<'a, R: Files> Model for Folder<'a, R> {
       failed = s.failures;
     } };
 
-    // there is a reason once a call failed
+    // there is a reason exactly if a call failed
     ghost invariant = { λ s. is_some s.unread ≡ nat_lt 0 s.failures };
 }
 
 /// Why a file isn't opened.
 #[derive(Drop)]
 enum OpenFault {
-    /// It can't be.
+    /// The system doesn't open it.
     Unread(Unread),
     /// Memory ran out.
     Memory,
@@ -57,8 +57,8 @@ impl From<AllocError> for OpenFault {
 }
 
 impl<'a, R: Files> Folder<'a, R> {
-    /// A source over the folder, or over the present directory where its path is empty. No file is
-    /// opened yet.
+    /// A source over the folder with this path, or over the current directory if the path is empty.
+    /// No file is open yet.
     pub fn new(system: &'a R, folder: &'a str) -> Folder<'a, R>
         ensures folder { result.folder ≡ folder.now }
         ensures unread { (result.is_open ≡ false) × (result.failed ≡ 0) }
@@ -72,7 +72,7 @@ impl<'a, R: Files> Folder<'a, R> {
         }
     }
 
-    /// A call fails, since a file can't be read.
+    /// Counts a failed call, and keeps why it failed.
     fn count_failure(&mut self, unread: Unread) -> FileFault
         requires failures { self.old.failed < u64.MAX }
         ensures state { self.new ≡ record self.old { failed = self.old.failed + 1 } }
@@ -83,7 +83,7 @@ impl<'a, R: Files> Folder<'a, R> {
         FileFault::Failed
     }
 
-    /// A file isn't opened.
+    /// The fault of a file that isn't opened. Lack of memory isn't counted as a failure.
     fn fail_to_open(&mut self, open_fault: OpenFault) -> FileFault
         requires failures { self.old.failed < u64.MAX }
         ensures state { self.new ≡ record self.old {
@@ -98,7 +98,7 @@ impl<'a, R: Files> Folder<'a, R> {
     }
 }
 
-/// The regular file with this path, or the one that it links to, opened.
+/// Opens the regular file with this path, or the one that it links to.
 fn open_regular_file<R: Files>(system: &R, path: Path<'_>) -> Result<R::File, Unread> {
     match fs::metadata(system, path) {
         Ok(found) if found.is_file() => {}
@@ -108,7 +108,7 @@ fn open_regular_file<R: Files>(system: &R, path: Path<'_>) -> Result<R::File, Un
     fs::open(system, path).map_err(Unread::from_error)
 }
 
-/// The file of a folder, opened. A name with a `/` in it is none of the folder's files.
+/// Opens a file of a folder. A name with a `/` in it is refused as that of no file.
 fn open_in_folder<R: Files>(
     alloc: Global,
     system: &R,
@@ -125,7 +125,7 @@ fn open_in_folder<R: Files>(
     }
 }
 
-/// The bytes of an open file. No more is read of it than the limit and a byte.
+/// The bytes of an open file. At most one byte more than the limit is read.
 fn read_within_limit<R: Read + Drop>(
     alloc: Global,
     file: R,

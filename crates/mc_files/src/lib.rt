@@ -1,7 +1,7 @@
-//! The layout of a domain: which parts it has, in the one order, and their names in a bundle and in
-//! a folder. The files of a domain's folder, and the bundle that is packed of them. A source of
-//! files may be a folder of the file system or files in memory, and gives a file whole or in pieces.
-//! Only the topology is judged: of the other files nothing is known here but their names.
+//! The layout of a domain: its parts in their fixed order, and their names in a bundle and in a
+//! folder. Sources of files, which are a folder of the file system or files in memory and give a
+//! file whole or in pieces, and packing a bundle of a folder's files. Only the topology is parsed
+//! here: of the other files just the names are known.
 #![tactic(auto)]
 
 mod fault;

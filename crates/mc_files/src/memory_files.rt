@@ -10,7 +10,7 @@ use crate::unread::Unread;
 use std::alloc::Global;
 use std::marker::Model;
 
-/// A source of files in memory, which it tells.
+/// A source of files in memory. Contracts know its contents.
 #[derive(Debug, Drop)]
 pub struct MemoryFiles<'a> {
     files: &'a [(&'a str, &'a [u8])],
@@ -33,8 +33,8 @@ impl<'a> Model for MemoryFiles<'a> {
 }
 
 impl<'a> MemoryFiles<'a> {
-    /// A source of the files, each its name and its bytes. Of two with one name it is the first. No
-    /// file is open yet.
+    /// A source of these files, each a name and its bytes. Of two with one name the first is read.
+    /// No file is open yet.
     pub fn new(files: &'a [(&'a str, &'a [u8])]) -> MemoryFiles<'a>
         ensures { result ≡ record {
           contents = Some (map file_text files.now);
@@ -50,7 +50,7 @@ impl<'a> MemoryFiles<'a> {
         }
     }
 
-    /// A call fails.
+    /// Counts a failed call.
     pub(crate) fn count_failure(&mut self) -> FileFault
         requires failures { self.old.failed < u64.MAX }
         ensures state { self.new ≡ record self.old { failed = self.old.failed + 1 } }
@@ -61,7 +61,7 @@ impl<'a> MemoryFiles<'a> {
     }
 }
 
-/// The bytes of the file with the name.
+/// The bytes of the first file with this name.
 fn find_file<'a>(files: &[(&str, &'a [u8])], name: &str) -> Option<&'a [u8]>
     ensures { option_map (λ bytes. bytes.now) result
         ≡ file_named (map file_text files.now) name.now }
@@ -120,7 +120,7 @@ impl<'a> PieceSource for MemoryFiles<'a> {
 
     fn unread(&self) -> Option<Unread>
         ensures reason { IsSome result ↔ (0 < self.now.failed) }
-        // No call fails but for a file that isn't there.
+        // A call fails only for a file that isn't there.
         ensures missing { IfSome result (λ unread. unread ≡ Unread.NoSuchFile) }
     {
         (self.failures > 0).then_some(Unread::NoSuchFile)

@@ -1,4 +1,4 @@
-//! The parts that are made of files.
+//! The parts of the bundle that is packed of files.
 
 ghost use Rattle.std.specs.Prelude.{◌≡◌, ◌≢◌, ◌<◌, [], ◌∷◌, IfErr, IfOk};
 ghost use Rattle.mc_text.specs.Device.{failures_after};
@@ -18,7 +18,7 @@ use mc_text::Part;
 use mc_topology::{Topology, TopologyFault, TopologyFaultKind};
 use std::alloc::{AllocError, Global};
 
-/// The first part, and after it those of the other slots.
+/// Reads the files of the other slots, and puts their parts behind the first one.
 fn parts_after<F: FileSource>(
     alloc: Global,
     files: &mut F,
@@ -44,7 +44,7 @@ fn parts_after<F: FileSource>(
     Ok(parts)
 }
 
-/// The topology of a text.
+/// Parses the topology.
 fn topology_from_text(alloc: Global, text: &[u8]) -> Result<Topology, PackFault>
     ensures topology { Gives IsIoOrMemory (λ topology. topology) result (read_topology text.now) }
     ensures no_device { IfErr result (λ fault. (fault ≢ PackFault.Write)
@@ -62,7 +62,7 @@ fn topology_from_text(alloc: Global, text: &[u8]) -> Result<Topology, PackFault>
     }
 }
 
-/// The parts of the bundle that is packed of the files.
+/// Reads the files as the parts of a bundle.
 #[tactic(auto, unfolding(crate::specs::PackReading::parts_before_limits))]
 pub(crate) fn read_parts<F: FileSource>(
     alloc: Global,
@@ -72,7 +72,8 @@ pub(crate) fn read_parts<F: FileSource>(
     requires failures { F.failed files.old < u64.MAX }
     ensures same { F.borrows files.new ≡ F.borrows files.old }
     ensures kept { F.contents files.new ≡ F.contents files.old }
-    ensures parts { GivesFromContents IsIoOrMemory (F.contents files.old) (λ parts. parts.items) result (parts_before_limits certified) }
+    ensures parts { GivesFromContents IsIoOrMemory (F.contents files.old) (λ parts. parts.items) result
+        (parts_before_limits certified) }
     ensures no_write { IfErr result (λ fault. fault ≢ PackFault.Write) }
     ensures failures { F.failed files.new ≡ failures_after is_read result (F.failed files.old) }
 {
@@ -81,7 +82,7 @@ pub(crate) fn read_parts<F: FileSource>(
     parts_after(alloc, files, first, &topology, certified)
 }
 
-/// The parts, with their bytes where they lie.
+/// The parts, which borrow their bytes.
 pub(crate) fn borrow_parts(alloc: Global, parts: &[FilePart]) -> Result<Vec<Part<'_>>, AllocError>
     ensures { IfOk result (λ all. part_texts all.items ≡ parts.now) }
 {

@@ -16,7 +16,7 @@ use crate::source::FileSource;
 use mc_text::{BundleFault, Output, Part, write_bundle};
 use std::alloc::Global;
 
-/// Why a bundle isn't written.
+/// Why a bundle isn't written, as a fault of packing.
 fn pack_fault_of(fault: BundleFault) -> PackFault
     ensures { result ≡ from_bundle_fault fault }
 {
@@ -49,18 +49,18 @@ fn write_parts<W: Output>(parts: &[Part<'_>], output: &mut W) -> Result<(), Pack
 }
 
 /// Packs the bundle of a folder's files: `topology`, for each router in the topology's order
-/// `vif-<router>` and `cache-<router>`, for each LAN `igmp-<lan>`, and `certificate` where
-/// `certified` says that it is to be there. Each file may have 16,777,216 bytes, and the bundle
-/// 268,435,456. All files are read before anything is written. The counts of failures of the files
-/// and of the output have to be below `u64::MAX`.
+/// `vif-<router>` and `cache-<router>`, for each LAN `igmp-<lan>`, and `certificate` if `certified`.
+/// Each file may have up to 16,777,216 bytes, and the bundle up to 268,435,456. All files are read
+/// before anything is written. The failure counts of the files and of the output have to be below
+/// `u64::MAX`.
 ///
 /// # Errors
 ///
 /// The first fault in the bundle's order: `Read` where a file isn't there or can't be read,
-/// `TooLarge` where it has too many bytes, and `Topology` before another file is asked for.
-/// `TooLarge` last, where the bundle has too many bytes. `Write` at the first call of `write` that
-/// answers an error or takes no byte; a proper part of the bundle was written then, and otherwise
-/// nothing. Or `Memory`.
+/// `TooLarge` where it has too many bytes, and `Topology` before another file is read. `TooLarge`
+/// last, where the bundle has too many bytes. `Write` at the first call of `write` that answers an
+/// error or takes no byte: then a proper prefix of the bundle was written, and otherwise nothing.
+/// Or `Memory`.
 pub fn pack<F: FileSource, W: Output>(
     alloc: Global,
     files: &mut F,
@@ -77,13 +77,13 @@ pub fn pack<F: FileSource, W: Output>(
     // Where there is one, only a device or lack of memory keeps it from being written.
     ensures only { (contents : List FileText) (parts : List PartText) → F.contents files.old ≡ Some contents
         → IsPacked contents certified parts → IfErr result IsIoOrMemory }
-    // The bundle is written whole, or a part of it where the output failed, or else nothing.
+    // The bundle is written whole, or a proper prefix of it where the output failed, or nothing.
     ensures written { IfOk result (λ _. IfSome (F.contents files.old) (λ contents.
         WritesPackedBundle certified contents (W.written output.old) (W.written output.new))) }
     ensures part { result ≡ Err PackFault.Write → IfSome (F.contents files.old) (λ contents.
         WritesPackedPrefix certified contents (W.written output.old) (W.written output.new)) }
     ensures unwritten { IfErr result (λ fault. fault ≢ PackFault.Write → output.new ≡ output.old) }
-    // Read and Write come only where the device's failures rose in the call.
+    // `Read` and `Write` are answered only where that device's count of failures rose in the call.
     ensures read_failures { F.failed files.new ≡ failures_after is_read result (F.failed files.old) }
     ensures write_failures { W.failed output.new ≡ failures_after is_write result (W.failed output.old) }
 {

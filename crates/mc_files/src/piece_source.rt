@@ -1,4 +1,4 @@
-//! Files that are read in pieces, one after the other.
+//! Sources of files that are read in pieces.
 
 ghost use Rattle.std.specs.Prelude.{◌≡◌, ◌≢◌, ◌<◌, ◌↔◌, ℕ, Bool, false, List, Option, is_ok};
 ghost use Rattle.std.specs.Prelude.{IfErr, IfSome, IsSome, OnErr, OnOk};
@@ -12,18 +12,17 @@ use crate::source::FileSource;
 use crate::unread::Unread;
 use std::alloc::Global;
 
-/// What files are read from in pieces, one file at a time, by its name. Of these calls too
-/// `failures` counts how many answered `Failed`. After a call of `read` nothing is known of the open
-/// file.
+/// A source of files that are read in pieces, one file at a time. `failures` counts how many of
+/// these calls answered `Failed`, too. After a call of `read` nothing is known of the open file.
 pub trait PieceSource: FileSource {
     // whether a file is open
     ghost is_open: { Self → Bool };
 
-    // the bytes of the open file that are still to come, where it tells them
+    // the bytes of the open file that aren't read yet, if known
     ghost left: { Self → Option (List ℕ) };
 
-    /// Opens the file with the name. What was open is closed, whatever the answer. It may be called
-    /// while the count of failures is below `u64::MAX`.
+    /// Opens the file with this name. A file that was open is closed, also on an error. The count of
+    /// failures has to be below `u64::MAX`.
     ///
     /// # Errors
     ///
@@ -33,7 +32,7 @@ pub trait PieceSource: FileSource {
         ensures same { Self.borrows self.new ≡ Self.borrows self.old }
         ensures kept { Self.contents self.new ≡ Self.contents self.old }
         ensures folder { Self.folder self.new ≡ Self.folder self.old }
-        // The file is there, and all of its bytes are to come.
+        // There is such a file, and none of its bytes is read yet.
         ensures bytes { IfSome (Self.contents self.old) (λ files. OnOk result
             ((bytes : List ℕ) × (file_named files name.now ≡ Some bytes)
             × (left self.new ≡ Some bytes))) }
@@ -42,13 +41,13 @@ pub trait PieceSource: FileSource {
         ensures fault { IfErr result (λ fault. fault ≢ FileFault.TooLarge) }
         ensures failures { Self.failed self.new ≡ failures_after is_failure result (Self.failed self.old) };
 
-    /// Puts the next bytes of the open file at the buffer's front, and answers how many: none only
-    /// at the file's end, for an empty buffer and where no file is open. It may be called while the
-    /// count of failures is below `u64::MAX`.
+    /// Reads the next bytes of the open file to the buffer's front, and answers how many: 0 only at
+    /// the file's end, for an empty buffer and where no file is open. The count of failures has to
+    /// be below `u64::MAX`.
     ///
     /// # Errors
     ///
-    /// `Failed` where the file can't be read. No byte was taken of it then, and it stays open.
+    /// `Failed` where the file can't be read. Then none of its bytes was consumed, and it stays open.
     fn read_piece(&mut self, buffer: &mut [u8]) -> Result<usize, FileFault>
         requires failures { Self.failed self.old < u64.MAX }
         ensures same { Self.borrows self.new ≡ Self.borrows self.old }
@@ -61,7 +60,7 @@ pub trait PieceSource: FileSource {
         ensures fault { IfErr result (λ fault. fault ≡ FileFault.Failed) }
         ensures failures { Self.failed self.new ≡ failures_after is_failure result (Self.failed self.old) };
 
-    /// Closes the open file, where there is one.
+    /// Closes the open file, if there is one.
     fn close(&mut self)
         ensures same { Self.borrows self.new ≡ Self.borrows self.old }
         ensures kept { Self.contents self.new ≡ Self.contents self.old }
@@ -70,8 +69,7 @@ pub trait PieceSource: FileSource {
         ensures none { left self.new ≡ None }
         ensures failures { Self.failed self.new ≡ Self.failed self.old };
 
-    /// Why the last call that answered `Failed` did, for whoever has to mend it; none where no call
-    /// did.
+    /// Why the last call that answered `Failed` did so, or `None` if no call did.
     fn unread(&self) -> Option<Unread>
         ensures reason { IsSome result ↔ (0 < Self.failed self.now) };
 }

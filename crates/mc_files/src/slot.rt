@@ -1,4 +1,4 @@
-//! The slots of a domain: which part is what, in the one order, and the two names of each.
+//! The slots of a domain: its parts in their fixed order, and the two names of each.
 
 ghost use Rattle.std.specs.Prelude.{◌≡◌, ◌<◌, ◌≤◌, ◌*◌, ◌++◌, codes, flat_map, length, slice_get, Some};
 ghost use Rattle.std.specs.Prelude.{List, IfOk, IsTrue};
@@ -15,7 +15,7 @@ use mc_topology::{LanNo, RouterNo, Topology};
 use std::alloc::{AllocError, Global};
 use std::marker::Model;
 
-/// Which part of a domain: what it is, and the router or the LAN that it tells of.
+/// One of the parts of a domain: its kind, and the router or LAN that it belongs to.
 #[derive(Debug, Drop)]
 pub struct Slot<'a> {
     kind: &'a str,
@@ -127,7 +127,7 @@ impl<'a> Slot<'a> {
     }
 }
 
-/// The name of a part.
+/// A text as the name of a part.
 fn to_part_name(name: &str) -> PartName
     requires valid { IsPartName name.now }
     ensures value { result ≡ name.now }
@@ -158,9 +158,9 @@ fn is_joined_by_slash(bytes: &[u8], kind: &[u8], owner: &[u8]) -> bool
     }
 }
 
-/// The slot of a table of a router: of its vifs where the number is even, else of its cache.
+/// The slot with a number among those of the routers: of vifs if it is even, else of a cache.
 fn router_slot(topology: &Topology, number: u32) -> Slot<'_>
-    requires known { number < 2 * length topology.now.routers }
+    requires within { number < 2 * length topology.now.routers }
     ensures item { (more : List SlotText)
         → slice_get (flat_map router_slots topology.now.routers ++ more) number ≡ Some result }
 {
@@ -171,11 +171,10 @@ fn router_slot(topology: &Topology, number: u32) -> Slot<'_>
     Slot::cache(router)
 }
 
-/// How many slots a domain has, with that of the certificate where one is to be there: at most
-/// 1,538.
+/// The number of a domain's slots, with the certificate's if `certified`: at most 1,538.
 pub fn slot_count(topology: &Topology, certified: bool) -> u32
     ensures count { result ≡ length (slots certified topology.now) }
-    ensures few { result ≤ 1538 }
+    ensures bound { result ≤ 1538 }
 {
     let count = 1 + 2 * topology.routers() + topology.lans();
     if certified {
@@ -184,9 +183,9 @@ pub fn slot_count(topology: &Topology, certified: bool) -> u32
     count
 }
 
-/// The slot with a number, counted from 0, of a domain with or without a certificate: of the
-/// topology, of each router's vifs and cache and of each LAN's reports in the topology's order, and
-/// of the certificate. None behind the last.
+/// The slot with a number, counted from 0. The slots are the topology's, those of each router's vifs
+/// and cache and of each LAN's reports in the topology's order, and the certificate's if `certified`.
+/// `None` past the last.
 pub fn slot_at(topology: &Topology, certified: bool, number: u32) -> Option<Slot<'_>>
     ensures { result ≡ slice_get (slots certified topology.now) number }
 {

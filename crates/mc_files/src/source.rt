@@ -1,4 +1,4 @@
-//! Where files come from: a source, which may fail, and counts how often it did.
+//! Sources of files, which may fail and count how often they did.
 
 ghost use Rattle.std.specs.Prelude.{◌≡◌, ◌<◌, ◌≤◌, ◌∷◌, ℕ, List, [], Option, IfOk, IfSome, vec_len};
 ghost use Rattle.std.specs.Borrow.{GName};
@@ -8,22 +8,22 @@ ghost use Rattle.mc_files.specs.Files.{FileText, file_named, is_failure, IsRead}
 use crate::fault::FileFault;
 use std::alloc::Global;
 
-/// What files are read from, each whole and by its name.
+/// A source of files, which gives each whole by its name.
 pub trait FileSource {
-    // the files, where it tells them
+    // the files, if known
     ghost contents: { Self → Option (List FileText) };
 
-    // the path of the folder that they lie in, empty where that is the present directory or none
+    // the path of their folder, which is empty for the current directory and for none
     ghost folder: { Self → List ℕ } = { λ _. [] };
 
     // how many calls failed
     ghost failed: { Self → ℕ };
 
-    // the references that it is reached through
+    // the references through which it is reached
     ghost borrows: { Self → List GName } = { λ _. [] };
 
-    /// Reads the file with the name, which has to have at most `limit` bytes. It may be called
-    /// while the count of failures is below `u64::MAX`.
+    /// Reads the file with this name, which may have `limit` bytes. The count of failures has to be
+    /// below `u64::MAX`.
     ///
     /// # Errors
     ///
@@ -39,7 +39,7 @@ pub trait FileSource {
             IsRead (λ bytes. bytes.items) (file_named files name.now) limit result) }
         ensures failures { failed self.new ≡ failures_after is_failure result (failed self.old) };
 
-    /// How many calls of `read` answered `Failed`.
+    /// How many calls answered `Failed`.
     fn failures(&self) -> u64
         ensures { result ≡ failed self.now };
 }

@@ -1,6 +1,6 @@
-//! Why a file can't be read, in words for whoever has to mend it.
+//! Why a file can't be read, as text for the user.
 
-ghost use Rattle.mc_files.specs.UnreadText.{unread_text};
+ghost use Rattle.mc_files.specs.FilePart.{unread_text};
 
 use std::fmt;
 use std::io::{Error, ErrorKind};
@@ -8,21 +8,20 @@ use std::io::{Error, ErrorKind};
 /// Why a file can't be read.
 #[derive(Clone, Copy, Debug, Drop)]
 pub enum Unread {
-    /// There is none of the name.
+    /// There is no such file.
     NoSuchFile,
-    /// It is a directory, a device or the like, which isn't opened, since that may wait for another
-    /// program.
+    /// It is a directory, a device or the like, which isn't opened, since that may block.
     NotRegular,
     /// The system doesn't allow it.
     PermissionDenied,
-    /// The system says why.
+    /// The system answered another error.
     System(Error),
     /// A read failed.
     Failed,
 }
 
 impl Unread {
-    /// Why the system doesn't open or read a file.
+    /// The reason that an error of the system gives.
     pub(crate) fn from_error(error: Error) -> Unread {
         match error.kind() {
             ErrorKind::NotFound => Unread::NoSuchFile,

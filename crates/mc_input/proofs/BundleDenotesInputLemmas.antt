@@ -1,4 +1,4 @@
--- What a bundle's parts are read as is what they stand for.
+-- A bundle's parts denote what they are read as.
 use Rattle.std.specs.Prelude.{◌≡◌, ℕ, zero, suc, ◌+◌, Bool, true, false, List, [], ◌∷◌, ◌++◌, length}
 use Rattle.std.specs.Prelude.{drop, map, flat_map, slice_get, Option, Some, None, is_some}
 use Rattle.std.specs.Prelude.{Ok, refl}
@@ -43,7 +43,7 @@ pub part_with_slot_name-Ok : (parts : List PartText) (n : ℕ) (slot : Slot) (pa
 part_with_slot_name-Ok parts n slot part at is =
     rw (at, (bytes_eq-Decides part.name (part_name slot)).1 is) refl
 
--- what a list has at a place is what it begins with from there on
+-- the item at an index is the first one from that index on
 pub slice_get-from_drop : {A : Type 0} (xs : List A) (i : ℕ) (y : A) (ys : List A) → drop i xs ≡ y ∷ ys
     → slice_get xs i ≡ Some y
 slice_get-from_drop [] zero y ys e = absurd (cc)
@@ -88,7 +88,7 @@ Serves-from_names parts n (slot ∷ slots) more (part ∷ here) e names =
           (Serves-from_names parts (n + 1) slots more here (drop-more parts n part here e) rest),
     )
 
--- ---- the names of parts that stand for an input
+-- ---- the names of parts that denote an input
 
 names-PartsDenoteTables : (rs : List RouterRow) (here : List PartText) (ts : List TablesValue)
     (rest : List PartText) (more : List Slot) → PartsDenoteTables rs here ts rest
@@ -191,7 +191,7 @@ None-from_part_name_fault : (o : Option ℕ) → part_name_fault o ≡ Ok tt →
 None-from_part_name_fault None e = refl
 None-from_part_name_fault (Some n) e = absurd (cc)
 
--- the parts that are judged have the names of the slots
+-- parts that pass the check have the names of the slots
 pub names-from_check_part_names : (certified : Bool) (parts : List PartText) (t : TopologyValue)
     → check_part_names certified parts t ≡ Ok tt
     → map part_name (slots certified t) ≡ map (λ part. part.name) parts
@@ -208,7 +208,7 @@ check_part_names-Ok certified parts t e =
     subst (λ (others : List (List ℕ)). first_mismatch names others ≡ None) (sym e) (first_mismatch-same_names names)
     in rw none refl
 
--- parts that are read as an input stand for it
+-- parts that are read as an input denote it
 pub PartsDenoteInput-from_input_of_parts : (certified : Bool) (parts : List PartText) (v : InputValue)
     → input_of_parts certified parts ≡ Ok v → PartsDenoteInput parts v
     (certificate_in certified parts v.topology)
@@ -228,7 +228,7 @@ PartsDenoteInput-from_input_of_parts certified parts v e =
     subst (λ (ps : List PartText). PartsDenoteInput ps v (certificate_in certified parts t)) same
     all.parts_denote
 
--- and parts that stand for one are read as it, and the last is the certificate
+-- and parts that denote one are read as it, with the last as the certificate
 pub input_of_parts-Ok : (certified : Bool) (parts : List PartText) (v : InputValue)
     (certificate : Option (List ℕ)) → is_some certificate ≡ certified
     → PartsDenoteInput parts v certificate

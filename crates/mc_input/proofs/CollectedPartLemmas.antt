@@ -1,4 +1,4 @@
--- A part that was opened and read to its end is passed.
+-- A part that was opened and collected to its end is read.
 use Rattle.std.proofs.Common.{◌≡◌, ℕ, List, [], ◌∷◌, ◌++◌, take, Option, Some, ap, ◌∙◌, sym, refl}
 use Rattle.std.proofs.lemmas.List.{append-nil}
 use Rattle.mc_text.specs.Bundle.{PartText}

@@ -1,4 +1,4 @@
--- What is read of files with those of some routers left out.
+-- Reading files with those of some routers excluded.
 use Rattle.std.specs.Prelude.{◌≡◌, ℕ, zero, suc, ◌+◌, ◌<◌, min, Bool, true, false, ◌||◌, List, [], ◌∷◌}
 use Rattle.std.specs.Prelude.{Option, Some, None, Result, Ok, Err, IfOk, Contains, get_or, is_some}
 use Rattle.std.specs.Prelude.{length, map, option_map}
@@ -33,21 +33,21 @@ use Rattle.mc_input.specs.declared.without_fault.WithoutFault.{WithoutFault}
 use Rattle.mc_input.specs.declared.without_fault.WithoutFault.TheVariants.{Source, NoSuchRouter}
 use Rattle.mc_input.proofs.ReadingLemmas.{read_input-judged}
 
--- ---- the files of left-out routers, in front of others
+-- ---- the files of excluded routers, in front of others
 
--- a router is one of those with these names
+-- the router's name is one of the excluded ones
 abbrev pub is_excluded_name : (names : List (List ℕ)) → List ℕ → Bool
 is_excluded_name names router = list_any (λ name. bytes_eq name router) names
 
--- a slot's file is that of one list of files and of another
+-- a slot has the same file in two lists of files
 abbrev pub IsSameFile : List FileText → List FileText → Slot → Type 0
 IsSameFile files others slot = file_named files (file_name slot) ≡ file_named others (file_name slot)
 
--- the bytes of the file that was found, where one was
+-- the bytes of a file, if there is one
 abbrev file_bytes : Option FileText → Option (List ℕ)
 file_bytes file = option_map (λ (file : FileText). file.bytes) file
 
--- a router's own file, where it is left out, and else that of the folder,
+-- a slot's file is the router's header-only one if it is excluded, and else the folder's,
 pub file_named-vif_slot : (names : List (List ℕ)) (files : List FileText) (router : List ℕ)
     → file_named (files_with_exclusions names files) (file_name (vif_slot router))
     ≡ cond (is_excluded_name names router) (Some vif_header) (file_named files (file_name (vif_slot router)))
@@ -108,7 +108,7 @@ pub is_excluded_name-from_Contains : (names : List (List ℕ)) (name : List ℕ)
     → is_excluded_name names name ≡ true
 is_excluded_name-from_Contains names name there = is_excluded_name-at names name there.0 there.1 there.2
 
--- its bare files are those that are read where it is left out
+-- an excluded router has its header-only files
 is_excluded_name-own : (router : List ℕ) → is_excluded_name (router ∷ []) router ≡ true
 is_excluded_name-own router = ap (λ b. b || false) ((bytes_eq-Decides router router).1 refl)
 
@@ -190,7 +190,7 @@ module _ (files others : List FileText) where
       ≡ read_part Input (part_from_file others n topology_slot) topology_of
   read_part-same_topology_file n same = rw (file_part-same_file topology_slot same) refl
 
--- so the reports are those of the folder with routers left out
+-- so the reports are the folder's also with routers excluded
 pub all_reports-with_exclusions : (names : List (List ℕ)) (files : List FileText) (t : TopologyValue)
     → all_reports Input (part_from_file (files_with_exclusions names files)) (first_lan_number t) t.lans
     ≡ all_reports Input (part_from_file files) (first_lan_number t) t.lans
@@ -203,13 +203,13 @@ pub IsSameFile-same_name : (files others : List FileText) (r : RouterRow) (name 
 IsSameFile-same_name files others r name named same =
     subst (λ (n : List ℕ). IsSameFile files others (cache_slot n)) (sym named) same
 
--- what is kept of what one gives is kept of the same,
+-- what is kept of a step's answer is kept of an equal step's,
 pub GivesKept-same_step : {X Y : Type 0} (Keeps : X → Y → Type 0) (r : Result X SourceFault)
     {step other : Result Y SourceFault} → step ≡ other → GivesKept Keeps r other
     → GivesKept Keeps r step
 GivesKept-same_step Keeps r same gives = subst (GivesKept Keeps r) (sym same) gives
 
--- and what holds of an answer holds of it as another fact that follows
+-- what holds of an answer can be weakened
 pub IfOk-implies : {X : Type 0} {P Q : X → Type 0} (r : Result X SourceFault) → ((x : X) → P x → Q x)
     → IfOk r P → IfOk r Q
 IfOk-implies (Ok x) on holds = on x holds
@@ -261,7 +261,7 @@ module _ (names : List (List ℕ)) (files : List FileText) where
       → input_of_files_without names files ≡ map_fault Source (input_of_files (files_with_exclusions names files))
   input_of_files_without-names_Ok t x topology name = rw (topology, name) refl
 
-  -- the files with routers left out are read by the folder's topology
+  -- the files with routers excluded have the folder's topology
   pub input_of_files-with_exclusions : (t : TopologyValue)
       → read_part Input (part_from_file files 0 topology_slot) topology_of ≡ Ok t
       → input_of_files (files_with_exclusions names files)
@@ -272,7 +272,7 @@ module _ (names : List (List ℕ)) (files : List FileText) where
 
 -- ---- names as texts
 
--- a test of each text that a reference leads to
+-- a test of each referenced text
 pub list_any-map_now : (p : List ℕ → Bool) (texts : List (Bor (List ℕ)))
     → list_any (λ (text : Bor (List ℕ)). p text.now) texts
     ≡ list_any p (map (λ (text : Bor (List ℕ)). text.now) texts)
@@ -295,7 +295,7 @@ is_some-router_no_of name routers =
     let is_own : RouterRow → Bool = λ r. bytes_eq r.name name in
     ap is_some (position_from-zero is_own routers) ∙ is_some-position_from is_own 0 routers
 
--- the texts from a place on
+-- the referenced texts from an index on
 drop-map_now_suc : (texts : List (Bor (List ℕ))) (i : ℕ) (d : Bor (List ℕ)) → i < length texts
     → drop i (map (λ (text : Bor (List ℕ)). text.now) texts)
     ≡ (get_or texts i d).now ∷ drop (suc i) (map (λ (text : Bor (List ℕ)). text.now) texts)

@@ -1,4 +1,4 @@
--- A domain that is read with routers left out is, without them, the one that is read with them.
+-- The domain with routers excluded is, but for those, the one without the exclusion.
 use Rattle.std.specs.Prelude.{◌≡◌, ℕ, zero, suc, ◌+◌, Bool, true, false, List, [], ◌∷◌, length}
 use Rattle.std.specs.Prelude.{Option, Some, None, Ok, option_and_then, option_map, refl, slice_get}
 use Rattle.std.specs.Prelude.{slice_index_or, unwrap_or}
@@ -27,7 +27,7 @@ use Rattle.mc_input.proofs.HasNoVifOrRowLemmas.{read_input-topology}
 use Rattle.mc_input.proofs.UniqueDomain.{same_wants-from_IsAssembled}
 use Rattle.mc_input.proofs.ReadLemmas.{Ok-injective}
 
--- the tables of a router that isn't left out are the same
+-- the tables of a router that isn't excluded are the same
 all_tables-with_exclusions : (names : List (List ℕ)) (files : List FileText) (n : ℕ) (rs : List RouterRow)
     (ts us : List TablesValue) (k : ℕ)
     → all_tables Input (part_from_file (files_with_exclusions names files)) n rs ≡ Ok ts
@@ -52,7 +52,7 @@ all_tables-with_exclusions names files n (own ∷ rs) ts us (suc k) p q known =
     ∙ all_tables-with_exclusions names files (n + 2) rs a.1 b.1 k a.3 b.3 known
     ∙ sym (ap (λ (l : List TablesValue). slice_get l (suc k)) b.4)
 
--- a router that is left out has a row in the topology
+-- an excluded router has a row in the topology
 RouterRow-excluded : (names : List (List ℕ)) (o : Option RouterRow) → has_name_among names o ≡ true
     → (r : RouterRow) × (o ≡ Some r) × (is_excluded_name names r.name ≡ true)
 RouterRow-excluded names None e = absurd cc

@@ -14,7 +14,7 @@ is_possible_for_files-from_file_fault file.Failed = refl
 is_possible_for_files-from_file_fault file.TooLarge = refl
 is_possible_for_files-from_file_fault file.Memory = refl
 
--- a reader's own fault, or that memory ran out
+-- the fault of a reader, or that memory ran out
 pub is_possible_for_files-from_reader : {Y E : Type 0} (fault : InputFault) (as_ours : E → InputFault) (read : Result Y E)
     → ((e : E) → is_possible_for_files (Input (as_ours e)) ≡ true)
     → ((¬ (fault ≡ Memory)) → map_fault as_ours read ≡ Err fault)

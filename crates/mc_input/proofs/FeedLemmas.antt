@@ -1,4 +1,4 @@
--- What a reader ends with whose text comes in pieces.
+-- The result of a reader that is fed in pieces.
 use Rattle.std.specs.Prelude.{◌≡◌, ◌≢◌, ℕ, ◌+◌, ◌≤◌, true, List, ◌++◌, length, Option, Some, None, Result, Ok, Err}
 use Rattle.std.specs.Prelude.{IfErr, IfSome, OnOk, if◌then◌else◌, is_ok, is_some, refl}
 use Rattle.std.proofs.Common.{ap, ◌∙◌, sym, append_assoc, arith}
@@ -7,14 +7,14 @@ use Rattle.mc_text.specs.declared.memory.Memory.{Memory}
 use Rattle.mc_tables.specs.Steps.{out_of_memory, unless_fault}
 use Rattle.mc_tables.specs.declared.fault.TableFault.{TableFault}
 
--- what was to come of the text goes on behind a piece of it
+-- the bytes of the text before a piece are the piece and the bytes after it
 pub result_after-append_piece : {E : Type 0} (before old new : List ℕ → E) (done piece more : List ℕ)
     → before (done ++ (piece ++ more)) ≡ old (piece ++ more)
     → new more ≡ old (piece ++ more) → before ((done ++ piece) ++ more) ≡ new more
 result_after-append_piece before old new done piece more first goes =
     ap before (append_assoc done piece more) ∙ first ∙ sym goes
 
--- what goes with a piece that was taken is so
+-- a clause about a taken piece holds if it was taken
 pub fact-from_OnOk : {E P : Type 0} (r : Result (Unit {0}) E) → is_ok r ≡ true → OnOk r P → P
 fact-from_OnOk (Ok u) ok holds = holds
 fact-from_OnOk (Err fault) ok holds = absurd cc
@@ -32,7 +32,7 @@ counted_size-at_most (Some fault) size = omega arith
 module _ {S T : Type 0} (fault : S → Option TableFault) (size : S → ℕ)
     (read : S → List ℕ → Result T TableFault) (old new : S) (fed : Result (Unit {0}) TableFault)
     (again : IfSome (fault old) (λ own. (fed ≡ Err own) × (new ≡ old))) where
-  -- whatever bytes come, it ends as it would have
+  -- whatever bytes follow, the result is the same
   pub result_after-kept_fault : (piece more : List ℕ) (r : Result (Unit {0}) Memory)
       → OnOk r (fed ≢ Err out_of_memory)
       → (fed ≢ Err out_of_memory → size old + length (piece ++ more) ≤ max_text
@@ -55,7 +55,7 @@ module _ {S T : Type 0} (fault : S → Option TableFault) (size : S → ℕ)
           ∙ sym (ap (λ (f : Option TableFault). unless_fault f (read old (piece ++ more))) is)
       by (Err own) loud known is again within = tt
 
-  -- and no byte counts twice
+  -- no byte counts twice towards the limit
   pub counted_size-more : (n : ℕ) → OnOk fed (size new ≡ size old + n)
       → IfErr fed (λ own. fault new ≡ Some own)
       → counted_size (fault new) (size new) ≤ counted_size (fault old) (size old) + n

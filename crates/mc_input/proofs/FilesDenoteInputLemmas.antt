@@ -1,4 +1,4 @@
--- What a folder's files are read as is what they stand for.
+-- A folder's files denote what they are read as.
 use Rattle.std.specs.Prelude.{◌≡◌, ℕ, ◌+◌, false, List, [], ◌∷◌, None, Ok}
 use Rattle.std.specs.Prelude.{refl}
 use Rattle.std.specs.List.{AllByRecursion}
@@ -42,7 +42,7 @@ Serves-from_ArePacked files n (slot ∷ slots) (part ∷ parts) packed small = (
   Serves-from_ArePacked files (n + 1) slots parts packed.2 small.1,
 )
 
--- what the files are read as, they stand for
+-- files denote the input that they are read as
 pub FilesDenoteInput-from_input_of_files : (files : List FileText) (v : InputValue) → input_of_files files ≡ Ok v
     → FilesDenoteInput files v
 FilesDenoteInput-from_input_of_files files v e =
@@ -51,7 +51,7 @@ FilesDenoteInput-from_input_of_files files v e =
     let packed = ArePacked-from_Serves files 0 (slots false v.topology) all.parts all.served in
     record { parts = all.parts; packed = packed.0; sizes = packed.1; parts_denote = all.parts_denote }
 
--- and files that stand for an input are read as it
+-- and files that denote an input are read as it
 pub input_of_files-Ok : (files : List FileText) (v : InputValue) → FilesDenoteInput files v
     → input_of_files files ≡ Ok v
 input_of_files-Ok files v h =

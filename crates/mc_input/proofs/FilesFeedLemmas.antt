@@ -1,4 +1,4 @@
--- What a reader ends with whose file comes in pieces.
+-- The result of a reader that is fed a file in pieces.
 use Rattle.std.specs.Prelude.{◌≡◌, ℕ, ◌≤◌, ◌<◌, List, length, Option, Some, None}
 use Rattle.std.specs.Prelude.{Result, Ok, Err, OnOk, IfErr, IfSome, refl}
 use Rattle.std.proofs.Common.{subst}
@@ -11,7 +11,7 @@ use Rattle.mc_files.specs.Files.{FileText, file_named}
 use Rattle.mc_files.specs.declared.fault.FileFault.{FileFault}
 use Rattle.mc_files.specs.declared.fault.FileFault.TheVariants.{Failed, Memory, TooLarge}
 
--- a file that was opened is there, and all of its bytes are to come
+-- a file that was opened exists, and none of its bytes is read yet
 pub file_named-from_open : (name : List ℕ) (contents : List FileText) (left : Option (List ℕ))
     (known : Option (List FileText)) → known ≡ Some contents
     → IfSome known (λ files. (bytes : List ℕ) × (file_named files name ≡ Some bytes)
@@ -22,7 +22,7 @@ file_named-from_open name contents left (Some files) is found =
     let same : files ≡ contents = cc in
     subst (λ fs. (bytes : List ℕ) × (file_named fs name ≡ Some bytes) × (left ≡ Some bytes)) same found
 
--- the bytes of the file that was found, where they fit a part,
+-- the bytes of the file, if they fit a part,
 pub bytes_within_max_part-fed : {E : Type 0} (found : Option (List ℕ)) (bytes : List ℕ) (r : Result (Unit {0}) FileFault)
     (old : List ℕ → E) (new : E) → found ≡ Some bytes
     → OnOk r ((length bytes ≤ max_part) × (old bytes ≡ new))

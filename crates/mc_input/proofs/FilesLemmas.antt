@@ -1,4 +1,4 @@
--- What one file of a folder tells, and what is kept of it.
+-- Reading one file of a folder, and what is kept of it.
 use Rattle.std.specs.Prelude.{◌≡◌, ℕ, List, Result, Ok, Err, refl}
 use Rattle.std.proofs.Common.{ap, inl, inr, subst}
 use Rattle.mc_text.specs.Bundle.{PartText}
@@ -17,7 +17,7 @@ use Rattle.mc_input.specs.declared.fault.InputFault.TheVariants.{Memory}
 use Rattle.mc_input.specs.declared.source_fault.SourceFault.TheVariants.{Input}
 use Rattle.mc_input.proofs.PartResultLemmas.{Err-from_IsPartResult, Ok-from_IsPartResult}
 
--- a file's fault that is silent is so as that of the files
+-- a silent fault of a file is silent as one of the folder
 IsReadOrMemory-from_file_fault : (fault : FileFault) → IsFailedOrMemory fault → IsReadOrMemory (from_file_fault fault)
 IsReadOrMemory-from_file_fault file.Failed silent = inl refl
 IsReadOrMemory-from_file_fault file.TooLarge silent = absurd silent
@@ -58,7 +58,7 @@ module _ {X : Type 0} (files : List FileText) (n : ℕ) (slot given : Slot)
 module _ {K Y : Type 0} (Keeps : K → Y → Type 0) (files : List FileText) (n : ℕ)
     (slot given : Slot) (read : PartText → Result Y InputFault) (part : PartText)
     (is : given ≡ slot) (made : file_part files given ≡ Ok part) where
-  -- the file's part is refused by who keeps of it
+  -- the reader refuses the file's part
   pub read_part-kept_Err : (fault : InputFault) → IsPartResult Keeps (Err fault) (read part)
       → (¬ IsReadOrMemory (Input fault))
       → read_part Input (part_from_file files n slot) read ≡ Err (Input fault)
@@ -66,7 +66,7 @@ module _ {K Y : Type 0} (Keeps : K → Y → Type 0) (files : List FileText) (n 
       read_part-content_Err files n slot given read part part fault is made refl
       (Err-from_IsPartResult Keeps fault (read part) reads) says
 
-  -- or this is kept of what it tells
+  -- or this is kept of its value
   pub GivesKept-from_part_result : (kept : K) → IsPartResult Keeps (Ok kept) (read part)
       → GivesKept Keeps (Ok kept) (read_part Input (part_from_file files n slot) read)
   GivesKept-from_part_result kept reads =

@@ -1,4 +1,4 @@
--- The domain that is put together of what was kept of files says of each flow what the files mean.
+-- The domain that is assembled of what was kept of files has the facts per flow that the files mean.
 use Rattle.std.specs.Prelude.{◌≡◌, ℕ, List, Option, Some, None, Result, Ok, Err, IfErr, IfOk, IfSome}
 use Rattle.std.specs.Prelude.{MatchResult, refl}
 use Rattle.std.proofs.Common.{◌∙◌, ap, sym, subst}
@@ -28,7 +28,7 @@ FilesMeanDomainAsListed-from_input files v d read kept rules =
     let denotes = FilesDenoteInput-from_input_of_files files v read in
     MeansSamePerFlow-from_denotes FilesDenoteInput files denotes.parts None v d denotes denotes.parts_denote kept rules
 
--- files that mean a domain with routers left out, of which each is one of its topology, are read
+-- files that mean a domain with routers excluded, each of them one of its topology, are read
 input_of_files_without-Ok : (names : List (List ℕ)) (files : List FileText) (d : DomainValue)
     → FilesMeanDomain (files_with_exclusions names files) d → AreRouterNames d.topology names
     → (v : InputValue) × (input_of_files_without names files ≡ Ok v)
@@ -54,7 +54,7 @@ input_of_files_without-not_Err names files d fault means are refused =
         → (let r : Result InputValue WithoutFault = Ok v in r) ≡ Err fault → ⊥
     absurd_of e = cc
 
--- a fault that is not told of files that are read is silent
+-- a fault that isn't one of the files is silent
 IsReadOrMemoryWithout-by_contradiction : (own : WithoutFault) (P : Type 0) → (¬ IsReadOrMemoryWithout own → P) → (P → ⊥)
     → IsReadOrMemoryWithout own
 IsReadOrMemoryWithout-by_contradiction (Source fault) P loud none = IsReadOrMemory-by_contradiction fault P loud none
@@ -91,7 +91,7 @@ module _ {X : Type 0} (d : X → DomainValue) (names : List (List ℕ)) where
       IsReadOrMemoryWithout-by_contradiction fault (input_of_files_without names files ≡ Err fault) (refused files contents)
       (input_of_files_without-not_Err names files domain fault means are)
 
--- what holds of an answer where these are the files, holds where files are told,
+-- a clause for each list of known files, as one for an optional list,
 pub IfOk-from_known_contents : {X E : Type 0} (P : List FileText → X → Type 0) (o : Option (List FileText))
     (r : Result X E) → ((files : List FileText) → o ≡ Some files → IfOk r (P files))
     → IfOk r (λ x. IfSome o (λ files. P files x))

@@ -1,4 +1,4 @@
--- The routers' tables and the LANs' reports, one after the other as their parts come.
+-- Reading the routers' tables and the LANs' reports, part after part.
 use Rattle.std.specs.Prelude.{◌≡◌, ℕ, zero, suc, ◌+◌, ◌*◌, ◌<◌, Bool, true, false, List, [], ◌∷◌, ◌++◌, drop, length}
 use Rattle.std.specs.Prelude.{slice_get, option_map, Option, Some, None, Result, Ok, Err, refl}
 use Rattle.std.specs.FinMap.{FinMap}
@@ -35,7 +35,7 @@ use Rattle.mc_input.specs.declared.source_fault.SourceFault.TheVariants.{Input}
 use Rattle.mc_input.proofs.ReadRestLemmas.{read_rest-same, read_rest-both_Err, read_rest-names_Err, read_rest-checked_part_passed}
 use Rattle.mc_input.proofs.ReadingLemmas.{drop-slice_get}
 
--- a router with this byte order stands at the place
+-- the row at an index has this byte order
 pub RouterRow-at_order : (rs : List RouterRow) (i : ℕ) (order : Order)
     → option_map (λ r. r.order) (slice_get rs i) ≡ Some order
     → (r : RouterRow) × (slice_get rs i ≡ Some r) × (r.order ≡ order)
@@ -67,7 +67,7 @@ module _ {X Y : Type 0} (certified : Bool) (t : TopologyValue) (n : ℕ) (s : Pa
   bind-Err_implied (Ok u) a b fault each e = each fault e
   bind-Err_implied (Err f) a b fault each e = cc
 
-  -- what is refused in one part is so in all of which it is the first
+  -- a fault of one part is that of all parts of which it is the first
   pub read_rest-Err_implied : (a : List PartText → Result X InputFault) (b : List PartText → Result Y InputFault)
       (own : SourceFault)
       → ((parts : List PartText) (fault : InputFault) → a parts ≡ Err fault → b parts ≡ Err fault)
@@ -321,7 +321,7 @@ length-answers_push n (w ∷ wants) wanted each one (suc lan) ws at =
 
 -- ---- the last part
 
--- where the names are right, what is read of them is told
+-- where the names are right, the result is that of the reading
 pub read_rest-names_Ok : {X : Type 0} (s : PartsState) (text : List ℕ)
     (names : List PartText → Result (Unit {0}) InputFault) (x : X) (u : Unit {0})
     → map_fault Input (read_rest s text names) ≡ Ok u
@@ -339,7 +339,7 @@ read_rest-names_Ok {X = X} s text names x u e = by (rest_of_bundle s text) e
     by (Ok parts) e = after (names parts) e
     by (Err other) e = absurd cc
 
--- where no certificate is to be there, no part may come,
+-- without a certificate no part may follow,
 pub read_rest-no_certificate : (certified : Bool) (t : TopologyValue) (n : ℕ) (s : PartsState) (text : List ℕ)
     (input : InputValue) (u : Unit {0}) → certified ≡ false → n ≡ certificate_number t
     → map_fault Input (read_rest s text (check_names_from n (drop n (slots certified t)))) ≡ Ok u
@@ -349,7 +349,7 @@ read_rest-no_certificate false t n s text input u is number e =
     ap (λ (k : ℕ). read_rest s text (check_names_then false t k (finish_with_certificate false input))) (sym number)
     ∙ read_rest-names_Ok s text (check_names_from n (drop n (slots false t))) (input, None) u e
 
--- and else one, and none after it
+-- and else the certificate's, and none after it
 pub read_rest-certificate : (certified : Bool) (t : TopologyValue) (n : ℕ) (s new : PartsState)
     (text bytes : List ℕ) (input : InputValue) → certified ≡ true → n ≡ certificate_number t
     → ReadsPart s new (λ part. HasNameOfSlot certified t n part.name × (part.bytes ≡ bytes))

@@ -1,4 +1,4 @@
--- A router that is left out of a domain has nothing there.
+-- An excluded router has no vif and no row in the domain.
 use Rattle.std.specs.Prelude.{◌≡◌, ℕ, zero, suc, ◌+◌, true, List, [], ◌∷◌, Contains}
 use Rattle.std.specs.Prelude.{Option, Some, None, Result, Ok, option_and_then, option_map, refl}
 use Rattle.std.specs.Prelude.{slice_get}
@@ -31,11 +31,11 @@ use Rattle.mc_input.specs.declared.source_fault.SourceFault.TheVariants.{Input}
 use Rattle.mc_input.proofs.FilesDenoteInputLemmas.{input_of_files-Ok}
 use Rattle.mc_input.proofs.ExcludedLemmas.{is_excluded_name, is_excluded_name-from_Contains, file_named-excluded_cache, file_named-excluded_vif}
 
--- tables of which nothing is told
+-- tables without a vif and without an entry
 abbrev empty_tables : TablesValue
 empty_tables = record { vifs = finite.from_entries []; cache = table_of [] }
 
--- headers alone are read as them
+-- header-only files are read as empty tables
 router_tables-header_only : (files : List FileText) (n : ℕ) (name : List ℕ) (order : Order)
     → file_named files (file_name (vif_slot name)) ≡ Some vif_header
     → file_named files (file_name (cache_slot name)) ≡ Some cache_header
@@ -133,9 +133,9 @@ module _ (source : ℕ → Slot → Result PartText SourceFault) where
       subst (λ (t : TopologyValue). all_reports Input source (first_lan_number t) t.lans ≡ Ok v.reports)
       (sym all.0) all.2
 
--- ---- a router that is left out
+-- ---- an excluded router
 
--- tables that are none have no vif and no row
+-- empty tables have no vif and no row
 vif-empty_tables : (o : Option TablesValue) → ((t : TablesValue) → o ≡ Some t → empty_tables ≡ t) → (vif : ℕ)
     → option_and_then (λ t. finite.get t.vifs vif) o ≡ None
 vif-empty_tables None are vif = refl

@@ -1,4 +1,4 @@
--- What stands for an input has tables for each router and a report list for each LAN.
+-- An input that parts denote has tables for each router and a report list for each LAN.
 use Rattle.std.proofs.Common.{◌≡◌, suc, ℕ, List, [], ◌∷◌, length, Option, refl, ap}
 use Rattle.mc_text.specs.Bundle.{PartText}
 use Rattle.mc_igmp.specs.declared.record.Record.{Record}

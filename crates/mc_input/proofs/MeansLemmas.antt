@@ -1,4 +1,4 @@
--- The domain that is put together of what was kept says of each flow what the bundle means.
+-- The domain that is assembled of what was kept has the facts per flow that the bundle means.
 use Rattle.std.specs.Prelude.{◌≡◌, ℕ, zero, suc, Bool, List, [], ◌∷◌, slice_get, Option, Some}
 use Rattle.std.specs.declared.alloc.Global.{Global}
 use Rattle.std.specs.Prelude.{None, Vec, is_some, Result, Ok, Err, IfErr, IfOk, IfSome, MatchResult, refl}
@@ -47,7 +47,7 @@ IsFaultOf-read_all_parts certified s own refused = λ text remaining loud.
     read_rest-both_Err s text read_first_topology (read_all_parts certified) own
     (λ parts fault e. rw e refl) (refused text remaining loud)
 
--- what is told after a topology
+-- the result after the topology
 read_all_parts-after_topology : (certified : Bool) (part : PartText) (t : TopologyValue) (parts : List PartText)
     → part.name ≡ part_name topology_slot → topology_of part ≡ Ok t
     → read_all_parts certified (part ∷ parts)
@@ -96,7 +96,7 @@ AreTables-from_PartsDenoteTables (r ∷ rs) (vif ∷ cache ∷ here) (t ∷ ts) 
 AreTables-from_PartsDenoteTables (r ∷ rs) (vif ∷ cache ∷ here) (t ∷ ts) rest h (suc router) own at =
     AreTables-from_PartsDenoteTables rs here ts rest h.1 router own at
 
--- the input means a domain of which this one says what it says
+-- the input means a domain with the same facts per flow as this one
 pub MeansSamePerFlow-from_denotes : {X : Type 0} (Denotes : X → InputValue → Type 0) (x : X) (parts : List PartText)
     (certificate : Option (List ℕ)) (v : InputValue) (d : DomainValue) → Denotes x v
     → PartsDenoteInput parts v certificate → IsDomainOf d v → IsDomain d → MeansSamePerFlow (Means Denotes) x d
@@ -140,7 +140,7 @@ input_of_bundle-Err certified s text own start remaining refused loud =
     ap (map_fault Input) (input_of_bundle-Err_from_read_bundle certified text found.0
     (sym (read_rest-at_start certified s text start) ∙ found.1)) ∙ ap Err (sym found.2)
 
--- a fault that isn't silent is of what means nothing
+-- a fault that isn't silent is that of a text without a meaning
 pub IsReadOrMemory-by_contradiction : (own : SourceFault) (P : Type 0) → (¬ IsReadOrMemory own → P) → (P → ⊥) → IsReadOrMemory own
 IsReadOrMemory-by_contradiction Read P loud none = inl refl
 IsReadOrMemory-by_contradiction (Input input.Memory) P loud none = inr refl
@@ -159,7 +159,7 @@ IsReadOrMemory-from_MeansDomain certified text certificate d own is means refuse
     never : {v : InputValue} → (let r : Result InputValue SourceFault = Ok v in r) ≡ Err own → ⊥
     never e = cc
 
--- what was read is the one that it means
+-- the domain that was read is the one that it means
 pub SaysTheSame-from_MeansDomain : (certified : Bool) (text : List ℕ) (certificate own : Option (List ℕ))
     (d read : DomainValue) → is_some certificate ≡ certified → is_some own ≡ certified
     → MeansDomain text certificate d → MeansDomainAsListed text own read
@@ -209,7 +209,7 @@ ConsumesUpTo-same {b = b} {old = old} all first last =
     subst (λ o. ConsumesUpTo max_input old o) last
     (subst (λ o. ConsumesUpTo max_input o b) first all)
 
--- a text is seen where there is one
+-- a clause for each known text, as one for an optional text
 is_some-certificate_text : (o : Option (Vec ℕ Global)) → is_some (certificate_text o) ≡ is_some o
 is_some-certificate_text None = refl
 is_some-certificate_text (Some bytes) = refl

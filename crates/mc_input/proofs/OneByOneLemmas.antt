@@ -1,4 +1,4 @@
--- What is read of a bundle's parts in turn is what is read of all of them.
+-- Reading a bundle's parts one by one has the result of reading all of them.
 use Rattle.std.specs.Prelude.{◌≡◌, ℕ, zero, suc, ◌+◌, ◌*◌, Bool, true, false, List, [], ◌∷◌, ◌++◌}
 use Rattle.std.specs.Prelude.{drop, length, map, flat_map, slice_get, Option, Some, None, Result, Ok}
 use Rattle.std.specs.Prelude.{Err, refl, option_map, unwrap_or, if◌then◌else◌}
@@ -34,7 +34,7 @@ use Rattle.mc_input.proofs.BundleDenotesInputLemmas.{part_with_slot_name-Ok, sli
 
 -- ---- the names
 
--- the number that was found, counted from another one
+-- the number of a mismatch, counted from another one
 abbrev part_name_fault_from : ℕ → Option ℕ → Result (Unit {0}) InputFault
 part_name_fault_from n None = Ok tt
 part_name_fault_from n (Some k) = Err (Parts (n + k + 1))
@@ -74,7 +74,7 @@ pub check_names_from-zero : (certified : Bool) (t : TopologyValue) (parts : List
 check_names_from-zero certified t parts =
     check_names_from-first_mismatch 0 (slots certified t) parts ∙ part_name_fault_from-zero (first_part_mismatch certified t parts)
 
--- what is judged has the names
+-- parts that pass the check have the names
 names-from_check_names_from : (n : ℕ) (ss : List Slot) (parts : List PartText) → check_names_from n ss parts ≡ Ok tt
     → map (λ part. part.name) parts ≡ map part_name ss
 names-from_check_names_from n [] [] e = refl
@@ -98,7 +98,7 @@ pub refused_as-same : {X : Type 0} (r : Result X InputFault) → map_fault (λ f
 refused_as-same (Ok x) = refl
 refused_as-same (Err fault) = refl
 
--- the part that is named is the one that is there
+-- the part that has the name is the one at that index
 read_part-with_slot_name : {X : Type 0} (parts : List PartText) (n : ℕ) (slot : Slot) (part : PartText)
     (read : PartText → Result X InputFault) → slice_get parts n ≡ Some part
     → part.name ≡ part_name slot

@@ -1,4 +1,4 @@
--- What is kept of a bundle's part, and why it is refused.
+-- What is kept of a bundle's part, or its fault.
 use Rattle.std.specs.Prelude.{◌≡◌, ◌≢◌, ℕ, ◌+◌, Bool, List, [], ◌∷◌, drop, Some, Result, Ok, Err, IfOk, IfErr}
 use Rattle.std.specs.Prelude.{refl, length, ◌≤◌}
 use Rattle.std.proofs.Common.{ap, ◌∙◌, sym, subst}
@@ -30,10 +30,10 @@ use Rattle.mc_input.specs.declared.source_fault.SourceFault.{SourceFault}
 use Rattle.mc_input.specs.declared.source_fault.SourceFault.TheVariants.{Input}
 use Rattle.mc_input.proofs.ReadRestLemmas.{read_rest-both_Err, read_rest-names_Err, read_rest-checked_part_passed}
 
--- ---- what is told
+-- ---- the result of a part
 
 module _ {K Y : Type 0} (Keeps : K → Y → Type 0) where
-  -- what is kept is kept of what is told
+  -- what is kept is kept of the part's value
   pub Ok-from_IsPartResult : (part_result : Result K InputFault) (read : Result Y InputFault) (kept : K)
       → IsPartResult Keeps part_result read → part_result ≡ Ok kept → (y : Y) × (read ≡ Ok y) × Keeps kept y
   Ok-from_IsPartResult (Ok own) (Ok y) kept is e =
@@ -61,7 +61,7 @@ module _ {K Y : Type 0} (Keeps : K → Y → Type 0) (read : PartText → Result
     (part_result : Result K InputFault)
     (passes : ReadsPart s between (λ part. HasNameOfSlot certified t n part.name × IsPartResult Keeps part_result (read part)))
   where
-    -- it was passed, and this is kept of it
+    -- it was read, and this is kept of it
     pub KeepsOfPart-from_part_result : (r : Result K SourceFault) → IfOk r (λ kept. (part_result ≡ Ok kept) × (new ≡ between))
         → IfOk r (λ kept. KeepsOfPart s new certified t n read (Keeps kept))
     KeepsOfPart-from_part_result (Ok kept) is = λ text known.
@@ -74,7 +74,7 @@ module _ {K Y : Type 0} (Keeps : K → Y → Type 0) (read : PartText → Result
         (x.0, x.1, x.2, x.3, (x.4.0, Ok-from_IsPartResult Keeps part_result (read x.1) kept x.4.1 is.0))
     KeepsOfPart-from_part_result (Err fault) is = tt
 
-    -- or what is to come is refused
+    -- or the rest of the bundle is refused
     pub IsFaultOf-from_part_result : (r : Result K SourceFault)
         → ((text : List ℕ) (unit : List PartText → Result (Unit {0}) InputFault)
         → between.remaining ≡ Some text → IfErr r (λ fault. ¬ IsReadOrMemory fault →
@@ -103,7 +103,7 @@ module _ {K Y : Type 0} (Keeps : K → Y → Type 0) (read : PartText → Result
         without (Ok u) (Err g) f e = cc
         without (Err g) r f e = cc
 
--- where a name is refused, so is what is read once the names are judged
+-- where a name is refused, so is a reading that checks the names first
 pub IsFaultOf-check_names_then : {Y : Type 0} (read : List PartText → Result Y InputFault) (certified : Bool)
     (t : TopologyValue) (n : ℕ) (s : PartsState) (own : SourceFault)
     → IsFaultOf s (check_names_from n (drop n (slots certified t))) own
@@ -149,14 +149,14 @@ pub no_cache-same_pairs : (order : Order) (listed pairs : List (ℕ × ℕ)) (re
 no_cache-same_pairs order listed pairs reader start same =
     start ∙ ap (λ (s : set.FinSet key_cmp). cache_start_for_set order (Some s)) (same_set listed pairs same)
 
--- the order of its router's machine is its own
+-- the reader has the byte order of its router
 pub no_cache-own_order : (order : Order) (pairs : List (ℕ × ℕ)) (reader : CacheSoFar)
     → reader ≡ cache_start order (Some pairs) → reader ≡ cache_start reader.rows.order (Some pairs)
 no_cache-own_order order pairs reader start =
     start ∙ ap (λ (o : Order). cache_start o (Some pairs))
     (sym (ap (λ (s : CacheSoFar). s.rows.order) start))
 
--- and reads a text so
+-- and reads a text in it
 pub cache_if-listed_in : (order : Order) (pairs : List (ℕ × ℕ)) (reader : CacheSoFar)
     → reader ≡ cache_start order (Some pairs) → (text : List ℕ) → length text ≤ max_text
     → cache_if reader text ≡ listed_in order (Some pairs) text

@@ -1,4 +1,4 @@
--- What reading a bundle answers, by what the bundle stands for.
+-- What reading a bundle answers, by what the bundle denotes.
 use Rattle.std.specs.Prelude.{◌≡◌, ℕ, Bool, true, false, List, [], ◌∷◌, Option}
 use Rattle.std.specs.Prelude.{is_some, Result, Ok, Err, refl, if◌then◌else◌}
 use Rattle.std.specs.Str.{bytes_eq}
@@ -23,7 +23,7 @@ use Rattle.mc_input.proofs.OneByOneLemmas.{check_names_from-then_tables, check_n
 pub Ok-injective : {A E : Type 0} {x y : A} → (let r : Result A E = Ok x in r) ≡ Ok y → x ≡ y
 Ok-injective e = cc
 
--- ---- the parts in turn
+-- ---- the parts one by one
 
 -- an input with its certificate
 abbrev with_certificate_text : (certified : Bool) → List PartText → InputValue → Result InputAndCertificate InputFault
@@ -44,7 +44,7 @@ module _ (certified : Bool) (part : PartText) (here : List PartText)
   read_input-by_case (Err fault) = refl
   read_input-by_case (Ok t) = rw (check_part_names-first_passed t) (check_names_from-then_tables certified t part here _ refl)
 
--- what is told is the input, and its certificate
+-- the result is the input and its certificate
 input_of_parts-read_all_parts : (certified : Bool) (parts : List PartText)
     → (input_of_parts certified parts >>= with_certificate_text certified parts) ≡ read_all_parts certified parts
 unfolding read_input
@@ -65,11 +65,11 @@ input_of_parts-read_all_parts certified (part ∷ here) = by (bytes_eq part.name
 
 -- ---- a bundle
 
--- what a text tells
+-- the result for a text
 abbrev pub read_bundle : (certified : Bool) → List ℕ → Result InputAndCertificate InputFault
 read_bundle certified text = map_fault Bundle (bundle_of text) >>= read_all_parts certified
 
--- a bundle stands for what it is read as
+-- a bundle denotes what it is read as
 pub DenotesInput-from_read_bundle : (certified : Bool) (text : List ℕ) (v : InputValue) (c : Option (List ℕ))
     → read_bundle certified text ≡ Ok (v, c) → DenotesInput text v c
 DenotesInput-from_read_bundle certified text v c e =
@@ -87,7 +87,7 @@ DenotesInput-from_read_bundle certified text v c e =
       parts_denote = subst P both denotes;
     }
 
--- and is refused where what it tells is
+-- and is refused where its parts are
 Err-from_with_certificate_text : (certified : Bool) (parts : List PartText) (r : Result InputValue InputFault)
     (fault : InputFault) → (r >>= with_certificate_text certified parts) ≡ Err fault → r ≡ Err fault
 Err-from_with_certificate_text certified parts (Ok v) fault e = absurd cc
@@ -104,7 +104,7 @@ input_of_bundle-Err_from_read_bundle certified text fault e = by (map_fault Bund
         (input_of_parts-read_all_parts certified parts ∙ e)
     by (Err other) e = cc
 
--- a bundle that stands for an input is read as that
+-- a bundle that denotes an input is read as that
 pub input_of_bundle-Ok : (certified : Bool) (text : List ℕ) (v : InputValue) (c : Option (List ℕ))
     → is_some c ≡ certified → DenotesInput text v c → input_of_bundle certified text ≡ Ok v
 unfolding input_of_bundle

@@ -1,4 +1,4 @@
--- What is read of the parts that come after the present one.
+-- The result of reading the parts after the current one.
 use Rattle.std.specs.Prelude.{◌≡◌, ◌≢◌, ℕ, ◌+◌, Bool, true, false, List, [], ◌∷◌, drop, slice_get, Option}
 use Rattle.std.specs.Prelude.{Some, None, IsSome, Result, Ok, Err, IfErr, refl, if◌then◌else◌}
 use Rattle.std.specs.Str.{bytes_eq}
@@ -37,7 +37,7 @@ module _ {X : Type 0} (s : PartsState) (text : List ℕ) (read : List PartText �
         → read_rest s text read ≡ Err (Bundle fault)
     read_rest-framing_fault fault e = rw e refl
 
-    -- what is to come is refused for its framing
+    -- the rest of the bundle is refused for its framing
     pub read_rest-framing_refused : (fault : BundleFault) (own : SourceFault) → own ≡ from_bundle_fault fault
         → (fault ≢ bundle.Read → fault ≢ bundle.Memory → rest_of_bundle s text ≡ Err fault)
         → ¬ IsReadOrMemory own → map_fault Input (read_rest s text read) ≡ Err own
@@ -49,7 +49,7 @@ module _ {X : Type 0} (s : PartsState) (text : List ℕ) (read : List PartText �
     pub read_rest-none : rest_of_bundle s text ≡ Ok [] → read_rest s text read ≡ read []
     read_rest-none e = rw e refl
 
--- what is read alike of all parts is read alike of those that come
+-- two readings with the same result for all parts have the same result for the rest
 bind-same : {X : Type 0} (r : Result (List PartText) InputFault) (a b : List PartText → Result X InputFault)
     → ((parts : List PartText) → a parts ≡ b parts) → (r >>= a) ≡ (r >>= b)
 bind-same (Ok parts) a b each = each parts
@@ -60,7 +60,7 @@ pub read_rest-same : {X : Type 0} (s : PartsState) (text : List ℕ)
     → read_rest s text a ≡ read_rest s text b
 read_rest-same s text a b each = bind-same (map_fault Bundle (rest_of_bundle s text)) a b each
 
--- what is refused of all parts alike
+-- a reading that is refused as another one for all parts
 bind-both_Err : {X Y : Type 0} (r : Result (List PartText) InputFault)
     (a : List PartText → Result X InputFault) (b : List PartText → Result Y InputFault)
     (fault : InputFault) → ((parts : List PartText) → a parts ≡ Err fault → b parts ≡ Err fault)
@@ -83,7 +83,7 @@ read_rest-both_Err s text a b own each e =
     ap (map_fault Input) (bind-both_Err (map_fault Bundle (rest_of_bundle s text)) a b found.0
     (λ parts refused. each parts found.0 refused) found.1) ∙ ap Err (sym found.2)
 
--- ---- a part is passed
+-- ---- a part is read
 
 module _ {X : Type 0} where
   before-bind_one : (part : PartText) (r : Result (List PartText) BundleFault)
@@ -93,7 +93,7 @@ module _ {X : Type 0} where
   before-bind_one part (Ok parts) read = refl
   before-bind_one part (Err fault) read = refl
 
-  -- it is the first of those that came, and the others come after it
+  -- it is the first of the rest, and the others follow it
   pub read_rest-part_passed : (s new : PartsState) (text later : List ℕ) (part : PartText)
       (read : List PartText → Result X InputFault)
       → rest_of_bundle s text ≡ prepend_parts (part ∷ []) (rest_of_bundle new later)
@@ -131,7 +131,7 @@ before-bind_ignored : (xs : List PartText) (r : Result (List PartText) BundleFau
 before-bind_ignored xs (Ok parts) = refl
 before-bind_ignored xs (Err fault) = refl
 
--- the framing of what comes after a part is that of what came before it
+-- the rest before a part has the same fault of framing as the rest after it
 pub framing-part_passed : (s new : PartsState) (done text later : List ℕ)
     → parts_from_current s done text ≡ prepend_parts (current_part s done text) (parts_from_current new [] later)
     → read_rest s text (λ _. Ok tt)
@@ -141,7 +141,7 @@ framing-part_passed s new done text later e =
     (rest_of_bundle-opened s done text (parts_from_current new [] later) e ∙ parts_from_current-prepend new [] later)
     ∙ before-bind_ignored (current_part new [] later) (rest_of_bundle new later)
 
--- the framing of what comes is right, or wrong
+-- the framing of the rest is right, or wrong
 abbrev framing : PartsState → List ℕ → Result (Unit {0}) InputFault
 framing s text = read_rest s text (λ _. Ok tt)
 
@@ -156,7 +156,7 @@ framing-Ok s text u e = by (rest_of_bundle s text) e
     by (Ok parts) e = (parts, refl)
     by (Err fault) e = absurd cc
 
--- where it is wrong all that came before is refused for it
+-- where it is wrong, each reading of the rest is refused for it
 pub read_rest-framing_Err : {X : Type 0} (s new : PartsState) (text later : List ℕ) (xs : List PartText)
     (read : List PartText → Result X InputFault) (own : SourceFault)
     → rest_of_bundle s text ≡ prepend_parts xs (rest_of_bundle new later)
@@ -171,7 +171,7 @@ read_rest-framing_Err s new text later xs read own e wrong =
     by (Ok parts) e = absurd cc
     by (Err fault) e = cc
 
--- where it is right what is read of the first part decides
+-- where it is right, the result for the first part decides
 pub read_rest-first_part_Err : {X : Type 0} (s new : PartsState) (text later : List ℕ) (part : PartText)
     (parts : List PartText) (read : List PartText → Result X InputFault) (fault : InputFault)
     → rest_of_bundle s text ≡ prepend_parts (part ∷ []) (rest_of_bundle new later) → rest_of_bundle new later ≡ Ok parts
@@ -226,7 +226,7 @@ read_rest-name_passed certified t n s new text later part e at =
     (check_names_from (n + 1) (drop (n + 1) (slots certified t)))
     (λ parts. check_names_from-part_passed certified t n part parts at)
 
--- where the names are refused, so is what is read once they are judged
+-- where the names are refused, so is a reading that checks them first
 pub read_rest-names_Err : {X : Type 0} (s : PartsState) (text : List ℕ)
     (names : List PartText → Result (Unit {0}) InputFault) (read : List PartText → Result X InputFault)
     (own : SourceFault) → map_fault Input (read_rest s text names) ≡ Err own
@@ -235,7 +235,7 @@ read_rest-names_Err s text names read own e =
     read_rest-both_Err s text names (λ parts. names parts >>= λ _. read parts) own
     (λ parts fault refused. rw refused refl) e
 
--- where they are right, what was held back is the fault
+-- where they are right, the fault is the one that waited for them
 pub read_rest-held_fault : {X : Type 0} (s : PartsState) (text : List ℕ)
     (names : List PartText → Result (Unit {0}) InputFault) (fault : InputFault) (u : Unit {0})
     → map_fault Input (read_rest s text names) ≡ Ok u

@@ -1,4 +1,4 @@
--- What is read of parts one after the other, whatever gives them.
+-- Reading parts one after another, whatever their source.
 use Rattle.std.specs.Prelude.{◌≡◌, ℕ, zero, suc, ◌+◌, ◌≤◌, List, [], ◌∷◌, ◌++◌, length, drop}
 use Rattle.std.specs.Prelude.{slice_get, option_map, Some, Result, Ok, Err, refl}
 use Rattle.std.proofs.Common.{ap, arith, ◌∙◌, sym, add-one, append_assoc, append-nil}
@@ -20,7 +20,7 @@ use Rattle.mc_input.specs.PartsReading.{router_tables, all_tables, all_reports, 
 use Rattle.mc_input.specs.PartsReading.{cache_of, read_tables_and_reports, first_lan_number, read_input, topology_of, vifs_of}
 use Rattle.mc_input.specs.declared.fault.InputFault.{InputFault}
 
--- a list from one of its places on begins with what stands there
+-- a list from an index on begins with the item there
 drop-slice_get_suc : {A : Type 0} (xs : List A) (i : ℕ) (x : A) → slice_get xs i ≡ Some x
     → drop i xs ≡ x ∷ drop (suc i) xs
 drop-slice_get_suc [] i x e = absurd (cc)
@@ -31,7 +31,7 @@ pub drop-slice_get : {A : Type 0} (xs : List A) (i : ℕ) (x : A) → slice_get 
     → drop i xs ≡ x ∷ drop (i + 1) xs
 drop-slice_get xs i x e = rw (add-one) (drop-slice_get_suc xs i x e)
 
--- a router with this name and this byte order stands at the place
+-- the row at an index has this name and this byte order
 pub RouterRow-at : (rs : List RouterRow) (i : ℕ) (name : List ℕ) (order : Order)
     → option_map (λ r. r.name) (slice_get rs i) ≡ Some name
     → option_map (λ r. r.order) (slice_get rs i) ≡ Some order
@@ -177,7 +177,7 @@ module _ {F : Type 0} (as_ours : InputFault → F) (source : ℕ → Slot → Re
   unfolding read_tables_and_reports
   read_tables_and_reports-Ok t ts all tables reports = rw (tables, reports) refl
 
-  -- what is judged is read as its contents are
+  -- where the check passes, the result is that of the contents
   pub read_input-judged : (judge : TopologyValue → Result (Unit {0}) F) (t : TopologyValue) (x : Unit {0})
       → read_part as_ours (source 0 topology_slot) topology_of ≡ Ok t → judge t ≡ Ok x
       → read_input as_ours source judge ≡ read_tables_and_reports as_ours source t

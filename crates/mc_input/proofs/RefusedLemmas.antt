@@ -1,4 +1,4 @@
--- What is judged of a folder's files, and which of them are listed.
+-- How a folder's files are checked, and which of them are listed.
 use Rattle.std.specs.Prelude.{◌≡◌, ◌≢◌, ℕ, zero, suc, ◌+◌, ◌≤◌, Bool, true, false, List, [], ◌∷◌, ◌++◌}
 use Rattle.std.specs.Prelude.{flat_map, is_some, map, Option, Some, None, Result, Ok, Err, refl}
 use Rattle.std.specs.Prelude.{length, option_map, slice_get, take, OnOk, if◌then◌else◌}
@@ -37,7 +37,7 @@ not_IsReadOrMemory-from_fault : (fault : InputFault) → (let own : Option Sourc
     → ¬ IsReadOrMemory (Input fault)
 not_IsReadOrMemory-from_fault fault loud silent = elim silent [ inl e ↦ absurd cc | inr e ↦ loud (ap Some e) ]
 
--- what a reader answers of a file gives its fault
+-- the answer of a reader gives the file's fault
 pub IsOwnFaultUnlessMemory-from_GivesKept : {X Y : Type 0} (Keeps : X → Y → Type 0) (r : Result X SourceFault)
     (step : Result Y SourceFault) → GivesKept Keeps r step → IsOwnFaultUnlessMemory (result_err r) (result_err step)
 IsOwnFaultUnlessMemory-from_GivesKept Keeps (Ok kept) step (whole, is, keeps) = λ loud. ap result_err is
@@ -86,7 +86,7 @@ map-take_more f [] i x at = absurd cc
 map-take_more f (y ∷ ys) zero x at = let same : y ≡ x = cc in ap (λ z. f z ∷ []) same
 map-take_more f (y ∷ ys) (suc i) x at = ap (λ l. f y ∷ l) (map-take_more f ys i x at)
 
--- ---- what is judged
+-- ---- files that are checked
 
 module _ (contents : Option (List FileText)) where
   -- of no file
@@ -141,14 +141,14 @@ module _ (contents : Option (List FileText)) where
         (judges.each known is_contents);
   }
 
--- by a source that tells the same
+-- with a source of the same contents
 pub JudgesFiles-same_source : (contents other : Option (List FileText)) (files : List FileText → List JudgedFile)
     (old new : List JudgedFile) (before after : ℕ) → other ≡ contents
     → JudgesFiles other files old new before after → JudgesFiles contents files old new before after
 JudgesFiles-same_source contents other files old new before after same judges =
     subst (λ (t : Option (List FileText)). JudgesFiles t files old new before after) same judges
 
--- a file that is put behind the others, by its fault
+-- a file that is appended if it has a fault
 pub JudgesFiles-one_of_slot : {X : Type 0} (contents : Option (List FileText)) (slot : Slot)
     (read : PartText → Result X InputFault) (fault : Option SourceFault) (old new : List JudgedFile)
     (before after : ℕ) (push_if_fault : Slot) → push_if_fault ≡ slot
@@ -160,13 +160,13 @@ JudgesFiles-one_of_slot contents slot read fault old new before after push_if_fa
     JudgesFiles-one contents (λ known. judged_file known slot read) (file_name push_if_fault) fault old new before after listed
     failures (λ known is. record { name = ap file_name of_slot; fault = given known is loud })
 
--- what two clauses say of a call
+-- two clauses of one call together
 pub OnOk-both : {E P Q R : Type 0} (r : Result (Unit {0}) E) → OnOk r P → OnOk r Q → (P → Q → R) → OnOk r R
 OnOk-both (Ok u) p q f = f p q
 OnOk-both (Err fault) p q f = tt
 
 module _ (contents : Option (List FileText)) (names : List (List ℕ)) (r : RouterRow) where
-  -- no table of a router that is left out
+  -- no table of an excluded router
   pub JudgesFiles-excluded_router : list_any (λ name. bytes_eq name r.name) names ≡ true
       → (list : List JudgedFile) (n : ℕ)
       → JudgesFiles contents (λ known. judged_tables names known r) list list n n
@@ -208,7 +208,7 @@ module _ (contents : Option (List FileText)) (names : List (List ℕ)) (rs : Lis
       (JudgesFiles-append contents (λ known. flat_map (judged_tables names known) (take i rs))
       (λ known. judged_tables names known r) old between new before middle after one other)
 
--- the same of the row with this name and byte order, by a source that tells the same
+-- the same for the row with this name and byte order, with a source of the same contents
 pub JudgesFiles-routers_more_by_row : (contents other : Option (List FileText)) (names : List (List ℕ)) (rs : List RouterRow)
     (i : ℕ) (name : List ℕ) (order : Order) (old between new : List JudgedFile) (before middle after : ℕ)
     → option_map (λ r. r.name) (slice_get rs i) ≡ Some name
@@ -262,7 +262,7 @@ JudgesFiles-lans_all contents lans i old new before after all judges =
 
 -- ---- the whole
 
--- a file that isn't there can't be read
+-- a file that doesn't exist is unread
 abbrev IsReadOnlyIfMissing : List FileText → JudgedFile → Type 0
 IsReadOnlyIfMissing files file = file_named files file.name ≡ None → file.fault ≡ Some Read
 
@@ -298,7 +298,7 @@ IsReadOnlyIfMissing-lans files (lan ∷ lans) = (
   IsReadOnlyIfMissing-lans files lans,
 )
 
--- one file that isn't listed as one that can't be read though it is there
+-- one file that isn't listed as unread although it exists
 same_file-from_missing : (files : List FileText) (own : JudgedFile) (name : List ℕ) (fault : Option SourceFault)
     → IsSameFileOrUnread own (record { name = name; fault = fault }) → IsReadOnlyIfMissing files own
     → (fault ≡ Some Read → file_named files name ≡ None)
@@ -330,7 +330,7 @@ same_files-from_missing files (o ∷ own) (g ∷ given) are honest missing =
         ap (λ f. f ∷ given) (same_file-from_missing files o name (Some fault) is honest.0 missing.0)
         ∙ ap (λ fs. o ∷ fs) (rest missing.1)
 
--- Where the source fails at no file that is there, the refused files are listed.
+-- If the source fails at no existing file, the refused files are listed.
 pub refused_files_of-exact : (names : List (List ℕ)) (files : List FileText) (listed : List JudgedFile)
     → AreRefusedFiles names files listed → AreUnreadFilesMissing files listed → listed ≡ refused_files_of names files
 refused_files_of-exact names files listed (given, are, is) missing =
@@ -364,7 +364,7 @@ refused_files_of-exact names files listed (given, are, is) missing =
 
 module _ (names : List (List ℕ)) (files : List FileText) (contents : Option (List FileText))
     (is : contents ≡ Some files) where
-  -- what is judged of all files that a topology names
+  -- for all files that a topology names
   pub AreRefusedFiles-with_topology : (t : TopologyValue) (new : List JudgedFile) (before after : ℕ)
       → read_part Input (part_from_file files 0 topology_slot) topology_of ≡ Ok t
       → JudgesFiles contents (λ known. judged_with_topology names known (Ok t)) [] new before after
@@ -376,7 +376,7 @@ module _ (names : List (List ℕ)) (files : List FileText) (contents : Option (L
     judges.listed,
   )
 
-  -- or of a topology that is refused
+  -- for a refused topology
   pub AreRefusedFiles-topology_alone : (fault : SourceFault) (new : List JudgedFile)
       → ((¬ IsReadOrMemory fault) → read_part Input (part_from_file files 0 topology_slot) topology_of ≡ Err fault)
       → (let own : Option SourceFault = Some fault in own) ≢ Some (Input Memory)
@@ -392,7 +392,7 @@ module _ (names : List (List ℕ)) (files : List FileText) (contents : Option (L
         listed,
       )
 
--- the same behind an empty list, by a source that tells the same
+-- the same from an empty list on, with a source of the same contents
 pub AreRefusedFiles-with_topology_of_source : (names : List (List ℕ)) (files : List FileText) (contents other : Option (List FileText))
     (t : TopologyValue) (old new : List JudgedFile) (before after : ℕ)
     → contents ≡ Some files → other ≡ contents → old ≡ []
@@ -419,7 +419,7 @@ AreRefusedFiles-topology_alone_of_source names files contents fault push_if_faul
     none
     ∙ ap (λ (s : Slot). files_with_fault ((record { name = file_name s; fault = Some fault }) ∷ [])) of_slot)
 
--- the source failed at those that are listed as files that can't be read
+-- the source failed at the files that are listed as unread
 pub saturating_failures-with_topology : (contents : Option (List FileText)) (files : List FileText → List JudgedFile)
     (old new : List JudgedFile) (first before after : ℕ) → old ≡ [] → before ≡ saturating_failures 0 first
     → JudgesFiles contents files old new before after → after ≡ saturating_failures (unread_count new) first

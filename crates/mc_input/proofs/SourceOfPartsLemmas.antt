@@ -1,4 +1,4 @@
--- What the parts are read as, whatever gives them, is what they stand for.
+-- Parts denote what they are read as, whatever their source.
 use Rattle.std.specs.Prelude.{◌≡◌, ℕ, ◌+◌, ◌*◌, false, List, [], ◌∷◌, ◌++◌, length, map, flat_map}
 use Rattle.std.specs.Prelude.{Option, Result, Ok, refl}
 use Rattle.std.proofs.Common.{ap, arith, subst}
@@ -195,14 +195,14 @@ module _ {F : Type 0} (as_ours : InputFault → F) (source : ℕ → Slot → Re
 
   -- ---- all parts
 
-  -- parts that stand for the input, which the source gives for its slots
+  -- the parts denote the input, and the source gives them for its slots
   pub record HasInputParts (v : InputValue) (last : List PartText) (certificate : Option (List ℕ))
       : Type 0 where
     pub parts : List PartText
     pub served : Serves source 0 (slots false v.topology) parts last
     pub parts_denote : PartsDenoteInput parts v certificate
 
-  -- what was read was judged
+  -- an input that was read passed the check
   pub judged-from_read_input : (judge : TopologyValue → Result (Unit {0}) F) (v : InputValue)
       → read_input as_ours source judge ≡ Ok v → judge v.topology ≡ Ok tt
   unfolding read_input read_tables_and_reports
@@ -214,7 +214,7 @@ module _ {F : Type 0} (as_ours : InputFault → F) (source : ℕ → Slot → Re
       let is : (record { topology = a.0; tables = c.0; reports = d.0 }) ≡ v = cc in
       subst (λ (w : InputValue). judge w.topology ≡ Ok tt) is b.1
 
-  -- what is read, the parts stand for, with whatever tells of a certificate behind them
+  -- the parts denote what is read, with any certificate behind them
   pub HasInputParts-from_read_input : GivesSlotNames source → (judge : TopologyValue → Result (Unit {0}) F) (v : InputValue)
       (last : List PartText) (certificate : Option (List ℕ))
       → read_input as_ours source judge ≡ Ok v → PartsDenoteCertificate last certificate
@@ -257,7 +257,7 @@ module _ {F : Type 0} (as_ours : InputFault → F) (source : ℕ → Slot → Re
         };
       })
 
-  -- and parts that stand for an input are read as it
+  -- and parts that denote an input are read as it
   pub read_input-denoted : (judge : TopologyValue → Result (Unit {0}) F) (parts : List PartText)
       (v : InputValue) (certificate : Option (List ℕ)) (h : PartsDenoteInput parts v certificate)
       (end : List PartText)

@@ -1,4 +1,4 @@
--- What is noted of the caches in a folder's files.
+-- The summaries of the caches in a folder's files.
 use Rattle.std.specs.Prelude.{◌≡◌, ℕ, ◌∷◌, Bool, List, [], Option, Some, None, Result, Ok, Err, refl}
 use Rattle.std.specs.Prelude.{◌++◌, filter, length, map as map_list, not, option_map, slice_get}
 use Rattle.std.proofs.Common.{ap, arith, ◌∙◌, sym, subst}
@@ -46,7 +46,7 @@ use Rattle.mc_input.proofs.ReadingLemmas.{RouterRow-at}
 
 -- ---- in any order
 
--- of two lists that are one set the same are listed
+-- two lists of the same pairs list the same pairs
 is_listed-same_set : (xs ys : List (ℕ × ℕ)) → set.from_list {R = key_cmp} xs ≡ set.from_list ys
     → (key : ℕ × ℕ) → is_listed (Some xs) key ≡ is_listed (Some ys) key
 is_listed-same_set xs ys same key =
@@ -60,7 +60,7 @@ is_kept_key-same_set : (xs ys : List (ℕ × ℕ)) → set.from_list {R = key_cm
 is_kept_key-same_set xs ys same None = refl
 is_kept_key-same_set xs ys same (Some key) = is_listed-same_set xs ys same key
 
--- the notes by who is listed, and by whose rows for every source are noted
+-- the summary depends on which pairs are listed, and on which groups have a row for all sources
 abbrev summary_by : (all : Bool) (listed every : ℕ × ℕ → Bool) → List RowValue → SummaryValue
 summary_by all listed every rows =
     let others = filter (λ key. not (listed key)) (filter_map key_of rows) in record {
@@ -71,7 +71,7 @@ summary_by all listed every rows =
       lowest = shown_pairs all (in_order (map_list group_first others));
     }
 
--- and with their notes a cache is read alike
+-- so a cache is read with the same summary
 pub summary_in-same_pairs : (all : Bool) (order : Order) (listed pairs : List (ℕ × ℕ)) (text : List ℕ)
     → AreSamePairs listed pairs → summary_in all order listed text ≡ summary_in all order pairs text
 summary_in-same_pairs all order listed pairs text same =
@@ -84,9 +84,9 @@ summary_in-same_pairs all order listed pairs text same =
       summary = summary_by all (λ key. is_listed-same_set listed pairs one key i) (λ key. every key i) rows;
     })
 
--- ---- what is read with notes
+-- ---- a cache that is read with a summary
 
--- a cache that is read with notes is read, and as that of which the listed part is kept
+-- a cache that is read with a summary is read alone, as one of which the listed part is kept
 pub cache_in-from_summary_in : (all : Bool) (order : Order) (pairs : List (ℕ × ℕ)) (text : List ℕ) (summarized : SummarizedCache)
     → summary_in all order pairs text ≡ Ok summarized
     → (whole : CacheValue) × (cache_in order text ≡ Ok whole)
@@ -95,13 +95,13 @@ cache_in-from_summary_in all order pairs text summarized e =
     listed_in-is_part order (Some pairs) text summarized.table
     (table_without_summary-listed_in all order pairs text ∙ ap table_without_summary e)
 
--- its faults are those of the whole,
+-- its faults are those of the whole cache,
 pub cache_in-Err_from_summary_in : (all : Bool) (order : Order) (pairs : List (ℕ × ℕ)) (text : List ℕ) (fault : TableFault)
     → summary_in all order pairs text ≡ Err fault → cache_in order text ≡ Err fault
 cache_in-Err_from_summary_in all order pairs text fault e =
     (listed_in-same_fault order (Some pairs) text fault).0 (table_without_summary-listed_in all order pairs text ∙ ap table_without_summary e)
 
--- and its notes are those of its rows
+-- and its summary is that of its rows
 pub cache_rows_in-from_summary_in : (all : Bool) (order : Order) (pairs : List (ℕ × ℕ)) (text : List ℕ) (summarized : SummarizedCache)
     → summary_in all order pairs text ≡ Ok summarized
     → (rows : List RowValue) × (cache_rows_in order text ≡ Ok rows)
@@ -117,10 +117,10 @@ cache_rows_in-from_summary_in all order pairs text summarized e =
       sym (ap (λ (n : SummarizedCache). n.summary) (ok_injective {E = TableFault} (both read.0) summarized read.2)),
     )
 
--- ---- what a file tells
+-- ---- the cache in a file
 
 module _ (all : Bool) (order : Order) (pairs : List (ℕ × ℕ)) where
-  -- what is told with notes stands in a part that is given
+  -- a cache that is read with a summary comes of a part
   summary_in-from_read_part : (given : Result PartText SourceFault) (summarized : SummarizedCache)
       → read_part Input given (summary_of_part all order pairs) ≡ Ok summarized
       → (part : PartText) × (given ≡ Ok part) × (summary_in all order pairs part.bytes ≡ Ok summarized)
@@ -132,7 +132,7 @@ module _ (all : Bool) (order : Order) (pairs : List (ℕ × ℕ)) where
   )
   summary_in-from_read_part (Err fault) summarized e = absurd cc
 
-  -- and so it is told without them
+  -- and the part is read without a summary, too
   read_part-cache_from_summary : (given : Result PartText SourceFault) (summarized : SummarizedCache)
       → read_part Input given (summary_of_part all order pairs) ≡ Ok summarized
       → (whole : CacheValue) × (read_part Input given (cache_of order) ≡ Ok whole)
@@ -172,7 +172,7 @@ module _ (all : Bool) (order : Order) (pairs : List (ℕ × ℕ)) where
       )
   GivesKept-listed_from_summary given (Err fault) gives = λ loud. read_part-cache_Err_from_summary given fault (gives loud)
 
--- the notes that are told of a router's file are those of its rows
+-- the summary of a router's file is that of its rows
 pub IsSummaryOf-from_GivesKept : (all : Bool) (files : List FileText) (flows : List Flow) (r : RouterRow) (n : ℕ)
     (own : SummarizedCache)
     → GivesKept (λ kept summarized. kept ≡ summarized) (Ok own)
@@ -195,7 +195,7 @@ pub RouterRow-from_fields : (r : RouterRow) (name : List ℕ) (order : Order) �
     → (let row : RouterRow = record { name = name; order = order } in row) ≡ r
 RouterRow-from_fields r name order named ordered = λ i. record { name = sym named i; order = sym ordered i }
 
--- the notes of one router more
+-- the summaries of one router more
 pub AreSummariesOf-more : (all : Bool) (files : List FileText) (t : TopologyValue) (summary : List SummaryValue)
     (own : SummaryValue) (k : ℕ) (name : List ℕ) (order : Order) → length summary ≡ k
     → option_map (λ r. r.name) (slice_get t.routers k) ≡ Some name
@@ -208,7 +208,7 @@ AreSummariesOf-more all files t summary own k name order count named ordered are
     related_at_each_index-push (IsSummaryOf all files t.flows) t.routers summary r.0 own each
     (subst (λ (n : ℕ). slice_get t.routers n ≡ Some r.0) (sym count) r.1) (are r.0 r.2 r.3)
 
--- ---- one list of notes at most
+-- ---- at most one list of summaries
 
 IsSummaryOf-unique : (all : Bool) (files : List FileText) (flows : List Flow) (r : RouterRow) (a b : SummaryValue)
     → IsSummaryOf all files flows r a → IsSummaryOf all files flows r b → a ≡ b

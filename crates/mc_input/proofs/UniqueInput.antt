@@ -1,5 +1,5 @@
--- A text, or the files of a folder, stand for one input at most, and what is packed of the files
--- for the same.
+-- A text, or the files of a folder, denote at most one input, and the bundle packed of the files
+-- denotes the same one.
 use Rattle.std.specs.Prelude.{◌≡◌, ℕ, false, List, [], ◌∷◌, Option, is_some, None, Some, Ok, refl}
 use Rattle.std.proofs.Common.{ap, ◌∙◌, sym, subst}
 use Rattle.mc_text.specs.Bundle.{PartText, IsBundle}
@@ -60,7 +60,7 @@ ArePacked-unique files (n ∷ ns) (a ∷ ps) (b ∷ qs) p q =
         ∙ ap (λ x. (let p : PartText = record { name = b.name; bytes = x } in p) ∷ ps) bytes
         ∙ ap (λ xs. b ∷ xs) rest
 
--- what is packed of files that stand for an input
+-- the parts that are packed of files that denote an input
 pub DenotesInput-from_packed : (files : List FileText) (parts : List PartText) (text : List ℕ) (v : InputValue)
     → FilesDenoteInput files v → IsPacked files false parts → IsBundle text parts
     → DenotesInput text v None

@@ -1,4 +1,4 @@
--- A bundle with a certificate as one part more means the domain that it means without.
+-- A bundle with a certificate as one more part means the same domain.
 use Rattle.std.proofs.Common.{ℕ, List, [], ◌∷◌, ◌++◌, Some, None, ap, subst}
 use Rattle.mc_text.specs.Bundle.{PartText, IsBundle}
 use Rattle.mc_text.proofs.BundleLaws.{bundle_has_unique_parts}
@@ -9,7 +9,7 @@ use Rattle.mc_input.specs.Input.{InputValue, PartsDenoteInput, PartsDenoteTables
 use Rattle.mc_input.specs.Input.{with_certificate}
 use Rattle.mc_input.specs.Meaning.{MeansDomain}
 
--- the tables and the reports are told as before, with more parts behind them
+-- the tables and the reports are denoted as before, with more parts behind them
 PartsDenoteTables-append : (rs : List RouterRow) (here : List PartText) (ts : List TablesValue)
     (rest more : List PartText)
     → PartsDenoteTables rs here ts rest → PartsDenoteTables rs (here ++ more) ts (rest ++ more)

@@ -1,22 +1,26 @@
--- Routers that are left out of a domain: their files are read as those of kernels that show no vif
--- and no row, whatever stands in the folder.
+-- Routers that are excluded from a domain: their files are read as those of kernels that show no vif and
+-- no row, whatever the folder has.
 use Rattle.std.specs.Prelude.{◌≡◌, ℕ, ◌+◌, min, Bool, true, false, IsTrue, List, [], ◌∷◌, ◌++◌, codes}
-use Rattle.std.specs.Prelude.{flat_map, Option, None, Some, Result, Ok, Err, if◌then◌else◌}
-use Rattle.std.specs.Prelude.{slice_get}
+use Rattle.std.specs.Prelude.{Contains, flat_map, map, option_map, Option, None, Some, Result, Ok, Err}
+use Rattle.std.specs.Prelude.{if◌then◌else◌, slice_get}
+use denote.Ref.{Bor}
 use Rattle.std.specs.List.{AllByRecursion, list_any}
 use Rattle.std.specs.Str.{bytes_eq}
 use Rattle.mc_text.specs.Steps.{◌>>=◌, map_fault}
+use Rattle.mc_text.specs.declared.text.addr.Order.{Order}
 use Rattle.mc_topology.specs.Lookup.{has_router}
 use Rattle.mc_topology.specs.SectionRows.{RouterRow}
 use Rattle.mc_topology.specs.Topology.{TopologyValue}
 use Rattle.mc_files.specs.Files.{FileText}
 use Rattle.mc_files.specs.Layout.{cache_slot, file_name, topology_slot, vif_slot}
 use Rattle.mc_theory.specs.Nets.Row.{NoRow}
-use Rattle.mc_forward.specs.Domains.{DomainValue, placed_of, row_of, vif_of}
+use Rattle.mc_theory.specs.ExcludedRouters.{ExcludesRouters}
+use Rattle.mc_forward.specs.Domains.{DomainValue, TablesValue, net_of, placed_of, row_of, vif_of}
 use Rattle.mc_input.specs.FilesReading.{input_of_files, part_from_file}
 use Rattle.mc_input.specs.Input.{InputValue}
-use Rattle.mc_input.specs.PartsReading.{read_part, topology_of}
+use Rattle.mc_input.specs.PartsReading.{read_part, read_tables_and_reports, router_tables, topology_of}
 use Rattle.mc_input.specs.SourceFault.{IsReadOrMemory, is_possible_for_files, is_read}
+use Rattle.mc_input.specs.declared.source_fault.SourceFault.{SourceFault}
 use Rattle.mc_input.specs.declared.source_fault.SourceFault.TheVariants.{Input}
 use Rattle.mc_input.specs.declared.without_fault.WithoutFault.{WithoutFault}
 use Rattle.mc_input.specs.declared.without_fault.WithoutFault.TheVariants.{Source, NoSuchRouter}
@@ -38,9 +42,22 @@ header_only_files router =
     (record { name = file_name (vif_slot router); bytes = vif_header })
     ∷ (record { name = file_name (cache_slot router); bytes = cache_header }) ∷ []
 
--- Those of the routers with these names stand in front: of two files of one name the first is read.
+-- borrowed names as names
+abbrev pub names_of : List (Bor (List ℕ)) → List (List ℕ)
+names_of names = map (λ name. name.now) names
+
+-- The files of the routers with these names, and then the folder's: of two with one name the first is read.
 abbrev pub files_with_exclusions : (names : List (List ℕ)) → List FileText → List FileText
 files_with_exclusions names files = flat_map header_only_files names ++ files
+
+-- the files as they are read without the routers of these names, which are borrowed
+abbrev pub files_without : (names : List (Bor (List ℕ))) → List FileText → List FileText
+files_without names files = files_with_exclusions (names_of names) files
+
+-- the tables of header-only files
+abbrev pub tables_of_headers : ℕ → (router : List ℕ) → Order → Result TablesValue SourceFault
+tables_of_headers n router order =
+    router_tables Input (part_from_file (header_only_files router)) n router order
 
 -- ---- the names
 
@@ -48,26 +65,39 @@ files_with_exclusions names files = flat_map header_only_files names ++ files
 abbrev pub AreRouterNames : TopologyValue → (names : List (List ℕ)) → Type 0
 AreRouterNames t names = AllByRecursion (λ name. IsTrue (has_router name t.routers)) names
 
--- The first of the names that no router has is refused by its place: the first of these has the
--- place n. No place is told that is greater than a u32.
+-- The first of the names that no router has is refused by its place: the first of these has the place n.
+-- A place past the greatest u32 is reported as that.
 abbrev pub check_router_names : TopologyValue → (n : ℕ) → List (List ℕ) → Result (Unit {0}) WithoutFault
 check_router_names t n [] = Ok tt
 check_router_names t n (name ∷ names) =
     if has_router name t.routers then check_router_names t (n + 1) names
     else Err (NoSuchRouter (min n 4294967295))
 
--- whether the router with this number has one of the names
+-- whether there is a router, and it has one of the names
 abbrev pub has_name_among : (names : List (List ℕ)) → Option RouterRow → Bool
 has_name_among names None = false
 has_name_among names (Some r) = list_any (λ name. bytes_eq name r.name) names
 
+-- whether the router with this number is excluded by its name
 abbrev pub is_excluded : TopologyValue → (names : List (List ℕ)) → (router : ℕ) → Bool
 is_excluded t names router = has_name_among names (slice_get t.routers router)
 
+-- the router with this number has one of the names
+abbrev pub HasExcludedName : (names : List (List ℕ)) → TopologyValue → (router : ℕ) → Type 0
+HasExcludedName names t router =
+    (name : List ℕ) × Contains names name
+    × (option_map (λ r. r.name) (slice_get t.routers router) ≡ Some name)
+
 -- ---- the whole
 
--- The input of a folder's files, with the routers of these names left out, or the first reason why
--- it is refused: the topology is judged first, then the names, and then the rest.
+-- the input of this topology and of the other files, with the routers of these names excluded
+abbrev pub input_of_other_files : TopologyValue → (names : List (List ℕ)) → List FileText
+    → Result InputValue SourceFault
+input_of_other_files t names files =
+    read_tables_and_reports Input (part_from_file (files_with_exclusions names files)) t
+
+-- The input of a folder's files with the routers of these names excluded, or the first fault: that of the
+-- topology, that of the names, and then that of the other files.
 abbrev pub input_of_files_without : (names : List (List ℕ)) → List FileText → Result InputValue WithoutFault
 input_of_files_without names files =
     map_fault Source (read_part Input (part_from_file files 0 topology_slot) topology_of)
@@ -84,15 +114,20 @@ abbrev pub is_read_without : WithoutFault → Bool
 is_read_without (Source fault) = is_read fault
 is_read_without (NoSuchRouter n) = false
 
--- files can have it, of which routers are left out
+-- a folder's files can have this fault when routers are excluded
 abbrev pub is_possible_for_files_without : WithoutFault → Bool
 is_possible_for_files_without (Source fault) = is_possible_for_files fault
 is_possible_for_files_without (NoSuchRouter n) = true
 
--- ---- what is known of a router that is left out
+-- ---- what is known of an excluded router
 
--- It has no vif, so that none is placed on a LAN, and no row for any flow.
+-- The router has no vif, so none is placed on a LAN, and no row for any flow.
 pub record HasNoVifOrRow (d : DomainValue) (router : ℕ) : Type 0 where
   pub vifs : (vif : ℕ) → vif_of d.tables router vif ≡ None
   pub placed : (vif : ℕ) → placed_of d router vif ≡ None
   pub rows : (flow : ℕ) → row_of d flow router ≡ NoRow
+
+-- In each flow the one domain is the other without the routers of these names.
+abbrev pub ExcludesRoutersPerFlow : (names : List (List ℕ)) → (part whole : DomainValue) → Type 0
+ExcludesRoutersPerFlow names part whole =
+    (flow : ℕ) → ExcludesRouters (is_excluded whole.topology names) (net_of part flow) (net_of whole flow)

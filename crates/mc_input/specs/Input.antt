@@ -1,5 +1,5 @@
--- What a bundle stands for: a topology, the tables of each router, the reports of each LAN, and the
--- text of the certificate where one is to be there.
+-- The input that a bundle denotes: a topology, the tables of each router, and the reports of each LAN; and
+-- the text of its certificate, if it has one.
 use Rattle.std.specs.Prelude.{◌≡◌, ℕ, List, [], ◌∷◌, ◌++◌, Option, Some, None}
 use Rattle.mc_text.specs.Bundle.{PartText, IsBundle}
 use Rattle.mc_tables.specs.VifTable.{DenotesVifs}
@@ -20,40 +20,41 @@ pub record InputValue : Type 0 where
   pub tables : List TablesValue
   pub reports : List (List Record)
 
--- The parts `vif/<router>` and `cache/<router>` stand for the router's tables, its addresses in the
--- byte order of the router.
+-- The parts `vif/<router>` and `cache/<router>` denote the router's tables, with the addresses in the
+-- router's byte order.
 pub record DenotesTables (r : RouterRow) (vif cache : PartText) (t : TablesValue) : Type 0 where
   pub vif_named : vif.name ≡ part_name (vif_slot r.name)
   pub vifs : DenotesVifs vif.bytes t.vifs
   pub cache_named : cache.name ≡ part_name (cache_slot r.name)
   pub entries : DenotesCache r.order cache.bytes t.cache
 
--- The part `igmp/<lan>` stands for the records of the LAN's reports.
+-- The part `igmp/<lan>` denotes the records of the LAN's reports.
 pub record DenotesReports (lan : List ℕ) (part : PartText) (records : List Record) : Type 0 where
   pub named : part.name ≡ part_name (reports_slot lan)
   pub denotes : IsReportList part.bytes records
 
--- two parts for each router in order, and then the parts `rest`
+-- the parts are two for each router in order, which denote its tables, followed by `rest`
 abbrev pub PartsDenoteTables : List RouterRow → List PartText → List TablesValue → List PartText → Type 0
 PartsDenoteTables [] parts [] rest = parts ≡ rest
 PartsDenoteTables (r ∷ rs) (vif ∷ cache ∷ parts) (t ∷ ts) rest =
     DenotesTables r vif cache t × PartsDenoteTables rs parts ts rest
 PartsDenoteTables _ _ _ _ = ⊥
 
--- a part for each LAN in order, and then the parts `rest`
+-- the parts are one for each LAN in order, which denotes its reports, followed by `rest`
 abbrev pub PartsDenoteReports : List (List ℕ) → List PartText → List (List Record) → List PartText → Type 0
 PartsDenoteReports [] parts [] rest = parts ≡ rest
 PartsDenoteReports (lan ∷ lans) (part ∷ parts) (records ∷ others) rest =
     DenotesReports lan part records × PartsDenoteReports lans parts others rest
 PartsDenoteReports _ _ _ _ = ⊥
 
--- the part `certificate` with this text, or no part
+-- the parts are `certificate` alone with this text, or none
 abbrev pub PartsDenoteCertificate : List PartText → Option (List ℕ) → Type 0
 PartsDenoteCertificate parts None = parts ≡ []
 PartsDenoteCertificate parts (Some text) =
     parts ≡ (record { name = part_name certificate_slot; bytes = text }) ∷ []
 
--- The parts are `topology`, those of the routers, those of the LANs, and that of the certificate.
+-- The parts denote the input and the certificate: `topology`, those of the routers, those of the LANs, and
+-- that of the certificate.
 pub record PartsDenoteInput (parts : List PartText) (input : InputValue)
     (certificate : Option (List ℕ)) : Type 0 where
   pub topology : List ℕ
@@ -66,14 +67,14 @@ pub record PartsDenoteInput (parts : List PartText) (input : InputValue)
   pub reports : PartsDenoteReports input.topology.lans of_lans input.reports last
   pub certificate_denoted : PartsDenoteCertificate last certificate
 
--- a bundle of such parts
+-- the text is a bundle of parts that denote the input and the certificate
 pub record DenotesInput (text : List ℕ) (input : InputValue) (certificate : Option (List ℕ)) : Type 0
   where
     pub parts : List PartText
     pub bundle : IsBundle text parts
     pub parts_denote : PartsDenoteInput parts input certificate
 
--- the parts of a bundle, and a certificate as one part more
+-- the parts, and one more with this text of a certificate
 abbrev pub with_certificate : List PartText → List ℕ → List PartText
 with_certificate parts text =
     parts ++ (record { name = part_name certificate_slot; bytes = text }) ∷ []

@@ -1,6 +1,5 @@
--- What a bundle is read as, or why it is refused. The bundle's framing is judged first, then the
--- name of the first part, the topology, the names and the number of all parts, and their contents
--- in their order.
+-- The input that a bundle is read as, or the first fault: of the framing of the bundle, of the name of the
+-- first part, of the topology, of the names and the number of all parts, and of their contents in order.
 use Rattle.std.specs.Prelude.{◌≡◌, ℕ, ◌+◌, Bool, true, false, List, [], length, slice_get, unwrap_or}
 use Rattle.std.specs.Prelude.{Option, Some, None, Result, Ok, Err, if◌then◌else◌}
 use Rattle.std.specs.Str.{bytes_eq}
@@ -20,11 +19,11 @@ use Rattle.mc_input.specs.declared.fault.InputFault.TheVariants.{Bundle, Parts, 
 abbrev pub IsMemory : InputFault → Type 0
 IsMemory fault = fault ≡ Memory
 
--- what a call answers, seen by view, unless memory runs out
+-- the answer of a call, seen through a view, is this one, unless memory runs out
 abbrev pub Gives : {X Y : Type 0} → (X → Y) → Result X InputFault → Result Y InputFault → Type 0
 Gives = Steps.Gives IsMemory
 
--- the part, if there is one and it has this name; else its number, counted from 1, is told
+-- the part, if there is one and it has this name; else a fault at its place, counted from 1
 abbrev pub named : Option PartText → (name : List ℕ) → (n : ℕ) → Result PartText InputFault
 named None name n = Err (Parts (n + 1))
 named (Some part) name n = if bytes_eq part.name name then Ok part else Err (Parts (n + 1))
@@ -33,25 +32,26 @@ named (Some part) name n = if bytes_eq part.name name then Ok part else Err (Par
 abbrev pub part_with_slot_name : List PartText → ℕ → Slot → Result PartText InputFault
 part_with_slot_name parts n slot = named (slice_get parts n) (part_name slot) n
 
--- the number of a part that does not belong to the domain is told, counted from 1
+-- the fault of a part that isn't the domain's, at its place, counted from 1
 abbrev pub part_name_fault : Option ℕ → Result (Unit {0}) InputFault
 part_name_fault None = Ok tt
 part_name_fault (Some n) = Err (Parts (n + 1))
 
--- the names and the number of all parts
+-- the parts have the names of the domain's slots and their number
 abbrev pub check_part_names : (certified : Bool) → List PartText → TopologyValue
     → Result (Unit {0}) InputFault
 check_part_names certified parts t = part_name_fault (first_part_mismatch certified t parts)
 
 -- the input of the parts
 abbrev pub input_of_parts : Bool → List PartText → Result InputValue InputFault
-input_of_parts certified parts = read_input (λ fault. fault) (part_with_slot_name parts) (check_part_names certified parts)
+input_of_parts certified parts =
+    read_input (λ fault. fault) (part_with_slot_name parts) (check_part_names certified parts)
 
--- The part with a number. Past the last one stands a part without a name.
+-- the part with a number, or past the last one a part with no name
 abbrev pub part_at : List PartText → ℕ → PartText
 part_at parts n = unwrap_or (slice_get parts n) (record { name = []; bytes = [] })
 
--- the text of the certificate, where one is to be there: the part behind those of the other slots
+-- the text of the certificate, if there is to be one, from the part behind those of the other slots
 abbrev pub certificate_in : Bool → List PartText → TopologyValue → Option (List ℕ)
 certificate_in true parts t = Some (part_at parts (length (slots false t))).bytes
 certificate_in false parts t = None

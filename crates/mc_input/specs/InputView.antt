@@ -1,4 +1,4 @@
--- What was read of a bundle or of files, as the value that it stands for.
+-- Views of what was read of a bundle or of files.
 use Rattle.std.specs.Prelude.{ℕ, List, Option, Vec, option_map}
 use Rattle.std.specs.declared.alloc.Global.{Global}
 use Rattle.mc_igmp.specs.declared.record.Record.{Record}

@@ -6,11 +6,14 @@ pub mod PartsOneByOne
 pub mod PartsReading
 pub mod RefusedFiles
 pub mod SourceFault
+pub mod Feeding
 pub mod FilesInput
+pub mod FilesKept
 pub mod FilesReading
 pub mod ExcludedRouters
 pub mod SummariesOfFiles
 pub mod Meaning
+pub mod ReadAsMeant
 pub use Rattle.mc_text.specs.Bundle
 pub use Rattle.mc_text.specs.BundleReading
 pub use Rattle.mc_files.specs.Files

@@ -1,4 +1,4 @@
--- What a bundle, or a folder's files, mean: a domain; and what is said of it.
+-- The domain that a bundle or a folder's files mean.
 use Rattle.std.specs.Prelude.{ℕ, List, Option, None}
 use Rattle.mc_files.specs.Files.{FileText}
 use Rattle.mc_forward.specs.Assembling.{IsAssembled}
@@ -7,7 +7,7 @@ use Rattle.mc_forward.specs.ListedTables.{HaveSameFacts}
 use Rattle.mc_input.specs.FilesInput.{FilesDenoteInput}
 use Rattle.mc_input.specs.Input.{InputValue, DenotesInput}
 
--- It stands for an input, and the domain is put together of that.
+-- It denotes an input, and the domain is assembled of that.
 pub record Means {X : Type 0} (Denotes : X → InputValue → Type 0) (x : X) (d : DomainValue) : Type 0
   where
     pub input : InputValue
@@ -15,35 +15,34 @@ pub record Means {X : Type 0} (Denotes : X → InputValue → Type 0) (x : X) (d
     pub assembled : IsAssembled input.topology input.tables input.reports d
     pub rules : IsDomain d
 
--- the bundle's parts tell the domain, and this is the text of its certificate, where one is to be
--- there
+-- the bundle means the domain, and has this text of a certificate or none
 abbrev pub MeansDomain : List ℕ → (certificate : Option (List ℕ)) → DomainValue → Type 0
 MeansDomain text certificate d = Means (λ t input. DenotesInput t input certificate) text d
 
--- the same, where there is to be none
+-- the bundle means the domain, and has no certificate
 abbrev pub MeansUncertifiedDomain : List ℕ → DomainValue → Type 0
 MeansUncertifiedDomain text d = MeansDomain text None d
 
--- the files tell the domain
+-- the files mean the domain
 abbrev pub FilesMeanDomain : List FileText → DomainValue → Type 0
 FilesMeanDomain = Means FilesDenoteInput
 
--- It means a domain that says of each flow what this one says.
+-- It means a domain that has the same facts per flow as this one.
 pub record MeansSamePerFlow {X : Type 0} (Means : X → DomainValue → Type 0) (x : X) (d : DomainValue)
     : Type 0 where
   pub whole : DomainValue
   pub means : Means x whole
   pub same : HaveSameFacts whole d
 
--- the same of a bundle,
+-- the bundle, with this text of a certificate or none, means a domain with the same facts per flow
 abbrev pub MeansDomainAsListed : List ℕ → (certificate : Option (List ℕ)) → DomainValue → Type 0
 MeansDomainAsListed text certificate d = MeansSamePerFlow (λ t e. MeansDomain t certificate e) text d
 
--- and of files
+-- the files mean a domain with the same facts per flow
 abbrev pub FilesMeanDomainAsListed : List FileText → DomainValue → Type 0
 FilesMeanDomainAsListed = MeansSamePerFlow FilesMeanDomain
 
--- It means a domain, of which this holds.
+-- It means a domain for which the property holds.
 pub record MeansDomainWhere {X D : Type 0} (Means : X → D → Type 0) (Holds : D → Type 0) (x : X) : Type 0
   where
     pub domain : D

@@ -1,6 +1,5 @@
--- What the parts of a domain are read as, whatever gives them, or the first reason why they are
--- refused: the topology is judged first, then which parts there are, and then in the order of the
--- slots what each tells.
+-- The input that the parts of a domain are read as, whatever their source, or the first fault: of the
+-- topology, of which parts there are, and then of the parts' contents in the order of the slots.
 use Rattle.std.specs.Prelude.{Bool, ℕ, ◌+◌, ◌*◌, List, [], ◌∷◌, length, Result, Ok}
 use Rattle.std.specs.FinMap.{FinMap}
 use Rattle.std.specs.Ordering.{nat_cmp}
@@ -26,34 +25,35 @@ use Rattle.mc_input.specs.declared.fault.InputFault.TheVariants.{Topology, Vif, 
 
 -- ---- one part
 
--- the topology, in a part
+-- the topology in a part
 abbrev pub topology_of : PartText → Result TopologyValue InputFault
 topology_of part = map_fault Topology (parse_topology part.bytes)
 
--- the vifs of a router
+-- the vifs of a router in a part
 abbrev pub vifs_of : PartText → Result (FinMap nat_cmp VifValue) InputFault
 vifs_of part = map_fault (Vif part.name) (vifs_in part.bytes)
 
--- the forwarding cache of a router
+-- the forwarding cache of a router in a part
 abbrev pub cache_of : Order → PartText → Result CacheValue InputFault
 cache_of order part = map_fault (Cache part.name) (cache_in order part.bytes)
 
--- the entries of these sources and groups, and what is noted of all rows for them
-abbrev pub summary_of_part : (all : Bool) → Order → List (ℕ × ℕ) → PartText → Result SummarizedCache InputFault
+-- the entries of these sources and groups in a part, and the summary of all rows beside them
+abbrev pub summary_of_part : (all : Bool) → Order → List (ℕ × ℕ) → PartText
+    → Result SummarizedCache InputFault
 summary_of_part all order pairs part = map_fault (Cache part.name) (summary_in all order pairs part.bytes)
 
--- the records of a LAN's reports
+-- the records of a LAN's reports in a part
 abbrev pub reports_of : PartText → Result (List Record) InputFault
 reports_of part = map_fault (Reports part.name) (read_list part.bytes)
 
--- what is read of the part that is given, with its fault as the caller's
+-- the result of reading a part that may have failed to come, with the fault as the caller's
 abbrev pub read_part : {X F : Type 0} → (InputFault → F) → Result PartText F
     → (PartText → Result X InputFault) → Result X F
 read_part as_ours given read = given >>= λ part. map_fault as_ours (read part)
 
--- ---- all parts, each as a source gives it by the number and the names of its slot
+-- ---- all parts, each given by a source for its slot and the slot's number
 
--- the tables of a router with this name and byte order, whose slots have a number and the next
+-- the tables of a router with this name and byte order, whose slots have the numbers n and n + 1
 unfoldable pub router_tables : {F : Type 0} → (InputFault → F) → (ℕ → Slot → Result PartText F)
     → ℕ → (name : List ℕ) → Order → Result TablesValue F
 router_tables as_ours source n name order =
@@ -61,7 +61,7 @@ router_tables as_ours source n name order =
     >>= λ vifs. read_part as_ours (source (n + 1) (cache_slot name)) (cache_of order)
     >>= λ entries. Ok (record { vifs = vifs; cache = entries })
 
--- the tables of routers, whose slots have the numbers from one on
+-- the tables of routers, whose slots have the numbers from n on
 unfoldable pub all_tables : {F : Type 0} → (InputFault → F) → (ℕ → Slot → Result PartText F)
     → ℕ → List RouterRow → Result (List TablesValue) F
 all_tables as_ours source n [] = Ok []
@@ -70,7 +70,7 @@ all_tables as_ours source n (r ∷ rs) =
     >>= λ tables. all_tables as_ours source (n + 2) rs
     >>= λ others. Ok (tables ∷ others)
 
--- the records of the reports of LANs, whose slots have the numbers from one on
+-- the records of the reports of LANs, whose slots have the numbers from n on
 unfoldable pub all_reports : {F : Type 0} → (InputFault → F) → (ℕ → Slot → Result PartText F)
     → ℕ → List (List ℕ) → Result (List (List Record)) F
 all_reports as_ours source n [] = Ok []
@@ -83,7 +83,7 @@ all_reports as_ours source n (lan ∷ lans) =
 abbrev pub first_lan_number : TopologyValue → ℕ
 first_lan_number t = 1 + 2 * length t.routers
 
--- what is told beside the topology
+-- the input of this topology, with the tables and reports from the source
 unfoldable pub read_tables_and_reports : {F : Type 0} → (InputFault → F) → (ℕ → Slot → Result PartText F)
     → TopologyValue → Result InputValue F
 read_tables_and_reports as_ours source t =
@@ -91,8 +91,8 @@ read_tables_and_reports as_ours source t =
     >>= λ tables. all_reports as_ours source (first_lan_number t) t.lans
     >>= λ reports. Ok (record { topology = t; tables = tables; reports = reports })
 
--- The input: with a part's fault as the caller's, what gives the part of a slot, and what judges,
--- once the topology is known, which parts there are.
+-- The input, where `source` gives the part of a slot, `judge` checks with the topology which parts there
+-- are, and `as_ours` makes a part's fault the caller's.
 unfoldable pub read_input : {F : Type 0} → (InputFault → F) → (ℕ → Slot → Result PartText F)
     → (TopologyValue → Result (Unit {0}) F) → Result InputValue F
 read_input as_ours source judge =

@@ -1,5 +1,5 @@
--- Why the parts of a bundle, or a folder's files, tell no domain, and which faults say nothing of
--- them.
+-- Faults of reading a domain from a bundle or a folder: those of lower readers as these, and which ones say
+-- nothing of the texts.
 use Rattle.std.specs.Prelude.{◌≡◌, ◌⊎◌, Bool, true, false, List, Option, Result}
 use Rattle.mc_text.specs.Steps as Steps
 use Rattle.mc_text.specs.declared.bundle.bundle_fault.BundleFault.{BundleFault}
@@ -12,27 +12,27 @@ use Rattle.mc_input.specs.declared.fault.InputFault.TheVariants.{Bundle, Memory,
 use Rattle.mc_input.specs.declared.source_fault.SourceFault.{SourceFault}
 use Rattle.mc_input.specs.declared.source_fault.SourceFault.TheVariants.{Input, Read}
 
--- the fault of a source of files, of which one that is too large is told of the bundle,
+-- the fault of a source of files, where a too large file counts as a too large bundle
 abbrev pub from_file_fault : FileFault → SourceFault
 from_file_fault file.Failed = Read
 from_file_fault file.TooLarge = Input (Bundle bundle.TooLarge)
 from_file_fault file.Memory = Input Memory
 
--- and that of a bundle's parts
+-- the fault of a bundle
 abbrev pub from_bundle_fault : BundleFault → SourceFault
 from_bundle_fault bundle.Read = Read
 from_bundle_fault bundle.Memory = Input Memory
 from_bundle_fault fault = Input (Bundle fault)
 
--- that the source failed or memory ran out says nothing of what it gives
+-- the source failed or memory ran out, which says nothing of the texts
 abbrev pub IsReadOrMemory : SourceFault → Type 0
 IsReadOrMemory fault = (fault ≡ Read) ⊎ (fault ≡ Input Memory)
 
--- what a call answers, seen by view, unless the source fails or memory runs out
+-- the answer of a call, seen through a view, is this one, unless the source fails or memory runs out
 abbrev pub Gives : {X Y : Type 0} → (X → Y) → Result X SourceFault → Result Y SourceFault → Type 0
 Gives = Steps.Gives IsReadOrMemory
 
--- the same of what the files give that a source tells
+-- the same for the answer of the source's contents, if those are known
 abbrev pub GivesFromContents : {X Y : Type 0} → Option (List FileText) → (X → Y) → Result X SourceFault
     → (List FileText → Result Y SourceFault) → Type 0
 GivesFromContents = Files.GivesFromContents IsReadOrMemory
@@ -42,8 +42,8 @@ abbrev pub is_read : SourceFault → Bool
 is_read Read = true
 is_read fault = false
 
--- A folder's files can have it: it is no fault of a bundle's framing, but that something is too large
--- for a part, and none of the parts' names.
+-- A folder's files can have this fault: it is no fault of a bundle's framing but `TooLarge`, and no fault
+-- of the parts' names.
 abbrev pub is_possible_for_files : SourceFault → Bool
 is_possible_for_files (Input (Bundle bundle.TooLarge)) = true
 is_possible_for_files (Input (Bundle fault)) = false

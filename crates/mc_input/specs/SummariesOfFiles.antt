@@ -1,4 +1,4 @@
--- What is noted of the caches in a folder's files, by the rows that stand there.
+-- The summaries of the caches in a folder's files.
 use Rattle.std.specs.Prelude.{◌≡◌, Bool, List, length, Ok}
 use Rattle.mc_text.specs.Bundle.{PartText}
 use Rattle.mc_tables.specs.CacheReading.{cache_rows_in}
@@ -13,8 +13,8 @@ use Rattle.mc_files.specs.Layout.{cache_slot}
 use Rattle.mc_forward.specs.Assembling.{RelatedAtEachIndex}
 use Rattle.mc_forward.specs.ListedTables.{flow_pairs}
 
--- What is noted, for these flows, of the rows in the router's file `cache-<router>`, whose addresses
--- stand in the byte order of the router; and whether all pairs that no flow has are told.
+-- The summary, for these flows, of the rows in the router's file `cache-<router>`, whose addresses are in
+-- the router's byte order. With `all` it holds all pairs that no flow has, else the lowest ones.
 pub record IsSummaryOf (all : Bool) (files : List FileText) (flows : List Flow) (r : RouterRow)
     (summary : SummaryValue) : Type 0 where
   pub part : PartText
@@ -23,7 +23,7 @@ pub record IsSummaryOf (all : Bool) (files : List FileText) (flows : List Flow) 
   pub read : cache_rows_in r.order part.bytes ≡ Ok rows
   pub summarized : summary ≡ summary_of all (flow_pairs flows) rows
 
--- Each router has its notes, the first router the first ones.
+-- One summary for each router, in the topology's order.
 pub record AreSummariesOf (all : Bool) (files : List FileText) (t : TopologyValue)
     (summary : List SummaryValue) : Type 0 where
   pub count : length summary ≡ length t.routers

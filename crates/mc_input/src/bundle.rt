@@ -1,6 +1,6 @@
-//! What the parts of a bundle tell of a domain, each read as it comes and let go.
+//! Reads the contents of a bundle's parts, one after another. No part's text is kept.
 
-ghost use Rattle.std.specs.Prelude.{◌≡◌, ◌<◌, ◌+◌, ◌*◌, ℕ, List, [], Some, Ok, IfOk, IfErr, drop, length};
+ghost use Rattle.std.specs.Prelude.{◌≡◌, ◌<◌, ◌+◌, ◌*◌, ℕ, List, Some, IfOk, IfErr, length};
 ghost use Rattle.std.specs.Prelude.{is_some};
 ghost use Rattle.mc_text.specs.Device.{failures_after};
 ghost use Rattle.mc_text.specs.RestOfBundle.{Advances};
@@ -8,11 +8,11 @@ ghost use Rattle.mc_forward.specs.Assembling.{AreAnswers};
 ghost use Rattle.mc_forward.specs.Domains.{TablesValue};
 ghost use Rattle.mc_input.specs.Input.{InputValue};
 ghost use Rattle.mc_input.specs.InputView.{certificate_text};
-ghost use Rattle.mc_input.specs.Kept.{AreFlowPairs, AreListedContents};
-ghost use Rattle.mc_input.specs.PartsOneByOne.{IsFaultOf, ReadsAllTables, ReadsReports, ReadsTables};
-ghost use Rattle.mc_input.specs.PartsOneByOne.{read_rest, check_names_then, certificate_number, finish_with_certificate, finish_with_reports};
-ghost use Rattle.mc_input.specs.PartsOneByOne.{finish_with_tables};
-ghost use Rattle.mc_input.specs.PartsReading.{first_lan_number};
+ghost use Rattle.mc_input.specs.Kept.{AreFlowPairs};
+ghost use Rattle.mc_input.specs.PartsOneByOne.{IsFaultOf, ReadsAllTables, ReadsCertificate};
+ghost use Rattle.mc_input.specs.PartsOneByOne.{ReadsContents, ReadsReports};
+ghost use Rattle.mc_input.specs.PartsOneByOne.{ReadsTables, read_after_topology, read_from_certificate};
+ghost use Rattle.mc_input.specs.PartsOneByOne.{read_from_reports, read_from_router};
 ghost use Rattle.mc_input.specs.SourceFault.{is_read};
 
 use crate::bundle_part::{cache_in, certificate_in, vifs_in, wanted_in};
@@ -29,15 +29,15 @@ use std::alloc::Global;
 /// What is kept of the parts after the topology.
 #[derive(Drop)]
 pub(crate) struct BundleContents {
-    /// Of each router the vifs, and of its cache what it says of the flows.
+    /// Each router's vifs, and the rows of its cache for the flows.
     pub(crate) tables: Vec<Tables>,
     /// For each LAN, which flows it wants.
     pub(crate) wants: Vec<Items<bool>>,
-    /// The text of the certificate, where one was to be there.
+    /// The text of the certificate, if one was asked for.
     pub(crate) certificate: Option<Vec<u8>>,
 }
 
-/// Both tables of a router, in the parts of two slots.
+/// Reads both tables of a router from the next two parts.
 fn tables_of<R: Input>(
     alloc: Global,
     parts: &mut Parts<R>,
@@ -49,14 +49,13 @@ fn tables_of<R: Input>(
 ) -> Result<Tables, SourceFault>
     requires listed { AreFlowPairs topology.now.flows listed.now }
     requires router { router < length topology.now.routers }
-    requires few { 2 + 2 * router < u32.MAX }
+    requires below_max { 2 + 2 * router < u32.MAX }
     requires room { 0 < length buffer.old }
     requires failures { parts.old.failed < u64.MAX }
     ensures tables { IfOk result
         (ReadsTables parts.old parts.new certified topology.now router) }
     ensures fault { (before : List TablesValue) → IfErr result (IsFaultOf parts.old
-        (check_names_then certified topology.now (1 + 2 * router)
-        (finish_with_tables certified topology.now before (drop router topology.now.routers)))) }
+        (read_from_router certified topology.now router before)) }
     ensures advances { Advances parts.old parts.new }
     ensures failures { parts.new.failed ≡ failures_after is_read result parts.old.failed }
 {
@@ -68,7 +67,7 @@ fn tables_of<R: Input>(
     Ok(Tables { vifs, cache })
 }
 
-/// The tables of each router.
+/// Reads the tables of each router.
 fn read_tables<R: Input>(
     alloc: Global,
     parts: &mut Parts<R>,
@@ -81,8 +80,7 @@ fn read_tables<R: Input>(
     ensures tables { IfOk result (λ tables. (text : List ℕ) → parts.old.remaining ≡ Some text →
         ReadsAllTables parts.old text parts.new certified topology.now tables.items) }
     ensures count { IfOk result (λ tables. length tables.items ≡ length topology.now.routers) }
-    ensures fault { IfErr result (IsFaultOf parts.old
-        (check_names_then certified topology.now 1 (finish_with_tables certified topology.now [] topology.now.routers))) }
+    ensures fault { IfErr result (IsFaultOf parts.old (read_after_topology certified topology.now)) }
     ensures advances { Advances parts.old parts.new }
     ensures failures { parts.new.failed ≡ failures_after is_read result parts.old.failed }
 {
@@ -94,7 +92,7 @@ fn read_tables<R: Input>(
     Ok(tables)
 }
 
-/// Which flows each LAN wants.
+/// Reads which flows each LAN wants.
 fn read_wants<R: Input>(
     alloc: Global,
     parts: &mut Parts<R>,
@@ -109,8 +107,7 @@ fn read_wants<R: Input>(
         ReadsReports parts.old text parts.new certified topology.now tables wants.items) }
     ensures answers { IfOk result (λ wants. AreAnswers topology.now wants.items) }
     ensures fault { (tables : List TablesValue) → IfErr result (IsFaultOf parts.old
-        (check_names_then certified topology.now (first_lan_number topology.now)
-        (finish_with_reports certified topology.now tables [] topology.now.lans))) }
+        (read_from_reports certified topology.now tables)) }
     ensures advances { Advances parts.old parts.new }
     ensures failures { parts.new.failed ≡ failures_after is_read result parts.old.failed }
 {
@@ -131,7 +128,7 @@ fn read_wants<R: Input>(
     Ok(wants)
 }
 
-/// The text of the certificate where one is to be there, after which no part may come.
+/// Reads the text of the certificate if `certified`. No part may come after it.
 fn read_certificate_and_end<R: Input>(
     alloc: Global,
     parts: &mut Parts<R>,
@@ -141,14 +138,11 @@ fn read_certificate_and_end<R: Input>(
 ) -> Result<Option<Vec<u8>>, SourceFault>
     requires room { 0 < length buffer.old }
     requires failures { parts.old.failed < u64.MAX }
-    ensures last { IfOk result (λ text. (before : List ℕ) (input : InputValue) →
-        parts.old.remaining ≡ Some before →
-        read_rest parts.old before (check_names_then certified topology.now (certificate_number topology.now)
-        (finish_with_certificate certified input)) ≡ Ok (input, certificate_text text)) }
+    ensures certificate { IfOk result (λ text.
+        ReadsCertificate parts.old certified topology.now (certificate_text text)) }
     ensures certified { IfOk result (λ text. is_some text ≡ certified) }
     ensures fault { (input : InputValue) → IfErr result (IsFaultOf parts.old
-        (check_names_then certified topology.now (certificate_number topology.now)
-        (finish_with_certificate certified input))) }
+        (read_from_certificate certified topology.now input)) }
     ensures advances { Advances parts.old parts.new }
     ensures failures { parts.new.failed ≡ failures_after is_read result parts.old.failed }
 {
@@ -162,8 +156,8 @@ fn read_certificate_and_end<R: Input>(
     Ok(Some(text))
 }
 
-/// What the parts after the topology tell, of which the rows of listed flows are kept, and which
-/// LAN wants which flow.
+/// Reads the parts after the topology: the rows of listed flows, which LAN wants which flow, and the
+/// certificate if `certified`.
 pub(crate) fn read_contents<R: Input>(
     alloc: Global,
     parts: &mut Parts<R>,
@@ -173,16 +167,12 @@ pub(crate) fn read_contents<R: Input>(
 ) -> Result<BundleContents, SourceFault>
     requires room { 0 < length buffer.old }
     requires failures { parts.old.failed < u64.MAX }
-    ensures read { IfOk result (λ listed. (text : List ℕ) → parts.old.remaining ≡ Some text →
-        (input : InputValue) × AreListedContents input topology.now listed.tables.items listed.wants.items
-        × (read_rest parts.old text (check_names_then certified topology.now 1
-        (finish_with_tables certified topology.now [] topology.now.routers))
-        ≡ Ok (input, certificate_text listed.certificate))) }
+    ensures read { IfOk result (λ listed. ReadsContents parts.old certified topology.now
+        listed.tables.items listed.wants.items (certificate_text listed.certificate)) }
     ensures count { IfOk result (λ listed. length listed.tables.items ≡ length topology.now.routers) }
     ensures answers { IfOk result (λ listed. AreAnswers topology.now listed.wants.items) }
     ensures certified { IfOk result (λ listed. is_some listed.certificate ≡ certified) }
-    ensures fault { IfErr result (IsFaultOf parts.old
-        (check_names_then certified topology.now 1 (finish_with_tables certified topology.now [] topology.now.routers))) }
+    ensures fault { IfErr result (IsFaultOf parts.old (read_after_topology certified topology.now)) }
     ensures advances { Advances parts.old parts.new }
     ensures failures { parts.new.failed ≡ failures_after is_read result parts.old.failed }
 {

@@ -1,25 +1,23 @@
-//! One part of a bundle, which has to have the name of its slot, and what is kept of what it tells.
+//! Reads one part of a bundle, which has to have the name of its slot.
 
-ghost use Rattle.std.specs.Prelude.{◌≡◌, ◌≢◌, ◌<◌, ◌≤◌, ℕ, List, Some, Ok, Err, IfOk, IfErr};
+ghost use Rattle.std.specs.Prelude.{◌≡◌, ◌<◌, ◌≤◌, ℕ, List, Some, Ok, IfOk, IfErr};
 ghost use Rattle.std.specs.Prelude.{drop, length, Result};
 ghost use Rattle.mc_text.specs.Bundle.{PartText};
 ghost use Rattle.mc_text.specs.Device.{failures_after};
 ghost use Rattle.mc_text.specs.RestOfBundle.{Advances, ReadsPart};
-ghost use Rattle.mc_text.specs.Steps.{map_fault};
 ghost use Rattle.mc_tables.specs.ListedRows.{IsListedPart};
-ghost use Rattle.mc_tables.specs.RowsSoFar.{cache_if, cache_start};
-ghost use Rattle.mc_text.specs.Lines.{max_text};
+ghost use Rattle.mc_tables.specs.RowsSoFar.{cache_start};
 ghost use Rattle.mc_files.specs.Layout.{part_name, slots, topology_slot};
 ghost use Rattle.mc_forward.specs.Assembling.{AreChannelsWanted};
 ghost use Rattle.mc_forward.specs.ListedTables.{flow_pairs};
-ghost use Rattle.mc_input.specs.PartsOneByOne.{HasNameOfSlot, IsPartResult, IsFaultOf, KeepsOfPart, read_rest, check_names_then, check_names_from};
-ghost use Rattle.mc_input.specs.PartsOneByOne.{read_first_part, read_first_topology};
+ghost use Rattle.mc_input.specs.Kept.{AreWantsOf};
+ghost use Rattle.mc_input.specs.PartsOneByOne.{HasNameOfSlot, IsFaultAfterNames, IsFaultOf, KeepsOfPart};
+ghost use Rattle.mc_input.specs.PartsOneByOne.{ReadsCachePart, ReadsPartResult, check_names_from};
+ghost use Rattle.mc_input.specs.PartsOneByOne.{check_names_then, read_first_part, read_first_topology};
 ghost use Rattle.mc_input.specs.PartsReading.{cache_of as cache_reading, reports_of as reports_reading};
 ghost use Rattle.mc_input.specs.PartsReading.{topology_of as topology_reading, vifs_of as vifs_reading};
-ghost use Rattle.mc_input.specs.SourceFault.{IsReadOrMemory, is_read};
-ghost use Rattle.mc_input.specs.declared.fault.InputFault.{InputFault as FaultOfInput};
-ghost use Rattle.mc_input.specs.declared.fault.InputFault.TheVariants.{Cache as RefusedCache};
-ghost use Rattle.mc_input.specs.declared.source_fault.SourceFault.TheVariants.{Input as refused};
+ghost use Rattle.mc_input.specs.SourceFault.{is_read};
+ghost use Rattle.mc_input.specs.declared.fault.InputFault.{InputFault as Fault};
 
 use crate::fault::InputFault;
 use crate::fed_part::feed_slot;
@@ -34,8 +32,8 @@ use mc_text::{Input, Part, Parts, collect_part};
 use mc_topology::Topology;
 use std::alloc::Global;
 
-/// What is kept of a part, or why it is refused: its fault is held back until all parts that come
-/// have the names of the slots from a number on.
+/// The value read from a part, or its fault. Before a fault is answered, the names of all further
+/// parts are checked against the slots from a number on: a wrong name is the earlier fault.
 fn fault_after_names<R: Input, K: Drop>(
     parts: &mut Parts<R>,
     topology: &Topology,
@@ -46,13 +44,10 @@ fn fault_after_names<R: Input, K: Drop>(
     requires within { number ≤ length (slots certified topology.now) }
     requires failures { parts.old.failed < u64.MAX }
     ensures kept { IfOk result (λ kept. (part_result ≡ Ok kept) × (parts.new ≡ parts.old)) }
-    // What is to come is refused for its framing or for a name, or for this fault.
-    ensures fault { (text : List ℕ) (read : List PartText → Result (Unit {0}) FaultOfInput) →
-        parts.old.remaining ≡ Some text → IfErr result (λ fault. ¬ IsReadOrMemory fault →
-        (own : FaultOfInput) × (part_result ≡ Err own)
-        × ((own ≢ InputFault.Memory → (others : List PartText) → read others ≡ Err own) →
-        map_fault refused (read_rest parts.old text (check_names_then certified topology.now number read))
-        ≡ Err fault)) }
+    // The rest of the bundle is refused for its framing or for a name, or for this fault.
+    ensures fault { (text : List ℕ) (read : List PartText → Result (Unit {0}) Fault) →
+        parts.old.remaining ≡ Some text → IfErr result
+        (IsFaultAfterNames parts.old certified topology.now number part_result text read) }
     ensures advances { Advances parts.old parts.new }
     ensures failures { parts.new.failed ≡ failures_after is_read result parts.old.failed }
 {
@@ -66,7 +61,7 @@ fn fault_after_names<R: Input, K: Drop>(
     }
 }
 
-/// What the part of a router's vifs tells.
+/// Reads the part of a router's vifs.
 fn read_vifs<R: Input>(
     alloc: Global,
     parts: &mut Parts<R>,
@@ -76,12 +71,11 @@ fn read_vifs<R: Input>(
     number: u32,
 ) -> Result<Result<VifTable, InputFault>, SourceFault>
     requires within { number < length (slots certified topology.now) }
-    requires few { number < u32.MAX }
+    requires below_max { number < u32.MAX }
     requires room { 0 < length buffer.old }
     requires failures { parts.old.failed < u64.MAX }
-    ensures read { IfOk result (λ part_result. ReadsPart parts.old parts.new (λ part.
-        HasNameOfSlot certified topology.now number part.name
-        × IsPartResult (λ kept vifs. kept ≡ vifs) part_result (vifs_reading part))) }
+    ensures read { IfOk result (ReadsPartResult parts.old parts.new certified topology.now number
+        vifs_reading (λ kept vifs. kept ≡ vifs)) }
     ensures fault { IfErr result (IsFaultOf parts.old
         (check_names_from number (drop number (slots certified topology.now)))) }
     ensures advances { Advances parts.old parts.new }
@@ -92,7 +86,7 @@ fn read_vifs<R: Input>(
     Ok(vifs_or_fault(name, reader.finish()))
 }
 
-/// The vifs of a router, in the part of the slot with a number.
+/// Reads a router's vifs from the part of the slot with a number.
 pub(crate) fn vifs_in<R: Input>(
     alloc: Global,
     parts: &mut Parts<R>,
@@ -102,7 +96,7 @@ pub(crate) fn vifs_in<R: Input>(
     number: u32,
 ) -> Result<VifTable, SourceFault>
     requires within { number < length (slots certified topology.now) }
-    requires few { number < u32.MAX }
+    requires below_max { number < u32.MAX }
     requires room { 0 < length buffer.old }
     requires failures { parts.old.failed < u64.MAX }
     ensures vifs { IfOk result (λ kept. KeepsOfPart parts.old parts.new certified topology.now number
@@ -116,7 +110,7 @@ pub(crate) fn vifs_in<R: Input>(
     fault_after_names(parts, topology, certified, number + 1, part_result)
 }
 
-/// What the part of a router's cache tells, of which the rows of these sources and groups are kept.
+/// Reads the part of a router's cache. The reader keeps the rows of listed flows.
 fn read_cache<R: Input>(
     parts: &mut Parts<R>,
     buffer: &mut [u8],
@@ -126,14 +120,12 @@ fn read_cache<R: Input>(
     reader: CacheReader,
 ) -> Result<Result<CacheTable, InputFault>, SourceFault>
     requires within { number < length (slots certified topology.now) }
-    requires few { number < u32.MAX }
+    requires below_max { number < u32.MAX }
     requires room { 0 < length buffer.old }
     requires start { reader.lines.size ≡ 0 }
     requires failures { parts.old.failed < u64.MAX }
-    ensures read { IfOk result (λ part_result. ReadsPart parts.old parts.new (λ part.
-        HasNameOfSlot certified topology.now number part.name × (length part.bytes ≤ max_text)
-        × IsPartResult (λ kept cache. kept ≡ cache) part_result
-        (map_fault (RefusedCache part.name) (cache_if reader part.bytes)))) }
+    ensures read { IfOk result
+        (ReadsCachePart parts.old parts.new certified topology.now number reader) }
     ensures fault { IfErr result (IsFaultOf parts.old
         (check_names_from number (drop number (slots certified topology.now)))) }
     ensures advances { Advances parts.old parts.new }
@@ -144,8 +136,8 @@ fn read_cache<R: Input>(
     Ok(cache_or_fault(name, reader.finish()))
 }
 
-/// The forwarding cache of a router, in the part of the slot with a number, of which this reader
-/// keeps the rows of listed flows.
+/// Reads a router's forwarding cache from the part of the slot with a number. The reader keeps the
+/// rows of listed flows.
 pub(crate) fn cache_in<R: Input>(
     parts: &mut Parts<R>,
     buffer: &mut [u8],
@@ -155,14 +147,15 @@ pub(crate) fn cache_in<R: Input>(
     reader: CacheReader,
 ) -> Result<CacheTable, SourceFault>
     requires within { number < length (slots certified topology.now) }
-    requires few { number < u32.MAX }
+    requires below_max { number < u32.MAX }
     requires room { 0 < length buffer.old }
     requires reader { reader ≡ cache_start reader.rows.order (Some (flow_pairs topology.now.flows)) }
     requires failures { parts.old.failed < u64.MAX }
     ensures cache { IfOk result (λ kept. KeepsOfPart parts.old parts.new certified topology.now number
         (cache_reading reader.rows.order) (IsListedPart (Some (flow_pairs topology.now.flows)) kept)) }
     ensures fault { IfErr result (IsFaultOf parts.old
-        (check_names_then certified topology.now number (read_first_part (cache_reading reader.rows.order)))) }
+        (check_names_then certified topology.now number
+        (read_first_part (cache_reading reader.rows.order)))) }
     ensures advances { Advances parts.old parts.new }
     ensures failures { parts.new.failed ≡ failures_after is_read result parts.old.failed }
 {
@@ -170,7 +163,7 @@ pub(crate) fn cache_in<R: Input>(
     fault_after_names(parts, topology, certified, number + 1, part_result)
 }
 
-/// What the part of a LAN's reports tells: which of these channels they want.
+/// Reads from the part of a LAN's reports which of these channels they want.
 fn read_reports<R: Input>(
     alloc: Global,
     parts: &mut Parts<R>,
@@ -181,13 +174,11 @@ fn read_reports<R: Input>(
     number: u32,
 ) -> Result<Result<Items<bool>, InputFault>, SourceFault>
     requires within { number < length (slots certified topology.now) }
-    requires few { number < u32.MAX }
+    requires below_max { number < u32.MAX }
     requires room { 0 < length buffer.old }
     requires failures { parts.old.failed < u64.MAX }
-    ensures read { IfOk result (λ part_result. ReadsPart parts.old parts.new (λ part.
-        HasNameOfSlot certified topology.now number part.name
-        × IsPartResult (λ wanted records. AreChannelsWanted channels.now records wanted)
-        part_result (reports_reading part))) }
+    ensures read { IfOk result (ReadsPartResult parts.old parts.new certified topology.now number
+        reports_reading (AreWantsOf channels.now)) }
     ensures count { IfOk result (λ part_result. IfOk part_result (λ wanted.
         length wanted ≡ length channels.now)) }
     ensures fault { IfErr result (IsFaultOf parts.old
@@ -200,7 +191,7 @@ fn read_reports<R: Input>(
     Ok(wanted_or_fault(alloc, channels, name, reader.finish()))
 }
 
-/// Which of these channels a LAN wants, by its reports in the part of the slot with a number.
+/// Reads which of these channels a LAN wants from the part of the slot with a number.
 pub(crate) fn wanted_in<R: Input>(
     alloc: Global,
     parts: &mut Parts<R>,
@@ -211,7 +202,7 @@ pub(crate) fn wanted_in<R: Input>(
     number: u32,
 ) -> Result<Items<bool>, SourceFault>
     requires within { number < length (slots certified topology.now) }
-    requires few { number < u32.MAX }
+    requires below_max { number < u32.MAX }
     requires room { 0 < length buffer.old }
     requires failures { parts.old.failed < u64.MAX }
     ensures wanted { IfOk result (λ wanted. KeepsOfPart parts.old parts.new certified topology.now number
@@ -226,7 +217,7 @@ pub(crate) fn wanted_in<R: Input>(
     fault_after_names(parts, topology, certified, number + 1, part_result)
 }
 
-/// The text of the certificate, in the part of the slot with a number.
+/// Reads the text of the certificate from the part of the slot with a number.
 pub(crate) fn certificate_in<R: Input>(
     alloc: Global,
     parts: &mut Parts<R>,
@@ -236,7 +227,7 @@ pub(crate) fn certificate_in<R: Input>(
     number: u32,
 ) -> Result<Vec<u8>, SourceFault>
     requires within { number < length (slots certified topology.now) }
-    requires few { number < u32.MAX }
+    requires below_max { number < u32.MAX }
     requires room { 0 < length buffer.old }
     requires failures { parts.old.failed < u64.MAX }
     ensures text { IfOk result (λ text. ReadsPart parts.old parts.new (λ part.
@@ -250,7 +241,7 @@ pub(crate) fn certificate_in<R: Input>(
     Ok(collect_part(alloc, parts, buffer)?)
 }
 
-/// The topology, in the first part.
+/// Reads the topology from the first part.
 pub(crate) fn topology_in<R: Input>(
     alloc: Global,
     parts: &mut Parts<R>,

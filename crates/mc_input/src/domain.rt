@@ -1,26 +1,25 @@
-//! The domain that a bundle or a folder's files mean, put together of what they tell.
+//! Reads the domain that a bundle or a folder's files mean.
 
-ghost use Rattle.std.specs.Prelude.{◌≡◌, ◌<◌, ℕ, Err, IfErr, IfOk, IfSome, List, MatchResult, Option};
-ghost use Rattle.std.specs.Prelude.{Ok, Some, is_some, length, map, true};
+ghost use Rattle.std.specs.Prelude.{◌≡◌, ◌<◌, ℕ, Err, IfErr, IfOk, IfSome, List, Some, is_some, length};
+ghost use Rattle.std.specs.Prelude.{true};
 ghost use Rattle.mc_text.specs.Bundle.{max_input};
 ghost use Rattle.mc_text.specs.Device.{failures_after};
 ghost use Rattle.mc_text.specs.RestOfBundle.{Advances};
 ghost use Rattle.mc_text.specs.ReadFault.{ConsumesUpTo};
 ghost use Rattle.mc_text.specs.Steps.{map_fault};
-ghost use Rattle.mc_forward.specs.Domains.{DomainValue, IsDomain};
-ghost use Rattle.mc_forward.specs.ListedTables.{HaveSameFacts};
+ghost use Rattle.mc_forward.specs.Domains.{IsDomain};
 ghost use Rattle.mc_files.specs.Files.{FileText};
-ghost use Rattle.mc_input.specs.FilesReading.{input_of_files, part_from_file};
-ghost use Rattle.mc_input.specs.Input.{InputValue};
+ghost use Rattle.mc_input.specs.FilesReading.{input_of_files};
 ghost use Rattle.mc_input.specs.InputReading.{input_of_bundle};
 ghost use Rattle.mc_input.specs.InputView.{certificate_text};
-ghost use Rattle.mc_input.specs.Kept.{IsDomainOf, GivesKeptFromContents};
-ghost use Rattle.mc_input.specs.ExcludedRouters.{AreRouterNames, IsReadOrMemoryWithout, input_of_files_without, is_read_without};
-ghost use Rattle.mc_input.specs.ExcludedRouters.{is_possible_for_files_without, files_with_exclusions};
-ghost use Rattle.mc_input.specs.Meaning.{FilesMeanDomainAsListed, MeansDomain, FilesMeanDomain, MeansDomainAsListed};
+ghost use Rattle.mc_input.specs.Kept.{GivesKeptFromContents, IsDomainOf, IsDomainRead};
+ghost use Rattle.mc_input.specs.ExcludedRouters.{AreRouterNames, IsReadOrMemoryWithout, files_without};
+ghost use Rattle.mc_input.specs.ExcludedRouters.{input_of_files_without, input_of_other_files};
+ghost use Rattle.mc_input.specs.ExcludedRouters.{is_possible_for_files_without, is_read_without, names_of};
+ghost use Rattle.mc_input.specs.Meaning.{FilesMeanDomainAsListed, MeansDomainAsListed};
+ghost use Rattle.mc_input.specs.ReadAsMeant.{AreFilesReadAsMeant, IsBundleReadAsMeant};
 ghost use Rattle.mc_input.specs.SummariesOfFiles.{AreSummariesOf};
 ghost use Rattle.mc_input.specs.PartsOneByOne.{ReadsDomain, IsFaultOf, read_all_parts};
-ghost use Rattle.mc_input.specs.PartsReading.{read_tables_and_reports};
 ghost use Rattle.mc_input.specs.SourceFault.{IsReadOrMemory, is_possible_for_files, is_read};
 ghost use Rattle.mc_input.specs.declared.source_fault.SourceFault.TheVariants.{Input as refused};
 
@@ -41,7 +40,7 @@ use std::alloc::Global;
 /// How many bytes of a part or a file are read at once.
 pub const PIECE: usize = 65_536;
 
-/// A domain, and the text of the certificate where one was asked for.
+/// A domain, and the text of the certificate if one was asked for.
 #[derive(Drop)]
 pub struct BundleDomain {
     /// The domain.
@@ -50,7 +49,7 @@ pub struct BundleDomain {
     pub certificate: Option<Vec<u8>>,
 }
 
-/// The domain that the parts of a bundle tell.
+/// Reads the domain from the parts of a bundle.
 fn read_parts<R: Input>(
     alloc: Global,
     parts: &mut Parts<R>,
@@ -77,7 +76,7 @@ fn read_parts<R: Input>(
     })
 }
 
-/// The domain that an input's bundle means, whose parts are read in pieces through the buffer.
+/// Reads the domain that an input's bundle means, in pieces through the buffer.
 fn read_with_buffer<R: Input>(
     alloc: Global,
     input: &mut R,
@@ -91,11 +90,8 @@ fn read_with_buffer<R: Input>(
         MeansDomainAsListed text (certificate_text read.certificate) read.domain)) }
     ensures certified { IfOk result (λ read. is_some read.certificate ≡ certified) }
     ensures rules { IfOk result (λ read. IsDomain read.domain) }
-    ensures only { (text : List ℕ) (certificate : Option (List ℕ)) (domain : DomainValue) →
-        R.remaining input.old ≡ Some text → is_some certificate ≡ certified →
-        MeansDomain text certificate domain → MatchResult result
-        (λ read. HaveSameFacts domain read.domain × (certificate_text read.certificate ≡ certificate))
-        IsReadOrMemory }
+    ensures only { IsBundleReadAsMeant (R.remaining input.old) certified (λ read. read.domain)
+        (λ read. certificate_text read.certificate) result }
     ensures fault { (text : List ℕ) → R.remaining input.old ≡ Some text → IfErr result (λ fault.
         ¬ IsReadOrMemory fault → map_fault refused (input_of_bundle certified text) ≡ Err fault) }
     ensures consumed { ConsumesUpTo max_input (R.remaining input.old) (R.remaining input.new) }
@@ -109,16 +105,16 @@ fn read_with_buffer<R: Input>(
 
 /// Reads the domain that an input's bundle means: the parts `topology`, `vif/<router>` and
 /// `cache/<router>` for each router, `igmp/<lan>` for each LAN, each in the order of the topology,
-/// and `certificate` where `certified` says that one is to be there. Each part is read as it comes
-/// and let go; of the tables the rows of listed flows are kept. The count of the input's failures
+/// and `certificate` if `certified`. The parts are read in pieces, and no part's text is kept but the
+/// certificate's; of the caches only the rows of listed flows are kept. The input's count of failures
 /// has to be below `u64::MAX`.
 ///
 /// # Errors
 ///
-/// The framing of the whole bundle is judged first, then the name of the first part, the topology,
-/// the names and the number of all parts, and then their contents in their order: reading goes on
-/// to the bundle's end, and the first fault in this order is answered. `Read` where the input
-/// failed, and `Input` with `Memory` where memory ran out, each at once.
+/// The first fault in this order: of the framing of the whole bundle, of the first part's name, of
+/// the topology, of the names and the number of all parts, and of their contents one after another.
+/// So the bundle is read to its end also after a fault. `Read` where the input failed, and `Input`
+/// with `Memory` where memory ran out, each at once.
 pub fn read_bundle_domain<R: Input>(
     alloc: Global,
     input: &mut R,
@@ -126,41 +122,38 @@ pub fn read_bundle_domain<R: Input>(
 ) -> Result<BundleDomain, SourceFault>
     requires failures { R.failed input.old < u64.MAX }
     ensures same { R.borrows input.new ≡ R.borrows input.old }
-    // The bundle means a domain with the certificate, and what was read says the same of each flow.
+    // The bundle means a domain with this certificate, and the result has the same facts per flow.
     ensures means { IfOk result (λ read. IfSome (R.remaining input.old) (λ text.
         MeansDomainAsListed text (certificate_text read.certificate) read.domain)) }
     // It has the text of a certificate exactly where one was asked for.
     ensures certified { IfOk result (λ read. is_some read.certificate ≡ certified) }
     ensures rules { IfOk result (λ read. IsDomain read.domain) }
-    // A bundle that means a domain is read, and as that, unless the input fails or memory runs out.
-    ensures only { (text : List ℕ) (certificate : Option (List ℕ)) (domain : DomainValue) →
-        R.remaining input.old ≡ Some text → is_some certificate ≡ certified →
-        MeansDomain text certificate domain → MatchResult result
-        (λ read. HaveSameFacts domain read.domain × (certificate_text read.certificate ≡ certificate))
-        IsReadOrMemory }
-    // Which fault it is.
+    // A bundle that means a domain is read as that, unless the input fails or memory runs out.
+    ensures only { IsBundleReadAsMeant (R.remaining input.old) certified (λ read. read.domain)
+        (λ read. certificate_text read.certificate) result }
+    // The fault is the one of the definition, unless the input fails or memory runs out.
     ensures fault { (text : List ℕ) → R.remaining input.old ≡ Some text → IfErr result (λ fault.
         ¬ IsReadOrMemory fault → map_fault refused (input_of_bundle certified text) ≡ Err fault) }
-    // No more is read than the greatest bundle and a line, whatever the answer.
+    // At most the size of the largest bundle and a line is read, whatever the answer.
     ensures consumed { ConsumesUpTo max_input (R.remaining input.old) (R.remaining input.new) }
-    // Read comes only where the input's failures rose in the call.
+    // `Read` is answered only where the input's count of failures rose in the call.
     ensures failures { R.failed input.new ≡ failures_after is_read result (R.failed input.old) }
 {
     let mut buffer = Vec::from_elem(alloc, 0u8, PIECE)?;
     read_with_buffer(alloc, input, &mut buffer, certified)
 }
 
-/// A domain, and what is noted of each router's cache, the first router's first.
+/// A domain, and a summary of each router's cache.
 #[derive(Drop)]
 pub struct FolderDomain {
     /// The domain.
     pub domain: Domain,
-    /// The notes of each router's cache.
+    /// The summary of each router's cache, in the order of the topology.
     pub summary: Vec<CacheSummary>,
 }
 
-/// The domain of this topology that the other files tell, which are read in pieces through the buffer,
-/// with some routers left out, and what is noted of the caches.
+/// Reads the files after the topology's, in pieces through the buffer, as the domain of this topology
+/// with some routers excluded, and the summaries of the caches.
 fn read_rest_with_buffer<F: PieceSource>(
     alloc: Global,
     files: &mut F,
@@ -174,13 +167,11 @@ fn read_rest_with_buffer<F: PieceSource>(
     ensures same { F.borrows files.new ≡ F.borrows files.old }
     ensures kept { F.contents files.new ≡ F.contents files.old }
     ensures domain { GivesKeptFromContents (F.contents files.old) (λ read. IsDomainOf read.domain) result
-        (λ contents. read_tables_and_reports refused
-        (part_from_file (files_with_exclusions (map (λ n. n.now) without.now) contents)) topology) }
+        (input_of_other_files topology (names_of without.now)) }
     ensures topology { IfOk result (λ read. read.domain.topology ≡ topology) }
     ensures rules { IfOk result (λ read. IsDomain read.domain) }
     ensures summary { (contents : List FileText) → F.contents files.old ≡ Some contents → IfOk result (λ read.
-        AreSummariesOf all (files_with_exclusions (map (λ n. n.now) without.now) contents)
-        read.domain.topology read.summary.items) }
+        AreSummariesOf all (files_without without.now contents) read.domain.topology read.summary.items) }
     ensures faults { IfErr result (λ fault. is_possible_for_files fault ≡ true) }
     ensures failures { F.failed files.new ≡ failures_after is_read result (F.failed files.old) }
 {
@@ -190,7 +181,7 @@ fn read_rest_with_buffer<F: PieceSource>(
     Ok(FolderDomain { domain, summary })
 }
 
-/// The domain that files tell with some routers left out, and what is noted of the caches.
+/// Reads the domain that files mean with some routers excluded, and the summaries of the caches.
 fn read_files_with_buffer<F: PieceSource>(
     alloc: Global,
     files: &mut F,
@@ -203,16 +194,14 @@ fn read_files_with_buffer<F: PieceSource>(
     ensures same { F.borrows files.new ≡ F.borrows files.old }
     ensures kept { F.contents files.new ≡ F.contents files.old }
     ensures domain { (contents : List FileText) → F.contents files.old ≡ Some contents → IfOk result (λ read.
-        (input : InputValue) × IsDomainOf read.domain input
-        × (input_of_files (files_with_exclusions (map (λ n. n.now) without.now) contents) ≡ Ok input)) }
-    ensures routers { IfOk result (λ read.
-        AreRouterNames read.domain.topology (map (λ n. n.now) without.now)) }
+        IsDomainRead (input_of_files (files_without without.now contents)) read.domain) }
+    ensures routers { IfOk result (λ read. AreRouterNames read.domain.topology (names_of without.now)) }
     ensures rules { IfOk result (λ read. IsDomain read.domain) }
     ensures summary { (contents : List FileText) → F.contents files.old ≡ Some contents → IfOk result (λ read.
-        AreSummariesOf all (files_with_exclusions (map (λ n. n.now) without.now) contents)
-        read.domain.topology read.summary.items) }
+        AreSummariesOf all (files_without without.now contents) read.domain.topology read.summary.items) }
     ensures fault { (contents : List FileText) → F.contents files.old ≡ Some contents → IfErr result (λ fault.
-        ¬ IsReadOrMemoryWithout fault → input_of_files_without (map (λ n. n.now) without.now) contents ≡ Err fault) }
+        ¬ IsReadOrMemoryWithout fault →
+        input_of_files_without (names_of without.now) contents ≡ Err fault) }
     ensures faults { IfErr result (λ fault. is_possible_for_files_without fault ≡ true) }
     ensures failures { F.failed files.new ≡ failures_after is_read_without result (F.failed files.old) }
 {
@@ -221,20 +210,20 @@ fn read_files_with_buffer<F: PieceSource>(
     Ok(read_rest_with_buffer(alloc, files, buffer, topology, without, all)?)
 }
 
-/// Reads the domain that a folder's files mean with the routers of these names left out: `topology`,
+/// Reads the domain that a folder's files mean with the routers of these names excluded: `topology`,
 /// `vif-<router>` and `cache-<router>` for each other router, and `igmp-<lan>` for each LAN, each in
-/// the order of the topology. A router that is left out has no vif and no row; its files aren't asked
-/// for. Each file may have 16,777,216 bytes, and is judged before the next one is asked for. Tables
-/// and report lists are read as they come, and of a cache the rows of listed flows are kept, with
-/// what is noted of all rows: of those that no flow has, the sources and groups of all or of the
-/// lowest. The count of the source's failures has to be below `u64::MAX`.
+/// the order of the topology. An excluded router has no vif and no row, and its files aren't read.
+/// Each file may have up to 16,777,216 bytes, and is parsed before the next one is opened. Tables and
+/// report lists are read in pieces. Of a cache the rows of listed flows are kept, with a summary of
+/// all its rows: of the sources and groups that no flow has, the summary holds all or the lowest
+/// ones. The source's count of failures has to be below `u64::MAX`.
 ///
 /// # Errors
 ///
-/// The first fault in this order, of which the topology's comes first, then that of the first name
-/// that no router has, `NoSuchRouter`, and then those of the other files: `Read` where a file isn't
-/// there or can't be read, `Input` with `TooLarge` where it has too many bytes, and `Input` with what
-/// is wrong in it. Or `Input` with `Memory` where memory ran out.
+/// The first fault in this order: of the topology's file, `NoSuchRouter` for the first name that no
+/// router has, and of the other files. A file's fault is `Read` where it isn't there or can't be
+/// read, `Input` with `TooLarge` where it has too many bytes, and else `Input` with its parser's
+/// fault. `Input` with `Memory` where memory ran out.
 pub fn read_folder_domain<F: PieceSource>(
     alloc: Global,
     files: &mut F,
@@ -244,31 +233,26 @@ pub fn read_folder_domain<F: PieceSource>(
     requires failures { F.failed files.old < u64.MAX }
     ensures same { F.borrows files.new ≡ F.borrows files.old }
     ensures kept { F.contents files.new ≡ F.contents files.old }
-    // With the routers left out the files mean a domain, and what was read says the same of each
-    // flow.
+    // With the routers excluded the files mean a domain, and the result has the same facts per flow.
     ensures means { IfOk result (λ read. IfSome (F.contents files.old) (λ contents.
-        FilesMeanDomainAsListed (files_with_exclusions (map (λ n. n.now) without.now) contents) read.domain)) }
-    // Each name is that of a router.
-    ensures routers { IfOk result (λ read.
-        AreRouterNames read.domain.topology (map (λ n. n.now) without.now)) }
+        FilesMeanDomainAsListed (files_without without.now contents) read.domain)) }
+    // Each of the names is that of a router.
+    ensures routers { IfOk result (λ read. AreRouterNames read.domain.topology (names_of without.now)) }
     ensures rules { IfOk result (λ read. IsDomain read.domain) }
-    // Files that mean a domain with the routers left out, of which each is one of its topology, are
-    // read, and as that, unless the source fails or memory runs out.
-    ensures only { (contents : List FileText) (domain : DomainValue) → F.contents files.old ≡ Some contents →
-        FilesMeanDomain (files_with_exclusions (map (λ n. n.now) without.now) contents) domain →
-        AreRouterNames domain.topology (map (λ n. n.now) without.now) → MatchResult result
-        (λ read. HaveSameFacts domain read.domain) IsReadOrMemoryWithout }
-    // Each router's notes are of the rows in its own file, or of none where it is left out, for the
-    // flows of the topology.
+    // If the files mean a domain with the routers excluded, and each name is that of a router, they
+    // are read as that domain, unless the source fails or memory runs out.
+    ensures only { AreFilesReadAsMeant (F.contents files.old) (names_of without.now)
+        (λ read. read.domain) result }
+    // Each router's summary is that of the rows in its file, or of no row if it is excluded.
     ensures summary { IfOk result (λ read. IfSome (F.contents files.old) (λ contents.
-        AreSummariesOf all (files_with_exclusions (map (λ n. n.now) without.now) contents)
-        read.domain.topology read.summary.items)) }
-    // Which fault it is, unless the source fails or memory runs out.
+        AreSummariesOf all (files_without without.now contents) read.domain.topology read.summary.items)) }
+    // The fault is the one of the definition, unless the source fails or memory runs out.
     ensures fault { IfErr result (λ fault. IfSome (F.contents files.old) (λ contents.
-        ¬ IsReadOrMemoryWithout fault → input_of_files_without (map (λ n. n.now) without.now) contents ≡ Err fault)) }
-    // It is none of a bundle's, but that something is too large for one.
+        ¬ IsReadOrMemoryWithout fault →
+        input_of_files_without (names_of without.now) contents ≡ Err fault)) }
+    // Of a bundle's own faults only `TooLarge` is possible.
     ensures faults { IfErr result (λ fault. is_possible_for_files_without fault ≡ true) }
-    // A file is unread only where the source's failures rose in the call.
+    // `Read` is answered only where the source's count of failures rose in the call.
     ensures failures { F.failed files.new ≡ failures_after is_read_without result (F.failed files.old) }
 {
     let mut buffer = Vec::from_elem(alloc, 0u8, PIECE)?;

@@ -1,20 +1,22 @@
-//! All files of a folder that are refused, each by its own fault, so that one look tells whoever
-//! has to mend them what to mend.
+//! Lists all refused files of a folder, each with its own fault.
 
-ghost use Rattle.std.specs.Prelude.{◌≡◌, ◌≢◌, ◌<◌, ◌∷◌, ◌++◌, List, [], IfOk, IsTrue, Ok, OnOk, Some};
-ghost use Rattle.std.specs.Prelude.{flat_map, length, map};
+ghost use Rattle.std.specs.Prelude.{◌≡◌, ◌≢◌, ◌<◌, ◌∷◌, ◌++◌, List, [], IfOk, IsTrue, OnOk, Some};
+ghost use Rattle.std.specs.Prelude.{length, map};
 ghost use Rattle.std.specs.Result.{result_err};
 ghost use Rattle.mc_topology.specs.Names.{is_name};
 ghost use Rattle.mc_topology.specs.declared.flow.Flow.{Flow};
 ghost use Rattle.mc_files.specs.Files.{FileText};
-ghost use Rattle.mc_files.specs.Layout.{cache_slot, file_name, reports_slot, topology_slot, vif_slot};
+ghost use Rattle.mc_files.specs.Layout.{file_name, reports_slot, topology_slot, vif_slot};
+ghost use Rattle.mc_input.specs.ExcludedRouters.{names_of};
 ghost use Rattle.mc_input.specs.FilesReading.{part_from_file};
 ghost use Rattle.mc_input.specs.Kept.{AreFlowPairs};
-ghost use Rattle.mc_input.specs.PartsReading.{cache_of, reports_of, read_part, topology_of, vifs_of};
-ghost use Rattle.mc_input.specs.RefusedFiles.{AreUnreadFilesMissing, AreRefusedFiles, IsOwnFaultUnlessMemory, JudgesFiles};
-ghost use Rattle.mc_input.specs.RefusedFiles.{saturating_failures, failure_count, fault_of_refusal, file_fault};
-ghost use Rattle.mc_input.specs.RefusedFiles.{judged_with_topology, judged_reports, judged_tables, files_with_fault};
-ghost use Rattle.mc_input.specs.RefusedFiles.{refused_files_of, as_judged_file, unread_count};
+ghost use Rattle.mc_input.specs.PartsReading.{reports_of, read_part, topology_of, vifs_of};
+ghost use Rattle.mc_input.specs.RefusedFiles.{AreExactlyRefusedFiles, AreRefusedFiles};
+ghost use Rattle.mc_input.specs.RefusedFiles.{IsOwnFaultUnlessMemory, ListsRefused, ListsRefusedTables};
+ghost use Rattle.mc_input.specs.RefusedFiles.{as_judged_file, cache_file_fault, failure_count};
+ghost use Rattle.mc_input.specs.RefusedFiles.{fault_of_refusal, file_fault, files_with_fault};
+ghost use Rattle.mc_input.specs.RefusedFiles.{judged_files_of, judged_lans, judged_reports, judged_routers};
+ghost use Rattle.mc_input.specs.RefusedFiles.{saturating_failures, unread_count};
 ghost use Rattle.mc_input.specs.SourceFault.{GivesFromContents};
 ghost use Rattle.mc_input.specs.declared.source_fault.SourceFault.TheVariants.{Input};
 
@@ -36,7 +38,7 @@ use std::alloc::Global;
 pub enum Refusal {
     /// It can't be read.
     Unread(Unread),
-    /// What stands in it is refused, or how much that is.
+    /// Its text is refused, or it is too large.
     Fault(InputFault),
 }
 
@@ -45,11 +47,12 @@ pub enum Refusal {
 pub struct RefusedFile {
     /// Its name in the folder.
     pub name: String,
-    /// Why.
+    /// Why it is refused.
     pub refusal: Refusal,
 }
 
-/// The topology, unless the source counts no more failures.
+/// Reads the topology. Once the source's count of failures is at its maximum, this fails without a
+/// call.
 fn topology_unless_u64_max<F: PieceSource>(
     alloc: Global,
     files: &mut F,
@@ -67,7 +70,7 @@ fn topology_unless_u64_max<F: PieceSource>(
     topology_in(alloc, files)
 }
 
-/// The fault of the vifs of a router.
+/// The fault of a router's file of vifs, if it has one.
 fn vifs_fault<F: PieceSource>(
     alloc: Global,
     files: &mut F,
@@ -89,7 +92,7 @@ fn vifs_fault<F: PieceSource>(
     vifs_in(alloc, files, buffer, router).err()
 }
 
-/// The fault of the forwarding cache of a router, whose machine has this byte order.
+/// The fault of the file of the forwarding cache of a router with this byte order, if it has one.
 fn cache_fault<F: PieceSource>(
     alloc: Global,
     files: &mut F,
@@ -104,7 +107,7 @@ fn cache_fault<F: PieceSource>(
     ensures kept { F.contents files.new ≡ F.contents files.old }
     ensures fault { (flows : List Flow) (contents : List FileText) → AreFlowPairs flows listed.now →
         F.contents files.old ≡ Some contents →
-        IsOwnFaultUnlessMemory result (file_fault contents (cache_slot router.now) (cache_of order)) }
+        IsOwnFaultUnlessMemory result (cache_file_fault contents router.now order) }
     ensures failures { F.failed files.new
         ≡ saturating_failures (failure_count result) (F.failed files.old) }
 {
@@ -114,7 +117,7 @@ fn cache_fault<F: PieceSource>(
     cache_in(alloc, files, buffer, listed, router, order, false).err()
 }
 
-/// The fault of the reports of a LAN.
+/// The fault of a LAN's file of reports, if it has one.
 fn reports_fault<F: PieceSource>(
     alloc: Global,
     files: &mut F,
@@ -137,9 +140,10 @@ fn reports_fault<F: PieceSource>(
     wanted_in(alloc, files, buffer, channels, lan).err()
 }
 
-/// Why a file is refused that was judged so just now, unless memory ran out.
+/// Why the file that was just read is refused.
 fn refusal_of<F: PieceSource>(files: &F, fault: SourceFault) -> Result<Refusal, Memory>
-    ensures { IfOk result (λ refusal. (fault_of_refusal refusal ≡ fault) × (fault ≢ Input InputFault.Memory)) }
+    ensures { IfOk result (λ refusal. (fault_of_refusal refusal ≡ fault)
+        × (fault ≢ Input InputFault.Memory)) }
 {
     match fault {
         SourceFault::Input(InputFault::Memory) => Err(Memory),
@@ -148,7 +152,7 @@ fn refusal_of<F: PieceSource>(files: &F, fault: SourceFault) -> Result<Refusal, 
     }
 }
 
-/// Puts the file of a slot behind those that are refused, if it has a fault.
+/// Appends the file of a slot to the refused ones, if it has a fault.
 fn push_if_fault<F: PieceSource>(
     alloc: Global,
     files: &F,
@@ -169,7 +173,7 @@ fn push_if_fault<F: PieceSource>(
     Ok(())
 }
 
-/// Judges the tables of a router, whose machine has this byte order, unless it is left out.
+/// Checks the tables of a router with this byte order, unless it is excluded.
 fn judge_tables<F: PieceSource>(
     alloc: Global,
     files: &mut F,
@@ -184,11 +188,9 @@ fn judge_tables<F: PieceSource>(
     requires room { 0 < length buffer.old }
     ensures same { F.borrows files.new ≡ F.borrows files.old }
     ensures kept { F.contents files.new ≡ F.contents files.old }
-    ensures judged { (flows : List Flow) → AreFlowPairs flows listed.now →
-        OnOk result (JudgesFiles (F.contents files.old) (λ contents.
-        judged_tables (map (λ n. n.now) without.now) contents (record { name = router.now; order = order }))
-        (map as_judged_file refused.old.items) (map as_judged_file refused.new.items)
-        (F.failed files.old) (F.failed files.new)) }
+    ensures judged { ListsRefusedTables listed.now (names_of without.now) router.now order result
+        (F.contents files.old) refused.old.items refused.new.items
+        (F.failed files.old) (F.failed files.new) }
 {
     if is_excluded(without, router) {
         return Ok(());
@@ -199,7 +201,7 @@ fn judge_tables<F: PieceSource>(
     push_if_fault(alloc, files, &Slot::cache(router), cache, refused)
 }
 
-/// Judges the reports of a LAN.
+/// Checks the reports of a LAN.
 fn judge_reports<F: PieceSource>(
     alloc: Global,
     files: &mut F,
@@ -212,16 +214,15 @@ fn judge_reports<F: PieceSource>(
     requires room { 0 < length buffer.old }
     ensures same { F.borrows files.new ≡ F.borrows files.old }
     ensures kept { F.contents files.new ≡ F.contents files.old }
-    ensures judged { OnOk result (JudgesFiles (F.contents files.old) (λ contents.
-        judged_reports contents lan.now ∷ [])
-        (map as_judged_file refused.old.items) (map as_judged_file refused.new.items)
+    ensures judged { OnOk result (ListsRefused (F.contents files.old) (λ contents.
+        judged_reports contents lan.now ∷ []) refused.old.items refused.new.items
         (F.failed files.old) (F.failed files.new)) }
 {
     let fault = reports_fault(alloc, files, buffer, channels, lan);
     push_if_fault(alloc, files, &Slot::reports(lan), fault, refused)
 }
 
-/// Judges the tables of all routers but those that are left out.
+/// Checks the tables of all routers but the excluded ones.
 fn judge_routers<F: PieceSource>(
     alloc: Global,
     files: &mut F,
@@ -233,9 +234,8 @@ fn judge_routers<F: PieceSource>(
     requires room { 0 < length buffer.old }
     ensures same { F.borrows files.new ≡ F.borrows files.old }
     ensures kept { F.contents files.new ≡ F.contents files.old }
-    ensures judged { OnOk result (JudgesFiles (F.contents files.old) (λ contents.
-        flat_map (judged_tables (map (λ n. n.now) without.now) contents) topology.now.routers)
-        (map as_judged_file refused.old.items) (map as_judged_file refused.new.items)
+    ensures judged { OnOk result (ListsRefused (F.contents files.old)
+        (judged_routers (names_of without.now) topology.now) refused.old.items refused.new.items
         (F.failed files.old) (F.failed files.new)) }
 {
     let Ok(listed) = summary_pairs(alloc, topology) else {
@@ -249,7 +249,7 @@ fn judge_routers<F: PieceSource>(
     Ok(())
 }
 
-/// Judges the reports of all LANs.
+/// Checks the reports of all LANs.
 fn judge_lans<F: PieceSource>(
     alloc: Global,
     files: &mut F,
@@ -260,10 +260,8 @@ fn judge_lans<F: PieceSource>(
     requires room { 0 < length buffer.old }
     ensures same { F.borrows files.new ≡ F.borrows files.old }
     ensures kept { F.contents files.new ≡ F.contents files.old }
-    ensures judged { OnOk result (JudgesFiles (F.contents files.old) (λ contents.
-        map (judged_reports contents) topology.now.lans)
-        (map as_judged_file refused.old.items) (map as_judged_file refused.new.items)
-        (F.failed files.old) (F.failed files.new)) }
+    ensures judged { OnOk result (ListsRefused (F.contents files.old) (judged_lans topology.now)
+        refused.old.items refused.new.items (F.failed files.old) (F.failed files.new)) }
 {
     let channels = FlowChannels::of(alloc, topology)?;
     for lan in 0..topology.lans() {
@@ -273,7 +271,7 @@ fn judge_lans<F: PieceSource>(
     Ok(())
 }
 
-/// Judges all files that a topology names.
+/// Checks all files that a topology names.
 fn judge_topologys_files<F: PieceSource>(
     alloc: Global,
     files: &mut F,
@@ -283,9 +281,8 @@ fn judge_topologys_files<F: PieceSource>(
 ) -> Result<(), Memory>
     ensures same { F.borrows files.new ≡ F.borrows files.old }
     ensures kept { F.contents files.new ≡ F.contents files.old }
-    ensures judged { OnOk result (JudgesFiles (F.contents files.old) (λ contents.
-        judged_with_topology (map (λ n. n.now) without.now) contents (Ok topology.now))
-        (map as_judged_file refused.old.items) (map as_judged_file refused.new.items)
+    ensures judged { OnOk result (ListsRefused (F.contents files.old)
+        (judged_files_of (names_of without.now) topology.now) refused.old.items refused.new.items
         (F.failed files.old) (F.failed files.new)) }
 {
     let mut buffer = Vec::from_elem(alloc, 0u8, PIECE)?;
@@ -293,7 +290,7 @@ fn judge_topologys_files<F: PieceSource>(
     judge_lans(alloc, files, &mut buffer, topology, refused)
 }
 
-/// Judges all files of a folder.
+/// Checks all files of a folder.
 fn judge_all_files<F: PieceSource>(
     alloc: Global,
     files: &mut F,
@@ -304,7 +301,8 @@ fn judge_all_files<F: PieceSource>(
     ensures same { F.borrows files.new ≡ F.borrows files.old }
     ensures kept { F.contents files.new ≡ F.contents files.old }
     ensures refused { (contents : List FileText) → F.contents files.old ≡ Some contents →
-        OnOk result (AreRefusedFiles (map (λ n. n.now) without.now) contents (map as_judged_file refused.new.items)) }
+        OnOk result
+        (AreRefusedFiles (names_of without.now) contents (map as_judged_file refused.new.items)) }
     ensures failures { OnOk result (F.failed files.new
         ≡ saturating_failures (unread_count (map as_judged_file refused.new.items)) (F.failed files.old)) }
 {
@@ -314,9 +312,9 @@ fn judge_all_files<F: PieceSource>(
     }
 }
 
-/// Judges each file of a folder by itself, in the order of a domain's files, and tells those that are
-/// refused. A topology that is refused is told alone, since it names the others. The files of routers
-/// with these names are left out, and not asked for.
+/// Checks each file of a folder by itself, in the order of a domain's slots, and lists those that are
+/// refused. A refused topology is listed alone, since it names the other files. The files of routers
+/// with these names are excluded, and aren't read.
 ///
 /// # Errors
 ///
@@ -328,15 +326,15 @@ pub fn refused_files<F: PieceSource>(
 ) -> Result<Vec<RefusedFile>, Memory>
     ensures same { F.borrows files.new ≡ F.borrows files.old }
     ensures kept { F.contents files.new ≡ F.contents files.old }
-    // Each file that has a fault is listed by it, as the source gives the files, and no other file.
+    // Exactly the files that have a fault are listed with it, as the source gives the files.
     ensures refused { (contents : List FileText) → F.contents files.old ≡ Some contents →
         IfOk result (λ refused.
-        AreRefusedFiles (map (λ n. n.now) without.now) contents (map as_judged_file refused.items)) }
-    // Where the source fails at no file that is there, these are the refused files.
+        AreRefusedFiles (names_of without.now) contents (map as_judged_file refused.items)) }
+    // If the source fails at no existing file, these are the refused files.
     ensures exact { (contents : List FileText) → F.contents files.old ≡ Some contents →
-        IfOk result (λ refused. AreUnreadFilesMissing contents (map as_judged_file refused.items) →
-        map as_judged_file refused.items ≡ refused_files_of (map (λ n. n.now) without.now) contents) }
-    // Each file that is listed as one that can't be read is one at which the source failed.
+        IfOk result (λ refused.
+        AreExactlyRefusedFiles (names_of without.now) contents (map as_judged_file refused.items)) }
+    // The source failed at each file that is listed as unread.
     ensures failures { IfOk result (λ refused. F.failed files.new
         ≡ saturating_failures (unread_count (map as_judged_file refused.items)) (F.failed files.old)) }
 {

@@ -1,7 +1,7 @@
-//! Routers that are left out: which they are, and the tables that are read in place of theirs.
+//! Excluded routers: which they are, and the tables that are read in place of theirs.
 
 ghost use Rattle.std.specs.Prelude.{◌≡◌, ◌<◌, ℕ, false, true, List, Ok, IfErr, IfOk, IsTrue};
-ghost use Rattle.std.specs.Prelude.{length, map};
+ghost use Rattle.std.specs.Prelude.{length};
 ghost use Rattle.std.specs.List.{list_any};
 ghost use Rattle.std.specs.Str.{bytes_eq};
 ghost use Rattle.mc_topology.specs.Names.{is_name};
@@ -9,13 +9,11 @@ ghost use Rattle.mc_topology.specs.SectionRows.{RouterRow};
 ghost use Rattle.mc_topology.specs.declared.flow.Flow.{Flow};
 ghost use Rattle.mc_forward.specs.Domains.{TablesValue};
 ghost use Rattle.mc_forward.specs.ListedTables.{IsListedPartOfTables};
-ghost use Rattle.mc_input.specs.FilesReading.{part_from_file};
 ghost use Rattle.mc_input.specs.Kept.{AreFlowPairs};
-ghost use Rattle.mc_input.specs.ExcludedRouters.{header_only_files, check_router_names, is_possible_for_files_without};
-ghost use Rattle.mc_input.specs.ExcludedRouters.{is_read_without};
+ghost use Rattle.mc_input.specs.ExcludedRouters.{check_router_names, header_only_files};
+ghost use Rattle.mc_input.specs.ExcludedRouters.{is_possible_for_files_without, is_read_without};
+ghost use Rattle.mc_input.specs.ExcludedRouters.{names_of, tables_of_headers};
 ghost use Rattle.mc_input.specs.SummariesOfFiles.{IsSummaryOf};
-ghost use Rattle.mc_input.specs.PartsReading.{router_tables};
-ghost use Rattle.mc_input.specs.declared.source_fault.SourceFault.TheVariants.{Input};
 
 use crate::files::tables_of;
 use crate::without_fault::WithoutFault;
@@ -26,24 +24,24 @@ use mc_text::{Memory, Order};
 use mc_topology::Topology;
 use std::alloc::Global;
 
-/// The header of a kernel's table of vifs.
+/// The header line of a kernel's table of vifs.
 const VIF_HEADER: &[u8] =
     b"Interface      BytesIn  PktsIn  BytesOut PktsOut Flags Local    Remote\n";
 
-/// That of its forwarding cache.
+/// The header line of a kernel's forwarding cache.
 const CACHE_HEADER: &[u8] = b"Group    Origin   Iif     Pkts    Bytes    Wrong Oifs\n";
 
-/// Whether a router is one of those that are left out.
+/// Whether a router's name is one of the excluded ones.
 pub fn is_excluded(without: &[&str], router: &str) -> bool
     ensures { result ≡
-        list_any (λ name. bytes_eq name router.now) (map (λ n. n.now) without.now) }
+        list_any (λ name. bytes_eq name router.now) (names_of without.now) }
 {
     without.iter().any(|name| *name == router)
 }
 
-/// Refuses the first of the names that no router of the topology has.
+/// Refuses the first of the names that no router of the topology has, by its place, counted from 1.
 pub(crate) fn check_names(topology: &Topology, without: &[&str]) -> Result<(), WithoutFault>
-    ensures names { result ≡ check_router_names topology.now 1 (map (λ n. n.now) without.now) }
+    ensures names { result ≡ check_router_names topology.now 1 (names_of without.now) }
     ensures fault { IfErr result (λ fault. is_read_without fault ≡ false) }
     ensures faults { IfErr result (λ fault. is_possible_for_files_without fault ≡ true) }
 {
@@ -56,8 +54,7 @@ pub(crate) fn check_names(topology: &Topology, without: &[&str]) -> Result<(), W
     Ok(())
 }
 
-/// The tables of a router that is left out, and what is noted of its cache: those of files that have
-/// their headers alone.
+/// The tables of an excluded router and the summary of its cache: those of files with only a header.
 pub(crate) fn header_only_tables(
     alloc: Global,
     buffer: &mut [u8],
@@ -69,8 +66,8 @@ pub(crate) fn header_only_tables(
     requires name { IsTrue (is_name router.now) }
     requires room { 0 < length buffer.old }
     ensures tables { (n : ℕ) (flows : List Flow) → AreFlowPairs flows listed.now →
-        IfOk result (λ read. (whole : TablesValue) × (router_tables Input
-        (part_from_file (header_only_files router.now)) n router.now order ≡ Ok whole)
+        IfOk result (λ read. (whole : TablesValue)
+        × (tables_of_headers n router.now order ≡ Ok whole)
         × IsListedPartOfTables flows read.0 whole) }
     ensures summary { (flows : List Flow) → AreFlowPairs flows listed.now →
         IfOk result (λ read. (r : RouterRow) → r.name ≡ router.now → r.order ≡ order →
@@ -82,7 +79,7 @@ pub(crate) fn header_only_tables(
     let mut files = MemoryFiles::new(&bare);
     match tables_of(alloc, &mut files, buffer, listed, router, order, all) {
         Ok(own) => Ok(own),
-        // the files are there and have nothing wrong, so it is memory that ran out
+        // both files exist and are right, so memory ran out
         Err(_) => Err(Memory),
     }
 }

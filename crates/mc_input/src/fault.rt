@@ -1,4 +1,4 @@
-//! Why a bundle tells no domain.
+//! The faults of a domain's bundle.
 
 ghost use Rattle.std.specs.Prelude.{◌≡◌};
 ghost use Rattle.mc_input.specs.declared.fault.InputFault.TheVariants.{Memory};
@@ -9,7 +9,7 @@ use mc_text::{BundleFault, Memory as NoMemory, PartName};
 use mc_topology::TopologyFault;
 use std::alloc::{AllocError, AllocFailed};
 
-/// Why a bundle tells no domain: its first fault in the order in which its parts are judged.
+/// Why a bundle is refused as a domain's: its first fault, in the order of the reading.
 #[derive(Clone, Copy, Debug, PartialEq, Eq)]
 pub enum InputFault {
     /// (1) The framing of the bundle is wrong.

@@ -1,21 +1,21 @@
-//! The files of a folder that are fed to their readers as they come.
+//! Feeds files of a folder to their readers in pieces.
 
-ghost use Rattle.std.specs.Prelude.{◌≡◌, ◌<◌, ◌≤◌, ℕ, List, [], Some, Ok, Err};
+ghost use Rattle.std.specs.Prelude.{◌≡◌, ◌<◌, ◌≤◌, ℕ, List, [], Some, Err};
 ghost use Rattle.std.specs.Prelude.{IfErr, IfOk, OnOk, length};
-ghost use Rattle.mc_text.specs.Bundle.{PartText, max_part};
+ghost use Rattle.mc_text.specs.Bundle.{max_part};
 ghost use Rattle.mc_text.specs.Device.{failures_after};
-ghost use Rattle.mc_text.specs.Lines.{max_text};
 ghost use Rattle.mc_files.specs.FilePart.{IsFailedOrMemory, file_part, bytes_within_max_part};
 ghost use Rattle.mc_files.specs.Files.{FileText, file_named, is_failure};
 ghost use Rattle.mc_files.specs.Layout.{part_name};
+ghost use Rattle.mc_input.specs.Feeding.{HasFedFile, HasFedSlot};
 
 use crate::piece_reader::PieceReader;
 use mc_files::{FileFault, PieceSource, Slot};
 use mc_text::{MAX_PART, PartName};
 use std::alloc::Global;
 
-/// Feeds the open file to a reader, piece by piece through the buffer, up to the file's end: one that
-/// is too large or can't be read is refused for that, whatever stands in it.
+/// Feeds the whole open file to a reader, in pieces through the buffer. A file that is too large or
+/// can't be read is refused for that, whatever its text.
 fn feed_open<F: PieceSource, P: PieceReader>(
     files: &mut F,
     buffer: &mut [u8],
@@ -26,10 +26,10 @@ fn feed_open<F: PieceSource, P: PieceReader>(
     requires reads { F.failed files.old < u64.MAX }
     ensures same { F.borrows files.new ≡ F.borrows files.old }
     ensures kept { F.contents files.new ≡ F.contents files.old }
-    // The reader's end is that of the whole file.
+    // The reader ends with the result of the whole file.
     ensures within { (bytes : List ℕ) → F.left files.old ≡ Some bytes → OnOk result
         ((length bytes ≤ max_part) × (P.result_after reader.old bytes ≡ P.result_after reader.new [])) }
-    ensures past { (bytes : List ℕ) → F.left files.old ≡ Some bytes → IfErr result (λ fault.
+    ensures too_large { (bytes : List ℕ) → F.left files.old ≡ Some bytes → IfErr result (λ fault.
         fault ≡ FileFault.TooLarge → max_part < length bytes) }
     ensures failures { F.failed files.new ≡ failures_after is_failure result (F.failed files.old) }
 {
@@ -49,7 +49,7 @@ fn feed_open<F: PieceSource, P: PieceReader>(
     }
 }
 
-/// Feeds the file with the name to a reader, and closes it.
+/// Feeds the file with this name to a reader, and closes it.
 fn feed_file<F: PieceSource, P: PieceReader>(
     alloc: Global,
     files: &mut F,
@@ -63,8 +63,7 @@ fn feed_file<F: PieceSource, P: PieceReader>(
     ensures same { F.borrows files.new ≡ F.borrows files.old }
     ensures kept { F.contents files.new ≡ F.contents files.old }
     ensures bytes { (contents : List FileText) → F.contents files.old ≡ Some contents → OnOk result
-        ((bytes : List ℕ) × (bytes_within_max_part (file_named contents name.now) ≡ Ok bytes)
-        × (length bytes ≤ max_text) × (P.result_after reader.old bytes ≡ P.result_after reader.new [])) }
+        (HasFedFile contents name.now (P.result_after reader.old) (P.result_after reader.new)) }
     ensures fault { (contents : List FileText) → F.contents files.old ≡ Some contents → IfErr result (λ fault.
         (¬ IsFailedOrMemory fault) → bytes_within_max_part (file_named contents name.now) ≡ Err fault) }
     ensures failures { F.failed files.new ≡ failures_after is_failure result (F.failed files.old) }
@@ -75,7 +74,7 @@ fn feed_file<F: PieceSource, P: PieceReader>(
     fed
 }
 
-/// Feeds the part of a slot, which is made of its file, to a reader. It answers the part's name.
+/// Feeds the file of a slot to a reader, and answers the name of the slot's part.
 pub(crate) fn feed_slot<F: PieceSource, P: PieceReader>(
     alloc: Global,
     files: &mut F,
@@ -88,10 +87,8 @@ pub(crate) fn feed_slot<F: PieceSource, P: PieceReader>(
     requires reads { F.failed files.old < u64.MAX }
     ensures same { F.borrows files.new ≡ F.borrows files.old }
     ensures kept { F.contents files.new ≡ F.contents files.old }
-    ensures part { (contents : List FileText) → F.contents files.old ≡ Some contents → IfOk result (λ name.
-        (part : PartText) × (file_part contents slot.now ≡ Ok part) × (part.name ≡ name)
-        × (length part.bytes ≤ max_text)
-        × (P.result_after reader.old part.bytes ≡ P.result_after reader.new [])) }
+    ensures part { (contents : List FileText) → F.contents files.old ≡ Some contents → IfOk result
+        (HasFedSlot contents slot.now (P.result_after reader.old) (P.result_after reader.new)) }
     ensures fault { (contents : List FileText) → F.contents files.old ≡ Some contents → IfErr result (λ fault.
         (¬ IsFailedOrMemory fault) → file_part contents slot.now ≡ Err fault) }
     ensures failures { F.failed files.new ≡ failures_after is_failure result (F.failed files.old) }

@@ -1,14 +1,13 @@
-//! The parts of a bundle that are fed to their readers as they come.
+//! Feeds parts of a bundle to their readers in pieces.
 
-ghost use Rattle.std.specs.Prelude.{◌≡◌, ◌≢◌, ◌<◌, ◌≤◌, ℕ, List, [], ◌∷◌, Some, Err};
+ghost use Rattle.std.specs.Prelude.{◌≡◌, ◌≢◌, ◌<◌, ℕ, List, [], Some, Err};
 ghost use Rattle.std.specs.Prelude.{IfErr, IfOk, OnOk, drop, length};
-ghost use Rattle.mc_text.specs.Bundle.{PartText};
 ghost use Rattle.mc_text.specs.Device.{failures_after};
-ghost use Rattle.mc_text.specs.Lines.{max_text};
-ghost use Rattle.mc_text.specs.PartsReading.{prepend_parts, is_read as is_failed, parts_from_current};
-ghost use Rattle.mc_text.specs.RestOfBundle.{Advances, ReadsPart, rest_of_bundle};
+ghost use Rattle.mc_text.specs.PartsReading.{is_read as is_failed, parts_from_current};
+ghost use Rattle.mc_text.specs.RestOfBundle.{Advances, ReadsPart};
 ghost use Rattle.mc_files.specs.Layout.{slots};
-ghost use Rattle.mc_input.specs.PartsOneByOne.{HasNameOfSlot, IsOpened, IsFaultOf, check_names_from};
+ghost use Rattle.mc_input.specs.Feeding.{HasFedPart, IsFedPartOfSlot};
+ghost use Rattle.mc_input.specs.PartsOneByOne.{IsOpened, IsFaultOf, check_names_from};
 ghost use Rattle.mc_input.specs.SourceFault.{is_read};
 
 use crate::piece_reader::PieceReader;
@@ -17,7 +16,7 @@ use crate::source_fault::SourceFault;
 use mc_text::{BundleFault, Input, PartName, Parts};
 use mc_topology::Topology;
 
-/// Feeds the present part to a reader, piece by piece through the buffer, up to the part's end.
+/// Feeds the whole current part to a reader, in pieces through the buffer.
 fn feed_part<R: Input, P: PieceReader>(
     parts: &mut Parts<R>,
     buffer: &mut [u8],
@@ -27,15 +26,12 @@ fn feed_part<R: Input, P: PieceReader>(
     requires room { 0 < length buffer.old }
     requires start { P.size reader.old ≡ 0 }
     requires failures { parts.old.failed < u64.MAX }
-    // The part has bytes, and the reader's end is that of them all.
+    // The bundle has this part, and the reader ends with the result of all its bytes.
     ensures part { (text : List ℕ) → parts.old.remaining ≡ Some text → OnOk result
-        ((later : List ℕ) × (part : PartText) × (parts.new.remaining ≡ Some later)
-        × (parts_from_current parts.old [] text ≡ prepend_parts (part ∷ []) (rest_of_bundle parts.new later))
-        × (parts.old.name ≡ Some part.name) × (length part.bytes ≤ max_text)
-        × (P.result_after reader.old part.bytes ≡ P.result_after reader.new [])) }
+        (HasFedPart parts.old parts.new text (P.result_after reader.old) (P.result_after reader.new)) }
     ensures named { OnOk result (parts.new.name ≡ parts.old.name) }
     ensures open { OnOk result (parts.new.stage ≡ parts.old.stage) }
-    // Which fault it is, unless the input failed or memory ran out.
+    // The fault is that of the bundle's text, unless the input failed or memory ran out.
     ensures fault { (text : List ℕ) → parts.old.remaining ≡ Some text → IfErr result (λ fault.
         fault ≢ BundleFault.Read → fault ≢ BundleFault.Memory →
         parts_from_current parts.old [] text ≡ Err fault) }
@@ -53,8 +49,8 @@ fn feed_part<R: Input, P: PieceReader>(
     }
 }
 
-/// Feeds the part of the slot with a number, which has to come next, to a reader. It answers the
-/// part's name.
+/// Feeds the next part, which has to be that of the slot with a number, to a reader, and answers its
+/// name.
 pub(crate) fn feed_slot<R: Input, P: PieceReader>(
     parts: &mut Parts<R>,
     buffer: &mut [u8],
@@ -64,14 +60,13 @@ pub(crate) fn feed_slot<R: Input, P: PieceReader>(
     reader: &mut P,
 ) -> Result<PartName, SourceFault>
     requires within { number < length (slots certified topology.now) }
-    requires few { number < u32.MAX }
+    requires below_max { number < u32.MAX }
     requires room { 0 < length buffer.old }
     requires start { P.size reader.old ≡ 0 }
     requires failures { parts.old.failed < u64.MAX }
-    ensures part { IfOk result (λ name. ReadsPart parts.old parts.new (λ part.
-        HasNameOfSlot certified topology.now number part.name × (part.name ≡ name)
-        × (length part.bytes ≤ max_text)
-        × (P.result_after reader.old part.bytes ≡ P.result_after reader.new []))) }
+    ensures part { IfOk result (λ name. ReadsPart parts.old parts.new
+        (IsFedPartOfSlot certified topology.now number name
+        (P.result_after reader.old) (P.result_after reader.new))) }
     ensures fault { IfErr result (IsFaultOf parts.old
         (check_names_from number (drop number (slots certified topology.now)))) }
     ensures advances { Advances parts.old parts.new }

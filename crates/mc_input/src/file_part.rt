@@ -1,16 +1,16 @@
-//! What is kept of what one file of a folder tells, as the part that it makes.
+//! Reads one file of a folder as the part of its slot.
 
 ghost use Rattle.std.specs.Prelude.{◌≡◌, ◌<◌, ℕ, List, IfErr, IfOk, IsTrue, length, true};
 ghost use Rattle.mc_text.specs.Device.{failures_after};
 ghost use Rattle.mc_topology.specs.Names.{is_name};
-ghost use Rattle.mc_forward.specs.Assembling.{AreChannelsWanted};
 ghost use Rattle.mc_files.specs.Layout.{cache_slot, reports_slot, topology_slot, vif_slot};
 ghost use Rattle.mc_input.specs.SourceFault.{GivesFromContents, is_possible_for_files, is_read};
-ghost use Rattle.mc_input.specs.FilesReading.{part_from_file};
-ghost use Rattle.mc_input.specs.Kept.{AreSamePairs, GivesKeptFromContents};
-ghost use Rattle.mc_input.specs.PartsReading.{summary_of_part as summary_reading, reports_of as reports_reading, read_part};
+ghost use Rattle.mc_input.specs.FilesReading.{read_file};
+ghost use Rattle.mc_input.specs.Kept.{AreSamePairs, AreWantsOf, GivesKeptFromContents};
+ghost use Rattle.mc_input.specs.Kept.{GivesWholeFromContents};
+ghost use Rattle.mc_input.specs.PartsReading.{summary_of_part as summary_reading};
+ghost use Rattle.mc_input.specs.PartsReading.{reports_of as reports_reading};
 ghost use Rattle.mc_input.specs.PartsReading.{topology_of as topology_reading, vifs_of as vifs_reading};
-ghost use Rattle.mc_input.specs.declared.source_fault.SourceFault.TheVariants.{Input};
 
 use crate::fed_file::feed_slot;
 use crate::part_result::{cache_or_fault, topology_of, vifs_or_fault, wanted_or_fault};
@@ -23,7 +23,7 @@ use mc_text::Order;
 use mc_topology::Topology;
 use std::alloc::Global;
 
-/// The topology, in the file `topology`.
+/// Reads the topology from the file `topology`.
 pub(crate) fn topology_in<F: FileSource>(
     alloc: Global,
     files: &mut F,
@@ -32,7 +32,7 @@ pub(crate) fn topology_in<F: FileSource>(
     ensures same { F.borrows files.new ≡ F.borrows files.old }
     ensures kept { F.contents files.new ≡ F.contents files.old }
     ensures topology { (n : ℕ) → GivesFromContents (F.contents files.old) (λ topology. topology) result
-        (λ contents. read_part Input (part_from_file contents n topology_slot) topology_reading) }
+        (read_file n topology_slot topology_reading) }
     ensures faults { IfErr result (λ fault. is_possible_for_files fault ≡ true) }
     ensures failures { F.failed files.new ≡ failures_after is_read result (F.failed files.old) }
 {
@@ -40,7 +40,7 @@ pub(crate) fn topology_in<F: FileSource>(
     Ok(topology_of(alloc, &part.as_part())?)
 }
 
-/// The vifs of a router, in the file `vif-<router>`.
+/// Reads a router's vifs from the file `vif-<router>`.
 pub(crate) fn vifs_in<F: PieceSource>(
     alloc: Global,
     files: &mut F,
@@ -52,8 +52,8 @@ pub(crate) fn vifs_in<F: PieceSource>(
     requires reads { F.failed files.old < u64.MAX }
     ensures same { F.borrows files.new ≡ F.borrows files.old }
     ensures kept { F.contents files.new ≡ F.contents files.old }
-    ensures vifs { (n : ℕ) → GivesKeptFromContents (F.contents files.old) (λ kept vifs. kept ≡ vifs) result
-        (λ contents. read_part Input (part_from_file contents n (vif_slot router.now)) vifs_reading) }
+    ensures vifs { (n : ℕ) → GivesWholeFromContents (F.contents files.old) result
+        (read_file n (vif_slot router.now) vifs_reading) }
     ensures faults { IfErr result (λ fault. is_possible_for_files fault ≡ true) }
     ensures failures { F.failed files.new ≡ failures_after is_read result (F.failed files.old) }
 {
@@ -62,9 +62,9 @@ pub(crate) fn vifs_in<F: PieceSource>(
     Ok(vifs_or_fault(name, reader.finish())?)
 }
 
-/// The forwarding cache of a router, in the file `cache-<router>`, of which the rows of listed
-/// sources and groups are kept, with what is noted of all rows for those; and of the others the
-/// sources and groups of all rows or of the lowest.
+/// Reads a router's forwarding cache from the file `cache-<router>`. The rows of listed sources and
+/// groups are kept, with a summary of all rows; of the other sources and groups it holds all or the
+/// lowest ones.
 pub(crate) fn cache_in<F: PieceSource>(
     alloc: Global,
     files: &mut F,
@@ -80,8 +80,8 @@ pub(crate) fn cache_in<F: PieceSource>(
     ensures same { F.borrows files.new ≡ F.borrows files.old }
     ensures kept { F.contents files.new ≡ F.contents files.old }
     ensures cache { (n : ℕ) (pairs : List (ℕ × ℕ)) → AreSamePairs listed.now pairs →
-        GivesKeptFromContents (F.contents files.old) (λ kept summarized. kept ≡ summarized) result (λ contents.
-        read_part Input (part_from_file contents n (cache_slot router.now)) (summary_reading all order pairs)) }
+        GivesWholeFromContents (F.contents files.old) result
+        (read_file n (cache_slot router.now) (summary_reading all order pairs)) }
     ensures faults { IfErr result (λ fault. is_possible_for_files fault ≡ true) }
     ensures failures { F.failed files.new ≡ failures_after is_read result (F.failed files.old) }
 {
@@ -90,7 +90,7 @@ pub(crate) fn cache_in<F: PieceSource>(
     Ok(cache_or_fault(name, reader.finish())?)
 }
 
-/// Which flows a LAN wants, by its reports in the file `igmp-<lan>`.
+/// Reads which flows a LAN wants from its reports in the file `igmp-<lan>`.
 pub(crate) fn wanted_in<F: PieceSource>(
     alloc: Global,
     files: &mut F,
@@ -103,9 +103,8 @@ pub(crate) fn wanted_in<F: PieceSource>(
     requires reads { F.failed files.old < u64.MAX }
     ensures same { F.borrows files.new ≡ F.borrows files.old }
     ensures kept { F.contents files.new ≡ F.contents files.old }
-    ensures wanted { (n : ℕ) → GivesKeptFromContents (F.contents files.old)
-        (λ wanted records. AreChannelsWanted channels.now records wanted) result
-        (λ contents. read_part Input (part_from_file contents n (reports_slot lan.now)) reports_reading) }
+    ensures wanted { (n : ℕ) → GivesKeptFromContents (F.contents files.old) (AreWantsOf channels.now)
+        result (read_file n (reports_slot lan.now) reports_reading) }
     ensures count { IfOk result (λ wanted. length wanted ≡ length channels.now) }
     ensures faults { IfErr result (λ fault. is_possible_for_files fault ≡ true) }
     ensures failures { F.failed files.new ≡ failures_after is_read result (F.failed files.old) }

@@ -1,23 +1,19 @@
-//! What a folder's files tell of a domain. The files are read one after another: each is judged
-//! before the next one is asked for, its text is let go, and of a table the rows of listed flows are
-//! kept, with what is noted of all. Of routers that are left out no file is asked for.
+//! Reads the contents of a folder's files, one after another: each is parsed before the next one is
+//! opened. No file's text is kept: of a cache just the rows of listed flows and a summary. Files of
+//! excluded routers aren't read.
 
-ghost use Rattle.std.specs.Prelude.{◌≡◌, ◌<◌, ℕ, List, IfErr, IfOk, IsTrue, Some, length, map, true};
+ghost use Rattle.std.specs.Prelude.{◌≡◌, ◌<◌, ℕ, List, IfErr, IfOk, IsTrue, Some, length, true};
 ghost use Rattle.mc_text.specs.Device.{failures_after};
 ghost use Rattle.mc_topology.specs.Names.{is_name};
-ghost use Rattle.mc_topology.specs.SectionRows.{RouterRow};
-ghost use Rattle.mc_topology.specs.declared.flow.Flow.{Flow};
 ghost use Rattle.mc_forward.specs.Assembling.{AreAnswers};
-ghost use Rattle.mc_forward.specs.ListedTables.{AreListedPartsOfTables, IsListedPartOfTables};
+ghost use Rattle.mc_forward.specs.ListedTables.{AreListedPartsOfTables};
 ghost use Rattle.mc_files.specs.Files.{FileText};
 ghost use Rattle.mc_input.specs.SourceFault.{is_possible_for_files, is_read};
-ghost use Rattle.mc_input.specs.FilesReading.{part_from_file};
-ghost use Rattle.mc_input.specs.Kept.{AreFlowPairs, AreWantedBy, AreListedContents, GivesKeptFromContents};
-ghost use Rattle.mc_input.specs.ExcludedRouters.{files_with_exclusions};
-ghost use Rattle.mc_input.specs.SummariesOfFiles.{IsSummaryOf, AreSummariesOf};
-ghost use Rattle.mc_input.specs.PartsReading.{all_reports, all_tables, read_tables_and_reports, first_lan_number};
-ghost use Rattle.mc_input.specs.PartsReading.{router_tables};
-ghost use Rattle.mc_input.specs.declared.source_fault.SourceFault.TheVariants.{Input};
+ghost use Rattle.mc_input.specs.FilesKept.{KeepsRouterTables, SummarizesRouter};
+ghost use Rattle.mc_input.specs.FilesReading.{read_all_reports, read_all_tables};
+ghost use Rattle.mc_input.specs.Kept.{AreContentsOf, AreWantedBy, GivesKeptFromContents};
+ghost use Rattle.mc_input.specs.ExcludedRouters.{files_without, input_of_other_files, names_of};
+ghost use Rattle.mc_input.specs.SummariesOfFiles.{AreSummariesOf};
 
 use crate::excluded::{header_only_tables, is_excluded};
 use crate::file_part::{cache_in, vifs_in, wanted_in};
@@ -30,18 +26,18 @@ use mc_text::Order;
 use mc_topology::{LanNo, RouterNo, Topology};
 use std::alloc::Global;
 
-/// What is kept of the files beside the topology.
+/// What is kept of the files after the topology.
 #[derive(Drop)]
 pub(crate) struct FolderContents {
-    /// Of each router the vifs, and of its cache what it says of the flows.
+    /// Each router's vifs, and the rows of its cache for the flows.
     pub(crate) tables: Vec<Tables>,
-    /// What is noted of each router's cache.
+    /// The summary of each router's cache.
     pub(crate) summary: Vec<CacheSummary>,
     /// For each LAN, which flows it wants.
     pub(crate) wants: Vec<Items<bool>>,
 }
 
-/// Both tables of a router, and what is noted of its cache.
+/// Reads both tables of a router, and the summary of its cache.
 pub(crate) fn tables_of<F: PieceSource>(
     alloc: Global,
     files: &mut F,
@@ -56,12 +52,10 @@ pub(crate) fn tables_of<F: PieceSource>(
     requires reads { F.failed files.old < u64.MAX }
     ensures same { F.borrows files.new ≡ F.borrows files.old }
     ensures kept { F.contents files.new ≡ F.contents files.old }
-    ensures tables { (n : ℕ) (flows : List Flow) → AreFlowPairs flows listed.now →
-        GivesKeptFromContents (F.contents files.old) (λ read whole. IsListedPartOfTables flows read.0 whole) result
-        (λ contents. router_tables Input (part_from_file contents) n router.now order) }
-    ensures summary { (flows : List Flow) (contents : List FileText) → AreFlowPairs flows listed.now →
-        F.contents files.old ≡ Some contents → IfOk result (λ read. (r : RouterRow) →
-        r.name ≡ router.now → r.order ≡ order → IsSummaryOf all contents flows r read.1) }
+    ensures tables { KeepsRouterTables (F.contents files.old) (λ contents. contents) listed.now
+        router.now order (λ read. read.0) result }
+    ensures summary { SummarizesRouter (F.contents files.old) (λ contents. contents) listed.now
+        router.now order all (λ read. read.1) result }
     ensures faults { IfErr result (λ fault. is_possible_for_files fault ≡ true) }
     ensures failures { F.failed files.new ≡ failures_after is_read result (F.failed files.old) }
 {
@@ -71,7 +65,7 @@ pub(crate) fn tables_of<F: PieceSource>(
     Ok((Tables { vifs, cache: table }, cache.summary))
 }
 
-/// The same, where some routers are left out: of those no file is asked for.
+/// The same, but no file of an excluded router is read.
 fn tables_unless_excluded<F: PieceSource>(
     alloc: Global,
     files: &mut F,
@@ -87,14 +81,10 @@ fn tables_unless_excluded<F: PieceSource>(
     requires reads { F.failed files.old < u64.MAX }
     ensures same { F.borrows files.new ≡ F.borrows files.old }
     ensures kept { F.contents files.new ≡ F.contents files.old }
-    ensures tables { (n : ℕ) (flows : List Flow) → AreFlowPairs flows listed.now →
-        GivesKeptFromContents (F.contents files.old) (λ read whole. IsListedPartOfTables flows read.0 whole) result
-        (λ contents. router_tables Input
-        (part_from_file (files_with_exclusions (map (λ n. n.now) without.now) contents)) n router.now order) }
-    ensures summary { (flows : List Flow) (contents : List FileText) → AreFlowPairs flows listed.now →
-        F.contents files.old ≡ Some contents → IfOk result (λ read. (r : RouterRow) →
-        r.name ≡ router.now → r.order ≡ order →
-        IsSummaryOf all (files_with_exclusions (map (λ n. n.now) without.now) contents) flows r read.1) }
+    ensures tables { KeepsRouterTables (F.contents files.old) (files_without without.now) listed.now
+        router.now order (λ read. read.0) result }
+    ensures summary { SummarizesRouter (F.contents files.old) (files_without without.now) listed.now
+        router.now order all (λ read. read.1) result }
     ensures faults { IfErr result (λ fault. is_possible_for_files fault ≡ true) }
     ensures failures { F.failed files.new ≡ failures_after is_read result (F.failed files.old) }
 {
@@ -104,7 +94,7 @@ fn tables_unless_excluded<F: PieceSource>(
     tables_of(alloc, files, buffer, listed, router, order, all)
 }
 
-/// The tables of each router, and what is noted of its cache.
+/// Reads the tables of each router, and the summary of its cache.
 fn read_tables<F: PieceSource>(
     alloc: Global,
     files: &mut F,
@@ -118,12 +108,11 @@ fn read_tables<F: PieceSource>(
     ensures same { F.borrows files.new ≡ F.borrows files.old }
     ensures kept { F.contents files.new ≡ F.contents files.old }
     ensures tables { GivesKeptFromContents (F.contents files.old)
-        (λ read wholes. AreListedPartsOfTables topology.now.flows read.0.items wholes) result
-        (λ contents. all_tables Input (part_from_file (files_with_exclusions (map (λ n. n.now) without.now) contents))
-        1 topology.now.routers) }
+        (λ read. AreListedPartsOfTables topology.now.flows read.0.items) result
+        (λ contents. read_all_tables topology.now (files_without without.now contents)) }
     ensures summary { (contents : List FileText) → F.contents files.old ≡ Some contents →
-        IfOk result (λ read. AreSummariesOf all (files_with_exclusions (map (λ n. n.now) without.now) contents)
-        topology.now read.1.items) }
+        IfOk result (λ read.
+        AreSummariesOf all (files_without without.now contents) topology.now read.1.items) }
     ensures count { IfOk result (λ read. length read.0.items ≡ length topology.now.routers) }
     ensures faults { IfErr result (λ fault. is_possible_for_files fault ≡ true) }
     ensures failures { F.failed files.new ≡ failures_after is_read result (F.failed files.old) }
@@ -141,7 +130,7 @@ fn read_tables<F: PieceSource>(
     Ok((tables, summary))
 }
 
-/// Which flows each LAN wants.
+/// Reads which flows each LAN wants.
 fn read_wants<F: PieceSource>(
     alloc: Global,
     files: &mut F,
@@ -154,7 +143,7 @@ fn read_wants<F: PieceSource>(
     ensures kept { F.contents files.new ≡ F.contents files.old }
     ensures wants { GivesKeptFromContents (F.contents files.old)
         (λ wants reports. AreWantedBy topology.now reports wants.items) result
-        (λ contents. all_reports Input (part_from_file contents) (first_lan_number topology.now) topology.now.lans) }
+        (read_all_reports topology.now) }
     ensures answers { IfOk result (λ wants. AreAnswers topology.now wants.items) }
     ensures faults { IfErr result (λ fault. is_possible_for_files fault ≡ true) }
     ensures failures { F.failed files.new ≡ failures_after is_read result (F.failed files.old) }
@@ -168,8 +157,7 @@ fn read_wants<F: PieceSource>(
     Ok(wants)
 }
 
-/// What is kept of the files beside the topology, which are read one after another, those of routers
-/// that are left out as if they had their headers alone.
+/// Reads the files after the topology. Those of excluded routers count as having only a header.
 pub(crate) fn read_contents<F: PieceSource>(
     alloc: Global,
     files: &mut F,
@@ -182,13 +170,12 @@ pub(crate) fn read_contents<F: PieceSource>(
     requires reads { F.failed files.old < u64.MAX }
     ensures same { F.borrows files.new ≡ F.borrows files.old }
     ensures kept { F.contents files.new ≡ F.contents files.old }
-    ensures read_tables_and_reports { GivesKeptFromContents (F.contents files.old)
-        (λ listed input. AreListedContents input topology.now listed.tables.items listed.wants.items) result
-        (λ contents. read_tables_and_reports Input (part_from_file (files_with_exclusions (map (λ n. n.now) without.now) contents))
-        topology.now) }
+    ensures read { GivesKeptFromContents (F.contents files.old)
+        (λ listed. AreContentsOf topology.now listed.tables.items listed.wants.items) result
+        (input_of_other_files topology.now (names_of without.now)) }
     ensures summary { (contents : List FileText) → F.contents files.old ≡ Some contents →
-        IfOk result (λ listed. AreSummariesOf all (files_with_exclusions (map (λ n. n.now) without.now) contents)
-        topology.now listed.summary.items) }
+        IfOk result (λ listed.
+        AreSummariesOf all (files_without without.now contents) topology.now listed.summary.items) }
     ensures count { IfOk result (λ listed.
         length listed.tables.items ≡ length topology.now.routers) }
     ensures answers { IfOk result (λ listed. AreAnswers topology.now listed.wants.items) }

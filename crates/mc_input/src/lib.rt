@@ -1,6 +1,5 @@
-//! What a run is handed: a domain's texts, as the parts of one bundle or as the files of a folder,
-//! each by its reader, in the one order in which they are judged, and the domain that they mean; of a
-//! folder also what is noted of its caches.
+//! Reads a domain from the parts of a bundle or from the files of a folder, each text by its reader, in
+//! the order in which faults are reported. From a folder it also reads a summary of each cache.
 #![tactic(auto)]
 
 mod bundle;

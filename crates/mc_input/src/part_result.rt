@@ -1,4 +1,4 @@
-//! What one part of a domain tells, as its own reader found it.
+//! Turns the result of a text's reader into that of its part: a fault gets the part's name.
 
 ghost use Rattle.std.specs.FinMap.{FinMap};
 ghost use Rattle.std.specs.Ordering.{nat_cmp};
@@ -11,8 +11,7 @@ ghost use Rattle.mc_tables.specs.declared.fault.TableFault.{TableFault as FaultO
 ghost use Rattle.mc_igmp.specs.ReadingList.{oom_fault};
 ghost use Rattle.mc_igmp.specs.declared.fault.ListFault.{ListFault as FaultOfList};
 ghost use Rattle.mc_igmp.specs.declared.record.Record.{Record};
-ghost use Rattle.mc_forward.specs.Assembling.{AreChannelsWanted};
-ghost use Rattle.mc_input.specs.Kept.{AreFlowPairs};
+ghost use Rattle.mc_input.specs.Kept.{AreFlowPairs, AreWantsOf};
 ghost use Rattle.mc_input.specs.PartsOneByOne.{IsPartResult};
 ghost use Rattle.mc_input.specs.declared.fault.InputFault.TheVariants.{Cache as RefusedCache};
 ghost use Rattle.mc_input.specs.declared.fault.InputFault.TheVariants.{Reports as RefusedReports};
@@ -28,7 +27,7 @@ use mc_text::{Part, PartName};
 use mc_topology::{Topology, TopologyFault, TopologyFaultKind};
 use std::alloc::Global;
 
-/// The topology.
+/// Parses the topology.
 pub(crate) fn topology_of(alloc: Global, part: &Part<'_>) -> Result<Topology, InputFault>
     ensures { Gives (λ topology. topology) result (topology_of (part_text part.now)) }
 {
@@ -44,7 +43,7 @@ pub(crate) fn topology_of(alloc: Global, part: &Part<'_>) -> Result<Topology, In
     }
 }
 
-/// The vifs of a router, as the reader of the part with this name found them.
+/// The vifs that the reader of the part with this name found, or its fault.
 pub(crate) fn vifs_or_fault(
     name: PartName,
     found: Result<VifTable, TableFault>,
@@ -65,7 +64,7 @@ pub(crate) fn vifs_or_fault(
     }
 }
 
-/// The sources and the groups of the flows, of which the readers of caches keep the rows.
+/// The sources and groups of the flows, as readers of caches take them.
 pub(crate) fn listed_pairs(alloc: Global, topology: &Topology) -> Result<ListedPairs, InputFault>
     ensures listed { IfOk result (AreFlowPairs topology.now.flows) }
     ensures memory { IfErr result (λ fault. fault ≡ InputFault.Memory) }
@@ -73,7 +72,7 @@ pub(crate) fn listed_pairs(alloc: Global, topology: &Topology) -> Result<ListedP
     Ok(ListedPairs::of(alloc, &source_group_pairs(alloc, topology)?)?)
 }
 
-/// The same for the readers that note rows too.
+/// The same for readers that also make a summary.
 pub(crate) fn summary_pairs(alloc: Global, topology: &Topology) -> Result<SummaryPairs, InputFault>
     ensures listed { IfOk result (AreFlowPairs topology.now.flows) }
     ensures memory { IfErr result (λ fault. fault ≡ InputFault.Memory) }
@@ -81,8 +80,8 @@ pub(crate) fn summary_pairs(alloc: Global, topology: &Topology) -> Result<Summar
     Ok(SummaryPairs::of(alloc, &source_group_pairs(alloc, topology)?)?)
 }
 
-/// The forwarding cache of a router, with notes or without, as the reader of the part with this name
-/// found it.
+/// The forwarding cache, with a summary or without, that the reader of the part with this name found,
+/// or its fault.
 pub(crate) fn cache_or_fault<T: Drop>(
     name: PartName,
     found: Result<T, TableFault>,
@@ -103,8 +102,8 @@ pub(crate) fn cache_or_fault<T: Drop>(
     }
 }
 
-/// Which of these channels a LAN wants, by its report list as the reader of the part with this name
-/// found it.
+/// Which of these channels a LAN wants by the report list that the reader of the part with this name
+/// found, or its fault.
 pub(crate) fn wanted_or_fault(
     alloc: Global,
     channels: &FlowChannels,
@@ -113,8 +112,7 @@ pub(crate) fn wanted_or_fault(
 ) -> Result<Items<bool>, InputFault>
     ensures wanted { (read : Result (List Record) FaultOfList) →
         (found ≢ Err oom_fault → read ≡ found) →
-        IsPartResult (λ wanted records. AreChannelsWanted channels.now records wanted) result
-        (map_fault (RefusedReports name) read) }
+        IsPartResult (AreWantsOf channels.now) result (map_fault (RefusedReports name) read) }
     ensures count { IfOk result (λ wanted. length wanted ≡ length channels.now) }
 {
     match found {

@@ -1,4 +1,4 @@
-//! The readers of kernel tables and of report lists, which are fed their texts in pieces.
+//! A common trait of the readers of kernel tables and report lists that are fed in pieces.
 
 ghost use Rattle.std.specs.Prelude.{◌≡◌, ◌≢◌, ◌+◌, ◌≤◌, ◌++◌, ℕ, List, Err, OnOk, Result, is_some, length};
 ghost use Rattle.std.specs.Prelude.{if◌then◌else◌};
@@ -11,28 +11,28 @@ use mc_text::Memory;
 
 /// A reader that is fed its text in pieces.
 pub(crate) trait PieceReader {
-    // what reading ends with
+    // the result of the reading
     ghost ReadResult: { Type 0 };
 
-    // what it ends with if these bytes come
+    // the result if these bytes are still fed
     ghost result_after: { Self → List ℕ → ReadResult };
 
-    // how many of the bytes that have come count towards the limit of a text
+    // how many of the bytes fed so far count towards the limit of a text
     ghost size: { Self → ℕ };
 
-    /// Takes the next piece of the text. A fault is kept until the text ends.
+    /// Takes the next piece of the text. A fault of the text is kept until its end.
     ///
     /// # Errors
     ///
-    /// `Memory` where a growth was refused. The reader is of no use then.
+    /// `Memory` where an allocation failed. Then the reader can't be used any more.
     fn take(&mut self, piece: &[u8]) -> Result<(), Memory>
-        // Whatever bytes come then, reading ends as it would have with this piece before them.
+        // Whatever bytes follow, the result is that of the piece and those bytes before the call.
         ensures goes_on { (more : List ℕ) → size self.old + length (piece.now ++ more) ≤ max_text →
             OnOk result (result_after self.new more ≡ result_after self.old (piece.now ++ more)) }
         ensures size { size self.new ≤ size self.old + length piece.now };
 }
 
-/// Whether memory ran out. Any other fault is kept by the reader of the table that was fed.
+/// Passes on that memory ran out. Any other fault is kept by the table's reader.
 fn memory_fault_only(fed: Result<(), TableFault>) -> Result<(), Memory>
     ensures { OnOk result (fed ≢ Err out_of_memory) }
 {

@@ -1,4 +1,4 @@
-//! The parts of a bundle by the names of their slots, and what is read of a bundle after a fault.
+//! Checks the names of a bundle's parts against the slots, and reads a bundle to its end after a fault.
 
 ghost use Rattle.std.specs.Prelude.{◌≡◌, ◌<◌, ◌≤◌, ℕ, List, [], Some, Ok, OnOk, IfErr, drop, length};
 ghost use Rattle.std.specs.Prelude.{slice_get};
@@ -8,7 +8,8 @@ ghost use Rattle.mc_text.specs.RestOfBundle.{Advances, rest_of_bundle};
 ghost use Rattle.mc_text.specs.Steps.{map_fault};
 ghost use Rattle.mc_files.specs.Layout.{part_name, slots};
 ghost use Rattle.mc_input.specs.InputReading.{named};
-ghost use Rattle.mc_input.specs.PartsOneByOne.{HasNameOfSlot, IsOpened, IsFaultOf, read_rest, check_names_from};
+ghost use Rattle.mc_input.specs.PartsOneByOne.{HasNameOfSlot, IsFaultOf, IsOpened};
+ghost use Rattle.mc_input.specs.PartsOneByOne.{check_names_from, read_rest};
 ghost use Rattle.mc_input.specs.SourceFault.{Gives, is_read};
 ghost use Rattle.mc_input.specs.declared.source_fault.SourceFault.TheVariants.{Input as refused};
 
@@ -18,7 +19,7 @@ use mc_files::{Slot, slot_at, slot_count};
 use mc_text::{Input, Parts};
 use mc_topology::Topology;
 
-/// Reads to the end of the bundle, whose framing has to be right.
+/// Reads to the end of the bundle, and checks only its framing.
 pub(crate) fn drain<R: Input>(parts: &mut Parts<R>) -> Result<(), SourceFault>
     requires failures { parts.old.failed < u64.MAX }
     ensures framing { (text : List ℕ) → parts.old.remaining ≡ Some text →
@@ -30,13 +31,13 @@ pub(crate) fn drain<R: Input>(parts: &mut Parts<R>) -> Result<(), SourceFault>
     Ok(())
 }
 
-/// Opens the next part, which has to have the name of the slot.
+/// Opens the next part, which has to have the name of the slot. `number` is the slot's, for the fault.
 pub(crate) fn open_named<R: Input>(
     parts: &mut Parts<R>,
     slot: &Slot<'_>,
     number: u32,
 ) -> Result<(), SourceFault>
-    requires few { number < u32.MAX }
+    requires below_max { number < u32.MAX }
     requires failures { parts.old.failed < u64.MAX }
     ensures opened { OnOk result (IsOpened parts.new (part_name slot.now)) }
     ensures part { (text : List ℕ) → parts.old.remaining ≡ Some text → OnOk result
@@ -57,7 +58,7 @@ pub(crate) fn open_named<R: Input>(
     Ok(())
 }
 
-/// Opens the part of the slot with a number, counted from 0.
+/// Opens the next part, which has to be that of the slot with a number, counted from 0.
 pub(crate) fn open_slot<R: Input>(
     parts: &mut Parts<R>,
     topology: &Topology,
@@ -65,7 +66,7 @@ pub(crate) fn open_slot<R: Input>(
     number: u32,
 ) -> Result<(), SourceFault>
     requires within { number < length (slots certified topology.now) }
-    requires few { number < u32.MAX }
+    requires below_max { number < u32.MAX }
     requires failures { parts.old.failed < u64.MAX }
     ensures opened { OnOk result
         ((name : List ℕ) × IsOpened parts.new name × HasNameOfSlot certified topology.now number name) }
@@ -83,7 +84,8 @@ pub(crate) fn open_slot<R: Input>(
     open_named(parts, &slot, number)
 }
 
-/// Reads to the end of the bundle, whose parts have to have the names of the slots from a number on.
+/// Reads to the end of the bundle, whose further parts have to have the names of the slots from a
+/// number on.
 pub(crate) fn check_names_to_end<R: Input>(
     parts: &mut Parts<R>,
     topology: &Topology,

@@ -1,4 +1,4 @@
-//! Why the parts of a bundle, or a folder's files, tell no domain.
+//! The faults of reading a domain from a bundle or a folder.
 
 ghost use Rattle.std.specs.Prelude.{◌≡◌};
 ghost use Rattle.mc_input.specs.SourceFault.{from_bundle_fault, from_file_fault};
@@ -10,12 +10,12 @@ use mc_files::FileFault;
 use mc_text::{BundleFault, Memory as NoMemory};
 use std::alloc::{AllocError, AllocFailed};
 
-/// Why the parts of a bundle, or a folder's files, tell no domain: the first fault in the order in
-/// which they are judged.
+/// Why no domain is read from a bundle or a folder's files: the first fault, in the order of the
+/// reading.
 #[derive(Clone, Copy, Debug, PartialEq, Eq)]
 pub enum SourceFault {
-    /// (1) What was given is refused. A file is told of by the part that it would make of a bundle,
-    /// and one that passes 16,777,216 bytes as too large for a bundle. Or memory ran out.
+    /// (1) The texts are refused, or memory ran out. A file's fault has the name of the part that it
+    /// would be in a bundle, and a file of over 16,777,216 bytes is reported as a too large bundle.
     Input(InputFault),
     /// (2) The input failed, or a file isn't there or can't be read.
     Read,

@@ -1,4 +1,4 @@
-//! Why a folder's files tell no domain with some routers left out.
+//! The faults of reading a domain from a folder with routers excluded.
 
 ghost use Rattle.std.specs.Prelude.{◌≡◌};
 ghost use Rattle.mc_input.specs.declared.fault.InputFault.TheVariants.{Memory};
@@ -9,13 +9,13 @@ use crate::fault::InputFault;
 use crate::source_fault::SourceFault;
 use std::alloc::{AllocError, AllocFailed};
 
-/// Why a folder's files tell no domain with some routers left out.
+/// Why no domain is read from a folder with routers excluded.
 #[derive(Clone, Copy, Debug, PartialEq, Eq)]
 pub enum WithoutFault {
     /// (1) The files are refused, the source failed or memory ran out.
     Source(SourceFault),
-    /// (2) No router of the topology has the name at this place of those that are to be left out,
-    /// counted from 1.
+    /// (2) No router of the topology has the name at this place, counted from 1, of the excluded
+    /// ones.
     NoSuchRouter(u32),
 }
 

@@ -1,4 +1,4 @@
-//! Routers' rows as JSON.
+//! The rows of routers as JSON values.
 
 ghost use Rattle.std.specs.Prelude.{◌≡◌, IfOk, map};
 ghost use Rattle.std.specs.String.{string_bytes};
@@ -20,7 +20,7 @@ use mc_topology::{Flow, RouterNo};
 use serde_json::Value;
 use std::alloc::{AllocError, Global};
 
-/// A row's source or its group. The address 0.0.0.0 stands for every one, and is told as `*`.
+/// A row's source or group. The address 0.0.0.0 means every source or group, and is written `*`.
 fn address(alloc: Global, address: Addr) -> Result<String, AllocError>
     ensures { IfOk result (λ text. string_bytes text ≡ address_text address) }
 {
@@ -66,7 +66,7 @@ fn oif_values(
     Ok(values)
 }
 
-/// What a row is of: its router, its source and its group.
+/// The router, the source and the group of a row.
 #[derive(Clone, Copy, Drop)]
 struct RowKey {
     router: RouterNo,
@@ -74,7 +74,7 @@ struct RowKey {
     group: Addr,
 }
 
-/// A row of these vifs.
+/// A row with its incoming and outgoing vifs.
 fn entry_value(
     alloc: Global,
     view: &FlowView<'_>,
@@ -98,7 +98,7 @@ fn entry_value(
         .object()
 }
 
-/// A router's row for a flow. Null for a row for every source, and where there is none.
+/// A router's row of a flow's source and group, or null if it has none.
 pub(crate) fn row_value(
     alloc: Global,
     view: &FlowView<'_>,
@@ -121,7 +121,7 @@ pub(crate) fn row_value(
     }
 }
 
-/// A router's row for every source, with the group that it has.
+/// A router's row for every source, with the row's group.
 fn row_for_every_source<'n>(
     summary: &'n [CacheSummary],
     group: Addr,
@@ -135,8 +135,8 @@ fn row_for_every_source<'n>(
     }
 }
 
-/// A router's row for every source, by what is noted of the routers' caches: that of the group, or else
-/// that of the group 0.0.0.0. Null where the notes have none.
+/// A router's row for every source: that of the group, or else that of the group 0.0.0.0. Null if the
+/// summary of its cache has none.
 pub(crate) fn every_source_value(
     alloc: Global,
     view: &FlowView<'_>,

@@ -4,7 +4,7 @@ use Rattle.std.proofs.Common.{◌-◌, Some, Result, IfSome, OnOk, append_assoc,
 use Rattle.std.proofs.lemmas.List.{append-nil, take_min, take_more}
 use Rattle.mc_text.proofs.StepLemmas.{on_ok_map}
 use Rattle.mc_files.specs.Files.{FileText}
-use Rattle.mc_files.specs.UnreadText.{unread_text}
+use Rattle.mc_files.specs.FilePart.{unread_text}
 use Rattle.mc_files.specs.declared.unread.Unread.{Unread}
 use Rattle.mc_input.specs.RefusedFiles.{AreUnreadFilesMissing, AreRefusedFiles, saturating_failures}
 use Rattle.mc_input.specs.RefusedFiles.{refused_files_of, as_judged_file, unread_count}

@@ -7,7 +7,7 @@ use Rattle.std.specs.Prelude.{if◌then◌else◌, string_bytes}
 use Rattle.std.specs.Io.KnownBytes.{Appends}
 use Rattle.mc_text.specs.Device.{AppendsProperPrefix}
 use Rattle.mc_files.specs.Files.{FileText, file_named}
-use Rattle.mc_files.specs.UnreadText.{unread_text}
+use Rattle.mc_files.specs.FilePart.{unread_text}
 use Rattle.mc_input.specs.RefusedFiles.{AreUnreadFilesMissing, AreRefusedFiles, saturating_failures}
 use Rattle.mc_input.specs.RefusedFiles.{refused_files_of, as_judged_file}
 use Rattle.mc_input.specs.RefusedFiles.{unread_count}

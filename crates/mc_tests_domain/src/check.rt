@@ -1,5 +1,5 @@
-//! What the checker says of entries that no certificate holds, and of names that no topology has.
-//! The other lists of entries are rows of the command line's tables `check_*`.
+//! The checker's verdicts on entries that no certificate can hold, and texts of numbers without a name.
+//! Other entries are rows of the command line's tables `check_*`.
 
 use crate::samples::{
     CHAIN, FORWARDS, LAST_WANTS, Network, VIFS, chain_entries, entry_behind, retry_after_oom,
@@ -45,7 +45,7 @@ fn verdict_of(
     check_flow(alloc, domain, flow, entries)
 }
 
-/// The verdict on these entries for a flow, as it is written.
+/// The verdict on these entries for a flow has this text.
 fn assert_verdict(
     rt: &impl Abort,
     alloc: Global,
@@ -60,7 +60,7 @@ fn assert_verdict(
     Ok(())
 }
 
-/// The verdict for a flow on the entry of the source's LAN with a need, that of l1 and one of l2.
+/// The verdict for a flow on the source's LAN with a need, l1's entry and one of l2 has this text.
 fn assert_verdict_of_chain(
     rt: &impl Abort,
     alloc: Global,
@@ -73,7 +73,7 @@ fn assert_verdict_of_chain(
     assert_verdict(rt, alloc, domain, flow, &entries, wanted)
 }
 
-/// Needs of 0, routers that the topology hasn't, and a vif past the greatest.
+/// Needs of 0, routers that the topology doesn't have, and a vif past the greatest.
 fn assert_verdicts_of_odd_entries(
     rt: &impl Abort,
     alloc: Global,
@@ -107,7 +107,7 @@ fn assert_verdicts_of_odd_entries(
     )
 }
 
-/// Reasons and a verdict as they are written, a line each.
+/// The texts of reasons and of a verdict, a line each.
 fn reasons_and_verdict_text(alloc: Global, topology: &Topology) -> Result<String, Fail> {
     let mut text = String::new(alloc);
     for reason in [
@@ -132,7 +132,7 @@ fn assert_reason_texts(rt: &impl Abort, alloc: Global, topology: &Topology) -> R
     Ok(())
 }
 
-/// The verdict on what certifies the first flow.
+/// The entries that certify the first flow are accepted, also after a failed allocation.
 fn assert_certified_after_retry(
     rt: &(impl Abort + Print),
     alloc: Global,

@@ -1,5 +1,5 @@
-//! The entries that `make` answers for flows of a small network. What is found of flows that can
-//! have none, the command line's cases and tables show.
+//! The entries that `make` answers for flows of a small network. The findings for flows that have no
+//! entries are shown by the command line's cases and tables.
 
 use crate::samples::{
     CHAIN, LAST_WANTS, Network, VIFS, chain_entries, retry_after_oom, with_domain,
@@ -16,12 +16,12 @@ use std::test::Fail;
 /// The chain of r1 and r2 from l0 over l1 to l2, and r3 from l0 to l2. Of the flows
 /// - the first goes along the chain;
 /// - the second has no row, where nobody wants it;
-/// - what a packet of the third needs for l1, it needs for l2 as well;
+/// - a packet of the third needs the same TTL for l2 as for l1;
 /// - a pair that no packet passes makes no entry of the fourth;
 /// - of the fifth r3 sends from l0 to l2, and r2 from there to l1, which carries its copy after l2;
 /// - the sixth has the tree of the first;
 /// - the seventh has a TTL below the need of l2;
-/// - the eighth has two ways to l2;
+/// - the eighth has two paths to l2;
 /// - the ninth has none.
 const NETWORK: Network<'static> = Network {
     routers: "r1; r2; r3",
@@ -33,7 +33,7 @@ const NETWORK: Network<'static> = Network {
     ..CHAIN
 };
 
-/// What the routers hold.
+/// The tables of the three routers.
 const ROUTERS: &[(&str, &str)] = &[
     (
         VIFS,
@@ -65,8 +65,8 @@ const ROUTERS: &[(&str, &str)] = &[
     ),
 ];
 
-/// The entries of each flow: a LAN, its rank and its need, and the router and its vif that send on
-/// it. A flow that isn't right has none.
+/// The entries of each flow: a LAN, its rank and its need, and the router and its vif that forward onto
+/// it. A wrong flow has none.
 const EXPECTED_ENTRIES: &str = "0/0/1; 1/1/2/0/1; 2/2/3/1/1;
 0/0/1;
 0/0/1; 1/1/255/0/1; 2/2/255/1/1;
@@ -78,7 +78,7 @@ none
 none
 ";
 
-/// Writes entries on a line.
+/// Appends a line of entries.
 fn push_entries(text: &mut String, entries: &[Reached]) -> Result<(), Fail> {
     for entry in entries {
         let between = if entry.rank == 0 { "" } else { " " };
@@ -96,7 +96,7 @@ fn push_entries(text: &mut String, entries: &[Reached]) -> Result<(), Fail> {
     Ok(())
 }
 
-/// What is made for a flow.
+/// Makes the entries of a flow.
 fn make_entries(
     rt: &impl Abort,
     alloc: Global,
@@ -107,7 +107,7 @@ fn make_entries(
     make(alloc, domain, flow)
 }
 
-/// Writes what is made for a flow on a line.
+/// Appends a line with the entries made for a flow, or `none`.
 fn push_made(
     rt: &impl Abort,
     alloc: Global,
@@ -142,7 +142,7 @@ fn entries_of_each_flow(rt: HostRuntime) -> Result<(), Fail> {
     })
 }
 
-/// What is made for a flow is this, also where a growth was refused before.
+/// The entries made for a flow are these, also after a failed allocation.
 fn assert_made(
     rt: &(impl Abort + Print),
     alloc: Global,
@@ -155,7 +155,7 @@ fn assert_made(
     Ok(())
 }
 
-/// The first flow goes along the chain. Of the seventh a fault is found at its TTL, and of the eighth at 255.
+/// The first flow goes along the chain. The seventh is wrong at its own TTL, and the eighth at 255.
 fn assert_made_after_retry(
     rt: &(impl Abort + Print),
     alloc: Global,

@@ -1,4 +1,4 @@
-//! Travels by pickers that no command has. The others are cases and rows of the command line's.
+//! Travels by pickers that no command has. The others are cases and rows of the command line.
 
 use crate::samples::{CHAIN, FORWARDS, LAST_WANTS, Network, with_domain};
 use mc_forward::Domain;
@@ -19,7 +19,7 @@ fn travel_text(alloc: Global, topology: &Topology, travel: &Travel) -> Result<St
     Ok(text)
 }
 
-/// The packet of the first flow with this TTL has this travel.
+/// With this picker the packet of the first flow with this TTL has this travel.
 fn assert_travel<P: Picker>(
     rt: &impl Abort,
     alloc: Global,
@@ -36,7 +36,7 @@ fn assert_travel<P: Picker>(
     Ok(())
 }
 
-/// Numbers pick, and then the first: with two copies waiting 7 picks the same as 1.
+/// `Numbers`, where 7 picks the same as 1 of two waiting copies, and a reference to `First`.
 fn assert_picks(rt: &impl Abort, alloc: Global, domain: &Domain) -> Result<(), Fail> {
     for number in [1, 7] {
         let mut picker = Numbers::new(vec![in alloc; number]?);

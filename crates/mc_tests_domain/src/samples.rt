@@ -1,5 +1,4 @@
-//! Small domains that the tests of several crates share: what writes the texts that they are read of, and
-//! the domains of these texts.
+//! Small domains that the tests of several crates share, and the texts that they are read from.
 
 mod domain;
 mod entries;

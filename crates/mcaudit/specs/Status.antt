@@ -1,4 +1,4 @@
--- The exit status that tells the program's answer, or why it gives none.
+-- The exit status of the program's answer, or of its failure.
 use Rattle.std.specs.Prelude.{ℕ, Bool, true, false, Result, Ok, Err}
 use Rattle.mc_cli.specs.declared.fault.WordsFault.TheVariants as words
 use Rattle.mc_run.specs.declared.fault.RunFault.TheVariants as run
@@ -23,10 +23,10 @@ exit_status_of_failure (Run run.Write) = 3
 -- memory ran out
 exit_status_of_failure (Run run.Memory) = 4
 exit_status_of_failure (Words words.Memory) = 4
--- the words are wrong
+-- the command line is wrong
 exit_status_of_failure (Words (words.Wrong text)) = 5
 
--- 0 for yes and nothing else, 1 for no, and the failure's status where there is no answer
+-- 0 for yes and only for yes, 1 for no, and else the failure's status
 abbrev pub exit_status_of_answer : Result Bool Failure → ℕ
 exit_status_of_answer (Ok true) = 0
 exit_status_of_answer (Ok false) = 1

@@ -1,4 +1,4 @@
-//! How the program ends: with the status of its answer, and where there is none with why, on standard
+//! Ends the program: with the status of its answer, or with a failure's status and text on standard
 //! error.
 
 ghost use Rattle.std.specs.Prelude.{◌≡◌};
@@ -24,7 +24,7 @@ fn exit_code_of(answer: &Result<bool, Failure>) -> ExitCode
     }
 }
 
-/// Ends with the status of an answer. Where there is none, it writes why to standard error.
+/// Ends with the status of an answer. A failure is written to standard error.
 pub(crate) fn end(rt: &impl Eprint, answer: Result<bool, Failure>) -> ExitCode
     ensures { exit_status result ≡ exit_status_of_answer answer }
 {
@@ -34,16 +34,16 @@ pub(crate) fn end(rt: &impl Eprint, answer: Result<bool, Failure>) -> ExitCode
     exit_code_of(&answer)
 }
 
-/// Tells on standard error which files of a folder are refused, and where. Where memory runs out,
-/// nothing more is told.
+/// Lists the refused files of an audit's folder on standard error. Where memory runs out, the list
+/// ends.
 fn list_refused_files(rt: &(impl AllocGlobal + Files + Eprint), words: &AuditWords<'_>) {
     let mut files = Folder::new(rt, words.folder);
     let mut output = ToStandardError::new(rt);
     let _ = print_refused_files(rt.alloc(), &mut files, &words.without, &mut output);
 }
 
-/// Writes to standard error why an audit gives no answer, with the name of a router that isn't there,
-/// and with the files that are refused.
+/// Writes an audit's failure to standard error: the name of an excluded router that the topology
+/// doesn't have, or the fault followed by the refused files.
 fn print_failure(
     rt: &(impl AllocGlobal + Files + Eprint),
     words: &AuditWords<'_>,
@@ -63,7 +63,7 @@ fn print_failure(
     }
 }
 
-/// Whether no answer is given for what was read, or for what couldn't be.
+/// Whether the failure is that of the files or of reading them.
 fn is_input_failure(failure: &Failure) -> bool {
     !matches!(
         failure,
@@ -71,8 +71,8 @@ fn is_input_failure(failure: &Failure) -> bool {
     )
 }
 
-/// Ends with the status of an audit's answer. Where there is none, it writes why to standard error, and
-/// what is refused of its folder.
+/// Ends with the status of an audit's answer. A failure is written to standard error, with the refused
+/// files of the audit's folder.
 fn end_audit(
     rt: &(impl AllocGlobal + Files + Eprint),
     words: &AuditWords<'_>,
@@ -87,7 +87,7 @@ fn end_audit(
     code
 }
 
-/// Ends with the status of a task's answer. Where there is none, it writes why to standard error.
+/// Ends with the status of a task's answer. A failure is written to standard error.
 pub(crate) fn end_task(
     rt: &(impl AllocGlobal + Files + Eprint),
     task: &Task<'_>,

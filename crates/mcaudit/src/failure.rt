@@ -1,4 +1,4 @@
-//! Why the program gives no answer, and the status that tells it.
+//! The program's failures, and the exit status of each.
 
 ghost use Rattle.std.specs.Prelude.{◌≡◌};
 ghost use Rattle.mcaudit.specs.declared.failure.Failure.TheVariants.{Words, Run};
@@ -8,10 +8,10 @@ use mc_cli::WordsFault;
 use mc_run::RunFault;
 use thiserror::Error;
 
-/// Why the program gives no answer. Its text is what standard error gets.
+/// Why the program gives no answer. `Display` gives the text for standard error.
 #[derive(Debug, Drop, Error)]
 pub enum Failure {
-    /// The words give no task.
+    /// The command line gives no task.
     #[error("{0}")]
     Words(WordsFault),
     /// The task's run gives no answer.
@@ -20,7 +20,8 @@ pub enum Failure {
 }
 
 impl Failure {
-    /// 2 for a refused input, 3 for a device that failed, 4 for lack of memory, 5 for wrong words.
+    /// The exit status: 2 for a refused input, 3 for a failed device, 4 for lack of memory, 5 for a
+    /// wrong command line.
     pub fn status(&self) -> u8
         ensures { result ≡ exit_status_of_failure self.now }
     {

@@ -7,8 +7,8 @@ use mc_cli::Task;
 use mc_files::Folder;
 use std::rt::Files;
 
-/// The folder that the task reads. For a task that reads none it is the present directory, of which
-/// nothing is asked.
+/// The folder that the task reads. A task that reads none gets the current directory, and doesn't use
+/// it.
 pub(crate) fn folder_of<'a, R: Files>(rt: &'a R, task: &'a Task<'a>) -> Folder<'a, R>
     ensures folder { result.folder ≡ folder_of task.now }
     ensures unread { (result.is_open ≡ false) × (result.failed ≡ 0) }

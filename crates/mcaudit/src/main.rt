@@ -20,8 +20,7 @@ use std::io::{self, BufReader, Input, Read};
 use std::process::ExitCode;
 use std::rt::Files;
 
-/// An input over a reader that is read 8,192 bytes ahead: the lines of a bundle's parts are asked for
-/// byte by byte.
+/// An input over a reader with a buffer of 8,192 bytes, since a bundle's lines are read byte by byte.
 fn buffered_input<R: Read + Drop>(
     rt: &impl AllocGlobal,
     reader: R,
@@ -36,7 +35,7 @@ fn buffered_input<R: Read + Drop>(
     }
 }
 
-/// Does a task that reads its input as it is asked for, if at all.
+/// Does a task that reads its input in large pieces, or not at all.
 fn run_unbuffered(
     rt: &(impl AllocGlobal + Files + Input + Print),
     task: &Task<'_>,
@@ -49,7 +48,7 @@ fn run_unbuffered(
     run_task(rt.alloc(), task, &mut input, &mut files, &mut output)
 }
 
-/// Does a task that reads a bundle, ahead of what is asked for.
+/// Does a task that reads a bundle, through a buffer.
 fn run_buffered(
     rt: &(impl AllocGlobal + Files + Input + Print),
     task: &Task<'_>,
@@ -73,7 +72,7 @@ fn run(rt: &(impl AllocGlobal + Files + Input + Print), task: &Task<'_>) -> Resu
     Ok(answer?)
 }
 
-/// Does the task that the words ask for.
+/// Does the task of the command line.
 fn run_command_line<'a>(
     rt: &(impl Env + AllocGlobal + Files + Input + Print + Eprint),
     words: &'a [&'a str],

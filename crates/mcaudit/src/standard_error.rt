@@ -6,8 +6,8 @@ use mc_text::{DeviceFault, Output};
 use std::marker::Model;
 use std::str;
 
-/// An output over standard error, which doesn't tell its bytes. It takes each text whole, or else
-/// fails: also at bytes that are no UTF-8.
+/// An output over standard error. Contracts don't know its bytes. It writes each text whole, or fails,
+/// also at bytes that aren't UTF-8.
 #[derive(Drop)]
 pub(crate) struct ToStandardError<'r, R: Eprint> {
     rt: &'r R,
@@ -24,7 +24,7 @@ impl<'r, R: Eprint> Model for ToStandardError<'r, R> {
 }
 
 impl<'r, R: Eprint> ToStandardError<'r, R> {
-    /// An output with no failure yet.
+    /// An output that hasn't failed yet.
     pub(crate) fn new(rt: &'r R) -> ToStandardError<'r, R>
         ensures { result ≡ record { written = None; failed = 0 } }
     {

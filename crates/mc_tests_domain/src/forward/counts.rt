@@ -1,4 +1,4 @@
-//! Parts of which no domain is assembled, since their numbers differ.
+//! Parts that make no domain, since their counts don't fit the topology.
 
 use crate::samples::{CHAIN, FORWARDS, LAST_WANTS, Parts, parts_of, topology_of};
 use mc_forward::{Domain, DomainFault, Refused};
@@ -6,7 +6,7 @@ use mc_topology::Topology;
 use std::alloc::Global;
 use std::test::Fail;
 
-/// Why a domain is refused, and how many routers, tables and lists are handed back.
+/// The fault of a refused domain, and how many routers, tables and lists are handed back.
 fn refused_parts_count(
     answer: &Result<Domain, Refused>,
 ) -> Option<(DomainFault, u32, usize, usize)> {
@@ -21,7 +21,7 @@ fn refused_parts_count(
     }
 }
 
-/// What comes of a domain of these parts.
+/// Assembles a domain of these parts, and answers why it is refused and how much is handed back.
 fn assemble_refused(
     alloc: Global,
     topology: Topology,

@@ -1,6 +1,6 @@
-//! Domains of the texts of real Linux kernels, and of the reports that hosts sent: what lies where,
-//! and which LAN wants what. Where the routers send, the command line's cases show of the same texts
-//! (`make_kernel_texts_*`).
+//! Domains of texts of real Linux kernels and of reports that hosts sent: on which LAN each vif is, and
+//! which LAN wants what. How the routers forward is shown by the command line's cases for the same
+//! texts (`make_kernel_texts_*`).
 
 use crate::samples::{CHAIN, Network, WANTED, with_domain};
 use mc_forward::Domain;
@@ -9,8 +9,8 @@ use std::alloc::Global;
 use std::process::Abort;
 use std::test::Fail;
 
-/// A router with a register vif that no flow uses. As a Linux kernel printed its vifs and its
-/// cache.
+/// A router with a register vif that no flow uses. Its vifs and cache are as a Linux kernel printed
+/// them.
 const REGISTER: Network<'static> = Network {
     lans: "l0; l1",
     routers: "r1",
@@ -32,8 +32,8 @@ const REGISTER_CACHE: &str = "Group    Origin   Iif     Pkts    Bytes    Wrong O
 
 const REGISTER_TABLES: &[(&str, &str)] = &[(REGISTER_VIFS, REGISTER_CACHE)];
 
-/// A router from l0 to l1 and l2, with five flows. As a Linux kernel printed its vifs and its
-/// cache.
+/// A router from l0 to l1 and l2, with five flows. Its vifs and cache are as a Linux kernel printed
+/// them.
 const FILTERS: Network<'static> = Network {
     routers: "r1",
     interfaces: "r1 eth0 l0; r1 eth1 l1; r1 eth2 l2",
@@ -59,7 +59,7 @@ const FILTERS_CACHE: &str = "Group    Origin   Iif     Pkts    Bytes    Wrong Oi
 
 const FILTERS_TABLES: &[(&str, &str)] = &[(FILTERS_VIFS, FILTERS_CACHE)];
 
-/// What was captured on l0, l1 and l2 after a General Query.
+/// The reports that were captured on l0, l1 and l2 after a General Query.
 const FILTERS_L0: &str = "1101ecfe0000000002000000\n";
 
 const FILTERS_L1: &str = "1101ecfe0000000002000000
@@ -81,7 +81,7 @@ fn placed(rt: &impl Abort, domain: &Domain, vif: u8) -> Option<LanNo> {
     domain.placed(RouterNo(0), vif)
 }
 
-/// Vifs 0 and 1 lie on the LANs of their devices, and no other vif on any.
+/// Vifs 0 and 1 are on the LANs of their devices, and no other vif is on any.
 fn assert_two_vifs_placed(rt: &impl Abort, domain: &Domain) {
     assert!(rt; placed(rt, domain, 0) == Some(LanNo(0)));
     assert!(rt; placed(rt, domain, 1) == Some(LanNo(1)));
@@ -99,8 +99,8 @@ fn register_vif_lies_on_no_lan(rt: HostRuntime) -> Result<(), Fail> {
     })
 }
 
-/// A LAN has one interface, at this vif of the first router, and it wants the flows, from the first
-/// on, as these words say. Of `-` nothing is said.
+/// A LAN has one interface, at this vif of the first router, and wants each flow as its word says:
+/// `yes`, `no`, or `-` for a flow that isn't checked.
 fn assert_interface_and_wants(rt: &impl Abort, domain: &Domain, lan: u32, vif: u8, words: &str) {
     assert!(rt; lan < domain.topology().lans());
     let mut interfaces = domain.interfaces(LanNo(lan));

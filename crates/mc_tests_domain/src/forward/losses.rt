@@ -1,4 +1,4 @@
-//! Losses, and orders of handling, in three networks of one domain.
+//! Lost copies, and orders of handling, in three networks of one domain.
 
 use super::network::*;
 use crate::samples::{Network, VIFS, WANTED, with_domain};
@@ -8,8 +8,8 @@ use std::process::Abort;
 use std::test::Fail;
 
 /// The chain of r1 and r2 from l0 over l1 to l2; branches, of r3 and r4 from l3 over l4 to l5, and
-/// of r5 from l3 to l6; and two ways, of r6 and r7 from l7 over l8 to l9, and of r8 from l7 to l9.
-/// Each has its flow.
+/// of r5 from l3 to l6; and two paths, of r6 and r7 from l7 over l8 to l9, and of r8 from l7 to l9.
+/// Each network has one flow.
 const NETWORK: Network<'static> = Network {
     lans: "l0; l1; l2; l3; l4; l5; l6; l7; l8; l9",
     routers: "r1; r2; r3; r4; r5; r6; r7; r8",
@@ -29,7 +29,7 @@ const ROUTERS: &[(&str, &str)] = &[(
 ",
 ); 8];
 
-/// The last LANs of each way want them.
+/// The last LAN of each path wants them.
 const LANS: &[&str] = &["", "", WANTED, "", "", WANTED, WANTED, "", "", WANTED];
 
 /// The waiting copies with these indexes are handled, one after the other.
@@ -44,8 +44,8 @@ fn handle_in_order(
     Ok(())
 }
 
-/// One copy is lost where a loss is told, copies are handled in this order, and then so many were
-/// carried on these LANs, with no stray.
+/// Loses a copy if an index of one is given, and handles copies in this order. Then these LANs carried
+/// so many copies, and there is no stray.
 fn assert_carried(
     rt: &impl Abort,
     flight: &mut Flight<'_>,
@@ -62,7 +62,7 @@ fn assert_carried(
     Ok(())
 }
 
-/// The same of a new packet.
+/// The same for a new packet.
 fn assert_carried_by_new_flight(
     rt: &impl Abort,
     alloc: Global,
@@ -92,7 +92,7 @@ fn assert_branches_in_every_order(
     Ok(())
 }
 
-/// The first copy of the chain, one branch, and one of two ways.
+/// The first copy of the chain is lost, one of a branch, and one of two paths.
 fn assert_losses(rt: &impl Abort, alloc: Global, domain: &Domain) -> Result<(), Fail> {
     let first = [(0, 1), (1, 0), (2, 0)];
     assert_carried_by_new_flight(rt, alloc, domain, (0, 3), (Some(0), &[]), &first)?;

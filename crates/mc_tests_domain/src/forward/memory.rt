@@ -1,7 +1,6 @@
-//! Want of memory: what `assemble` hands back, and the flight that `handle` leaves. With every
-//! growth granted these tests compare the calls' answers. `rt try --test --fail-alloc N`, for N
-//! from 1 on, refuses one growth after the other: the call is then made again, of what the refusal
-//! left.
+//! Failed allocations: the parts that `assemble` hands back, and the flight that `handle` leaves.
+//! Without a failure these tests compare the calls' answers. `rt try --test --fail-alloc N`, for N
+//! from 1 on, makes the Nth allocation fail: the call is then retried with what the failed one left.
 
 use super::network::*;
 use crate::samples::{CHAIN, Network, Parts, VIFS, WANTED, assemble_domain, parts_of, topology_of};
@@ -21,7 +20,7 @@ const WIDE: Network<'static> = Network {
     ..CHAIN
 };
 
-/// r1's vifs and its row, which also sends to a vif that isn't there.
+/// r1's vifs and its row, which also forwards to a vif that doesn't exist.
 const FIRST_ROUTER: (&str, &str) = (
     "Interface BytesIn PktsIn BytesOut PktsOut Flags Local Remote
 0 eth0 0 0 0 0 00000 00000000 00000000
@@ -33,7 +32,7 @@ const FIRST_ROUTER: (&str, &str) = (
 ",
 );
 
-/// A router that forwards from vif 0 to vif 1 and to a vif that isn't there.
+/// A router that forwards from vif 0 to vif 1 and to a vif that doesn't exist.
 const OTHER_ROUTER: (&str, &str) = (
     VIFS,
     "Group Origin Iif Pkts Bytes Wrong Oifs
@@ -50,7 +49,7 @@ const ROUTERS: &[(&str, &str)] = &[
     OTHER_ROUTER,
 ];
 
-/// The domain of the parts that a refusal handed back.
+/// The domain of the parts that a failed call handed back.
 fn assemble_handed_back_parts(
     rt: &impl Abort,
     alloc: Global,
@@ -60,7 +59,7 @@ fn assemble_handed_back_parts(
     assemble_domain(alloc, refused.topology, (refused.tables, refused.reports))
 }
 
-/// The domain of these parts, where need be of those that the first refusal handed back.
+/// The domain of these parts, retried with those that a failed call handed back.
 fn assemble_with_retry(
     rt: &impl Abort,
     alloc: Global,
@@ -73,7 +72,7 @@ fn assemble_with_retry(
     }
 }
 
-/// The domain of a network and these parts, at the second try where the first is refused.
+/// The domain of a network and these parts, retried after a failed allocation.
 fn assemble_network_with_retry(
     rt: &impl Abort,
     alloc: Global,
@@ -84,7 +83,7 @@ fn assemble_network_with_retry(
     assemble_with_retry(rt, alloc, topology, parts)
 }
 
-/// The wide domain, of which l1 wants the flow.
+/// The wide domain, where only l1 wants the flow.
 fn wide_domain(rt: &impl Abort, alloc: Global) -> Result<Domain, Fail> {
     let parts = parts_of(alloc, ROUTERS, &["", WANTED, ""])?;
     assemble_network_with_retry(rt, alloc, &WIDE, parts)
@@ -100,7 +99,7 @@ fn wants_and_interfaces(rt: &impl Abort, domain: &Domain, lan: u32) -> (bool, us
     )
 }
 
-/// What a flight shows.
+/// The state of a flight.
 #[derive(Drop)]
 struct FlightSnapshot {
     waiting: usize,
@@ -119,15 +118,15 @@ fn snapshot_of(alloc: Global, flight: &Flight<'_>) -> Result<FlightSnapshot, All
     })
 }
 
-/// The flight shows what it showed before.
+/// The flight has this state.
 fn assert_unchanged(rt: &impl Abort, flight: &Flight<'_>, snapshot: &FlightSnapshot) {
     assert!(rt; flight.waiting() == snapshot.waiting);
     assert!(rt; flight.copies() == snapshot.copies.as_slice());
     assert!(rt; flight.strays() == snapshot.strays.as_slice());
 }
 
-/// The handling of the first waiting copy. Where a growth is refused the flight is as it was, and
-/// the handling can be asked for again.
+/// Handles the first waiting copy. After a failed allocation the flight is unchanged, and the call is
+/// retried.
 fn handle_or_leave_unchanged(
     rt: &impl Abort,
     flight: &mut Flight<'_>,
@@ -150,8 +149,8 @@ fn handle_with_retry(
     handle_or_leave_unchanged(rt, flight, &snapshot)
 }
 
-/// What the handling with this number shows, counted from 0. r1 sends onto l1 and l2, and each of
-/// the others onto l2. The copies on l2 come to vifs that the rows don't take from.
+/// The outcome of the handling with this number, counted from 0. r1 forwards onto l1 and l2, and each
+/// of the others onto l2. Copies on l2 come in at vifs that aren't the rows' incoming interface.
 fn expected_outcome(number: u32) -> Outcome {
     match number {
         0 => Outcome::Sent {
@@ -166,7 +165,7 @@ fn expected_outcome(number: u32) -> Outcome {
     }
 }
 
-/// All handlings of a packet, one after the other.
+/// Handles all copies of a packet, one after another.
 fn handle_all_copies(rt: &impl Abort, alloc: Global, flight: &mut Flight<'_>) -> Result<(), Fail> {
     for number in 0..36 {
         let event = handle_with_retry(rt, alloc, flight)?;
@@ -179,7 +178,7 @@ fn handle_all_copies(rt: &impl Abort, alloc: Global, flight: &mut Flight<'_>) ->
     Ok(())
 }
 
-/// The travel of a packet in the wide domain.
+/// A packet in the wide domain is carried once on l0 and l1, and six times on l2.
 fn assert_wide_travel(rt: &impl Abort, alloc: Global, domain: &Domain) -> Result<(), Fail> {
     let mut flight = start_flight(rt, alloc, domain, (0, 5))?;
     handle_all_copies(rt, alloc, &mut flight)?;
@@ -188,14 +187,14 @@ fn assert_wide_travel(rt: &impl Abort, alloc: Global, domain: &Domain) -> Result
     Ok(())
 }
 
-/// Each LAN of the wide domain, whether it wants the flow, and how many interfaces it has.
+/// Only l1 wants the flow; l0 has one interface, and l1 and l2 have six.
 fn assert_three_lans(rt: &impl Abort, domain: &Domain) {
     assert!(rt; wants_and_interfaces(rt, domain, 0) == (false, 1));
     assert!(rt; wants_and_interfaces(rt, domain, 1) == (true, 6));
     assert!(rt; wants_and_interfaces(rt, domain, 2) == (false, 6));
 }
 
-/// The domain is as it is to be, and the flight goes on, whichever growth was refused.
+/// The domain and a packet's flight are as expected, whichever allocation failed.
 fn assert_as_expected(rt: &impl Abort, alloc: Global, domain: &Domain) -> Result<(), Fail> {
     assert_three_lans(rt, domain);
     assert_wide_travel(rt, alloc, domain)

@@ -1,4 +1,4 @@
-//! Flights of packets, and what is asked of them.
+//! Flights of packets, and their checks.
 
 use mc_forward::{Domain, Event, Flight};
 use mc_topology::LanNo;
@@ -6,7 +6,7 @@ use std::alloc::Global;
 use std::process::Abort;
 use std::test::Fail;
 
-/// A packet, by the number of its flow and its TTL, before any handling.
+/// The flight of a packet, by the number of its flow and its TTL, before any handling.
 pub(super) fn start_flight<'d>(
     rt: &impl Abort,
     alloc: Global,
@@ -18,7 +18,7 @@ pub(super) fn start_flight<'d>(
     Ok(Flight::start(alloc, domain, flow, ttl)?)
 }
 
-/// What the handling of a waiting copy shows.
+/// Handles a waiting copy.
 pub(super) fn handle_copy(
     rt: &impl Abort,
     flight: &mut Flight<'_>,
@@ -28,7 +28,7 @@ pub(super) fn handle_copy(
     Ok(flight.handle(index)?)
 }
 
-/// Nothing waits, and each of these LANs carried so many copies, and no other one.
+/// No copy waits, and exactly these LANs carried copies, each so many.
 pub(super) fn assert_ends_with(rt: &impl Abort, flight: &Flight<'_>, carried: &[(u32, u32)]) {
     assert!(rt; flight.waiting() == 0);
     let mut all = 0u32;

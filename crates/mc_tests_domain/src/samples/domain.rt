@@ -1,4 +1,4 @@
-//! Domains put together of their texts.
+//! Domains assembled from their texts.
 
 use super::network::Network;
 use super::tables::tables_of;
@@ -11,7 +11,7 @@ use std::test::Fail;
 /// The tables of a domain's routers and the reports of its LANs.
 pub(crate) type Parts = (Vec<Tables>, Vec<ReportList>);
 
-/// The reports of each LAN's text.
+/// Reads the report list of each LAN.
 fn reports_of(alloc: Global, lans: &[&str]) -> Result<Vec<ReportList>, Fail> {
     let mut reports = Vec::new(alloc);
     for text in lans {
@@ -20,8 +20,8 @@ fn reports_of(alloc: Global, lans: &[&str]) -> Result<Vec<ReportList>, Fail> {
     Ok(reports)
 }
 
-/// The tables of each router's texts, its vifs and its cache, and the reports of each LAN's text.
-/// A cache may go without its header.
+/// Reads the tables of each router, from the texts of its vifs and its cache, and the report list of
+/// each LAN. A cache's text may lack its header.
 pub(crate) fn parts_of(
     alloc: Global,
     routers: &[(&str, &str)],
@@ -32,7 +32,7 @@ pub(crate) fn parts_of(
     Ok((tables, reports))
 }
 
-/// The domain of these parts. A failure names the fault alone: the parts, which come back with it, would hide it.
+/// The domain of these parts. The error is the fault alone: the parts that come back with it would hide it.
 pub(crate) fn assemble_domain(
     alloc: Global,
     topology: Topology,
@@ -60,8 +60,8 @@ fn assemble_network(alloc: Global, network: &Network<'_>, parts: Parts) -> Resul
     assemble_domain(alloc, topology, parts)
 }
 
-/// The domain of a network and these texts: each router's vifs and cache, which may go without its
-/// header, and each LAN's reports.
+/// The domain of a network and these texts: each router's vifs and cache, which may lack its header,
+/// and each LAN's reports.
 fn domain_of(
     alloc: Global,
     network: &Network<'_>,
@@ -72,7 +72,7 @@ fn domain_of(
     assemble_network(alloc, network, parts)
 }
 
-/// What is told of the domain of a network and these texts, which is lent: the one place that drops a domain.
+/// Runs a check on the domain of a network and these texts. No other function drops a domain.
 pub(crate) fn with_domain<F: FnOnce(&Domain) -> Result<(), Fail> + Drop>(
     alloc: Global,
     network: &Network<'_>,

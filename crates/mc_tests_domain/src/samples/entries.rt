@@ -23,7 +23,7 @@ pub(crate) fn entry_behind(lan: u8, need: u8, router: u32, vif: u8) -> Reached {
     }
 }
 
-/// What certifies a flow along the chain.
+/// The entries that certify a flow along the chain.
 pub(crate) fn chain_entries() -> [Reached; 3] {
     [
         source_entry(1),

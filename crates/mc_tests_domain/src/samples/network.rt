@@ -2,7 +2,7 @@
 
 use std::alloc::{AllocError, Global};
 
-/// A topology, told by words. `; ` stands between two LANs, routers, interfaces, hosts and flows.
+/// A topology in short texts, with `; ` between two LANs, routers, interfaces, hosts or flows.
 #[derive(Clone, Copy, Drop)]
 pub(crate) struct Network<'a> {
     /// The names of the LANs.
@@ -26,7 +26,7 @@ pub(crate) const CHAIN: Network<'static> = Network {
     flows: "10.0.0.5 239.1.2.3 3",
 };
 
-/// Writes a form, with the words one after the other in place of its `_`s.
+/// Appends a form, with each `_` replaced by the next of the words.
 fn push_filled(text: &mut String, form: &str, words: &str) -> Result<(), AllocError> {
     let mut words = words.split(' ');
     for piece in form.split('_') {
@@ -36,7 +36,7 @@ fn push_filled(text: &mut String, form: &str, words: &str) -> Result<(), AllocEr
     Ok(())
 }
 
-/// Writes a list, each of its parts in this form.
+/// Appends a list, each of its parts in this form.
 fn push_list(text: &mut String, list: &str, form: &str, parts: &str) -> Result<(), AllocError> {
     text.push_str(list)?;
     for part in parts.split("; ") {
@@ -46,7 +46,7 @@ fn push_list(text: &mut String, list: &str, form: &str, parts: &str) -> Result<(
 }
 
 impl Network<'_> {
-    /// Writes the topology's lists.
+    /// Appends the topology's lists.
     fn push_lists(&self, text: &mut String) -> Result<(), AllocError> {
         push_list(text, "lans = [\n", "\"_\",\n", self.lans)?;
         push_list(text, "router = [\n", "{name = \"_\"},\n", self.routers)?;

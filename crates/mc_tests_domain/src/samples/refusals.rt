@@ -1,10 +1,10 @@
-//! Calls that are made again where a growth was refused.
+//! Calls that are retried after a failed allocation.
 
 use mc_text::Memory;
 use std::test::Fail;
 
-/// The answer of a call, at the second try where the first one answers `Memory`. It is written that the call comes, and
-/// that it answers so: whoever refuses each request for memory in turn sees which are the call's, and what came of it.
+/// The answer of a call, retried if the first try answers `Memory`. The call and that answer are printed, so that a
+/// run that fails each allocation in turn sees which are the call's.
 pub(crate) fn retry_after_oom<T: Drop, F: Fn() -> Result<T, Memory> + Drop>(
     rt: &impl Print,
     call: F,

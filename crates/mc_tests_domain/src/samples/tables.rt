@@ -1,4 +1,4 @@
-//! The tables of routers, of their texts.
+//! Routers' tables, read from their texts.
 
 use super::texts::CACHE_HEADER;
 use mc_forward::Tables;
@@ -7,7 +7,7 @@ use mc_text::Order;
 use std::alloc::{AllocError, Global};
 use std::test::Fail;
 
-/// The text of a cache with its header, of a text that may go without it.
+/// The text of a cache, with the header put in front if the text lacks it.
 fn with_header(alloc: Global, text: &str) -> Result<String, AllocError> {
     let header = if text.starts_with("Group") {
         ""
@@ -19,21 +19,21 @@ fn with_header(alloc: Global, text: &str) -> Result<String, AllocError> {
     Ok(whole)
 }
 
-/// The cache of a text, which may go without its header.
+/// Reads a cache from a text that may lack its header.
 fn cache_of(alloc: Global, text: &str) -> Result<CacheTable, Fail> {
     let whole = with_header(alloc, text)?;
     Ok(CacheTable::read(alloc, whole.as_bytes(), Order::Little)?)
 }
 
-/// The tables of a router's vifs and of its cache.
+/// Reads both tables of a router.
 fn tables_of_texts(alloc: Global, texts: (&str, &str)) -> Result<Tables, Fail> {
     let vifs = VifTable::read(alloc, texts.0.as_bytes())?;
     let cache = cache_of(alloc, texts.1)?;
     Ok(Tables { vifs, cache })
 }
 
-/// The tables of routers of little byte order, each by the text of its vifs and that of its cache,
-/// which may go without its header.
+/// Reads the tables of little-endian routers, each from the text of its vifs and that of its cache,
+/// which may lack its header.
 pub(super) fn tables_of(alloc: Global, routers: &[(&str, &str)]) -> Result<Vec<Tables>, Fail> {
     let mut tables = Vec::new(alloc);
     for texts in routers {

@@ -1,4 +1,4 @@
--- By the first copy of the LAN, and its way.
+-- By the first copy of the LAN, and its path.
 use Rattle.std.proofs.Common.{ℕ, ◌≤◌, List, [], ◌∷◌, ◌++◌, refl, ap, sym, subst, ◌∙◌}
 use Rattle.mc_theory.specs.Paths.{Hop, need}
 use Rattle.mc_forward.specs.FlightsInDomain.{net_in}

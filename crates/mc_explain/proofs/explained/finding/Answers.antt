@@ -10,14 +10,14 @@ pub explain_duplicate-requires-clause-second : goal.explain_duplicate-requires-c
 explain_duplicate-requires-clause-second c =
     let f = c.args.view.now in
     let j = c.args.ended.now.flight in
-    let ends = subst (λ (x : Finding). EndsTravel f c.requires.0 x j)
-    (ap finding_value c.in-Duplicate.is) c.requires.1 in
-    has_second_copy-from_duplicate f c.requires.0 c.in-Duplicate.lan j c.topology-rules.ensures.rules ends
+    let ends = subst (λ (x : Finding). EndsTravel f c.requires.travel.0 x j)
+    (ap finding_value c.in-Duplicate.is) c.requires.travel.1 in
+    has_second_copy-from_duplicate f c.requires.travel.0 c.in-Duplicate.lan j c.topology-rules.ensures.rules ends
 
 pub explain_loop-requires-clause-second : goal.explain_loop-requires-clause-second
 explain_loop-requires-clause-second c =
     let f = c.args.view.now in
     let j = c.args.ended.now.flight in
-    let ends = subst (λ (x : Finding). EndsTravel f c.requires.0 x j)
-    (ap finding_value c.in-Loop.is) c.requires.1 in
-    has_loop-from_loop f c.requires.0 c.in-Loop.lan j c.topology-rules.ensures.rules ends
+    let ends = subst (λ (x : Finding). EndsTravel f c.requires.travel.0 x j)
+    (ap finding_value c.in-Loop.is) c.requires.travel.1 in
+    has_loop-from_loop f c.requires.travel.0 c.in-Loop.lan j c.topology-rules.ensures.rules ends

@@ -6,7 +6,7 @@ use Rattle.mc_files.proofs.laws.packed_files_are_read_back.Goals as goal
 
 pub returns : goal.returns
 returns c = λ files certified parts is. bundle_of-complete (bundle_spelling parts) parts (record {
-  borrows = IsPartName-from_IsPacked files certified parts is;
+  names = IsPartName-from_IsPacked files certified parts is;
   limits = is.limits;
   spelled = refl;
 })

@@ -1,11 +1,11 @@
 use Rattle.mc_files.proofs.PackLemmas.{IsPacked-from_packed_parts, packed_parts-Ok, IsPacked-unique}
 use Rattle.mc_files.proofs.laws.packing_is_exact_and_unique.Goals as goal
 
-pub returns-clause-made : goal.returns-clause-made
-returns-clause-made c = λ files certified parts. (
+pub returns-clause-exact : goal.returns-clause-exact
+returns-clause-exact c = λ files certified parts. (
   λ e. IsPacked-from_packed_parts files certified parts e,
   λ is. packed_parts-Ok files certified parts is,
 )
 
-pub returns-clause-once : goal.returns-clause-once
-returns-clause-once c = λ files certified ps qs p q. IsPacked-unique files certified ps qs p q
+pub returns-clause-unique : goal.returns-clause-unique
+returns-clause-unique c = λ files certified ps qs p q. IsPacked-unique files certified ps qs p q

@@ -7,8 +7,8 @@ use Rattle.mc_files.proofs.laws.parts_match_slots_exactly_by_name.Goals as goal
 
 pub returns : goal.returns
 returns c = λ certified t parts.
-    let borrows : List (List ℕ) = map part_name (slots certified t) in
+    let names : List (List ℕ) = map part_name (slots certified t) in
     let others : List (List ℕ) = map (λ (part : PartText). part.name) parts in (
-      λ none. same_names-from_first_mismatch borrows others none,
-      λ same. subst (λ (xs : List (List ℕ)). first_mismatch borrows xs ≡ None) same (first_mismatch-same_names borrows),
+      λ none. same_names-from_first_mismatch names others none,
+      λ same. subst (λ (xs : List (List ℕ)). first_mismatch names xs ≡ None) same (first_mismatch-same_names names),
     )

@@ -15,8 +15,8 @@ returns-in_err-check_names_to_end-clause-fault g c = λ input.
     c.args.parts.now text input c.in_err-check_names_to_end.field-0.0 number
     (c.in_err-check_names_to_end.ensures.names text remaining loud))
 
-pub returns-then-not-certified-clause-last : goal.returns-then-not-certified-clause-last
-returns-then-not-certified-clause-last g c = λ before input remaining.
+pub returns-then-not-certified-clause-certificate : goal.returns-then-not-certified-clause-certificate
+returns-then-not-certified-clause-certificate g c = λ before input remaining.
     let t = c.args.topology.now in
     let none : c.args.certified ≡ false = grind arith in
     let number : c.slot_count-number.result ≡ certificate_number t =
@@ -52,8 +52,8 @@ returns-in_err-check_names_to_end-2-clause-advances g c =
     advances_trans c.args.parts.now c.certificate_in.new.parts c.check_names_to_end-2.new.parts
     c.in_ok-text.ensures.advances c.in_err-check_names_to_end-2.ensures.advances
 
-pub returns-clause-last : goal.returns-clause-last
-returns-clause-last g c = λ before input remaining.
+pub returns-clause-certificate : goal.returns-clause-certificate
+returns-clause-certificate g c = λ before input remaining.
     let t = c.args.topology.now in
     let one : c.args.certified ≡ true = grind arith in
     let number : c.slot_count-number.result ≡ certificate_number t =

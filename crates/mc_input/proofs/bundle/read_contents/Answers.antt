@@ -44,7 +44,7 @@ returns-clause-read g c = λ text remaining.
     let input = input_with t x.1 y.1 in (
       input,
       record { topology = refl; listed = x.3; wanted = y.3 },
-      x.4 ∙ y.4 ∙ c.in_ok-certificate.ensures.last y.0 input y.2,
+      x.4 ∙ y.4 ∙ c.in_ok-certificate.ensures.certificate y.0 input y.2,
     )
 
 pub returns-clause-advances : goal.returns-clause-advances

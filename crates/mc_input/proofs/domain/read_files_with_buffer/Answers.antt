@@ -21,7 +21,7 @@ returns-in_err-check_names-clause-fault g c =
     λ contents is. rw (p.1 ∙ ap (λ f. Err f) p.2) (λ no.
     input_of_files_without-name_Err (map (λ n. n.now) c.args.without.now) contents c.in_ok-topology.topology
     c.in_err-check_names.field-0.0 (c.in_ok-topology.ensures.topology 0 contents is)
-    (sym c.in_err-check_names.ensures.borrows))
+    (sym c.in_err-check_names.ensures.names))
 
 pub returns-in_err-check_names-clause-failures : goal.returns-in_err-check_names-clause-failures
 returns-in_err-check_names-clause-failures g c =
@@ -34,11 +34,11 @@ returns-in_err-read_rest_with_buffer-clause-fault g c =
     let p = err_from_is_err_and c.from_residual-in_err-read_rest_with_buffer.result
     c.from_residual-in_err-read_rest_with_buffer.ensures.1 in
     λ contents is. rw (p.1 ∙ ap (λ f. Err f) p.2) (λ no.
-    let borrows = map (λ n. n.now) c.args.without.now in
+    let names = map (λ n. n.now) c.args.without.now in
     let topology = c.in_ok-topology.ensures.topology 0 contents is in
-    input_of_files_without-names_Ok borrows contents c.in_ok-topology.topology c.in_ok-check_names.field-0 topology
-    (sym c.in_ok-check_names.ensures.borrows)
-    ∙ ap (map_fault Source) (input_of_files-with_exclusions borrows contents c.in_ok-topology.topology topology
+    input_of_files_without-names_Ok names contents c.in_ok-topology.topology c.in_ok-check_names.field-0 topology
+    (sym c.in_ok-check_names.ensures.names)
+    ∙ ap (map_fault Source) (input_of_files-with_exclusions names contents c.in_ok-topology.topology topology
     ∙ c.in_err-read_rest_with_buffer.ensures.domain contents (c.in_ok-topology.ensures.kept ∙ is) no))
 
 pub returns-clause-domain : goal.returns-clause-domain
@@ -55,7 +55,7 @@ returns-clause-routers g c =
     subst (λ (t : TopologyValue). AreRouterNames t (map (λ n. n.now) c.args.without.now))
     (sym c.in_ok-read_rest_with_buffer.ensures.topology)
     (AreRouterNames-from_Ok c.in_ok-topology.topology 1 (map (λ n. n.now) c.args.without.now)
-    c.in_ok-check_names.field-0 (sym c.in_ok-check_names.ensures.borrows))
+    c.in_ok-check_names.field-0 (sym c.in_ok-check_names.ensures.names))
 
 pub returns-in_err-check_names-clause-faults : goal.returns-in_err-check_names-clause-faults
 returns-in_err-check_names-clause-faults g c =

@@ -10,11 +10,11 @@ use Rattle.mc_input.proofs.domain.read_rest_with_buffer.Goals as goal
 pub returns-in_err-listed-clause-domain : goal.returns-in_err-listed-clause-domain
 returns-in_err-listed-clause-domain g c =
     let p = err_from_is_err_and c.from_residual.result c.from_residual.ensures.1 in
-    λ contents is. rw (p.1 ∙ ap (λ f. Err f) p.2) (λ no. c.in_err-listed.ensures.read_tables_and_reports contents is no)
+    λ contents is. rw (p.1 ∙ ap (λ f. Err f) p.2) (λ no. c.in_err-listed.ensures.read contents is no)
 
 pub returns-clause-domain : goal.returns-clause-domain
 returns-clause-domain g c = λ contents is.
-    let read = c.in_ok-listed.ensures.read_tables_and_reports contents is in (
+    let read = c.in_ok-listed.ensures.read contents is in (
       read.0,
       read.1,
       subst (λ (d : DomainValue). IsDomainOf d read.0) (sym c.in_ok-domain.ensures.domain) read.2,

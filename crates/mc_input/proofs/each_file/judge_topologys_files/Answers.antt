@@ -9,14 +9,14 @@ use Rattle.mc_input.proofs.each_file.judge_topologys_files.Goals as goal
 pub returns-clause-judged : goal.returns-clause-judged
 returns-clause-judged g c =
     let contents = g.F.FileSource.contents c.args.files.now in
-    let borrows = map (λ (n : Bor (List ℕ)). n.now) c.args.without.now in
+    let names = map (λ (n : Bor (List ℕ)). n.now) c.args.without.now in
     let t = c.args.topology.now in
     let between = map as_judged_file c.judge_routers.new.refused.items in
     let new = map as_judged_file c.judge_lans.new.refused.items in
     let middle = g.F.FileSource.failed c.judge_routers.new.files in
     let after = g.F.FileSource.failed c.judge_lans.new.files in
     on_ok_map c.judge_lans.result c.judge_lans.ensures.judged (λ lans.
-    JudgesFiles-append contents (λ known. flat_map (judged_tables borrows known) t.routers)
+    JudgesFiles-append contents (λ known. flat_map (judged_tables names known) t.routers)
     (λ known. map (judged_reports known) t.lans) (map as_judged_file c.args.refused.now.items) between new
     (g.F.FileSource.failed c.args.files.now) middle after c.in_ok-judge_routers.ensures.judged
     (JudgesFiles-same_source contents (g.F.FileSource.contents c.judge_routers.new.files)

@@ -14,4 +14,4 @@ pub returns-clause-fault : goal.returns-clause-fault
 returns-clause-fault g c = λ contents is.
     let found = file_named-from_open c.args.name.now contents _ _ is c.in_ok-open.ensures.bytes in
     bytes_within_max_part-Err (file_named contents c.args.name.now) found.0 c.feed_open-fed.result found.1
-    (c.feed_open-fed.ensures.past found.0 found.2)
+    (c.feed_open-fed.ensures.too_large found.0 found.2)

@@ -78,6 +78,6 @@ pieces-preserved g c =
                 result_after-append_piece (g.P.PieceReader.result_after c.args.reader.now)
                 (g.P.PieceReader.result_after c.pieces.reader) (g.P.PieceReader.result_after c.take.new.self)
                 known.1 piece more (known.6 (piece ++ more) fits)
-                (fact-from_OnOk c.take.result taken (c.take.ensures.advances more room)),
+                (fact-from_OnOk c.take.result taken (c.take.ensures.goes_on more room)),
           );
     }

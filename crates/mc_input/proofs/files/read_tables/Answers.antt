@@ -7,26 +7,20 @@ use Rattle.mc_forward.specs.Assembling.{RelatedAtEachIndex}
 use Rattle.mc_forward.specs.Domains.{TablesValue}
 use Rattle.mc_forward.specs.ListedTables.{AreListedPartsOfTables, IsListedPartOfTables}
 use Rattle.mc_forward.proofs.ListedTableLemmas.{pairwise-more}
-use denote.Ref.{Bor}
-use Rattle.mc_files.specs.Files.{FileText}
 use Rattle.mc_input.specs.FilesReading.{part_from_file}
-use Rattle.mc_input.specs.ExcludedRouters.{files_with_exclusions}
+use Rattle.mc_input.specs.ExcludedRouters.{files_without}
 use Rattle.mc_input.specs.SummariesOfFiles.{IsSummaryOf}
 use Rattle.mc_input.specs.declared.source_fault.SourceFault.TheVariants.{Input}
 use Rattle.mc_input.proofs.SummaryLemmas.{AreSummariesOf-more}
 use Rattle.mc_input.proofs.ReadingLemmas.{all_tables-Err, all_tables-more, all_tables-all}
 use Rattle.mc_input.proofs.files.read_tables.Goals as goal
 
--- the files that are read, where these routers are left out
-abbrev without : List (Bor (List ℕ)) → List FileText → List FileText
-without borrows contents = files_with_exclusions (map (λ (n : Bor (List ℕ)). n.now) borrows) contents
-
 pub returns-in_err-own-clause-tables : goal.returns-in_err-own-clause-tables
 returns-in_err-own-clause-tables g c =
     let p = err_from_is_err_and c.from_residual-in_err-own.result c.from_residual-in_err-own.ensures.1 in
     λ contents is. rw (p.1 ∙ ap (λ f. Err f) p.2) (λ no.
     let left = c.loop-router.invariant.left contents is in
-    all_tables-Err Input (part_from_file (without c.args.without.now contents))
+    all_tables-Err Input (part_from_file (files_without c.args.without.now contents))
     left.0 (1 + 2 * c.loop-router.router) c.args.topology.now.routers
     c.loop-router.router c.router_name-name.result.now c.order-order.result _
     c.in_err-own.field-0.0 c.router_name-name.ensures.name c.order-order.ensures.item left.2
@@ -71,16 +65,16 @@ loop-router-preserved g c =
                 (sym c.in_ok-push.ensures.items)
                 (pairwise-more (IsListedPartOfTables flows) c.loop-router.tables.items left.0 own.0 next.0
                 left.1 next.2),
-            all_tables-more Input (part_from_file (without c.args.without.now contents)) left.0 (left.0 ++ next.0 ∷ [])
+            all_tables-more Input (part_from_file (files_without c.args.without.now contents)) left.0 (left.0 ++ next.0 ∷ [])
                 (1 + 2 * router) (1 + 2 * (router + 1)) routers router name
                 order next.0 _ c.router_name-name.ensures.name
                 c.order-order.ensures.item left.2 next.1 refl (omega arith),
           );
       summary = λ contents is.
           subst (λ (ns : List SummaryValue). RelatedAtEachIndex (IsSummaryOf c.args.all
-          (without c.args.without.now contents) flows) routers ns)
+          (files_without c.args.without.now contents) flows) routers ns)
           (sym c.in_ok-push-2.ensures.items)
-          (AreSummariesOf-more c.args.all (without c.args.without.now contents)
+          (AreSummariesOf-more c.args.all (files_without c.args.without.now contents)
           c.args.topology.now c.loop-router.summary.items own.1 router name order
           c.loop-router.invariant.summarized c.router_name-name.ensures.name c.order-order.ensures.item
           (c.in_ok-own.ensures.summary flows contents c.in_ok-listed.ensures.listed
@@ -91,7 +85,7 @@ pub returns-clause-tables : goal.returns-clause-tables
 returns-clause-tables g c = λ contents is.
     let left = c.loop-router.invariant.left contents is in (
       left.0,
-      all_tables-all Input (part_from_file (without c.args.without.now contents)) left.0
+      all_tables-all Input (part_from_file (files_without c.args.without.now contents)) left.0
           (1 + 2 * c.loop-router.router) c.args.topology.now.routers c.loop-router.router _
           (omega (arith, c.loop-router-test.false, c.loop-router.invariant.count)) left.2,
       left.1,

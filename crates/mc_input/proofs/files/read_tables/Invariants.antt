@@ -1,11 +1,11 @@
-use Rattle.std.proofs.Common.{◌≡◌, ◌<◌, ◌+◌, ◌*◌, List, length, drop, map, Some}
+use Rattle.std.proofs.Common.{◌≡◌, ◌<◌, ◌+◌, ◌*◌, List, length, drop, Some}
 use Rattle.mc_files.specs.Files.{FileText}
 use Rattle.mc_text.proofs.StepLemmas.{with_front}
 use Rattle.mc_forward.specs.Assembling.{RelatedAtEachIndex}
 use Rattle.mc_forward.specs.Domains.{TablesValue}
 use Rattle.mc_forward.specs.ListedTables.{AreListedPartsOfTables}
 use Rattle.mc_input.specs.FilesReading.{part_from_file}
-use Rattle.mc_input.specs.ExcludedRouters.{files_with_exclusions}
+use Rattle.mc_input.specs.ExcludedRouters.{files_without}
 use Rattle.mc_input.specs.SummariesOfFiles.{IsSummaryOf}
 use Rattle.mc_input.specs.PartsReading.{all_tables}
 use Rattle.mc_input.specs.declared.source_fault.SourceFault.TheVariants.{Input}
@@ -23,12 +23,12 @@ invariant-loop-router g l = record {
   left : (contents : List FileText) → g.F.FileSource.contents l.fn.files ≡ Some contents
       → (wholes : List TablesValue) × AreListedPartsOfTables l.fn.topology.flows l.tables.items wholes
       × (with_front wholes (all_tables Input (part_from_file
-      (files_with_exclusions (map (λ n. n.now) l.fn.without) contents)) (1 + 2 * l.router)
+      (files_without l.fn.without contents)) (1 + 2 * l.router)
       (drop l.router l.fn.topology.routers))
       ≡ all_tables Input (part_from_file
-      (files_with_exclusions (map (λ n. n.now) l.fn.without) contents)) 1 l.fn.topology.routers);
+      (files_without l.fn.without contents)) 1 l.fn.topology.routers);
   summary : (contents : List FileText) → g.F.FileSource.contents l.fn.files ≡ Some contents
       → RelatedAtEachIndex (IsSummaryOf l.fn.all
-      (files_with_exclusions (map (λ n. n.now) l.fn.without) contents) l.fn.topology.flows)
+      (files_without l.fn.without contents) l.fn.topology.flows)
       l.fn.topology.routers l.summary.items;
 }

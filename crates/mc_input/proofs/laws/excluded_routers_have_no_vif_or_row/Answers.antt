@@ -2,4 +2,5 @@ use Rattle.mc_input.proofs.HasNoVifOrRowLemmas.{HasNoVifOrRow-excluded}
 use Rattle.mc_input.proofs.laws.excluded_routers_have_no_vif_or_row.Goals as goal
 
 pub returns : goal.returns
-returns c = HasNoVifOrRow-excluded
+returns c = λ names files d router means has.
+    HasNoVifOrRow-excluded names files d router has.0 means has.1 has.2

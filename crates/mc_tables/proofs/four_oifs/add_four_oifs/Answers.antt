@@ -12,4 +12,5 @@ returns-clause-added c =
     a.ensures b.ensures d.ensures e.ensures (omega (arith, c.if-first-next.false))
     (omega (arith, c.if-second-first.false)) (omega (arith, c.if-third-second.false))
     (omega (arith, c.if-fourth-third.false)) (omega (arith, c.if-fourth-gt-MAX_VIF.false)) in
-    (read.0, a.result ∷ b.result ∷ d.result ∷ e.result ∷ [], read.1, c.in_ok-extend_from_slice.ensures.items, read.2)
+    (read.0, a.result ∷ b.result ∷ d.result ∷ e.result ∷ [], read.1, c.in_ok-extend_from_slice.ensures.items,
+        read.2)

@@ -11,7 +11,7 @@ pub push_trees-requires : goal.push_trees-requires
 push_trees-requires c = record {
   valid = (
       All-distinct_trees (All (IsEntryOf c.args.topology.now)) c.args.self.now c.args.self.now _ refl
-      c.requires.entries
+      c.requires.valid.entries
       (c.trees-trees.ensures ∙ c.self.invariant.distinct ∙ ap distinct_trees c.self.view_is));
 }
 

@@ -3,7 +3,8 @@ use Rattle.std.proofs.lemmas.List.Sorted.{IsPermutation-refl}
 use Rattle.mc_tables.specs.Distinct.{AreDistinct}
 use Rattle.mc_tables.specs.UnlistedRows.{first_repeat, repeat_fault}
 use Rattle.mc_tables.proofs.DistinctLemmas.{if_ok-from_unwrap_or}
-use Rattle.mc_tables.proofs.UnlistedRowLemmas.{first_repeat-distinct, key_numbers-permuted, first_repeat-permuted}
+use Rattle.mc_tables.proofs.UnlistedRowLemmas.{first_repeat-distinct, key_numbers-permuted}
+use Rattle.mc_tables.proofs.UnlistedRowLemmas.{first_repeat-permuted}
 use Rattle.mc_tables.proofs.unlisted_rows.UnlistedRows.check_repeats.Goals as goal
 use Rattle.mc_tables.proofs.unlisted_rows.UnlistedRows.check_repeats.Goals.{in-Some, in-None}
 
@@ -33,7 +34,7 @@ returns c =
     ∙ ap first_repeat c.self.view_is in
     elim c.match-first_repeat_of_sorted.branch [
       | in-Some w ↦
-          w.result-is ∙ ap Err w.at.ensures.item
+          w.result-is ∙ ap Err w.at.ensures
           ∙ ap repeat_fault (sym w.in-Some.is ∙ found)
       | in-None w ↦ w.result-is ∙ ap repeat_fault (sym w.in-None.is ∙ found)
     ]

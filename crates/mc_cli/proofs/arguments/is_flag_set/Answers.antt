@@ -1,7 +1,7 @@
 use Rattle.std.proofs.Common.{◌∙◌}
 use Rattle.clap.specs.Matches.{found_of}
 use Rattle.clap.proofs.WalkLemmas.{one_text-rows}
-use Rattle.mc_cli.proofs.found.is_flag_set.Goals as goal
+use Rattle.mc_cli.proofs.arguments.is_flag_set.Goals as goal
 
 pub returns : goal.returns
 returns c =

@@ -1,6 +1,6 @@
 use Rattle.std.proofs.Common.{◌∙◌, sym}
 use Rattle.mc_cert.proofs.PieceLemmas.{decimal-one_digit}
-use Rattle.mc_cert.proofs.pieces.number.Goals as goal
+use Rattle.mc_cert.proofs.pieces.read_number.Goals as goal
 
 pub returns-then-first-eq0-clause-text : goal.returns-then-first-eq0-clause-text
 returns-then-first-eq0-clause-text c =

@@ -1,8 +1,8 @@
 use Rattle.std.proofs.Common.{ap, refl, ◌∙◌}
 use Rattle.clap.specs.Matches.{found_of}
 use Rattle.clap.proofs.WalkLemmas.{first_value-rows}
-use Rattle.mc_cli.proofs.FoundLemmas.{unwrap_or-now}
-use Rattle.mc_cli.proofs.found.word_of.Goals as goal
+use Rattle.mc_cli.proofs.ArgumentLemmas.{unwrap_or-now}
+use Rattle.mc_cli.proofs.arguments.word_of.Goals as goal
 
 pub returns : goal.returns
 returns c =

@@ -1,8 +1,8 @@
 use Rattle.std.proofs.Common.{◌≡◌, length, sym, ◌∙◌, arith}
 use Rattle.std.proofs.lemmas.Result.{err_from_is_err_and}
 use Rattle.serde_json.specs.View.{view}
-use Rattle.mc_cert.proofs.EachRow.{each-more, each-Err, each-all}
-use Rattle.mc_cert.proofs.rows.each.Goals as goal
+use Rattle.mc_cert.proofs.EachRow.{each_row-more, each_row-Err, each_row-all}
+use Rattle.mc_cert.proofs.rows.each_row.Goals as goal
 
 pub returns-in_err-item-clause-rows : goal.returns-in_err-item-clause-rows
 returns-in_err-item-clause-rows g c =
@@ -10,7 +10,7 @@ returns-in_err-item-clause-rows g c =
     c.from_residual-in_err-item.ensures.1 in
     let long : c.len.result ≡ length c.loop-value.items.items = omega arith in
     rw (p.1, p.2) (λ some. sym c.loop-value.invariant.rows
-    ∙ each-Err (g.R.RowReader.row_value c.args.rows.now) view g.R.RowReader.item_view
+    ∙ each_row-Err (g.R.RowReader.row_value c.args.rows.now) view g.R.RowReader.item_view
     c.loop-value.items.items c.args.values.now c.loop-value.value-index
     c.value-item.result c.in_err-item.field-0.0 c.loop-value-test.true c.value-item.is
     (rw (← long) (c.in_err-item.ensures some)))
@@ -18,7 +18,7 @@ returns-in_err-item-clause-rows g c =
 pub loop-value-preserved : goal.loop-value-preserved
 loop-value-preserved g c =
     let long : c.len.result ≡ length c.loop-value.items.items = omega arith in
-    let next = each-more (g.R.RowReader.row_value c.args.rows.now) view g.R.RowReader.item_view
+    let next = each_row-more (g.R.RowReader.row_value c.args.rows.now) view g.R.RowReader.item_view
     c.loop-value.items.items c.args.values.now c.loop-value.value-index c.value-item.result
     c.in_ok-item.item c.loop-value-test.true c.value-item.is (rw (← long) c.in_ok-item.ensures) in
     record {
@@ -28,5 +28,5 @@ loop-value-preserved g c =
 
 pub returns-clause-rows : goal.returns-clause-rows
 returns-clause-rows g c = sym c.loop-value.invariant.rows
-    ∙ each-all (g.R.RowReader.row_value c.args.rows.now) view g.R.RowReader.item_view
+    ∙ each_row-all (g.R.RowReader.row_value c.args.rows.now) view g.R.RowReader.item_view
     c.loop-value.items.items c.args.values.now c.loop-value.value-index c.loop-value-test.false

@@ -1,4 +1,4 @@
-//! What clap finds in the words after a command, by the names of the arguments.
+//! The values that clap finds for the arguments of a command, by their names.
 
 ghost use Rattle.std.specs.Prelude.{◌≡◌};
 ghost use Rattle.clap.specs.Matches.{found_of};
@@ -7,7 +7,7 @@ ghost use Rattle.mc_cli.specs.Commands.{IsFlagValue, word_of};
 
 use clap::ArgMatches;
 
-/// The word of an argument, which is empty where there is none.
+/// The word that an argument has; empty where it has none.
 pub fn word_of<'a>(matches: &ArgMatches<'a>, argument: &str) -> &'a str
     ensures { result.now ≡ word_of (rows_of (found_of matches.now)) argument.now }
 {

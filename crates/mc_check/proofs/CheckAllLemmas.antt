@@ -20,12 +20,12 @@ pub record AreVerdictsSoFar (d : DomainValue) (lists : List (List Entry)) (k : �
   pub number : length vs ≡ k
   pub each : HoldsForEachFlow d lists vs (IsCorrectVerdict (length d.topology.lans))
 
-pub correct_verdict-verdict_by : (d : DomainValue) (flow : ℕ) (es : List Entry) (o : Option Reason)
+pub is_correct_verdict-verdict_by : (d : DomainValue) (flow : ℕ) (es : List Entry) (o : Option Reason)
     (v : Verdict)
     → IsDomain d → flow < length d.topology.flows
     → optional_reason_value o ≡ first_reason (net_of d flow) (length d.topology.lans) es
     → v ≡ verdict_by o (length es) → IsCorrectVerdict (length d.topology.lans) (net_of d flow) es v
-correct_verdict-verdict_by d flow es o v ok lt e by =
+is_correct_verdict-verdict_by d flow es o v ok lt e by =
     let n = net_of d flow in
     let count = length d.topology.lans in
     let j = is_first_reason-of_domain d flow es o ok lt e in

@@ -29,7 +29,7 @@ use Rattle.mc_maker.specs.Examined.{IsTtlOfFault, AreEntriesOfCleanTravel}
 use Rattle.mc_maker.specs.EntriesByLan.{AreEntriesByLan, held_entries, serves}
 use Rattle.mc_maker.specs.Examined.{AreCleanCopies}
 use Rattle.mc_maker.proofs.ListedLemmas.{ascending-held_entries, is_reordering-entries_by_lan}
-use Rattle.mc_maker.proofs.ServedLemmas.{served-each, served-not}
+use Rattle.mc_maker.proofs.ServedLemmas.{is_served-each, is_served-not}
 
 -- ---- a picker's travel is unique
 
@@ -206,7 +206,7 @@ pub is_accepted-held_entries : (f : FlowOfDomain) (cs : List Copy) (by_lan : Lis
 is_accepted-held_entries f cs by_lan es clean is held all =
     let made = is_reordering-held_entries f cs by_lan es clean is held in
     is_accepted-reordered f.domain f.flow cs es clean made
-    (served-each (net_in f) cs es made clean.reached all)
+    (is_served-each (net_in f) cs es made clean.reached all)
 
 -- and where one isn't, the travel at the flow's TTL finds a fault
 pub finds_fault-held_entries : (f : FlowOfDomain) (cs : List Copy) (by_lan : List (Option Entry))
@@ -216,5 +216,5 @@ pub finds_fault-held_entries : (f : FlowOfDomain) (cs : List Copy) (by_lan : Lis
     → (t : Travel) → IsFirstPickTravel f.domain f.flow (net_in f).ttl t → FindsFault t
 finds_fault-held_entries f cs by_lan es rules clean is held low t travel =
     finds_fault-not_served f.domain f.flow cs t rules.domain rules.flow clean
-    (served-not (net_in f) cs es (is_reordering-held_entries f cs by_lan es clean is held) low.0
+    (is_served-not (net_in f) cs es (is_reordering-held_entries f cs by_lan es clean is held) low.0
     clean.tree.one_entry low.1 low.2) travel

@@ -37,12 +37,13 @@ in-held_entries (Some x ∷ places) zero e h = inl cc
 in-held_entries (None ∷ places) (suc l) e h = in-held_entries places l e h
 in-held_entries (Some x ∷ places) (suc l) e h = inr (in-held_entries places l e h)
 
-held-in_held_entries : (places : List (Option Entry)) (e : Entry) → In e (held_entries places)
+item_on_lan-held_entry : (places : List (Option Entry)) (e : Entry) → In e (held_entries places)
     → (l : ℕ) × (item_on_lan places l ≡ Some e)
-held-in_held_entries [] e h = absurd h
-held-in_held_entries (None ∷ places) e h = let r = held-in_held_entries places e h in (suc r.0, r.1)
-held-in_held_entries (Some x ∷ places) e (inl q) = (0, ap Some q)
-held-in_held_entries (Some x ∷ places) e (inr h) = let r = held-in_held_entries places e h in (suc r.0, r.1)
+item_on_lan-held_entry [] e h = absurd h
+item_on_lan-held_entry (None ∷ places) e h = let r = item_on_lan-held_entry places e h in (suc r.0, r.1)
+item_on_lan-held_entry (Some x ∷ places) e (inl q) = (0, ap Some q)
+item_on_lan-held_entry (Some x ∷ places) e (inr h) = let r = item_on_lan-held_entry places e h
+    in (suc r.0, r.1)
 
 -- ---- ascending
 
@@ -68,7 +69,7 @@ held_entries-at_least_first : (k : ℕ) (places : List (Option Entry)) (l : ℕ)
     → In l (map (λ (e : Entry). e.lan) (held_entries places)) → k ≤ l
 held_entries-at_least_first k places l at h =
     let e = in-map_cases (λ (e : Entry). e.lan) l (held_entries places) h in
-    let place = held-in_held_entries places e.0 e.1 in
+    let place = item_on_lan-held_entry places e.0 e.1 in
     let q : e.0.lan ≡ k + place.0 = at place.0 e.0 place.1 in
     let r : e.0.lan ≡ l = e.2 in
     omega (arith, q, r)
@@ -105,6 +106,6 @@ is_reordering-entries_by_lan by_lan es is once = record {
   to = λ e h. in-held_entries by_lan e.lan e (is e.lan ∙ first_with_key-entry_on es e.lan
       ∙ entry_on-of_member es e once h);
   from = λ e h. (let place =
-      held-in_held_entries by_lan e h in (in-entry_on es place.0 e
+      item_on_lan-held_entry by_lan e h in (in-entry_on es place.0 e
           (sym (is place.0 ∙ first_with_key-entry_on es place.0) ∙ place.1)).0);
 }

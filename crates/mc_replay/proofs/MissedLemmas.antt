@@ -6,7 +6,7 @@ use Rattle.mc_theory.specs.Lists.{below}
 use Rattle.mc_theory.specs.Nets.{Net}
 use Rattle.mc_theory.specs.Flights.{Copy}
 use Rattle.mc_theory.specs.Findings.{first_copy_on, missed}
-use Rattle.mc_replay.proofs.FirstCopiesLemmas.{first_some}
+use Rattle.mc_replay.proofs.FirstLemmas.{first_some}
 
 missed-push : (n : Net) (cs : List Copy) (xs : List ℕ) (x : ℕ)
     → missed n cs (xs ++ x ∷ []) ≡ first_some (missed n cs xs) (missed n cs (x ∷ []))

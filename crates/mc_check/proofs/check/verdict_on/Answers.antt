@@ -1,5 +1,5 @@
 -- By the first reason.
-use Rattle.mc_check.proofs.CheckAllLemmas.{correct_verdict-verdict_by}
+use Rattle.mc_check.proofs.CheckAllLemmas.{is_correct_verdict-verdict_by}
 use Rattle.mc_check.proofs.VerdictLemmas.{is_first_reason-of_domain, entry_count_fits}
 use Rattle.mc_check.proofs.check.verdict_on.Goals as goal
 
@@ -16,7 +16,7 @@ verdict_by-requires c = record {
 pub returns : goal.returns
 returns c = record {
   ok = (
-      correct_verdict-verdict_by c.args.domain.now c.args.flow c.args.entries.now
+      is_correct_verdict-verdict_by c.args.domain.now c.args.flow c.args.entries.now
           c.in_ok-reason.reason c.verdict_by.result
       c.topology-rules.ensures.rules c.requires.flow c.in_ok-reason.ensures.ok c.verdict_by.ensures.value);
 }

@@ -1,8 +1,8 @@
 use Rattle.std.proofs.Common.{◌∙◌, List, subst}
 use Rattle.mc_theory.specs.Certificates.{Entry, IsAccepted}
 use Rattle.mc_forward.specs.FlightsInDomain.{net_in}
-use Rattle.mc_maker.proofs.CleanLemmas.{reordered-all_of_topology, is_list-reordered}
-use Rattle.mc_maker.proofs.CleanLemmas.{reordered-lans_below_count}
+use Rattle.mc_maker.proofs.CleanLemmas.{all_of_topology-reordered, is_writable_tree-reordered}
+use Rattle.mc_maker.proofs.CleanLemmas.{lans_below_count-reordered}
 use Rattle.mc_maker.proofs.ExaminedLemmas.{finds_fault-held_entries, is_reordering-held_entries}
 use Rattle.mc_maker.proofs.ExaminedLemmas.{ascending-entries_by_lan}
 use Rattle.mc_maker.proofs.ExaminedLemmas.{is_accepted-held_entries}
@@ -11,7 +11,7 @@ use Rattle.mc_maker.proofs.examined_flights.certificate_of.Goals as goal
 pub serves_all-requires : goal.serves_all-requires
 serves_all-requires c = record {
   within = (
-      reordered-lans_below_count c.args.view.now.domain c.args.view.now.flow c.args.copies.now
+      lans_below_count-reordered c.args.view.now.domain c.args.view.now.flow c.args.copies.now
           c.deref.result.now
       c.requires.valid (is_reordering-held_entries c.args.view.now c.args.copies.now c.in_ok-by_lan.by_lan
       c.deref.result.now c.requires.valid c.in_ok-by_lan.ensures.ok
@@ -44,11 +44,11 @@ returns-clause-entries c =
 
 pub returns-clause-listed : goal.returns-clause-listed
 returns-clause-listed c =
-    reordered-all_of_topology c.args.view.now.domain c.args.view.now.flow c.args.copies.now
+    all_of_topology-reordered c.args.view.now.domain c.args.view.now.flow c.args.copies.now
     c.in_ok-entries.entries.items c.requires.valid (returns-clause-entries c)
 
 pub returns-clause-writable : goal.returns-clause-writable
 returns-clause-writable c =
-    is_list-reordered c.args.view.now.domain c.args.view.now.flow c.args.copies.now
+    is_writable_tree-reordered c.args.view.now.domain c.args.view.now.flow c.args.copies.now
     c.in_ok-entries.entries.items c.serves_all.ensures.rules.domain c.requires.valid
     (returns-clause-entries c)

@@ -2,13 +2,13 @@
 use Rattle.std.proofs.Common.{◌≡◌, ◌+◌, ◌<◌, length, is_some, not, true, false, None, Some, ap, sym, subst}
 use Rattle.std.proofs.Common.{◌∙◌, arith}
 use Rattle.mc_theory.specs.Flights.{Copy}
-use Rattle.mc_replay.proofs.FirstCopiesLemmas.{FirstCopiesSoFar, first_copies_so_far-none}
-use Rattle.mc_replay.proofs.FirstCopiesLemmas.{first_copies_so_far-more, second_copy_so_far-all}
-use Rattle.mc_replay.proofs.FirstCopiesLemmas.{first_copies_so_far-all}
-use Rattle.mc_replay.proofs.FirstCopiesLemmas.{second_copy_so_far, second_copy_so_far-found_now}
-use Rattle.mc_replay.proofs.FirstCopiesLemmas.{second_copy_so_far-found_before}
-use Rattle.mc_replay.proofs.FirstCopiesLemmas.{second_copy_so_far-first_on_lan, get_or-take_drop}
-use Rattle.mc_replay.proofs.FirstCopiesLemmas.{length-take_drop_end}
+use Rattle.mc_replay.proofs.FirstLemmas.{FirstCopiesSoFar, first_copies_so_far-none}
+use Rattle.mc_replay.proofs.FirstLemmas.{first_copies_so_far-more, second_copy_so_far-all}
+use Rattle.mc_replay.proofs.FirstLemmas.{first_copies_so_far-all}
+use Rattle.mc_replay.proofs.FirstLemmas.{second_copy_so_far, second_copy_so_far-found_now}
+use Rattle.mc_replay.proofs.FirstLemmas.{second_copy_so_far-found_before}
+use Rattle.mc_replay.proofs.FirstLemmas.{second_copy_so_far-first_on_lan, get_or-take_drop}
+use Rattle.mc_replay.proofs.FirstLemmas.{length-take_drop_end}
 use Rattle.mc_replay.proofs.first_copies.record_first_copies.Goals as goal
 use Rattle.mc_replay.proofs.first_copies.record_first_copies.Goals.{then-not-put_first+then-is_none}
 use Rattle.mc_replay.proofs.first_copies.record_first_copies.Goals.{else-not-put_first}

@@ -66,7 +66,7 @@ verdicts_so_far-more d lists k vs es v j here correct = record {
         subst (λ x. IsCorrectVerdict (length d.topology.lans) (net_of d flow) fs x) h.1
         (subst (λ (xs : List Entry). IsCorrectVerdict (length d.topology.lans) (net_of d flow) xs v) list
         (subst (λ (i : ℕ). IsCorrectVerdict (length d.topology.lans) (net_of d i) es v) (sym number)
-            correct)))
+        correct)))
   ];
 }
   where

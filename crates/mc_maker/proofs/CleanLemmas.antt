@@ -117,10 +117,10 @@ is_entry_of-entries_of : (d : DomainValue) (flow : ℕ) (cs : List Copy) → Are
     → In e (entries_of (net_of d flow) cs) → IsEntryOf d.topology e
 is_entry_of-entries_of d flow cs clean = entries_of-each (net_of d flow) (IsEntryOf d.topology) cs
     (λ ds c h. record {
-  lan = each_in-all (λ (x : Copy). x.lan < length d.topology.lans) cs clean.lans c h;
-  router = each_in-all (λ (x : Copy). IfSome x.sender (λ i. i.0 < length d.topology.routers)) cs
-      clean.senders c h;
-})
+      lan = each_in-all (λ (x : Copy). x.lan < length d.topology.lans) cs clean.lans c h;
+      router = each_in-all (λ (x : Copy). IfSome x.sender (λ i. i.0 < length d.topology.routers)) cs
+          clean.senders c h;
+    })
 
 pub all_of_topology-reordered : (d : DomainValue) (flow : ℕ) (cs : List Copy) (es : List Entry)
     → AreCleanCopies d flow cs → IsReordering (entries_of (net_of d flow) cs) es

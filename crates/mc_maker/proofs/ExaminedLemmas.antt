@@ -162,7 +162,7 @@ is_right-both_travels_clean d flow first second ok lt a b none none' =
     is_right-accepted d flow (entries_of n (run n (handles a.1.picks) (start n 255)).carried) ok lt
     (is_accepted-from_clean_travels n count [] false a.1.picks [] false b.1.picks (is_net-net_of d flow ok)
     (λ l w. wants-below_lan_count d flow l ok w) (ttl-at_least_1 d flow ok lt)
-        (ttl-at_most_255 d flow ok lt) one two)
+    (ttl-at_most_255 d flow ok lt) one two)
 
 -- the flow's TTL
 pub ttl_of-listed_flow : (d : DomainValue) (flow : ℕ) (t : TopologyValue) (f : Flow) → t ≡ d.topology

@@ -107,5 +107,5 @@ is_reordering-entries_by_lan by_lan es is once = record {
       ∙ entry_on-of_member es e once h);
   from = λ e h. (let place =
       item_on_lan-held_entry by_lan e h in (in-entry_on es place.0 e
-          (sym (is place.0 ∙ first_with_key-entry_on es place.0) ∙ place.1)).0);
+      (sym (is place.0 ∙ first_with_key-entry_on es place.0) ∙ place.1)).0);
 }

@@ -72,7 +72,7 @@ pub record FirstCopiesSoFar (firsts old : List (Option Copy)) (cs : List Copy) (
 
 pub first_copies_so_far-none : (firsts : List (Option Copy)) (cs : List Copy) (k : ℕ)
     → HoldsFirstOfEachKey (λ (c : Copy). c.lan) firsts (take k cs) → first_double [] (take k cs)
-        ≡ None → FirstCopiesSoFar firsts firsts cs k None
+    ≡ None → FirstCopiesSoFar firsts firsts cs k None
 first_copies_so_far-none firsts cs k filled once = record {
   count = refl;
   filled = filled;

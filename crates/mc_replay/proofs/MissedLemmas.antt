@@ -94,4 +94,4 @@ is_some-missed_below_more n cs k = ap (λ m. is_some (missed n cs (below m))) (a
     ∙ ap is_some (missed-push n cs (below k) k)
     ∙ is_some-first_some (missed n cs (below k)) (missed n cs (k ∷ []))
     ∙ ap (λ s. is_some (missed n cs (below k)) || s) (is_some-missed_one k (n.wants k)
-        (is_some (first_copy_on cs k)))
+    (is_some (first_copy_on cs k)))

@@ -96,7 +96,7 @@ pub is_flow_pushed-right : {X : Type 0} (v : AuditedValue) (o : AuditOptions) (f
     → OnOk r (HeadlineHolds (net_of v.domain flow) (length seen))
     → IfOk r (λ s. s ≡ status_of_right (lans_wanting (facts v.domain) flow))
     → OnOk r (new_printed ≡ with_shown_tree o.json (is_hidden o.faults
-        (lans_wanting (facts v.domain) flow)) printed
+    (lans_wanting (facts v.domain) flow)) printed
     seen)
     → OnOk r ((f : Flow) → slice_get v.domain.topology.flows flow ≡ Some f
     → new ≡ old ++ right_flow_lines o (is_whole v) v.domain.topology printed flow f seen
@@ -328,7 +328,7 @@ trees_shown-at_most_flows v o k s printed old new to =
     let few = trees_shown-at_most_flows_from o [] to.answers in
     let n = to.count_is in
     let size : length printed ≡ length (trees_shown o to.answers) =
-        ap (λ (ts : List Tree). length ts) to.shown_trees in
+    ap (λ (ts : List Tree). length ts) to.shown_trees in
     omega (arith, few, n, size)
 
 -- one more flow was written

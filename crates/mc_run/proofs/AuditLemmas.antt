@@ -218,7 +218,7 @@ writes_which_are_right-audited v o all written a =
       count = length-map answers (λ (b : FlowAnswer). b.lines) ∙ are.count;
       each = each_answer-each_lines (λ flow f ls. SaysFlowRight v o flow f ls) v o answers are
           (λ printed flow b is. says_flow_right-answer_lines v o printed flow is.listed b.examined
-              is.explanation b.wanted
+          is.explanation b.wanted
           b.lines is.checked.examined.right is.wanted is.spelled);
       spelled = audit_text-split_at_lines v o all written a;
       are_right = subst (AreRight d) (are_right-examinations answers)
@@ -247,7 +247,7 @@ says_yes_of-certified v o printed flow f entries e wanted lines checked wants is
 says_yes_or_found-answer_lines : (v : AuditedValue) (o : AuditOptions) (printed : List Tree)
     (flow : ℕ) (f : Flow) (x : Examined)
     (flights : ExaminedFlights) (e : Explanation) (wanted lines : List ℕ)
-        → HasExaminedFlights v.domain flow flights
+    → HasExaminedFlights v.domain flow flights
     → IsChecked v.domain flow x → IsExplanation v.domain v.summary (excluded v) (is_whole v) flow flights e
     → wanted ≡ lans_wanting (facts v.domain) flow
     → lines ≡ answer_lines o (is_whole v) (facts v.domain) v.summary printed flow f x e wanted
@@ -285,7 +285,7 @@ writes_of_each-audited v o all written a =
       each = each_answer-each_lines (λ flow f ls. SaysYesOf v o flow f ls ⊎ SaysWhatIsFound v o flow
           f ls) v o answers
           are (λ printed flow b is. says_yes_or_found-answer_lines v o printed flow is.listed
-              b.examined is.flights is.explanation
+          b.examined is.flights is.explanation
           b.wanted b.lines is.has_flights is.checked is.explained is.wanted is.spelled);
       spelled = audit_text-split_at_lines v o all written a;
     }
@@ -298,7 +298,7 @@ pub is_output_of-which_are_right : (contents : Option (List FileText)) (o : Audi
     → IsOutputOf contents (SaysWhichAreRight o names) s
 is_output_of-which_are_right contents o names s =
     is_output_of-implication contents (IsAuditText o names) (SaysWhichAreRight o names) s
-        (λ files all written.
+    (λ files all written.
     of_domain-implication (MeansAudited o names) (λ v. IsAudited v o all written)
     (λ v. WritesWhichAreRight v o all written) (λ v. writes_which_are_right-audited v o all written) files)
 
@@ -308,7 +308,7 @@ pub is_output_of-each_flow : (contents : Option (List FileText)) (o : AuditOptio
 is_output_of-each_flow contents o names s =
     is_output_of-implication contents (IsAuditText o names) (SaysOfEach o names) s (λ files all written.
     of_domain-implication (MeansAudited o names) (λ v. IsAudited v o all written)
-        (λ v. WritesOfEach v o all written)
+    (λ v. WritesOfEach v o all written)
     (λ v. writes_of_each-audited v o all written) files)
 
 -- without excluded routers, the files are unchanged

@@ -70,10 +70,10 @@ use Rattle.mc_run.proofs.VerdictLines.{no_yes_line-verdict_line}
 flow_words-no_yes : (f : Flow) → HasNoByte 10 (flow_words f)
 flow_words-no_yes f =
     let ttl = no_feed-append (codes " ttl ") (decimal f.ttl)
-        (no_feed-from_list_all (codes " ttl ") refl) (number f.ttl) in
+    (no_feed-from_list_all (codes " ttl ") refl) (number f.ttl) in
     let group = no_feed-append _ _ (no_feed-dotted f.group) ttl in
     let source = no_feed-append _ _ (no_feed-dotted f.source)
-        (no_feed-append (codes " ") _ (refl, tt) group) in
+    (no_feed-append (codes " ") _ (refl, tt) group) in
     no_feed-append (codes "flow ") _ (no_feed-from_list_all (codes "flow ") refl) source
 
 -- the words at a flow's line's start, and more
@@ -82,7 +82,7 @@ no_yes_line-flow_words : (f : Flow) (more : List ℕ) → HasNoByte 10 more
 no_yes_line-flow_words f more none =
     no_yes_line-text_line (flow_words f ++ (more ++ codes "\n")) (flow_words f ++ more) (refl, refl)
     (no_feed-append (flow_words f) more (flow_words-no_yes f) none)
-        (sym (append_assoc (flow_words f) more (codes "\n")))
+    (sym (append_assoc (flow_words f) more (codes "\n")))
 
 no_yes_line-no_certificate_line : (f : Flow) → AreLinesWithoutYes (no_certificate_line f)
 no_yes_line-no_certificate_line f = no_yes_line-flow_words f (codes " no certificate")
@@ -94,7 +94,7 @@ no_yes_line-right_line true t f copies ok = no_yes_line-verdict_line t f (Yes co
 no_yes_line-right_line false t f copies ok =
     no_yes_line-flow_words f (codes " no fault known copies " ++ decimal copies)
     (no_feed-append (codes " no fault known copies ") _
-        (no_feed-from_list_all (codes " no fault known copies ") refl)
+    (no_feed-from_list_all (codes " no fault known copies ") refl)
     (number copies))
 
 finding_text-no_yes : (t : TopologyValue) (x : Finding) → IsValidTopology t → HasNoByte 10 (finding_text t x)
@@ -126,9 +126,9 @@ outcome_text-no_yes (Sent copies strays) =
     let sent = codes "sent " ++ decimal copies in
     let begun =
     no_feed-append (codes "sent ") (decimal copies) (no_feed-from_list_all (codes "sent ") refl)
-        (number copies) in
+    (number copies) in
     let more = no_feed-append sent (codes " strayed ") begun
-        (no_feed-from_list_all (codes " strayed ") refl) in
+    (no_feed-from_list_all (codes " strayed ") refl) in
     no_feed-append (sent ++ codes " strayed ") (decimal strays) more (number strays)
 
 event_text-no_yes : (t : TopologyValue) (e : Event) → IsValidTopology t → HasNoByte 10 (event_text t e)
@@ -149,14 +149,14 @@ no_yes_line-event_line : (t : TopologyValue) (e : Event) → IsValidTopology t
 no_yes_line-event_line t e ok =
     no_yes_line-text_line (event_line t e) (codes "event " ++ event_text t e) (refl, refl)
     (no_feed-append (codes "event ") (event_text t e) (no_feed-from_list_all (codes "event ") refl)
-        (event_text-no_yes t e ok)) refl
+    (event_text-no_yes t e ok)) refl
 
 no_yes_line-event_lines : (t : TopologyValue) (es : List Event) → IsValidTopology t
     → AreLinesWithoutYes (event_lines t es)
 no_yes_line-event_lines t [] ok = no_yes_line-no_lines
 no_yes_line-event_lines t (e ∷ es) ok =
     no_yes_line-append (event_line t e) (event_lines t es) (no_yes_line-event_line t e ok)
-        (no_yes_line-event_lines t es ok)
+    (no_yes_line-event_lines t es ok)
 
 no_yes_line-events_if_shown : (travels : Bool) (t : TopologyValue) (travel : Travel) → IsValidTopology t
     → AreLinesWithoutYes (events_if_shown travels t travel)
@@ -171,7 +171,7 @@ indented_lines (l ∷ ls) feedless =
     no_yes_line-append (indented l) (flat_map indented ls)
     (no_yes_line-text_line (indented l) (codes "  " ++ l) (refl, refl)
     (no_feed-append (codes "  ") l (no_feed-from_list_all (codes "  ") refl)
-        (no_feed-from_list_all l (feedless l (inl refl)))) refl)
+    (no_feed-from_list_all l (feedless l (inl refl)))) refl)
     (indented_lines ls (λ m h. feedless m (inr h)))
 
 no_yes_line-indented_lines : (text : List ℕ) → AreIndented text → AreLinesWithoutYes text
@@ -187,14 +187,14 @@ lines_indented_by Begins [] other begins feedless = no_yes_line-no_lines
 lines_indented_by Begins (l ∷ ls) other begins feedless =
     no_yes_line-append (with_line_feed l) (flat_map with_line_feed ls)
     (no_yes_line-text_line (with_line_feed l) l (other l (begins l (inl refl)))
-        (no_feed-from_list_all l (feedless l (inl refl))) refl)
+    (no_feed-from_list_all l (feedless l (inl refl))) refl)
     (lines_indented_by Begins ls other (λ m h. begins m (inr h)) (λ m h. feedless m (inr h)))
 
 no_yes_line-lines : (Begins : List ℕ → Type 0) (text : List ℕ)
     → ((l : List ℕ) → Begins l → BeginsWithOtherByte l) → AreLines Begins text → AreLinesWithoutYes text
 no_yes_line-lines Begins text other are =
     subst AreLinesWithoutYes (sym are.spelled) (lines_indented_by Begins are.lines other are.begins
-        are.feedless)
+    are.feedless)
 
 begins-row_line : (l : List ℕ) → IsUnlistedLine l → BeginsWithOtherByte l
 begins-row_line l (rest, inl begins) = subst BeginsWithOtherByte (sym begins) (refl, refl)
@@ -241,12 +241,12 @@ no_yes_line-each_object (l ∷ ls) begins other feedless =
     (λ begin tail rest are same. first_byte-object l begin tail rest (begins l (inl refl))
     (other l (inl refl)) are same))
     (no_yes_line-each_object ls (λ m h. begins m (inr h)) (λ m h. other m (inr h))
-        (λ m h. feedless m (inr h)))
+    (λ m h. feedless m (inr h)))
 
 no_yes_line-objects : (text : List ℕ) → AreObjectLines text → AreLinesWithoutYes text
 no_yes_line-objects text are =
     subst AreLinesWithoutYes (sym are.spelled) (no_yes_line-each_object are.lines are.begins
-        are.other are.feedless)
+    are.other are.feedless)
 
 -- ---- a flow
 
@@ -254,7 +254,7 @@ no_yes_line-tree_line : (t : TopologyValue) (printed : List Tree) (es : Tree)
     → AreLinesWithoutYes (tree_line t printed es)
 no_yes_line-tree_line t printed es =
     no_yes_line-if (is_some (find_tree printed es)) [] (line_of (tree_data t es (length printed)))
-        no_yes_line-no_lines
+    no_yes_line-no_lines
     (no_yes_line-objects _ (are_object_lines-tree t es (length printed)))
 
 no_yes_line-right_lines_or_object : (json whole : Bool) (t : TopologyValue) (printed : List Tree)
@@ -264,7 +264,7 @@ no_yes_line-right_lines_or_object : (json whole : Bool) (t : TopologyValue) (pri
 no_yes_line-right_lines_or_object true whole t printed number f es wanted ok =
     no_yes_line-append (tree_line t printed es) _ (no_yes_line-tree_line t printed es)
     (no_yes_line-objects _ (are_object_lines-right whole number f (length es)
-        (tree_number_of (with_tree printed es) es)
+    (tree_number_of (with_tree printed es) es)
     (map (lan_data t) wanted)))
 no_yes_line-right_lines_or_object false whole t printed number f es wanted ok =
     no_yes_line-append (right_line whole t f (length es)) (wanted_text t wanted)
@@ -273,7 +273,7 @@ no_yes_line-right_lines_or_object false whole t printed number f es wanted ok =
 
 no_yes_line-explanation_lines : (d : DomainFacts) (summary : List SummaryValue) (number : ℕ) (f : Flow)
     (x : Explanation) → IsValidTopology d.topology → AreLinesWithoutYes
-        (explanation_lines d summary number f x)
+    (explanation_lines d summary number f x)
 no_yes_line-explanation_lines d summary number f x ok =
     no_yes_line-append (causes_text d summary number f x.printed) _
     (no_yes_line-indented_lines _ (are_indented-causes_text d summary number f x.printed ok))
@@ -297,7 +297,7 @@ no_yes_line-wrong_lines_or_object false travels d summary number f ttl travel x 
     let t = d.topology in
     no_yes_line-append (found_lines t f ttl travel.finding) _
     (no_yes_line-append (no_certificate_line f) (found_line t ttl travel.finding)
-        (no_yes_line-no_certificate_line f)
+    (no_yes_line-no_certificate_line f)
     (no_yes_line-found_lines t ttl travel.finding ok))
     (no_yes_line-append (explanation_lines d summary number f x) (events_if_shown travels t travel)
     (no_yes_line-explanation_lines d summary number f x ok) (no_yes_line-events_if_shown travels t travel ok))
@@ -323,7 +323,7 @@ no_yes_line-all_answers v o (a ∷ answers) each ok =
     let is = first.2 in
     no_yes_line-append a.lines (flat_map (λ b. b.lines) answers)
     (subst AreLinesWithoutYes (sym is.spelled) (no_yes_line-answer_lines o (is_whole v)
-        (facts v.domain) v.summary first.0
+    (facts v.domain) v.summary first.0
     first.1 is.listed a.examined is.explanation a.wanted ok))
     (no_yes_line-all_answers v o answers (λ flow b at. each (suc flow) b at) ok)
 
@@ -341,7 +341,7 @@ no_yes_line-summary_line : (flows right wrong unwanted : ℕ)
     → AreLinesWithoutYes (summary_line flows right wrong unwanted)
 no_yes_line-summary_line flows right wrong unwanted =
     let last = no_feed-append (codes " unwanted ") (decimal unwanted)
-        (no_feed-from_list_all (codes " unwanted ") refl)
+    (no_feed-from_list_all (codes " unwanted ") refl)
     (number unwanted) in
     let third = no_feed-append (decimal wrong) _ (number wrong) last in
     let second = no_feed-append (decimal right) _ (number right)
@@ -374,14 +374,14 @@ no_yes_line-end_text : (o : AuditOptions) (t : TopologyValue) (summary : List Su
 no_yes_line-end_text o t summary marks all flows right wrong unwanted ok =
     no_yes_line-append (unlisted_text o.unlisted t summary) _
     (no_yes_line-lines IsUnlistedLine _ begins-row_line
-        (are_unlisted_lines-unlisted_text o.unlisted t summary ok))
+    (are_unlisted_lines-unlisted_text o.unlisted t summary ok))
     (no_yes_line-append (without_text t marks) _
     (no_yes_line-lines IsWithoutLine _ begins-excluded_line (are_without_lines-without_text t marks ok))
     (no_yes_line-append (summary_line flows right wrong unwanted) _
-        (no_yes_line-summary_line flows right wrong unwanted)
+    (no_yes_line-summary_line flows right wrong unwanted)
     (no_yes_line-append (excluded_text t marks) (strict_lines o.strict all unwanted)
     (no_yes_line-indented_lines _ (are_indented-excluded_text t marks ok))
-        (no_yes_line-strict_lines o.strict all unwanted))))
+    (no_yes_line-strict_lines o.strict all unwanted))))
 
 no_yes_line-end_objects : (o : AuditOptions) (t : TopologyValue) (summary : List SummaryValue)
     (marks : List Bool) (right wrong unwanted : ℕ)
@@ -391,7 +391,7 @@ no_yes_line-end_objects o t summary marks right wrong unwanted =
     (no_yes_line-objects _ (are_object_lines-all_unlisted o.unlisted t summary))
     (no_yes_line-append (without_line t marks) (line_of (summary_data right unwanted wrong))
     (no_yes_line-objects _ (are_object_lines-without t marks))
-        (no_yes_line-objects _ (are_object_lines-summary right unwanted wrong)))
+    (no_yes_line-objects _ (are_object_lines-summary right unwanted wrong)))
 
 no_yes_line-end_lines : (o : AuditOptions) (t : TopologyValue) (summary : List SummaryValue)
     (marks : List Bool)
@@ -410,7 +410,7 @@ no_yes_line-begin_lines : (o : AuditOptions) (d : DomainFacts) (marks : List Boo
 no_yes_line-begin_lines o d marks =
     let asked = option_words o d.topology marks in
     no_yes_line-if o.json (line_of (domain_data d asked)) []
-        (no_yes_line-objects _ (are_object_lines-domain d asked))
+    (no_yes_line-objects _ (are_object_lines-domain d asked))
     no_yes_line-no_lines
 
 -- what is written before the last line
@@ -426,10 +426,13 @@ pub no_yes_line-text_before_verdict : (v : AuditedValue) (o : AuditOptions) (ans
 no_yes_line-text_before_verdict v o answers are ok =
     let marks = excluded v in
     no_yes_line-append (begin_lines o (facts v.domain) marks) _
-        (no_yes_line-begin_lines o (facts v.domain) marks)
+    (no_yes_line-begin_lines o (facts v.domain) marks)
     (no_yes_line-append (flat_map (λ a. a.lines) answers) _
-    (no_yes_line-all_answers v o answers (λ flow a at. (trees_shown o (take flow answers), flow,
-        are.each flow a at))
+    (no_yes_line-all_answers v o answers (λ flow a at. (
+      trees_shown o (take flow answers),
+      flow,
+      are.each flow a at,
+    ))
     ok)
     (no_yes_line-end_lines o v.domain.topology v.summary marks (is_yes v answers) (length answers)
     (count is_right answers) (count is_wrong answers) (count is_unwanted answers) ok))

@@ -41,7 +41,7 @@ writes-output_text : (contents : Option (List FileText)) (Says : List FileText �
 writes-output_text contents Says a p s r old new says parts is same =
     audit_answer-gives (λ all. IfSome contents (λ files. Writes Says files all old new)) r s same
     (writes-output_written contents Says (output_of a) s old new says
-        (is_output_written-parts p (output_of a) s old new parts is))
+    (is_output_written-parts p (output_of a) s old new parts is))
 
 pub writes_which_are_right-run : (contents : Option (List FileText)) (o : AuditOptions)
     (names : List (List ℕ))
@@ -53,7 +53,7 @@ pub writes_which_are_right-run : (contents : Option (List FileText)) (o : AuditO
 writes_which_are_right-run contents o names a p s r old new text parts is same =
     writes-output_text contents (SaysWhichAreRight o names) a p s r old new
     (is_output_of-which_are_right contents o names (output_of a)
-        (is_output_of-audit contents o names a text)) parts is same
+    (is_output_of-audit contents o names a text)) parts is same
 
 pub writes_of_each-run : (contents : Option (List FileText)) (o : AuditOptions) (names : List (List ℕ))
     (a : Result AuditOutput RunFault) (p : Result RunOutput RunFault) (s : Result Bool RunFault)
@@ -63,7 +63,7 @@ pub writes_of_each-run : (contents : Option (List FileText)) (o : AuditOptions) 
 writes_of_each-run contents o names a p s r old new text parts is same =
     writes-output_text contents (SaysOfEach o names) a p s r old new
     (is_output_of-each_flow contents o names (output_of a)
-        (is_output_of-audit contents o names a text)) parts is same
+    (is_output_of-audit contents o names a text)) parts is same
 
 pub are_found_in_whole-run : (contents : Option (List FileText)) (o : AuditOptions) (names : List (List ℕ))
     (a : Result AuditOutput RunFault) (p : Result RunOutput RunFault) (s : Result Bool RunFault)
@@ -74,7 +74,7 @@ pub are_found_in_whole-run : (contents : Option (List FileText)) (o : AuditOptio
 are_found_in_whole-run contents o names a p s r old new text parts is same =
     writes-output_text contents (AreFoundInWhole o names) a p s r old new
     (is_output_of-found_in_whole contents o names (output_of a)
-        (is_output_of-audit contents o names a text)) parts is same
+    (is_output_of-audit contents o names a text)) parts is same
 
 -- a part of it is written if the output fails
 pub writes_of_each_in_part-run : (contents : Option (List FileText)) (o : AuditOptions)
@@ -85,9 +85,9 @@ pub writes_of_each_in_part-run : (contents : Option (List FileText)) (o : AuditO
     → yes_of r ≡ s → r ≡ Err Write → IfSome contents (λ files. WritesPart (SaysOfEach o names) files old new)
 writes_of_each_in_part-run contents o names a p s r old new text no_write parts is same =
     audit_write_fault-gives (IfSome contents (λ files. WritesPart (SaysOfEach o names) files old
-        new)) r s same
+    new)) r s same
     (writes_part-output_written contents (SaysOfEach o names) (output_of a) s old new
-        (is_write_fault-audit_output a no_write)
+    (is_write_fault-audit_output a no_write)
     (is_output_of-each_flow contents o names (output_of a) (is_output_of-audit contents o names a text))
     (is_output_written-parts p (output_of a) s old new parts is))
 
@@ -103,7 +103,7 @@ headline_of_files-run contents o names a p s r old new text parts is same =
     (headline-audit_says_yes contents (IsAuditText o names) FilesKeepHeadline (output_of a) s old new
     (says_yes_by_line-verdict_yes o names) (says_yes_by_line-yes_object o names) says
     (headline_of_files-audit_yes contents o names (output_of a) says)
-        (is_output_written-parts p (output_of a) s old new parts is))
+    (is_output_written-parts p (output_of a) s old new parts is))
 
 -- the number is that of the right flows that nobody wants
 pub has_unwanted-run : (contents : Option (List FileText)) (o : AuditOptions) (names : List (List ℕ))
@@ -117,5 +117,5 @@ pub has_unwanted-run : (contents : Option (List FileText)) (o : AuditOptions) (n
     HasUnwanted v o answer.unwanted)))
 has_unwanted-run contents o names a p n s r old new =
     audit_unwanted-gives (λ m. IfSome contents (MeansDomainWhere (MeansAudited o names)
-        (λ v. HasUnwanted v o m))) a p n s r
+    (λ v. HasUnwanted v o m))) a p n s r
     old new

@@ -89,23 +89,23 @@ pub of_domain-means_audited : (Holds : AuditedValue → Type 0) (o : AuditOption
     → IfSome contents (λ files. FilesMeanDomainAsListed (files_with_exclusions names files) d)
     → AreRouterNames d.topology names
     → IfSome contents (λ files. AreSummariesOf o.unlisted (files_with_exclusions names files)
-        d.topology summary)
+    d.topology summary)
     → Holds (record { domain = d; summary = summary; without = names })
     → IfSome contents (MeansDomainWhere (MeansAudited o names) Holds)
 of_domain-means_audited Holds o names None d summary moves means routers audited_value holds = tt
 of_domain-means_audited Holds o names (Some files) d summary moves means routers audited_value holds
     = record {
-  domain = record { domain = means.whole; summary = summary; without = names };
-  means = record {
-    means = means.means;
-    routers = subst (λ (t : TopologyValue). AreRouterNames t names) (sym means.same.topology) routers;
-    summary = subst (λ (t : TopologyValue).
-        AreSummariesOf o.unlisted (files_with_exclusions names files) t summary)
+      domain = record { domain = means.whole; summary = summary; without = names };
+      means = record {
+        means = means.means;
+        routers = subst (λ (t : TopologyValue). AreRouterNames t names) (sym means.same.topology) routers;
+        summary = subst (λ (t : TopologyValue).
+            AreSummariesOf o.unlisted (files_with_exclusions names files) t summary)
             (sym means.same.topology) audited_value;
-    without = refl;
-  };
-  holds = moves means.whole means.same holds;
-}
+        without = refl;
+      };
+      holds = moves means.whole means.same holds;
+    }
 
 -- ---- the answer, with the number of unwanted flows
 

@@ -130,15 +130,20 @@ denotes_certificate-made_text text written m few =
     (certified_lists-keep_headline d m.holds.examined m.holds.are_examined)
     (certified_lists-bytes d m.holds.examined m.holds.are_examined) (omega (arith, size, few)) in
     subst (λ (bytes : List ℕ). DenotesCertificate t bytes lists) (sym m.holds.spelled)
-    (denotes_certificate-line_feed t body lists (omega (arith, size, few, length-append body
-        (10 ∷ []))) denotes)
+    (denotes_certificate-line_feed t body lists (omega (
+      arith,
+      size,
+      few,
+      length-append body
+          (10 ∷ []),
+    )) denotes)
 
 pub reading_of-made_text : (text written : List ℕ) (m : IsMadeText text true written)
     → length written ≤ 16777216
     → parse_certificate m.domain.topology written ≡ Ok (certified_lists m.holds.examined)
 reading_of-made_text text written m few =
     parse_certificate-from_denotes m.domain.topology written (certified_lists m.holds.examined)
-        (denotes_certificate-made_text text written m few)
+    (denotes_certificate-made_text text written m few)
 
 -- ---- each list is accepted
 
@@ -243,7 +248,7 @@ is_verdict-says_yes : (d : DomainValue) (flow : ℕ) (es : Tree) (v : Verdict) �
 is_verdict-says_yes d flow es (Yes copies) ok accepted is = refl
 is_verdict-says_yes d flow es (No reason) ok accepted is =
     let none = (first_reason-none_iff_accepted (net_of d flow) (length d.topology.lans) es
-        (is_net-net_of d flow ok)
+    (is_net-net_of d flow ok)
     (λ l w. wants-below_lan_count d flow l ok w)).1 accepted in
     let never : None ≡ Some (reason_value reason) = sym none ∙ is in
     absurd cc
@@ -286,11 +291,11 @@ is_verdict_text-only_yes text written bundle parts all printed m is more v =
     let here : AreVerdictsOfLists d written v.domain.lists v.holds.verdicts =
     subst (λ (c : List ℕ). AreVerdictsOfLists d c v.domain.lists v.holds.verdicts) (some_is same.1)
     (subst (λ (e : DomainValue). AreVerdictsOfLists e v.means.certificate v.domain.lists
-        v.holds.verdicts) same.0
+    v.holds.verdicts) same.0
     theirs) in
     let one : v.domain.lists ≡ lists =
     DenotesCertificate-unique d.topology written v.domain.lists lists here.denoted
-        (denotes_certificate-made_text text written m few) in
+    (denotes_certificate-made_text text written m few) in
     let belong = certified_lists-belong d m.holds.examined m.holds.are_examined (sym m.holds.answer) in
     v.holds.answer ∙ are_yes-accepted_lists d lists v.holds.verdicts m.means.rules belong.count
     (subst (λ (ls : List Tree). AreVerdicts d ls v.holds.verdicts) one here.are)

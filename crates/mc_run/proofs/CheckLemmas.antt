@@ -95,7 +95,7 @@ are_verdicts d lists vs count belongs exact copies first = record {
   count = count ∙ belongs.count;
   each = λ flow es v listed verdict_at. is_verdict (length d.topology.lans) d flow es v
       (exact flow es v listed verdict_at) (copies flow es v listed verdict_at)
-          (first flow es v listed verdict_at);
+      (first flow es v listed verdict_at);
 }
 
 is_yes-at_flow : (vs : List Verdict) (k : ℕ) (v : Verdict) → list_all is_yes vs ≡ true
@@ -129,7 +129,7 @@ keeps_headline d lists vs count belongs copies keeps all = λ flow listed.
     let e = slice_get-exists lists flow (omega (arith, listed, few)) in
     let v = slice_get-exists vs flow (omega (arith, listed, count, few)) in
     headline_holds-flow_is_yes d lists flow e.0 e.1 (headline_holds-is_yes d flow e.0 v.0
-        (is_yes-at_flow vs flow v.0 all v.1)
+    (is_yes-at_flow vs flow v.0 all v.1)
     (copies flow e.0 v.0 e.1 v.1) (keeps flow e.0 v.0 e.1 v.1))
 
 -- the text of the verdicts on a domain
@@ -140,9 +140,9 @@ pub is_text_of_verdicts-check_text : (d : DomainValue) (lists : List Tree)
     → IsTextOfVerdicts d lists all written
 is_text_of_verdicts-check_text d lists vs seen again t all written are same other topology answer
     spelled = record {
-  verdicts = vs;
-  are_verdicts = are;
-  answer = answer ∙ ap are_yes other;
-  spelled = spelled ∙ ap (λ t. check_text t seen) topology
-      ∙ ap (check_text d.topology) same;
-}
+      verdicts = vs;
+      are_verdicts = are;
+      answer = answer ∙ ap are_yes other;
+      spelled = spelled ∙ ap (λ t. check_text t seen) topology
+          ∙ ap (check_text d.topology) same;
+    }

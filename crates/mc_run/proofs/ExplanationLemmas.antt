@@ -90,7 +90,7 @@ pub is_explanation-at_255 : (v : AuditedValue) (flow : ℕ) (x : ExaminedFlights
     (found : Option LanSearch) → x ≡ FoundAtTtl255 ended → HasExaminedFlights v.domain flow x
     → ArePrintedCauses (is_whole v) v.domain flow x printed
     → IsSearchIfMissed (search_context (facts v.domain) v.summary (excluded v) flow
-        ended.flight.flight.carried)
+    ended.flight.flight.carried)
     ended.travel.events.items ended.travel.finding found
     → IsExplanation v.domain v.summary (excluded v) (is_whole v) flow x (explanation_in ended printed found)
 is_explanation-at_255 v flow x ended printed found same has_flights why search =
@@ -177,7 +177,7 @@ pub wrong_object-pushed : {A X : Type 0} (v : AuditedValue) (flow ttl : ℕ) (tr
     → ended.flight.domain ≡ v.domain → found ≡ seen
     → OnOk r ((f : Flow) → slice_get v.domain.topology.flows flow ≡ Some f
     → new ≡ old ++ wrong_line_of_travel flow f ended ttl
-        (why_data (facts v.domain) v.summary flow f printed seen)
+    (why_data (facts v.domain) v.summary flow f printed seen)
     travels)
     → OnOk r ((f : Flow) → slice_get v.domain.topology.flows flow ≡ Some f
     → new ≡ old ++ wrong_object travels (facts v.domain) v.summary flow f ttl ended.travel

@@ -107,5 +107,5 @@ pub fault-of_audit_answer : (P : RunFault → Type 0) (a : Result AuditOutput Ru
 fault-of_audit_answer P a p s r old new write own parts is same =
     fault-of_answer P r (subst (λ (t : Result Bool RunFault). IfErr t P) (sym same)
     (fault-of_output_or_write P p s old new write (subst
-        (λ (t : Result RunOutput RunFault). IfErr t P) (sym parts)
+    (λ (t : Result RunOutput RunFault). IfErr t P) (sym parts)
     (fault-of_output P a own)) is))

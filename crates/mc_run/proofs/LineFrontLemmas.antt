@@ -30,7 +30,7 @@ pub takes_piece-front_full : (s : LineFront) (b : ℕ) → 100 ≤ length s.fron
     → TakesPiece s s (b ∷ []) true
 takes_piece-front_full s b full few = λ more.
     take-append-le 100 s.front.items (line_after_feeds s.before (b ∷ more)) full
-        ∙ take_all 100 s.front.items few
+    ∙ take_all 100 s.front.items few
 
 -- nothing more comes
 pub front_after_more-nothing : (s : LineFront) → length s.front.items ≤ 100 → front_after_more s []
@@ -71,7 +71,7 @@ take-piece : (piece next rest : List ℕ) (room : ℕ) → length piece ≤ room
 take-piece piece next rest room within whole =
     let sum : room ≡ length piece + (room - length piece) = omega arith in
     ap (take room) whole ∙ ap (λ n. take n (piece ++ next)) sum
-        ∙ take-append-add piece next (room - length piece)
+    ∙ take-append-add piece next (room - length piece)
 
 module _ (first old : LineFront) (room : ℕ) (rest all : List ℕ)
     (so_far : front_after_more old (take room rest) ≡ front_after_more first all) where
@@ -84,7 +84,7 @@ module _ (first old : LineFront) (room : ℕ) (rest all : List ℕ)
   -- the front was complete within a piece,
   pub found_in_piece : (new : LineFront) (piece next : List ℕ) (found : Bool) → length piece ≤ room
       → rest ≡ piece ++ next → found ≡ true → TakesPiece old new piece found → new.front.items
-          ≡ front_after_more first all
+      ≡ front_after_more first all
   found_in_piece new piece next found within whole is takes =
       sym (rw is at (takes (take (room - length piece) next)))
       ∙ ap (front_after_more old) (sym (take-piece piece next rest room within whole)) ∙ so_far
@@ -115,7 +115,7 @@ is_front_in_file-found items contents left name line (Ok (Some front)) opened fe
   where
     by : (contents : Option (List FileText))
         → IfSome contents (λ files. (bytes : List ℕ) × (file_named files name ≡ Some bytes)
-            × (left ≡ Some bytes))
+        × (left ≡ Some bytes))
         → (files : List FileText) → contents ≡ Some files
         → (bytes : List ℕ) × (file_named files name ≡ Some bytes)
         × (items front ≡ line_front line (take 16777216 bytes))

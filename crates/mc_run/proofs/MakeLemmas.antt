@@ -84,7 +84,7 @@ found_lines_of_flows-push t [] xs f x at = absurd cc
 found_lines_of_flows-push t (g ∷ fs) [] f x at =
     let same : g ≡ f = cc in
     ap (λ more. found_lines_if_any t g x ++ more) (found_lines_of_flows-none t fs)
-        ∙ append-nil (found_lines_if_any t g x)
+    ∙ append-nil (found_lines_if_any t g x)
     ∙ ap (λ (h : Flow). found_lines_if_any t h x) same
 found_lines_of_flows-push t (g ∷ fs) (y ∷ xs) f x at =
     ap (λ more. found_lines_if_any t g y ++ more) (found_lines_of_flows-push t fs xs f x at)

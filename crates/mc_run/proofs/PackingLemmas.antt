@@ -113,13 +113,13 @@ counted_writes-pack_fault packing.Memory before = refl
 pub counted_reads-of_result : (f : PackFault) (r : Result (Unit {0}) RunFault) (before after : ℕ)
     → IsResultOfFault f r
     → after ≡ failures_after {X = Unit {0}} is_file_read (Err f) before → after
-        ≡ failures_after is_read r before
+    ≡ failures_after is_read r before
 counted_reads-of_result f r before after e is = rw (result-of_pack_fault f r e)
     (is ∙ counted_reads-pack_fault f before)
 
 pub counted_writes-of_result : (f : PackFault) (r : Result (Unit {0}) RunFault) (before after : ℕ)
     → IsResultOfFault f r
     → after ≡ failures_after {X = Unit {0}} is_bundle_write (Err f) before → after
-        ≡ failures_after is_write r before
+    ≡ failures_after is_write r before
 counted_writes-of_result f r before after e is = rw (result-of_pack_fault f r e)
     (is ∙ counted_writes-pack_fault f before)

@@ -59,42 +59,50 @@ appends_with_failures-append IsOne IsMore IsBoth old between new before middle a
 refused_file_lines-push : (contents : Option (List FileText)) (files : List RefusedFile)
     (file : RefusedFile) (one more : ℕ)
     (text line : List ℕ) → AreRefusedFileLines contents files one text
-        → IsRefusedFileLine contents file more line
+    → IsRefusedFileLine contents file more line
     → AreRefusedFileLines contents (files ++ file ∷ []) (one + more) (text ++ line)
-refused_file_lines-push contents [] file one more text line are is =
-    (more, 0, line, [], is, (refl, refl), omega (arith, are.0), ap (λ t. t ++ line) are.1
-        ∙ sym (append-nil line))
+refused_file_lines-push contents [] file one more text line are is = (
+  more,
+  0,
+  line,
+  [],
+  is,
+  (refl, refl),
+  omega (arith, are.0),
+  ap (λ t. t ++ line) are.1
+      ∙ sym (append-nil line),
+)
 refused_file_lines-push contents (first ∷ files) file one more text line
     (a, b, front, rest, is_first, are, count, whole) is = (
-  a,
-  b + more,
-  front,
-  rest ++ line,
-  is_first,
-  refused_file_lines-push contents files file b more rest line are is,
-  omega (arith, count),
-  ap (λ t. t ++ line) whole ∙ append_assoc front rest line,
-)
+      a,
+      b + more,
+      front,
+      rest ++ line,
+      is_first,
+      refused_file_lines-push contents files file b more rest line are is,
+      omega (arith, count),
+      ap (λ t. t ++ line) whole ∙ append_assoc front rest line,
+    )
 
 -- the same for the files before an index of a list and the one there, with unchanged contents of the source
 pub refused_file_lines-more : (contents other : Option (List FileText)) (files : List RefusedFile)
     (i : ℕ) (file : RefusedFile)
     (old between new : List ℕ) (before middle after : ℕ) → other ≡ contents → i < length files
     → file ≡ get_or files i file → AppendsWithFailures (AreRefusedFileLines contents (take i files))
-        old between before middle
+    old between before middle
     → AppendsWithFailures (IsRefusedFileLine other file) between new middle after
     → AppendsWithFailures (AreRefusedFileLines contents (take (i + 1) files)) old new before after
 refused_file_lines-more contents other files i file old between new before middle after same inside
     at one more =
     appends_with_failures-append (AreRefusedFileLines contents (take i files))
-        (IsRefusedFileLine contents file) (AreRefusedFileLines contents (take (i + 1) files))
+    (IsRefusedFileLine contents file) (AreRefusedFileLines contents (take (i + 1) files))
     old between new before middle after
     (λ lost count text line are is. subst (λ (fs : List RefusedFile). AreRefusedFileLines contents
-        fs (lost + count) (text ++ line))
+    fs (lost + count) (text ++ line))
     (sym (take_more files i file inside ∙ ap (λ f. take i files ++ f ∷ []) (sym at)))
     (refused_file_lines-push contents (take i files) file lost count text line are is)) one
     (subst (λ (t : Option (List FileText)). AppendsWithFailures (IsRefusedFileLine t file) between
-        new middle after) same more)
+    new middle after) same more)
 
 -- ---- a file that can't be read, and all files
 
@@ -106,7 +114,7 @@ pub appends_with_failures-unread : {E : Type 0} (contents : Option (List FileTex
     → OnOk r (AppendsWithFailures (IsRefusalReason contents name why) old new before before)
 appends_with_failures-unread contents name unread why r old new before is there =
     on_ok_map r there (λ put. appends_with_failures-text (IsRefusalReason contents name why) old new
-        put.0 before
+    put.0 before
     (subst (λ (w : Refusal). IsRefusalReason contents name w 0 put.0) (sym is) (refl, put.1)) put.2)
 
 -- the first files, and the number of further ones
@@ -144,23 +152,23 @@ pub refusal_text : (names : List (List ℕ)) (contents other : Option (List File
     (refused : List RefusedFile)
     (before middle after : ℕ) (old text : List ℕ) → other ≡ contents → old ≡ []
     → ((files : List FileText) → contents ≡ Some files → AreRefusedFiles names files
-        (map as_judged_file refused))
+    (map as_judged_file refused))
     → ((files : List FileText) → contents ≡ Some files → AreUnreadFilesMissing files
-        (map as_judged_file refused)
+    (map as_judged_file refused)
     → map as_judged_file refused ≡ refused_files_of names files)
     → middle ≡ saturating_failures (unread_count (map as_judged_file refused)) before
     → AppendsWithFailures (AreFirst50Lines other refused) old text middle after
     → IsRefusalText names contents before after text
 refusal_text names contents other refused before middle after old text same none listed exact unread
     adds = record {
-  refused = refused;
-  listed = listed;
-  exact = exact;
-  lost = adds.lost;
-  lines = subst (λ (t : Option (List FileText)). AreFirst50Lines t refused adds.lost text) same
-      (subst (AreFirst50Lines other refused adds.lost) (sym
+      refused = refused;
+      listed = listed;
+      exact = exact;
+      lost = adds.lost;
+      lines = subst (λ (t : Option (List FileText)). AreFirst50Lines t refused adds.lost text) same
+          (subst (AreFirst50Lines other refused adds.lost) (sym
           (adds.whole ∙ ap (λ front. front ++ adds.added) none))
-      adds.right);
-  failures = adds.failures ∙ ap (saturating_failures adds.lost) unread
-      ∙ failures_with-more (unread_count (map as_judged_file refused)) adds.lost before;
-}
+          adds.right);
+      failures = adds.failures ∙ ap (saturating_failures adds.lost) unread
+          ∙ failures_with-more (unread_count (map as_judged_file refused)) adds.lost before;
+    }

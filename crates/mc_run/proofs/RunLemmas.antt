@@ -49,27 +49,27 @@ pub is_refused_for-source_fault : (with : Bool) (text : List ℕ) (f : SourceFau
 is_refused_for-source_fault with text source.Read is = tt
 is_refused_for-source_fault with text (source.Input (input.Bundle f)) is =
     is_refused_for-input_fault with text _ _ (is (λ silent. elim silent
-        [ inl e ↦ absurd cc | inr e ↦ absurd cc ]))
+    [ inl e ↦ absurd cc | inr e ↦ absurd cc ]))
     refl
 is_refused_for-source_fault with text (source.Input (input.Parts place)) is =
     is_refused_for-input_fault with text _ _ (is (λ silent. elim silent
-        [ inl e ↦ absurd cc | inr e ↦ absurd cc ]))
+    [ inl e ↦ absurd cc | inr e ↦ absurd cc ]))
     refl
 is_refused_for-source_fault with text (source.Input (input.Topology f)) is =
     is_refused_for-input_fault with text _ _ (is (λ silent. elim silent
-        [ inl e ↦ absurd cc | inr e ↦ absurd cc ]))
+    [ inl e ↦ absurd cc | inr e ↦ absurd cc ]))
     refl
 is_refused_for-source_fault with text (source.Input (input.Vif part f)) is =
     is_refused_for-input_fault with text _ _ (is (λ silent. elim silent
-        [ inl e ↦ absurd cc | inr e ↦ absurd cc ]))
+    [ inl e ↦ absurd cc | inr e ↦ absurd cc ]))
     refl
 is_refused_for-source_fault with text (source.Input (input.Cache part f)) is =
     is_refused_for-input_fault with text _ _ (is (λ silent. elim silent
-        [ inl e ↦ absurd cc | inr e ↦ absurd cc ]))
+    [ inl e ↦ absurd cc | inr e ↦ absurd cc ]))
     refl
 is_refused_for-source_fault with text (source.Input (input.Reports part f)) is =
     is_refused_for-input_fault with text _ _ (is (λ silent. elim silent
-        [ inl e ↦ absurd cc | inr e ↦ absurd cc ]))
+    [ inl e ↦ absurd cc | inr e ↦ absurd cc ]))
     refl
 is_refused_for-source_fault with text (source.Input input.Memory) is = tt
 
@@ -314,12 +314,12 @@ headline-wrote_yes_line words (Some x) Says Headline (Ok run_output) (Ok answer)
     let whole = subst (λ (b : List ℕ). Appends old new b)
     (sym (take_all (length text) text (omega arith))) is.1 in
     keeps (last x run_output.yes text says (has_line_with-wrote_at_start words text (length text)
-        old new whole wrote))
+    old new whole wrote))
 headline-wrote_yes_line words (Some x) Says Headline (Ok run_output) (Err fault) old new are last
     says keeps is wrote =
     let text = string_bytes run_output.text in
     keeps (last x run_output.yes text says (has_line_with-wrote_at_start words text is.1.0 old new
-        is.1.2 wrote))
+    is.1.2 wrote))
 headline-wrote_yes_line words (Some x) Says Headline (Err cause) (Ok answer) old new are last says
     keeps is wrote =
     absurd is
@@ -331,7 +331,7 @@ headline-wrote_yes_line words (Some x) Says Headline (Err cause) (Err fault) old
 -- and after one that returns true.
 headline-answered_true : (Keeps : Type 0) (s : Result RunOutput RunFault) (r : Result Bool RunFault)
     (old new : Option (List ℕ)) → IfOk s (λ run_output. IsTrue run_output.yes → Keeps)
-        → IsOutputWritten s r old new
+    → IsOutputWritten s r old new
     → r ≡ Ok true → Keeps
 headline-answered_true Keeps (Ok run_output) (Ok answer) old new keeps is ok =
     let true_is : answer ≡ true = cc in
@@ -350,7 +350,7 @@ headline-check_says_yes contents Says Headline s r old new last says keeps is (i
     headline-answered_true (IfSome contents Headline) s r old new keeps is ok
 headline-check_says_yes contents Says Headline s r old new last says keeps is (inr wrote) =
     headline-wrote_yes_line (codes "verdict yes") contents Says Headline s r old new (inl refl) last
-        says keeps is wrote
+    says keeps is wrote
 
 -- and after an audit, which says it in text or in JSON.
 pub headline-audit_says_yes : {X : Type 0} (contents : Option X) (Says : X → Bool → List ℕ → Type 0)
@@ -362,7 +362,7 @@ headline-audit_says_yes contents Says Headline s r old new last object says keep
     headline-answered_true (IfSome contents Headline) s r old new keeps is ok
 headline-audit_says_yes contents Says Headline s r old new last object says keeps is (inr (inl wrote)) =
     headline-wrote_yes_line (codes "verdict yes") contents Says Headline s r old new (inl refl) last
-        says keeps is wrote
+    says keeps is wrote
 headline-audit_says_yes contents Says Headline s r old new last object says keeps is (inr (inr wrote)) =
     headline-wrote_yes_line yes_object contents Says Headline s r old new (inr refl) object says
-        keeps is wrote
+    keeps is wrote

@@ -238,12 +238,12 @@ has_examined_flights-same_domain same flow (flights.FoundAtTtl255 ended) is =
     is_finished_travel-same_domain same flow 255 ended is
 has_examined_flights-same_domain {whole = whole} {d = d} same flow
     (flights.FoundAtFlowTtl greatest least) is = (
-  is_finished_travel-same_domain same flow 255 greatest is.0,
-  is.1,
-  subst (λ (n : ℕ). IsFinishedTravelOf whole flow n (finished_travel_in whole least))
-      (ap (λ (n : Net). n.ttl) (sym (same.nets flow)))
-      (is_finished_travel-same_domain same flow (ttl_of d flow) least is.2),
-)
+      is_finished_travel-same_domain same flow 255 greatest is.0,
+      is.1,
+      subst (λ (n : ℕ). IsFinishedTravelOf whole flow n (finished_travel_in whole least))
+          (ap (λ (n : Net). n.ttl) (sym (same.nets flow)))
+          (is_finished_travel-same_domain same flow (ttl_of d flow) least is.2),
+    )
 
 -- which have the same finding,
 without_flights-same_domain : {whole d : DomainValue} → HaveSameFacts whole d
@@ -257,11 +257,11 @@ without_flights-same_domain same flow (flights.FoundAtFlowTtl greatest least) =
 -- which has the same explanation,
 is_explained-same_domain : {whole d : DomainValue} → HaveSameFacts whole d → (flow : ℕ) (x : ExaminedFlights)
     (printed : List Cause) → IsExplained d flow x printed
-        → IsExplained whole flow (examined_flights_in whole x) printed
+    → IsExplained whole flow (examined_flights_in whole x) printed
 is_explained-same_domain same flow (flights.Certified entries) printed is = is
 is_explained-same_domain same flow (flights.FoundAtTtl255 ended) printed is =
     transport_topology_and_nets (λ t n. ExplainsFinding (n flow) ended.flight.flight
-        (finding_value ended.travel.finding)
+    (finding_value ended.travel.finding)
     printed) same is
 is_explained-same_domain same flow (flights.FoundAtFlowTtl greatest least) printed is =
     transport_topology_and_nets (λ t n. ExplainsAtFlowTtl (n flow) greatest.flight.flight least.flight.flight
@@ -285,7 +285,7 @@ is_explanation-same_domain : {whole d : DomainValue} → HaveSameFacts whole d �
     (names : List (List ℕ)) (known : Bool) (flow : ℕ) (x : ExaminedFlights) (e : Explanation)
     → IsExplanation d summary (excluded_marks d.topology names) known flow x e
     → IsExplanation whole summary (excluded_marks whole.topology names) known flow
-        (examined_flights_in whole x) e
+    (examined_flights_in whole x) e
 is_explanation-same_domain {whole = whole} {d = d} same summary names known flow x e is = record {
   printed = record {
     all = is.printed.all;

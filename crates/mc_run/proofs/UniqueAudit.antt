@@ -92,7 +92,7 @@ wrong_lines-same_travel travels d summary flow f ttl a b x y ended same =
     ∙ ap₂ (λ (why : List ℕ) (es : List ℕ).
     found_lines d.topology f ttl b.travel.finding ++ (why ++ es))
     (explanation_lines-same_explanation d summary flow f x y same)
-        (events_if_shown-same_events travels d.topology a b ended)
+    (events_if_shown-same_events travels d.topology a b ended)
 
 found_data-same_travel : (d : DomainFacts) (summary : List SummaryValue) (flow : ℕ) (f : Flow)
     (s t : Option LanSearch) → HaveSameSearch s t
@@ -160,7 +160,7 @@ answer_lines-same_flights o whole d summary printed flow f (FoundAtTtl255 a) (Fo
 answer_lines-same_flights o whole d summary printed flow f (FoundAtFlowTtl a b) (FoundAtFlowTtl c e)
     x y wanted same explained =
     wrong_flow_lines-same_travel o.json o.travels (facts d) summary flow f (ttl_of d flow) b e x y
-        same.1 explained
+    same.1 explained
 answer_lines-same_flights o whole d summary printed flow f (Certified xs) (FoundAtTtl255 b) x y
     wanted same explained =
     absurd same
@@ -197,7 +197,7 @@ shown_trees_with-same_flights : (o : AuditOptions) (d : DomainValue) (flow : ℕ
     (a b : ExaminedFlights) (wanted : List ℕ)
     (printed : List Tree) → HaveSameFlights a b
     → shown_trees_with o printed (without_flights d flow a) wanted
-        ≡ shown_trees_with o printed (without_flights d flow b) wanted
+    ≡ shown_trees_with o printed (without_flights d flow b) wanted
 shown_trees_with-same_flights o d flow (Certified xs) (Certified ys) wanted printed same =
     ap (λ (es : Tree). with_shown_tree o.json (is_hidden o.faults wanted) printed es) same
 shown_trees_with-same_flights o d flow (FoundAtTtl255 a) (FoundAtTtl255 b) wanted printed same = refl
@@ -228,7 +228,7 @@ same_answer-flow_answers v o printed flow a b ok p q =
     (examined a.examined p.flights p.examined p.checked.examined)
     (examined b.examined q.flights q.examined q.checked.examined) in
     let explained = is_explanation-unique d v.summary (excluded v) (is_whole v) flow p.flights
-        q.flights p.explanation
+    q.flights p.explanation
     q.explanation ok flights p.explained q.explained in
     let wanted : a.wanted ≡ b.wanted = p.wanted ∙ sym q.wanted in
     let lines = λ (f : Flow) (x : Examined) (w : List ℕ) (y : Explanation).
@@ -238,7 +238,7 @@ same_answer-flow_answers v o printed flow a b ok p q =
           ∙ ap₂ (λ (f : Flow) (w : List ℕ). lines f a.examined w p.explanation) listed wanted
           ∙ ap (λ (x : Examined). lines q.listed x b.wanted p.explanation) p.examined
           ∙ answer_lines-same_flights o (is_whole v) d v.summary printed flow q.listed p.flights
-              q.flights p.explanation
+          q.flights p.explanation
           q.explanation b.wanted flights explained
           ∙ ap (λ (x : Examined). lines q.listed x b.wanted q.explanation) (sym q.examined)
           ∙ sym q.spelled;
@@ -366,7 +366,7 @@ is_audited-unique v o all every text other ok p q =
     p.are_answers.count ∙ sym q.are_answers.count in
     let same = have_same_answers-flow_answers v o 0 [] p.answers q.answers ok flows
     (are_answers_from-first v o p.answers p.are_answers.each)
-        (are_answers_from-first v o q.answers q.are_answers.each) in
+    (are_answers_from-first v o q.answers q.are_answers.each) in
     let all : is_yes v p.answers ≡ is_yes v q.answers =
     ap (λ (b : Bool). is_whole v && b) (are_right-same_answers o p.answers q.answers same) in
     let begin = begin_lines o (facts v.domain) (excluded v) in (
@@ -391,11 +391,11 @@ means_audited-unique : HasOneListOfSummaries → (o : AuditOptions) (names : Lis
     (v w : AuditedValue) → MeansAudited o names files v → MeansAudited o names files w → v ≡ w
 means_audited-unique one_list o names files v w p q =
     let domain = FilesMeanDomain-unique (files_with_exclusions names files) v.domain w.domain
-        p.means q.means in
+    p.means q.means in
     let summary = one_list o.unlisted (files_with_exclusions names files) v.domain.topology v.summary
     w.summary p.summary
     (subst (λ (d : DomainValue). AreSummariesOf o.unlisted (files_with_exclusions names files)
-        d.topology w.summary)
+    d.topology w.summary)
     (sym domain) q.summary) in
     let without = p.without ∙ sym q.without in
     λ i. record { domain = domain i; summary = summary i; without = without i }

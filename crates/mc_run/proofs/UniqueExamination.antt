@@ -59,7 +59,7 @@ strictly_increasing-later_greater x (y ∷ es) up e (inr there) =
     let first : x.lan < y.lan = up 0 (omega arith) in
     let more : y.lan < e.lan =
     strictly_increasing-later_greater y es (is_strictly_increasing-rest x.lan
-        (map (λ (z : Entry). z.lan) (y ∷ es)) up) e there in
+    (map (λ (z : Entry). z.lan) (y ∷ es)) up) e there in
     omega (arith, first, more)
 
 strictly_increasing-same_heads : (x y : Entry) (xs ys : List Entry)
@@ -90,12 +90,12 @@ entries_by_lan-unique (x ∷ xs) [] up rises to from = absurd (to x (inl refl))
 entries_by_lan-unique (x ∷ xs) (y ∷ ys) up rises to from =
     let first = strictly_increasing-same_heads x y xs ys up rises (to x (inl refl)) (from y (inl refl)) in
     let more = entries_by_lan-unique xs ys (is_strictly_increasing-rest x.lan
-        (map (λ (e : Entry). e.lan) xs) up)
+    (map (λ (e : Entry). e.lan) xs) up)
     (is_strictly_increasing-rest y.lan (map (λ (e : Entry). e.lan) ys) rises)
     (λ e there. strictly_increasing-same_tails x y e ys first
-        (strictly_increasing-later_greater x xs up e there) (to e (inr there)))
+    (strictly_increasing-later_greater x xs up e there) (to e (inr there)))
     (λ e there. strictly_increasing-same_tails y x e xs (sym first)
-        (strictly_increasing-later_greater y ys rises e there) (from e (inr there))) in
+    (strictly_increasing-later_greater y ys rises e there) (from e (inr there))) in
     λ i. first i ∷ more i
 
 -- ---- a travel
@@ -224,9 +224,11 @@ examined_flights-unique d flow (FoundAtFlowTtl a b) (Certified ys) p q x y =
     absurd (certified-not_wrong (IsRight (net_of d flow)) y.right x.right)
 examined_flights-unique d flow (FoundAtFlowTtl a b) (FoundAtTtl255 c) p q x y =
     absurd (fault_at_255-not_at_flow_ttl d flow c a q p.0 y.fault p.1)
-examined_flights-unique d flow (FoundAtFlowTtl a b) (FoundAtFlowTtl c e) p q x y =
-    (is_finished_travel-unique d flow 255 a c p.0 q.0, is_finished_travel-unique d flow
-        (ttl_of d flow) b e p.2 q.2)
+examined_flights-unique d flow (FoundAtFlowTtl a b) (FoundAtFlowTtl c e) p q x y = (
+  is_finished_travel-unique d flow 255 a c p.0 q.0,
+  is_finished_travel-unique d flow
+      (ttl_of d flow) b e p.2 q.2,
+)
 
 -- ---- the explanation
 
@@ -283,7 +285,7 @@ is_searched-unique s es (Missed lan) (Some a) (Some b) p q =
 
 is_search_if_missed-unique : (d : DomainFacts) (summary : List SummaryValue) (excluded : List Bool) (flow : ℕ)
     (a b : ExaminedFlights) (s t : Option LanSearch) → HaveSameFlights a b
-        → IsSearchAt255 d summary excluded flow a s
+    → IsSearchAt255 d summary excluded flow a s
     → IsSearchAt255 d summary excluded flow b t → HaveSameSearch s t
 is_search_if_missed-unique d summary excluded flow (Certified xs) (Certified ys) s t same p q =
     is_search-none s t p q
@@ -342,7 +344,7 @@ pub is_explanation-unique : (d : DomainValue) (summary : List SummaryValue) (exc
 is_explanation-unique d summary excluded whole flow a b x y ok same p q = record {
   printed = p.printed.shown
       ∙ ap (without_remedies whole) (causes-are_unique d flow b p.printed.all q.printed.all
-          (is_net-net_of d flow ok)
+      (is_net-net_of d flow ok)
       (is_explained-same_flights d flow a b p.printed.all same p.printed.explained) q.printed.explained)
       ∙ sym q.printed.shown;
   search = is_search_if_missed-unique (facts d) summary excluded flow a b x.search y.search same

@@ -49,7 +49,7 @@ reason_text-no_line_feed t (Stray router vif) ok = router_and_vif-no_line_feed (
 reason_text-no_line_feed t (Extra router vif lan) ok =
     let front = codes "Extra " ++ router_name t router ++ codes " " ++ decimal vif in
     let begun = router_and_vif-no_line_feed (codes "Extra ") t router vif
-        (no_feed-from_list_all (codes "Extra ") refl) ok in
+    (no_feed-from_list_all (codes "Extra ") refl) ok in
     lan_name-no_line_feed (front ++ codes " ") t lan (no_feed-append front (codes " ") begun (refl, tt)) ok
 reason_text-no_line_feed t (WrongRank lan) ok = lan_name-no_line_feed (codes "WrongRank ") t lan
     (no_feed-from_list_all (codes "WrongRank ") refl) ok
@@ -78,13 +78,13 @@ pub flow_line_body : (t : TopologyValue) (f : Flow) (v : Verdict) → IsValidTop
     → HasNoByte 10 (line_body t f v)
 flow_line_body t f v ok =
     let ttl = no_feed-append (codes " ttl ") (decimal f.ttl)
-        (no_feed-from_list_all (codes " ttl ") refl) (number f.ttl) in
+    (no_feed-from_list_all (codes " ttl ") refl) (number f.ttl) in
     let group = no_feed-append (dotted f.group) _ (no_feed-dotted f.group) ttl in
     let source = no_feed-append (dotted f.source) _ (no_feed-dotted f.source)
     (no_feed-append (codes " ") _ (refl, tt) group) in
     let last = no_feed-append (codes " ") _ (refl, tt) (verdict_text-no_line_feed t v ok) in
     no_feed-append (flow_words f) _ (no_feed-append (codes "flow ") _
-        (no_feed-from_list_all (codes "flow ") refl) source) last
+    (no_feed-from_list_all (codes "flow ") refl) source) last
 
 -- a flow's line is its body and a line feed
 pub flow_line-line_body : (t : TopologyValue) (f : Flow) (v : Verdict)
@@ -187,7 +187,7 @@ no_yes_line-line xs none other = record {
   starts = inr (xs, refl);
   left = λ begin front rest tail are starts same.
       elim (is_left-inside_line begin xs tail front rest none starts
-          (sym (append_assoc xs (codes "\n") tail) ∙ same)) [
+      (sym (append_assoc xs (codes "\n") tail) ∙ same)) [
         | inl begins ↦ absurd (other begin tail rest are begins)
         | inr left ↦ left
       ];
@@ -217,7 +217,7 @@ pub no_yes_line-text_line : (line xs : List ℕ) → BeginsWithOtherByte xs → 
 no_yes_line-text_line line xs other none is =
     subst AreLinesWithoutYes (sym is)
     (no_yes_line-line xs none (λ begin tail rest are same. yes_words-other_first_byte xs begin tail
-        rest other are same))
+    rest other are same))
 
 pub no_yes_line-if : (b : Bool) (xs ys : List ℕ) → AreLinesWithoutYes xs → AreLinesWithoutYes ys
     → AreLinesWithoutYes (cond b xs ys)
@@ -230,7 +230,7 @@ pub no_yes_line-verdict_line : (t : TopologyValue) (f : Flow) (v : Verdict) → 
     → AreLinesWithoutYes (flow_line t f v)
 no_yes_line-verdict_line t f v ok =
     no_yes_line-text_line (flow_line t f v) (line_body t f v) (refl, refl) (flow_line_body t f v ok)
-        (flow_line-line_body t f v)
+    (flow_line-line_body t f v)
 
 pub no_yes_line-flow_lines : (t : TopologyValue) (fs : List Flow) (vs : List Verdict) → IsValidTopology t
     → AreLinesWithoutYes (flow_lines t fs vs)

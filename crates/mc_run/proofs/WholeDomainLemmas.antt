@@ -58,10 +58,10 @@ not_right-whole_domain : (o : AuditOptions) (names : List (List ℕ)) (files : L
     → (whole : DomainValue) → FilesMeanDomain files whole → IsRight (net_of whole flow) → ⊥
 not_right-whole_domain o names files v flow ttl travel audited_value low high runs unclean whole means =
     not_right-from_unclean_travel (is_excluded whole.topology names) (net_of v.domain flow)
-        (net_of whole flow)
+    (net_of whole flow)
     (length v.domain.topology.lans) ttl [] false runs.1.picks (finding_value travel.finding)
     (ExcludesRouters-from_files names files v.domain whole audited_value.means means flow) low high
-        runs.1.travel unclean
+    runs.1.travel unclean
 
 is_found_in_whole-answer_lines : (o : AuditOptions) (names : List (List ℕ)) (files : List FileText)
     (v : AuditedValue)
@@ -75,7 +75,7 @@ is_found_in_whole-answer_lines : (o : AuditOptions) (names : List (List ℕ)) (f
 is_found_in_whole-answer_lines o names files v printed flow f (examined.Certified entries) e wanted
     lines audited_value checked
     runs within wants is = inl (says_yes_of-certified v o printed flow f entries e wanted lines
-        checked wants is)
+    checked wants is)
 is_found_in_whole-answer_lines o names files v printed flow f (examined.Found ttl travel) e wanted
     lines audited_value checked
     runs within wants is = inr (record {
@@ -102,7 +102,7 @@ is_found_in_whole-flow_answer o names files v printed flow a audited_value is =
     IfFound (λ ttl travel. (ttl_of v.domain flow ≤ ttl) × (ttl ≤ 255)) x) (sym is.examined)
     (found_ttl-flow_ttl_or_255 v.domain flow is.flights audited_value.means.rules lt) in
     is_found_in_whole-answer_lines o names files v printed flow is.listed a.examined is.explanation
-        a.wanted a.lines audited_value
+    a.wanted a.lines audited_value
     is.checked runs within is.wanted is.spelled
 
 writes_of_each_in_whole-audited : (o : AuditOptions) (names : List (List ℕ)) (files : List FileText)
@@ -120,7 +120,7 @@ writes_of_each_in_whole-audited o names files v all written audited_value a =
       each = each_answer-each_lines (λ flow f ls. SaysYesOf v o flow f ls ⊎ IsFoundInWhole v o files
           flow f ls) v o
           answers are (λ printed flow b is. is_found_in_whole-flow_answer o names files v printed
-              flow b audited_value is);
+          flow b audited_value is);
       spelled = audit_text-split_at_lines v o all written a;
     }
 
@@ -130,7 +130,7 @@ pub is_output_of-found_in_whole : (contents : Option (List FileText)) (o : Audit
     → IsOutputOf contents (AreFoundInWhole o names) s
 is_output_of-found_in_whole contents o names s =
     is_output_of-implication contents (IsAuditText o names) (AreFoundInWhole o names) s
-        (λ files all written is. record {
+    (λ files all written is. record {
       domain = is.domain;
       means = is.means;
       holds = writes_of_each_in_whole-audited o names files is.domain all written is.means is.holds;

@@ -106,9 +106,9 @@ has_line-last_words : (lines words front rest : List ℕ) (json all : Bool) → 
 has_line-last_words lines words front rest json all other are starts same =
     let split_text = ap (λ xs. lines ++ xs) (sym (last_words-verdict_line json all)) ∙ same in
     let l = other.left words front rest (last_words_of_verdict json all ++ codes "\n") are starts
-        split_text in
+    split_text in
     elim (is_left-inside_line words (last_words_of_verdict json all) [] l.front rest
-        (last_words-no_line_feed json all) l.starts l.is) [
+    (last_words-no_line_feed json all) l.starts l.is) [
       | inl begins ↦ yes_words-begin_last_line json all words rest are begins
       | inr left ↦ absurd (yes_words-not_inside left.front words rest are left.is)
     ]
@@ -143,7 +143,7 @@ is_last_line_yes-check_text text written front rest all v starts is =
     let t = v.domain.domain.topology in
     let verdicts = v.holds.verdicts in
     let run_output = has_line-last_words (flow_lines t t.flows verdicts) (codes "verdict yes") front
-        rest false
+    rest false
     (are_yes verdicts) (no_yes_line-flow_lines t t.flows verdicts v.means.domain.rules.topology) (inl refl)
     starts (sym v.holds.spelled ∙ is) in
     (v.holds.answer ∙ run_output.all_are, run_output.last)
@@ -162,7 +162,7 @@ pub headline_of_bundle-check_yes : (contents : Option (List ℕ)) (s : Result Ru
     → SaysYes r old new → IfSome contents BundleKeepsHeadline
 headline_of_bundle-check_yes contents s r old new says keeps is yes_holds =
     headline-check_says_yes contents IsVerdictText BundleKeepsHeadline s r old new
-        says_yes_by_line-verdict_text says keeps is yes_holds
+    says_yes_by_line-verdict_text says keeps is yes_holds
 
 -- ---- the text of an audit
 
@@ -187,7 +187,7 @@ no_yes_line-before_verdict : (names : List (List ℕ)) (files : List FileText) (
     → AreLinesWithoutYes (text_before_verdict a.domain o a.holds.answers)
 no_yes_line-before_verdict names files o all written a =
     no_yes_line-text_before_verdict a.domain o a.holds.answers a.holds.are_answers
-        a.means.means.rules.topology
+    a.means.means.rules.topology
 
 pub has_line-audit_text : (names : List (List ℕ)) (files : List FileText) (o : AuditOptions)
     (written old : List ℕ) → IsAuditText o names files true written
@@ -195,7 +195,7 @@ pub has_line-audit_text : (names : List (List ℕ)) (files : List FileText) (o :
 has_line-audit_text names files o written old a =
     is_last_line_yes-wrote (text_before_verdict a.domain o a.holds.answers) written old o.json
     (no_yes_line-before_verdict names files o true written a)
-        (audit_text-lines_and_verdict names files o true written a)
+    (audit_text-lines_and_verdict names files o true written a)
 
 is_last_line_yes-audit_line : (names : List (List ℕ)) (files : List FileText) (o : AuditOptions) (all : Bool)
     (words written front rest : List ℕ) → IsAuditText o names files all written → IsLineStart front

@@ -128,7 +128,7 @@ abbrev pub end_lines : AuditOptions → TopologyValue → List SummaryValue → 
     → (all : Bool) → List FlowAnswer → List ℕ
 end_lines o t summary excluded all answers =
     end_text_or_objects o t summary excluded all (length answers) (count is_right answers)
-        (count is_wrong answers)
+    (count is_wrong answers)
     (count is_unwanted answers)
 
 -- the last line

@@ -80,7 +80,7 @@ pub record AreFlowsPushed (v : AuditedValue) (o : AuditOptions) (k : ℕ) (s : F
 abbrev pub AreAllFlowsPushed : AuditedDomain → AuditOptions → FlowCounts → (old new : List ℕ) → Type 0
 AreAllFlowsPushed a o flow_counts old new = (printed : List Tree)
     × AreFlowsPushed (audited_value a) o (length (audited_value a).domain.topology.flows)
-        flow_counts printed old new
+    flow_counts printed old new
 
 -- ---- the lines of one flow, as they are appended
 

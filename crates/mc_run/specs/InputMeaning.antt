@@ -81,4 +81,4 @@ AreRefusedWithout names files Write = ⊤
 AreRefusedWithout names files Memory = ⊤
 AreRefusedWithout names files fault =
     (cause : WithoutFault) × (input_of_files_without names files ≡ Err cause)
-        × (fault ≡ from_without_fault cause)
+    × (fault ≡ from_without_fault cause)

@@ -43,7 +43,7 @@ pub record IsFrontInFile (contents : Option (List FileText)) (name : List ℕ) (
   pub few : length front ≤ 100
   pub known : (files : List FileText) → contents ≡ Some files →
       (bytes : List ℕ) × (file_named files name ≡ Some bytes)
-          × (front ≡ line_front line (take 16777216 bytes))
+      × (front ≡ line_front line (take 16777216 bytes))
 
 -- how many calls of a source fail where it gives this front, or gives none
 abbrev pub lost_calls : Option (List ℕ) → ℕ
@@ -87,7 +87,7 @@ abbrev pub AreRefusedFileLines : Option (List FileText) → List RefusedFile →
 AreRefusedFileLines contents [] lost text = (lost ≡ 0) × (text ≡ [])
 AreRefusedFileLines contents (file ∷ files) lost text =
     (one more : ℕ) × (line rest : List ℕ) × IsRefusedFileLine contents file one line
-        × AreRefusedFileLines contents files more rest
+    × AreRefusedFileLines contents files more rest
     × (lost ≡ one + more) × (text ≡ line ++ rest)
 
 -- the line with the number of further refused files, if there are any

@@ -17,6 +17,6 @@ pub returns : goal.returns
 returns c = record {
   ok = (
       is_correct_verdict-verdict_by c.args.domain.now c.args.flow c.args.entries.now
-          c.in_ok-reason.reason c.verdict_by.result
+      c.in_ok-reason.reason c.verdict_by.result
       c.topology-rules.ensures.rules c.requires.flow c.in_ok-reason.ensures.ok c.verdict_by.ensures.value);
 }

@@ -39,7 +39,7 @@ loop-copy-preserved c =
     subst (λ (y : Copy). y.lan < length c.args.by_lan.now) (sym c.copy-item.is)
     (c.requires.lans k x c.loop-copy-test.true) in
     entries_so_far-more (net_in c.args.view.now) c.loop-copy.by_lan c.put_first-free.new.self
-        c.args.by_lan.now
+    c.args.by_lan.now
     cs k x e c.put_first-free.result c.loop-copy.invariant c.loop-copy-test.true
     c.copy-item.is within c.entry_of_copy-entry.ensures.value put_ok.free
     put_ok.put put_ok.earlier put_ok.kept

@@ -12,7 +12,7 @@ pub serves_all-requires : goal.serves_all-requires
 serves_all-requires c = record {
   within = (
       lans_below_count-reordered c.args.view.now.domain c.args.view.now.flow c.args.copies.now
-          c.deref.result.now
+      c.deref.result.now
       c.requires.valid (is_reordering-held_entries c.args.view.now c.args.copies.now c.in_ok-by_lan.by_lan
       c.deref.result.now c.requires.valid c.in_ok-by_lan.ensures.ok
       (c.deref.ensures.value ∙ c.in_ok-entries.ensures)));

@@ -24,10 +24,10 @@ certificate_of-requires c = record {
   valid = (
       let d = c.args.domain.now in
       let view = flow_view-same_domain_and_flow d c.args.flow c.in_ok-greatest.greatest.flight
-          c.flow_view.result.now
+      c.flow_view.result.now
       c.in_ok-greatest.ensures.domain c.in_ok-greatest.ensures.flow c.flow_view.ensures in
       rw view (are_clean_copies-of_travel c.args.domain.now c.in_ok-greatest.greatest.flight.domain
-          c.args.flow
+      c.args.flow
       c.in_ok-greatest.greatest.travel c.in_ok-greatest.greatest.flight.flight c.copies.result.now
       c.topology-topology.ensures.rules c.in_ok-greatest.ensures.domain c.in_ok-greatest.ensures.run
       (ap finding_value c.in-Clean.is) c.copies.ensures.copies c.copies.ensures.lans
@@ -67,7 +67,7 @@ pub returns-in-Some-clause-accepted : goal.returns-in-Some-clause-accepted
 returns-in-Some-clause-accepted c =
     let d = c.args.domain.now in
     let view = flow_view-same_domain_and_flow d c.args.flow c.in_ok-greatest.greatest.flight
-        c.flow_view.result.now
+    c.flow_view.result.now
     c.in_ok-greatest.ensures.domain c.in_ok-greatest.ensures.flow c.flow_view.ensures in
     let made = rw view at c.in_ok-entries.ensures in
     subst (λ o. IfSome o (λ es. IsAccepted (net_of d c.args.flow) es.items)) c.in-Some.is
@@ -77,7 +77,7 @@ pub returns-in-Some-clause-listed : goal.returns-in-Some-clause-listed
 returns-in-Some-clause-listed c =
     let d = c.args.domain.now in
     let view = flow_view-same_domain_and_flow d c.args.flow c.in_ok-greatest.greatest.flight
-        c.flow_view.result.now
+    c.flow_view.result.now
     c.in_ok-greatest.ensures.domain c.in_ok-greatest.ensures.flow c.flow_view.ensures in
     let made = rw view at c.in_ok-entries.ensures in
     subst (λ o. IfSome o (λ es. All (IsEntryOf d.topology) es.items)) c.in-Some.is made.listed
@@ -86,12 +86,12 @@ pub returns-in-Some-clause-made : goal.returns-in-Some-clause-made
 returns-in-Some-clause-made c =
     let d = c.args.domain.now in
     let view = flow_view-same_domain_and_flow d c.args.flow c.in_ok-greatest.greatest.flight
-        c.flow_view.result.now
+    c.flow_view.result.now
     c.in_ok-greatest.ensures.domain c.in_ok-greatest.ensures.flow c.flow_view.ensures in
     let made = rw view at c.in_ok-entries.ensures in
     let cs = c.copies.result.now in
     entries_of_clean_travel-reordered d c.args.flow c.in_ok-greatest.greatest.travel
-        c.in_ok-greatest.greatest.flight.flight cs
+    c.in_ok-greatest.greatest.flight.flight cs
     c.in-Some.entries.items c.in_ok-greatest.ensures.run (ap finding_value c.in-Clean.is)
     (subst (λ o. IfSome o (λ es. IsReordering (entries_of (net_of d c.args.flow) cs) es.items))
     c.in-Some.is made.entries) c.copies.ensures.copies
@@ -123,7 +123,7 @@ returns-clause-right c =
     c.topology-topology.ensures.topology c.flow.ensures.flow))
     (c.in_ok-least.least.flight.flight, c.in_ok-least.ensures.run) in
     let view = flow_view-same_domain_and_flow d c.args.flow c.in_ok-greatest.greatest.flight
-        c.flow_view.result.now
+    c.flow_view.result.now
     c.in_ok-greatest.ensures.domain c.in_ok-greatest.ensures.flow c.flow_view.ensures in
     let made = rw view at c.in_ok-entries.ensures in
     let fault : FindsFault t =

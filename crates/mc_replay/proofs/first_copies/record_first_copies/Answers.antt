@@ -20,7 +20,7 @@ loop-copy-init c =
     let e : c.args.seen ≡ c.args.seen + 0 = omega arith in
     subst (λ k. FirstCopiesSoFar c.args.firsts.now c.args.firsts.now c.args.copies.now k None) e
     (first_copies_so_far-none c.args.firsts.now c.args.copies.now c.args.seen c.requires.firsts
-        c.requires.distinct)
+    c.requires.distinct)
 
 pub loop-copy-preserved : goal.loop-copy-preserved
 loop-copy-preserved c =
@@ -46,7 +46,7 @@ loop-copy-preserved c =
       | else-not-put_first w ↦ elim w.else-not-put_first.branch [
         | else-not-put_first-via-then-not-put_first+else-is_none v ↦ (let some : is_some second ≡ true =
             v.if-is_none.ensures in w.second-is ∙ sym (second_copy_so_far-found_before second
-                (not put) x some))
+            (not put) x some))
         | else-not-put_first-via-else-not-put_first v ↦ w.second-is
             ∙ sym (second_copy_so_far-first_on_lan second (not put) x (ap not v.if-not-put_first.false))
       ]

@@ -18,7 +18,7 @@ returns-then-is_none c = λ copies are.
     let w : n.wants k ≡ true = cc in
     let none : is_some c.on.result ≡ false = grind arith in
     let b : is_some (first_copy_on copies k) ≡ false = ap is_some
-        (sym (are k ∙ first_with_key-first_copy_on copies k))
+    (sym (are k ∙ first_with_key-first_copy_on copies k))
     ∙ (ap is_some (sym c.on.ensures.item) ∙ none) in
     sym (missed-first_wanting n copies k _ (c.loop-number.invariant copies are) w b
     (omega (arith, c.lans-number-end.ensures.count))))
@@ -31,7 +31,7 @@ loop-number-preserved c = λ copies are.
       | else-wants-via-then-wants+else-is_none w ↦ (
           let some : is_some w.on.result ≡ true = w.if-is_none.ensures in
           let b : is_some (first_copy_on copies k) ≡ true = ap is_some
-              (sym (are k ∙ first_with_key-first_copy_on copies k))
+          (sym (are k ∙ first_with_key-first_copy_on copies k))
           ∙ (ap is_some (sym w.on.ensures.item) ∙ some) in
           missed-below_more_with_copy n copies k (c.loop-number.invariant copies are) b)
       | else-wants-via-else-wants w ↦ (let b : n.wants k ≡ false =

@@ -20,7 +20,7 @@ pub returns-clause-run : goal.returns-clause-run
 returns-clause-run g c =
     is_travel_to-from_start c.new-view.result.domain c.args.domain.now c.new-view.result.flow
     c.args.flow c.args.ttl _ _ _ _ _ (ap (λ (f : FlowOfDomain). f.domain) c.new-view.ensures.flow)
-        (ap (λ (f : FlowOfDomain). f.flow) c.new-view.ensures.flow)
+    (ap (λ (f : FlowOfDomain). f.flow) c.new-view.ensures.flow)
     (ap (λ (x : FlightInDomain). x.flight) c.in_ok-flight.ensures.ok) c.in_ok-finding.ensures.run
 
 pub travel_to_finding-requires-clause-firsts : goal.travel_to_finding-requires-clause-firsts

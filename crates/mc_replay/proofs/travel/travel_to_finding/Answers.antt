@@ -41,7 +41,7 @@ travel-smaller g c =
     let d = c.args.view.now.domain in
     let n = net_of d c.args.view.now.flow in
     let none : finding n (length d.topology.lans) c.travel.flight.flight
-        ≡ None = sym c.in_default.ensures.finding in
+    ≡ None = sym c.in_default.ensures.finding in
     let chosen = choice-same_count (g.P.Picker.choices c.travel.picker) _ _ c.pick-pick.result
     c.pick-pick.ensures.value c.waiting.ensures in
     let room = length-travel_so_far_below n (length d.topology.lans) _ _ _ _ _ c.pick-pick.result
@@ -71,7 +71,7 @@ travel-preserved g c =
       flow = next.1;
       first_copies = first_copies_recorded-more n (length d.topology.lans) _ c.pick-pick.result _ f
           c.handle.new.self.flight (c.record_first_copies-second.ensures.count
-              ∙ inv.first_copies.count) filled none
+          ∙ inv.first_copies.count) filled none
           (ap length c.copies-copies.ensures.copies) next.2;
       travel_so_far = travel_so_far-more n (length d.topology.lans) _ _ _ _ f c.handle.new.self.flight
           c.travel.events.items c.push.new.self.items c.pick-pick.result c.in_ok-handle.field-0

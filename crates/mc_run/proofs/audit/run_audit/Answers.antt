@@ -10,9 +10,9 @@ pub returns-clause-right : goal.returns-clause-right
 returns-clause-right g c =
     writes_which_are_right-run (g.F.FileSource.contents c.args.files.now) c.args.options
     (map (λ name. name.now) c.args.without.now) c.audit_files.result c.parts-run_output.result.0
-        c.write_output.result
+    c.write_output.result
     c.with_unwanted.result _ _ c.audit_files.ensures.text c.parts-run_output.ensures.run_output
-        c.write_output.ensures.ended
+    c.write_output.ensures.ended
     c.with_unwanted.ensures.yes
 
 pub returns-clause-unwanted : goal.returns-clause-unwanted
@@ -27,16 +27,16 @@ pub returns-clause-each : goal.returns-clause-each
 returns-clause-each g c =
     writes_of_each-run (g.F.FileSource.contents c.args.files.now) c.args.options
     (map (λ name. name.now) c.args.without.now) c.audit_files.result c.parts-run_output.result.0
-        c.write_output.result
+    c.write_output.result
     c.with_unwanted.result _ _ c.audit_files.ensures.text c.parts-run_output.ensures.run_output
-        c.write_output.ensures.ended
+    c.write_output.ensures.ended
     c.with_unwanted.ensures.yes
 
 pub returns-clause-each_in_part : goal.returns-clause-each_in_part
 returns-clause-each_in_part g c =
     writes_of_each_in_part-run (g.F.FileSource.contents c.args.files.now) c.args.options
     (map (λ name. name.now) c.args.without.now) c.audit_files.result c.parts-run_output.result.0
-        c.write_output.result
+    c.write_output.result
     c.with_unwanted.result _ _ c.audit_files.ensures.text c.audit_files.ensures.no_write
     c.parts-run_output.ensures.run_output c.write_output.ensures.ended c.with_unwanted.ensures.yes
 
@@ -44,15 +44,15 @@ pub returns-clause-excluded : goal.returns-clause-excluded
 returns-clause-excluded g c =
     are_found_in_whole-run (g.F.FileSource.contents c.args.files.now) c.args.options
     (map (λ name. name.now) c.args.without.now) c.audit_files.result c.parts-run_output.result.0
-        c.write_output.result
+    c.write_output.result
     c.with_unwanted.result _ _ c.audit_files.ensures.text c.parts-run_output.ensures.run_output
-        c.write_output.ensures.ended
+    c.write_output.ensures.ended
     c.with_unwanted.ensures.yes
 
 pub returns-clause-faults : goal.returns-clause-faults
 returns-clause-faults g c =
     fault-of_audit_answer IsFaultOfAudit c.audit_files.result c.parts-run_output.result.0
-        c.write_output.result
+    c.write_output.result
     c.with_unwanted.result _ _ tt c.audit_files.ensures.faults c.parts-run_output.ensures.run_output
     c.write_output.ensures.ended c.with_unwanted.ensures.yes
 
@@ -60,7 +60,7 @@ pub returns-clause-headline : goal.returns-clause-headline
 returns-clause-headline g c =
     headline_of_files-run (g.F.FileSource.contents c.args.files.now) c.args.options
     (map (λ name. name.now) c.args.without.now) c.audit_files.result c.parts-run_output.result.0
-        c.write_output.result
+    c.write_output.result
     c.with_unwanted.result _ _ c.audit_files.ensures.text c.parts-run_output.ensures.run_output
-        c.write_output.ensures.ended
+    c.write_output.ensures.ended
     c.with_unwanted.ensures.yes

@@ -6,7 +6,7 @@ pub push_examined-requires-clause-examined : goal.push_examined-requires-clause-
 push_examined-requires-clause-examined c =
     let examined = c.in_ok-flights.ensures in
     is_examined-of_examination examined.accepted examined.ascending examined.listed
-        examined.writable examined.made
+    examined.writable examined.made
     (is_first_pick_travel-of_examined c.args.audited.now.domain.now c.args.flow
-        c.in_ok-flights.flights examined.flights)
+    c.in_ok-flights.flights examined.flights)
     examined.fault examined.ttl examined.right

@@ -21,13 +21,13 @@ returns-clause-written g c =
 pub returns-clause-part : goal.returns-clause-part
 returns-clause-part g c =
     writes_part-output_written (g.R.Input.remaining c.args.input.now) IsVerdictText
-        c.verdicts_of_input.result c.write_output.result
+    c.verdicts_of_input.result c.write_output.result
     _ _ c.verdicts_of_input.ensures.no_write c.verdicts_of_input.ensures.text c.write_output.ensures.ended
 
 pub returns-clause-headline : goal.returns-clause-headline
 returns-clause-headline g c =
     headline_of_bundle-check_yes (g.R.Input.remaining c.args.input.now) c.verdicts_of_input.result
-        c.write_output.result _ _
+    c.write_output.result _ _
     c.verdicts_of_input.ensures.text c.verdicts_of_input.ensures.headline c.write_output.ensures.ended
 
 pub returns-clause-faults : goal.returns-clause-faults

@@ -24,7 +24,7 @@ returns-clause-text c =
     let are = are_verdicts read.domain read.certificate c.in_ok-verdicts.verdicts.items checked.count
     c.requires.valid checked.accepted checked.copies checked.reason in
     is_text_of_verdicts-check_text read.domain read.certificate c.in_ok-verdicts.verdicts.items
-        c.deref.result.now
+    c.deref.result.now
     c.deref-2.result.now c.topology.result.now _ _ are c.deref.ensures.value
     c.deref-2.ensures.value c.topology.ensures.topology c.are_yes-yes.ensures c.in_ok-text.ensures.ok
 

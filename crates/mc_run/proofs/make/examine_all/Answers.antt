@@ -33,7 +33,7 @@ loop-flow-preserved c =
     let topology = c.topology-topology.ensures.topology in
     let examined = c.in_ok-entries.ensures in
     let is = is_examined-of_examination examined.accepted examined.ascending examined.listed
-        examined.writable examined.made examined.travel
+    examined.writable examined.made examined.travel
     examined.fault examined.ttl examined.right in
     elim c.match-branch-2.branch [
       | in-Certified+in_ok-push-in-Certified w ↦

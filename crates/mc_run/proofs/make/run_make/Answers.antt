@@ -10,7 +10,7 @@ use Rattle.mc_run.proofs.make.run_make.Goals as goal
 pub returns-clause-answer : goal.returns-clause-answer
 returns-clause-answer g c =
     answers-output_written (g.R.Input.remaining c.args.input.now) IsMadeText (IsRefusedFor false)
-        c.make_for_input.result
+    c.make_for_input.result
     c.write_output.result _ _ (λ _. tt) c.make_for_input.ensures.text c.make_for_input.ensures.refused
     c.write_output.ensures.ended
 
@@ -18,18 +18,18 @@ pub returns-clause-right : goal.returns-clause-right
 returns-clause-right g c =
     answer-gives (g.R.Input.remaining c.args.input.now) IsMadeText SaysAllRight c.make_for_input.result
     c.write_output.result _ _ says_all_right-make_output c.make_for_input.ensures.text
-        c.write_output.ensures.ended
+    c.write_output.ensures.ended
 
 pub returns-clause-written : goal.returns-clause-written
 returns-clause-written g c =
     writes-output_written (g.R.Input.remaining c.args.input.now) IsMadeText c.make_for_input.result
-        c.write_output.result _ _
+    c.write_output.result _ _
     c.make_for_input.ensures.text c.write_output.ensures.ended
 
 pub returns-clause-part : goal.returns-clause-part
 returns-clause-part g c =
     writes_part-output_written (g.R.Input.remaining c.args.input.now) IsMadeText
-        c.make_for_input.result c.write_output.result _ _
+    c.make_for_input.result c.write_output.result _ _
     c.make_for_input.ensures.no_write c.make_for_input.ensures.text c.write_output.ensures.ended
 
 pub returns-clause-faults : goal.returns-clause-faults

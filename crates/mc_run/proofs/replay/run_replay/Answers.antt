@@ -14,13 +14,13 @@ pub returns-clause-written : goal.returns-clause-written
 returns-clause-written g c =
     writes-output_written (g.R.Input.remaining c.args.input.now) (IsTravelText c.args.flow c.args.ttl _)
     c.travel_of_input.result c.write_output.result _ _ c.travel_of_input.ensures.text
-        c.write_output.ensures.ended
+    c.write_output.ensures.ended
 
 pub returns-clause-part : goal.returns-clause-part
 returns-clause-part g c =
     writes_part-output_written (g.R.Input.remaining c.args.input.now) (IsTravelText c.args.flow c.args.ttl _)
     c.travel_of_input.result c.write_output.result _ _ c.travel_of_input.ensures.no_write
-        c.travel_of_input.ensures.text
+    c.travel_of_input.ensures.text
     c.write_output.ensures.ended
 
 pub returns-clause-faults : goal.returns-clause-faults

@@ -26,7 +26,7 @@ returns-else-last-clause-run g c =
     let old = g.W.Output.written c.args.output.now in
     let new = g.W.Output.written c.run_replay-else-last.new.output in
     subst (λ (last : Bool). IsReplayRun c.args.flow c.args.ttl last contents left
-        c.run_replay-else-last.result old new)
+    c.run_replay-else-last.result old new)
     (sym c.if-last.false)
     (record {
       run = record {

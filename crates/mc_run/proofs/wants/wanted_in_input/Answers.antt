@@ -43,7 +43,7 @@ returns-in_err-last-clause-failures g c =
 pub returns-clause-answer : goal.returns-clause-answer
 returns-clause-answer g c =
     is_wants_answer-reads_pieces (g.R.Input.remaining c.args.input.now)
-        (g.R.Input.remaining c.wanted_in_pieces.new.input)
+    (g.R.Input.remaining c.wanted_in_pieces.new.input)
     c.new-reader.result c.wanted_in_pieces.new.reader c.args.group c.args.source
     c.in_ok-wanted.wanted c.is_wanted-wanted_by_last.result c.in_ok-last.last
     c.new-reader.ensures.reads c.in_ok-wanted.ensures.pieces_read c.in_ok-wanted.ensures.end

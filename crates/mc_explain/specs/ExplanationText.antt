@@ -1,17 +1,22 @@
 -- The text of a fault's causes, with the names of the topology and of the vif tables.
-use Rattle.std.specs.Prelude.{ℕ, nat_le, List, ◌++◌, Option}
+use Rattle.std.specs.Prelude.{◌≡◌, ℕ, nat_le, List, ◌++◌, Option, slice_get}
 use Rattle.std.specs.Prelude.{Some, None, if◌then◌else◌, codes, decimal, flat_map}
 use Rattle.std.specs.Str.{bytes_eq}
 use Rattle.mc_tables.specs.VifTable.{VifValue, no_device}
 use Rattle.mc_tables.specs.Summary.{SummaryValue}
 use Rattle.mc_topology.specs.declared.flow.Flow.{Flow}
 use Rattle.mc_topology.specs.Topology.{lan_name, router_name}
+use Rattle.mc_forward.specs.Domains.{DomainValue}
 use Rattle.mc_forward.specs.ListedTables.{DomainFacts}
 use Rattle.mc_explain.specs.declared.causes.Cause.{Cause}
 use Rattle.mc_explain.specs.declared.causes.Cause.TheVariants.{SentOnto, Circle, TakeOut, Unplaced}
 use Rattle.mc_explain.specs.declared.causes.Cause.TheVariants.{LeastTtl, OnlyEverySource, StoppedAt}
 use Rattle.mc_explain.specs.EverySourceText.{every_source_text}
 use Rattle.mc_explain.specs.RowText.{device_text, incoming_text, row_text}
+
+-- this holds of the domain's flow with this number, which counts from 0
+abbrev pub ForListedFlow : DomainValue → (flow : ℕ) → (Flow → Type 0) → Type 0
+ForListedFlow d flow Holds = (listed : Flow) → slice_get d.topology.flows flow ≡ Some listed → Holds listed
 
 -- ---- why a vif is placed on no LAN
 

@@ -21,7 +21,6 @@ pub mod UnlistedText
 pub mod UnlistedLines
 pub mod UnlistedPairs
 pub mod ExcludedText
-pub mod ListedFlow
 pub mod SearchContext
 pub use Rattle.mc_tables.specs.Summary
 pub use Rattle.mc_theory.specs.Nets

@@ -6,7 +6,7 @@ ghost use Rattle.mc_forward.specs.Domains.{vif_of};
 ghost use Rattle.mc_forward.specs.ListedTables.{facts};
 ghost use Rattle.mc_explain.specs.ExplanationText.{cost_text, unplaced_reason_text, causes_text, cause_text};
 ghost use Rattle.mc_explain.specs.ExplanationText.{only_every_source_text, stopped_text, unplaced_text};
-ghost use Rattle.mc_explain.specs.ListedFlow.{ForListedFlow};
+ghost use Rattle.mc_explain.specs.ExplanationText.{ForListedFlow};
 ghost use Rattle.mc_explain.specs.declared.causes.Cause.TheVariants.{SentOnto, Circle, TakeOut, Unplaced};
 ghost use Rattle.mc_explain.specs.declared.causes.Cause.TheVariants.{LeastTtl};
 

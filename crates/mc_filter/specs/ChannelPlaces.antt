@@ -1,11 +1,16 @@
--- The places of channels in their index, which only contracts of private functions use.
-use Rattle.std.specs.Prelude.{◌≡◌, ℕ, ◌<◌, Bool, false, List, [], length, get_or}
+-- Whether the hosts of a LAN want a channel: a source and a group (RFC 4607, section 1); and the places of
+-- channels in their index, which only contracts of private functions use.
+use Rattle.std.specs.Prelude.{◌≡◌, ◌↔◌, ℕ, ◌<◌, Bool, IsTrue, false, List, [], length, get_or}
 use Rattle.std.specs.List.{All}
 use Rattle.mc_igmp.specs.declared.record.Record.{Record}
 use Rattle.mc_filter.specs.declared.channels.ChannelPlace.{ChannelPlace}
 use Rattle.mc_filter.specs.declared.tally.Tally.{Tally}
-use Rattle.mc_filter.specs.Channels.{IsWantedAnswer}
+use Rattle.mc_igmp.specs.Wants.{Wants}
 use Rattle.mc_filter.specs.Tallies.{IsTallyOf, channel_numbered}
+
+-- the answer is yes exactly if the hosts that report these records want the channel
+abbrev pub IsWantedAnswer : List Record → ℕ × ℕ → Bool → Type 0
+IsWantedAnswer records channel answer = IsTrue answer ↔ Wants records channel.1 channel.0
 
 -- the source and the group of the channel at a place
 abbrev pub channel_at : List ℕ → ChannelPlace → ℕ × ℕ

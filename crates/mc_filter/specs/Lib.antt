@@ -2,6 +2,5 @@ pub mod SourceFilter
 pub mod Merged
 pub mod FilterBuilding
 pub mod Tallies
-pub mod Channels
 pub mod ChannelPlaces
 pub use Rattle.mc_igmp.specs.Wants

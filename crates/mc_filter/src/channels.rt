@@ -5,7 +5,7 @@ ghost use Rattle.std.specs.Prelude.{length, map, slice_get, vec_len};
 ghost use Rattle.std.specs.List.{All};
 ghost use Rattle.mc_text.specs.Pair.{pair_number};
 ghost use Rattle.mc_filter.specs.ChannelPlaces.{AreAnswersOfTally, IsChannelPlace, channel_at};
-ghost use Rattle.mc_filter.specs.Channels.{IsWantedAnswer};
+ghost use Rattle.mc_filter.specs.ChannelPlaces.{IsWantedAnswer};
 ghost use Rattle.mc_filter.specs.Tallies.{IsTallyOf};
 
 use crate::tally::Tally;

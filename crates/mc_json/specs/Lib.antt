@@ -6,10 +6,9 @@ pub mod SearchData
 pub mod WhyData
 pub mod DomainData
 pub mod ObjectLines
-pub mod Fields
 pub mod ContextData
 pub mod WrongLine
-pub use Rattle.mc_explain.specs.ListedFlow
+pub use Rattle.mc_explain.specs.ExplanationText
 pub use Rattle.serde_json.specs.Data
 pub use Rattle.serde_json.specs.View
 pub use Rattle.serde_json.specs.Written

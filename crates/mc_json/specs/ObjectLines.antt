@@ -1,8 +1,15 @@
--- Lines that are JSON objects, and none of which is the verdict.
-use Rattle.std.specs.Prelude.{◌≡◌, ◌≢◌, ℕ, List, ◌++◌, codes, flat_map}
+-- Builders of JSON objects, and lines that are JSON objects, none of which is the verdict.
+use Rattle.std.specs.Prelude.{◌≡◌, ◌≢◌, ℕ, List, ◌++◌, codes, flat_map, IfOk}
+use Rattle.serde_json.specs.Data.{Members}
+use Rattle.serde_json.specs.View.{members_view}
 use Rattle.mc_theory.specs.Lists.{In}
 use Rattle.mc_explain.specs.Indented.{HasNoLineFeed}
 use Rattle.mc_explain.specs.UnlistedLines.{with_line_feed}
+use Rattle.mc_json.specs.declared.fields.Fields.{Fields}
+
+-- the builder has these members, unless an allocation failed
+abbrev pub HasMembers : Fields → Members → Type 0
+HasMembers fields ms = IfOk fields.built (λ map. members_view map.entries ≡ ms)
 
 -- the line begins with a brace and a quote
 abbrev pub BeginsObject : List ℕ → Type 0

@@ -1,6 +1,6 @@
 //! The members of each flow's line: its number, its source, its group and its TTL.
 
-ghost use Rattle.mc_json.specs.Fields.{HasMembers};
+ghost use Rattle.mc_json.specs.ObjectLines.{HasMembers};
 ghost use Rattle.mc_json.specs.FlowData.{flow_members};
 ghost use Rattle.mc_json.specs.RowData.{members};
 

@@ -4,10 +4,10 @@ ghost use Rattle.std.specs.Prelude.{◌≡◌, ◌<◌, ◌++◌, IfOk, OnOk, No
 ghost use Rattle.std.specs.String.{string_bytes};
 ghost use Rattle.serde_json.specs.View.{items_of, view as data_of};
 ghost use Rattle.serde_json.specs.Written.{items_have_float};
-ghost use Rattle.mc_explain.specs.ListedFlow.{ForListedFlow};
+ghost use Rattle.mc_explain.specs.ExplanationText.{ForListedFlow};
 ghost use Rattle.mc_json.specs.CauseData.{lan_data};
 ghost use Rattle.mc_json.specs.ContextData.{why_data_in};
-ghost use Rattle.mc_json.specs.Fields.{HasMembers};
+ghost use Rattle.mc_json.specs.ObjectLines.{HasMembers};
 ghost use Rattle.mc_json.specs.FlowData.{also_missed_by, each_wrong_members, wrong_data};
 ghost use Rattle.mc_json.specs.FlowData.{wrong_flow_of_travel, wrong_line_of_travel};
 ghost use Rattle.mc_json.specs.RowData.{members};

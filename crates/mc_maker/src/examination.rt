@@ -1,17 +1,14 @@
 //! Examines a flow: it has a certificate, or a travel finds a fault.
 
-ghost use Rattle.std.specs.Prelude.{◌≡◌, ◌↔◌, ◌<◌, All, IfNone, IfOk, IfSome, IsSome, IsTrue};
+ghost use Rattle.std.specs.Prelude.{◌≡◌, ◌↔◌, ◌<◌, All, IfOk, IfSome, IsSome, IsTrue};
 ghost use Rattle.std.specs.Prelude.{length, map};
 ghost use Rattle.std.specs.List.Sorted.{IsStrictlyIncreasing};
-ghost use Rattle.mc_theory.specs.Certificates.{IsAccepted, IsReordering, IsRight};
-ghost use Rattle.mc_theory.specs.CertificateOfCopies.{entries_of};
-ghost use Rattle.mc_forward.specs.Domains.{net_of, ttl_of};
-ghost use Rattle.mc_forward.specs.FlightsInDomain.{net_in};
+ghost use Rattle.mc_theory.specs.Certificates.{IsAccepted, IsRight};
+ghost use Rattle.mc_forward.specs.Domains.{net_of};
 ghost use Rattle.mc_cert.specs.Certificate.{IsEntryOf, IsWritableTree};
 ghost use Rattle.mc_maker.specs.Examined.{FindsFault, IfCertified, IfFound, IffTravelsFindNothing};
 ghost use Rattle.mc_maker.specs.Examined.{AreEntriesOfCleanTravel, IsFirstPickTravel, IsTtlOfFault};
 ghost use Rattle.mc_maker.specs.Examined.{is_certified};
-ghost use Rattle.mc_maker.specs.Examined.{AreCleanCopies};
 
 use crate::examined_flights::{ExaminedFlights, examine_to_end};
 use mc_cert::Reached;

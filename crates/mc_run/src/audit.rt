@@ -1,11 +1,11 @@
 //! `mcaudit audit`: which flows of a folder's domain are forwarded as they should be, and for each
 //! other flow what a packet of it meets, and why.
 
-ghost use Rattle.std.specs.Prelude.{◌≡◌, ◌≢◌, ◌<◌, ◌==◌, ◌&&◌, IfErr, IfOk, IfSome, Err, List, false};
+ghost use Rattle.std.specs.Prelude.{◌≡◌, ◌≢◌, ◌<◌, ◌==◌, ◌&&◌, IfErr, IfOk, IfSome, Err, false};
 ghost use Rattle.std.specs.Prelude.{length, map};
 ghost use Rattle.std.specs.String.{string_bytes};
 ghost use Rattle.mc_run.specs.AuditPieces.{AreAllFlowsPushed, HasItsMarksAndInterfaces, audited_value};
-ghost use Rattle.mc_run.specs.AuditPieces.{audited_without, output_of, yes_of};
+ghost use Rattle.mc_run.specs.AuditPieces.{audited_without, yes_of};
 ghost use Rattle.mc_run.specs.AuditRun.{AreFoundInWhole, AuditSaysYes, HasUnwanted, FilesKeepHeadline};
 ghost use Rattle.mc_run.specs.AuditRun.{IsAudited, IsAuditText};
 ghost use Rattle.mc_run.specs.AuditRun.{MeansAudited, SaysOfEach, SaysWhichAreRight};

@@ -201,7 +201,7 @@ pub fn run_audit<F: PieceSource, W: Output>(
     // fault whatever these routers have: the flow isn't right either in the domain with them.
     ensures excluded { IsWrittenWhole (AreFoundInWhole options (map (λ name. name.now) without.now))
         (F.contents files.old) (yes_of result) (W.written output.old) (W.written output.new) }
-    // After any other fault, nothing was written.
+    // After any fault but `Write`, nothing was written.
     ensures unwritten { IfErr result (λ fault. fault ≢ RunFault.Write → output.new ≡ output.old) }
     // A fault is one of a folder's files or of the excluded names, a device's, or `Memory`.
     ensures faults { IfErr result IsFaultOfAudit }

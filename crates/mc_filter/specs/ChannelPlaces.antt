@@ -26,13 +26,13 @@ pub record IsChannelPlace (groups channels : List ℕ) (place : ChannelPlace) : 
 abbrev pub IsAnswerAtPlace : List ℕ → List Record → ChannelPlace → Bool → Type 0
 IsAnswerAtPlace channels records place answer = IsWantedAnswer records (channel_at channels place) answer
 
--- the answers say so of each place
+-- the answers are right, place by place
 abbrev pub AreAnswersAtPlaces : List ℕ → List Record → List ChannelPlace → List Bool → Type 0
 AreAnswersAtPlaces channels records places answers = (i : ℕ) (d : ChannelPlace) → i < length answers
     → IsAnswerAtPlace channels records (get_or places i d) (get_or answers i false)
 
--- The answers are right for the channels at the places, whatever groups, channels and records the tally
--- is of.
+-- The answers are right for the channels at the places, for whatever groups, channels and records the
+-- tally counts.
 abbrev pub AreAnswersOfTally : Tally → List ChannelPlace → List Bool → Type 0
 AreAnswersOfTally tally places answers = (groups channels : List ℕ) (records : List Record) →
     length tally.excludes.items ≡ length groups → All (IsChannelPlace groups channels) places →

@@ -38,9 +38,9 @@ use Rattle.mc_explain.specs.Explained.{ExplainsAtFlowTtl, ExplainsDuplicate, Exp
 use Rattle.mc_explain.specs.Explained.{ExplainsLeastTtl, ExplainsLoop, IsExplained, IsRemedy}
 use Rattle.mc_explain.specs.Explained.{circle_cause, sender_causes, stray_causes}
 use Rattle.mc_explain.specs.LastFlights.{EndsTravel}
-use Rattle.mc_explain.specs.CauseFacts.{AreCausesOf, LeadsOut, SendsOnto, StaysReached, StopsOnPath}
+use Rattle.mc_explain.specs.CauseFacts.{AreCausesOf, LeadsOut, SendsOnto, StaysReached}
 use Rattle.mc_explain.specs.CauseFacts.{IsClosedCircle, IsMissedOrClean, ReachesEverySourceRow}
-use Rattle.mc_explain.specs.CauseFacts.{final_finding}
+use Rattle.mc_explain.specs.CauseFacts.{StopsShortOfLan, final_finding}
 use Rattle.mc_explain.proofs.LastFlightLemmas.{ends_travel-from_finished, ends_travel-at_flow_ttl, last_flight, is_net-from_is_flow_in, shows-last_flight}
 use Rattle.mc_explain.proofs.StrayLemmas.{IsStrayAt, is_stray_at-run, leads_out-from_exact_row, reaches_every_source_row-from_open_row}
 
@@ -60,12 +60,6 @@ pub record IsLeastTtl (n : Net) (lan least : ℕ) : Type 0 where
   pub above : n.ttl < least
   pub high : least ≤ 255
 
-abbrev pub HasStopOnPath : Net → List Cause → (router vif threshold left : ℕ) → Type 0
-HasStopOnPath n causes router vif threshold left =
-    (hop : Hop) × (lan : ℕ) × (least : ℕ) × In (LeastTtl lan least) causes ×
-    StopsOnPath n hop left lan ×
-    (StoppedAt hop.router hop.vif hop.threshold left ≡ StoppedAt router vif threshold left)
-
 abbrev pub CauseHolds : Net → List Cause → Cause → Type 0
 CauseHolds n causes (SentOnto lan router vif) = SendsOnto n router vif lan
 CauseHolds n causes (Circle from onto router vif) =
@@ -74,7 +68,7 @@ CauseHolds n causes (TakeOut lan router vif least) = IsHarmlessRemedy n router v
 CauseHolds n causes (Unplaced router vif) = LeadsOut n router vif
 CauseHolds n causes (OnlyEverySource router vif) = ReachesEverySourceRow n router vif
 CauseHolds n causes (LeastTtl lan least) = IsLeastTtl n lan least
-CauseHolds n causes (StoppedAt router vif threshold left) = HasStopOnPath n causes router vif threshold left
+CauseHolds n causes (StoppedAt router vif threshold left) = StopsShortOfLan n causes router vif threshold left
 
 abbrev pub CausesHold : Net → List Cause → List Cause → Type 0
 CausesHold n causes lines = (t : Cause) → In t lines → CauseHolds n causes t
@@ -244,7 +238,7 @@ causes_hold-least_ttl f lan j causes ok e l =
     (in-append_right l.hop l.stopped.after (l.hop ∷ l.stopped.before) (inl refl)) in
     let first_is_cause : In (LeastTtl lan (need l.path)) causes =
     subst (In (LeastTtl lan (need l.path))) (sym l.causes_are) (inl refl) in
-    let stops : HasStopOnPath n causes l.hop.router l.hop.vif l.hop.threshold l.left = (
+    let stops : StopsShortOfLan n causes l.hop.router l.hop.vif l.hop.threshold l.left = (
       l.hop,
       lan,
       need l.path,

@@ -96,7 +96,7 @@ wanted_text-some t s n (lan ∷ lans) is count_is some =
 -- ---- marks
 
 -- at first no LAN is marked
-pub unmarked_lans : (n lan : ℕ) → slice_index_or (replicate n false) lan false ≡ false
-unmarked_lans zero lan = refl
-unmarked_lans (suc n) zero = refl
-unmarked_lans (suc n) (suc lan) = unmarked_lans n lan
+pub slice_index_or-replicate_false : (n lan : ℕ) → slice_index_or (replicate n false) lan false ≡ false
+slice_index_or-replicate_false zero lan = refl
+slice_index_or-replicate_false (suc n) zero = refl
+slice_index_or-replicate_false (suc n) (suc lan) = slice_index_or-replicate_false n lan

@@ -4,10 +4,10 @@ use Rattle.mc_explain.specs.declared.search_line.SearchLine.{SearchLine}
 use Rattle.mc_explain.specs.declared.search_line.SearchLine.TheVariants.{ExpectedFromHere}
 
 -- the routers of these lines
-abbrev pub expecting : List SearchLine → List ℕ
-expecting [] = []
-expecting (ExpectedFromHere lan router ∷ lines) = router ∷ expecting lines
-expecting (_ ∷ lines) = expecting lines
+abbrev pub expecting_routers : List SearchLine → List ℕ
+expecting_routers [] = []
+expecting_routers (ExpectedFromHere lan router ∷ lines) = router ∷ expecting_routers lines
+expecting_routers (_ ∷ lines) = expecting_routers lines
 
 -- whether a line is about a router that expects copies from this LAN
 abbrev pub expects_from : (lan : ℕ) → SearchLine → Bool

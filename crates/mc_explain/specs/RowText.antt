@@ -46,14 +46,14 @@ device_text d router vif = device_text_of vif (d.vifs router vif)
 -- ---- rows
 
 -- a row's outgoing vif with its threshold, if that isn't 1
-abbrev pub pair_text : DomainFacts → (router : ℕ) → ℕ × ℕ → List ℕ
-pair_text d router p =
+abbrev pub oif_text : DomainFacts → (router : ℕ) → ℕ × ℕ → List ℕ
+oif_text d router p =
     codes " " ++ (device_text d router p.0
     ++ (if p.1 == 1 then [] else codes ":" ++ decimal p.1))
 
-abbrev pub pairs_text : DomainFacts → (router : ℕ) → List (ℕ × ℕ) → List ℕ
-pairs_text d router [] = codes " none"
-pairs_text d router (p ∷ ps) = flat_map (pair_text d router) (p ∷ ps)
+abbrev pub oifs_text : DomainFacts → (router : ℕ) → List (ℕ × ℕ) → List ℕ
+oifs_text d router [] = codes " none"
+oifs_text d router (p ∷ ps) = flat_map (oif_text d router) (p ∷ ps)
 
 -- a row's source or group; 0.0.0.0 means every one
 abbrev pub address_text : ℕ → List ℕ
@@ -64,7 +64,7 @@ abbrev pub entry_text : DomainFacts → (router source group incoming : ℕ) →
 entry_text d router source group incoming pairs =
     codes "row (" ++ (address_text source ++ (codes "," ++ (address_text group
     ++ (codes ") from " ++ (device_text d router incoming
-    ++ (codes " to" ++ (pairs_text d router pairs
+    ++ (codes " to" ++ (oifs_text d router pairs
     ++ (codes " in cache-" ++ router_name d.topology router))))))))
 
 -- a router's row for a flow

@@ -29,4 +29,4 @@ pub record AreUnlistedPairs (all : Bool) (t : TopologyValue) (summary : List Sum
     : Type 0 where
   pub shown : u.shown.items ≡ map (with_routers t summary) (shown_unlisted_pairs all summary)
   pub further : u.further ≡ further_rows all t summary
-  pub few : u.further ≤ length summary * 4294967295
+  pub bounded : u.further ≤ length summary * 4294967295

@@ -2,8 +2,7 @@
 
 ghost use Rattle.std.specs.Prelude.{◌≡◌, Some};
 ghost use Rattle.mc_forward.specs.ListedTables.{facts};
-ghost use Rattle.mc_explain.specs.RowText.{byte_text, device_text, device_name_text};
-ghost use Rattle.mc_explain.specs.RowText.{is_plain as plain};
+ghost use Rattle.mc_explain.specs.RowText.{byte_text, device_text, device_name_text, is_plain};
 
 use mc_forward::FlowView;
 use mc_topology::RouterNo;
@@ -14,7 +13,7 @@ pub(crate) const NO_DEVICE: &[u8] = b"none";
 
 /// Whether a byte of a device's name is written unescaped.
 fn is_plain(byte: u8) -> bool
-    ensures { result ≡ plain byte }
+    ensures { result ≡ is_plain byte }
 {
     matches!(byte, 0x21..=0x7e) && byte != b'\\'
 }

@@ -45,7 +45,7 @@ pub fn push_without_lines(
 }
 
 /// The first 8 excluded routers, and how many there are.
-fn excluded_front(topology: &Topology, excluded: &[bool]) -> FirstEightRouters
+fn first_excluded(topology: &Topology, excluded: &[bool]) -> FirstEightRouters
     ensures { IsFirstEightOf result (excluded_routers topology.now excluded.now) }
 {
     let mut front = FirstEightRouters::new();
@@ -72,7 +72,7 @@ pub fn push_excluded(
     ensures line { OnOk result (string_bytes text.new ≡ string_bytes text.old
         ++ excluded_text topology.now excluded.now) }
 {
-    let front = excluded_front(topology, excluded);
+    let front = first_excluded(topology, excluded);
     if front.count() > 0 {
         let routers = ShownRouters {
             front: &front,

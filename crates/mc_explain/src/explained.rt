@@ -37,7 +37,7 @@ fn add_sender(
 }
 
 /// The remedy for a second copy on a LAN: to take out the vif that sent it.
-fn take_out(
+fn remedy_for(
     alloc: Global,
     view: &FlowView<'_>,
     flight: &Flight<'_>,
@@ -83,7 +83,7 @@ fn explain_duplicate(
     let Some(second) = first_copies.second else {
         unreachable!()
     };
-    let remedy = take_out(alloc, view, flight, &first_copies, &second)?;
+    let remedy = remedy_for(alloc, view, flight, &first_copies, &second)?;
     let mut causes = Vec::new(alloc);
     add_sender(&mut causes, lan, first.sender)?;
     add_sender(&mut causes, lan, second.sender)?;
@@ -125,7 +125,7 @@ fn explain_loop(
         unreachable!()
     };
     let circle = hops_around(alloc, view, flight.copies(), &first_copies, &second)?;
-    let remedy = take_out(alloc, view, flight, &first_copies, &second)?;
+    let remedy = remedy_for(alloc, view, flight, &first_copies, &second)?;
     let mut causes = circle_causes(alloc, &circle)?;
     causes.push(remedy)?;
     Ok(causes)
@@ -189,7 +189,7 @@ fn explain_least_ttl(
 }
 
 /// The causes of a travel's finding, by its last flight.
-fn finding(
+fn explain_finding(
     alloc: Global,
     view: &FlowView<'_>,
     ended: &FinishedTravel<'_>,
@@ -227,10 +227,10 @@ pub fn explain(
     let view = FlowView::new(domain, flow);
     match examined_flights {
         ExaminedFlights::Certified(_) => Ok(Vec::new(alloc)),
-        ExaminedFlights::FoundAtTtl255(ended) => finding(alloc, &view, ended),
+        ExaminedFlights::FoundAtTtl255(ended) => explain_finding(alloc, &view, ended),
         ExaminedFlights::FoundAtFlowTtl { greatest, least } => match least.travel.finding {
             Finding::Missed(lan) => explain_least_ttl(alloc, &view, &greatest.flight, lan),
-            _ => finding(alloc, &view, least),
+            _ => explain_finding(alloc, &view, least),
         },
     }
 }

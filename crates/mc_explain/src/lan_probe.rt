@@ -36,7 +36,7 @@ pub(crate) struct LanProbe<'s> {
 }
 
 /// Whether an entry sends by a vif. It sends by none if there is none.
-fn is_sent_by(entry: &Entry<'_>, vif: Option<u8>) -> bool
+fn sends_by_known_vif(entry: &Entry<'_>, vif: Option<u8>) -> bool
     requires valid { IsValidEntry entry.now }
     ensures value { result ≡ sends_by_known_vif vif (oif_pairs entry.now.oifs) }
 {
@@ -294,7 +294,7 @@ impl<'s> LanProbe<'s> {
         ensures { result ≡ sends_here (search_in self.now) (router, own.now) }
     {
         match self.view.row(router) {
-            RowFor::Exact(entry) => own.iter().any(|i| is_sent_by(&entry, i.vif)),
+            RowFor::Exact(entry) => own.iter().any(|i| sends_by_known_vif(&entry, i.vif)),
             RowFor::Open | RowFor::NoRow => false,
         }
     }
@@ -307,7 +307,7 @@ impl<'s> LanProbe<'s> {
     }
 
     /// Whether some router on the LAN sends onto it, or is excluded.
-    fn may_be_sent_onto(&self, lan: LanNo) -> bool
+    fn has_possible_sender(&self, lan: LanNo) -> bool
         requires lan_probe { IsLanProbe self.now }
         requires lan { lan < length self.now.view.now.domain.topology.lans }
         ensures value { result ≡ list_any (may_send_here (search_in self.now))
@@ -337,7 +337,7 @@ impl<'s> LanProbe<'s> {
         self.add_expected_lines(lines, lan)?;
         if lines.len() == before {
             lines.push(SearchLine::NoRouter { lan })?;
-        } else if !self.may_be_sent_onto(lan) {
+        } else if !self.has_possible_sender(lan) {
             lines.push(SearchLine::NoSender { lan })?;
         }
         Ok(())

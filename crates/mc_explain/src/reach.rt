@@ -121,7 +121,7 @@ fn routers_of_lans(
     requires lans { All (λ lan. lan < length lan_probe.now.view.now.domain.topology.lans) lans.now }
     ensures routers { IfOk result (λ routers.
         routers.items ≡ routers_of_lans (search_in lan_probe.now) lans.now) }
-    ensures few { IfOk result (λ routers. All (λ router. router < 256) routers.items) }
+    ensures bounded { IfOk result (λ routers. All (λ router. router < 256) routers.items) }
 {
     let _rules = lan_probe.view.topology();
     let mut listed = [false; MAX_ROUTERS];
@@ -153,20 +153,20 @@ fn marked_routers(
 
 /// Which of these routers sent copies on, and which others took none.
 fn reach_among(alloc: Global, routers: &[RouterNo], events: &[Event]) -> Result<Reach, Memory>
-    requires valid { All (λ router. router < 256) routers.now }
+    requires bounded { All (λ router. router < 256) routers.now }
     ensures sent_on { IfOk result (λ reach.
         reach.sent_on.items ≡ sent_on events.now routers.now) }
     ensures took_none { IfOk result (λ reach.
         reach.took_none.items ≡ took_none events.now routers.now) }
 {
-    let mut sent = [false; MAX_ROUTERS];
-    mark_routers(&mut sent, events, true);
-    let mut refused = [false; MAX_ROUTERS];
-    mark_routers(&mut refused, events, false);
-    unmark_senders(&mut refused, events);
+    let mut sent_on = [false; MAX_ROUTERS];
+    mark_routers(&mut sent_on, events, true);
+    let mut took_none = [false; MAX_ROUTERS];
+    mark_routers(&mut took_none, events, false);
+    unmark_senders(&mut took_none, events);
     Ok(Reach {
-        sent_on: marked_routers(alloc, routers, &sent)?,
-        took_none: marked_routers(alloc, routers, &refused)?,
+        sent_on: marked_routers(alloc, routers, &sent_on)?,
+        took_none: marked_routers(alloc, routers, &took_none)?,
     })
 }
 

@@ -5,7 +5,7 @@ ghost use Rattle.mc_forward.specs.Domains.{oif_pairs};
 ghost use Rattle.mc_forward.specs.FlightsInDomain.{net_in};
 ghost use Rattle.mc_forward.specs.ListedTables.{facts};
 ghost use Rattle.mc_explain.specs.RowText.{address_text, entry_text, incoming_text};
-ghost use Rattle.mc_explain.specs.RowText.{pair_text, pairs_text, row_text};
+ghost use Rattle.mc_explain.specs.RowText.{oif_text, oifs_text, row_text};
 
 use crate::device_text::ShownDevice;
 use mc_forward::{FlowView, RowFor};
@@ -23,7 +23,7 @@ struct ShownOif<'v> {
 }
 
 impl<'v> fmt::Display for ShownOif<'v> {
-    ghost output = { λ shown. Some (pair_text (facts shown.view.now.domain) shown.router
+    ghost output = { λ shown. Some (oif_text (facts shown.view.now.domain) shown.router
         (shown.oif.vif, shown.oif.threshold)) };
 
     fn fmt<W: fmt::Write>(&self, f: &mut fmt::Formatter<W>) -> fmt::Result {
@@ -50,7 +50,7 @@ struct ShownOifs<'v> {
 }
 
 impl<'v> fmt::Display for ShownOifs<'v> {
-    ghost output = { λ shown. Some (pairs_text (facts shown.view.now.domain) shown.router
+    ghost output = { λ shown. Some (oifs_text (facts shown.view.now.domain) shown.router
         (oif_pairs shown.oifs.now)) };
 
     fn fmt<W: fmt::Write>(&self, f: &mut fmt::Formatter<W>) -> fmt::Result {

@@ -277,7 +277,7 @@ fn push_from_unplaced(
 }
 
 /// What a LAN carries, if it carried a copy or none.
-fn carries(carried: bool) -> &'static str
+fn carries_text(carried: bool) -> &'static str
     ensures { result.now ≡ carries_text carried }
 {
     if carried { "it" } else { "none either" }
@@ -306,7 +306,7 @@ fn push_does_not_send(
     let device = ShownDevice { view, router, vif };
     let row = ShownRow { view, flow, router };
     let from = topology.lan_name_or_empty(from);
-    let carries = carries(carried);
+    let carries = carries_text(carried);
     writeln!(
         text,
         "{place} takes it from {from}, which carries {carries}, and does not send to {device}: {row}"

@@ -18,11 +18,11 @@ pub struct ExpectingRouters<'s> {
 
 impl<'s> Model for ExpectingRouters<'s> {
     ghost use Rattle.std.specs.Prelude.{ℕ, List};
-    ghost use Rattle.mc_explain.specs.ExpectingRouters.{expecting};
+    ghost use Rattle.mc_explain.specs.ExpectingRouters.{expecting_routers};
 
     ghost Value = { List ℕ };
 
-    ghost view = { λ s. expecting s.lines.now };
+    ghost view = { λ s. expecting_routers s.lines.now };
 }
 
 /// A shown line of a search.

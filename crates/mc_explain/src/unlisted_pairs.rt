@@ -139,7 +139,7 @@ fn add_router(
     summary: &[CacheSummary],
     router: RouterNo,
 ) -> Result<(), Memory>
-    requires ascend { IsStrictlySortedBy key_cmp pairs.now }
+    requires sorted { IsStrictlySortedBy key_cmp pairs.now }
     requires shown { shown.old.items ≡ map (with_routers_below summary.now router) pairs.now }
     ensures ok { OnOk result (shown.new.items ≡ map (with_routers_below summary.now (router + 1)) pairs.now) }
 {
@@ -159,7 +159,7 @@ fn with_routers(
     summary: &[CacheSummary],
     pairs: &[(Addr, Addr)],
 ) -> Result<Vec<UnlistedPair>, Memory>
-    requires valid { IsStrictlySortedBy key_cmp pairs.now }
+    requires sorted { IsStrictlySortedBy key_cmp pairs.now }
     ensures ok { IfOk result (λ shown.
         shown.items ≡ map (with_routers topology.now summary.now) pairs.now) }
 {
@@ -184,7 +184,7 @@ fn count_rows_of_pairs(shown: &[UnlistedPair]) -> u128
 /// How many unlisted rows the summaries of all caches count.
 fn count_unlisted_rows(summary: &[CacheSummary]) -> u128
     ensures rows { result ≡ count_unlisted_rows summary.now }
-    ensures few { result ≤ length summary.now * 4294967295 }
+    ensures bounded { result ≤ length summary.now * 4294967295 }
 {
     let mut rows = 0;
     for own in summary {

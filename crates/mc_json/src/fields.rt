@@ -22,7 +22,7 @@ pub(crate) struct Fields {
 }
 
 /// The members with one more, or the first failed allocation.
-fn with(
+fn with_member(
     alloc: Global,
     built: Result<Map<String, Value>, AllocError>,
     key: &str,
@@ -68,7 +68,7 @@ impl Fields {
             → HasMembers result (with_member key.now d ms) }
     {
         let Fields { alloc, built } = self;
-        let built = with(alloc, built, key, value);
+        let built = with_member(alloc, built, key, value);
         Fields { alloc, built }
     }
 
@@ -96,7 +96,7 @@ impl Fields {
             → HasMembers result (with_member key.now (string text.now) ms) }
     {
         let Fields { alloc, built } = self;
-        let built = with(alloc, built, key, Value::try_from_str(alloc, text));
+        let built = with_member(alloc, built, key, Value::try_from_str(alloc, text));
         Fields { alloc, built }
     }
 

@@ -21,7 +21,7 @@ use serde_json::Value;
 use std::alloc::{AllocError, Global};
 
 /// A row's source or group. The address 0.0.0.0 means every source or group, and is written `*`.
-fn address(alloc: Global, address: Addr) -> Result<String, AllocError>
+fn address_text(alloc: Global, address: Addr) -> Result<String, AllocError>
     ensures { IfOk result (λ text. string_bytes text ≡ address_text address) }
 {
     if address == Addr::from_octets([0, 0, 0, 0]) {
@@ -78,23 +78,23 @@ struct RowKey {
 fn entry_value(
     alloc: Global,
     view: &FlowView<'_>,
-    of: RowKey,
+    key: RowKey,
     incoming: u8,
     oifs: &[Oif],
 ) -> Result<Value, AllocError>
     ensures { IfOk result (λ value. data_of value ≡ entry_data (facts view.now.domain)
-        of.router of.source of.group incoming (oif_pairs oifs.now)) }
+        key.router key.source key.group incoming (oif_pairs oifs.now)) }
 {
     let from = Fields::new(alloc)
-        .value("device", device_value(alloc, view, of.router, incoming))
+        .value("device", device_value(alloc, view, key.router, incoming))
         .count("vif", incoming as u64)
         .object();
     Fields::new(alloc)
         .value("from", from)
-        .string("group", address(alloc, of.group))
-        .router("router", view.topology(), of.router)
-        .string("source", address(alloc, of.source))
-        .list("to", oif_values(alloc, view, of.router, oifs))
+        .string("group", address_text(alloc, key.group))
+        .router("router", view.topology(), key.router)
+        .string("source", address_text(alloc, key.source))
+        .list("to", oif_values(alloc, view, key.router, oifs))
         .object()
 }
 
@@ -110,12 +110,12 @@ pub(crate) fn row_value(
 {
     match view.row(router) {
         RowFor::Exact(entry) => {
-            let of = RowKey {
+            let key = RowKey {
                 router,
                 source: flow.source,
                 group: flow.group,
             };
-            entry_value(alloc, view, of, entry.iif, entry.oifs)
+            entry_value(alloc, view, key, entry.iif, entry.oifs)
         }
         RowFor::Open | RowFor::NoRow => Ok(Value::Null),
     }
@@ -150,12 +150,12 @@ pub(crate) fn every_source_value(
     match row_for_every_source(summary, group, router) {
         Some(row) => {
             let (every, entry) = row;
-            let of = RowKey {
+            let key = RowKey {
                 router,
                 source: Addr::from_octets([0, 0, 0, 0]),
                 group: every,
             };
-            entry_value(alloc, view, of, entry.iif, entry.oifs)
+            entry_value(alloc, view, key, entry.iif, entry.oifs)
         }
         None => Ok(Value::Null),
     }

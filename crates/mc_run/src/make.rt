@@ -68,7 +68,8 @@ fn certificate_text(alloc: Global, topology: &Topology, lists: Trees) -> Result<
 
 /// The text for a domain, and whether it is a certificate.
 fn make_for_domain(alloc: Global, domain: &Domain) -> Result<RunOutput, NoMemory>
-    ensures { IfOk result (λ run_output. IsMakeOutput domain.now run_output.yes (string_bytes run_output.text)) }
+    ensures { IfOk result (λ run_output. IsMakeOutput domain.now run_output.yes
+        (string_bytes run_output.text)) }
 {
     let made = examine_all(alloc, domain)?;
     if !made.lines.is_empty() {
@@ -135,7 +136,7 @@ pub fn run_make<R: Input, W: Output>(
     // After a `Write` fault, a proper part of a right text was written, from its front.
     ensures part { result ≡ Err RunFault.Write → IfSome (R.remaining input.old) (λ text.
         WritesPart IsMadeText text (W.written output.old) (W.written output.new)) }
-    // After any other fault, nothing was written.
+    // After any fault but `Write`, nothing was written.
     ensures unwritten { IfErr result (λ fault. fault ≢ RunFault.Write → output.new ≡ output.old) }
     // A fault is one of a bundle without a certificate, a device's, or `Memory`.
     ensures faults { IfErr result IsFaultOfMake }

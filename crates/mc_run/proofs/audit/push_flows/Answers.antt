@@ -1,6 +1,7 @@
 use Rattle.std.proofs.Common.{arith}
 use Rattle.mc_run.specs.AuditPieces.{audited_value}
-use Rattle.mc_run.proofs.AuditFlows.{are_flows_pushed-more, count_right-below_limit, count_unwanted-below_limit, trees_shown-at_most_flows}
+use Rattle.mc_run.proofs.AuditFlows.{are_flows_pushed-more, count_right-below_limit}
+use Rattle.mc_run.proofs.AuditFlows.{count_unwanted-below_limit, trees_shown-at_most_flows}
 use Rattle.mc_run.proofs.AuditFlows.{count_wrong-below_limit}
 use Rattle.mc_run.proofs.audit.push_flows.Goals as goal
 
@@ -28,8 +29,8 @@ with-flow_counts-requires-clause-unwanted c =
     let few = c.flows-flow-end.ensures.rules.few_flows in
     omega (arith, le, lt, count, few)
 
-pub push_flow-requires-clause-few : goal.push_flow-requires-clause-few
-push_flow-requires-clause-few c =
+pub push_flow-requires-clause-room : goal.push_flow-requires-clause-few
+push_flow-requires-clause-room c =
     let le = trees_shown-at_most_flows _ _ _ _ _ _ _ c.loop-flow.invariant in
     let lt = c.loop-flow-test.true in
     let count = c.flows-flow-end.ensures.count in
@@ -38,6 +39,7 @@ push_flow-requires-clause-few c =
 
 pub loop-flow-preserved : goal.loop-flow-preserved
 loop-flow-preserved c =
-    are_flows_pushed-more (audited_value c.args.audited.now) c.args.options c.loop-flow.flow c.loop-flow.flow_counts
+    are_flows_pushed-more (audited_value c.args.audited.now) c.args.options c.loop-flow.flow
+    c.loop-flow.flow_counts
     c.in_ok-flow_status.flow_status c.with-flow_counts.result _ _ _ _ _ c.loop-flow.invariant
     c.in_ok-flow_status.ensures.ok c.with-flow_counts.ensures.value

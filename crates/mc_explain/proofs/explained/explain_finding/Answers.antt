@@ -4,7 +4,7 @@ use Rattle.mc_theory.specs.Findings.{Finding}
 use Rattle.mc_replay.specs.FindingValues.{finding_value}
 use Rattle.mc_explain.specs.LastFlights.{EndsTravel}
 use Rattle.mc_explain.proofs.LastFlightLemmas.{has_second_copy-from_duplicate, has_loop-from_loop}
-use Rattle.mc_explain.proofs.explained.finding.Goals as goal
+use Rattle.mc_explain.proofs.explained.explain_finding.Goals as goal
 
 pub explain_duplicate-requires-clause-second : goal.explain_duplicate-requires-clause-second
 explain_duplicate-requires-clause-second c =

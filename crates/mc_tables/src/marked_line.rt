@@ -54,7 +54,7 @@ fn front_run_length(marks: u64) -> usize
 
 /// The place of the lowest set bit, or 64 if none is set.
 #[inline(always)]
-fn lowest_mark(marks: u64) -> usize
+fn lowest_set_bit(marks: u64) -> usize
     ensures lowest { (k : ℕ) → k < result → bit_at marks k ≡ 0 }
     ensures set { result < 64 → bit_at marks result ≡ 1 }
 {
@@ -99,22 +99,22 @@ impl<'a> MarkedLine<'a> {
     /// What follows the three counters that are the line's first words. `None` if one of them has
     /// more than twenty bytes with the spaces before it, or one isn't marked as a whole.
     #[inline(always)]
-    pub fn behind_counters(self) -> Option<&'a [u8]>
+    pub fn after_counters(self) -> Option<&'a [u8]>
         requires marked { IsMarked self }
         ensures counters { IfSome result (λ after. HasCounters self.entry.bytes.now after.now) }
     {
         let ends = last_digits(self.digits, self.spaces);
-        let packets = lowest_mark(ends);
+        let packets = lowest_set_bit(ends);
         if packets >= MAX_COUNTER_WIDTH {
             return None;
         }
         let ends = ends >> (packets + 1);
-        let bytes = lowest_mark(ends);
+        let bytes = lowest_set_bit(ends);
         if bytes >= MAX_COUNTER_WIDTH {
             return None;
         }
         let ends = ends >> (bytes + 1);
-        let wrong_if = lowest_mark(ends);
+        let wrong_if = lowest_set_bit(ends);
         if wrong_if >= MAX_COUNTER_WIDTH {
             return None;
         }

@@ -148,7 +148,7 @@ fn after_counter(line: &[u8]) -> Option<&[u8]>
 fn after_marked_counters(line: &[u8]) -> Option<&[u8]>
     ensures { IfSome result (λ after. HasCounters line.now after.now) }
 {
-    MarkedLine::of(line)?.behind_counters()
+    MarkedLine::of(line)?.after_counters()
 }
 
 /// What follows the three counters that are a line's first words.

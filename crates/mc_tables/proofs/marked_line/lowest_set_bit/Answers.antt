@@ -1,5 +1,5 @@
 use Rattle.mc_tables.proofs.MarkedLemmas.{trailing_zeros-unset, trailing_zeros-set}
-use Rattle.mc_tables.proofs.marked_line.lowest_mark.Goals as goal
+use Rattle.mc_tables.proofs.marked_line.lowest_set_bit.Goals as goal
 
 pub returns-clause-lowest : goal.returns-clause-lowest
 returns-clause-lowest c k less = trailing_zeros-unset c.args.marks k c.ranges.marks.fits less

@@ -2,7 +2,7 @@ use Rattle.std.proofs.Common.{arith, subst, sym}
 use Rattle.mc_tables.specs.Counters.{HasCounters}
 use Rattle.mc_tables.proofs.MarkedLemmas.{digits_or_spaces-run, digits_or_spaces-within}
 use Rattle.mc_tables.proofs.MarkedLemmas.{has_counters-from_marks}
-use Rattle.mc_tables.proofs.marked_line.MarkedLine.behind_counters.Goals as goal
+use Rattle.mc_tables.proofs.marked_line.MarkedLine.after_counters.Goals as goal
 
 pub without_front-requires : goal.without_front-requires
 without_front-requires c = record {
@@ -22,9 +22,9 @@ returns c = record {
       let line = c.args.self.bytes.now in
       let digits = c.args.self.digits in
       let spaces = c.args.self.spaces in
-      let a = c.lowest_mark-packets in
-      let b = c.lowest_mark-bytes in
-      let d = c.lowest_mark-wrong_if in
+      let a = c.lowest_set_bit-packets in
+      let b = c.lowest_set_bit-bytes in
+      let d = c.lowest_set_bit-wrong_if in
       let known = digits_or_spaces-run digits spaces c.front_run_length.result c.front_run_length.ensures in
       subst (HasCounters line) (sym c.without_front.ensures.value)
       (has_counters-from_marks line digits spaces c.last_digits-ends.result a.result b.result d.result

@@ -1,6 +1,6 @@
 //! The theorems of `mc_theory`, for a flow of a domain.
 
-ghost use Rattle.std.specs.Prelude.{◌≡◌, ◌≢◌, ◌↔◌, ◌<◌, ◌≤◌, ◌++◌, ◌∷◌, [], ℕ, Bool, List, None};
+ghost use Rattle.std.specs.Prelude.{◌≡◌, ◌≢◌, ◌↔◌, ◌<◌, ◌≤◌, ◌++◌, ◌∷◌, [], ℕ, List, None};
 ghost use Rattle.std.specs.Prelude.{length};
 ghost use Rattle.mc_theory.specs.Nets.{Net, placed_interfaces};
 ghost use Rattle.mc_theory.specs.Flights.{Flight, Pick, EveryRun, InRange, apply_pick, picked_index, run};

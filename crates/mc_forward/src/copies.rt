@@ -1,7 +1,7 @@
 //! All copies of one packet so far, and how one handling changes them.
 
 ghost use Rattle.std.specs.Prelude.{◌≡◌, ◌-◌, ◌<◌, ◌≤◌, ◌++◌, ◌∷◌, [], Some, length, map, take};
-ghost use Rattle.std.specs.Prelude.{remove, filter, not, is_some, IfOk, OnOk, OnErr, slice_get};
+ghost use Rattle.std.specs.Prelude.{remove, is_some, IfOk, OnOk, OnErr, slice_get};
 ghost use Rattle.std.specs.Prelude.{option_map};
 ghost use Rattle.mc_theory.specs.Flights.{hearers, waits_at, is_sender, put, leave, sends, handle};
 ghost use Rattle.mc_theory.specs.Flights.{step, without_waiting};

@@ -1,6 +1,6 @@
 //! The theorems of `mc_theory`, for a flow of a domain.
 
-ghost use Rattle.std.specs.Prelude.{◌≡◌, ◌≢◌, ◌↔◌, ◌<◌, ◌≤◌, ◌++◌, ◌∷◌, [], ℕ, Bool, List, None};
+ghost use Rattle.std.specs.Prelude.{◌≡◌, ◌≢◌, ◌↔◌, ◌<◌, ◌≤◌, ◌++◌, ◌∷◌, [], ℕ, List, None};
 ghost use Rattle.std.specs.Prelude.{length};
 ghost use Rattle.mc_theory.specs.Nets.{Net, placed_interfaces};
 ghost use Rattle.mc_theory.specs.Flights.{Flight, Pick, EveryRun, InRange, apply_pick, picked_index, run};
@@ -80,8 +80,8 @@ pub fn finding_shows_that_a_flow_is_wrong()
 
 /// A travel has at most as many events as there are placed interfaces.
 pub fn a_travel_through_a_domain_ends()
-    ensures { (d : DomainValue) (flow t : ℕ) (by : Choices) (picks : List ℕ) (x : Finding) →
-        IsDomain d → IsFlowTravel d flow t by picks x →
+    ensures { (d : DomainValue) (flow t : ℕ) (choices : Choices) (picks : List ℕ) (x : Finding) →
+        IsDomain d → IsFlowTravel d flow t choices picks x →
         length picks ≤ length (placed_interfaces (net_of d flow)) }
 {
     domains_are_nets();

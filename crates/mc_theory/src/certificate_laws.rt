@@ -2,7 +2,6 @@
 
 ghost use Rattle.std.specs.Prelude.{◌≡◌, ◌↔◌, ◌≤◌, ℕ, List, None, length};
 ghost use Rattle.std.specs.List.Sorted.{IsPermutation};
-ghost use Rattle.mc_theory.specs.Lists.{In};
 ghost use Rattle.mc_theory.specs.Nets.{Net, IsNet, WantsBelow};
 ghost use Rattle.mc_theory.specs.Flights.{EveryRun};
 ghost use Rattle.mc_theory.specs.Certificates.{Entry, IsTree, IsServed, IsAccepted, IsReordering};

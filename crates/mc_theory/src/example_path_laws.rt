@@ -1,6 +1,6 @@
 //! Paths, hops and remedies on small networks that are judged by hand.
 
-ghost use Rattle.std.specs.Prelude.{◌≡◌, ℕ, true, false, List, [], ◌∷◌, Some, None};
+ghost use Rattle.std.specs.Prelude.{◌≡◌, ℕ, true, false, [], ◌∷◌, Some, None};
 ghost use Rattle.mc_theory.specs.Nets.Row.{Exact};
 ghost use Rattle.mc_theory.specs.Flights.{start, run};
 ghost use Rattle.mc_theory.specs.Headline.{HeadlineHolds};

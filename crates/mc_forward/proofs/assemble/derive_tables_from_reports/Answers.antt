@@ -8,7 +8,8 @@ pub derive_tables-requires-clause-answers : goal.derive_tables-requires-clause-a
 derive_tables-requires-clause-answers c =
     are_answers-from_reports c.args.topology.now c.args.tables.now c.args.reports.now
         c.in_ok-wants.wants.items
-    c.requires.matching_counts (sym c.in_ok-wants.wants.ok.0 ∙ c.in_ok-wants.ensures.count) c.in_ok-wants.ensures.each
+    c.requires.matching_counts (sym c.in_ok-wants.wants.ok.0 ∙ c.in_ok-wants.ensures.count)
+        c.in_ok-wants.ensures.each
 
 pub returns-clause-assembled : goal.returns-clause-assembled
 returns-clause-assembled c =

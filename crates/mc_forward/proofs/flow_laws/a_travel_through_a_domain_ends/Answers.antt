@@ -3,6 +3,6 @@ use Rattle.mc_forward.specs.Domains.{net_of}
 use Rattle.mc_forward.proofs.flow_laws.a_travel_through_a_domain_ends.Goals as goal
 
 pub returns : goal.returns
-returns c = λ d flow t by picks x ok travel.
-    c.a_travel_ends.ensures (net_of d flow) (length d.topology.lans) t by.numbers by.last picks x
+returns c = λ d flow t choices picks x ok travel.
+    c.a_travel_ends.ensures (net_of d flow) (length d.topology.lans) t choices.numbers choices.last picks x
     (c.domains_are_nets.ensures.net d flow ok) travel

@@ -15,7 +15,7 @@ loop-flow-preserved c =
           (string_bytes c.push_flow.new.text) c.args.topology.now.flows numbers
           c.loop-flow.flow c.flow.result.now
           c.flow.ensures.flow within
-          (c.in_ok-push_flow.ensures.ok
+          (c.in_ok-push_flow.ensures
           ∙ ap (λ s. s ++ flow_text c.flow.result.now (get_or numbers c.loop-flow.flow 0))
           c.in_ok-push_str.ensures.bytes) c.loop-flow.invariant.so_far;
     }

@@ -117,7 +117,8 @@ abbrev pub event_data : TopologyValue → Event → Data
 event_data t e = outcome_data t e e.outcome
 
 -- the members that each flow has that isn't right, by the TTL of its finding
-abbrev pub each_wrong_members : (number : ℕ) → Flow → (found_ttl : ℕ) → (why : List Data) → List (List ℕ × Data)
+abbrev pub each_wrong_members : (number : ℕ) → Flow → (found_ttl : ℕ) → (why : List Data)
+    → List (List ℕ × Data)
 each_wrong_members number f found_ttl why =
     (codes "flow", count_data (number + 1))
     ∷ (codes "found_ttl", count_data found_ttl)
@@ -179,7 +180,8 @@ also_missed_by e =
 abbrev pub wrong_flow_of_travel : FinishedTravel → (found_ttl : ℕ) → (why : List Data) → (events_asked : Bool)
     → WrongFlow
 wrong_flow_of_travel e found_ttl why events_asked =
-    wrong_flow_of e.flight.domain.topology found_ttl e.travel.finding e.travel.events.items (also_missed_by e) why
+    wrong_flow_of e.flight.domain.topology found_ttl e.travel.finding e.travel.events.items
+    (also_missed_by e) why
     events_asked
 
 -- the same, by the finished travel that shows it

@@ -16,7 +16,8 @@ ghost use Rattle.mc_explain.specs.SearchText.{router_line_text, lan_router_text,
 ghost use Rattle.mc_explain.specs.ShownLines.{shown_lines};
 ghost use Rattle.mc_explain.specs.declared.search_line.SearchLine.TheVariants.{DoesNotSend, FromUnplaced};
 ghost use Rattle.mc_explain.specs.declared.search_line.SearchLine.TheVariants.{NotMulticast, NoVif};
-ghost use Rattle.mc_explain.specs.declared.search_line.SearchLine.TheVariants.{EverySource, Stopped, WaitsFor};
+ghost use Rattle.mc_explain.specs.declared.search_line.SearchLine.TheVariants.{EverySource, Stopped};
+ghost use Rattle.mc_explain.specs.declared.search_line.SearchLine.TheVariants.{WaitsFor};
 
 use crate::device_text::{NO_DEVICE, ShownDevice, ShownDeviceName};
 use crate::every_source_row::ShownEverySource;

@@ -81,7 +81,7 @@ impl Certificate {
     pub fn from_flows(flows: Vec<Vec<Reached>>) -> Certificate
         requires few { length flows.items ≤ 4096 }
         requires lists { All IsWritableTree (map (λ t. t.items) flows.items) }
-        ensures value { result ≡ map (λ t. t.items) flows.items }
+        ensures flows { result ≡ map (λ t. t.items) flows.items }
     {
         Certificate {
             trees: flows,
@@ -96,7 +96,7 @@ impl Certificate {
         requires few { length tree_of_flow.items ≤ 4096 }
         requires lists { All IsWritableTree (map (λ t. t.items) trees.items) }
         requires named { All (λ n. n < length trees.items) tree_of_flow.items }
-        ensures value { result ≡ map (tree_at (map (λ t. t.items) trees.items)) tree_of_flow.items }
+        ensures flows { result ≡ map (tree_at (map (λ t. t.items) trees.items)) tree_of_flow.items }
     {
         Certificate {
             trees,
@@ -118,7 +118,7 @@ impl Certificate {
     /// The tree of the flow with this number, counted from 0.
     pub(crate) fn tree(&self, flow: u32) -> &[Reached]
         requires known { flow < length self.now }
-        ensures item { slice_get self.now flow ≡ Some result.now }
+        ensures tree { slice_get self.now flow ≡ Some result.now }
     {
         let number = match &self.tree_of_flow {
             Some(numbers) => numbers[flow as usize],

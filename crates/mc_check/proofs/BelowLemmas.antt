@@ -29,9 +29,9 @@ pub first_of-below_none : (f : ℕ → Option Reason) → first_of f (below 0) �
 unfolding below
 first_of-below_none f = refl
 
-pub none_found-more : (f : ℕ → Option Reason) (k : ℕ) → first_of f (below k) ≡ None → f k ≡ None
+pub first_of-none_more : (f : ℕ → Option Reason) (k : ℕ) → first_of f (below k) ≡ None → f k ≡ None
     → first_of f (below (k + 1)) ≡ None
-none_found-more f k h e = first_of-below_more f k h ∙ e
+first_of-none_more f k h e = first_of-below_more f k h ∙ e
 
 -- what is found at k stays the first reason when more numbers follow
 first_of-kept_by_more : (f : ℕ → Option Reason) (k d : ℕ) (x : Reason) → first_of f (below (k + 1)) ≡ Some x
@@ -52,9 +52,9 @@ first_of-found_at f k n x h e lt =
     (first_of-kept_by_more f k (n - (k + 1)) x (first_of-below_more f k h ∙ e))
 
 -- the same, from two booleans: none before k, and none at k
-pub none_found-more_by_bools : (f : ℕ → Option Reason) (k : ℕ) (all one : Bool)
+pub first_of-none_more_by_bools : (f : ℕ → Option Reason) (k : ℕ) (all one : Bool)
     → (all ≡ true → first_of f (below k) ≡ None) → (IsTrue one → f k ≡ None)
     → (all && one) ≡ true → first_of f (below (k + 1)) ≡ None
-none_found-more_by_bools f k true true before here e = none_found-more f k (before refl) (here refl)
-none_found-more_by_bools f k true false before here e = absurd cc
-none_found-more_by_bools f k false one before here e = absurd cc
+first_of-none_more_by_bools f k true true before here e = first_of-none_more f k (before refl) (here refl)
+first_of-none_more_by_bools f k true false before here e = absurd cc
+first_of-none_more_by_bools f k false one before here e = absurd cc

@@ -6,7 +6,9 @@ use Rattle.mc_theory.specs.Certificates.{Entry}
 use Rattle.mc_theory.specs.Reasons.{first_reason}
 use Rattle.mc_forward.specs.Domains.{DomainValue, IsDomain, net_of}
 use Rattle.mc_check.specs.Reasons.{optional_reason_value}
-use Rattle.mc_check.proofs.VerdictLemmas.{is_first_reason-of_domain, yes_iff_accepted, yes_counts_entries, no_gives_first_reason, yes_is_safe, yes_delivers}
+use Rattle.mc_check.proofs.VerdictLemmas.{is_first_reason-of_domain, yes_iff_accepted}
+use Rattle.mc_check.proofs.VerdictLemmas.{yes_counts_entries, no_gives_first_reason, yes_is_safe}
+use Rattle.mc_check.proofs.VerdictLemmas.{yes_delivers}
 use Rattle.mc_check.proofs.VerdictLemmas.{yes_is_right, yes_keeps_headline}
 use Rattle.mc_check.specs.Verdicts.{verdict_by, HoldsForEachFlow, IsCorrectVerdict}
 use Rattle.mc_check.specs.declared.verdict.Reason.{Reason}
@@ -18,11 +20,12 @@ pub record AreVerdictsSoFar (d : DomainValue) (lists : List (List Entry)) (k : �
   pub number : length vs ≡ k
   pub each : HoldsForEachFlow d lists vs (IsCorrectVerdict (length d.topology.lans))
 
-pub correct_verdict-verdict_by : (d : DomainValue) (flow : ℕ) (es : List Entry) (o : Option Reason) (v : Verdict)
+pub is_correct_verdict-verdict_by : (d : DomainValue) (flow : ℕ) (es : List Entry) (o : Option Reason)
+    (v : Verdict)
     → IsDomain d → flow < length d.topology.flows
     → optional_reason_value o ≡ first_reason (net_of d flow) (length d.topology.lans) es
     → v ≡ verdict_by o (length es) → IsCorrectVerdict (length d.topology.lans) (net_of d flow) es v
-correct_verdict-verdict_by d flow es o v ok lt e by =
+is_correct_verdict-verdict_by d flow es o v ok lt e by =
     let n = net_of d flow in
     let count = length d.topology.lans in
     let j = is_first_reason-of_domain d flow es o ok lt e in
@@ -36,7 +39,8 @@ correct_verdict-verdict_by d flow es o v ok lt e by =
       headline = yes_keeps_headline n count es o j;
     })
 
-slice_get-push_cases : {A : Type 0} (xs : List A) (x : A) (i : ℕ) (y : A) → slice_get (xs ++ x ∷ []) i ≡ Some y
+slice_get-push_cases : {A : Type 0} (xs : List A) (x : A) (i : ℕ) (y : A)
+    → slice_get (xs ++ x ∷ []) i ≡ Some y
     → (slice_get xs i ≡ Some y) ⊎ ((i ≡ length xs) × (x ≡ y))
 slice_get-push_cases [] x zero y e = inr (refl, cc)
 slice_get-push_cases [] x (suc i) y e = absurd cc
@@ -49,7 +53,8 @@ slice_get-push_cases (z ∷ xs) x (suc i) y e = elim (slice_get-push_cases xs x 
 pub verdicts_so_far-more : (d : DomainValue) (lists : List (List Entry)) (k : ℕ) (vs : List Verdict)
     (es : List Entry) (v : Verdict)
     → AreVerdictsSoFar d lists k vs → slice_get lists k ≡ Some es
-    → IsCorrectVerdict (length d.topology.lans) (net_of d k) es v → AreVerdictsSoFar d lists (k + 1) (vs ++ v ∷ [])
+    → IsCorrectVerdict (length d.topology.lans) (net_of d k) es v
+    → AreVerdictsSoFar d lists (k + 1) (vs ++ v ∷ [])
 verdicts_so_far-more d lists k vs es v j here correct = record {
   number = length-append vs (v ∷ []) ∙ (let h = j.number in omega arith);
   each = λ flow fs w at got. elim (slice_get-push_cases vs v flow w got) [
@@ -60,7 +65,8 @@ verdicts_so_far-more d lists k vs es v j here correct = record {
         here in
         subst (λ x. IsCorrectVerdict (length d.topology.lans) (net_of d flow) fs x) h.1
         (subst (λ (xs : List Entry). IsCorrectVerdict (length d.topology.lans) (net_of d flow) xs v) list
-        (subst (λ (i : ℕ). IsCorrectVerdict (length d.topology.lans) (net_of d i) es v) (sym number) correct)))
+        (subst (λ (i : ℕ). IsCorrectVerdict (length d.topology.lans) (net_of d i) es v) (sym number)
+        correct)))
   ];
 }
   where

@@ -23,7 +23,8 @@ twice-cons_new_lan earlier es e none =
 
 -- the k-th entry is the first one whose LAN an earlier entry names
 pub twice-already_named : (firsts old : List (Option Entry)) (es : List Entry) (k : ℕ) (e : Entry)
-    → FirstEntriesSoFar firsts old es k → k < length es → e ≡ get_or es k e → IsSome (item_on_lan firsts e.lan)
+    → FirstEntriesSoFar firsts old es k → k < length es → e ≡ get_or es k e
+    → IsSome (item_on_lan firsts e.lan)
     → Some (TwoEntries e.lan) ≡ twice [] es
 twice-already_named firsts old es k e t lt at some =
     let rest : drop k es ≡ e ∷ drop (k + 1) es = drop_more es k e lt

@@ -7,13 +7,15 @@ use Rattle.mc_theory.specs.Nets.{Net, IsNet, WantsBelow}
 use Rattle.mc_theory.specs.Certificates.{Entry, IsAccepted}
 use Rattle.mc_theory.specs.Reasons.{first_reason}
 use Rattle.mc_theory.proofs.FirstReason.{first_reason-none_iff_accepted}
-use Rattle.mc_theory.proofs.ReachedLans.{is_safe-from_tree, is_delivered-from_lossless_run, is_right-from_accepted}
+use Rattle.mc_theory.proofs.ReachedLans.{is_safe-from_tree, is_delivered-from_lossless_run}
+use Rattle.mc_theory.proofs.ReachedLans.{is_right-from_accepted}
 use Rattle.mc_theory.proofs.Headline.{headline_holds-from_accepted}
 use Rattle.mc_forward.specs.Domains.{DomainValue, IsDomain, net_of}
 use Rattle.mc_forward.proofs.BelowLemmas.{length-of_distinct_below}
 use Rattle.mc_forward.proofs.DomainLemmas.{is_net-net_of, wants-below_lan_count, ttl-at_least_1}
 use Rattle.mc_check.specs.Reasons.{optional_reason_value}
-use Rattle.mc_check.specs.Verdicts.{verdict_by, YesIffAccepted, YesCountsEntries, NoGivesFirstReason, YesIsSafe}
+use Rattle.mc_check.specs.Verdicts.{verdict_by, YesIffAccepted, YesCountsEntries}
+use Rattle.mc_check.specs.Verdicts.{NoGivesFirstReason, YesIsSafe}
 use Rattle.mc_check.specs.Verdicts.{YesDelivers, YesIsRight, YesKeepsHeadline}
 use Rattle.mc_check.specs.declared.verdict.Reason.{Reason}
 
@@ -26,9 +28,11 @@ pub record IsFirstReason (n : Net) (count : ℕ) (es : List Entry) (o : Option R
 
 pub is_accepted-no_reason : (n : Net) (count : ℕ) (es : List Entry) → IsFirstReason n count es None
     → IsAccepted n es
-is_accepted-no_reason n count es j = (first_reason-none_iff_accepted n count es j.net j.wants).0 (sym j.reason_is_first)
+is_accepted-no_reason n count es j = (first_reason-none_iff_accepted n count es j.net j.wants).0
+    (sym j.reason_is_first)
 
-pub yes_iff_accepted : (n : Net) (count : ℕ) (es : List Entry) (o : Option Reason) → IsFirstReason n count es o
+pub yes_iff_accepted : (n : Net) (count : ℕ) (es : List Entry) (o : Option Reason)
+    → IsFirstReason n count es o
     → YesIffAccepted n es (verdict_by o (length es))
 yes_iff_accepted n count es None j = ((λ _. is_accepted-no_reason n count es j), (λ _. refl))
 yes_iff_accepted n count es (Some r) j = (
@@ -42,7 +46,8 @@ pub yes_counts_entries : (n : Net) (es : List Entry) (o : Option Reason)
 yes_counts_entries n es None = refl
 yes_counts_entries n es (Some r) = tt
 
-pub no_gives_first_reason : (n : Net) (count : ℕ) (es : List Entry) (o : Option Reason) → IsFirstReason n count es o
+pub no_gives_first_reason : (n : Net) (count : ℕ) (es : List Entry) (o : Option Reason)
+    → IsFirstReason n count es o
     → NoGivesFirstReason count n es (verdict_by o (length es))
 no_gives_first_reason n count es None j = tt
 no_gives_first_reason n count es (Some r) j = sym j.reason_is_first
@@ -55,7 +60,8 @@ yes_is_safe n count es (Some r) j = tt
 
 pub yes_delivers : (n : Net) (count : ℕ) (es : List Entry) (o : Option Reason)
     → IsFirstReason n count es o → YesDelivers n es (verdict_by o (length es))
-yes_delivers n count es None j = λ t ps low high range whole done. is_delivered-from_lossless_run n es t ps j.net
+yes_delivers n count es None j = λ t ps low high range whole done. is_delivered-from_lossless_run n
+    es t ps j.net
     (is_accepted-no_reason n count es j).is_tree low high range whole done
 yes_delivers n count es (Some r) j = tt
 
@@ -66,7 +72,8 @@ yes_is_right n count es (Some r) j = tt
 
 pub yes_keeps_headline : (n : Net) (count : ℕ) (es : List Entry) (o : Option Reason)
     → IsFirstReason n count es o → YesKeepsHeadline n es (verdict_by o (length es))
-yes_keeps_headline n count es None j = headline_holds-from_accepted n es j.net j.ttl (is_accepted-no_reason n count es j)
+yes_keeps_headline n count es None j = headline_holds-from_accepted n es j.net j.ttl
+    (is_accepted-no_reason n count es j)
 yes_keeps_headline n count es (Some r) j = tt
 
 -- a LAN that is named is below the count
@@ -85,7 +92,8 @@ length-accepted_entries n es count acc all =
     (λ l h. entry_lan-below_count es count l all h) in
     omega (arith, bound, length-map es (λ (e : Entry). e.lan))
 
-pub is_first_reason-of_domain : (d : DomainValue) (flow : ℕ) (es : List Entry) (o : Option Reason) → IsDomain d
+pub is_first_reason-of_domain : (d : DomainValue) (flow : ℕ) (es : List Entry) (o : Option Reason)
+    → IsDomain d
     → flow < length d.topology.flows
     → optional_reason_value o ≡ first_reason (net_of d flow) (length d.topology.lans) es
     → IsFirstReason (net_of d flow) (length d.topology.lans) es o

@@ -5,7 +5,8 @@ ghost use Rattle.mc_theory.specs.Reasons.{first_reason, twice};
 ghost use Rattle.mc_forward.specs.Domains.{net_of};
 ghost use Rattle.mc_forward.specs.FlightsInDomain.{net_in};
 ghost use Rattle.mc_check.specs.Reasons.{optional_reason_value};
-ghost use Rattle.mc_check.specs.Verdicts.{YesCountsEntries, NoGivesFirstReason, YesIffAccepted, HoldsForEachFlow, IsCorrectVerdict};
+ghost use Rattle.mc_check.specs.Verdicts.{YesCountsEntries, NoGivesFirstReason, YesIffAccepted};
+ghost use Rattle.mc_check.specs.Verdicts.{HoldsForEachFlow, IsCorrectVerdict};
 ghost use Rattle.mc_check.specs.Verdicts.{verdict_by};
 ghost use Rattle.mc_check.specs.Verdicts.{YesDelivers, YesIsRight, YesIsSafe, YesKeepsHeadline};
 
@@ -22,7 +23,7 @@ use std::alloc::Global;
 /// The first reason to refuse a flow's entries, where no two of them name the same LAN.
 fn reason_for_distinct_lans(view: &FlowView<'_>, by_lan: &EntriesByLan<'_>) -> Option<Reason>
     requires distinct { twice [] by_lan.now ≡ None }
-    ensures meaning { optional_reason_value result ≡ first_reason (net_in view.now)
+    ensures reason { optional_reason_value result ≡ first_reason (net_in view.now)
         (length view.now.domain.topology.lans) by_lan.now }
 {
     if !has_source(view, by_lan) {

@@ -25,7 +25,8 @@ fn child_reason(
     lan: LanNo,
 ) -> Option<Reason>
     requires live { base.now.rank + oif.now.threshold < 255 }
-    ensures meaning { optional_reason_value result ≡ child_reason base.now router (oif.now.vif, oif.now.threshold)
+    ensures reason { optional_reason_value result ≡ child_reason base.now router
+        (oif.now.vif, oif.now.threshold)
         lan (entry_on by_lan.now lan) }
 {
     let extra = Some(Reason::Extra(router, oif.vif, lan));

@@ -48,7 +48,7 @@ pub(crate) fn has_source(view: &FlowView<'_>, by_lan: &EntriesByLan<'_>) -> bool
 /// Why a LAN that wants the flow doesn't get it, if it doesn't.
 fn lan_reason(view: &FlowView<'_>, by_lan: &EntriesByLan<'_>, lan: LanNo) -> Option<Reason>
     requires known { lan < length view.now.domain.topology.lans }
-    ensures meaning { optional_reason_value result ≡ lan_reason (net_in view.now) by_lan.now lan }
+    ensures reason { optional_reason_value result ≡ lan_reason (net_in view.now) by_lan.now lan }
 {
     if !view.wants(lan) {
         return None;

@@ -7,7 +7,9 @@ use Rattle.mc_maker.specs.Examined.{FindsNothing, first_choices}
 use Rattle.mc_maker.specs.declared.examination.Examined as examined
 use Rattle.mc_maker.specs.declared.examination.Examined.TheVariants as examined_as
 use Rattle.mc_maker.specs.declared.examined_flights.ExaminedFlights.{ExaminedFlights}
-use Rattle.mc_maker.specs.declared.examined_flights.ExaminedFlights.TheVariants.{Certified, FoundAtTtl255, FoundAtFlowTtl}
+use Rattle.mc_maker.specs.declared.examined_flights.ExaminedFlights.TheVariants.{Certified}
+use Rattle.mc_maker.specs.declared.examined_flights.ExaminedFlights.TheVariants.{FoundAtTtl255}
+use Rattle.mc_maker.specs.declared.examined_flights.ExaminedFlights.TheVariants.{FoundAtFlowTtl}
 
 -- the result without the flights
 abbrev pub without_flights : DomainValue → (flow : ℕ) → ExaminedFlights → examined.Examined

@@ -3,7 +3,8 @@
 
 ghost use Rattle.std.specs.Prelude.{◌≡◌, ◌<◌, ◌≤◌, All, IfOk, IfSome, Some, [], length};
 ghost use Rattle.mc_theory.specs.CertificateOfCopies.{entries_of, need_over};
-ghost use Rattle.mc_maker.specs.EntriesByLan.{AreEntriesByLan, entry_by_held_entries, held_entry_at, held_entries, need_by_held_entries};
+ghost use Rattle.mc_maker.specs.EntriesByLan.{AreEntriesByLan, entry_by_held_entries};
+ghost use Rattle.mc_maker.specs.EntriesByLan.{held_entry_at, held_entries, need_by_held_entries};
 ghost use Rattle.mc_forward.specs.FlightsInDomain.{net_in};
 
 use mc_cert::Reached;

@@ -9,7 +9,8 @@ ghost use Rattle.mc_forward.specs.Domains.{net_of, ttl_of};
 ghost use Rattle.mc_forward.specs.FlightsInDomain.{net_in};
 ghost use Rattle.mc_cert.specs.Certificate.{IsEntryOf, IsWritableTree};
 ghost use Rattle.mc_maker.specs.Examined.{FindsFault, IfCertified, IfFound, IffTravelsFindNothing};
-ghost use Rattle.mc_maker.specs.Examined.{AreEntriesOfCleanTravel, IsFirstPickTravel, IsTtlOfFault, is_certified};
+ghost use Rattle.mc_maker.specs.Examined.{AreEntriesOfCleanTravel, IsFirstPickTravel, IsTtlOfFault};
+ghost use Rattle.mc_maker.specs.Examined.{is_certified};
 ghost use Rattle.mc_maker.specs.Examined.{AreCleanCopies};
 
 use crate::examined_flights::{ExaminedFlights, examine_to_end};
@@ -94,7 +95,8 @@ pub fn make(alloc: Global, domain: &Domain, flow: u32) -> Result<Option<Vec<Reac
     // which a certificate can hold,
     ensures writable { IfOk result (λ made. IfSome made (λ es. IsWritableTree es.items)) }
     // and those of the copies that the travel at TTL 255 carried.
-    ensures made { IfOk result (λ made. IfSome made (λ es. AreEntriesOfCleanTravel domain.now flow es.items)) }
+    ensures made { IfOk result (λ made. IfSome made (λ es. AreEntriesOfCleanTravel domain.now flow
+        es.items)) }
     // There are entries exactly if the flow is right,
     ensures right { IfOk result (λ made. IsSome made ↔ IsRight (net_of domain.now flow)) }
     // and exactly if the travels at TTL 255 and at the flow's TTL both find nothing.

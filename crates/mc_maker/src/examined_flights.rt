@@ -8,7 +8,8 @@ ghost use Rattle.mc_theory.specs.CertificateOfCopies.{entries_of};
 ghost use Rattle.mc_forward.specs.Domains.{net_of};
 ghost use Rattle.mc_forward.specs.FlightsInDomain.{net_in};
 ghost use Rattle.mc_cert.specs.Certificate.{IsEntryOf, IsWritableTree};
-ghost use Rattle.mc_maker.specs.Examined.{AreCleanCopies, FindsFault, IfCertified, IfFound, AreEntriesOfCleanTravel};
+ghost use Rattle.mc_maker.specs.Examined.{AreCleanCopies, FindsFault, IfCertified, IfFound};
+ghost use Rattle.mc_maker.specs.Examined.{AreEntriesOfCleanTravel};
 ghost use Rattle.mc_maker.specs.Examined.{IsFirstPickTravel, IsTtlOfFault, is_certified};
 ghost use Rattle.mc_maker.specs.ExaminedFlights.{HasExaminedFlights, without_flights};
 
@@ -88,7 +89,8 @@ pub fn examine_to_end<'d>(
     ensures listed { IfOk result (λ examined_flights. IfCertified (All (IsEntryOf domain.now.topology))
         (without_flights domain.now flow examined_flights)) }
     // which a certificate can hold,
-    ensures writable { IfOk result (λ examined_flights. IfCertified IsWritableTree (without_flights domain.now flow examined_flights)) }
+    ensures writable { IfOk result (λ examined_flights. IfCertified IsWritableTree
+        (without_flights domain.now flow examined_flights)) }
     // and those of the copies that the travel at TTL 255 carried.
     ensures made { IfOk result (λ examined_flights. IfCertified (AreEntriesOfCleanTravel domain.now flow)
         (without_flights domain.now flow examined_flights)) }
@@ -103,7 +105,8 @@ pub fn examine_to_end<'d>(
         (without_flights domain.now flow examined_flights)) }
     // The flow is certified exactly if it is right.
     ensures right { IfOk result (λ examined_flights.
-        IsTrue (is_certified (without_flights domain.now flow examined_flights)) ↔ IsRight (net_of domain.now flow)) }
+        IsTrue (is_certified (without_flights domain.now flow examined_flights))
+        ↔ IsRight (net_of domain.now flow)) }
 {
     let topology = domain.topology();
     let greatest = replay_to_end(alloc, domain, flow, 255, &mut First)?;

@@ -1,4 +1,4 @@
-pub mod FirstCopiesLemmas
+pub mod FirstLemmas
 pub mod MissedLemmas
 pub mod WalkLemmas
 pub mod TravelLemmas

@@ -39,7 +39,8 @@ extends_carried-cond : (f g : Flight) (b : Bool) → ExtendsCarried f g → Exte
 extends_carried-cond f g true h = h
 extends_carried-cond f g false h = extends_carried-same f f refl
 
-extends_carried-sends : (n : Net) (r t : ℕ) (ps : List (ℕ × ℕ)) (f : Flight) → ExtendsCarried f (sends n r t ps f)
+extends_carried-sends : (n : Net) (r t : ℕ) (ps : List (ℕ × ℕ)) (f : Flight)
+    → ExtendsCarried f (sends n r t ps f)
 extends_carried-sends n r t [] f = extends_carried-same f f refl
 extends_carried-sends n r t (p ∷ ps) f =
     extends_carried-more f (send n r t p f) (sends n r t ps (send n r t p f))
@@ -47,8 +48,10 @@ extends_carried-sends n r t (p ∷ ps) f =
     (extends_carried-leave n (t - 1) (r, p.0) (n.placed r p.0) f))
     (extends_carried-sends n r t ps (send n r t p f))
 
-extends_carried-handle_by : (n : Net) (w : Waiting) (row : Row) (f : Flight) → ExtendsCarried f (handle_by_row n w row f)
-extends_carried-handle_by n w (Exact incoming pairs) f = extends_carried-cond f (sends n w.router w.ttl pairs f)
+extends_carried-handle_by : (n : Net) (w : Waiting) (row : Row) (f : Flight)
+    → ExtendsCarried f (handle_by_row n w row f)
+extends_carried-handle_by n w (Exact incoming pairs) f = extends_carried-cond f
+    (sends n w.router w.ttl pairs f)
     (incoming == w.vif) (extends_carried-sends n w.router w.ttl pairs f)
 extends_carried-handle_by n w Open f = extends_carried-same f (handle_by_row n w Open f) refl
 extends_carried-handle_by n w NoRow f = extends_carried-same f f refl
@@ -70,7 +73,8 @@ pub record FirstCopiesRecorded (firsts : List (Option Copy)) (lans k : ℕ) (cs 
   pub filled : HoldsFirstOfEachKey (λ (c : Copy). c.lan) firsts (take k cs)
   pub once : first_double [] (take k cs) ≡ None
 
-pub first_copies_recorded-none : (firsts : List (Option Copy)) (lans : ℕ) (cs : List Copy) → length firsts ≡ lans
+pub first_copies_recorded-none : (firsts : List (Option Copy)) (lans : ℕ) (cs : List Copy)
+    → length firsts ≡ lans
     → HoldsFirstOfEachKey (λ (c : Copy). c.lan) firsts [] → FirstCopiesRecorded firsts lans 0 cs
 first_copies_recorded-none firsts lans cs count none = record {
   count = count;
@@ -89,7 +93,8 @@ double-none_without_finding n count f h = by (first_double [] f.carried) h
 
 -- after all copies of a flight without a finding, and one handling
 pub first_copies_recorded-more : (n : Net) (lans k i : ℕ) (firsts : List (Option Copy)) (f g : Flight)
-    → length firsts ≡ lans → HoldsFirstOfEachKey (λ (c : Copy). c.lan) firsts f.carried → finding n lans f ≡ None
+    → length firsts ≡ lans → HoldsFirstOfEachKey (λ (c : Copy). c.lan) firsts f.carried
+    → finding n lans f ≡ None
     → k ≡ length f.carried → g ≡ step n i f → FirstCopiesRecorded firsts lans k g.carried
 first_copies_recorded-more n lans k i firsts f g count filled none seen next =
     let more = extends_carried-step n i f in
@@ -116,23 +121,27 @@ pub record IsTravelSoFar (n : Net) (lans : ℕ) (c0 : Choices) (f0 : Flight) (c 
 
 travel_so_far-none : (n : Net) (lans t : ℕ) (c : Choices) (f : Flight) (es : List Event) → f ≡ start n t
     → es ≡ [] → IsTravelSoFar n lans c (start n t) c f es
-travel_so_far-none n lans t c f es e q = subst (λ (xs : List Event). IsTravelSoFar n lans c (start n t) c f xs)
+travel_so_far-none n lans t c f es e q = subst (λ (xs : List Event). IsTravelSoFar n lans c
+    (start n t) c f xs)
     (sym q)
     (subst (λ (g : Flight). IsTravelSoFar n lans c (start n t) c g []) (sym e) (record {
-      room = λ is h. (let le = length_bounded-travel_so_far n lans t c.numbers c.last is h in omega (arith, le));
+      room = λ is h. (let le = length_bounded-travel_so_far n lans t c.numbers c.last is h in omega
+          (arith, le));
       travel = λ more g x h. h;
     }))
 
 -- the same for a flight that has just started
 pub travel_so_far-from_start : (n : Net) (lans : ℕ) (c : Choices) (f : Flight) (es : List Event)
     → (t : ℕ) × (f ≡ start n t) → es ≡ [] → IsTravelSoFar n lans c f c f es
-travel_so_far-from_start n lans c f es is none = subst (λ (s : Flight). IsTravelSoFar n lans c s c f es) (sym is.1)
+travel_so_far-from_start n lans c f es is none = subst (λ (s : Flight). IsTravelSoFar n lans c s c f
+    es) (sym is.1)
     (travel_so_far-none n lans is.0 c f es is.1 none)
 
 -- there are no more events than there is room for
 pub length-travel_so_far : (n : Net) (lans : ℕ) (c0 : Choices) (f0 : Flight) (c : Choices) (f : Flight)
     (es : List Event) → IsTravelSoFar n lans c0 f0 c f es → length es ≤ length (placed_interfaces n)
-length-travel_so_far n lans c0 f0 c f es travel_so_far = let le = travel_so_far.room [] tt in omega (arith, le)
+length-travel_so_far n lans c0 f0 c f es travel_so_far = let le = travel_so_far.room [] tt in omega
+    (arith, le)
 
 -- a finding of the flight ends the travel
 pub is_travel_to-travel_so_far : (n : Net) (lans : ℕ) (c0 : Choices) (f0 : Flight) (c : Choices) (f : Flight)

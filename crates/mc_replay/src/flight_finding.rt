@@ -82,7 +82,7 @@ pub(crate) fn finding_of(
 ) -> Option<Finding>
     requires firsts { HoldsFirstOfEachKey (λ c. c.lan) firsts.now flight.now.flight.carried }
     requires second { second ≡ first_double [] flight.now.flight.carried }
-    ensures meaning { optional_finding_value result ≡ finding (net_in view.now)
+    ensures finding { optional_finding_value result ≡ finding (net_in view.now)
         (length view.now.domain.topology.lans) flight.now.flight }
 {
     if let Some(copy) = second {

@@ -29,7 +29,8 @@ pub end_text-parts : {A X : Type 0} (o : AuditOptions) (t u : TopologyValue) (su
     → OnOk r (new ≡ old ++ end_text o u summary marks all (length u.flows) right wrong unwanted)
 end_text-parts o t u summary marks all flows right wrong unwanted (Err e) old one two three four new same
     size first second third fourth last = tt
-end_text-parts {A = A} {X = X} o t u summary marks all flows right wrong unwanted (Ok x) old one two three four new same
+end_text-parts {A = A} {X = X} o t u summary marks all flows right wrong unwanted (Ok x) old one two
+    three four new same
     size first second third fourth last =
     let strict = strict_lines o.strict all unwanted in
     let end : Result A X = Ok x in
@@ -48,7 +49,8 @@ pub end_objects-parts : {A X : Type 0} (o : AuditOptions) (t u : TopologyValue) 
     → OnOk r (new ≡ two ++ line_of (summary_data right unwanted wrong))
     → OnOk r (new ≡ old ++ end_objects o u summary marks right wrong unwanted)
 end_objects-parts o t u summary marks right wrong unwanted (Err e) old one two new same first second last = tt
-end_objects-parts {A = A} {X = X} o t u summary marks right wrong unwanted (Ok x) old one two new same first second last =
+end_objects-parts {A = A} {X = X} o t u summary marks right wrong unwanted (Ok x) old one two new
+    same first second last =
     (let end : Result A X = Ok x in
     append-two_parts end old (unlisted_lines o.unlisted t summary) (without_line t marks)
     (line_of (summary_data right unwanted wrong)) one two new first second last)

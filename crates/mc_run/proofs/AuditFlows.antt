@@ -26,7 +26,9 @@ use Rattle.mc_cert.proofs.DistinctLemmas.{length-with_tree}
 use Rattle.mc_maker.specs.Examined.{IfFound, IsFirstPickTravel, is_certified}
 use Rattle.mc_maker.specs.ExaminedFlights.{HasExaminedFlights, without_flights}
 use Rattle.mc_maker.specs.declared.examined_flights.ExaminedFlights.{ExaminedFlights}
-use Rattle.mc_maker.specs.declared.examined_flights.ExaminedFlights.TheVariants.{Certified, FoundAtTtl255, FoundAtFlowTtl}
+use Rattle.mc_maker.specs.declared.examined_flights.ExaminedFlights.TheVariants.{Certified}
+use Rattle.mc_maker.specs.declared.examined_flights.ExaminedFlights.TheVariants.{FoundAtTtl255}
+use Rattle.mc_maker.specs.declared.examined_flights.ExaminedFlights.TheVariants.{FoundAtFlowTtl}
 use Rattle.mc_maker.specs.declared.examination.Examined.{Examined}
 use Rattle.mc_maker.specs.declared.examination.Examined.TheVariants as examined
 use Rattle.mc_replay.specs.declared.travel.FinishedTravel.{FinishedTravel}
@@ -69,7 +71,8 @@ headline_holds-verdict_yes n es (Ok v) (Ok s) keeps is =
     subst (λ (w : Verdict). YesKeepsHeadline n es w) is keeps
 
 -- the finding is that of the travel whose flights are given
-pub is_first_pick_travel-of_examined : (d : DomainValue) (flow : ℕ) (x : ExaminedFlights) → HasExaminedFlights d flow x
+pub is_first_pick_travel-of_examined : (d : DomainValue) (flow : ℕ) (x : ExaminedFlights)
+    → HasExaminedFlights d flow x
     → IfFound (IsFirstPickTravel d flow) (without_flights d flow x)
 is_first_pick_travel-of_examined d flow (Certified entries) is = tt
 is_first_pick_travel-of_examined d flow (FoundAtTtl255 ended) is = (ended.flight.flight, is.run)
@@ -84,22 +87,26 @@ is_explanation-certified true = refl
 is_explanation-certified false = refl
 
 -- the flow's list was accepted,
-pub is_flow_pushed-right : {X : Type 0} (v : AuditedValue) (o : AuditOptions) (flow : ℕ) (r : Result FlowStatus X)
+pub is_flow_pushed-right : {X : Type 0} (v : AuditedValue) (o : AuditOptions) (flow : ℕ)
+    (r : Result FlowStatus X)
     (x : ExaminedFlights) (entries : Vec Reached Global) (seen : Tree) (printed new_printed : List Tree)
     (old new : List ℕ) → flow < length v.domain.topology.flows → HasExaminedFlights v.domain flow x
     → IsExamined v.domain flow (without_flights v.domain flow x) → x ≡ Certified entries
     → seen ≡ entries.items
     → OnOk r (HeadlineHolds (net_of v.domain flow) (length seen))
     → IfOk r (λ s. s ≡ status_of_right (lans_wanting (facts v.domain) flow))
-    → OnOk r (new_printed ≡ with_shown_tree o.json (is_hidden o.faults (lans_wanting (facts v.domain) flow)) printed
+    → OnOk r (new_printed ≡ with_shown_tree o.json (is_hidden o.faults
+    (lans_wanting (facts v.domain) flow)) printed
     seen)
     → OnOk r ((f : Flow) → slice_get v.domain.topology.flows flow ≡ Some f
     → new ≡ old ++ right_flow_lines o (is_whole v) v.domain.topology printed flow f seen
     (lans_wanting (facts v.domain) flow))
     → IfOk r (λ s. IsFlowPushed v o flow s printed new_printed old new)
-is_flow_pushed-right v o flow (Err e) x entries seen printed new_printed old new lt has_flights is same list holds matches
+is_flow_pushed-right v o flow (Err e) x entries seen printed new_printed old new lt has_flights is
+    same list holds matches
     shown_trees puts = tt
-is_flow_pushed-right v o flow (Ok s) x entries seen printed new_printed old new lt has_flights is same list holds matches
+is_flow_pushed-right v o flow (Ok s) x entries seen printed new_printed old new lt has_flights is
+    same list holds matches
     shown_trees puts =
     let n = net_of v.domain flow in
     let wanted = lans_wanting (facts v.domain) flow in
@@ -179,7 +186,8 @@ is_flow_pushed-wrong v o flow x ttl travel e old new lt has_flights is so explai
     }
 
 -- lines that were written for printed trees in one form are written for them in the other
-pub wrong_flow_lines-same_causes : (v : AuditedValue) (o : AuditOptions) (flow ttl : ℕ) (ended : FinishedTravel)
+pub wrong_flow_lines-same_causes : (v : AuditedValue) (o : AuditOptions) (flow ttl : ℕ)
+    (ended : FinishedTravel)
     (seen printed : List Cause) (found : Option LanSearch) (old new : List ℕ) → seen ≡ printed
     → ((f : Flow) → slice_get v.domain.topology.flows flow ≡ Some f
     → new ≡ old ++ wrong_flow_lines o (facts v.domain) v.summary flow f ttl ended.travel
@@ -192,7 +200,8 @@ wrong_flow_lines-same_causes v o flow ttl ended seen printed found old new same 
     ended.travel (explanation_in ended ts found)) same
 
 -- whichever trees were printed before
-pub is_flow_pushed-any_shown_trees : {X : Type 0} (v : AuditedValue) (o : AuditOptions) (flow : ℕ) (r : Result FlowStatus X)
+pub is_flow_pushed-any_shown_trees : {X : Type 0} (v : AuditedValue) (o : AuditOptions) (flow : ℕ)
+    (r : Result FlowStatus X)
     (old new : List ℕ) (shown_trees : List Tree)
     → IfOk r (λ s. (printed : List Tree) → IsFlowPushed v o flow s printed printed old new)
     → IfOk r (λ s. IsFlowPushed v o flow s shown_trees shown_trees old new)
@@ -239,7 +248,8 @@ count-push p (x ∷ answers) a =
     (count-push p answers a)
 
 -- an item of a list that has grown by one is an old item, or the new one
-slice_get-push_cases : {A : Type 0} (xs : List A) (x : A) (i : ℕ) (y : A) → slice_get (xs ++ x ∷ []) i ≡ Some y
+slice_get-push_cases : {A : Type 0} (xs : List A) (x : A) (i : ℕ) (y : A)
+    → slice_get (xs ++ x ∷ []) i ≡ Some y
     → (slice_get xs i ≡ Some y) ⊎ ((i ≡ length xs) × (x ≡ y))
 slice_get-push_cases [] x zero y at = inr (refl, cc)
 slice_get-push_cases [] x (suc i) y at = absurd cc
@@ -311,16 +321,19 @@ trees_shown-at_most_flows_from o printed (a ∷ answers) =
       with_shown_tree-at_most_one_more o printed a.examined a.wanted,
     )
 
-pub trees_shown-at_most_flows : (v : AuditedValue) (o : AuditOptions) (k : ℕ) (s : FlowCounts) (printed : List Tree)
+pub trees_shown-at_most_flows : (v : AuditedValue) (o : AuditOptions) (k : ℕ) (s : FlowCounts)
+    (printed : List Tree)
     (old new : List ℕ) → AreFlowsPushed v o k s printed old new → length printed ≤ k
 trees_shown-at_most_flows v o k s printed old new to =
     let few = trees_shown-at_most_flows_from o [] to.answers in
     let n = to.count_is in
-    let size : length printed ≡ length (trees_shown o to.answers) = ap (λ (ts : List Tree). length ts) to.shown_trees in
+    let size : length printed ≡ length (trees_shown o to.answers) =
+    ap (λ (ts : List Tree). length ts) to.shown_trees in
     omega (arith, few, n, size)
 
 -- one more flow was written
-pub are_flows_pushed-more : (v : AuditedValue) (o : AuditOptions) (k : ℕ) (s : FlowCounts) (flow_status : FlowStatus)
+pub are_flows_pushed-more : (v : AuditedValue) (o : AuditOptions) (k : ℕ) (s : FlowCounts)
+    (flow_status : FlowStatus)
     (new_standings : FlowCounts) (printed new_printed : List Tree) (begun old new : List ℕ)
     → AreFlowsPushed v o k s printed begun old → IsFlowPushed v o k flow_status printed new_printed old new
     → new_standings ≡ with_status s flow_status
@@ -354,7 +367,8 @@ are_flows_pushed-more v o k s flow_status more printed new_printed begun old new
       unwanted = ap (λ (t : FlowCounts). t.unwanted) now ∙ with_status-unwanted a.examined a.wanted a.lines s
           ∙ ap (λ (n : ℕ). n + one_if_true (is_unwanted a)) to.unwanted
           ∙ sym (count-push is_unwanted answers a);
-      shown_trees = is.shown_trees ∙ ap (λ (ts : List Tree). shown_trees_with o ts a.examined a.wanted) to.shown_trees
+      shown_trees = is.shown_trees ∙ ap (λ (ts : List Tree). shown_trees_with o ts a.examined
+          a.wanted) to.shown_trees
           ∙ sym (trees_shown-push o answers a);
       spelled = is.spelled ∙ ap (λ xs. xs ++ a.lines) to.spelled
           ∙ append_assoc begun (flat_map (λ b. b.lines) answers) a.lines
@@ -373,7 +387,8 @@ count-at_most_length p [] = omega arith
 count-at_most_length p (x ∷ answers) =
     length-filter_step (p x) x (filter p answers) answers (count-at_most_length p answers)
 
-pub count_right-below_limit : (v : AuditedValue) (o : AuditOptions) (k : ℕ) (s : FlowCounts) (printed : List Tree)
+pub count_right-below_limit : (v : AuditedValue) (o : AuditOptions) (k : ℕ) (s : FlowCounts)
+    (printed : List Tree)
     (old new : List ℕ) → AreFlowsPushed v o k s printed old new → s.right ≤ k
 count_right-below_limit v o k s printed old new to =
     let h = count-at_most_length is_right to.answers in
@@ -381,7 +396,8 @@ count_right-below_limit v o k s printed old new to =
     let r = to.right in
     omega (arith, h, n, r)
 
-pub count_wrong-below_limit : (v : AuditedValue) (o : AuditOptions) (k : ℕ) (s : FlowCounts) (printed : List Tree)
+pub count_wrong-below_limit : (v : AuditedValue) (o : AuditOptions) (k : ℕ) (s : FlowCounts)
+    (printed : List Tree)
     (old new : List ℕ) → AreFlowsPushed v o k s printed old new → s.wrong ≤ k
 count_wrong-below_limit v o k s printed old new to =
     let h = count-at_most_length is_wrong to.answers in
@@ -389,7 +405,8 @@ count_wrong-below_limit v o k s printed old new to =
     let r = to.wrong in
     omega (arith, h, n, r)
 
-pub count_unwanted-below_limit : (v : AuditedValue) (o : AuditOptions) (k : ℕ) (s : FlowCounts) (printed : List Tree)
+pub count_unwanted-below_limit : (v : AuditedValue) (o : AuditOptions) (k : ℕ) (s : FlowCounts)
+    (printed : List Tree)
     (old new : List ℕ) → AreFlowsPushed v o k s printed old new → s.unwanted ≤ k
 count_unwanted-below_limit v o k s printed old new to =
     let h = count-at_most_length is_unwanted to.answers in

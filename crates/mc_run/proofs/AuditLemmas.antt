@@ -27,13 +27,15 @@ use Rattle.mc_json.specs.WhyData.{why_data}
 use Rattle.mc_run.specs.AuditEnd.{FlowAnswer, are_right, begin_lines, end_lines, verdict_line}
 use Rattle.mc_run.specs.AuditPieces.{output_of}
 use Rattle.mc_run.specs.Failures.{is_write}
-use Rattle.mc_run.specs.AuditRun.{AreFlowAnswers, FilesKeepHeadline, IsFlowAnswer, IsAudited, IsAuditText, IsChecked}
+use Rattle.mc_run.specs.AuditRun.{AreFlowAnswers, FilesKeepHeadline, IsFlowAnswer, IsAudited}
+use Rattle.mc_run.specs.AuditRun.{IsAuditText, IsChecked}
 use Rattle.mc_run.specs.AuditRun.{KeepsHeadlineByLists, MeansAudited, AuditedValue, SaysFlowRight, SaysOfEach}
 use Rattle.mc_run.specs.AuditRun.{SaysNoCertificate, SaysWhatIsFound, SaysWhichAreRight, SaysYesOf}
 use Rattle.mc_run.specs.AuditRun.{WritesOfEach, WritesWhichAreRight, is_whole, is_yes, excluded}
 use Rattle.mc_run.specs.AuditRun.{trees_shown}
 use Rattle.mc_run.specs.AuditText.{Explanation, events_if_shown, explanation_lines}
-use Rattle.mc_run.specs.AuditFlowText.{answer_lines, right_flow_lines, wrong_lines_or_object, wrong_flow_lines}
+use Rattle.mc_run.specs.AuditFlowText.{answer_lines, right_flow_lines, wrong_lines_or_object}
+use Rattle.mc_run.specs.AuditFlowText.{wrong_flow_lines}
 use Rattle.mc_run.specs.AuditReasons.{IsExplanation}
 use Rattle.mc_tables.specs.Summary.{SummaryValue}
 use Rattle.mc_maker.specs.ExaminedFlights.{HasExaminedFlights}
@@ -63,11 +65,13 @@ slice_get-map f [] k y at = absurd cc
 slice_get-map f (x ∷ xs) zero y at = (x, refl, cc)
 slice_get-map f (x ∷ xs) (suc k) y at = slice_get-map f xs k y at
 
-are_right-examinations : (answers : List FlowAnswer) → are_certified (examinations_of answers) ≡ are_right answers
+are_right-examinations : (answers : List FlowAnswer) → are_certified (examinations_of answers)
+    ≡ are_right answers
 are_right-examinations [] = refl
 are_right-examinations (a ∷ answers) = ap (λ b. is_certified a.examined && b) (are_right-examinations answers)
 
-are_examined-answers : (v : AuditedValue) (o : AuditOptions) (answers : List FlowAnswer) → AreFlowAnswers v o answers
+are_examined-answers : (v : AuditedValue) (o : AuditOptions) (answers : List FlowAnswer)
+    → AreFlowAnswers v o answers
     → AreExamined v.domain (examinations_of answers)
 are_examined-answers v o answers are = record {
   count = length-map answers (λ (a : FlowAnswer). a.examined) ∙ are.count;
@@ -85,7 +89,8 @@ slice_get-listed_flow (Found ttl travel ∷ xs) k x all at P holds = absurd cc
 slice_get-listed_flow (Certified entries ∷ xs) zero x all at P holds =
     let same : x ≡ Certified entries = cc in
     subst (λ (y : Examined). IfCertified P y) same holds
-slice_get-listed_flow (Certified entries ∷ xs) (suc k) x all at P holds = slice_get-listed_flow xs k x all at P holds
+slice_get-listed_flow (Certified entries ∷ xs) (suc k) x all at P holds = slice_get-listed_flow xs k
+    x all at P holds
 
 -- if all of two parts are right, each part is
 is_whole-no_names : (a b : Bool) → (a && b) ≡ true → a ≡ true
@@ -157,7 +162,8 @@ each_answer-each_lines P v o answers are holds flow f ls listed printed =
     (holds (trees_shown o (take flow answers)) flow here.0 is))
 
 -- the lines of a flow that isn't right start so
-wrong_flow_lines-say_no_certificate : (o : AuditOptions) (d : DomainFacts) (summary : List SummaryValue) (flow : ℕ) (f : Flow)
+wrong_flow_lines-say_no_certificate : (o : AuditOptions) (d : DomainFacts)
+    (summary : List SummaryValue) (flow : ℕ) (f : Flow)
     (ttl : ℕ) (travel : Travel) (e : Explanation) (lines : List ℕ)
     → lines ≡ wrong_flow_lines o d summary flow f ttl travel e → SaysNoCertificate o.json flow f lines
 wrong_flow_lines-say_no_certificate o d summary flow f ttl travel e lines is = by o.json is
@@ -176,7 +182,8 @@ wrong_flow_lines-say_no_certificate o d summary flow f ttl travel e lines is = b
           (explanation_lines d summary flow f e ++ events_if_shown o.travels d.topology travel),
     )
 
-says_flow_right-answer_lines : (v : AuditedValue) (o : AuditOptions) (printed : List Tree) (flow : ℕ) (f : Flow)
+says_flow_right-answer_lines : (v : AuditedValue) (o : AuditOptions) (printed : List Tree)
+    (flow : ℕ) (f : Flow)
     (x : Examined) (e : Explanation) (wanted lines : List ℕ)
     → (IsTrue (is_certified x) ↔ IsRight (net_of v.domain flow))
     → wanted ≡ lans_wanting (facts v.domain) flow
@@ -210,7 +217,8 @@ writes_which_are_right-audited v o all written a =
       right = are_right answers;
       count = length-map answers (λ (b : FlowAnswer). b.lines) ∙ are.count;
       each = each_answer-each_lines (λ flow f ls. SaysFlowRight v o flow f ls) v o answers are
-          (λ printed flow b is. says_flow_right-answer_lines v o printed flow is.listed b.examined is.explanation b.wanted
+          (λ printed flow b is. says_flow_right-answer_lines v o printed flow is.listed b.examined
+          is.explanation b.wanted
           b.lines is.checked.examined.right is.wanted is.spelled);
       spelled = audit_text-split_at_lines v o all written a;
       are_right = subst (AreRight d) (are_right-examinations answers)
@@ -236,15 +244,19 @@ says_yes_of-certified v o printed flow f entries e wanted lines checked wants is
       right_flow_lines o (is_whole v) v.domain.topology printed flow f entries.items w) wants;
 }
 
-says_yes_or_found-answer_lines : (v : AuditedValue) (o : AuditOptions) (printed : List Tree) (flow : ℕ) (f : Flow) (x : Examined)
-    (flights : ExaminedFlights) (e : Explanation) (wanted lines : List ℕ) → HasExaminedFlights v.domain flow flights
+says_yes_or_found-answer_lines : (v : AuditedValue) (o : AuditOptions) (printed : List Tree)
+    (flow : ℕ) (f : Flow) (x : Examined)
+    (flights : ExaminedFlights) (e : Explanation) (wanted lines : List ℕ)
+    → HasExaminedFlights v.domain flow flights
     → IsChecked v.domain flow x → IsExplanation v.domain v.summary (excluded v) (is_whole v) flow flights e
     → wanted ≡ lans_wanting (facts v.domain) flow
     → lines ≡ answer_lines o (is_whole v) (facts v.domain) v.summary printed flow f x e wanted
     → SaysYesOf v o flow f lines ⊎ SaysWhatIsFound v o flow f lines
-says_yes_or_found-answer_lines v o printed flow f (Certified entries) flights e wanted lines has_flights checked explained wants is =
+says_yes_or_found-answer_lines v o printed flow f (Certified entries) flights e wanted lines
+    has_flights checked explained wants is =
     inl (says_yes_of-certified v o printed flow f entries e wanted lines checked wants is)
-says_yes_or_found-answer_lines v o printed flow f (Found ttl travel) flights e wanted lines has_flights checked explained wants is =
+says_yes_or_found-answer_lines v o printed flow f (Found ttl travel) flights e wanted lines
+    has_flights checked explained wants is =
     inr (record {
       ttl = ttl;
       travel = travel;
@@ -270,19 +282,23 @@ writes_of_each-audited v o all written a =
       lines = map (λ b. b.lines) answers;
       end = end_lines o v.domain.topology v.summary (excluded v) all answers;
       count = length-map answers (λ (b : FlowAnswer). b.lines) ∙ are.count;
-      each = each_answer-each_lines (λ flow f ls. SaysYesOf v o flow f ls ⊎ SaysWhatIsFound v o flow f ls) v o answers
-          are (λ printed flow b is. says_yes_or_found-answer_lines v o printed flow is.listed b.examined is.flights is.explanation
+      each = each_answer-each_lines (λ flow f ls. SaysYesOf v o flow f ls ⊎ SaysWhatIsFound v o flow
+          f ls) v o answers
+          are (λ printed flow b is. says_yes_or_found-answer_lines v o printed flow is.listed
+          b.examined is.flights is.explanation
           b.wanted b.lines is.has_flights is.checked is.explained is.wanted is.spelled);
       spelled = audit_text-split_at_lines v o all written a;
     }
 
 -- ---- the same for the run's output
 
-pub is_output_of-which_are_right : (contents : Option (List FileText)) (o : AuditOptions) (names : List (List ℕ))
+pub is_output_of-which_are_right : (contents : Option (List FileText)) (o : AuditOptions)
+    (names : List (List ℕ))
     (s : Result RunOutput RunFault) → IsOutputOf contents (IsAuditText o names) s
     → IsOutputOf contents (SaysWhichAreRight o names) s
 is_output_of-which_are_right contents o names s =
-    is_output_of-implication contents (IsAuditText o names) (SaysWhichAreRight o names) s (λ files all written.
+    is_output_of-implication contents (IsAuditText o names) (SaysWhichAreRight o names) s
+    (λ files all written.
     of_domain-implication (MeansAudited o names) (λ v. IsAudited v o all written)
     (λ v. WritesWhichAreRight v o all written) (λ v. writes_which_are_right-audited v o all written) files)
 
@@ -291,11 +307,13 @@ pub is_output_of-each_flow : (contents : Option (List FileText)) (o : AuditOptio
     → IsOutputOf contents (SaysOfEach o names) s
 is_output_of-each_flow contents o names s =
     is_output_of-implication contents (IsAuditText o names) (SaysOfEach o names) s (λ files all written.
-    of_domain-implication (MeansAudited o names) (λ v. IsAudited v o all written) (λ v. WritesOfEach v o all written)
+    of_domain-implication (MeansAudited o names) (λ v. IsAudited v o all written)
+    (λ v. WritesOfEach v o all written)
     (λ v. writes_of_each-audited v o all written) files)
 
 -- without excluded routers, the files are unchanged
-excluded_files-no_names : (files : List FileText) (names : List (List ℕ)) (d : DomainValue) → (length names == 0) ≡ true
+excluded_files-no_names : (files : List FileText) (names : List (List ℕ)) (d : DomainValue)
+    → (length names == 0) ≡ true
     → FilesMeanDomain (files_with_exclusions names files) d → FilesMeanDomain files d
 excluded_files-no_names files [] d none means = means
 excluded_files-no_names files (name ∷ names) d none means = absurd (not_none (length names) none)
@@ -303,7 +321,8 @@ excluded_files-no_names files (name ∷ names) d none means = absurd (not_none (
     not_none : (n : ℕ) → (suc n == 0) ≡ true → ⊥
     not_none n same = false≢true (sym (ne_eqb (suc n) 0 (λ e. omega (arith, e))) ∙ same)
 
-pub headline_of_files-audit_yes : (contents : Option (List FileText)) (o : AuditOptions) (names : List (List ℕ))
+pub headline_of_files-audit_yes : (contents : Option (List FileText)) (o : AuditOptions)
+    (names : List (List ℕ))
     (s : Result RunOutput RunFault) → IsOutputOf contents (IsAuditText o names) s
     → IfOk s (λ run_output. IsTrue run_output.yes → IfSome contents FilesKeepHeadline)
 headline_of_files-audit_yes contents o names (Err fault) says = tt
@@ -331,7 +350,8 @@ is_output_of-audit contents o names (Ok audit) says = says
 is_output_of-audit contents o names (Err fault) says = tt
 
 -- and a fault in its place is not the output's
-pub is_write_fault-audit_output : (r : Result AuditOutput RunFault) → IfErr r (λ fault. is_write fault ≡ false)
+pub is_write_fault-audit_output : (r : Result AuditOutput RunFault)
+    → IfErr r (λ fault. is_write fault ≡ false)
     → IfErr (output_of r) (λ fault. is_write fault ≡ false)
 is_write_fault-audit_output (Ok audit) none = tt
 is_write_fault-audit_output (Err fault) none = none

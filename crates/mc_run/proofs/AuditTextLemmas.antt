@@ -88,21 +88,24 @@ pub of_domain-means_audited : (Holds : AuditedValue → Type 0) (o : AuditOption
     → Holds (record { domain = whole; summary = summary; without = names }))
     → IfSome contents (λ files. FilesMeanDomainAsListed (files_with_exclusions names files) d)
     → AreRouterNames d.topology names
-    → IfSome contents (λ files. AreSummariesOf o.unlisted (files_with_exclusions names files) d.topology summary)
+    → IfSome contents (λ files. AreSummariesOf o.unlisted (files_with_exclusions names files)
+    d.topology summary)
     → Holds (record { domain = d; summary = summary; without = names })
     → IfSome contents (MeansDomainWhere (MeansAudited o names) Holds)
 of_domain-means_audited Holds o names None d summary moves means routers audited_value holds = tt
-of_domain-means_audited Holds o names (Some files) d summary moves means routers audited_value holds = record {
-  domain = record { domain = means.whole; summary = summary; without = names };
-  means = record {
-    means = means.means;
-    routers = subst (λ (t : TopologyValue). AreRouterNames t names) (sym means.same.topology) routers;
-    summary = subst (λ (t : TopologyValue).
-        AreSummariesOf o.unlisted (files_with_exclusions names files) t summary) (sym means.same.topology) audited_value;
-    without = refl;
-  };
-  holds = moves means.whole means.same holds;
-}
+of_domain-means_audited Holds o names (Some files) d summary moves means routers audited_value holds
+    = record {
+      domain = record { domain = means.whole; summary = summary; without = names };
+      means = record {
+        means = means.means;
+        routers = subst (λ (t : TopologyValue). AreRouterNames t names) (sym means.same.topology) routers;
+        summary = subst (λ (t : TopologyValue).
+            AreSummariesOf o.unlisted (files_with_exclusions names files) t summary)
+            (sym means.same.topology) audited_value;
+        without = refl;
+      };
+      holds = moves means.whole means.same holds;
+    }
 
 -- ---- the answer, with the number of unwanted flows
 
@@ -122,13 +125,15 @@ audit_yes-gives Q r s old new same follows says =
     follows (subst (λ (t : Result Bool RunFault). AuditSaysYes t old new) same says)
 
 -- the output is that of the audit
-pub is_output_written-parts : (s t : Result RunOutput RunFault) (y : Result Bool RunFault) (old new : Option (List ℕ))
+pub is_output_written-parts : (s t : Result RunOutput RunFault) (y : Result Bool RunFault)
+    (old new : Option (List ℕ))
     → s ≡ t → IsOutputWritten s y old new → IsOutputWritten t y old new
 is_output_written-parts s t y old new same is =
     subst (λ (u : Result RunOutput RunFault). IsOutputWritten u y old new) same is
 
 -- a fault in place of the output gives no answer
-no_answer-without_output : (f : RunFault) (p : Result RunOutput RunFault) (s : Result Bool RunFault) (all : Bool)
+no_answer-without_output : (f : RunFault) (p : Result RunOutput RunFault) (s : Result Bool RunFault)
+    (all : Bool)
     (old new : Option (List ℕ)) → p ≡ Err f → Ok all ≡ s → IsOutputWritten p s old new → ⊥
 no_answer-without_output f p s all old new none same is =
     let run_output : IsOutputWritten (Err f) s old new =

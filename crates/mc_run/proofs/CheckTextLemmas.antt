@@ -27,7 +27,11 @@ flow_lines-drop : (t : TopologyValue) (k : ℕ) (f : Flow) (v : Verdict) (vs : L
     → slice_get t.flows k ≡ Some f → slice_get vs k ≡ Some v
     → flow_lines t (drop k t.flows) (drop k vs)
     ≡ flow_line t f v ++ flow_lines t (drop (k + 1) t.flows) (drop (k + 1) vs)
-flow_lines-drop t k f v vs listed verdict_at = rw (drop-at_index t.flows k f listed, drop-at_index vs k v verdict_at) refl
+flow_lines-drop t k f v vs listed verdict_at = rw (
+  drop-at_index t.flows k f listed,
+  drop-at_index
+      vs k v verdict_at,
+) refl
 
 -- one more line was written
 pub flow_lines-more : (t : TopologyValue) (k : ℕ) (f : Flow) (v : Verdict) (vs : List Verdict)

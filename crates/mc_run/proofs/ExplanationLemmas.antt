@@ -17,7 +17,8 @@ use Rattle.mc_replay.specs.declared.travel.Travel.{Travel}
 use Rattle.mc_maker.specs.Examined.{first_choices}
 use Rattle.mc_maker.specs.ExaminedFlights.{IsFinishedTravelOf, HasExaminedFlights}
 use Rattle.mc_maker.specs.declared.examined_flights.ExaminedFlights.{ExaminedFlights}
-use Rattle.mc_maker.specs.declared.examined_flights.ExaminedFlights.TheVariants.{FoundAtTtl255, FoundAtFlowTtl}
+use Rattle.mc_maker.specs.declared.examined_flights.ExaminedFlights.TheVariants.{FoundAtTtl255}
+use Rattle.mc_maker.specs.declared.examined_flights.ExaminedFlights.TheVariants.{FoundAtFlowTtl}
 use Rattle.mc_explain.specs.ExplanationText.{causes_text}
 use Rattle.mc_explain.specs.WantedText.{missed_besides, also_missed_text}
 use Rattle.mc_explain.specs.declared.searching.LanSearch.{LanSearch}
@@ -26,7 +27,8 @@ use Rattle.mc_json.specs.FlowData.{wrong_line_of_travel, wrong_line}
 use Rattle.mc_json.specs.WhyData.{why_data}
 use Rattle.mc_run.specs.AuditObjects.{wrong_object}
 use Rattle.mc_run.specs.AuditPieces.{explanation_in}
-use Rattle.mc_run.specs.AuditReasons.{IsExplanation, IsSearchIfMissed, ArePrintedCauses, is_remedy, search_context}
+use Rattle.mc_run.specs.AuditReasons.{IsExplanation, IsSearchIfMissed, ArePrintedCauses, is_remedy}
+use Rattle.mc_run.specs.AuditReasons.{search_context}
 use Rattle.mc_run.specs.AuditReasons.{without_remedies}
 use Rattle.mc_run.specs.AuditRun.{AuditedValue, is_whole, excluded}
 use Rattle.mc_run.specs.AuditText.{Explanation, events_if_shown, explanation_lines, searched_lines}
@@ -37,7 +39,8 @@ use Rattle.mc_run.proofs.MissedLemmas.{missed_lan-below_count}
 -- ---- a search
 
 -- the LAN that a travel misses is one of the domain
-pub missed_lan-of_domain : (d : DomainValue) (flow ttl lan : ℕ) (ended : FinishedTravel) → IsFinishedTravelOf d flow ttl ended
+pub missed_lan-of_domain : (d : DomainValue) (flow ttl lan : ℕ) (ended : FinishedTravel)
+    → IsFinishedTravelOf d flow ttl ended
     → ended.travel.finding ≡ Missed lan → lan < length d.topology.lans
 missed_lan-of_domain d flow ttl lan ended has same =
     let n = net_of d flow in
@@ -50,18 +53,23 @@ missed_lan-of_domain d flow ttl lan ended has same =
 -- ---- the explanation
 
 -- a finished travel of the flow is one in the domain
-pub is_finished_travel-at_255 : (d : DomainValue) (flow : ℕ) (x : ExaminedFlights) (ended : FinishedTravel) → x ≡ FoundAtTtl255 ended
+pub is_finished_travel-at_255 : (d : DomainValue) (flow : ℕ) (x : ExaminedFlights)
+    (ended : FinishedTravel) → x ≡ FoundAtTtl255 ended
     → HasExaminedFlights d flow x → IsFinishedTravelOf d flow 255 ended
-is_finished_travel-at_255 d flow x ended same has_flights = subst (λ (y : ExaminedFlights). HasExaminedFlights d flow y) same has_flights
+is_finished_travel-at_255 d flow x ended same has_flights =
+    subst (λ (y : ExaminedFlights). HasExaminedFlights d flow y) same has_flights
 
-pub is_finished_travel-at_flow_ttl : (d : DomainValue) (flow : ℕ) (x : ExaminedFlights) (greatest least : FinishedTravel)
-    → x ≡ FoundAtFlowTtl greatest least → HasExaminedFlights d flow x → IsFinishedTravelOf d flow (net_of d flow).ttl least
+pub is_finished_travel-at_flow_ttl : (d : DomainValue) (flow : ℕ) (x : ExaminedFlights)
+    (greatest least : FinishedTravel)
+    → x ≡ FoundAtFlowTtl greatest least → HasExaminedFlights d flow x
+    → IsFinishedTravelOf d flow (net_of d flow).ttl least
 is_finished_travel-at_flow_ttl d flow x greatest least same has_flights =
     (let both : HasExaminedFlights d flow (FoundAtFlowTtl greatest least) =
     subst (λ (y : ExaminedFlights). HasExaminedFlights d flow y) same has_flights in both.2)
 
 -- the other missed LANs are those of the domain's flow
-missed_besides-domain_flow : (d : DomainValue) (flow ttl : ℕ) (ended : FinishedTravel) → IsFinishedTravelOf d flow ttl ended
+missed_besides-domain_flow : (d : DomainValue) (flow ttl : ℕ) (ended : FinishedTravel)
+    → IsFinishedTravelOf d flow ttl ended
     → missed_besides (facts ended.flight.domain) ended.flight.flow ended.flight.flight.carried
     ended.travel.finding
     ≡ missed_besides (facts d) flow ended.flight.flight.carried ended.travel.finding
@@ -77,28 +85,34 @@ pub without_remedies-filtered : (whole : Bool) (printed kept : List Cause) → w
 without_remedies-filtered true printed kept part same = absurd cc
 without_remedies-filtered false printed kept part same = same
 
-pub is_explanation-at_255 : (v : AuditedValue) (flow : ℕ) (x : ExaminedFlights) (ended : FinishedTravel) (printed : List Cause)
+pub is_explanation-at_255 : (v : AuditedValue) (flow : ℕ) (x : ExaminedFlights)
+    (ended : FinishedTravel) (printed : List Cause)
     (found : Option LanSearch) → x ≡ FoundAtTtl255 ended → HasExaminedFlights v.domain flow x
     → ArePrintedCauses (is_whole v) v.domain flow x printed
-    → IsSearchIfMissed (search_context (facts v.domain) v.summary (excluded v) flow ended.flight.flight.carried)
+    → IsSearchIfMissed (search_context (facts v.domain) v.summary (excluded v) flow
+    ended.flight.flight.carried)
     ended.travel.events.items ended.travel.finding found
     → IsExplanation v.domain v.summary (excluded v) (is_whole v) flow x (explanation_in ended printed found)
 is_explanation-at_255 v flow x ended printed found same has_flights why search =
     subst (λ (y : ExaminedFlights). IsExplanation v.domain v.summary (excluded v) (is_whole v) flow y
     (explanation_in ended printed found)) (sym same) (record {
-      printed = subst (λ (y : ExaminedFlights). ArePrintedCauses (is_whole v) v.domain flow y printed) same why;
+      printed = subst (λ (y : ExaminedFlights). ArePrintedCauses (is_whole v) v.domain flow y
+          printed) same why;
       search = search;
-      also = missed_besides-domain_flow v.domain flow 255 ended (is_finished_travel-at_255 v.domain flow x ended same has_flights);
+      also = missed_besides-domain_flow v.domain flow 255 ended
+          (is_finished_travel-at_255 v.domain flow x ended same has_flights);
     })
 
-pub is_explanation-at_flow_ttl : (v : AuditedValue) (flow : ℕ) (x : ExaminedFlights) (greatest least : FinishedTravel)
+pub is_explanation-at_flow_ttl : (v : AuditedValue) (flow : ℕ) (x : ExaminedFlights)
+    (greatest least : FinishedTravel)
     (printed : List Cause) → x ≡ FoundAtFlowTtl greatest least → HasExaminedFlights v.domain flow x
     → ArePrintedCauses (is_whole v) v.domain flow x printed
     → IsExplanation v.domain v.summary (excluded v) (is_whole v) flow x (explanation_in least printed None)
 is_explanation-at_flow_ttl v flow x greatest least printed same has_flights why =
     subst (λ (y : ExaminedFlights). IsExplanation v.domain v.summary (excluded v) (is_whole v) flow y
     (explanation_in least printed None)) (sym same) (record {
-      printed = subst (λ (y : ExaminedFlights). ArePrintedCauses (is_whole v) v.domain flow y printed) same why;
+      printed = subst (λ (y : ExaminedFlights). ArePrintedCauses (is_whole v) v.domain flow y
+          printed) same why;
       search = refl;
       also = missed_besides-domain_flow v.domain flow (net_of v.domain flow).ttl least
           (is_finished_travel-at_flow_ttl v.domain flow x greatest least same has_flights);
@@ -107,7 +121,8 @@ is_explanation-at_flow_ttl v flow x greatest least printed same has_flights why 
 -- ---- its lines
 
 -- as text
-pub explanation_lines-pushed : {A X : Type 0} (v : AuditedValue) (flow : ℕ) (ended : FinishedTravel) (printed : List Cause)
+pub explanation_lines-pushed : {A X : Type 0} (v : AuditedValue) (flow : ℕ) (ended : FinishedTravel)
+    (printed : List Cause)
     (found : Option LanSearch) (r : Result A X) (old one two new : List ℕ)
     → ended.flight.domain ≡ v.domain
     → ((f : Flow) → slice_get v.domain.topology.flows flow ≡ Some f
@@ -156,11 +171,13 @@ wrong_lines-pushed v flow ttl travels travel e t f (Ok a) old one two new same h
     ∙ append_assoc (old ++ begun) why events ∙ append_assoc old begun (why ++ events)
 
 -- in JSON
-pub wrong_object-pushed : {A X : Type 0} (v : AuditedValue) (flow ttl : ℕ) (travels : Bool) (ended : FinishedTravel)
+pub wrong_object-pushed : {A X : Type 0} (v : AuditedValue) (flow ttl : ℕ) (travels : Bool)
+    (ended : FinishedTravel)
     (printed : List Cause) (found seen : Option LanSearch) (r : Result A X) (old new : List ℕ)
     → ended.flight.domain ≡ v.domain → found ≡ seen
     → OnOk r ((f : Flow) → slice_get v.domain.topology.flows flow ≡ Some f
-    → new ≡ old ++ wrong_line_of_travel flow f ended ttl (why_data (facts v.domain) v.summary flow f printed seen)
+    → new ≡ old ++ wrong_line_of_travel flow f ended ttl
+    (why_data (facts v.domain) v.summary flow f printed seen)
     travels)
     → OnOk r ((f : Flow) → slice_get v.domain.topology.flows flow ≡ Some f
     → new ≡ old ++ wrong_object travels (facts v.domain) v.summary flow f ttl ended.travel

@@ -17,7 +17,8 @@ use Rattle.mc_cert.specs.declared.reached.Reached.{Reached}
 use Rattle.mc_cert.specs.Certificate.{Tree, BelongsTo, IsEntryOf, IsWritableTree}
 use Rattle.mc_cert.specs.CertificateText.{certificate_text}
 use Rattle.mc_replay.specs.declared.travel.Travel.{Travel}
-use Rattle.mc_maker.specs.Examined.{FindsFault, IfCertified, IfFound, AreEntriesOfCleanTravel, IsFirstPickTravel}
+use Rattle.mc_maker.specs.Examined.{FindsFault, IfCertified, IfFound, AreEntriesOfCleanTravel}
+use Rattle.mc_maker.specs.Examined.{IsFirstPickTravel}
 use Rattle.mc_maker.specs.Examined.{IsTtlOfFault, is_certified}
 use Rattle.mc_maker.specs.declared.examination.Examined.{Examined}
 use Rattle.mc_maker.specs.declared.examination.Examined.TheVariants.{Certified, Found}
@@ -71,23 +72,27 @@ are_made_so_far-none d = record {
 certified_lists-push : (xs : List Examined) (x : Examined)
     → certified_lists (xs ++ x ∷ []) ≡ certified_lists xs ++ certified_lists (x ∷ [])
 certified_lists-push [] x = refl
-certified_lists-push (Certified entries ∷ xs) x = ap (λ lists. entries.items ∷ lists) (certified_lists-push xs x)
+certified_lists-push (Certified entries ∷ xs) x = ap (λ lists. entries.items ∷ lists)
+    (certified_lists-push xs x)
 certified_lists-push (Found ttl travel ∷ xs) x = certified_lists-push xs x
 
-found_lines_of_flows-push : (t : TopologyValue) (fs : List Flow) (xs : List Examined) (f : Flow) (x : Examined)
+found_lines_of_flows-push : (t : TopologyValue) (fs : List Flow) (xs : List Examined) (f : Flow)
+    (x : Examined)
     → slice_get fs (length xs) ≡ Some f
     → found_lines_of_flows t fs (xs ++ x ∷ []) ≡ found_lines_of_flows t fs xs ++ found_lines_if_any t f x
 found_lines_of_flows-push t [] xs f x at = absurd cc
 found_lines_of_flows-push t (g ∷ fs) [] f x at =
     let same : g ≡ f = cc in
-    ap (λ more. found_lines_if_any t g x ++ more) (found_lines_of_flows-none t fs) ∙ append-nil (found_lines_if_any t g x)
+    ap (λ more. found_lines_if_any t g x ++ more) (found_lines_of_flows-none t fs)
+    ∙ append-nil (found_lines_if_any t g x)
     ∙ ap (λ (h : Flow). found_lines_if_any t h x) same
 found_lines_of_flows-push t (g ∷ fs) (y ∷ xs) f x at =
     ap (λ more. found_lines_if_any t g y ++ more) (found_lines_of_flows-push t fs xs f x at)
     ∙ sym (append_assoc (found_lines_if_any t g y) (found_lines_of_flows t fs xs) (found_lines_if_any t f x))
 
 -- an item of a list that has grown by one is an old item, or the new one
-slice_get-push_cases : {A : Type 0} (xs : List A) (x : A) (i : ℕ) (y : A) → slice_get (xs ++ x ∷ []) i ≡ Some y
+slice_get-push_cases : {A : Type 0} (xs : List A) (x : A) (i : ℕ) (y : A)
+    → slice_get (xs ++ x ∷ []) i ≡ Some y
     → (slice_get xs i ≡ Some y) ⊎ ((i ≡ length xs) × (x ≡ y))
 slice_get-push_cases [] x zero y at = inr (refl, cc)
 slice_get-push_cases [] x (suc i) y at = absurd cc
@@ -96,7 +101,8 @@ slice_get-push_cases (z ∷ xs) x (suc i) y at =
     elim (slice_get-push_cases xs x i y at) [ inl h ↦ inl h | inr h ↦ inr (ap suc h.0, h.1) ]
 
 -- one more flow was examined
-are_made_so_far-more : (d : DomainValue) (k : ℕ) (lists : List Tree) (lines : List ℕ) (f : Flow) (x : Examined)
+are_made_so_far-more : (d : DomainValue) (k : ℕ) (lists : List Tree) (lines : List ℕ) (f : Flow)
+    (x : Examined)
     → AreMadeSoFar d k lists lines → slice_get d.topology.flows k ≡ Some f → IsExamined d k x
     → AreMadeSoFar d (k + 1) (lists ++ certified_lists (x ∷ [])) (lines ++ found_lines_if_any d.topology f x)
 are_made_so_far-more d k lists lines f x made at is =
@@ -159,7 +165,8 @@ made_lists-at_most_flows d k lists lines made =
 -- ---- of all flows
 
 -- if every flow is certified, there is a list for each
-certified_lists-one_per_flow : (xs : List Examined) → are_certified xs ≡ true → length (certified_lists xs) ≡ length xs
+certified_lists-one_per_flow : (xs : List Examined) → are_certified xs ≡ true
+    → length (certified_lists xs) ≡ length xs
 certified_lists-one_per_flow [] all = refl
 certified_lists-one_per_flow (Certified entries ∷ xs) all = ap suc (certified_lists-one_per_flow xs all)
 certified_lists-one_per_flow (Found ttl travel ∷ xs) all = absurd cc
@@ -186,10 +193,12 @@ certified_lists-belong d xs are all = record {
 
 pub certified_lists-keep_headline : (d : DomainValue) (xs : List Examined) → AreExamined d xs
     → All IsWritableTree (certified_lists xs)
-certified_lists-keep_headline d xs are = certified_lists-each IsWritableTree xs (λ k x at. (are.each k x at).writable)
+certified_lists-keep_headline d xs are = certified_lists-each IsWritableTree xs
+    (λ k x at. (are.each k x at).writable)
 
 -- no line is written exactly if every flow is certified
-pub found_lines-none_if_certified : (t : TopologyValue) (fs : List Flow) (xs : List Examined) → length xs ≡ length fs
+pub found_lines-none_if_certified : (t : TopologyValue) (fs : List Flow) (xs : List Examined)
+    → length xs ≡ length fs
     → length (found_lines_of_flows t fs xs) ≡ 0 → are_certified xs ≡ true
 found_lines-none_if_certified t fs [] count none = refl
 found_lines-none_if_certified t [] (x ∷ xs) count none = absurd (omega (arith, count))
@@ -197,9 +206,11 @@ found_lines-none_if_certified t (f ∷ fs) (Certified entries ∷ xs) count none
     found_lines-none_if_certified t fs xs (omega (arith, count)) none
 found_lines-none_if_certified t (f ∷ fs) (Found ttl travel ∷ xs) count none = absurd cc
 
-pub found_lines-some_if_found : (t : TopologyValue) (fs : List Flow) (xs : List Examined) → length xs ≡ length fs
+pub found_lines-some_if_found : (t : TopologyValue) (fs : List Flow) (xs : List Examined)
+    → length xs ≡ length fs
     → length (found_lines_of_flows t fs xs) ≢ 0 → are_certified xs ≡ false
-found_lines-some_if_found t fs [] count some = absurd (some (ap (λ (ls : List ℕ). length ls) (found_lines_of_flows-none t fs)))
+found_lines-some_if_found t fs [] count some = absurd (some
+    (ap (λ (ls : List ℕ). length ls) (found_lines_of_flows-none t fs)))
 found_lines-some_if_found t [] (x ∷ xs) count some = absurd (omega (arith, count))
 found_lines-some_if_found t (f ∷ fs) (Certified entries ∷ xs) count some =
     found_lines-some_if_found t fs xs (omega (arith, count)) some
@@ -247,13 +258,15 @@ pub found_lines-empty : (size : ℕ) (empty : Bool) → empty ≡ (size == 0) �
 found_lines-empty size empty is gone = eqb-true size 0 (sym is ∙ gone)
 
 -- every flow is certified if there are no lines
-pub are_certified-no_lines : (d : DomainValue) (lists : List Tree) (lines : List ℕ) (made : AreMadeListsAndLines d lists lines)
+pub are_certified-no_lines : (d : DomainValue) (lists : List Tree) (lines : List ℕ)
+    (made : AreMadeListsAndLines d lists lines)
     → length lines ≡ 0 → are_certified made.examined ≡ true
 are_certified-no_lines d lists lines made none =
     found_lines-none_if_certified d.topology d.topology.flows made.examined made.are_examined.count
     (ap (λ (ls : List ℕ). length ls) (sym made.lines_are) ∙ none)
 
-are_certified-some_lines : (d : DomainValue) (lists : List Tree) (lines : List ℕ) (made : AreMadeListsAndLines d lists lines)
+are_certified-some_lines : (d : DomainValue) (lists : List Tree) (lines : List ℕ)
+    (made : AreMadeListsAndLines d lists lines)
     → length lines ≢ 0 → are_certified made.examined ≡ false
 are_certified-some_lines d lists lines made some =
     found_lines-some_if_found d.topology d.topology.flows made.examined made.are_examined.count
@@ -268,7 +281,8 @@ belongs_to-made_lists d t lists lines made same none =
     (subst (λ (ls : List Tree). BelongsTo d.topology ls) (sym made.lists_are) belong)
 
 -- the lines of a domain
-pub is_make_output-lines : (d : DomainValue) (lists : List Tree) (lines : List ℕ) → AreMadeListsAndLines d lists lines
+pub is_make_output-lines : (d : DomainValue) (lists : List Tree) (lines : List ℕ)
+    → AreMadeListsAndLines d lists lines
     → length lines ≢ 0 → IsMakeOutput d false lines
 is_make_output-lines d lists lines made some = record {
   examined = made.examined;

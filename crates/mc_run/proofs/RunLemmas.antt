@@ -48,22 +48,28 @@ pub is_refused_for-source_fault : (with : Bool) (text : List ℕ) (f : SourceFau
     → IsRefusedFor with text (from_source_fault f)
 is_refused_for-source_fault with text source.Read is = tt
 is_refused_for-source_fault with text (source.Input (input.Bundle f)) is =
-    is_refused_for-input_fault with text _ _ (is (λ silent. elim silent [ inl e ↦ absurd cc | inr e ↦ absurd cc ]))
+    is_refused_for-input_fault with text _ _ (is (λ silent. elim silent
+    [ inl e ↦ absurd cc | inr e ↦ absurd cc ]))
     refl
 is_refused_for-source_fault with text (source.Input (input.Parts place)) is =
-    is_refused_for-input_fault with text _ _ (is (λ silent. elim silent [ inl e ↦ absurd cc | inr e ↦ absurd cc ]))
+    is_refused_for-input_fault with text _ _ (is (λ silent. elim silent
+    [ inl e ↦ absurd cc | inr e ↦ absurd cc ]))
     refl
 is_refused_for-source_fault with text (source.Input (input.Topology f)) is =
-    is_refused_for-input_fault with text _ _ (is (λ silent. elim silent [ inl e ↦ absurd cc | inr e ↦ absurd cc ]))
+    is_refused_for-input_fault with text _ _ (is (λ silent. elim silent
+    [ inl e ↦ absurd cc | inr e ↦ absurd cc ]))
     refl
 is_refused_for-source_fault with text (source.Input (input.Vif part f)) is =
-    is_refused_for-input_fault with text _ _ (is (λ silent. elim silent [ inl e ↦ absurd cc | inr e ↦ absurd cc ]))
+    is_refused_for-input_fault with text _ _ (is (λ silent. elim silent
+    [ inl e ↦ absurd cc | inr e ↦ absurd cc ]))
     refl
 is_refused_for-source_fault with text (source.Input (input.Cache part f)) is =
-    is_refused_for-input_fault with text _ _ (is (λ silent. elim silent [ inl e ↦ absurd cc | inr e ↦ absurd cc ]))
+    is_refused_for-input_fault with text _ _ (is (λ silent. elim silent
+    [ inl e ↦ absurd cc | inr e ↦ absurd cc ]))
     refl
 is_refused_for-source_fault with text (source.Input (input.Reports part f)) is =
-    is_refused_for-input_fault with text _ _ (is (λ silent. elim silent [ inl e ↦ absurd cc | inr e ↦ absurd cc ]))
+    is_refused_for-input_fault with text _ _ (is (λ silent. elim silent
+    [ inl e ↦ absurd cc | inr e ↦ absurd cc ]))
     refl
 is_refused_for-source_fault with text (source.Input input.Memory) is = tt
 
@@ -73,12 +79,14 @@ pub is_refused_for-source_of_contents : (contents : Option (List ℕ)) (with : B
     → map_fault source.Input (input_of_bundle with text) ≡ Err f)
     → IfSome contents (λ text. IsRefusedFor with text (from_source_fault f))
 is_refused_for-source_of_contents None with f is = tt
-is_refused_for-source_of_contents (Some text) with f is = is_refused_for-source_fault with text f (is text refl)
+is_refused_for-source_of_contents (Some text) with f is = is_refused_for-source_fault with text f
+    (is text refl)
 
 -- ---- the meaning of an input
 
 -- without a certificate asked for, none was read
-pub means_listed-no_certificate : (contents : Option (List ℕ)) (certificate : Option (Vec ℕ Global)) (d : DomainValue)
+pub means_listed-no_certificate : (contents : Option (List ℕ)) (certificate : Option (Vec ℕ Global))
+    (d : DomainValue)
     → is_some certificate ≡ false
     → IfSome contents (λ text. MeansDomainAsListed text (certificate_text certificate) d)
     → IfSome contents (λ text. MeansDomainAsListed text None d)
@@ -90,7 +98,8 @@ means_listed-no_certificate (Some text) (Some bytes) d none means = absurd cc
 pub of_domain-means_same : {X : Type 0} (Means : X → DomainValue → Type 0) (Holds : DomainValue → Type 0)
     (contents : Option X) (d : DomainValue)
     → ((whole : DomainValue) → HaveSameFacts whole d → Holds d → Holds whole)
-    → IfSome contents (λ x. MeansSamePerFlow Means x d) → Holds d → IfSome contents (MeansDomainWhere Means Holds)
+    → IfSome contents (λ x. MeansSamePerFlow Means x d) → Holds d
+    → IfSome contents (MeansDomainWhere Means Holds)
 of_domain-means_same Means Holds None d moves means holds = tt
 of_domain-means_same Means Holds (Some x) d moves means holds = record {
   domain = means.whole;
@@ -99,7 +108,8 @@ of_domain-means_same Means Holds (Some x) d moves means holds = record {
 }
 
 -- the same for the result of a call
-pub of_domain-ok_result : {X A F : Type 0} (Means : X → DomainValue → Type 0) (Holds : A → DomainValue → Type 0)
+pub of_domain-ok_result : {X A F : Type 0} (Means : X → DomainValue → Type 0)
+    (Holds : A → DomainValue → Type 0)
     (contents : Option X) (d : DomainValue) (r : Result A F)
     → ((a : A) (whole : DomainValue) → HaveSameFacts whole d → Holds a d → Holds a whole)
     → IfSome contents (λ x. MeansSamePerFlow Means x d)
@@ -138,7 +148,8 @@ of_domain-implication Means Holds More follows x is =
 -- ---- devices
 
 -- a fault that is no device's leaves the count of the input's failures as it is
-pub counted_reads-no_device_fault : {A : Type 0} (r : Result A RunFault) (before : ℕ) → IfErr r IsNoDeviceFault
+pub counted_reads-no_device_fault : {A : Type 0} (r : Result A RunFault) (before : ℕ)
+    → IfErr r IsNoDeviceFault
     → before ≡ failures_after is_read r before
 counted_reads-no_device_fault (Ok a) before none = refl
 counted_reads-no_device_fault (Err f) before none =
@@ -171,12 +182,14 @@ answers-output_written (Some x) Says Refuses (Ok run_output) (Ok answer) old new
 )
 answers-output_written (Some x) Says Refuses (Ok run_output) (Err fault) old new silent says refused is =
     subst (Refuses x) (sym is.0) (silent x)
-answers-output_written (Some x) Says Refuses (Err cause) (Ok answer) old new silent says refused is = absurd is
+answers-output_written (Some x) Says Refuses (Err cause) (Ok answer) old new silent says refused is
+    = absurd is
 answers-output_written (Some x) Says Refuses (Err cause) (Err fault) old new silent says refused is =
     subst (Refuses x) (sym is.0) refused
 
 -- its fault is the one in place of the output, or the output device's,
-pub fault-of_output_or_write : (P : RunFault → Type 0) (s : Result RunOutput RunFault) (r : Result Bool RunFault)
+pub fault-of_output_or_write : (P : RunFault → Type 0) (s : Result RunOutput RunFault)
+    (r : Result Bool RunFault)
     (old new : Option (List ℕ)) → P Write → IfErr s P → IsOutputWritten s r old new → IfErr r P
 fault-of_output_or_write P (Ok run_output) (Ok answer) old new write own is = tt
 fault-of_output_or_write P (Ok run_output) (Err fault) old new write own is = subst P (sym is.0) write
@@ -188,7 +201,8 @@ pub answer-gives : {X : Type 0} (contents : Option X) (Says : X → Bool → Lis
     (So : X → Bool → Type 0) (s : Result RunOutput RunFault) (r : Result Bool RunFault)
     (old new : Option (List ℕ))
     → ((x : X) (answer : Bool) (written : List ℕ) → Says x answer written → So x answer)
-    → IsOutputOf contents Says s → IsOutputWritten s r old new → IfOk r (λ answer. IfSome contents (λ x. So x answer))
+    → IsOutputOf contents Says s → IsOutputWritten s r old new
+    → IfOk r (λ answer. IfSome contents (λ x. So x answer))
 answer-gives contents Says So s (Err fault) old new follows says is = tt
 answer-gives None Says So s (Ok answer) old new follows says is = tt
 answer-gives (Some x) Says So (Ok run_output) (Ok answer) old new follows says is =
@@ -215,7 +229,8 @@ pub writes_part-output_written : {X : Type 0} (contents : Option X) (Says : X �
     → IfErr s (λ fault. is_write fault ≡ false) → IsOutputOf contents Says s → IsOutputWritten s r old new
     → r ≡ Err Write → IfSome contents (λ x. WritesPart Says x old new)
 writes_part-output_written None Says s r old new no_write says is write = tt
-writes_part-output_written (Some x) Says (Ok run_output) (Ok answer) old new no_write says is write = absurd cc
+writes_part-output_written (Some x) Says (Ok run_output) (Ok answer) old new no_write says is write
+    = absurd cc
 writes_part-output_written (Some x) Says (Ok run_output) (Err fault) old new no_write says is write =
     (run_output.yes, string_bytes run_output.text, says, is.1)
 writes_part-output_written (Some x) Says (Err cause) (Ok answer) old new no_write says is write = absurd is
@@ -250,7 +265,8 @@ yes_words-not_empty words (inl is) = omega (arith, ap (λ (w : List ℕ). length
 yes_words-not_empty words (inr is) = omega (arith, ap (λ (w : List ℕ). length w) is)
 
 -- nothing was written if the output is unchanged
-wrote_at_start-nothing_written : (words : List ℕ) (old : Option (List ℕ)) → AreYesWords words → WroteAtStart words old old → ⊥
+wrote_at_start-nothing_written : (words : List ℕ) (old : Option (List ℕ)) → AreYesWords words
+    → WroteAtStart words old old → ⊥
 wrote_at_start-nothing_written words None are wrote = wrote
 wrote_at_start-nothing_written words (Some xs) are (front, rest, starts, same) =
     let size = ap (λ (bytes : List ℕ). length bytes) same in
@@ -264,7 +280,8 @@ wrote_at_start-nothing_written words (Some xs) are (front, rest, starts, same) =
     ))
 
 -- if they were written, with a text or a part of it, they are in the text
-has_line_with-wrote_at_start : (words text : List ℕ) (k : ℕ) (old new : Option (List ℕ)) → Appends old new (take k text)
+has_line_with-wrote_at_start : (words text : List ℕ) (k : ℕ) (old new : Option (List ℕ))
+    → Appends old new (take k text)
     → WroteAtStart words old new → HasLineWith words text
 has_line_with-wrote_at_start words text k None new puts wrote = absurd wrote
 has_line_with-wrote_at_start words text k (Some xs) None puts wrote = absurd wrote
@@ -284,29 +301,37 @@ SaysYesByLine {X} words Says =
     → answer ≡ true
 
 -- the headline holds after a run that wrote them,
-headline-wrote_yes_line : {X : Type 0} (words : List ℕ) (contents : Option X) (Says : X → Bool → List ℕ → Type 0)
+headline-wrote_yes_line : {X : Type 0} (words : List ℕ) (contents : Option X)
+    (Says : X → Bool → List ℕ → Type 0)
     (Headline : X → Type 0) (s : Result RunOutput RunFault) (r : Result Bool RunFault)
     (old new : Option (List ℕ)) → AreYesWords words → SaysYesByLine words Says → IsOutputOf contents Says s
     → IfOk s (λ run_output. IsTrue run_output.yes → IfSome contents Headline) → IsOutputWritten s r old new
     → WroteAtStart words old new → IfSome contents Headline
 headline-wrote_yes_line words None Says Headline s r old new are last says keeps is wrote = tt
-headline-wrote_yes_line words (Some x) Says Headline (Ok run_output) (Ok answer) old new are last says keeps is wrote =
+headline-wrote_yes_line words (Some x) Says Headline (Ok run_output) (Ok answer) old new are last
+    says keeps is wrote =
     let text = string_bytes run_output.text in
     let whole = subst (λ (b : List ℕ). Appends old new b)
     (sym (take_all (length text) text (omega arith))) is.1 in
-    keeps (last x run_output.yes text says (has_line_with-wrote_at_start words text (length text) old new whole wrote))
-headline-wrote_yes_line words (Some x) Says Headline (Ok run_output) (Err fault) old new are last says keeps is wrote =
+    keeps (last x run_output.yes text says (has_line_with-wrote_at_start words text (length text)
+    old new whole wrote))
+headline-wrote_yes_line words (Some x) Says Headline (Ok run_output) (Err fault) old new are last
+    says keeps is wrote =
     let text = string_bytes run_output.text in
-    keeps (last x run_output.yes text says (has_line_with-wrote_at_start words text is.1.0 old new is.1.2 wrote))
-headline-wrote_yes_line words (Some x) Says Headline (Err cause) (Ok answer) old new are last says keeps is wrote =
+    keeps (last x run_output.yes text says (has_line_with-wrote_at_start words text is.1.0 old new
+    is.1.2 wrote))
+headline-wrote_yes_line words (Some x) Says Headline (Err cause) (Ok answer) old new are last says
+    keeps is wrote =
     absurd is
-headline-wrote_yes_line words (Some x) Says Headline (Err cause) (Err fault) old new are last says keeps is wrote =
+headline-wrote_yes_line words (Some x) Says Headline (Err cause) (Err fault) old new are last says
+    keeps is wrote =
     absurd (wrote_at_start-nothing_written words old are
     (subst (λ (o : Option (List ℕ)). WroteAtStart words old o) is.1 wrote))
 
 -- and after one that returns true.
 headline-answered_true : (Keeps : Type 0) (s : Result RunOutput RunFault) (r : Result Bool RunFault)
-    (old new : Option (List ℕ)) → IfOk s (λ run_output. IsTrue run_output.yes → Keeps) → IsOutputWritten s r old new
+    (old new : Option (List ℕ)) → IfOk s (λ run_output. IsTrue run_output.yes → Keeps)
+    → IsOutputWritten s r old new
     → r ≡ Ok true → Keeps
 headline-answered_true Keeps (Ok run_output) (Ok answer) old new keeps is ok =
     let true_is : answer ≡ true = cc in
@@ -324,7 +349,8 @@ pub headline-check_says_yes : {X : Type 0} (contents : Option X) (Says : X → B
 headline-check_says_yes contents Says Headline s r old new last says keeps is (inl ok) =
     headline-answered_true (IfSome contents Headline) s r old new keeps is ok
 headline-check_says_yes contents Says Headline s r old new last says keeps is (inr wrote) =
-    headline-wrote_yes_line (codes "verdict yes") contents Says Headline s r old new (inl refl) last says keeps is wrote
+    headline-wrote_yes_line (codes "verdict yes") contents Says Headline s r old new (inl refl) last
+    says keeps is wrote
 
 -- and after an audit, which says it in text or in JSON.
 pub headline-audit_says_yes : {X : Type 0} (contents : Option X) (Says : X → Bool → List ℕ → Type 0)
@@ -335,6 +361,8 @@ pub headline-audit_says_yes : {X : Type 0} (contents : Option X) (Says : X → B
 headline-audit_says_yes contents Says Headline s r old new last object says keeps is (inl ok) =
     headline-answered_true (IfSome contents Headline) s r old new keeps is ok
 headline-audit_says_yes contents Says Headline s r old new last object says keeps is (inr (inl wrote)) =
-    headline-wrote_yes_line (codes "verdict yes") contents Says Headline s r old new (inl refl) last says keeps is wrote
+    headline-wrote_yes_line (codes "verdict yes") contents Says Headline s r old new (inl refl) last
+    says keeps is wrote
 headline-audit_says_yes contents Says Headline s r old new last object says keeps is (inr (inr wrote)) =
-    headline-wrote_yes_line yes_object contents Says Headline s r old new (inr refl) object says keeps is wrote
+    headline-wrote_yes_line yes_object contents Says Headline s r old new (inr refl) object says
+    keeps is wrote

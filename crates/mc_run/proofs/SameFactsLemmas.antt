@@ -32,7 +32,8 @@ use Rattle.mc_explain.specs.declared.causes.Cause.{Cause}
 use Rattle.mc_run.specs.AuditEnd.{FlowAnswer, are_right, begin_lines, end_lines, excluded_marks}
 use Rattle.mc_run.specs.AuditEnd.{verdict_line}
 use Rattle.mc_run.specs.AuditReasons.{IsExplanation, IsSearchAt255, also_missed}
-use Rattle.mc_run.specs.AuditRun.{AreFlowAnswers, HasUnwanted, IsFlowAnswer, IsAudited, IsChecked, trees_shown}
+use Rattle.mc_run.specs.AuditRun.{AreFlowAnswers, HasUnwanted, IsFlowAnswer, IsAudited, IsChecked}
+use Rattle.mc_run.specs.AuditRun.{trees_shown}
 use Rattle.mc_run.specs.AuditText.{Explanation}
 use Rattle.mc_run.specs.AuditFlowText.{answer_lines}
 use Rattle.mc_run.specs.CheckRun.{IsTextOfVerdicts, KeepsHeadline}
@@ -43,7 +44,8 @@ use Rattle.mc_run.specs.VerdictText.{AreVerdicts, IsVerdict, check_text}
 use Rattle.mc_run.specs.declared.audit_options.AuditOptions.{AuditOptions}
 
 -- what holds of a domain by its topology and its flows' nets alone holds of any domain with the same facts
-transport_topology_and_nets : (P : TopologyValue → (ℕ → Net) → Type 0) {whole d : DomainValue} → HaveSameFacts whole d
+transport_topology_and_nets : (P : TopologyValue → (ℕ → Net) → Type 0) {whole d : DomainValue}
+    → HaveSameFacts whole d
     → P d.topology (net_of d) → P whole.topology (net_of whole)
 transport_topology_and_nets P same = subst₂ P (sym same.topology) (λ i flow. sym (same.nets flow) i)
 
@@ -54,7 +56,8 @@ pub are_verdicts-same_domain : {whole d : DomainValue} → HaveSameFacts whole d
     (vs : List Verdict) → AreVerdicts d lists vs → AreVerdicts whole lists vs
 are_verdicts-same_domain same lists vs are = record {
   count = transport_topology_and_nets (λ t n. length vs ≡ length t.flows) same are.count;
-  each = transport_topology_and_nets (λ t n. (flow : ℕ) (es : List Entry) (v : Verdict) → slice_get lists flow ≡ Some es
+  each = transport_topology_and_nets (λ t n. (flow : ℕ) (es : List Entry) (v : Verdict)
+      → slice_get lists flow ≡ Some es
       → slice_get vs flow ≡ Some v → IsVerdict (length t.lans) (n flow) es v) same are.each;
 }
 
@@ -97,35 +100,42 @@ is_text_of_travel-same_domain same flow ttl choices clean written is = record {
   travel = is.travel;
   counted = is.counted;
   matches = transport_topology_and_nets (λ t n. slice_get t.flows is.place ≡ Some is.listed) same is.matches;
-  runs = transport_topology_and_nets (λ t n. IsRunOfChoices (replay_in t n is.place ttl choices) is.travel) same is.runs;
+  runs = transport_topology_and_nets (λ t n. IsRunOfChoices (replay_in t n is.place ttl choices)
+      is.travel) same is.runs;
   answer = is.answer;
-  spelled = transport_topology_and_nets (λ t n. written ≡ replay_text t is.listed ttl is.travel) same is.spelled;
+  spelled = transport_topology_and_nets (λ t n. written ≡ replay_text t is.listed ttl is.travel)
+      same is.spelled;
 }
 
 -- and the one topology lists no flow with this number if the other lists none
 pub has_no_flow-same_domain : {whole d : DomainValue} → HaveSameFacts whole d → (flow : ℕ)
     → (flow ≡ 0) ⊎ (length d.topology.flows < flow)
     → (flow ≡ 0) ⊎ (length whole.topology.flows < flow)
-has_no_flow-same_domain same flow = transport_topology_and_nets (λ t n. (flow ≡ 0) ⊎ (length t.flows < flow)) same
+has_no_flow-same_domain same flow = transport_topology_and_nets
+    (λ t n. (flow ≡ 0) ⊎ (length t.flows < flow)) same
 
 -- ---- make
 
 -- the entries of a certified flow are those of the same travel,
-entries_of_clean_travel-same_domain : {whole d : DomainValue} → HaveSameFacts whole d → (flow : ℕ) (x : Examined)
+entries_of_clean_travel-same_domain : {whole d : DomainValue} → HaveSameFacts whole d
+    → (flow : ℕ) (x : Examined)
     → IfCertified (AreEntriesOfCleanTravel d flow) x → IfCertified (AreEntriesOfCleanTravel whole flow) x
 entries_of_clean_travel-same_domain same flow (Certified entries) is = record {
   travel = is.travel;
   flight = is.flight;
-  run = transport_topology_and_nets (λ t n. IsRunTo (replay_in t n flow 255 first_choices) is.travel is.flight) same
+  run = transport_topology_and_nets (λ t n. IsRunTo (replay_in t n flow 255 first_choices) is.travel
+      is.flight) same
       is.run;
   clean = is.clean;
-  entries = transport_topology_and_nets (λ t n. IsReordering (entries_of (n flow) is.flight.carried) entries.items) same
+  entries = transport_topology_and_nets (λ t n. IsReordering (entries_of (n flow) is.flight.carried)
+      entries.items) same
       is.entries;
 }
 entries_of_clean_travel-same_domain same flow (Found ttl travel) is = tt
 
 -- a fault is found at the same TTL,
-is_ttl_of_fault-same_domain : {whole d : DomainValue} → HaveSameFacts whole d → (flow ttl : ℕ) → IsTtlOfFault d flow ttl
+is_ttl_of_fault-same_domain : {whole d : DomainValue} → HaveSameFacts whole d → (flow ttl : ℕ)
+    → IsTtlOfFault d flow ttl
     → IsTtlOfFault whole flow ttl
 is_ttl_of_fault-same_domain same flow ttl is = record {
   greatest = transport_topology_and_nets (λ t n. (travel : Travel)
@@ -184,7 +194,8 @@ pub is_checked-same_domain : {whole d : DomainValue} → HaveSameFacts whole d �
     → IsChecked d flow x → IsChecked whole flow x
 is_checked-same_domain same flow x is = record {
   examined = is_examined-same_domain same flow x is.examined;
-  headline = transport_topology_and_nets (λ t n. IfCertified (λ es. HeadlineHolds (n flow) (length es)) x) same is.headline;
+  headline = transport_topology_and_nets (λ t n. IfCertified
+      (λ es. HeadlineHolds (n flow) (length es)) x) same is.headline;
 }
 
 -- what holds of a domain's facts holds of those of any domain with the same facts
@@ -206,9 +217,11 @@ finished_travel_in d ended = record {
 abbrev examined_flights_in : DomainValue → ExaminedFlights → ExaminedFlights
 examined_flights_in d (flights.Certified entries) = flights.Certified entries
 examined_flights_in d (flights.FoundAtTtl255 ended) = flights.FoundAtTtl255 (finished_travel_in d ended)
-examined_flights_in d (flights.FoundAtFlowTtl greatest least) = flights.FoundAtFlowTtl (finished_travel_in d greatest) (finished_travel_in d least)
+examined_flights_in d (flights.FoundAtFlowTtl greatest least) = flights.FoundAtFlowTtl
+    (finished_travel_in d greatest) (finished_travel_in d least)
 
-is_finished_travel-same_domain : {whole d : DomainValue} → HaveSameFacts whole d → (flow ttl : ℕ) (ended : FinishedTravel)
+is_finished_travel-same_domain : {whole d : DomainValue} → HaveSameFacts whole d
+    → (flow ttl : ℕ) (ended : FinishedTravel)
     → IsFinishedTravelOf d flow ttl ended → IsFinishedTravelOf whole flow ttl (finished_travel_in whole ended)
 is_finished_travel-same_domain same flow ttl ended is = record {
   domain = refl;
@@ -217,20 +230,24 @@ is_finished_travel-same_domain same flow ttl ended is = record {
       ended.flight.flight) same is.run;
 }
 
-has_examined_flights-same_domain : {whole d : DomainValue} → HaveSameFacts whole d → (flow : ℕ) (x : ExaminedFlights)
+has_examined_flights-same_domain : {whole d : DomainValue} → HaveSameFacts whole d
+    → (flow : ℕ) (x : ExaminedFlights)
     → HasExaminedFlights d flow x → HasExaminedFlights whole flow (examined_flights_in whole x)
 has_examined_flights-same_domain same flow (flights.Certified entries) is = tt
-has_examined_flights-same_domain same flow (flights.FoundAtTtl255 ended) is = is_finished_travel-same_domain same flow 255 ended is
-has_examined_flights-same_domain {whole = whole} {d = d} same flow (flights.FoundAtFlowTtl greatest least) is = (
-  is_finished_travel-same_domain same flow 255 greatest is.0,
-  is.1,
-  subst (λ (n : ℕ). IsFinishedTravelOf whole flow n (finished_travel_in whole least))
-      (ap (λ (n : Net). n.ttl) (sym (same.nets flow)))
-      (is_finished_travel-same_domain same flow (ttl_of d flow) least is.2),
-)
+has_examined_flights-same_domain same flow (flights.FoundAtTtl255 ended) is =
+    is_finished_travel-same_domain same flow 255 ended is
+has_examined_flights-same_domain {whole = whole} {d = d} same flow
+    (flights.FoundAtFlowTtl greatest least) is = (
+      is_finished_travel-same_domain same flow 255 greatest is.0,
+      is.1,
+      subst (λ (n : ℕ). IsFinishedTravelOf whole flow n (finished_travel_in whole least))
+          (ap (λ (n : Net). n.ttl) (sym (same.nets flow)))
+          (is_finished_travel-same_domain same flow (ttl_of d flow) least is.2),
+    )
 
 -- which have the same finding,
-without_flights-same_domain : {whole d : DomainValue} → HaveSameFacts whole d → (flow : ℕ) (x : ExaminedFlights)
+without_flights-same_domain : {whole d : DomainValue} → HaveSameFacts whole d
+    → (flow : ℕ) (x : ExaminedFlights)
     → without_flights whole flow (examined_flights_in whole x) ≡ without_flights d flow x
 without_flights-same_domain same flow (flights.Certified entries) = refl
 without_flights-same_domain same flow (flights.FoundAtTtl255 ended) = refl
@@ -239,16 +256,19 @@ without_flights-same_domain same flow (flights.FoundAtFlowTtl greatest least) =
 
 -- which has the same explanation,
 is_explained-same_domain : {whole d : DomainValue} → HaveSameFacts whole d → (flow : ℕ) (x : ExaminedFlights)
-    (printed : List Cause) → IsExplained d flow x printed → IsExplained whole flow (examined_flights_in whole x) printed
+    (printed : List Cause) → IsExplained d flow x printed
+    → IsExplained whole flow (examined_flights_in whole x) printed
 is_explained-same_domain same flow (flights.Certified entries) printed is = is
 is_explained-same_domain same flow (flights.FoundAtTtl255 ended) printed is =
-    transport_topology_and_nets (λ t n. ExplainsFinding (n flow) ended.flight.flight (finding_value ended.travel.finding)
+    transport_topology_and_nets (λ t n. ExplainsFinding (n flow) ended.flight.flight
+    (finding_value ended.travel.finding)
     printed) same is
 is_explained-same_domain same flow (flights.FoundAtFlowTtl greatest least) printed is =
     transport_topology_and_nets (λ t n. ExplainsAtFlowTtl (n flow) greatest.flight.flight least.flight.flight
     (finding_value least.travel.finding) printed) same is
 
-is_search_at_255-same_domain : (whole : DomainValue) (f : DomainFacts) (summary : List SummaryValue) (marks : List Bool)
+is_search_at_255-same_domain : (whole : DomainValue) (f : DomainFacts) (summary : List SummaryValue)
+    (marks : List Bool)
     (flow : ℕ) (x : ExaminedFlights) (search : Option LanSearch) → IsSearchAt255 f summary marks flow x search
     → IsSearchAt255 f summary marks flow (examined_flights_in whole x) search
 is_search_at_255-same_domain whole f summary marks flow (flights.Certified entries) search is = is
@@ -264,14 +284,16 @@ also_missed-same_domain whole f flow (flights.FoundAtFlowTtl greatest least) = r
 is_explanation-same_domain : {whole d : DomainValue} → HaveSameFacts whole d → (summary : List SummaryValue)
     (names : List (List ℕ)) (known : Bool) (flow : ℕ) (x : ExaminedFlights) (e : Explanation)
     → IsExplanation d summary (excluded_marks d.topology names) known flow x e
-    → IsExplanation whole summary (excluded_marks whole.topology names) known flow (examined_flights_in whole x) e
+    → IsExplanation whole summary (excluded_marks whole.topology names) known flow
+    (examined_flights_in whole x) e
 is_explanation-same_domain {whole = whole} {d = d} same summary names known flow x e is = record {
   printed = record {
     all = is.printed.all;
     explained = is_explained-same_domain same flow x is.printed.all is.printed.explained;
     shown = is.printed.shown;
   };
-  search = is_search_at_255-same_domain whole (facts whole) summary (excluded_marks whole.topology names) flow x e.search
+  search = is_search_at_255-same_domain whole (facts whole) summary
+      (excluded_marks whole.topology names) flow x e.search
       (transport_facts (λ f. IsSearchAt255 f summary (excluded_marks f.topology names) flow x e.search) same
       is.search);
   also = transport_facts (λ f. e.also ≡ also_missed f flow x) same is.also
@@ -294,7 +316,8 @@ is_flow_answer-same_domain {whole = whole} {d = d} same summary names o printed 
   explained = is_explanation-same_domain same summary names (length names == 0) flow is.flights is.explanation
       is.explained;
   wanted = transport_facts (λ f. a.wanted ≡ lans_wanting f flow) same is.wanted;
-  spelled = transport_facts (λ f. a.lines ≡ answer_lines o (length names == 0) f summary printed flow is.listed
+  spelled = transport_facts (λ f. a.lines ≡ answer_lines o (length names == 0) f summary printed
+      flow is.listed
       a.examined is.explanation a.wanted) same is.spelled;
 }
 
@@ -305,7 +328,8 @@ are_flow_answers-same_domain : {whole d : DomainValue} → HaveSameFacts whole d
     → AreFlowAnswers (record { domain = whole; summary = summary; without = names }) o answers
 are_flow_answers-same_domain same summary names o answers are = record {
   count = transport_topology_and_nets (λ t n. length answers ≡ length t.flows) same are.count;
-  each = λ flow a at. is_flow_answer-same_domain same summary names o (trees_shown o (take flow answers)) flow a
+  each = λ flow a at. is_flow_answer-same_domain same summary names o
+      (trees_shown o (take flow answers)) flow a
       (are.each flow a at);
 }
 

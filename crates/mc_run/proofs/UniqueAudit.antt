@@ -20,7 +20,9 @@ use Rattle.mc_maker.specs.Examined.{is_certified}
 use Rattle.mc_maker.specs.ExaminedFlights.{without_flights}
 use Rattle.mc_maker.specs.declared.examination.Examined.{Examined}
 use Rattle.mc_maker.specs.declared.examined_flights.ExaminedFlights.{ExaminedFlights}
-use Rattle.mc_maker.specs.declared.examined_flights.ExaminedFlights.TheVariants.{Certified, FoundAtTtl255, FoundAtFlowTtl}
+use Rattle.mc_maker.specs.declared.examined_flights.ExaminedFlights.TheVariants.{Certified}
+use Rattle.mc_maker.specs.declared.examined_flights.ExaminedFlights.TheVariants.{FoundAtTtl255}
+use Rattle.mc_maker.specs.declared.examined_flights.ExaminedFlights.TheVariants.{FoundAtFlowTtl}
 use Rattle.mc_explain.specs.declared.searching.LanSearch.{LanSearch}
 use Rattle.mc_explain.specs.ExplanationText.{causes_text}
 use Rattle.mc_explain.specs.SearchText.{search_text}
@@ -39,12 +41,14 @@ use Rattle.mc_run.specs.AuditRun.{IsFlowAnswer, IsAuditText, IsAudited, MeansAud
 use Rattle.mc_run.specs.AuditRun.{is_whole, is_yes, excluded, trees_shown}
 use Rattle.mc_run.specs.AuditText.{Explanation, events_if_shown, explanation_lines, searched_lines}
 use Rattle.mc_run.specs.AuditText.{wrong_lines}
-use Rattle.mc_run.specs.AuditFlowText.{answer_lines, is_hidden, right_flow_lines, shown_trees_with, with_shown_tree}
+use Rattle.mc_run.specs.AuditFlowText.{answer_lines, is_hidden, right_flow_lines, shown_trees_with}
+use Rattle.mc_run.specs.AuditFlowText.{with_shown_tree}
 use Rattle.mc_run.specs.AuditFlowText.{wrong_lines_or_object}
 use Rattle.mc_run.specs.MakeRun.{IsExamined, found_lines}
 use Rattle.mc_run.specs.ReplayRun.{event_lines}
 use Rattle.mc_run.specs.declared.audit_options.AuditOptions.{AuditOptions}
-use Rattle.mc_run.proofs.UniqueExamination.{IsSameFinishedTravel, IsSameExplanation, HaveSameFlights, HaveSameSearch}
+use Rattle.mc_run.proofs.UniqueExamination.{IsSameFinishedTravel, IsSameExplanation}
+use Rattle.mc_run.proofs.UniqueExamination.{HaveSameFlights, HaveSameSearch}
 use Rattle.mc_run.proofs.UniqueExamination.{is_explanation-unique, examined_flights-unique}
 
 -- ---- the lines of a flow that isn't right
@@ -60,7 +64,8 @@ searched_lines-same_search d summary flow f (Some a) (Some b) same =
     search_text d summary flow f ls a.reach.sent_on.items a.reach.took_none.items) same.0
     ∙ ap₂ (λ (sent took : List ℕ). search_text d summary flow f b.lines.items sent took) same.1 same.2
 
-events_if_shown-same_events : (travels : Bool) (t : TopologyValue) (a b : FinishedTravel) → IsSameFinishedTravel a b
+events_if_shown-same_events : (travels : Bool) (t : TopologyValue) (a b : FinishedTravel)
+    → IsSameFinishedTravel a b
     → events_if_shown travels t a.travel ≡ events_if_shown travels t b.travel
 events_if_shown-same_events true t a b same = ap (event_lines t) same.events
 events_if_shown-same_events false t a b same = refl
@@ -75,7 +80,8 @@ explanation_lines-same_explanation d summary flow f x y same =
     ++ (found ++ also_missed_text d.topology also))
     (searched_lines-same_search d summary flow f x.search y.search same.search) same.also
 
-wrong_lines-same_travel : (travels : Bool) (d : DomainFacts) (summary : List SummaryValue) (flow : ℕ) (f : Flow)
+wrong_lines-same_travel : (travels : Bool) (d : DomainFacts) (summary : List SummaryValue)
+    (flow : ℕ) (f : Flow)
     (ttl : ℕ) (a b : FinishedTravel) (x y : Explanation) → IsSameFinishedTravel a b → IsSameExplanation x y
     → wrong_lines travels d summary flow f ttl a.travel x
     ≡ wrong_lines travels d summary flow f ttl b.travel y
@@ -85,7 +91,8 @@ wrong_lines-same_travel travels d summary flow f ttl a b x y ended same =
     ended.finding
     ∙ ap₂ (λ (why : List ℕ) (es : List ℕ).
     found_lines d.topology f ttl b.travel.finding ++ (why ++ es))
-    (explanation_lines-same_explanation d summary flow f x y same) (events_if_shown-same_events travels d.topology a b ended)
+    (explanation_lines-same_explanation d summary flow f x y same)
+    (events_if_shown-same_events travels d.topology a b ended)
 
 found_data-same_travel : (d : DomainFacts) (summary : List SummaryValue) (flow : ℕ) (f : Flow)
     (s t : Option LanSearch) → HaveSameSearch s t
@@ -98,14 +105,16 @@ found_data-same_travel d summary flow f (Some a) (Some b) same =
     search_data d summary flow f ls a.reach.sent_on.items a.reach.took_none.items) same.0
     ∙ ap₂ (λ (sent took : List ℕ). search_data d summary flow f b.lines.items sent took) same.1 same.2
 
-why_data-same_explanation : (d : DomainFacts) (summary : List SummaryValue) (flow : ℕ) (f : Flow) (x y : Explanation)
+why_data-same_explanation : (d : DomainFacts) (summary : List SummaryValue) (flow : ℕ) (f : Flow)
+    (x y : Explanation)
     → IsSameExplanation x y
     → why_data d summary flow f x.printed x.search ≡ why_data d summary flow f y.printed y.search
 why_data-same_explanation d summary flow f x y same =
     ap₂ (λ (printed : List Cause) (found : List Data). causes_data d summary flow f printed ++ found)
     same.printed (found_data-same_travel d summary flow f x.search y.search same.search)
 
-wrong_object-same_travel : (travels : Bool) (d : DomainFacts) (summary : List SummaryValue) (flow : ℕ) (f : Flow)
+wrong_object-same_travel : (travels : Bool) (d : DomainFacts) (summary : List SummaryValue)
+    (flow : ℕ) (f : Flow)
     (ttl : ℕ) (a b : FinishedTravel) (x y : Explanation) → IsSameFinishedTravel a b → IsSameExplanation x y
     → wrong_object travels d summary flow f ttl a.travel x
     ≡ wrong_object travels d summary flow f ttl b.travel y
@@ -116,7 +125,8 @@ wrong_object-same_travel travels d summary flow f ttl a b x y ended same =
     wrong_line d flow f ttl b.travel.finding b.travel.events.items also why travels) same.also
     (why_data-same_explanation d summary flow f x y same)
 
-wrong_flow_lines-same_travel : (json travels : Bool) (d : DomainFacts) (summary : List SummaryValue) (flow : ℕ) (f : Flow)
+wrong_flow_lines-same_travel : (json travels : Bool) (d : DomainFacts) (summary : List SummaryValue)
+    (flow : ℕ) (f : Flow)
     (ttl : ℕ) (a b : FinishedTravel) (x y : Explanation) → IsSameFinishedTravel a b → IsSameExplanation x y
     → wrong_lines_or_object json travels d summary flow f ttl a.travel x
     ≡ wrong_lines_or_object json travels d summary flow f ttl b.travel y
@@ -141,23 +151,33 @@ answer_lines-same_flights : (o : AuditOptions) (whole : Bool) (d : DomainValue) 
     → HaveSameFlights a b → IsSameExplanation x y
     → answer_lines o whole (facts d) summary printed flow f (without_flights d flow a) x wanted
     ≡ answer_lines o whole (facts d) summary printed flow f (without_flights d flow b) y wanted
-answer_lines-same_flights o whole d summary printed flow f (Certified xs) (Certified ys) x y wanted same explained =
+answer_lines-same_flights o whole d summary printed flow f (Certified xs) (Certified ys) x y wanted
+    same explained =
     ap (λ (es : Tree). right_flow_lines o whole d.topology printed flow f es wanted) same
-answer_lines-same_flights o whole d summary printed flow f (FoundAtTtl255 a) (FoundAtTtl255 b) x y wanted same explained =
+answer_lines-same_flights o whole d summary printed flow f (FoundAtTtl255 a) (FoundAtTtl255 b) x y
+    wanted same explained =
     wrong_flow_lines-same_travel o.json o.travels (facts d) summary flow f 255 a b x y same explained
-answer_lines-same_flights o whole d summary printed flow f (FoundAtFlowTtl a b) (FoundAtFlowTtl c e) x y wanted same explained =
-    wrong_flow_lines-same_travel o.json o.travels (facts d) summary flow f (ttl_of d flow) b e x y same.1 explained
-answer_lines-same_flights o whole d summary printed flow f (Certified xs) (FoundAtTtl255 b) x y wanted same explained =
+answer_lines-same_flights o whole d summary printed flow f (FoundAtFlowTtl a b) (FoundAtFlowTtl c e)
+    x y wanted same explained =
+    wrong_flow_lines-same_travel o.json o.travels (facts d) summary flow f (ttl_of d flow) b e x y
+    same.1 explained
+answer_lines-same_flights o whole d summary printed flow f (Certified xs) (FoundAtTtl255 b) x y
+    wanted same explained =
     absurd same
-answer_lines-same_flights o whole d summary printed flow f (Certified xs) (FoundAtFlowTtl b c) x y wanted same explained =
+answer_lines-same_flights o whole d summary printed flow f (Certified xs) (FoundAtFlowTtl b c) x y
+    wanted same explained =
     absurd same
-answer_lines-same_flights o whole d summary printed flow f (FoundAtTtl255 a) (Certified ys) x y wanted same explained =
+answer_lines-same_flights o whole d summary printed flow f (FoundAtTtl255 a) (Certified ys) x y
+    wanted same explained =
     absurd same
-answer_lines-same_flights o whole d summary printed flow f (FoundAtTtl255 a) (FoundAtFlowTtl b c) x y wanted same explained =
+answer_lines-same_flights o whole d summary printed flow f (FoundAtTtl255 a) (FoundAtFlowTtl b c) x
+    y wanted same explained =
     absurd same
-answer_lines-same_flights o whole d summary printed flow f (FoundAtFlowTtl a b) (Certified ys) x y wanted same explained =
+answer_lines-same_flights o whole d summary printed flow f (FoundAtFlowTtl a b) (Certified ys) x y
+    wanted same explained =
     absurd same
-answer_lines-same_flights o whole d summary printed flow f (FoundAtFlowTtl a b) (FoundAtTtl255 c) x y wanted same explained =
+answer_lines-same_flights o whole d summary printed flow f (FoundAtFlowTtl a b) (FoundAtTtl255 c) x
+    y wanted same explained =
     absurd same
 
 -- whether they are right, and the printed trees
@@ -173,9 +193,11 @@ is_certified-same_flights d flow (FoundAtTtl255 a) (FoundAtFlowTtl b c) same = a
 is_certified-same_flights d flow (FoundAtFlowTtl a b) (Certified ys) same = absurd same
 is_certified-same_flights d flow (FoundAtFlowTtl a b) (FoundAtTtl255 c) same = absurd same
 
-shown_trees_with-same_flights : (o : AuditOptions) (d : DomainValue) (flow : ℕ) (a b : ExaminedFlights) (wanted : List ℕ)
+shown_trees_with-same_flights : (o : AuditOptions) (d : DomainValue) (flow : ℕ)
+    (a b : ExaminedFlights) (wanted : List ℕ)
     (printed : List Tree) → HaveSameFlights a b
-    → shown_trees_with o printed (without_flights d flow a) wanted ≡ shown_trees_with o printed (without_flights d flow b) wanted
+    → shown_trees_with o printed (without_flights d flow a) wanted
+    ≡ shown_trees_with o printed (without_flights d flow b) wanted
 shown_trees_with-same_flights o d flow (Certified xs) (Certified ys) wanted printed same =
     ap (λ (es : Tree). with_shown_tree o.json (is_hidden o.faults wanted) printed es) same
 shown_trees_with-same_flights o d flow (FoundAtTtl255 a) (FoundAtTtl255 b) wanted printed same = refl
@@ -183,16 +205,20 @@ shown_trees_with-same_flights o d flow (FoundAtFlowTtl a b) (FoundAtFlowTtl c e)
 shown_trees_with-same_flights o d flow (Certified xs) (FoundAtTtl255 b) wanted printed same = absurd same
 shown_trees_with-same_flights o d flow (Certified xs) (FoundAtFlowTtl b c) wanted printed same = absurd same
 shown_trees_with-same_flights o d flow (FoundAtTtl255 a) (Certified ys) wanted printed same = absurd same
-shown_trees_with-same_flights o d flow (FoundAtTtl255 a) (FoundAtFlowTtl b c) wanted printed same = absurd same
+shown_trees_with-same_flights o d flow (FoundAtTtl255 a) (FoundAtFlowTtl b c) wanted printed same =
+    absurd same
 shown_trees_with-same_flights o d flow (FoundAtFlowTtl a b) (Certified ys) wanted printed same = absurd same
-shown_trees_with-same_flights o d flow (FoundAtFlowTtl a b) (FoundAtTtl255 c) wanted printed same = absurd same
+shown_trees_with-same_flights o d flow (FoundAtFlowTtl a b) (FoundAtTtl255 c) wanted printed same =
+    absurd same
 
 listed_flow-unique : (fs : List Flow) (flow : ℕ) (f g : Flow) → slice_get fs flow ≡ Some f
     → slice_get fs flow ≡ Some g → f ≡ g
 listed_flow-unique fs flow f g p q = let both : ◌≡◌ {A = Option Flow} (Some f) (Some g) = sym p ∙ q in cc
 
-same_answer-flow_answers : (v : AuditedValue) (o : AuditOptions) (printed : List Tree) (flow : ℕ) (a b : FlowAnswer)
-    → IsDomain v.domain → IsFlowAnswer v o printed flow a → IsFlowAnswer v o printed flow b → IsSameAnswer o a b
+same_answer-flow_answers : (v : AuditedValue) (o : AuditOptions) (printed : List Tree) (flow : ℕ)
+    (a b : FlowAnswer)
+    → IsDomain v.domain → IsFlowAnswer v o printed flow a → IsFlowAnswer v o printed flow b
+    → IsSameAnswer o a b
 same_answer-flow_answers v o printed flow a b ok p q =
     let d = v.domain in
     let listed = listed_flow-unique d.topology.flows flow p.listed q.listed p.matches q.matches in
@@ -201,7 +227,8 @@ same_answer-flow_answers v o printed flow a b ok p q =
     let flights = examined_flights-unique d flow p.flights q.flights p.has_flights q.has_flights
     (examined a.examined p.flights p.examined p.checked.examined)
     (examined b.examined q.flights q.examined q.checked.examined) in
-    let explained = is_explanation-unique d v.summary (excluded v) (is_whole v) flow p.flights q.flights p.explanation
+    let explained = is_explanation-unique d v.summary (excluded v) (is_whole v) flow p.flights
+    q.flights p.explanation
     q.explanation ok flights p.explained q.explained in
     let wanted : a.wanted ≡ b.wanted = p.wanted ∙ sym q.wanted in
     let lines = λ (f : Flow) (x : Examined) (w : List ℕ) (y : Explanation).
@@ -210,7 +237,8 @@ same_answer-flow_answers v o printed flow a b ok p q =
       lines = p.spelled
           ∙ ap₂ (λ (f : Flow) (w : List ℕ). lines f a.examined w p.explanation) listed wanted
           ∙ ap (λ (x : Examined). lines q.listed x b.wanted p.explanation) p.examined
-          ∙ answer_lines-same_flights o (is_whole v) d v.summary printed flow q.listed p.flights q.flights p.explanation
+          ∙ answer_lines-same_flights o (is_whole v) d v.summary printed flow q.listed p.flights
+          q.flights p.explanation
           q.explanation b.wanted flights explained
           ∙ ap (λ (x : Examined). lines q.listed x b.wanted q.explanation) (sym q.examined)
           ∙ sym q.spelled;
@@ -308,7 +336,8 @@ count-same_answers o p (a ∷ xs) (b ∷ ys) tests same =
 -- ---- the text
 
 -- the lines after those of the flows
-end_lines-same_answers : (v : AuditedValue) (o : AuditOptions) (xs ys : List FlowAnswer) → length xs ≡ length ys
+end_lines-same_answers : (v : AuditedValue) (o : AuditOptions) (xs ys : List FlowAnswer) → length xs
+    ≡ length ys
     → HaveSameAnswers o xs ys → is_yes v xs ≡ is_yes v ys
     → end_lines o v.domain.topology v.summary (excluded v) (is_yes v xs) xs
     ++ verdict_line o.json (is_yes v xs)
@@ -336,7 +365,8 @@ is_audited-unique v o all every text other ok p q =
     let flows : length p.answers ≡ length q.answers =
     p.are_answers.count ∙ sym q.are_answers.count in
     let same = have_same_answers-flow_answers v o 0 [] p.answers q.answers ok flows
-    (are_answers_from-first v o p.answers p.are_answers.each) (are_answers_from-first v o q.answers q.are_answers.each) in
+    (are_answers_from-first v o p.answers p.are_answers.each)
+    (are_answers_from-first v o q.answers q.are_answers.each) in
     let all : is_yes v p.answers ≡ is_yes v q.answers =
     ap (λ (b : Bool). is_whole v && b) (are_right-same_answers o p.answers q.answers same) in
     let begin = begin_lines o (facts v.domain) (excluded v) in (
@@ -356,19 +386,23 @@ HasOneListOfSummaries =
     (all : Bool) (files : List FileText) (t : TopologyValue) (a b : List SummaryValue)
     → AreSummariesOf all files t a → AreSummariesOf all files t b → a ≡ b
 
-means_audited-unique : HasOneListOfSummaries → (o : AuditOptions) (names : List (List ℕ)) (files : List FileText)
+means_audited-unique : HasOneListOfSummaries → (o : AuditOptions) (names : List (List ℕ))
+    (files : List FileText)
     (v w : AuditedValue) → MeansAudited o names files v → MeansAudited o names files w → v ≡ w
 means_audited-unique one_list o names files v w p q =
-    let domain = FilesMeanDomain-unique (files_with_exclusions names files) v.domain w.domain p.means q.means in
+    let domain = FilesMeanDomain-unique (files_with_exclusions names files) v.domain w.domain
+    p.means q.means in
     let summary = one_list o.unlisted (files_with_exclusions names files) v.domain.topology v.summary
     w.summary p.summary
-    (subst (λ (d : DomainValue). AreSummariesOf o.unlisted (files_with_exclusions names files) d.topology w.summary)
+    (subst (λ (d : DomainValue). AreSummariesOf o.unlisted (files_with_exclusions names files)
+    d.topology w.summary)
     (sym domain) q.summary) in
     let without = p.without ∙ sym q.without in
     λ i. record { domain = domain i; summary = summary i; without = without i }
 
 -- one folder's files and one set of options have one text and one answer
-pub is_audit_text-unique : HasOneListOfSummaries → (names : List (List ℕ)) (files : List FileText) (o : AuditOptions)
+pub is_audit_text-unique : HasOneListOfSummaries → (names : List (List ℕ)) (files : List FileText)
+    (o : AuditOptions)
     (all every : Bool) (text other : List ℕ) → IsAuditText o names files all text
     → IsAuditText o names files every other → (all ≡ every) × (text ≡ other)
 is_audit_text-unique one_list names files o all every text other p q =

@@ -26,14 +26,17 @@ use Rattle.mc_replay.specs.declared.travel.FinishedTravel.{FinishedTravel}
 use Rattle.mc_maker.specs.Examined.{AreEntriesOfCleanTravel, first_choices}
 use Rattle.mc_maker.specs.ExaminedFlights.{IsFinishedTravelOf, HasExaminedFlights, without_flights}
 use Rattle.mc_maker.specs.declared.examined_flights.ExaminedFlights.{ExaminedFlights}
-use Rattle.mc_maker.specs.declared.examined_flights.ExaminedFlights.TheVariants.{Certified, FoundAtTtl255, FoundAtFlowTtl}
+use Rattle.mc_maker.specs.declared.examined_flights.ExaminedFlights.TheVariants.{Certified}
+use Rattle.mc_maker.specs.declared.examined_flights.ExaminedFlights.TheVariants.{FoundAtTtl255}
+use Rattle.mc_maker.specs.declared.examined_flights.ExaminedFlights.TheVariants.{FoundAtFlowTtl}
 use Rattle.mc_explain.specs.Explained.{ExplainsAtFlowTtl, ExplainsFinding, IsExplained}
 use Rattle.mc_explain.specs.SearchLine.{Search}
 use Rattle.mc_explain.specs.WantedText.{missed_besides}
 use Rattle.mc_explain.specs.declared.searching.LanSearch.{LanSearch}
 use Rattle.mc_explain.specs.declared.causes.Cause.{Cause}
 use Rattle.mc_explain.proofs.UniqueCauseLemmas.{causes-are_unique}
-use Rattle.mc_run.specs.AuditReasons.{IsExplanation, IsSearchAt255, IsSearchIfMissed, also_missed, search_context}
+use Rattle.mc_run.specs.AuditReasons.{IsExplanation, IsSearchAt255, IsSearchIfMissed, also_missed}
+use Rattle.mc_run.specs.AuditReasons.{search_context}
 use Rattle.mc_run.specs.AuditReasons.{without_remedies}
 use Rattle.mc_run.specs.AuditText.{Explanation}
 use Rattle.mc_run.specs.MakeRun.{IsExamined}
@@ -46,14 +49,17 @@ is_strictly_increasing-rest x xs up k within =
     subst (λ (n : ℕ). get_or xs k 0 < get_or (x ∷ xs) n 0) next (up (suc k) (omega (arith, within)))
 
 -- each later entry has a later LAN
-strictly_increasing-later_greater : (x : Entry) (es : List Entry) → IsStrictlyIncreasing (map (λ (e : Entry). e.lan) (x ∷ es))
+strictly_increasing-later_greater : (x : Entry) (es : List Entry)
+    → IsStrictlyIncreasing (map (λ (e : Entry). e.lan) (x ∷ es))
     → (e : Entry) → In e es → x.lan < e.lan
 strictly_increasing-later_greater x [] up e there = absurd there
-strictly_increasing-later_greater x (y ∷ es) up e (inl same) = subst (λ (z : Entry). x.lan < z.lan) same (up 0 (omega arith))
+strictly_increasing-later_greater x (y ∷ es) up e (inl same) = subst (λ (z : Entry). x.lan < z.lan)
+    same (up 0 (omega arith))
 strictly_increasing-later_greater x (y ∷ es) up e (inr there) =
     let first : x.lan < y.lan = up 0 (omega arith) in
     let more : y.lan < e.lan =
-    strictly_increasing-later_greater y es (is_strictly_increasing-rest x.lan (map (λ (z : Entry). z.lan) (y ∷ es)) up) e there in
+    strictly_increasing-later_greater y es (is_strictly_increasing-rest x.lan
+    (map (λ (z : Entry). z.lan) (y ∷ es)) up) e there in
     omega (arith, first, more)
 
 strictly_increasing-same_heads : (x y : Entry) (xs ys : List Entry)
@@ -68,7 +74,8 @@ strictly_increasing-same_heads x y xs ys up rises (inr p) (inr q) =
     absurd (omega (arith, less, more))
 
 -- the entries after the first one are the same in both lists
-strictly_increasing-same_tails : (x y e : Entry) (ys : List Entry) → x ≡ y → x.lan < e.lan → In e (y ∷ ys) → In e ys
+strictly_increasing-same_tails : (x y e : Entry) (ys : List Entry) → x ≡ y → x.lan < e.lan
+    → In e (y ∷ ys) → In e ys
 strictly_increasing-same_tails x y e ys first less (inl same) =
     let lan : x.lan ≡ e.lan = ap (λ (z : Entry). z.lan) (first ∙ same) in
     absurd (omega (arith, less, lan))
@@ -82,10 +89,13 @@ entries_by_lan-unique [] (y ∷ ys) up rises to from = absurd (from y (inl refl)
 entries_by_lan-unique (x ∷ xs) [] up rises to from = absurd (to x (inl refl))
 entries_by_lan-unique (x ∷ xs) (y ∷ ys) up rises to from =
     let first = strictly_increasing-same_heads x y xs ys up rises (to x (inl refl)) (from y (inl refl)) in
-    let more = entries_by_lan-unique xs ys (is_strictly_increasing-rest x.lan (map (λ (e : Entry). e.lan) xs) up)
+    let more = entries_by_lan-unique xs ys (is_strictly_increasing-rest x.lan
+    (map (λ (e : Entry). e.lan) xs) up)
     (is_strictly_increasing-rest y.lan (map (λ (e : Entry). e.lan) ys) rises)
-    (λ e there. strictly_increasing-same_tails x y e ys first (strictly_increasing-later_greater x xs up e there) (to e (inr there)))
-    (λ e there. strictly_increasing-same_tails y x e xs (sym first) (strictly_increasing-later_greater y ys rises e there) (from e (inr there))) in
+    (λ e there. strictly_increasing-same_tails x y e ys first
+    (strictly_increasing-later_greater x xs up e there) (to e (inr there)))
+    (λ e there. strictly_increasing-same_tails y x e xs (sym first)
+    (strictly_increasing-later_greater y ys rises e there) (from e (inr there))) in
     λ i. first i ∷ more i
 
 -- ---- a travel
@@ -142,7 +152,8 @@ pub record IsSameFinishedTravel (a b : FinishedTravel) : Type 0 where
   pub finding : a.travel.finding ≡ b.travel.finding
   pub flight : a.flight.flight ≡ b.flight.flight
 
-is_finished_travel-unique : (d : DomainValue) (flow ttl : ℕ) (a b : FinishedTravel) → IsFinishedTravelOf d flow ttl a
+is_finished_travel-unique : (d : DomainValue) (flow ttl : ℕ) (a b : FinishedTravel)
+    → IsFinishedTravelOf d flow ttl a
     → IsFinishedTravelOf d flow ttl b → IsSameFinishedTravel a b
 is_finished_travel-unique d flow ttl a b p q =
     let same = is_travel_to-unique (net_of d flow) (length d.topology.lans) first_choices
@@ -162,11 +173,13 @@ is_finished_travel-unique d flow ttl a b p q =
 abbrev pub HaveSameFlights : ExaminedFlights → ExaminedFlights → Type 0
 HaveSameFlights (Certified xs) (Certified ys) = xs.items ≡ ys.items
 HaveSameFlights (FoundAtTtl255 a) (FoundAtTtl255 b) = IsSameFinishedTravel a b
-HaveSameFlights (FoundAtFlowTtl a b) (FoundAtFlowTtl c e) = IsSameFinishedTravel a c × IsSameFinishedTravel b e
+HaveSameFlights (FoundAtFlowTtl a b) (FoundAtFlowTtl c e) = IsSameFinishedTravel a c
+    × IsSameFinishedTravel b e
 HaveSameFlights _ _ = ⊥
 
 -- the entries are those of one travel's copies
-entries_of_clean_travel-unique : (d : DomainValue) (flow : ℕ) (xs ys : List Entry) → AreEntriesOfCleanTravel d flow xs
+entries_of_clean_travel-unique : (d : DomainValue) (flow : ℕ) (xs ys : List Entry)
+    → AreEntriesOfCleanTravel d flow xs
     → AreEntriesOfCleanTravel d flow ys → IsStrictlyIncreasing (map (λ (e : Entry). e.lan) xs)
     → IsStrictlyIncreasing (map (λ (e : Entry). e.lan) ys) → xs ≡ ys
 entries_of_clean_travel-unique d flow xs ys p q up rises =
@@ -184,13 +197,15 @@ certified-not_wrong : (W : Type 0) → IsTrue true ↔ W → IsTrue false ↔ W 
 certified-not_wrong W right wrong = false≢true (wrong.1 (right.0 refl))
 
 -- a fault at TTL 255 isn't one that is found at the flow's TTL only
-fault_at_255-not_at_flow_ttl : (d : DomainValue) (flow : ℕ) (a b : FinishedTravel) → IsFinishedTravelOf d flow 255 a
+fault_at_255-not_at_flow_ttl : (d : DomainValue) (flow : ℕ) (a b : FinishedTravel)
+    → IsFinishedTravelOf d flow 255 a
     → IsFinishedTravelOf d flow 255 b → finding_value a.travel.finding ≢ FindingValue.Clean
     → finding_value b.travel.finding ≡ FindingValue.Clean → ⊥
 fault_at_255-not_at_flow_ttl d flow a b p q fault none =
     let same = is_finished_travel-unique d flow 255 a b p q in fault (ap finding_value same.finding ∙ none)
 
-pub examined_flights-unique : (d : DomainValue) (flow : ℕ) (a b : ExaminedFlights) → HasExaminedFlights d flow a → HasExaminedFlights d flow b
+pub examined_flights-unique : (d : DomainValue) (flow : ℕ) (a b : ExaminedFlights)
+    → HasExaminedFlights d flow a → HasExaminedFlights d flow b
     → IsExamined d flow (without_flights d flow a) → IsExamined d flow (without_flights d flow b)
     → HaveSameFlights a b
 examined_flights-unique d flow (Certified xs) (Certified ys) p q x y =
@@ -201,19 +216,24 @@ examined_flights-unique d flow (Certified xs) (FoundAtFlowTtl b c) p q x y =
     absurd (certified-not_wrong (IsRight (net_of d flow)) x.right y.right)
 examined_flights-unique d flow (FoundAtTtl255 a) (Certified ys) p q x y =
     absurd (certified-not_wrong (IsRight (net_of d flow)) y.right x.right)
-examined_flights-unique d flow (FoundAtTtl255 a) (FoundAtTtl255 b) p q x y = is_finished_travel-unique d flow 255 a b p q
+examined_flights-unique d flow (FoundAtTtl255 a) (FoundAtTtl255 b) p q x y =
+    is_finished_travel-unique d flow 255 a b p q
 examined_flights-unique d flow (FoundAtTtl255 a) (FoundAtFlowTtl b c) p q x y =
     absurd (fault_at_255-not_at_flow_ttl d flow a b p q.0 x.fault q.1)
 examined_flights-unique d flow (FoundAtFlowTtl a b) (Certified ys) p q x y =
     absurd (certified-not_wrong (IsRight (net_of d flow)) y.right x.right)
 examined_flights-unique d flow (FoundAtFlowTtl a b) (FoundAtTtl255 c) p q x y =
     absurd (fault_at_255-not_at_flow_ttl d flow c a q p.0 y.fault p.1)
-examined_flights-unique d flow (FoundAtFlowTtl a b) (FoundAtFlowTtl c e) p q x y =
-    (is_finished_travel-unique d flow 255 a c p.0 q.0, is_finished_travel-unique d flow (ttl_of d flow) b e p.2 q.2)
+examined_flights-unique d flow (FoundAtFlowTtl a b) (FoundAtFlowTtl c e) p q x y = (
+  is_finished_travel-unique d flow 255 a c p.0 q.0,
+  is_finished_travel-unique d flow
+      (ttl_of d flow) b e p.2 q.2,
+)
 
 -- ---- the explanation
 
-is_explained-same_flights : (d : DomainValue) (flow : ℕ) (a b : ExaminedFlights) (printed : List Cause) → HaveSameFlights a b
+is_explained-same_flights : (d : DomainValue) (flow : ℕ) (a b : ExaminedFlights)
+    (printed : List Cause) → HaveSameFlights a b
     → IsExplained d flow a printed → IsExplained d flow b printed
 is_explained-same_flights d flow (Certified xs) (Certified ys) printed same is = is
 is_explained-same_flights d flow (FoundAtTtl255 a) (FoundAtTtl255 b) printed same is =
@@ -264,9 +284,11 @@ is_searched-unique s es (Missed lan) (Some a) (Some b) p q =
     (p.lines ∙ sym q.lines, p.sent_on ∙ sym q.sent_on, p.took_none ∙ sym q.took_none)
 
 is_search_if_missed-unique : (d : DomainFacts) (summary : List SummaryValue) (excluded : List Bool) (flow : ℕ)
-    (a b : ExaminedFlights) (s t : Option LanSearch) → HaveSameFlights a b → IsSearchAt255 d summary excluded flow a s
+    (a b : ExaminedFlights) (s t : Option LanSearch) → HaveSameFlights a b
+    → IsSearchAt255 d summary excluded flow a s
     → IsSearchAt255 d summary excluded flow b t → HaveSameSearch s t
-is_search_if_missed-unique d summary excluded flow (Certified xs) (Certified ys) s t same p q = is_search-none s t p q
+is_search_if_missed-unique d summary excluded flow (Certified xs) (Certified ys) s t same p q =
+    is_search-none s t p q
 is_search_if_missed-unique d summary excluded flow (FoundAtTtl255 a) (FoundAtTtl255 b) s t same p q =
     let by = λ (f : Flight). search_context d summary excluded flow f.carried in
     let flight = subst (λ (f : Flight).
@@ -276,13 +298,18 @@ is_search_if_missed-unique d summary excluded flow (FoundAtTtl255 a) (FoundAtTtl
     let found = subst (λ (x : Finding).
     IsSearchIfMissed (by b.flight.flight) b.travel.events.items x s) same.finding seen in
     is_searched-unique (by b.flight.flight) b.travel.events.items b.travel.finding s t found q
-is_search_if_missed-unique d summary excluded flow (FoundAtFlowTtl a b) (FoundAtFlowTtl c e) s t same p q = is_search-none s t p q
+is_search_if_missed-unique d summary excluded flow (FoundAtFlowTtl a b) (FoundAtFlowTtl c e) s t
+    same p q = is_search-none s t p q
 is_search_if_missed-unique d summary excluded flow (Certified xs) (FoundAtTtl255 b) s t same p q = absurd same
-is_search_if_missed-unique d summary excluded flow (Certified xs) (FoundAtFlowTtl b c) s t same p q = absurd same
+is_search_if_missed-unique d summary excluded flow (Certified xs) (FoundAtFlowTtl b c) s t same p q
+    = absurd same
 is_search_if_missed-unique d summary excluded flow (FoundAtTtl255 a) (Certified ys) s t same p q = absurd same
-is_search_if_missed-unique d summary excluded flow (FoundAtTtl255 a) (FoundAtFlowTtl b c) s t same p q = absurd same
-is_search_if_missed-unique d summary excluded flow (FoundAtFlowTtl a b) (Certified ys) s t same p q = absurd same
-is_search_if_missed-unique d summary excluded flow (FoundAtFlowTtl a b) (FoundAtTtl255 c) s t same p q = absurd same
+is_search_if_missed-unique d summary excluded flow (FoundAtTtl255 a) (FoundAtFlowTtl b c) s t same p
+    q = absurd same
+is_search_if_missed-unique d summary excluded flow (FoundAtFlowTtl a b) (Certified ys) s t same p q
+    = absurd same
+is_search_if_missed-unique d summary excluded flow (FoundAtFlowTtl a b) (FoundAtTtl255 c) s t same p
+    q = absurd same
 
 missed_besides-same_copies : (d : DomainFacts) (flow : ℕ) (a b : FinishedTravel) → IsSameFinishedTravel a b
     → missed_besides d flow a.flight.flight.carried a.travel.finding
@@ -293,8 +320,10 @@ missed_besides-same_copies d flow a b same =
 also_missed-same_flights : (d : DomainFacts) (flow : ℕ) (a b : ExaminedFlights) → HaveSameFlights a b
     → also_missed d flow a ≡ also_missed d flow b
 also_missed-same_flights d flow (Certified xs) (Certified ys) same = refl
-also_missed-same_flights d flow (FoundAtTtl255 a) (FoundAtTtl255 b) same = missed_besides-same_copies d flow a b same
-also_missed-same_flights d flow (FoundAtFlowTtl a b) (FoundAtFlowTtl c e) same = missed_besides-same_copies d flow b e same.1
+also_missed-same_flights d flow (FoundAtTtl255 a) (FoundAtTtl255 b) same =
+    missed_besides-same_copies d flow a b same
+also_missed-same_flights d flow (FoundAtFlowTtl a b) (FoundAtFlowTtl c e) same =
+    missed_besides-same_copies d flow b e same.1
 also_missed-same_flights d flow (Certified xs) (FoundAtTtl255 b) same = absurd same
 also_missed-same_flights d flow (Certified xs) (FoundAtFlowTtl b c) same = absurd same
 also_missed-same_flights d flow (FoundAtTtl255 a) (Certified ys) same = absurd same
@@ -314,9 +343,11 @@ pub is_explanation-unique : (d : DomainValue) (summary : List SummaryValue) (exc
     → IsSameExplanation x y
 is_explanation-unique d summary excluded whole flow a b x y ok same p q = record {
   printed = p.printed.shown
-      ∙ ap (without_remedies whole) (causes-are_unique d flow b p.printed.all q.printed.all (is_net-net_of d flow ok)
+      ∙ ap (without_remedies whole) (causes-are_unique d flow b p.printed.all q.printed.all
+      (is_net-net_of d flow ok)
       (is_explained-same_flights d flow a b p.printed.all same p.printed.explained) q.printed.explained)
       ∙ sym q.printed.shown;
-  search = is_search_if_missed-unique (facts d) summary excluded flow a b x.search y.search same p.search q.search;
+  search = is_search_if_missed-unique (facts d) summary excluded flow a b x.search y.search same
+      p.search q.search;
   also = p.also ∙ also_missed-same_flights (facts d) flow a b same ∙ sym q.also;
 }

@@ -6,7 +6,9 @@ use Rattle.std.specs.Prelude.{codes, slice_index, decimal}
 use Rattle.std.proofs.lemmas.Bool.{eq-eqb, false≢true}
 use Rattle.mc_text.specs.Addr.{dotted}
 use Rattle.mc_text.proofs.BundleWords.{HasNoByte}
-use Rattle.mc_explain.proofs.LineFeedLemmas.{no_feed-dotted, no_feed-lan_name, number, no_feed-from_list_all, no_feed-router_name, no_feed-append}
+use Rattle.mc_explain.proofs.LineFeedLemmas.{no_feed-dotted, no_feed-lan_name, number}
+use Rattle.mc_explain.proofs.LineFeedLemmas.{no_feed-from_list_all, no_feed-router_name}
+use Rattle.mc_explain.proofs.LineFeedLemmas.{no_feed-append}
 use Rattle.mc_topology.specs.declared.flow.Flow.{Flow}
 use Rattle.mc_topology.specs.Topology.{TopologyValue, IsValidTopology, lan_name, router_name}
 use Rattle.mc_check.specs.ReasonText.{reason_text, verdict_text}
@@ -22,7 +24,8 @@ use Rattle.mc_run.specs.VerdictText.{flow_words, flow_line, flow_lines}
 
 -- ---- a verdict, and the words at a flow's line's start, have no line feed
 
-pub lan_name-no_line_feed : (front : List ℕ) (t : TopologyValue) (lan : ℕ) → HasNoByte 10 front → IsValidTopology t
+pub lan_name-no_line_feed : (front : List ℕ) (t : TopologyValue) (lan : ℕ) → HasNoByte 10 front
+    → IsValidTopology t
     → HasNoByte 10 (front ++ lan_name t lan)
 lan_name-no_line_feed front t lan p ok = no_feed-append front (lan_name t lan) p (no_feed-lan_name t lan ok)
 
@@ -33,30 +36,39 @@ router_and_vif-no_line_feed front t router vif p ok =
     let begun = no_feed-append front (router_name t router) p (no_feed-router_name t router ok) in
     no_feed-append _ (decimal vif) (no_feed-append _ (codes " ") begun (refl, tt)) (number vif)
 
-reason_text-no_line_feed : (t : TopologyValue) (r : Reason) → IsValidTopology t → HasNoByte 10 (reason_text t r)
+reason_text-no_line_feed : (t : TopologyValue) (r : Reason) → IsValidTopology t
+    → HasNoByte 10 (reason_text t r)
 reason_text-no_line_feed t (TwoEntries lan) ok = lan_name-no_line_feed (codes "TwoEntries ") t lan
     (no_feed-from_list_all (codes "TwoEntries ") refl) ok
 reason_text-no_line_feed t BadSource ok = no_feed-from_list_all (codes "BadSource") refl
-reason_text-no_line_feed t (Wildcard router vif) ok = router_and_vif-no_line_feed (codes "Wildcard ") t router vif
+reason_text-no_line_feed t (Wildcard router vif) ok = router_and_vif-no_line_feed
+    (codes "Wildcard ") t router vif
     (no_feed-from_list_all (codes "Wildcard ") refl) ok
 reason_text-no_line_feed t (Stray router vif) ok = router_and_vif-no_line_feed (codes "Stray ") t router vif
     (no_feed-from_list_all (codes "Stray ") refl) ok
 reason_text-no_line_feed t (Extra router vif lan) ok =
     let front = codes "Extra " ++ router_name t router ++ codes " " ++ decimal vif in
-    let begun = router_and_vif-no_line_feed (codes "Extra ") t router vif (no_feed-from_list_all (codes "Extra ") refl) ok in
+    let begun = router_and_vif-no_line_feed (codes "Extra ") t router vif
+    (no_feed-from_list_all (codes "Extra ") refl) ok in
     lan_name-no_line_feed (front ++ codes " ") t lan (no_feed-append front (codes " ") begun (refl, tt)) ok
 reason_text-no_line_feed t (WrongRank lan) ok = lan_name-no_line_feed (codes "WrongRank ") t lan
     (no_feed-from_list_all (codes "WrongRank ") refl) ok
 reason_text-no_line_feed t (WrongNeed lan) ok = lan_name-no_line_feed (codes "WrongNeed ") t lan
     (no_feed-from_list_all (codes "WrongNeed ") refl) ok
-reason_text-no_line_feed t (Unfed lan) ok = lan_name-no_line_feed (codes "Unfed ") t lan (no_feed-from_list_all (codes "Unfed ") refl) ok
-reason_text-no_line_feed t (Missed lan) ok = lan_name-no_line_feed (codes "Missed ") t lan (no_feed-from_list_all (codes "Missed ") refl) ok
-reason_text-no_line_feed t (Low lan) ok = lan_name-no_line_feed (codes "Low ") t lan (no_feed-from_list_all (codes "Low ") refl) ok
+reason_text-no_line_feed t (Unfed lan) ok = lan_name-no_line_feed (codes "Unfed ") t lan
+    (no_feed-from_list_all (codes "Unfed ") refl) ok
+reason_text-no_line_feed t (Missed lan) ok = lan_name-no_line_feed (codes "Missed ") t lan
+    (no_feed-from_list_all (codes "Missed ") refl) ok
+reason_text-no_line_feed t (Low lan) ok = lan_name-no_line_feed (codes "Low ") t lan
+    (no_feed-from_list_all (codes "Low ") refl) ok
 
-verdict_text-no_line_feed : (t : TopologyValue) (v : Verdict) → IsValidTopology t → HasNoByte 10 (verdict_text t v)
-verdict_text-no_line_feed t (Yes copies) ok = no_feed-append (codes "yes copies ") _ (no_feed-from_list_all (codes "yes copies ") refl)
+verdict_text-no_line_feed : (t : TopologyValue) (v : Verdict) → IsValidTopology t
+    → HasNoByte 10 (verdict_text t v)
+verdict_text-no_line_feed t (Yes copies) ok = no_feed-append (codes "yes copies ") _
+    (no_feed-from_list_all (codes "yes copies ") refl)
     (number copies)
-verdict_text-no_line_feed t (No r) ok = no_feed-append (codes "no ") _ (no_feed-from_list_all (codes "no ") refl) (reason_text-no_line_feed t r ok)
+verdict_text-no_line_feed t (No r) ok = no_feed-append (codes "no ") _
+    (no_feed-from_list_all (codes "no ") refl) (reason_text-no_line_feed t r ok)
 
 -- a flow's line, but for its line feed
 abbrev pub line_body : TopologyValue → Flow → Verdict → List ℕ
@@ -65,12 +77,14 @@ line_body t f v = flow_words f ++ (codes " " ++ verdict_text t v)
 pub flow_line_body : (t : TopologyValue) (f : Flow) (v : Verdict) → IsValidTopology t
     → HasNoByte 10 (line_body t f v)
 flow_line_body t f v ok =
-    let ttl = no_feed-append (codes " ttl ") (decimal f.ttl) (no_feed-from_list_all (codes " ttl ") refl) (number f.ttl) in
+    let ttl = no_feed-append (codes " ttl ") (decimal f.ttl)
+    (no_feed-from_list_all (codes " ttl ") refl) (number f.ttl) in
     let group = no_feed-append (dotted f.group) _ (no_feed-dotted f.group) ttl in
     let source = no_feed-append (dotted f.source) _ (no_feed-dotted f.source)
     (no_feed-append (codes " ") _ (refl, tt) group) in
     let last = no_feed-append (codes " ") _ (refl, tt) (verdict_text-no_line_feed t v ok) in
-    no_feed-append (flow_words f) _ (no_feed-append (codes "flow ") _ (no_feed-from_list_all (codes "flow ") refl) source) last
+    no_feed-append (flow_words f) _ (no_feed-append (codes "flow ") _
+    (no_feed-from_list_all (codes "flow ") refl) source) last
 
 -- a flow's line is its body and a line feed
 pub flow_line-line_body : (t : TopologyValue) (f : Flow) (v : Verdict)
@@ -156,7 +170,8 @@ no_yes_line-no_lines = record {
       record { front = front; starts = starts; is = same };
 }
 
-pub no_yes_line-append : (xs ys : List ℕ) → AreLinesWithoutYes xs → AreLinesWithoutYes ys → AreLinesWithoutYes (xs ++ ys)
+pub no_yes_line-append : (xs ys : List ℕ) → AreLinesWithoutYes xs → AreLinesWithoutYes ys
+    → AreLinesWithoutYes (xs ++ ys)
 no_yes_line-append xs ys p q = record {
   starts = is_line_start-append xs ys p.starts q.starts;
   left = λ begin front rest tail are starts same.
@@ -171,7 +186,8 @@ pub no_yes_line-line : (xs : List ℕ) → HasNoByte 10 xs
 no_yes_line-line xs none other = record {
   starts = inr (xs, refl);
   left = λ begin front rest tail are starts same.
-      elim (is_left-inside_line begin xs tail front rest none starts (sym (append_assoc xs (codes "\n") tail) ∙ same)) [
+      elim (is_left-inside_line begin xs tail front rest none starts
+      (sym (append_assoc xs (codes "\n") tail) ∙ same)) [
         | inl begins ↦ absurd (other begin tail rest are begins)
         | inr left ↦ left
       ];
@@ -195,13 +211,16 @@ yes_words-other_first_byte (b ∷ xs) begin tail rest other (inr is) same =
     false≢true (sym other.1 ∙ eq-eqb b 123 here)
 
 -- a line of which that is so
-pub no_yes_line-text_line : (line xs : List ℕ) → BeginsWithOtherByte xs → HasNoByte 10 xs → line ≡ xs ++ codes "\n"
+pub no_yes_line-text_line : (line xs : List ℕ) → BeginsWithOtherByte xs → HasNoByte 10 xs → line
+    ≡ xs ++ codes "\n"
     → AreLinesWithoutYes line
 no_yes_line-text_line line xs other none is =
     subst AreLinesWithoutYes (sym is)
-    (no_yes_line-line xs none (λ begin tail rest are same. yes_words-other_first_byte xs begin tail rest other are same))
+    (no_yes_line-line xs none (λ begin tail rest are same. yes_words-other_first_byte xs begin tail
+    rest other are same))
 
-pub no_yes_line-if : (b : Bool) (xs ys : List ℕ) → AreLinesWithoutYes xs → AreLinesWithoutYes ys → AreLinesWithoutYes (cond b xs ys)
+pub no_yes_line-if : (b : Bool) (xs ys : List ℕ) → AreLinesWithoutYes xs → AreLinesWithoutYes ys
+    → AreLinesWithoutYes (cond b xs ys)
 no_yes_line-if true xs ys p q = p
 no_yes_line-if false xs ys p q = q
 
@@ -210,7 +229,8 @@ no_yes_line-if false xs ys p q = q
 pub no_yes_line-verdict_line : (t : TopologyValue) (f : Flow) (v : Verdict) → IsValidTopology t
     → AreLinesWithoutYes (flow_line t f v)
 no_yes_line-verdict_line t f v ok =
-    no_yes_line-text_line (flow_line t f v) (line_body t f v) (refl, refl) (flow_line_body t f v ok) (flow_line-line_body t f v)
+    no_yes_line-text_line (flow_line t f v) (line_body t f v) (refl, refl) (flow_line_body t f v ok)
+    (flow_line-line_body t f v)
 
 pub no_yes_line-flow_lines : (t : TopologyValue) (fs : List Flow) (vs : List Verdict) → IsValidTopology t
     → AreLinesWithoutYes (flow_lines t fs vs)

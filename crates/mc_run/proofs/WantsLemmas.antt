@@ -25,6 +25,7 @@ answers_wants-list_fault_kind text group source f read list.Memory = tt
 -- the answer for a list that is refused, or for which memory ran out
 pub answers_wants-list_fault : (text : List ℕ) (group source : ℕ) (f : ListFault)
     → (read_list text ≡ Err f) ⊎ (f ≡ oom_fault) → AnswersWants text group source (Err (from_list_fault f))
-answers_wants-list_fault text group source f (inl read) = answers_wants-list_fault_kind text group source f read f.kind
+answers_wants-list_fault text group source f (inl read) = answers_wants-list_fault_kind text group
+    source f read f.kind
 answers_wants-list_fault text group source f (inr none) =
     subst (λ (x : ListFault). AnswersWants text group source (Err (from_list_fault x))) (sym none) tt

@@ -88,7 +88,8 @@ ReadingEndsWith new group source wanted text =
     (seen : List Record) × (read_list text ≡ prepend_records seen (list_if new []))
     × (IsTrue wanted ↔ Wants seen group source)
 
-reading_ends-reads_pieces : (contents left : Option (List ℕ)) (old new : ListSoFar) (group source : ℕ) (w : Bool)
+reading_ends-reads_pieces : (contents left : Option (List ℕ)) (old new : ListSoFar)
+    (group source : ℕ) (w : Bool)
     → ((text : List ℕ) → list_if old text ≡ read_list text)
     → ReadsPieces contents left old new group source w → (new.size < 16777217 → IsAtEnd left)
     → IfSome contents (ReadingEndsWith new group source w)

@@ -29,7 +29,8 @@ last_words_of_verdict json true = yes_words json
 last_words_of_verdict true false = codes "{\"verdict\":\"no\"}"
 last_words_of_verdict false false = codes "verdict no"
 
-last_words-verdict_line : (json all : Bool) → verdict_line json all ≡ last_words_of_verdict json all ++ codes "\n"
+last_words-verdict_line : (json all : Bool) → verdict_line json all ≡ last_words_of_verdict json all
+    ++ codes "\n"
 unfolding escape_byte
 last_words-verdict_line true true = refl
 last_words-verdict_line true false = refl
@@ -89,19 +90,25 @@ yes_words-not_at_start : (b : ℕ) (xs : List ℕ) → [] ≡ b ∷ xs → ⊥
 yes_words-not_at_start b xs same = absurd cc
 
 yes_words-not_inside : (front words rest : List ℕ) → AreYesWords words → [] ≡ front ++ (words ++ rest) → ⊥
-yes_words-not_inside [] words rest (inl is) same = yes_words-not_at_start _ _ (same ∙ ap (λ xs. xs ++ rest) is)
-yes_words-not_inside [] words rest (inr is) same = yes_words-not_at_start _ _ (same ∙ ap (λ xs. xs ++ rest) is)
-yes_words-not_inside (b ∷ front) words rest are same = yes_words-not_at_start b (front ++ (words ++ rest)) same
+yes_words-not_inside [] words rest (inl is) same = yes_words-not_at_start _ _
+    (same ∙ ap (λ xs. xs ++ rest) is)
+yes_words-not_inside [] words rest (inr is) same = yes_words-not_at_start _ _
+    (same ∙ ap (λ xs. xs ++ rest) is)
+yes_words-not_inside (b ∷ front) words rest are same = yes_words-not_at_start b
+    (front ++ (words ++ rest)) same
 
 -- ---- lines, and the last one after them
 
-has_line-last_words : (lines words front rest : List ℕ) (json all : Bool) → AreLinesWithoutYes lines → AreYesWords words
+has_line-last_words : (lines words front rest : List ℕ) (json all : Bool) → AreLinesWithoutYes lines
+    → AreYesWords words
     → IsLineStart front → lines ++ verdict_line json all ≡ front ++ (words ++ rest)
     → IsLastLineYes json all words rest
 has_line-last_words lines words front rest json all other are starts same =
     let split_text = ap (λ xs. lines ++ xs) (sym (last_words-verdict_line json all)) ∙ same in
-    let l = other.left words front rest (last_words_of_verdict json all ++ codes "\n") are starts split_text in
-    elim (is_left-inside_line words (last_words_of_verdict json all) [] l.front rest (last_words-no_line_feed json all) l.starts l.is) [
+    let l = other.left words front rest (last_words_of_verdict json all ++ codes "\n") are starts
+    split_text in
+    elim (is_left-inside_line words (last_words_of_verdict json all) [] l.front rest
+    (last_words-no_line_feed json all) l.starts l.is) [
       | inl begins ↦ yes_words-begin_last_line json all words rest are begins
       | inr left ↦ absurd (yes_words-not_inside left.front words rest are left.is)
     ]
@@ -128,13 +135,15 @@ has_line-check_text text written old v =
     (v.holds.spelled
     ∙ ap (λ all. flow_lines t t.flows verdicts ++ verdict_line false all) (sym v.holds.answer))
 
-pub is_last_line_yes-check_text : (text written front rest : List ℕ) (all : Bool) → IsVerdictText text all written
+pub is_last_line_yes-check_text : (text written front rest : List ℕ) (all : Bool)
+    → IsVerdictText text all written
     → IsLineStart front → written ≡ front ++ (codes "verdict yes" ++ rest)
     → (all ≡ true) × (rest ≡ codes "\n")
 is_last_line_yes-check_text text written front rest all v starts is =
     let t = v.domain.domain.topology in
     let verdicts = v.holds.verdicts in
-    let run_output = has_line-last_words (flow_lines t t.flows verdicts) (codes "verdict yes") front rest false
+    let run_output = has_line-last_words (flow_lines t t.flows verdicts) (codes "verdict yes") front
+    rest false
     (are_yes verdicts) (no_yes_line-flow_lines t t.flows verdicts v.means.domain.rules.topology) (inl refl)
     starts (sym v.holds.spelled ∙ is) in
     (v.holds.answer ∙ run_output.all_are, run_output.last)
@@ -145,12 +154,15 @@ says_yes_by_line-verdict_text text all written v (front, rest, starts, is) =
     (is_last_line_yes-check_text text written front rest all v starts is).0
 
 -- and the headline holds after a check that says yes
-pub headline_of_bundle-check_yes : (contents : Option (List ℕ)) (s : Result RunOutput RunFault) (r : Result Bool RunFault)
+pub headline_of_bundle-check_yes : (contents : Option (List ℕ)) (s : Result RunOutput RunFault)
+    (r : Result Bool RunFault)
     (old new : Option (List ℕ)) → IsOutputOf contents IsVerdictText s
-    → IfOk s (λ run_output. IsTrue run_output.yes → IfSome contents BundleKeepsHeadline) → IsOutputWritten s r old new
+    → IfOk s (λ run_output. IsTrue run_output.yes → IfSome contents BundleKeepsHeadline)
+    → IsOutputWritten s r old new
     → SaysYes r old new → IfSome contents BundleKeepsHeadline
 headline_of_bundle-check_yes contents s r old new says keeps is yes_holds =
-    headline-check_says_yes contents IsVerdictText BundleKeepsHeadline s r old new says_yes_by_line-verdict_text says keeps is yes_holds
+    headline-check_says_yes contents IsVerdictText BundleKeepsHeadline s r old new
+    says_yes_by_line-verdict_text says keeps is yes_holds
 
 -- ---- the text of an audit
 
@@ -174,14 +186,16 @@ no_yes_line-before_verdict : (names : List (List ℕ)) (files : List FileText) (
     (written : List ℕ) (a : IsAuditText o names files all written)
     → AreLinesWithoutYes (text_before_verdict a.domain o a.holds.answers)
 no_yes_line-before_verdict names files o all written a =
-    no_yes_line-text_before_verdict a.domain o a.holds.answers a.holds.are_answers a.means.means.rules.topology
+    no_yes_line-text_before_verdict a.domain o a.holds.answers a.holds.are_answers
+    a.means.means.rules.topology
 
 pub has_line-audit_text : (names : List (List ℕ)) (files : List FileText) (o : AuditOptions)
     (written old : List ℕ) → IsAuditText o names files true written
     → WroteAtStart (yes_words o.json) (Some old) (Some (old ++ written))
 has_line-audit_text names files o written old a =
     is_last_line_yes-wrote (text_before_verdict a.domain o a.holds.answers) written old o.json
-    (no_yes_line-before_verdict names files o true written a) (audit_text-lines_and_verdict names files o true written a)
+    (no_yes_line-before_verdict names files o true written a)
+    (audit_text-lines_and_verdict names files o true written a)
 
 is_last_line_yes-audit_line : (names : List (List ℕ)) (files : List FileText) (o : AuditOptions) (all : Bool)
     (words written front rest : List ℕ) → IsAuditText o names files all written → IsLineStart front
@@ -191,7 +205,8 @@ is_last_line_yes-audit_line names files o all words written front rest a starts 
     (no_yes_line-before_verdict names files o all written a) are starts
     (sym (audit_text-lines_and_verdict names files o all written a) ∙ is)
 
-pub is_last_line_yes-audit_text : (names : List (List ℕ)) (files : List FileText) (o : AuditOptions) (all : Bool)
+pub is_last_line_yes-audit_text : (names : List (List ℕ)) (files : List FileText) (o : AuditOptions)
+    (all : Bool)
     (words written front rest : List ℕ) → IsAuditText o names files all written → IsLineStart front
     → AreYesWords words → written ≡ front ++ (words ++ rest)
     → (all ≡ true) × (words ≡ yes_words o.json) × (rest ≡ codes "\n")

@@ -127,7 +127,8 @@ end_text_or_objects o t summary excluded all flows right wrong unwanted =
 abbrev pub end_lines : AuditOptions → TopologyValue → List SummaryValue → (excluded : List Bool)
     → (all : Bool) → List FlowAnswer → List ℕ
 end_lines o t summary excluded all answers =
-    end_text_or_objects o t summary excluded all (length answers) (count is_right answers) (count is_wrong answers)
+    end_text_or_objects o t summary excluded all (length answers) (count is_right answers)
+    (count is_wrong answers)
     (count is_unwanted answers)
 
 -- the last line

@@ -25,9 +25,11 @@ is_hidden faults wanted = faults && not (length wanted == 0)
 abbrev pub unless_hidden : (faults : Bool) → (wanted : List ℕ) → (lines : List ℕ) → List ℕ
 unless_hidden faults wanted lines = if is_hidden faults wanted then [] else lines
 
-abbrev pub right_lines_or_object : (json whole : Bool) → TopologyValue → (printed : List Tree) → (number : ℕ) → Flow
+abbrev pub right_lines_or_object : (json whole : Bool) → TopologyValue → (printed : List Tree)
+    → (number : ℕ) → Flow
     → Tree → (wanted : List ℕ) → List ℕ
-right_lines_or_object true whole t printed number f es wanted = right_objects whole t printed number f es wanted
+right_lines_or_object true whole t printed number f es wanted = right_objects whole t printed number
+    f es wanted
 right_lines_or_object false whole t printed number f es wanted = right_lines whole t f (length es) wanted
 
 -- the lines of a right flow with this tree, where the whole domain is known, or not
@@ -38,7 +40,8 @@ right_flow_lines o whole t printed number f es wanted =
 
 -- ---- a flow that isn't
 
-abbrev pub wrong_lines_or_object : (json travels : Bool) → DomainFacts → List SummaryValue → (number : ℕ) → Flow
+abbrev pub wrong_lines_or_object : (json travels : Bool) → DomainFacts → List SummaryValue
+    → (number : ℕ) → Flow
     → (ttl : ℕ) → Travel → Explanation → List ℕ
 wrong_lines_or_object true travels d summary number f ttl travel x =
     wrong_object travels d summary number f ttl travel x
@@ -47,7 +50,8 @@ wrong_lines_or_object false travels d summary number f ttl travel x =
 
 abbrev pub wrong_flow_lines : AuditOptions → DomainFacts → List SummaryValue → (number : ℕ) → Flow
     → (ttl : ℕ) → Travel → Explanation → List ℕ
-wrong_flow_lines o d summary number f ttl travel x = wrong_lines_or_object o.json o.travels d summary number f ttl travel x
+wrong_flow_lines o d summary number f ttl travel x = wrong_lines_or_object o.json o.travels d
+    summary number f ttl travel x
 
 -- ---- a flow
 

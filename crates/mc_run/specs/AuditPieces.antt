@@ -79,7 +79,8 @@ pub record AreFlowsPushed (v : AuditedValue) (o : AuditOptions) (k : ℕ) (s : F
 -- The lines of all flows were appended, and these are their counts.
 abbrev pub AreAllFlowsPushed : AuditedDomain → AuditOptions → FlowCounts → (old new : List ℕ) → Type 0
 AreAllFlowsPushed a o flow_counts old new = (printed : List Tree)
-    × AreFlowsPushed (audited_value a) o (length (audited_value a).domain.topology.flows) flow_counts printed old new
+    × AreFlowsPushed (audited_value a) o (length (audited_value a).domain.topology.flows)
+    flow_counts printed old new
 
 -- ---- the lines of one flow, as they are appended
 
@@ -95,16 +96,19 @@ lans_wanting_flow a flow = lans_wanting (facts (audited_value a).domain) flow
 
 -- a right flow, as text with its number of copies,
 abbrev pub right_lines_of : AuditedDomain → (copies : ℕ) → (flow : ℕ) → Flow → List ℕ
-right_lines_of a copies flow f = right_lines (is_whole (audited_value a)) (audited_value a).domain.topology f copies
+right_lines_of a copies flow f = right_lines (is_whole (audited_value a))
+    (audited_value a).domain.topology f copies
     (lans_wanting_flow a flow)
 
 -- in JSON, after the printed trees,
 abbrev pub right_objects_of : AuditedDomain → (printed : List Tree) → Tree → (flow : ℕ) → Flow → List ℕ
-right_objects_of a printed es flow f = right_objects (is_whole (audited_value a)) (audited_value a).domain.topology
+right_objects_of a printed es flow f = right_objects (is_whole (audited_value a))
+    (audited_value a).domain.topology
     printed flow f es (lans_wanting_flow a flow)
 
 -- and as the options ask
-abbrev pub right_flow_lines_of : AuditedDomain → AuditOptions → (printed : List Tree) → Tree → (flow : ℕ) → Flow
+abbrev pub right_flow_lines_of : AuditedDomain → AuditOptions → (printed : List Tree) → Tree
+    → (flow : ℕ) → Flow
     → List ℕ
 right_flow_lines_of a o printed es flow f = right_flow_lines o (is_whole (audited_value a))
     (audited_value a).domain.topology printed flow f es (lans_wanting_flow a flow)
@@ -121,7 +125,8 @@ searched_lines_of a search flow f =
 
 -- which other LANs the packet of a finished travel missed, if it missed one
 abbrev pub also_missed_lines : FinishedTravel → List ℕ
-also_missed_lines ended = also_missed_text ended.flight.domain.topology (missed_besides (facts ended.flight.domain)
+also_missed_lines ended = also_missed_text ended.flight.domain.topology
+    (missed_besides (facts ended.flight.domain)
     ended.flight.flow ended.flight.flight.carried ended.travel.finding)
 
 -- the lines that explain the finding of a finished travel
@@ -139,7 +144,8 @@ wrong_lines_of a travels ttl ended causes search flow f = wrong_lines travels (f
 -- in JSON,
 abbrev pub wrong_object_of : AuditedDomain → (travels : Bool) → (ttl : ℕ) → FinishedTravel → List Cause
     → Option LanSearch → (flow : ℕ) → Flow → List ℕ
-wrong_object_of a travels ttl ended causes search flow f = wrong_object travels (facts (audited_value a).domain)
+wrong_object_of a travels ttl ended causes search flow f = wrong_object travels
+    (facts (audited_value a).domain)
     (audited_value a).summary flow f ttl ended.travel (explanation_in ended causes search)
 
 -- and as the options ask
@@ -152,17 +158,20 @@ wrong_flow_lines_of a o ttl ended causes search flow f = wrong_flow_lines o (fac
 
 -- as text, where the verdict is yes or not,
 abbrev pub end_text_of : AuditedDomain → AuditOptions → FlowCounts → (all : Bool) → List ℕ
-end_text_of a o s all = end_text o (audited_value a).domain.topology (audited_value a).summary a.excluded.now all
+end_text_of a o s all = end_text o (audited_value a).domain.topology (audited_value a).summary
+    a.excluded.now all
     (length (audited_value a).domain.topology.flows) s.right s.wrong s.unwanted
 
 -- in JSON,
 abbrev pub end_objects_of : AuditedDomain → AuditOptions → FlowCounts → List ℕ
-end_objects_of a o s = end_objects o (audited_value a).domain.topology (audited_value a).summary a.excluded.now
+end_objects_of a o s = end_objects o (audited_value a).domain.topology (audited_value a).summary
+    a.excluded.now
     s.right s.wrong s.unwanted
 
 -- and as the options ask
 abbrev pub end_text_or_objects_of : AuditedDomain → AuditOptions → FlowCounts → (all : Bool) → List ℕ
-end_text_or_objects_of a o s all = end_text_or_objects o (audited_value a).domain.topology (audited_value a).summary
+end_text_or_objects_of a o s all = end_text_or_objects o (audited_value a).domain.topology
+    (audited_value a).summary
     a.excluded.now all (length (audited_value a).domain.topology.flows) s.right s.wrong s.unwanted
 
 -- ---- the output of an audit

@@ -10,7 +10,9 @@ use Rattle.mc_replay.specs.declared.finding.Finding.{Finding}
 use Rattle.mc_replay.specs.declared.finding.Finding.TheVariants.{Clean, Duplicate, Loop, Stray}
 use Rattle.mc_replay.specs.declared.finding.Finding.TheVariants.{Missed}
 use Rattle.mc_maker.specs.declared.examined_flights.ExaminedFlights.{ExaminedFlights}
-use Rattle.mc_maker.specs.declared.examined_flights.ExaminedFlights.TheVariants.{Certified, FoundAtTtl255, FoundAtFlowTtl}
+use Rattle.mc_maker.specs.declared.examined_flights.ExaminedFlights.TheVariants.{Certified}
+use Rattle.mc_maker.specs.declared.examined_flights.ExaminedFlights.TheVariants.{FoundAtTtl255}
+use Rattle.mc_maker.specs.declared.examined_flights.ExaminedFlights.TheVariants.{FoundAtFlowTtl}
 use Rattle.mc_explain.specs.Explained.{IsExplained}
 use Rattle.mc_explain.specs.SearchReach.{IsLanSearch}
 use Rattle.mc_explain.specs.SearchLine.{Search}
@@ -51,7 +53,8 @@ IsSearchIfMissed s events (Loop lan) search = search ≡ None
 IsSearchIfMissed s events (Stray router vif) search = search ≡ None
 
 -- the search for a LAN that a packet with TTL 255 missed
-abbrev pub IsSearchAt255 : DomainFacts → List SummaryValue → (excluded : List Bool) → (flow : ℕ) → ExaminedFlights
+abbrev pub IsSearchAt255 : DomainFacts → List SummaryValue → (excluded : List Bool) → (flow : ℕ)
+    → ExaminedFlights
     → Option LanSearch → Type 0
 IsSearchAt255 d summary excluded flow (Certified entries) search = search ≡ None
 IsSearchAt255 d summary excluded flow (FoundAtTtl255 ended) search =
@@ -76,7 +79,8 @@ without_remedies true printed = printed
 without_remedies false printed = filter (λ t. not (is_remedy t)) printed
 
 -- the printed causes of an examined flow
-pub record ArePrintedCauses (whole : Bool) (d : DomainValue) (flow : ℕ) (flights : ExaminedFlights) (printed : List Cause)
+pub record ArePrintedCauses (whole : Bool) (d : DomainValue) (flow : ℕ) (flights : ExaminedFlights)
+    (printed : List Cause)
     : Type 0 where
   pub all : List Cause
   pub explained : IsExplained d flow flights all

@@ -1,6 +1,7 @@
 -- The answer and the text of `mcaudit audit`, and what its yes promises.
 use Rattle.std.specs.Prelude.{◌≡◌, ◌≤◌, ◌==◌, ◌&&◌, ◌⊎◌, ℕ, Bool, true, false, List, [], ◌++◌, codes}
-use Rattle.std.specs.Prelude.{flat_map, fold, if◌then◌else◌, length, slice_get, take, Option, Some, Result, Ok}
+use Rattle.std.specs.Prelude.{flat_map, fold, if◌then◌else◌, length, slice_get, take, Option, Some}
+use Rattle.std.specs.Prelude.{Result, Ok}
 use Rattle.mc_files.specs.Files.{FileText}
 use Rattle.mc_tables.specs.Summary.{SummaryValue}
 use Rattle.mc_topology.specs.declared.flow.Flow.{Flow}
@@ -57,7 +58,8 @@ pub record IsChecked (d : DomainValue) (flow : ℕ) (x : Examined) : Type 0 wher
 -- What is printed of the flow with this number, after flows whose trees were printed: the result of its
 -- examination, by the flights of its packets, what explains it, and the LANs that want the flow; and
 -- the lines of all this.
-pub record IsFlowAnswer (v : AuditedValue) (o : AuditOptions) (printed : List Tree) (flow : ℕ) (a : FlowAnswer)
+pub record IsFlowAnswer (v : AuditedValue) (o : AuditOptions) (printed : List Tree) (flow : ℕ)
+    (a : FlowAnswer)
     : Type 0 where
   pub listed : Flow
   pub flights : ExaminedFlights

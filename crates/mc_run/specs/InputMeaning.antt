@@ -80,4 +80,5 @@ AreRefusedWithout names files Read = ⊤
 AreRefusedWithout names files Write = ⊤
 AreRefusedWithout names files Memory = ⊤
 AreRefusedWithout names files fault =
-    (cause : WithoutFault) × (input_of_files_without names files ≡ Err cause) × (fault ≡ from_without_fault cause)
+    (cause : WithoutFault) × (input_of_files_without names files ≡ Err cause)
+    × (fault ≡ from_without_fault cause)

@@ -30,4 +30,5 @@ front_after_more s more = first_100_bytes (s.front.items ++ line_after_feeds s.b
 -- makes of the new state.
 abbrev pub TakesPiece : (old new : LineFront) → (piece : List ℕ) → (found : Bool) → Type 0
 TakesPiece old new piece found =
-    (more : List ℕ) → front_after_more old (piece ++ more) ≡ (if found then new.front.items else front_after_more new more)
+    (more : List ℕ) → front_after_more old (piece ++ more)
+    ≡ (if found then new.front.items else front_after_more new more)

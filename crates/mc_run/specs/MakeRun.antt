@@ -15,7 +15,8 @@ use Rattle.mc_cert.specs.Certificate.{Tree, IsEntryOf, IsWritableTree}
 use Rattle.mc_cert.specs.CertificateText.{certificate_text}
 use Rattle.mc_replay.specs.TravelText.{finding_text}
 use Rattle.mc_replay.specs.declared.finding.Finding.{Finding}
-use Rattle.mc_maker.specs.Examined.{FindsFault, IfCertified, IfFound, AreEntriesOfCleanTravel, IsFirstPickTravel}
+use Rattle.mc_maker.specs.Examined.{FindsFault, IfCertified, IfFound, AreEntriesOfCleanTravel}
+use Rattle.mc_maker.specs.Examined.{IsFirstPickTravel}
 use Rattle.mc_maker.specs.Examined.{IsTtlOfFault, is_certified}
 use Rattle.mc_maker.specs.declared.examination.Examined.{Examined}
 use Rattle.mc_maker.specs.declared.examination.Examined.TheVariants.{Certified, Found}

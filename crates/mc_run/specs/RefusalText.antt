@@ -8,7 +8,8 @@ use Rattle.std.specs.Io.KnownBytes.{Appends}
 use Rattle.mc_text.specs.Device.{AppendsProperPrefix}
 use Rattle.mc_files.specs.Files.{FileText, file_named}
 use Rattle.mc_files.specs.FilePart.{unread_text}
-use Rattle.mc_input.specs.RefusedFiles.{AreUnreadFilesMissing, AreRefusedFiles, saturating_failures, refused_files_of, as_judged_file}
+use Rattle.mc_input.specs.RefusedFiles.{AreUnreadFilesMissing, AreRefusedFiles, saturating_failures}
+use Rattle.mc_input.specs.RefusedFiles.{refused_files_of, as_judged_file}
 use Rattle.mc_input.specs.RefusedFiles.{unread_count}
 use Rattle.mc_input.specs.declared.each_file.RefusedFile.{RefusedFile}
 use Rattle.mc_input.specs.declared.each_file.Refusal.{Refusal}
@@ -41,7 +42,8 @@ pub record IsFrontInFile (contents : Option (List FileText)) (name : List ℕ) (
     : Type 0 where
   pub few : length front ≤ 100
   pub known : (files : List FileText) → contents ≡ Some files →
-      (bytes : List ℕ) × (file_named files name ≡ Some bytes) × (front ≡ line_front line (take 16777216 bytes))
+      (bytes : List ℕ) × (file_named files name ≡ Some bytes)
+      × (front ≡ line_front line (take 16777216 bytes))
 
 -- how many calls of a source fail where it gives this front, or gives none
 abbrev pub lost_calls : Option (List ℕ) → ℕ
@@ -80,10 +82,12 @@ IsRefusedFileLine contents file lost line =
     × (line ≡ codes "  " ++ (string_bytes file.name ++ (codes ": " ++ (words ++ codes "\n"))))
 
 -- the lines of files, in order
-abbrev pub AreRefusedFileLines : Option (List FileText) → List RefusedFile → (lost : ℕ) → (text : List ℕ) → Type 0
+abbrev pub AreRefusedFileLines : Option (List FileText) → List RefusedFile → (lost : ℕ)
+    → (text : List ℕ) → Type 0
 AreRefusedFileLines contents [] lost text = (lost ≡ 0) × (text ≡ [])
 AreRefusedFileLines contents (file ∷ files) lost text =
-    (one more : ℕ) × (line rest : List ℕ) × IsRefusedFileLine contents file one line × AreRefusedFileLines contents files more rest
+    (one more : ℕ) × (line rest : List ℕ) × IsRefusedFileLine contents file one line
+    × AreRefusedFileLines contents files more rest
     × (lost ≡ one + more) × (text ≡ line ++ rest)
 
 -- the line with the number of further refused files, if there are any
@@ -103,8 +107,10 @@ AreFirst50Lines contents files lost text =
 pub record IsRefusalText (names : List (List ℕ)) (contents : Option (List FileText)) (before after : ℕ)
     (text : List ℕ) : Type 0 where
   pub refused : List RefusedFile
-  pub listed : (files : List FileText) → contents ≡ Some files → AreRefusedFiles names files (map as_judged_file refused)
-  pub exact : (files : List FileText) → contents ≡ Some files → AreUnreadFilesMissing files (map as_judged_file refused)
+  pub listed : (files : List FileText) → contents ≡ Some files
+      → AreRefusedFiles names files (map as_judged_file refused)
+  pub exact : (files : List FileText) → contents ≡ Some files
+      → AreUnreadFilesMissing files (map as_judged_file refused)
       → map as_judged_file refused ≡ refused_files_of names files
   pub lost : ℕ
   pub lines : AreFirst50Lines contents refused lost text
@@ -113,7 +119,8 @@ pub record IsRefusalText (names : List (List ℕ)) (contents : Option (List File
 -- ---- writing the text
 
 -- The text that was appended is right for the number of the source's calls that failed meanwhile.
-pub record AppendsWithFailures (IsRight : (lost : ℕ) → (added : List ℕ) → Type 0) (old new : List ℕ) (before after : ℕ)
+pub record AppendsWithFailures (IsRight : (lost : ℕ) → (added : List ℕ) → Type 0) (old new : List ℕ)
+    (before after : ℕ)
     : Type 0 where
   pub lost : ℕ
   pub added : List ℕ

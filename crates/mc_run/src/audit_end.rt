@@ -4,7 +4,8 @@ ghost use Rattle.std.specs.Prelude.{◌≡◌, ◌++◌, IfOk, OnOk, flat_map, m
 ghost use Rattle.std.specs.String.{string_bytes};
 ghost use Rattle.mc_forward.specs.ListedTables.{facts};
 ghost use Rattle.mc_run.specs.AuditEnd.{begin_lines, option_words};
-ghost use Rattle.mc_run.specs.AuditEnd.{strict_lines, summary_line, verdict_line, word_if_asked, without_words};
+ghost use Rattle.mc_run.specs.AuditEnd.{strict_lines, summary_line, verdict_line, word_if_asked};
+ghost use Rattle.mc_run.specs.AuditEnd.{without_words};
 ghost use Rattle.mc_run.specs.AuditPieces.{end_objects_of, end_text_of, end_text_or_objects_of};
 
 use crate::audit_options::AuditOptions;

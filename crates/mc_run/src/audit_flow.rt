@@ -4,7 +4,8 @@ ghost use Rattle.std.specs.Prelude.{◌≡◌, ◌<◌, IfOk, List, length};
 ghost use Rattle.std.specs.String.{string_bytes};
 ghost use Rattle.mc_cert.specs.Certificate.{Tree};
 ghost use Rattle.mc_maker.specs.ExaminedFlights.{HasExaminedFlights, without_flights};
-ghost use Rattle.mc_maker.specs.declared.examined_flights.ExaminedFlights.TheVariants.{FoundAtTtl255, FoundAtFlowTtl};
+ghost use Rattle.mc_maker.specs.declared.examined_flights.ExaminedFlights.TheVariants.{FoundAtTtl255};
+ghost use Rattle.mc_maker.specs.declared.examined_flights.ExaminedFlights.TheVariants.{FoundAtFlowTtl};
 ghost use Rattle.mc_run.specs.AuditPieces.{IsFlowPushed, HasItsMarksAndInterfaces, audited_value};
 ghost use Rattle.mc_run.specs.AuditReasons.{ArePrintedCauses, is_remedy as says_remedy, without_remedies};
 ghost use Rattle.mc_run.specs.AuditRun.{is_whole};
@@ -72,7 +73,8 @@ fn push_found_at_255(
     requires examined { IsExamined (audited_value audited.now).domain flow
         (without_flights (audited_value audited.now).domain flow flights.now) }
     requires is { flights.now ≡ FoundAtTtl255 ended.now }
-    ensures ok { IfOk result (λ flow_status. (shown_trees : List Tree) → IsFlowPushed (audited_value audited.now) options
+    ensures ok { IfOk result (λ flow_status. (shown_trees : List Tree)
+        → IsFlowPushed (audited_value audited.now) options
         flow flow_status shown_trees shown_trees (string_bytes text.old) (string_bytes text.new)) }
 {
     let causes = causes_to_print(alloc, audited, flow, flights)?;
@@ -99,7 +101,8 @@ fn push_found_at_flow_ttl(
     requires examined { IsExamined (audited_value audited.now).domain flow
         (without_flights (audited_value audited.now).domain flow flights.now) }
     requires is { flights.now ≡ FoundAtFlowTtl greatest.now least.now }
-    ensures ok { IfOk result (λ flow_status. (shown_trees : List Tree) → IsFlowPushed (audited_value audited.now) options
+    ensures ok { IfOk result (λ flow_status. (shown_trees : List Tree)
+        → IsFlowPushed (audited_value audited.now) options
         flow flow_status shown_trees shown_trees (string_bytes text.old) (string_bytes text.new)) }
 {
     let ttl = audited.domain.topology().flow(flow).ttl;
@@ -126,7 +129,8 @@ fn push_examined(
     requires flights { HasExaminedFlights (audited_value audited.now).domain flow flights.now }
     requires examined { IsExamined (audited_value audited.now).domain flow
         (without_flights (audited_value audited.now).domain flow flights.now) }
-    ensures ok { IfOk result (λ flow_status. IsFlowPushed (audited_value audited.now) options flow flow_status shown_trees.old
+    ensures ok { IfOk result (λ flow_status. IsFlowPushed (audited_value audited.now) options flow
+        flow_status shown_trees.old
         shown_trees.new (string_bytes text.old) (string_bytes text.new)) }
 {
     match flights {
@@ -137,7 +141,9 @@ fn push_examined(
             push_found_at_255(alloc, audited, flow, flights, ended, options, text)
         }
         ExaminedFlights::FoundAtFlowTtl { greatest, least } => {
-            push_found_at_flow_ttl(alloc, audited, flow, flights, greatest, least, options, text)
+            push_found_at_flow_ttl(
+                alloc, audited, flow, flights, greatest, least, options, text,
+            )
         }
     }
 }
@@ -155,7 +161,8 @@ pub(crate) fn push_flow(
     requires flow { flow < length (audited_value audited.now).domain.topology.flows }
     requires ready { HasItsMarksAndInterfaces audited.now }
     requires few { length shown_trees.old < 4096 }
-    ensures ok { IfOk result (λ flow_status. IsFlowPushed (audited_value audited.now) options flow flow_status shown_trees.old
+    ensures ok { IfOk result (λ flow_status. IsFlowPushed (audited_value audited.now) options flow
+        flow_status shown_trees.old
         shown_trees.new (string_bytes text.old) (string_bytes text.new)) }
 {
     let flights = examine_to_end(alloc, audited.domain, flow)?;

@@ -29,7 +29,8 @@ impl AuditOutput {
     /// The output of the run, and the number of unwanted flows, 0 for a fault.
     pub(crate) fn parts(audit: Result<AuditOutput, RunFault>) -> (Result<RunOutput, RunFault>, u32)
         ensures run_output { result.0 ≡ output_of audit }
-        ensures unwanted { (run_output : AuditOutputValue) → audit ≡ Ok run_output → result.1 ≡ run_output.unwanted }
+        ensures unwanted { (run_output : AuditOutputValue) → audit ≡ Ok run_output → result.1
+            ≡ run_output.unwanted }
     {
         match audit {
             Ok(

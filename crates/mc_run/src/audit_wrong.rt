@@ -5,7 +5,8 @@ ghost use Rattle.std.specs.String.{string_bytes};
 ghost use Rattle.mc_maker.specs.ExaminedFlights.{IsFinishedTravelOf};
 ghost use Rattle.mc_run.specs.AuditPieces.{AppendsLinesOfFlow, HasItsMarksAndInterfaces, also_missed_lines};
 ghost use Rattle.mc_run.specs.AuditPieces.{audited_value, explanation_lines_of, search_context_of};
-ghost use Rattle.mc_run.specs.AuditPieces.{searched_lines_of, wrong_flow_lines_of, wrong_lines_of, wrong_object_of};
+ghost use Rattle.mc_run.specs.AuditPieces.{searched_lines_of, wrong_flow_lines_of, wrong_lines_of};
+ghost use Rattle.mc_run.specs.AuditPieces.{wrong_object_of};
 ghost use Rattle.mc_run.specs.AuditReasons.{IsSearchIfMissed};
 ghost use Rattle.mc_run.specs.AuditText.{events_if_shown};
 

@@ -68,7 +68,8 @@ fn certificate_text(alloc: Global, topology: &Topology, lists: Trees) -> Result<
 
 /// The text for a domain, and whether it is a certificate.
 fn make_for_domain(alloc: Global, domain: &Domain) -> Result<RunOutput, NoMemory>
-    ensures { IfOk result (λ run_output. IsMakeOutput domain.now run_output.yes (string_bytes run_output.text)) }
+    ensures { IfOk result (λ run_output. IsMakeOutput domain.now run_output.yes
+        (string_bytes run_output.text)) }
 {
     let made = examine_all(alloc, domain)?;
     if !made.lines.is_empty() {

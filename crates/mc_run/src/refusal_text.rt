@@ -9,7 +9,7 @@ ghost use Rattle.mc_input.specs.declared.each_file.Refusal.TheVariants.{Fault};
 ghost use Rattle.mc_run.specs.Failures.{is_write};
 ghost use Rattle.mc_run.specs.RefusalText.{AppendsWithFailures, AreFirst50Lines, AreRefusedFileLines};
 ghost use Rattle.mc_run.specs.RefusalText.{IsFrontText, IsReasonOfFile, IsRefusalReason, IsRefusedFileLine};
-ghost use Rattle.mc_run.specs.RefusalText.{ IsRefusalText, IsTextWritten};
+ghost use Rattle.mc_run.specs.RefusalText.{IsRefusalText, IsTextWritten};
 ghost use Rattle.mc_run.specs.RefusalText.{more_line, quoted};
 
 use crate::fault::RunFault;
@@ -72,7 +72,8 @@ fn push_fault<F: PieceSource>(
     requires room { 0 < length buffer.old }
     ensures same { F.borrows files.new ≡ F.borrows files.old }
     ensures kept { F.contents files.new ≡ F.contents files.old }
-    ensures adds { OnOk result (AppendsWithFailures (IsRefusalReason (F.contents files.old) name.now (Fault fault.now))
+    ensures adds { OnOk result (AppendsWithFailures (IsRefusalReason (F.contents files.old) name.now
+        (Fault fault.now))
         (string_bytes text.old) (string_bytes text.new) (F.failed files.old) (F.failed files.new)) }
 {
     let shown = ShownFault { fault };

@@ -28,7 +28,8 @@ pub(crate) fn write_output<W: Output>(
     ensures same { W.borrows output.new ≡ W.borrows output.old }
     ensures ended { IsOutputWritten run_output result (W.written output.old) (W.written output.new) }
     ensures unwritten { IfErr result (λ fault. fault ≢ RunFault.Write → output.new ≡ output.old) }
-    ensures reads { (before : ℕ) → failures_after is_read run_output before ≡ failures_after is_read result before }
+    ensures reads { (before : ℕ) → failures_after is_read run_output before
+        ≡ failures_after is_read result before }
     ensures failures { W.failed output.new ≡ failures_after is_write result (W.failed output.old) }
 {
     let run_output = match run_output {

@@ -43,16 +43,20 @@ pub fn run_task<R: Input, F: PieceSource, W: Output>(
     ensures output_same { W.borrows output.new ≡ W.borrows output.old }
     // What `run_wants` promises, with the group and the source of the task.
     ensures wants { IfWants task.now (λ group source. IsWantsRun group source
-        (R.remaining input.old) (R.remaining input.new) result (W.written output.old) (W.written output.new)) }
+        (R.remaining input.old) (R.remaining input.new) result
+        (W.written output.old) (W.written output.new)) }
     // What `run_check` promises.
     ensures check { IfCheck task.now (IsCheckRun
-        (R.remaining input.old) (R.remaining input.new) result (W.written output.old) (W.written output.new)) }
+        (R.remaining input.old) (R.remaining input.new) result
+        (W.written output.old) (W.written output.new)) }
     // What `run_make` promises.
     ensures make { IfMake task.now (IsMakeRun
-        (R.remaining input.old) (R.remaining input.new) result (W.written output.old) (W.written output.new)) }
+        (R.remaining input.old) (R.remaining input.new) result
+        (W.written output.old) (W.written output.new)) }
     // What `run_replay` promises, with the flow, the time to live and the order of the task.
     ensures replay { IfReplay task.now (λ flow ttl last. IsReplayRun flow ttl last
-        (R.remaining input.old) (R.remaining input.new) result (W.written output.old) (W.written output.new)) }
+        (R.remaining input.old) (R.remaining input.new) result
+        (W.written output.old) (W.written output.new)) }
     // What `run_pack` promises, with the certificate if the task asks for it, and yes once the bundle is
     // written.
     ensures pack { IfPack task.now (λ certificate. IsPackRun certificate

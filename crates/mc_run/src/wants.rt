@@ -132,7 +132,8 @@ pub fn run_wants<R: Input, W: Output>(
         Appends (W.written output.old) (W.written output.new) (answer_line wanted)) }
     // After a `Write` fault, a proper part of the line was written, from its front.
     ensures part { result ≡ Err RunFault.Write
-        → WritesPartOfLine (R.remaining input.old) group source (W.written output.old) (W.written output.new) }
+        → WritesPartOfLine (R.remaining input.old) group source (W.written output.old)
+        (W.written output.new) }
     // After any other fault, nothing was written.
     ensures unwritten { IfErr result (λ fault. fault ≢ RunFault.Write → output.new ≡ output.old) }
     // A fault is the list's, a device's, or `Memory`.

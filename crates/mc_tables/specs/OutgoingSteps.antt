@@ -18,8 +18,8 @@ threshold_in (threshold ∷ []) = ok_or (number_in 1 254 threshold) BadThreshold
 threshold_in parts = Err BadOif
 
 -- the vif of the part before the first colon, and then the threshold of the parts after it
-abbrev pub oif_in_turn : List ℕ → List (List ℕ) → Result (ℕ × ℕ) TableFaultKind
-oif_in_turn vif after = do
+abbrev pub oif_at_colon : List ℕ → List (List ℕ) → Result (ℕ × ℕ) TableFaultKind
+oif_at_colon vif after = do
   v ← ok_or (number_in 0 31 vif) BadOif
   t ← threshold_in after
   Ok (v, t)

@@ -71,7 +71,7 @@ fn after_address(line: &[u8]) -> &[u8]
 }
 
 /// The group and the source that a line begins with, read one after the other.
-fn addresses_in_turn(line: &[u8], order: Order) -> Option<(Addr, Addr)>
+fn addresses_one_by_one(line: &[u8], order: Order) -> Option<(Addr, Addr)>
     ensures { IfSome result (λ found. HasAddresses order line.now found.0 found.1) }
 {
     let group = address_at_front(line, order)?;
@@ -87,7 +87,7 @@ pub fn addresses_at_front(line: &[u8], order: Order) -> Option<(Addr, Addr)>
     if let Some(found) = addresses_together(line, order) {
         return Some(found);
     }
-    addresses_in_turn(line, order)
+    addresses_one_by_one(line, order)
 }
 
 /// What follows both addresses and their spaces.

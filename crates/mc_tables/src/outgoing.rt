@@ -6,7 +6,7 @@ ghost use Rattle.std.specs.List.{list_all, position_or_len, slice_split};
 ghost use Rattle.mc_tables.specs.declared.fault.TableFaultKind.TheVariants.{Memory};
 ghost use Rattle.mc_tables.specs.TableWords.{number_in};
 ghost use Rattle.mc_tables.specs.CacheReading.{oif_in, oifs_in};
-ghost use Rattle.mc_tables.specs.OutgoingSteps.{threshold_in, oif_in_turn, has_vif, oifs_with_word};
+ghost use Rattle.mc_tables.specs.OutgoingSteps.{threshold_in, oif_at_colon, has_vif, oifs_with_word};
 
 use crate::entry::Oif;
 use crate::fault::TableFaultKind;
@@ -61,7 +61,7 @@ fn oif_of_word(word: &[u8]) -> Result<(u8, u8), TableFaultKind>
 
 /// Reads a vif, and the threshold after its colon.
 fn oif_of_parts(vif: &[u8], after: &[u8]) -> Result<(u8, u8), TableFaultKind>
-    ensures { result ≡ oif_in_turn vif.now (slice_split (λ b. b == 58) after.now) }
+    ensures { result ≡ oif_at_colon vif.now (slice_split (λ b. b == 58) after.now) }
 {
     let vif = number(vif, 0, MAX_VIF).ok_or(TableFaultKind::BadOif)?;
     let threshold = threshold_of_word(after)?;

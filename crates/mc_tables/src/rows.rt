@@ -66,11 +66,11 @@ pub fn read_piece<R: TableRows>(
     'lines: while !rest.is_empty() {
         match lines.whole_line_end(rest) {
             Some(end) => {
-                read_whole(lines, rows, rest, end)?;
+                read_whole_line(lines, rows, rest, end)?;
                 rest = &rest[end + 1..];
             }
             None => {
-                let taken = read_begun(lines, rows, rest)?;
+                let taken = read_begun_line(lines, rows, rest)?;
                 rest = &rest[taken..];
             }
         }
@@ -79,7 +79,7 @@ pub fn read_piece<R: TableRows>(
 }
 
 /// Reads a line that lies in this piece as a whole, up to its line feed at `end`.
-fn read_whole<R: TableRows>(
+fn read_whole_line<R: TableRows>(
     lines: &mut LineBuffer,
     rows: &mut R,
     rest: &[u8],
@@ -104,7 +104,7 @@ fn read_whole<R: TableRows>(
 
 /// Reads more of a line that has begun, and returns how many bytes it took: those up to the line
 /// feed and it, or all.
-fn read_begun<R: TableRows>(
+fn read_begun_line<R: TableRows>(
     lines: &mut LineBuffer,
     rows: &mut R,
     rest: &[u8],

@@ -61,7 +61,11 @@ fn has_devices(topology: &Topology) -> bool {
 
 /// Whether the counts are right, and what is found by a number.
 fn has_numbers(topology: &Topology) -> bool {
-    if topology.routers() != 3 || topology.lans() != 3 || topology.interfaces() != 4 || topology.flows() != 1 {
+    if topology.routers() != 3
+        || topology.lans() != 3
+        || topology.interfaces() != 4
+        || topology.flows() != 1
+    {
         return false;
     }
     let third = topology.interface(2);

@@ -23,7 +23,7 @@ returns c =
     (subst (λ (ns : List ℕ). All (λ n. n < c.len.result) ns) c.deref.ensures.value
     (c.if-not-are_below.ensures refl)) in
     subst (λ (flows : List Tree). DenotesCertificate c.args.topology.now c.args.text.now flows)
-    (sym c.from_trees.ensures.value)
+    (sym c.from_trees.ensures.flows)
     (version_two_text-denotes c.args.topology.now tree_numbers trees c.args.text.now c.in-Some-after_prefix-2.rest.now
     c.flows-rules.ensures.rules (omega (arith, c.in-Ok.ensures.count))
     (AllByRecursion-from_All (λ n. n < length trees) tree_numbers named)

@@ -13,14 +13,14 @@ returns-in_err-item-clause-rows g c =
     ∙ each_row-Err (g.R.RowReader.row_value c.args.rows.now) view g.R.RowReader.item_view
     c.loop-value.items.items c.args.values.now c.loop-value.value-index
     c.value-item.result c.in_err-item.field-0.0 c.loop-value-test.true c.value-item.is
-    (rw (← long) (c.in_err-item.ensures some)))
+    (rw (← long) (c.in_err-item.ensures.gives some)))
 
 pub loop-value-preserved : goal.loop-value-preserved
 loop-value-preserved g c =
     let long : c.len.result ≡ length c.loop-value.items.items = omega arith in
     let next = each_row-more (g.R.RowReader.row_value c.args.rows.now) view g.R.RowReader.item_view
     c.loop-value.items.items c.args.values.now c.loop-value.value-index c.value-item.result
-    c.in_ok-item.item c.loop-value-test.true c.value-item.is (rw (← long) c.in_ok-item.ensures) in
+    c.in_ok-item.item c.loop-value-test.true c.value-item.is (rw (← long) c.in_ok-item.ensures.gives) in
     record {
       rows = rw c.in_ok-push.ensures.items (sym next ∙ c.loop-value.invariant.rows);
       count = omega (arith, c.in_ok-push.ensures.len);

@@ -1,5 +1,5 @@
 use Rattle.std.proofs.Common.{◌+◌}
-use Rattle.mc_replay.proofs.FirstCopiesLemmas.{FirstCopiesSoFar}
+use Rattle.mc_replay.proofs.FirstLemmas.{FirstCopiesSoFar}
 use Rattle.mc_replay.proofs.first_copies.record_first_copies.Given as goal
 
 abbrev pub invariant-loop-copy : goal.invariant-loop-copy

@@ -14,7 +14,8 @@ returns-in-Ok-clause-text g c =
     let all = c.in-Ok.audit.run_output.yes in
     let written = string_bytes c.in-Ok.audit.run_output.text in
     let summary = c.in_ok-read.read.summary.items in
-    of_domain-means_audited (λ v. IsAudited v o all written) o names (g.F.FileSource.contents c.args.files.now)
+    of_domain-means_audited (λ v. IsAudited v o all written) o names
+    (g.F.FileSource.contents c.args.files.now)
     c.in_ok-read.read.domain summary (λ whole same. is_audited-same_domain same summary names o all written)
     c.in_ok-read.ensures.means c.in_ok-read.ensures.routers c.in_ok-read.ensures.summary
     c.in-Ok.ensures.text

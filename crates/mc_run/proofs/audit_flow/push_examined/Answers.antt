@@ -15,13 +15,15 @@ returns-in-Certified c = record {
 pub returns-in-FoundAtTtl255 : goal.returns-in-FoundAtTtl255
 returns-in-FoundAtTtl255 c = record {
   ok = (
-      is_flow_pushed-any_shown_trees (audited_value c.args.audited.now) c.args.options c.args.flow c.push_found_at_255.result _ _
+      is_flow_pushed-any_shown_trees (audited_value c.args.audited.now) c.args.options c.args.flow
+      c.push_found_at_255.result _ _
       c.args.shown_trees.now c.push_found_at_255.ensures.ok);
 }
 
 pub returns-in-FoundAtFlowTtl : goal.returns-in-FoundAtFlowTtl
 returns-in-FoundAtFlowTtl c = record {
   ok = (
-      is_flow_pushed-any_shown_trees (audited_value c.args.audited.now) c.args.options c.args.flow c.push_found_at_flow_ttl.result _ _
+      is_flow_pushed-any_shown_trees (audited_value c.args.audited.now) c.args.options c.args.flow
+      c.push_found_at_flow_ttl.result _ _
       c.args.shown_trees.now c.push_found_at_flow_ttl.ensures.ok);
 }

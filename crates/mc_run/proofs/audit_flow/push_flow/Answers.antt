@@ -5,6 +5,8 @@ use Rattle.mc_run.proofs.audit_flow.push_flow.Goals as goal
 pub push_examined-requires-clause-examined : goal.push_examined-requires-clause-examined
 push_examined-requires-clause-examined c =
     let examined = c.in_ok-flights.ensures in
-    is_examined-of_examination examined.accepted examined.ascending examined.listed examined.writable examined.made
-    (is_first_pick_travel-of_examined c.args.audited.now.domain.now c.args.flow c.in_ok-flights.flights examined.flights)
+    is_examined-of_examination examined.accepted examined.ascending examined.listed
+    examined.writable examined.made
+    (is_first_pick_travel-of_examined c.args.audited.now.domain.now c.args.flow
+    c.in_ok-flights.flights examined.flights)
     examined.fault examined.ttl examined.right

@@ -7,12 +7,14 @@ use Rattle.mc_run.proofs.audit_flow.push_found_at_255.Goals as goal
 
 pub search_if_missed-requires-clause-ended : goal.search_if_missed-requires-clause-ended
 search_if_missed-requires-clause-ended c =
-    is_finished_travel-at_255 (audited_value c.args.audited.now).domain c.args.flow c.args.flights.now c.args.ended.now
+    is_finished_travel-at_255 (audited_value c.args.audited.now).domain c.args.flow
+    c.args.flights.now c.args.ended.now
     c.requires.is c.requires.flights
 
 pub push_wrong-requires-clause-domain : goal.push_wrong-requires-clause-domain
 push_wrong-requires-clause-domain c =
-    (is_finished_travel-at_255 (audited_value c.args.audited.now).domain c.args.flow c.args.flights.now c.args.ended.now
+    (is_finished_travel-at_255 (audited_value c.args.audited.now).domain c.args.flow
+    c.args.flights.now c.args.ended.now
     c.requires.is c.requires.flights).domain
 
 pub returns : goal.returns

@@ -9,7 +9,8 @@ use Rattle.mc_run.proofs.audit_flow.push_found_at_flow_ttl.Goals as goal
 
 pub push_wrong-requires-clause-domain : goal.push_wrong-requires-clause-domain
 push_wrong-requires-clause-domain c =
-    (is_finished_travel-at_flow_ttl (audited_value c.args.audited.now).domain c.args.flow c.args.flights.now c.args.greatest.now
+    (is_finished_travel-at_flow_ttl (audited_value c.args.audited.now).domain c.args.flow
+    c.args.flights.now c.args.greatest.now
     c.args.least.now c.requires.is c.requires.flights).domain
 
 pub returns : goal.returns
@@ -27,6 +28,7 @@ returns c = record {
       ∙ found-listed_ttl v.domain c.args.flow listed least.travel here)
       (is_explanation-at_flow_ttl v c.args.flow c.args.flights.now c.args.greatest.now least causes
       c.requires.is c.requires.flights c.in_ok-causes.ensures.causes)
-      (wrong_flow_lines-same_causes v c.args.options c.args.flow listed.ttl least c.deref.result.now causes None _ _
+      (wrong_flow_lines-same_causes v c.args.options c.args.flow listed.ttl least c.deref.result.now
+      causes None _ _
       c.deref.ensures.value c.in_ok-push_wrong.ensures.added));
 }

@@ -1,4 +1,5 @@
-use Rattle.mc_run.proofs.CertifiedLemmas.{is_accepted-made_list, reading_of-made_text, is_verdict_text-only_yes, is_verdict_text-made_bundle}
+use Rattle.mc_run.proofs.CertifiedLemmas.{is_accepted-made_list, reading_of-made_text}
+use Rattle.mc_run.proofs.CertifiedLemmas.{is_verdict_text-only_yes, is_verdict_text-made_bundle}
 use Rattle.mc_run.proofs.laws.check_accepts_made_certificates.Goals as goal
 
 pub returns-clause-read : goal.returns-clause-read

@@ -8,7 +8,8 @@ pub loop-flow-preserved : goal.loop-flow-preserved
 loop-flow-preserved c =
     let inside : c.loop-flow.flow < length c.args.verdicts.now =
     omega (arith, c.loop-flow-test.true, c.flows-flow-end.ensures.count, c.requires.lengths) in
-    let verdict_at = slice_get-from_read c.args.verdicts.now c.loop-flow.flow c.index-verdicts-flow.result inside
+    let verdict_at = slice_get-from_read c.args.verdicts.now c.loop-flow.flow
+    c.index-verdicts-flow.result inside
     c.index-verdicts-flow.is in
     flow_lines-more c.args.topology.now c.loop-flow.flow c.flow.result.now c.index-verdicts-flow.result
     c.args.verdicts.now _ _ c.flow.ensures.flow verdict_at c.in_ok-push_flow_verdict.ensures

@@ -9,11 +9,11 @@ use Rattle.mc_igmp.proofs.list.ReportList.read.Goals as goal
 
 pub returns-then-text-gt-MAX_TEXT : goal.returns-then-text-gt-MAX_TEXT
 returns-then-text-gt-MAX_TEXT c =
-    report_list_answer-too_large c.args.text.now _ c.if-text-gt-MAX_TEXT.true (ap Err c.at.ensures.item)
+    report_list_answer-too_large c.args.text.now _ c.if-text-gt-MAX_TEXT.true (ap Err c.at.ensures)
 
 pub loop-line-init : goal.loop-line-init
 loop-line-init c =
-    rw (c.into_iter-line-iterator.ensures.into_iter_gives, c.new-line-items.ensures, c.none-list.ensures)
+    rw (c.into_iter-line-iterator.ensures.into_iter_gives, c.new-line-items.ensures.value, c.none-list.ensures)
     (with_front-none (read_lines (lines_of c.args.text.now)))
 
 pub loop-line-preserved : goal.loop-line-preserved

@@ -3,7 +3,7 @@ use Rattle.std.proofs.lemmas.Result.{err_from_is_err_and}
 use Rattle.mc_text.specs.LineView.{line_text}
 use Rattle.mc_tables.specs.LinesSoFar.{LinesSoFar, with_begun, with_ended, read_after, line_after}
 use Rattle.mc_tables.proofs.PieceLemmas.{read_after-taken, read_after-refused, judge-begun_line}
-use Rattle.mc_tables.proofs.rows.read_begun.Goals as goal
+use Rattle.mc_tables.proofs.rows.read_begun_line.Goals as goal
 
 pub returns-clause-reads : goal.returns-clause-reads
 returns-clause-reads g c = λ more.

@@ -35,7 +35,7 @@ pub(crate) struct LanProbe<'s> {
     pub(crate) first_copies: &'s FirstCopies,
 }
 
-/// Whether an entry sends by a vif. It sends by none if there is none.
+/// Whether there is a vif and an entry sends by it.
 fn sends_by_known_vif(entry: &Entry<'_>, vif: Option<u8>) -> bool
     requires valid { IsValidEntry entry.now }
     ensures value { result ≡ sends_by_known_vif vif (oif_pairs entry.now.oifs) }

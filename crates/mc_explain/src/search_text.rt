@@ -278,7 +278,7 @@ fn push_from_unplaced(
     writeln!(text, "{place} expects it from {incoming}, {reason}: {row}")
 }
 
-/// What a LAN carries, if it carried a copy or none.
+/// How a line says whether a LAN carried a copy.
 fn carries_text(carried: bool) -> &'static str
     ensures { result.now ≡ carries_text carried }
 {

@@ -19,12 +19,12 @@ causes_data_in c causes = causes_data (facts c.view.now.domain) c.summary.now c.
     causes
 
 abbrev pub search_line_data_in : LineContext → SearchLine → Data
-search_line_data_in c line = search_line_data (facts c.view.now.domain) c.summary.now c.view.now.flow
-    c.flow.now line
+search_line_data_in c line =
+    search_line_data (facts c.view.now.domain) c.summary.now c.view.now.flow c.flow.now line
 
 abbrev pub shown_line_data_in : LineContext → ShownLine → Data
-shown_line_data_in c line = shown_line_data (facts c.view.now.domain) c.summary.now c.view.now.flow
-    c.flow.now line
+shown_line_data_in c line =
+    shown_line_data (facts c.view.now.domain) c.summary.now c.view.now.flow c.flow.now line
 
 abbrev pub search_data_in : LineContext → LanSearch → List Data
 search_data_in c found =

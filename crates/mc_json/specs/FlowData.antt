@@ -176,15 +176,14 @@ abbrev pub also_missed_by : FinishedTravel → List ℕ
 also_missed_by e =
     missed_besides (facts e.flight.domain) e.flight.flow e.flight.flight.carried e.travel.finding
 
--- by the finished travel that shows it
+-- the flow by the finished travel that shows its fault
 abbrev pub wrong_flow_of_travel : FinishedTravel → (found_ttl : ℕ) → (why : List Data) → (events_asked : Bool)
     → WrongFlow
 wrong_flow_of_travel e found_ttl why events_asked =
     wrong_flow_of e.flight.domain.topology found_ttl e.travel.finding e.travel.events.items
-    (also_missed_by e) why
-    events_asked
+    (also_missed_by e) why events_asked
 
--- the same, by the finished travel that shows it
+-- the line of a flow that isn't right, by the finished travel that shows it
 abbrev pub wrong_line_of_travel : (number : ℕ) → Flow → FinishedTravel → (found_ttl : ℕ) → (why : List Data)
     → (events_asked : Bool) → List ℕ
 wrong_line_of_travel number f e found_ttl why events_asked =

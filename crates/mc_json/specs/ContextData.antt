@@ -15,8 +15,8 @@ abbrev pub cause_data_in : LineContext → Cause → List Data
 cause_data_in c cause = cause_data (facts c.view.now.domain) c.summary.now c.view.now.flow c.flow.now cause
 
 abbrev pub causes_data_in : LineContext → List Cause → List Data
-causes_data_in c causes = causes_data (facts c.view.now.domain) c.summary.now c.view.now.flow c.flow.now
-    causes
+causes_data_in c causes =
+    causes_data (facts c.view.now.domain) c.summary.now c.view.now.flow c.flow.now causes
 
 abbrev pub search_line_data_in : LineContext → SearchLine → Data
 search_line_data_in c line =

@@ -235,8 +235,8 @@ visited_after s visited_lans (Some lan) = append_new visited_lans (next_lans s l
 -- the visited LANs, in order, after the first ones of them are searched, as many as there are steps
 abbrev pub visited_lans : Search → (missed : ℕ) → (steps : ℕ) → List ℕ
 visited_lans s missed zero = missed ∷ []
-visited_lans s missed (suc k) = visited_after s (visited_lans s missed k)
-    (slice_get (visited_lans s missed k) k)
+visited_lans s missed (suc k) =
+    visited_after s (visited_lans s missed k) (slice_get (visited_lans s missed k) k)
 
 -- ---- the search
 

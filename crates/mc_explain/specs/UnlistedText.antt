@@ -91,8 +91,8 @@ count_rows_of_pairs t summary pairs = sum_by (λ pair. length (routers_with t su
 
 -- how many rows there are besides those of the shown pairs
 abbrev pub further_rows : (all : Bool) → TopologyValue → List SummaryValue → ℕ
-further_rows all t summary = count_unlisted_rows summary - count_rows_of_pairs t summary
-    (shown_unlisted_pairs all summary)
+further_rows all t summary =
+    count_unlisted_rows summary - count_rows_of_pairs t summary (shown_unlisted_pairs all summary)
 
 abbrev pub further_text : ℕ → List ℕ
 further_text more =

@@ -17,7 +17,8 @@ sender_on-held : (first_copies : List (Option Copy)) (cs : List Copy) (l : ℕ) 
     HoldsFirstOfEachKey (λ (c : Copy). c.lan) first_copies cs →
     next ≡ option_and_then (λ (c : Copy). c.sender) (item_on_lan first_copies l) → next ≡ sender_on cs l
 sender_on-held first_copies cs l next are e = e ∙
-    (ap (option_and_then (λ (c : Copy). c.sender)) (are l ∙ first_with_key-first_copy_on cs l) ∙ sender-copy_on cs l)
+    (ap (option_and_then (λ (c : Copy). c.sender)) (are l ∙ first_with_key-first_copy_on cs l)
+    ∙ sender-copy_on cs l)
 
 -- one hop more at the end of the hops so far
 append-push_then_rest : (hops : List Hop) (h : Hop) (rest : List Hop) →

@@ -13,13 +13,15 @@ use Rattle.mc_theory.specs.CertificateOfCopies.{entries_of}
 use Rattle.mc_theory.specs.FindingMeaning.{IsFirstDouble}
 use Rattle.mc_theory.specs.Paths.{Hop, IsHop, IsPath, IsReached, IsReachedWithTtl, IsSpareInterface, need}
 use Rattle.mc_theory.specs.Paths.{take_out, CameByHops, CameFromLan}
-use Rattle.mc_theory.proofs.ListLemmas.{in-append_cases, in-append_right, in-map_cases, distinct_append-disjoint}
+use Rattle.mc_theory.proofs.ListLemmas.{in-append_cases, in-append_right, in-map_cases}
+use Rattle.mc_theory.proofs.ListLemmas.{distinct_append-disjoint}
 use Rattle.mc_theory.proofs.RunInvariant.{map-append'}
 use Rattle.mc_theory.proofs.ReachedLans.{is_safe-from_tree}
 use Rattle.mc_theory.proofs.Travels.{in_range-travel, is_tree-from_clean_travel}
 use Rattle.mc_theory.proofs.WalkBack.{in-first_copy_on}
 use Rattle.mc_theory.proofs.Paths.{need_at_most-from_passes}
-use Rattle.mc_theory.proofs.CameByHops.{is_rooted-from_travel, is_path-from_travel, in-first_double, lan-first_copy_on}
+use Rattle.mc_theory.proofs.CameByHops.{is_rooted-from_travel, is_path-from_travel, in-first_double}
+use Rattle.mc_theory.proofs.CameByHops.{lan-first_copy_on}
 use Rattle.mc_theory.proofs.Hops.{is_path-from_came_from_lan}
 use Rattle.mc_theory.proofs.StoppingHop.{need_above-from_stopped}
 use Rattle.mc_theory.proofs.LeastTtl.{reached_with_ttl-iff_need}
@@ -30,7 +32,8 @@ use Rattle.mc_replay.specs.FindingValues.{finding_value}
 use Rattle.mc_replay.specs.declared.travel.FinishedTravel.{FinishedTravel}
 use Rattle.mc_maker.specs.ExaminedFlights.{HasExaminedFlights}
 use Rattle.mc_maker.specs.declared.examined_flights.ExaminedFlights.{ExaminedFlights}
-use Rattle.mc_maker.specs.declared.examined_flights.ExaminedFlights.TheVariants.{Certified, FoundAtTtl255, FoundAtFlowTtl}
+use Rattle.mc_maker.specs.declared.examined_flights.ExaminedFlights.TheVariants.{Certified, FoundAtTtl255}
+use Rattle.mc_maker.specs.declared.examined_flights.ExaminedFlights.TheVariants.{FoundAtFlowTtl}
 use Rattle.mc_explain.specs.declared.causes.Cause.{Cause}
 use Rattle.mc_explain.specs.declared.causes.Cause.TheVariants.{SentOnto, Circle, TakeOut, Unplaced}
 use Rattle.mc_explain.specs.declared.causes.Cause.TheVariants.{LeastTtl, OnlyEverySource, StoppedAt}
@@ -41,8 +44,10 @@ use Rattle.mc_explain.specs.LastFlights.{EndsTravel}
 use Rattle.mc_explain.specs.CauseFacts.{AreCausesOf, LeadsOut, SendsOnto, StaysReached}
 use Rattle.mc_explain.specs.CauseFacts.{IsClosedCircle, IsMissedOrClean, ReachesEverySourceRow}
 use Rattle.mc_explain.specs.CauseFacts.{StopsShortOfLan, final_finding}
-use Rattle.mc_explain.proofs.LastFlightLemmas.{ends_travel-from_finished, ends_travel-at_flow_ttl, last_flight, is_net-from_is_flow_in, shows-last_flight}
-use Rattle.mc_explain.proofs.StrayLemmas.{IsStrayAt, is_stray_at-run, leads_out-from_exact_row, reaches_every_source_row-from_open_row}
+use Rattle.mc_explain.proofs.LastFlightLemmas.{ends_travel-from_finished, ends_travel-at_flow_ttl}
+use Rattle.mc_explain.proofs.LastFlightLemmas.{last_flight, is_net-from_is_flow_in, shows-last_flight}
+use Rattle.mc_explain.proofs.StrayLemmas.{IsStrayAt, is_stray_at-run, leads_out-from_exact_row}
+use Rattle.mc_explain.proofs.StrayLemmas.{reaches_every_source_row-from_open_row}
 
 -- ---- what holds of a cause, by its kind
 
@@ -78,14 +83,16 @@ causes_hold-append : (n : Net) (causes xs ys : List Cause) → CausesHold n caus
 causes_hold-append n causes xs ys all more t h = elim (in-append_cases t xs ys h)
     [ inl k ↦ all t k | inr k ↦ more t k ]
 
-causes_hold-one : (n : Net) (causes : List Cause) (t : Cause) → CauseHolds n causes t → CausesHold n causes (t ∷ [])
+causes_hold-one : (n : Net) (causes : List Cause) (t : Cause) → CauseHolds n causes t
+    → CausesHold n causes (t ∷ [])
 causes_hold-one n causes t is u (inl e) = subst (CauseHolds n causes) e is
 causes_hold-one n causes t is u (inr k) = absurd k
 
 -- ---- two copies
 
 -- the sender of a copy of the flight has a row that sends onto its LAN
-sends_onto-from_sender : (f : FlowOfDomain) (ttl : ℕ) (x : Finding) (j : FlightInDomain) (c : Copy) (i : Interface) →
+sends_onto-from_sender : (f : FlowOfDomain) (ttl : ℕ) (x : Finding) (j : FlightInDomain) (c : Copy)
+    (i : Interface) →
     EndsTravel f ttl x j → In c j.flight.carried → c.sender ≡ Some i →
     SendsOnto (net_in f) i.0 i.1 c.lan
 sends_onto-from_sender f ttl x j c i e c_in q =
@@ -102,10 +109,12 @@ sends_onto-from_sender f ttl x j c i e c_in q =
 causes_hold-senders : (n : Net) (causes : List Cause) (lan : ℕ) (x : Option Interface) →
     ((i : Interface) → x ≡ Some i → SendsOnto n i.0 i.1 lan) → CausesHold n causes (sender_causes lan x)
 causes_hold-senders n causes lan None sends = λ t h. absurd h
-causes_hold-senders n causes lan (Some i) sends = causes_hold-one n causes (SentOnto lan i.0 i.1) (sends i refl)
+causes_hold-senders n causes lan (Some i) sends = causes_hold-one n causes (SentOnto lan i.0 i.1)
+    (sends i refl)
 
 -- a reported remedy is harmless
-is_harmless_remedy-from_spare : (f : FlowOfDomain) (x : Finding) (j : FlightInDomain) (second : Copy) (i : Interface) (hs : List Hop) →
+is_harmless_remedy-from_spare : (f : FlowOfDomain) (x : Finding) (j : FlightInDomain) (second : Copy)
+    (i : Interface) (hs : List Hop) →
     IsFlowOfDomain f → EndsTravel f 255 x j → IsSpareInterface (net_in f) j.flight second i hs →
     IsHarmlessRemedy (net_in f) i.0 i.1 second.lan (need hs)
 is_harmless_remedy-from_spare f x j second i hs ok e s' =
@@ -115,7 +124,8 @@ is_harmless_remedy-from_spare f x j second i hs ok e s' =
     let s = subst (λ (g : Flight). IsSpareInterface n g second i hs) e.ends s' in
     let path = (is_path-without_spare n count 255 [] false e.picks x second i hs net e.travel s).1 in
     record {
-      sends = sends_onto-from_sender f 255 x j second i e (in-first_double j.flight.carried second s'.first_double)
+      sends = sends_onto-from_sender f 255 x j second i e (in-first_double j.flight.carried second
+          s'.first_double)
           s'.sender;
       stays = record { path = hs; is_path-without_spare = path; least_is = refl };
       reached = λ m r. (
@@ -127,7 +137,8 @@ is_harmless_remedy-from_spare f x j second i hs ok e s' =
           (k.0, k.1, (k.2 r.2).0));
     }
 
-cause_holds-remedy : (f : FlowOfDomain) (x : Finding) (j : FlightInDomain) (causes : List Cause) (lan : ℕ) (second : Copy)
+cause_holds-remedy : (f : FlowOfDomain) (x : Finding) (j : FlightInDomain) (causes : List Cause) (lan : ℕ)
+    (second : Copy)
     (remedy : Cause) → IsFlowOfDomain f → EndsTravel f 255 x j →
     IsRemedy (net_in f) j.flight lan second remedy → CauseHolds (net_in f) causes remedy
 cause_holds-remedy f x j causes lan second remedy ok e out =
@@ -136,7 +147,8 @@ cause_holds-remedy f x j causes lan second remedy ok e out =
     (subst (λ (l : ℕ). IsHarmlessRemedy n out.sender.0 out.sender.1 l (need out.path)) out.on
     (is_harmless_remedy-from_spare f x j second out.sender out.path ok e out.spare))
 
-causes_hold-duplicate : (f : FlowOfDomain) (lan : ℕ) (j : FlightInDomain) (causes : List Cause) → IsFlowOfDomain f →
+causes_hold-duplicate : (f : FlowOfDomain) (lan : ℕ) (j : FlightInDomain) (causes : List Cause)
+    → IsFlowOfDomain f →
     EndsTravel f 255 (Duplicate lan) j → ExplainsDuplicate (net_in f) j.flight lan causes →
     CausesHold (net_in f) causes causes
 causes_hold-duplicate f lan j causes ok e d =
@@ -154,7 +166,8 @@ causes_hold-duplicate f lan j causes ok e d =
     (causes_hold-append n causes (sender_causes lan d.second.sender) (d.remedy ∷ [])
     (causes_hold-senders n causes lan d.second.sender (λ i q. subst (SendsOnto n i.0 i.1) d.take_out.on
     (sends_onto-from_sender f 255 x j d.second i e second_in q)))
-    (causes_hold-one n causes d.remedy (cause_holds-remedy f x j causes lan d.second d.remedy ok e d.take_out))) in
+    (causes_hold-one n causes d.remedy (cause_holds-remedy f x j causes lan d.second d.remedy ok e
+    d.take_out))) in
     subst (CausesHold n causes) (sym d.causes_are) all
 
 -- ---- a circle
@@ -179,7 +192,8 @@ is_path-of_circle : (n : Net) (g : Flight) (lan : ℕ) (causes : List Cause) →
 is_path-of_circle n g lan causes l = subst (IsPath n lan l.circle) l.take_out.on
     (is_path-from_came_from_lan n g.carried lan l.second l.circle l.came_by_hops)
 
-causes_hold-loop : (f : FlowOfDomain) (lan : ℕ) (j : FlightInDomain) (causes : List Cause) → IsFlowOfDomain f →
+causes_hold-loop : (f : FlowOfDomain) (lan : ℕ) (j : FlightInDomain) (causes : List Cause)
+    → IsFlowOfDomain f →
     EndsTravel f 255 (Loop lan) j → ExplainsLoop (net_in f) j.flight lan causes →
     CausesHold (net_in f) causes causes
 causes_hold-loop f lan j causes ok e l =
@@ -189,7 +203,8 @@ causes_hold-loop f lan j causes ok e l =
     (λ t h. (let k = in-map_cases circle_cause t l.circle
     (in-from_reverse t (map circle_cause l.circle) h) in
     subst (CauseHolds n causes) k.2 (k.0, is_hop-from_path n lan lan l.circle k.0 closed k.1, refl)))
-    (causes_hold-one n causes l.remedy (cause_holds-remedy f (Loop lan) j causes lan l.second l.remedy ok e l.take_out))
+    (causes_hold-one n causes l.remedy (cause_holds-remedy f (Loop lan) j causes lan l.second l.remedy ok e
+    l.take_out))
     in subst (CausesHold n causes) (sym l.causes_are) all
 
 -- ---- a stray
@@ -197,12 +212,15 @@ causes_hold-loop f lan j causes ok e l =
 causes_hold-stray_row : (n : Net) (causes : List Cause) (row : Row) (router vif : ℕ) → n.row router ≡ row →
     IsStrayAt n (router, vif) → CausesHold n causes (stray_causes row router vif)
 causes_hold-stray_row n causes (Exact incoming pairs) router vif e left =
-    causes_hold-one n causes (Unplaced router vif) (leads_out-from_exact_row n (router, vif) incoming pairs e left)
+    causes_hold-one n causes (Unplaced router vif) (leads_out-from_exact_row n (router, vif) incoming pairs
+    e left)
 causes_hold-stray_row n causes Open router vif e left =
-    causes_hold-one n causes (OnlyEverySource router vif) (reaches_every_source_row-from_open_row n (router, vif) e left)
+    causes_hold-one n causes (OnlyEverySource router vif) (reaches_every_source_row-from_open_row n
+    (router, vif) e left)
 causes_hold-stray_row n causes NoRow router vif e left = λ t h. absurd h
 
-causes_hold-stray : (f : FlowOfDomain) (router vif : ℕ) (j : FlightInDomain) (causes : List Cause) → IsFlowOfDomain f →
+causes_hold-stray : (f : FlowOfDomain) (router vif : ℕ) (j : FlightInDomain) (causes : List Cause)
+    → IsFlowOfDomain f →
     EndsTravel f 255 (Stray router vif) j →
     causes ≡ stray_causes ((net_in f).row router) router vif → CausesHold (net_in f) causes causes
 causes_hold-stray f router vif j causes ok e is =
@@ -214,7 +232,8 @@ causes_hold-stray f router vif j causes ok e is =
 
 -- ---- a least TTL
 
-causes_hold-least_ttl : (f : FlowOfDomain) (lan : ℕ) (j : FlightInDomain) (causes : List Cause) → IsFlowOfDomain f →
+causes_hold-least_ttl : (f : FlowOfDomain) (lan : ℕ) (j : FlightInDomain) (causes : List Cause)
+    → IsFlowOfDomain f →
     EndsTravel f 255 Clean j → ExplainsLeastTtl (net_in f) j.flight lan causes →
     CausesHold (net_in f) causes causes
 causes_hold-least_ttl f lan j causes ok e l =
@@ -225,12 +244,14 @@ causes_hold-least_ttl f lan j causes ok e l =
     let on = subst (λ (g : Flight). first_copy_on g.carried lan ≡ Some l.copy) e.ends l.copy_is in
     let copy_in = in-first_copy_on cs lan l.copy on in
     let came_by_hops = subst (λ (g : Flight). CameByHops n g.carried l.copy l.path) e.ends l.came_by_hops in
-    let path = is_path-from_travel n count 255 [] false e.picks Clean l.copy l.path net e.travel copy_in came_by_hops in
+    let path = is_path-from_travel n count 255 [] false e.picks Clean l.copy l.path net e.travel copy_in
+        came_by_hops in
     let to = lan-first_copy_on cs lan l.copy on in
     let leads = subst (IsPath n n.source l.path) to path.0 in
     let least : IsLeastTtl n lan (need l.path) = record {
       reached = λ t low high. subst (λ (m : ℕ). IsReachedWithTtl n t m ↔ (need l.path ≤ t)) to
-          (reached_with_ttl-iff_need n count [] false e.picks l.copy l.path t net e.travel copy_in came_by_hops low high);
+          (reached_with_ttl-iff_need n count [] false e.picks l.copy l.path t net e.travel copy_in
+          came_by_hops low high);
       above = need_above-from_stopped n.ttl l.path l.hop l.left l.stopped;
       high = need_at_most-from_passes 255 l.path (omega arith) path.1;
     } in
@@ -272,17 +293,20 @@ is_clean-last_flight f ttl x j k ok high e =
     let count = length f.domain.topology.lans in
     let net = is_net-from_is_flow_in f ok in
     let tree = is_tree-from_clean_travel n count [] false high.picks net high.travel in
-    (is_safe-from_tree n (entries_of n (last_flight f 255 Clean j high).carried) ttl (handles e.picks) net tree e.low
+    (is_safe-from_tree n (entries_of n (last_flight f 255 Clean j high).carried) ttl (handles e.picks) net
+    tree e.low
     e.high (in_range-travel n count [] false e.picks (start n ttl) x e.travel)).clean
 
-not_duplicate-if_clean_at_255 : (f : FlowOfDomain) (lan : ℕ) (j k : FlightInDomain) → IsFlowOfDomain f → EndsTravel f 255 Clean j →
+not_duplicate-if_clean_at_255 : (f : FlowOfDomain) (lan : ℕ) (j k : FlightInDomain) → IsFlowOfDomain f
+    → EndsTravel f 255 Clean j →
     EndsTravel f (net_in f).ttl (Duplicate lan) k → ⊥
 not_duplicate-if_clean_at_255 f lan j k ok high e =
     let d = (shows-last_flight f (net_in f).ttl (Duplicate lan) k ok e).0 in
     not_double-if_distinct (last_flight f (net_in f).ttl (Duplicate lan) k e).carried d.copy
     (is_clean-last_flight f (net_in f).ttl (Duplicate lan) j k ok high e).once d.first
 
-not_loop-if_clean_at_255 : (f : FlowOfDomain) (lan : ℕ) (j k : FlightInDomain) → IsFlowOfDomain f → EndsTravel f 255 Clean j →
+not_loop-if_clean_at_255 : (f : FlowOfDomain) (lan : ℕ) (j k : FlightInDomain) → IsFlowOfDomain f
+    → EndsTravel f 255 Clean j →
     EndsTravel f (net_in f).ttl (Loop lan) k → ⊥
 not_loop-if_clean_at_255 f lan j k ok high e =
     let d = (shows-last_flight f (net_in f).ttl (Loop lan) k ok e).0 in
@@ -297,20 +321,24 @@ not_stray-if_clean_at_255 f router vif j k ok high e =
     let both : [] ≡ (router, vif) ∷ others.0 = sym none ∙ others.1 in
     cc
 
-causes_hold-at_flow_ttl : (f : FlowOfDomain) (x : Finding) (j k : FlightInDomain) (causes : List Cause) → IsFlowOfDomain f →
+causes_hold-at_flow_ttl : (f : FlowOfDomain) (x : Finding) (j k : FlightInDomain) (causes : List Cause)
+    → IsFlowOfDomain f →
     EndsTravel f 255 Clean j → EndsTravel f (net_in f).ttl x k →
     ExplainsAtFlowTtl (net_in f) j.flight k.flight x causes → CausesHold (net_in f) causes causes
 causes_hold-at_flow_ttl f Clean j k causes ok high e is = λ t h. absurd (subst (In t) is h)
-causes_hold-at_flow_ttl f (Missed lan) j k causes ok high e is = causes_hold-least_ttl f lan j causes ok high is
+causes_hold-at_flow_ttl f (Missed lan) j k causes ok high e is = causes_hold-least_ttl f lan j causes ok
+    high is
 causes_hold-at_flow_ttl f (Duplicate lan) j k causes ok high e is =
     absurd (not_duplicate-if_clean_at_255 f lan j k ok high e)
-causes_hold-at_flow_ttl f (Loop lan) j k causes ok high e is = absurd (not_loop-if_clean_at_255 f lan j k ok high e)
+causes_hold-at_flow_ttl f (Loop lan) j k causes ok high e is = absurd (not_loop-if_clean_at_255 f lan j k ok
+    high e)
 causes_hold-at_flow_ttl f (Stray router vif) j k causes ok high e is =
     absurd (not_stray-if_clean_at_255 f router vif j k ok high e)
 
 -- ---- all causes
 
-causes_hold-finding : (f : FlowOfDomain) (x : Finding) (j : FlightInDomain) (causes : List Cause) → IsFlowOfDomain f →
+causes_hold-finding : (f : FlowOfDomain) (x : Finding) (j : FlightInDomain) (causes : List Cause)
+    → IsFlowOfDomain f →
     EndsTravel f 255 x j → ExplainsFinding (net_in f) j.flight x causes →
     CausesHold (net_in f) causes causes
 causes_hold-finding f Clean j causes ok e is = λ t h. absurd (subst (In t) is h)
@@ -319,10 +347,12 @@ causes_hold-finding f (Duplicate lan) j causes ok e is = causes_hold-duplicate f
 causes_hold-finding f (Loop lan) j causes ok e is = causes_hold-loop f lan j causes ok e is
 causes_hold-finding f (Stray router vif) j causes ok e is = causes_hold-stray f router vif j causes ok e is
 
-causes_hold-examined : (d : DomainValue) (flow : ℕ) (examined_flights : ExaminedFlights) (causes : List Cause) →
+causes_hold-examined : (d : DomainValue) (flow : ℕ) (examined_flights : ExaminedFlights)
+    (causes : List Cause) →
     IsFlowOfDomain (record { domain = d; flow = flow }) → HasExaminedFlights d flow examined_flights →
     IsExplained d flow examined_flights causes → CausesHold (net_of d flow) causes causes
-causes_hold-examined d flow (Certified entries) causes ok examined_flights is = λ t h. absurd (subst (In t) is h)
+causes_hold-examined d flow (Certified entries) causes ok examined_flights is =
+    λ t h. absurd (subst (In t) is h)
 causes_hold-examined d flow (FoundAtTtl255 ended) causes ok examined_flights is =
     let f : FlowOfDomain = record { domain = d; flow = flow } in
     causes_hold-finding f (finding_value ended.travel.finding) ended.flight causes ok
@@ -334,7 +364,8 @@ causes_hold-examined d flow (FoundAtFlowTtl greatest least) causes ok examined_f
     (ends_travel-from_finished d flow f 255 greatest refl examined_flights.0 (omega arith) (omega arith)))
     (ends_travel-at_flow_ttl d flow f least ok refl examined_flights.2) is
 
-pub causes_hold-all : (d : DomainValue) (flow : ℕ) (examined_flights : ExaminedFlights) (causes : List Cause) →
+pub causes_hold-all : (d : DomainValue) (flow : ℕ) (examined_flights : ExaminedFlights)
+    (causes : List Cause) →
     AreCausesOf d flow examined_flights causes → CausesHold (net_of d flow) causes causes
 causes_hold-all d flow examined_flights causes is = causes_hold-examined d flow examined_flights causes
     (record { domain = is.flow.domain; flow = is.flow.listed }) is.flow.examined is.explained
@@ -353,8 +384,10 @@ is_closed_circle-from_loop n g lan causes (h ∷ hs) l e = record {
   closed = subst (λ (ks : List Hop). IsPath n lan ks lan) e (is_path-of_circle n g lan causes l);
 }
 
-pub is_closed_circle-from_explained : (d : DomainValue) (flow : ℕ) (examined_flights : ExaminedFlights) (causes : List Cause) (lan : ℕ) →
-    IsExplained d flow examined_flights causes → final_finding examined_flights ≡ Loop lan → IsClosedCircle (net_of d flow) lan causes
+pub is_closed_circle-from_explained : (d : DomainValue) (flow : ℕ) (examined_flights : ExaminedFlights)
+    (causes : List Cause) (lan : ℕ) →
+    IsExplained d flow examined_flights causes → final_finding examined_flights ≡ Loop lan
+    → IsClosedCircle (net_of d flow) lan causes
 is_closed_circle-from_explained d flow (Certified entries) causes lan is e = absurd cc
 is_closed_circle-from_explained d flow (FoundAtTtl255 ended) causes lan is e =
     let n = net_of d flow in
@@ -368,23 +401,27 @@ is_closed_circle-from_explained d flow (FoundAtFlowTtl greatest least) causes la
 
 -- ---- what the flow's TTL can show
 
-is_missed_or_clean-if_clean_at_255 : (f : FlowOfDomain) (x : Finding) (j k : FlightInDomain) → IsFlowOfDomain f →
+is_missed_or_clean-if_clean_at_255 : (f : FlowOfDomain) (x : Finding) (j k : FlightInDomain)
+    → IsFlowOfDomain f →
     EndsTravel f 255 Clean j → EndsTravel f (net_in f).ttl x k → IsMissedOrClean x
 is_missed_or_clean-if_clean_at_255 f Clean j k ok high e = inl refl
 is_missed_or_clean-if_clean_at_255 f (Missed lan) j k ok high e = inr (lan, refl)
 is_missed_or_clean-if_clean_at_255 f (Duplicate lan) j k ok high e =
     absurd (not_duplicate-if_clean_at_255 f lan j k ok high e)
-is_missed_or_clean-if_clean_at_255 f (Loop lan) j k ok high e = absurd (not_loop-if_clean_at_255 f lan j k ok high e)
+is_missed_or_clean-if_clean_at_255 f (Loop lan) j k ok high e =
+    absurd (not_loop-if_clean_at_255 f lan j k ok high e)
 is_missed_or_clean-if_clean_at_255 f (Stray router vif) j k ok high e =
     absurd (not_stray-if_clean_at_255 f router vif j k ok high e)
 
-pub is_missed_or_clean-at_flow_ttl : (d : DomainValue) (flow : ℕ) (greatest least : FinishedTravel) → IsDomain d →
+pub is_missed_or_clean-at_flow_ttl : (d : DomainValue) (flow : ℕ) (greatest least : FinishedTravel)
+    → IsDomain d →
     flow < length d.topology.flows → HasExaminedFlights d flow (FoundAtFlowTtl greatest least) →
     IsMissedOrClean (finding_value least.travel.finding)
 is_missed_or_clean-at_flow_ttl d flow greatest least ok lt examined_flights =
     let f : FlowOfDomain = record { domain = d; flow = flow } in
     let rules : IsFlowOfDomain f = record { domain = ok; flow = lt } in
-    is_missed_or_clean-if_clean_at_255 f (finding_value least.travel.finding) greatest.flight least.flight rules
+    is_missed_or_clean-if_clean_at_255 f (finding_value least.travel.finding) greatest.flight least.flight
+    rules
     (subst (λ (x : Finding). EndsTravel f 255 x greatest.flight) examined_flights.1
     (ends_travel-from_finished d flow f 255 greatest refl examined_flights.0 (omega arith) (omega arith)))
     (ends_travel-at_flow_ttl d flow f least rules refl examined_flights.2)

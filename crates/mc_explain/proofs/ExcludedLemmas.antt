@@ -13,7 +13,9 @@ use Rattle.mc_explain.specs.ExcludedText.{verdict_reason, without_line, without_
 use Rattle.mc_explain.specs.FirstEight.{FirstEight, IsFirstEightOf}
 use Rattle.mc_explain.specs.RouterText.{first_routers_text, routers_text}
 use Rattle.mc_explain.proofs.LineFeedLemmas.{no_feed-router_name, no_feed-append_front}
-use Rattle.mc_explain.proofs.IndentedLemmas.{has_no_line_feed-from_no_byte, are_indented-from_line_rest, is_line_rest-feed, is_line_rest-append, is_line_rest-append_front}
+use Rattle.mc_explain.proofs.IndentedLemmas.{has_no_line_feed-from_no_byte, are_indented-from_line_rest}
+use Rattle.mc_explain.proofs.IndentedLemmas.{is_line_rest-feed, is_line_rest-append}
+use Rattle.mc_explain.proofs.IndentedLemmas.{is_line_rest-append_front}
 use Rattle.mc_explain.proofs.IndentedLemmas.{are_indented-none}
 use Rattle.mc_explain.proofs.RouterTextLemmas.{first_routers_text-of_list}
 use Rattle.mc_explain.proofs.UnlistedLineLemmas.{are_lines-flat_map}
@@ -21,7 +23,8 @@ use Rattle.mc_explain.proofs.SearchLineLemmas.{no_feed-routers_text}
 
 -- ---- how they begin
 
-are_without_lines-line : (t : TopologyValue) (router : ℕ) → IsValidTopology t → AreWithoutLines (without_line t router)
+are_without_lines-line : (t : TopologyValue) (router : ℕ) → IsValidTopology t
+    → AreWithoutLines (without_line t router)
 are_without_lines-line t router ok = record {
   lines = (codes "without " ++ router_name t router) ∷ [];
   begins = λ line h. elim h [
@@ -30,7 +33,8 @@ are_without_lines-line t router ok = record {
   ];
   feedless = λ line h. elim h [
     | inl e ↦ subst HasNoLineFeed e (has_no_line_feed-from_no_byte (codes "without " ++ router_name t router)
-        (no_feed-append_front (codes "without ") (router_name t router) refl (no_feed-router_name t router ok)))
+        (no_feed-append_front (codes "without ") (router_name t router) refl (no_feed-router_name t router
+        ok)))
     | inr none ↦ absurd none
   ];
   spelled = sym (append-nil (without_line t router));
@@ -42,13 +46,15 @@ are_without_lines-without_text t marks ok =
     are_lines-flat_map IsWithoutLine (without_line t) (excluded_routers t marks)
     (λ router. are_without_lines-line t router ok)
 
-are_indented-verdict_reason : (t : TopologyValue) (routers : List ℕ) → IsValidTopology t → AreIndented (verdict_reason t routers)
+are_indented-verdict_reason : (t : TopologyValue) (routers : List ℕ) → IsValidTopology t
+    → AreIndented (verdict_reason t routers)
 are_indented-verdict_reason t [] ok = are_indented-none
 are_indented-verdict_reason t (r ∷ rs) ok =
     are_indented-from_line_rest _
     (is_line_rest-append_front (codes "left out:") _ refl
     (is_line_rest-append (routers_text t (r ∷ rs)) _ (no_feed-routers_text t (r ∷ rs) ok)
-    (is_line_rest-append_front (codes ": the verdict is no, since a yes is said of whole domains only") _ refl is_line_rest-feed)))
+    (is_line_rest-append_front (codes ": the verdict is no, since a yes is said of whole domains only") _
+    refl is_line_rest-feed)))
 
 pub are_indented-excluded_text : (t : TopologyValue) (marks : List Bool) → IsValidTopology t
     → AreIndented (excluded_text t marks)
@@ -84,15 +90,18 @@ flat_map_filter-failed p f n old now so_far fails =
     ap (λ (b : Bool). flat_map f (cond b (n ∷ []) [])) fails in
     so_far ∙ ap (λ (l : List ℕ). old ++ l)
     (sym (append-nil (flat_map f (filter p (below n))))
-    ∙ ap (λ (l : List ℕ). flat_map f (filter p (below n)) ++ l) (sym none) ∙ sym (flat_map_filter-below_more p f n))
+    ∙ ap (λ (l : List ℕ). flat_map f (filter p (below n)) ++ l) (sym none)
+    ∙ sym (flat_map_filter-below_more p f n))
 
 -- ---- the line for all
 
-pub verdict_reason-some : (t : TopologyValue) (s : FirstEight) (n : ℕ) (routers : List ℕ) → IsFirstEightOf s routers
+pub verdict_reason-some : (t : TopologyValue) (s : FirstEight) (n : ℕ) (routers : List ℕ)
+    → IsFirstEightOf s routers
     → n ≡ s.count → 0 < n
     → codes "  left out:" ++ (first_routers_text t s
     ++ codes ": the verdict is no, since a yes is said of whole domains only\n") ≡ verdict_reason t routers
-verdict_reason-some t s n [] is count_is some = absurd (let none = is.count in omega (arith, none, count_is, some))
+verdict_reason-some t s n [] is count_is some =
+    absurd (let none = is.count in omega (arith, none, count_is, some))
 verdict_reason-some t s n (r ∷ rs) is count_is some =
     ap (λ (names : List ℕ). codes "  left out:" ++ (names
     ++ codes ": the verdict is no, since a yes is said of whole domains only\n"))

@@ -21,10 +21,14 @@ use Rattle.mc_explain.specs.RowText.{device_text, incoming_text}
 use Rattle.mc_explain.specs.RowText.{row_text}
 use Rattle.mc_explain.specs.WantedText.{lan_after_space, lans_text, also_missed, also_missed_line}
 use Rattle.mc_explain.specs.WantedText.{also_missed_text, more_text, wanted_line, wanted_text, lans_wanting}
-use Rattle.mc_explain.proofs.LineFeedLemmas.{no_feed-device_text, no_feed-flat_map, no_feed-cond, no_feed-every_source_text}
-use Rattle.mc_explain.proofs.LineFeedLemmas.{no_feed-incoming_text, no_feed-lan_name, number, no_feed-from_list_all, no_feed-router_name}
+use Rattle.mc_explain.proofs.LineFeedLemmas.{no_feed-device_text, no_feed-flat_map, no_feed-cond}
+use Rattle.mc_explain.proofs.LineFeedLemmas.{no_feed-every_source_text}
+use Rattle.mc_explain.proofs.LineFeedLemmas.{no_feed-incoming_text, no_feed-lan_name, number}
+use Rattle.mc_explain.proofs.LineFeedLemmas.{no_feed-from_list_all, no_feed-router_name}
 use Rattle.mc_explain.proofs.LineFeedLemmas.{no_feed-row_text, no_feed-append_front, no_feed-append}
-use Rattle.mc_explain.proofs.IndentedLemmas.{are_indented-from_line_rest, is_line_rest-feed_then_lines, is_line_rest-feed, is_line_rest-append, is_line_rest-append_front}
+use Rattle.mc_explain.proofs.IndentedLemmas.{are_indented-from_line_rest, is_line_rest-feed_then_lines}
+use Rattle.mc_explain.proofs.IndentedLemmas.{is_line_rest-feed, is_line_rest-append}
+use Rattle.mc_explain.proofs.IndentedLemmas.{is_line_rest-append_front}
 use Rattle.mc_explain.proofs.IndentedLemmas.{are_indented-flat_map, are_indented-none}
 
 -- ---- causes
@@ -57,7 +61,8 @@ no_feed-cost_text d f lan least ok =
     (no_feed-append_front (codes " and LANs behind it, and this flow is listed with ttl ") _ refl
     (number f.ttl))))))
 
-are_indented-cause_text : (d : DomainFacts) (summary : List SummaryValue) (number_of : ℕ) (f : Flow) (t : Cause)
+are_indented-cause_text : (d : DomainFacts) (summary : List SummaryValue) (number_of : ℕ) (f : Flow)
+    (t : Cause)
     → IsValidTopology d.topology → AreIndented (cause_text d summary number_of f t)
 are_indented-cause_text d summary k f (SentOnto lan router vif) ok =
     let row = (d.nets k).row router in
@@ -69,7 +74,8 @@ are_indented-cause_text d summary k f (SentOnto lan router vif) ok =
     (is_line_rest-append_front (codes " at ") _ refl
     (is_line_rest-append (device_text d router vif) _ (no_feed-device_text d router vif)
     (is_line_rest-append_front (codes ": ") _ refl
-    (is_line_rest-append (row_text d f router row) _ (no_feed-row_text d f router row ok) is_line_rest-feed))))))))
+    (is_line_rest-append (row_text d f router row) _ (no_feed-row_text d f router row ok)
+    is_line_rest-feed))))))))
 are_indented-cause_text d summary k f (Circle from onto router vif) ok =
     let row = (d.nets k).row router in
     are_indented-from_line_rest _
@@ -83,7 +89,8 @@ are_indented-cause_text d summary k f (Circle from onto router vif) ok =
     (is_line_rest-append_front (codes " to ") _ refl
     (is_line_rest-append (device_text d router vif) _ (no_feed-device_text d router vif)
     (is_line_rest-append_front (codes ": ") _ refl
-    (is_line_rest-append (row_text d f router row) _ (no_feed-row_text d f router row ok) is_line_rest-feed)))))))))))
+    (is_line_rest-append (row_text d f router row) _ (no_feed-row_text d f router row ok)
+    is_line_rest-feed)))))))))))
 are_indented-cause_text d summary k f (TakeOut lan router vif least) ok =
     are_indented-from_line_rest _
     (is_line_rest-append_front (codes "one way to end it: take ") _ refl
@@ -93,7 +100,8 @@ are_indented-cause_text d summary k f (TakeOut lan router vif least) ok =
     (is_line_rest-append_front (codes "; ") _ refl
     (is_line_rest-append (cost_text d f lan least) _ (no_feed-cost_text d f lan least ok)
     (is_line_rest-feed_then_lines (codes "  audit again after each change\n")
-    (are_indented-from_line_rest _ (is_line_rest-append_front (codes "audit again after each change") _ refl is_line_rest-feed)))))))))
+    (are_indented-from_line_rest _ (is_line_rest-append_front (codes "audit again after each change") _ refl
+    is_line_rest-feed)))))))))
 are_indented-cause_text d summary k f (Unplaced router vif) ok =
     let row = (d.nets k).row router in
     are_indented-from_line_rest _
@@ -104,7 +112,8 @@ are_indented-cause_text d summary k f (Unplaced router vif) ok =
     (is_line_rest-append (unplaced_text d router (d.vifs router vif)) _
     (no_feed-unplaced_text d router (d.vifs router vif) ok)
     (is_line_rest-feed_then_lines _ (are_indented-from_line_rest _
-    (is_line_rest-append (row_text d f router row) _ (no_feed-row_text d f router row ok) is_line_rest-feed))))))))
+    (is_line_rest-append (row_text d f router row) _ (no_feed-row_text d f router row ok)
+    is_line_rest-feed))))))))
 are_indented-cause_text d summary k f (OnlyEverySource router vif) ok =
     are_indented-from_line_rest _
     (is_line_rest-append_front (codes "a copy comes in at ") _ refl
@@ -139,7 +148,8 @@ are_indented-cause_text d summary k f (StoppedAt router vif threshold ttl) ok =
 
 -- all causes
 pub are_indented-causes_text : (d : DomainFacts) (summary : List SummaryValue) (number_of : ℕ) (f : Flow)
-    (causes : List Cause) → IsValidTopology d.topology → AreIndented (causes_text d summary number_of f causes)
+    (causes : List Cause) → IsValidTopology d.topology → AreIndented (causes_text d summary number_of f
+    causes)
 are_indented-causes_text d summary k f causes ok =
     are_indented-flat_map (cause_text d summary k f) causes (λ t. are_indented-cause_text d summary k f t ok)
 
@@ -152,21 +162,26 @@ no_feed-more_text more =
     (no_feed-append (decimal more) _ (number more) (no_feed-from_list_all (codes " more") refl)))
 
 -- the first LANs of a list, and how many more there are
-pub no_feed-lans_text : (t : TopologyValue) (lans : List ℕ) → IsValidTopology t → HasNoByte 10 (lans_text t lans)
+pub no_feed-lans_text : (t : TopologyValue) (lans : List ℕ) → IsValidTopology t
+    → HasNoByte 10 (lans_text t lans)
 no_feed-lans_text t lans ok =
     no_feed-append _ (more_text (length lans - 8))
-    (no_feed-flat_map (lan_after_space t) (take 8 lans) (λ l. no_feed-append_front (codes " ") _ refl (no_feed-lan_name t l ok)))
+    (no_feed-flat_map (lan_after_space t) (take 8 lans) (λ l. no_feed-append_front (codes " ") _ refl
+    (no_feed-lan_name t l ok)))
     (no_feed-more_text (length lans - 8))
 
-pub are_indented-wanted_text : (t : TopologyValue) (lans : List ℕ) → IsValidTopology t → AreIndented (wanted_text t lans)
+pub are_indented-wanted_text : (t : TopologyValue) (lans : List ℕ) → IsValidTopology t
+    → AreIndented (wanted_text t lans)
 are_indented-wanted_text t [] ok =
-    are_indented-from_line_rest _ (is_line_rest-append_front (codes "wanted 0: no report asks for it") _ refl is_line_rest-feed)
+    are_indented-from_line_rest _ (is_line_rest-append_front (codes "wanted 0: no report asks for it") _
+    refl is_line_rest-feed)
 are_indented-wanted_text t (lan ∷ lans) ok =
     are_indented-from_line_rest _
     (is_line_rest-append_front (codes "wanted ") _ refl
     (is_line_rest-append (decimal (length (lan ∷ lans))) _ (number (length (lan ∷ lans)))
     (is_line_rest-append_front (codes ":") _ refl
-    (is_line_rest-append (lans_text t (lan ∷ lans)) _ (no_feed-lans_text t (lan ∷ lans) ok) is_line_rest-feed))))
+    (is_line_rest-append (lans_text t (lan ∷ lans)) _ (no_feed-lans_text t (lan ∷ lans) ok)
+    is_line_rest-feed))))
 
 pub are_indented-also_missed_text : (t : TopologyValue) (lans : List ℕ) → IsValidTopology t
     → AreIndented (also_missed_text t lans)
@@ -174,7 +189,8 @@ are_indented-also_missed_text t [] ok = are_indented-none
 are_indented-also_missed_text t (lan ∷ lans) ok =
     are_indented-from_line_rest _
     (is_line_rest-append_front (codes "also missed:") _ refl
-    (is_line_rest-append (lans_text t (lan ∷ lans)) _ (no_feed-lans_text t (lan ∷ lans) ok) is_line_rest-feed))
+    (is_line_rest-append (lans_text t (lan ∷ lans)) _ (no_feed-lans_text t (lan ∷ lans) ok)
+    is_line_rest-feed))
 
 pub are_indented-wanted_line : (d : DomainFacts) (flow : ℕ) → IsValidTopology d.topology
     → AreIndented (wanted_line d flow)
@@ -182,4 +198,5 @@ are_indented-wanted_line d flow ok = are_indented-wanted_text d.topology (lans_w
 
 pub are_indented-also_missed_line : (d : DomainFacts) (flow : ℕ) (copies : List Copy) (missed : ℕ)
     → IsValidTopology d.topology → AreIndented (also_missed_line d flow copies missed)
-are_indented-also_missed_line d flow copies missed ok = are_indented-also_missed_text d.topology (also_missed d flow copies missed) ok
+are_indented-also_missed_line d flow copies missed ok = are_indented-also_missed_text d.topology
+    (also_missed d flow copies missed) ok

@@ -59,7 +59,8 @@ filter-below_more : (p : ℕ → Bool) (n : ℕ)
 filter-below_more p n = ap (filter p) (below-more n) ∙ filter-append p (below n) (n ∷ [])
 
 -- if the next LAN passes, the list has one more,
-pub is_first_eight_of-filter_passed : (p : ℕ → Bool) (s s' : FirstEight) (n : ℕ) → IsFirstEightOf s (filter p (below n))
+pub is_first_eight_of-filter_passed : (p : ℕ → Bool) (s s' : FirstEight) (n : ℕ)
+    → IsFirstEightOf s (filter p (below n))
     → p n ≡ true → s'.first ≡ take 8 (s.first ++ n ∷ []) → s'.count ≡ s.count + 1
     → IsFirstEightOf s' (filter p (below (n + 1)))
 is_first_eight_of-filter_passed p s s' n is passes first count =
@@ -68,7 +69,8 @@ is_first_eight_of-filter_passed p s s' n is passes first count =
     (is_first_eight_of-push s s' (filter p (below n)) n is first count)
 
 -- or else it stays the same
-pub is_first_eight_of-filter_failed : (p : ℕ → Bool) (s : FirstEight) (n : ℕ) → IsFirstEightOf s (filter p (below n))
+pub is_first_eight_of-filter_failed : (p : ℕ → Bool) (s : FirstEight) (n : ℕ)
+    → IsFirstEightOf s (filter p (below n))
     → p n ≡ false → IsFirstEightOf s (filter p (below (n + 1)))
 is_first_eight_of-filter_failed p s n is fails =
     let none : filter p (n ∷ []) ≡ [] = ap (λ (b : Bool). cond b (n ∷ []) []) fails in
@@ -88,7 +90,8 @@ pub wanted_text-some : (t : TopologyValue) (s : FirstEight) (n : ℕ) (lans : Li
     → n ≡ s.count → 0 < n
     → codes "  wanted " ++ (decimal n ++ (codes ":" ++ (first_lans_text t s ++ codes "\n")))
     ≡ wanted_text t lans
-wanted_text-some t s n [] is count_is some = absurd (let none = is.count in omega (arith, none, count_is, some))
+wanted_text-some t s n [] is count_is some = absurd (let none =
+    is.count in omega (arith, none, count_is, some))
 wanted_text-some t s n (lan ∷ lans) is count_is some =
     ap₂ (λ m text. codes "  wanted " ++ (decimal m ++ (codes ":" ++ (text ++ codes "\n"))))
     (count_is ∙ is.count) (first_lans_text-of_list t s (lan ∷ lans) is)

@@ -19,28 +19,33 @@ use Rattle.mc_explain.specs.LastFlights.{IsSecondCopy, path_of}
 pub first_copy_on-from_held : (first_copies : List (Option Copy)) (cs copies : List Copy) (k l : ℕ)
     (o : Option Copy) → HoldsFirstOfEachKey (λ (c : Copy). c.lan) first_copies copies → copies ≡ cs → k ≡ l →
     o ≡ item_on_lan first_copies k → o ≡ first_copy_on cs l
-first_copy_on-from_held first_copies cs copies k l o are same lan e = e ∙ (are k ∙ (first_with_key-first_copy_on copies k ∙
+first_copy_on-from_held first_copies cs copies k l o are same lan e = e
+    ∙ (are k ∙ (first_with_key-first_copy_on copies k ∙
     ap₂ (λ (xs : List Copy) (m : ℕ). first_copy_on xs m) same lan))
 
 -- so there is one, and it is the first
-pub held-not_none_on_first : (first_copies : List (Option Copy)) (cs copies : List Copy) (k l : ℕ) (o : Option Copy)
+pub held-not_none_on_first : (first_copies : List (Option Copy)) (cs copies : List Copy) (k l : ℕ)
+    (o : Option Copy)
     (first : Copy) → HoldsFirstOfEachKey (λ (c : Copy). c.lan) first_copies copies → copies ≡ cs → k ≡ l →
     o ≡ item_on_lan first_copies k → o ≡ None → first_copy_on cs l ≡ Some first → ⊥
 held-not_none_on_first first_copies cs copies k l o first are same lan e none on =
     let both : None ≡ Some first = sym none ∙
     (first_copy_on-from_held first_copies cs copies k l o are same lan e ∙ on) in cc
 
-pub first_copy_on-from_held_some : (first_copies : List (Option Copy)) (cs copies : List Copy) (k l : ℕ) (o : Option Copy)
+pub first_copy_on-from_held_some : (first_copies : List (Option Copy)) (cs copies : List Copy) (k l : ℕ)
+    (o : Option Copy)
     (got : Copy) → HoldsFirstOfEachKey (λ (c : Copy). c.lan) first_copies copies → copies ≡ cs → k ≡ l →
     o ≡ item_on_lan first_copies k → o ≡ Some got → first_copy_on cs l ≡ Some got
 first_copy_on-from_held_some first_copies cs copies k l o got are same lan e some =
     sym (first_copy_on-from_held first_copies cs copies k l o are same lan e) ∙ some
 
-pub held-is_first_copy : (first_copies : List (Option Copy)) (cs copies : List Copy) (k l : ℕ) (o : Option Copy)
+pub held-is_first_copy : (first_copies : List (Option Copy)) (cs copies : List Copy) (k l : ℕ)
+    (o : Option Copy)
     (got first : Copy) → HoldsFirstOfEachKey (λ (c : Copy). c.lan) first_copies copies → copies ≡ cs → k ≡ l →
     o ≡ item_on_lan first_copies k → o ≡ Some got → first_copy_on cs l ≡ Some first → got ≡ first
 held-is_first_copy first_copies cs copies k l o got first are same lan e some on =
-    copy_equal-from_some (first_copy_on cs l) got first (first_copy_on-from_held_some first_copies cs copies k l o got are same lan e some) on
+    copy_equal-from_some (first_copy_on cs l) got first (first_copy_on-from_held_some first_copies cs copies
+    k l o got are same lan e some) on
 
 -- the hops that were found are the copy's path
 pub found_hops-are_path : (n : Net) (cs copies : List Copy) (first got : Copy) (items now : List Hop) →
@@ -70,7 +75,8 @@ is_remedy-from_second_copy n f second lan router vif least is on sent e = record
 }
 
 -- if no hop stops a packet, it gets through
-pub passes_hops-from_no_stop : (t u : ℕ) (now path : List Hop) (o : Option (Hop × ℕ)) → o ≡ stopping_hop u now →
+pub passes_hops-from_no_stop : (t u : ℕ) (now path : List Hop) (o : Option (Hop × ℕ)) → o
+    ≡ stopping_hop u now →
     u ≡ t → now ≡ path → o ≡ None → PassesHops t path
 passes_hops-from_no_stop t u now path o found ttl same none =
     (stopping_hop-none t path).0 (sym (ap₂ stopping_hop ttl same) ∙ (sym found ∙ none))
@@ -125,5 +131,6 @@ is_remedy-same_copy n f lan second got r one on out = subst (λ (l : ℕ). IsRem
 -- the copy that was found is the second one
 pub first_double-same_copy : (cs copies : List Copy) (second got : Copy) (o : Option Copy) → copies ≡ cs →
     o ≡ first_double [] copies → o ≡ Some got → first_double [] cs ≡ Some second → got ≡ second
-first_double-same_copy cs copies second got o same e some found = copy_equal-from_some (first_double [] cs) got second
+first_double-same_copy cs copies second got o same e some found = copy_equal-from_some (first_double [] cs)
+    got second
     (sym (e ∙ ap (λ (xs : List Copy). first_double [] xs) same) ∙ some) found

@@ -7,11 +7,14 @@ use Rattle.mc_explain.specs.SearchLine.{group_by_router, add_to_group}
 use Rattle.mc_explain.specs.BucketsAndMarks.{leading_of_router}
 
 -- there are no more of them at the front than interfaces
-pub leading_of_router-at_most_length : (router : ℕ) (is : List ListedInterface) → leading_of_router router is ≤ length is
+pub leading_of_router-at_most_length : (router : ℕ) (is : List ListedInterface) → leading_of_router router
+    is ≤ length is
 leading_of_router-at_most_length router [] = omega arith
-leading_of_router-at_most_length router (i ∷ is) = by (i.router == router) (leading_of_router-at_most_length router is)
+leading_of_router-at_most_length router (i ∷ is) = by (i.router == router) (leading_of_router-at_most_length
+    router is)
   where
-    by : (b : Bool) → leading_of_router router is ≤ length is → cond b (suc (leading_of_router router is)) zero ≤ suc (length is)
+    by : (b : Bool) → leading_of_router router is ≤ length is → cond b (suc (leading_of_router router is))
+        zero ≤ suc (length is)
     by true h = omega (arith, h)
     by false h = omega arith
 
@@ -21,9 +24,11 @@ cond-same_router r m = ap (λ (b : Bool). cond b (suc m) zero) (eq-eqb r r refl)
 -- the first group, of the router of the first interface
 pub group_by_router-first : (i : ListedInterface) (is : List ListedInterface)
     → group_by_router (i ∷ is)
-    ≡ (i.router, take (leading_of_router i.router (i ∷ is)) (i ∷ is)) ∷ group_by_router (drop (leading_of_router i.router (i ∷ is)) (i ∷ is))
+    ≡ (i.router, take (leading_of_router i.router (i ∷ is)) (i ∷ is)) ∷ group_by_router
+    (drop (leading_of_router i.router (i ∷ is)) (i ∷ is))
 group_by_router-first i [] =
-    ap (λ (n : ℕ). (i.router, take n (i ∷ [])) ∷ group_by_router (drop n (i ∷ []))) (sym (cond-same_router i.router 0))
+    ap (λ (n : ℕ). (i.router, take n (i ∷ [])) ∷ group_by_router (drop n (i ∷ [])))
+    (sym (cond-same_router i.router 0))
 group_by_router-first i (j ∷ js) =
     by_next (j.router == i.router) refl (group_by_router-first j js)
     ∙ ap (λ (n : ℕ). (i.router, take n (i ∷ j ∷ js)) ∷ group_by_router (drop n (i ∷ j ∷ js)))
@@ -32,7 +37,8 @@ group_by_router-first i (j ∷ js) =
     by_next : (b : Bool) → (j.router == i.router) ≡ b
         → group_by_router (j ∷ js) ≡ (j.router, take (leading_of_router j.router (j ∷ js)) (j ∷ js))
         ∷ group_by_router (drop (leading_of_router j.router (j ∷ js)) (j ∷ js))
-        → add_to_group i (group_by_router (j ∷ js)) ≡ (i.router, i ∷ take (leading_of_router i.router (j ∷ js)) (j ∷ js))
+        → add_to_group i (group_by_router (j ∷ js))
+        ≡ (i.router, i ∷ take (leading_of_router i.router (j ∷ js)) (j ∷ js))
         ∷ group_by_router (drop (leading_of_router i.router (j ∷ js)) (j ∷ js))
     by_next true q rest =
         let same : j.router ≡ i.router = eqb-true j.router i.router q in

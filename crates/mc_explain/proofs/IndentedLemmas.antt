@@ -63,7 +63,8 @@ is_line_rest-append xs ys none g = record {
 }
 
 -- a piece of a line in front of its rest
-pub is_line_rest-append_front : (front ys : List ℕ) → list_all (λ b. not (b == 10)) front ≡ true → IsLineRest ys
+pub is_line_rest-append_front : (front ys : List ℕ) → list_all (λ b. not (b == 10)) front ≡ true
+    → IsLineRest ys
     → IsLineRest (front ++ ys)
 is_line_rest-append_front front ys none g = is_line_rest-append front ys (no_feed-from_list_all front none) g
 

@@ -12,7 +12,8 @@ use Rattle.mc_theory.specs.FindingMeaning.{IsFirstDouble, FirstDoubleWalk, Shows
 use Rattle.mc_theory.specs.Paths.{IsPath, PassesHops}
 use Rattle.mc_theory.proofs.ListLemmas.{distinct_append-disjoint}
 use Rattle.mc_theory.proofs.RunInvariant.{map-append'}
-use Rattle.mc_theory.proofs.Travels.{in_lans-from_first_copy_on, first_copy_on-from_in_lans, in_range-travel, is_lossless-handles}
+use Rattle.mc_theory.proofs.Travels.{in_lans-from_first_copy_on, first_copy_on-from_in_lans}
+use Rattle.mc_theory.proofs.Travels.{in_range-travel, is_lossless-handles}
 use Rattle.mc_theory.proofs.WalkBack.{in-first_copy_on}
 use Rattle.mc_theory.proofs.FindingMeaning.{shows-travel_finding}
 use Rattle.mc_theory.proofs.Paths.{need_at_most-from_passes}
@@ -22,7 +23,8 @@ use Rattle.mc_theory.proofs.EachHearerForwards.{carried-from_path}
 use Rattle.mc_theory.proofs.SpareInterface.{earlier_copy-of_first_double, is_spare_interface-exists}
 use Rattle.mc_forward.specs.Domains.{DomainValue, ttl_of}
 use Rattle.mc_forward.specs.FlightsInDomain.{FlowOfDomain, IsFlowOfDomain, FlightInDomain, net_in}
-use Rattle.mc_forward.proofs.DomainLemmas.{is_net-net_of, wants-below_lan_count, ttl-at_least_1, ttl-at_most_255}
+use Rattle.mc_forward.proofs.DomainLemmas.{is_net-net_of, wants-below_lan_count, ttl-at_least_1}
+use Rattle.mc_forward.proofs.DomainLemmas.{ttl-at_most_255}
 use Rattle.mc_replay.specs.FindingValues.{finding_value}
 use Rattle.mc_replay.specs.declared.travel.FinishedTravel.{FinishedTravel}
 use Rattle.mc_maker.specs.Examined.{FindsNothing}
@@ -43,7 +45,8 @@ first_double-here : (earlier : List Copy) (c : Copy) (cs : List Copy) (test : Bo
     is_some (first_copy_on earlier c.lan) ≡ test → In c.lan (lans earlier) →
     cond test (Some c) (first_double (earlier ++ c ∷ []) cs) ≡ Some c
 first_double-here earlier c cs true q again = refl
-first_double-here earlier c cs false q again = absurd (let y = first_copy_on-from_in_lans earlier c.lan again in cc)
+first_double-here earlier c cs false q again = absurd (let y = first_copy_on-from_in_lans earlier c.lan
+    again in cc)
 
 first_double-after_distinct : (earlier before : List Copy) (c : Copy) (later : List Copy) →
     Distinct (lans (earlier ++ before)) → In c.lan (lans (earlier ++ before)) →
@@ -62,8 +65,10 @@ first_double-after_distinct earlier (d ∷ before) c later once again =
     (subst (λ xs. Distinct (lans xs)) (sym same) once)
     (subst (λ xs. In c.lan (lans xs)) (sym same) again))
 
-first_double-from_is_first_double : (cs : List Copy) (c : Copy) → IsFirstDouble cs c → first_double [] cs ≡ Some c
-first_double-from_is_first_double cs c d = ap (first_double []) d.split ∙ first_double-after_distinct [] d.earlier c d.later d.once d.again
+first_double-from_is_first_double : (cs : List Copy) (c : Copy) → IsFirstDouble cs c → first_double [] cs
+    ≡ Some c
+first_double-from_is_first_double cs c d = ap (first_double []) d.split ∙ first_double-after_distinct []
+    d.earlier c d.later d.once d.again
 
 -- ---- the last flight
 
@@ -71,16 +76,19 @@ pub is_net-from_is_flow_in : (f : FlowOfDomain) → IsFlowOfDomain f → IsNet (
 is_net-from_is_flow_in f ok = is_net-net_of f.domain f.flow ok.domain
 
 -- the flight that the travel's run ends with
-abbrev pub last_flight : (f : FlowOfDomain) (ttl : ℕ) (x : Finding) (j : FlightInDomain) → EndsTravel f ttl x j → Flight
+abbrev pub last_flight : (f : FlowOfDomain) (ttl : ℕ) (x : Finding) (j : FlightInDomain)
+    → EndsTravel f ttl x j → Flight
 last_flight f ttl x j e = run (net_in f) (handles e.picks) (start (net_in f) ttl)
 
 pub shows-last_flight : (f : FlowOfDomain) (ttl : ℕ) (x : Finding) (j : FlightInDomain) → IsFlowOfDomain f →
     (e : EndsTravel f ttl x j) → Shows (net_in f) (last_flight f ttl x j e) x
-shows-last_flight f ttl x j ok e = shows-travel_finding (net_in f) (length f.domain.topology.lans) ttl [] false e.picks x
+shows-last_flight f ttl x j ok e = shows-travel_finding (net_in f) (length f.domain.topology.lans) ttl []
+    false e.picks x
     (λ l w. wants-below_lan_count f.domain f.flow l ok.domain w) e.travel
 
 -- a LAN's first copy has a path
-pub has_path-last_flight : (f : FlowOfDomain) (ttl : ℕ) (x : Finding) (j : FlightInDomain) (lan : ℕ) (first : Copy) →
+pub has_path-last_flight : (f : FlowOfDomain) (ttl : ℕ) (x : Finding) (j : FlightInDomain) (lan : ℕ)
+    (first : Copy) →
     IsFlowOfDomain f → (e : EndsTravel f ttl x j) →
     first_copy_on (last_flight f ttl x j e).carried lan ≡ Some first →
     HasPath (net_in f) (last_flight f ttl x j e).carried lan first
@@ -99,14 +107,16 @@ has_path-last_flight f ttl x j lan first ok e on =
 
 -- ---- a second copy
 
-has_second_copy-last_flight : (f : FlowOfDomain) (ttl : ℕ) (x : Finding) (j : FlightInDomain) (lan : ℕ) → IsFlowOfDomain f →
+has_second_copy-last_flight : (f : FlowOfDomain) (ttl : ℕ) (x : Finding) (j : FlightInDomain) (lan : ℕ)
+    → IsFlowOfDomain f →
     (e : EndsTravel f ttl x j) → FirstDoubleWalk (net_in f) (last_flight f ttl x j e) lan →
     HasSecondCopy (net_in f) (last_flight f ttl x j e).carried lan
 has_second_copy-last_flight f ttl x j lan ok e d =
     let n = net_in f in
     let cs = (last_flight f ttl x j e).carried in
     let a = earlier_copy-of_first_double cs d.copy d.first in
-    let s = is_spare_interface-exists n (length f.domain.topology.lans) ttl [] false e.picks x d.copy e.travel d.first
+    let s = is_spare_interface-exists n (length f.domain.topology.lans) ttl [] false e.picks x d.copy
+        e.travel d.first
     in
     record {
       second = d.copy;
@@ -121,9 +131,11 @@ has_second_copy-last_flight f ttl x j lan ok e d =
       on = d.lan;
     }
 
-pub has_second_copy-from_duplicate : (f : FlowOfDomain) (ttl lan : ℕ) (j : FlightInDomain) → IsFlowOfDomain f →
+pub has_second_copy-from_duplicate : (f : FlowOfDomain) (ttl lan : ℕ) (j : FlightInDomain)
+    → IsFlowOfDomain f →
     EndsTravel f ttl (Duplicate lan) j → HasSecondCopy (net_in f) j.flight.carried lan
-has_second_copy-from_duplicate f ttl lan j ok e = subst (λ (g : Flight). HasSecondCopy (net_in f) g.carried lan)
+has_second_copy-from_duplicate f ttl lan j ok e = subst (λ (g : Flight). HasSecondCopy (net_in f) g.carried
+    lan)
     (sym e.ends) (has_second_copy-last_flight f ttl (Duplicate lan) j lan ok e
     (shows-last_flight f ttl (Duplicate lan) j ok e).0)
 
@@ -133,7 +145,8 @@ has_loop-from_loop f ttl lan j ok e =
     let n = net_in f in
     let shows = shows-last_flight f ttl (Loop lan) j ok e in
     let has = has_second_copy-last_flight f ttl (Loop lan) j lan ok e shows.0 in
-    let came_by_hops = came_from_lan-hops_until n (length f.domain.topology.lans) ttl [] false e.picks (Loop lan) lan
+    let came_by_hops = came_from_lan-hops_until n (length f.domain.topology.lans) ttl [] false e.picks
+        (Loop lan) lan
     has.second (is_net-from_is_flow_in f ok) e.travel shows has.is.is_double in
     subst (λ (g : Flight). HasLoop n g.carried lan) (sym e.ends)
     (record { has = has; came_by_hops = came_by_hops })
@@ -174,7 +187,8 @@ is_out_of_reach-from_missed f lan j k ok high low =
     let first = first_copy-from_clean f 255 lan j ok high wants in
     let path = has_path-last_flight f 255 Clean j lan first.0 ok high first.1 in
     let leads = is_path-from_travel n (length f.domain.topology.lans) 255 [] false high.picks Clean first.0
-    (path_of n cs first.0) (is_net-from_is_flow_in f ok) high.travel (in-first_copy_on cs lan first.0 first.1) path.came_by_hops in
+    (path_of n cs first.0) (is_net-from_is_flow_in f ok) high.travel (in-first_copy_on cs lan first.0
+    first.1) path.came_by_hops in
     let to = subst (IsPath n n.source (path_of n cs first.0)) (lan-first_copy_on cs lan first.0 first.1)
     leads.0 in
     subst (λ (g : Flight). IsOutOfReach n g.carried n.ttl lan) (sym high.ends) (record {
@@ -185,7 +199,8 @@ is_out_of_reach-from_missed f lan j k ok high low =
 
 -- ---- finished travels
 
-pub ends_travel-from_finished : (d : DomainValue) (flow : ℕ) (f : FlowOfDomain) (ttl : ℕ) (ended : FinishedTravel) →
+pub ends_travel-from_finished : (d : DomainValue) (flow : ℕ) (f : FlowOfDomain) (ttl : ℕ)
+    (ended : FinishedTravel) →
     f ≡ record { domain = d; flow = flow } → IsFinishedTravelOf d flow ttl ended → 1 ≤ ttl → ttl ≤ 255 →
     EndsTravel f ttl (finding_value ended.travel.finding) ended.flight
 ends_travel-from_finished d flow f ttl ended e h low high =
@@ -200,7 +215,8 @@ ends_travel-from_finished d flow f ttl ended e h low high =
     })
 
 -- with the flow's TTL
-pub ends_travel-at_flow_ttl : (d : DomainValue) (flow : ℕ) (f : FlowOfDomain) (ended : FinishedTravel) → IsFlowOfDomain f →
+pub ends_travel-at_flow_ttl : (d : DomainValue) (flow : ℕ) (f : FlowOfDomain) (ended : FinishedTravel)
+    → IsFlowOfDomain f →
     f ≡ record { domain = d; flow = flow } → IsFinishedTravelOf d flow (ttl_of d flow) ended →
     EndsTravel f (net_in f).ttl (finding_value ended.travel.finding) ended.flight
 ends_travel-at_flow_ttl d flow f ended ok e h =
@@ -210,7 +226,8 @@ ends_travel-at_flow_ttl d flow f ended ok e h =
     (subst (λ (g : FlowOfDomain). IsFinishedTravelOf d flow (net_in g).ttl ended) (sym e) h) low high
 
 -- a LAN that is missed though a packet with TTL 255 has no finding
-pub is_out_of_reach-from_finished : (d : DomainValue) (flow lan : ℕ) (f : FlowOfDomain) (greatest least : FinishedTravel) →
+pub is_out_of_reach-from_finished : (d : DomainValue) (flow lan : ℕ) (f : FlowOfDomain)
+    (greatest least : FinishedTravel) →
     IsFlowOfDomain f → f ≡ record { domain = d; flow = flow } → IsFinishedTravelOf d flow 255 greatest →
     FindsNothing greatest.travel → IsFinishedTravelOf d flow (ttl_of d flow) least →
     finding_value least.travel.finding ≡ Missed lan →

@@ -39,7 +39,8 @@ pub no_feed-append_front : (front xs : List ℕ) → list_all (λ b. not (b == 1
     → HasNoByte 10 (front ++ xs)
 no_feed-append_front front xs none rest = no_feed-append front xs (no_feed-from_list_all front none) rest
 
-pub no_feed-cond : (b : Bool) (xs ys : List ℕ) → HasNoByte 10 xs → HasNoByte 10 ys → HasNoByte 10 (cond b xs ys)
+pub no_feed-cond : (b : Bool) (xs ys : List ℕ) → HasNoByte 10 xs → HasNoByte 10 ys
+    → HasNoByte 10 (cond b xs ys)
 no_feed-cond true xs ys p q = p
 no_feed-cond false xs ys p q = q
 
@@ -54,12 +55,14 @@ digit_glyph-is_no_feed : (d : ℕ) (small : Bool) → eqb (cond small (48 + d) (
 digit_glyph-is_no_feed d true = ne_eqb (48 + d) 10 (λ e. omega (arith, e))
 digit_glyph-is_no_feed d false = ne_eqb (87 + d) 10 (λ e. omega (arith, e))
 
-no_feed-digits_onto : (k n : ℕ) (acc : List ℕ) → HasNoByte 10 acc → HasNoByte 10 (digits_onto k 10 false n acc)
+no_feed-digits_onto : (k n : ℕ) (acc : List ℕ) → HasNoByte 10 acc
+    → HasNoByte 10 (digits_onto k 10 false n acc)
 no_feed-digits_onto zero n acc none = none
 no_feed-digits_onto (suc k) n acc none =
     let more : HasNoByte 10 (digit_glyph false (n % 10) ∷ acc) =
     (digit_glyph-is_no_feed (n % 10) (nat_lt (n % 10) 10), none) in
-    no_feed-cond (n / 10 == 0) _ _ more (no_feed-digits_onto k (n / 10) (digit_glyph false (n % 10) ∷ acc) more)
+    no_feed-cond (n / 10 == 0) _ _ more (no_feed-digits_onto k (n / 10) (digit_glyph false (n % 10) ∷ acc)
+    more)
 
 pub number : (n : ℕ) → HasNoByte 10 (decimal n)
 unfolding digits
@@ -86,14 +89,16 @@ no_feed-lan_name_or_empty : (lans : List (List ℕ)) (lan : ℕ)
     → HasNoByte 10 (unwrap_or (slice_get lans lan) [])
 no_feed-lan_name_or_empty [] lan named = tt
 no_feed-lan_name_or_empty (name ∷ lans) zero named = no_feed-name name (named 0 name refl)
-no_feed-lan_name_or_empty (name ∷ lans) (suc lan) named = no_feed-lan_name_or_empty lans lan (λ n other is. named (suc n) other is)
+no_feed-lan_name_or_empty (name ∷ lans) (suc lan) named = no_feed-lan_name_or_empty lans lan
+    (λ n other is. named (suc n) other is)
 
 no_feed-router_name_or_empty : (rs : List RouterRow) (router : ℕ)
     → ((n : ℕ) (r : RouterRow) → slice_get rs n ≡ Some r → IsTrue (is_name r.name))
     → HasNoByte 10 (unwrap_or (option_map (λ r. r.name) (slice_get rs router)) [])
 no_feed-router_name_or_empty [] router named = tt
 no_feed-router_name_or_empty (r ∷ rs) zero named = no_feed-name r.name (named 0 r refl)
-no_feed-router_name_or_empty (r ∷ rs) (suc router) named = no_feed-router_name_or_empty rs router (λ n other is. named (suc n) other is)
+no_feed-router_name_or_empty (r ∷ rs) (suc router) named = no_feed-router_name_or_empty rs router
+    (λ n other is. named (suc n) other is)
 
 pub no_feed-lan_name : (t : TopologyValue) (lan : ℕ) → IsValidTopology t → HasNoByte 10 (lan_name t lan)
 no_feed-lan_name t lan ok = no_feed-lan_name_or_empty t.lans lan ok.valid_lan_names
@@ -110,7 +115,8 @@ pub no_feed-escaped_byte : (b : ℕ) (shown : Bool) → is_plain b ≡ shown
 no_feed-escaped_byte b true is = (ne_eqb b 10 (λ e. false≢true (sym (ap is_plain e) ∙ is)), tt)
 no_feed-escaped_byte b false is =
     no_feed-append_front (codes "\\x") (hex_digit_of (b / 16) ∷ hex_digit_of (b % 16) ∷ []) refl
-    (digit_glyph-is_no_feed (b / 16) (nat_le (b / 16) 9), (digit_glyph-is_no_feed (b % 16) (nat_le (b % 16) 9), tt))
+    (digit_glyph-is_no_feed (b / 16) (nat_le (b / 16) 9), (digit_glyph-is_no_feed (b % 16)
+    (nat_le (b % 16) 9), tt))
 
 no_feed-vif_number_text : (vif : ℕ) → HasNoByte 10 (vif_number_text vif)
 no_feed-vif_number_text vif = no_feed-append_front (codes "vif/") (decimal vif) refl (number vif)
@@ -118,7 +124,8 @@ no_feed-vif_number_text vif = no_feed-append_front (codes "vif/") (decimal vif) 
 no_feed-device_text_of : (vif : ℕ) (o : Option VifValue) → HasNoByte 10 (device_text_of vif o)
 no_feed-device_text_of vif None = no_feed-vif_number_text vif
 no_feed-device_text_of vif (Some v) = no_feed-cond (bytes_eq v.device no_device) (vif_number_text vif)
-    (device_name_text v.device) (no_feed-vif_number_text vif) (no_feed-flat_map byte_text v.device (λ b. no_feed-escaped_byte b (is_plain b) refl))
+    (device_name_text v.device) (no_feed-vif_number_text vif) (no_feed-flat_map byte_text v.device
+    (λ b. no_feed-escaped_byte b (is_plain b) refl))
 
 pub no_feed-device_text : (d : DomainFacts) (router vif : ℕ) → HasNoByte 10 (device_text d router vif)
 no_feed-device_text d router vif = no_feed-device_text_of vif (d.vifs router vif)
@@ -126,13 +133,15 @@ no_feed-device_text d router vif = no_feed-device_text_of vif (d.vifs router vif
 -- ---- rows
 
 no_feed-address_text : (a : ℕ) → HasNoByte 10 (address_text a)
-no_feed-address_text a = no_feed-cond (a == 0) (codes "*") (dotted a) (no_feed-from_list_all (codes "*") refl) (no_feed-dotted a)
+no_feed-address_text a = no_feed-cond (a == 0) (codes "*") (dotted a) (no_feed-from_list_all (codes "*")
+    refl) (no_feed-dotted a)
 
 no_feed-oif_text : (d : DomainFacts) (router : ℕ) (p : ℕ × ℕ) → HasNoByte 10 (oif_text d router p)
 no_feed-oif_text d router p =
     no_feed-append_front (codes " ") _ refl
     (no_feed-append (device_text d router p.0) _ (no_feed-device_text d router p.0)
-    (no_feed-cond (p.1 == 1) [] (codes ":" ++ decimal p.1) tt (no_feed-append_front (codes ":") _ refl (number p.1))))
+    (no_feed-cond (p.1 == 1) [] (codes ":" ++ decimal p.1) tt (no_feed-append_front (codes ":") _ refl
+    (number p.1))))
 
 no_feed-oifs_text : (d : DomainFacts) (router : ℕ) (ps : List (ℕ × ℕ))
     → HasNoByte 10 (oifs_text d router ps)
@@ -166,7 +175,8 @@ no_feed-incoming_text d router (Exact incoming ps) = no_feed-device_text d route
 no_feed-incoming_text d router Open = tt
 no_feed-incoming_text d router NoRow = tt
 
-no_feed-every_source_row : (d : DomainFacts) (router : ℕ) (o : Option (ℕ × EntryValue)) → IsValidTopology d.topology
+no_feed-every_source_row : (d : DomainFacts) (router : ℕ) (o : Option (ℕ × EntryValue))
+    → IsValidTopology d.topology
     → HasNoByte 10 (every_source_row_text d router o)
 no_feed-every_source_row d router None ok = tt
 no_feed-every_source_row d router (Some row) ok =

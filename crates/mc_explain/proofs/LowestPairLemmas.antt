@@ -20,8 +20,10 @@ use Rattle.mc_theory.specs.Lists.{In, below}
 use Rattle.mc_theory.proofs.ListLemmas.{in-append_cases, in-append_left, in-flat_map}
 use Rattle.mc_explain.specs.UnlistedText.{has_pair, has_unlisted_row, shown_unlisted_pairs, routers_with}
 use Rattle.mc_explain.proofs.MergeLemmas.{AreAbove, are_above-trans, as_keys}
-use Rattle.mc_explain.proofs.MergeLemmas.{in_order-append_in_order, is_strictly_sorted_by-in_order, merge_into}
-use Rattle.mc_explain.proofs.MergeLemmas.{lowest-append, merge, merge_step, find-in_order, shown_pairs-of_parts}
+use Rattle.mc_explain.proofs.MergeLemmas.{in_order-append_in_order, is_strictly_sorted_by-in_order}
+use Rattle.mc_explain.proofs.MergeLemmas.{merge_into}
+use Rattle.mc_explain.proofs.MergeLemmas.{lowest-append, merge, merge_step, find-in_order}
+use Rattle.mc_explain.proofs.MergeLemmas.{shown_pairs-of_parts}
 use Rattle.mc_explain.proofs.UnlistedLemmas.{lowest}
 
 -- ---- the first ones of two merged lists
@@ -59,7 +61,8 @@ in-take_of_merge (suc k) p (a ∷ s) (b ∷ l) up h own =
     → In p (take (suc k) (merge_step r a b (merge s (b ∷ l)) (merge s l) (merge_into a (merge s) l)))
     → In p (b ∷ take k l)) [
       | Less ↦ λ is h. elim h [
-        | inl e ↦ absurd (key_cmp-not_less_itself a p e (key_cmp-from_are_above a p (b ∷ l) (is, are_above-trans a b l is up.0) own))
+        | inl e ↦ absurd (key_cmp-not_less_itself a p e (key_cmp-from_are_above a p (b ∷ l)
+            (is, are_above-trans a b l is up.0) own))
         | inr t ↦ in-take_more k p (b ∷ l) (in-take_of_merge k p s (b ∷ l) up t own)
       ]
       | Equal ↦ λ is h. elim h [
@@ -141,7 +144,8 @@ in-lowest_of_part : (p : ℕ × ℕ) (xs ys : List (ℕ × ℕ)) → ((q : ℕ �
     → In p (lowest xs) → In p ys → In p (lowest ys)
 in-lowest_of_part p xs ys inside h own =
     in-take_of_merge 20 p (lowest xs) (in_order ys) (is_strictly_sorted_by-in_order ys)
-    (subst (In p) (sym (ap (take 20) (in_order-append_covered xs ys inside)) ∙ sym (ap (take 20) (in_order-append_in_order xs ys))
+    (subst (In p) (sym (ap (take 20) (in_order-append_covered xs ys inside))
+    ∙ sym (ap (take 20) (in_order-append_in_order xs ys))
     ∙ lowest-append xs (in_order ys) (is_strictly_sorted_by-in_order ys)) h)
     (in-in_order p ys own)
 
@@ -180,7 +184,8 @@ filter-equal_tests f g [] same = refl
 filter-equal_tests f g (x ∷ xs) same =
     ap₂ (λ (b : Bool) (ys : List ℕ). cond b (x ∷ ys) ys) (same x) (filter-equal_tests f g xs same)
 
-has_pair-has_unlisted_row : (all : Bool) (listed : List (ℕ × ℕ)) (pair : ℕ × ℕ) (caches : List (List RowValue)) (router : ℕ)
+has_pair-has_unlisted_row : (all : Bool) (listed : List (ℕ × ℕ)) (pair : ℕ × ℕ)
+    (caches : List (List RowValue)) (router : ℕ)
     → ((rows : List RowValue) → In rows caches → is_listed (Some (summary_of all listed rows).lowest) pair
     ≡ is_listed (Some (map group_first (unlisted_keys listed rows))) pair)
     → has_pair pair (slice_get (map (summary_of all listed) caches) router)
@@ -200,18 +205,22 @@ is_listed-shown_of_part true p xs ys inside shown =
     (λ e. is_listed-from_in p (in_order ys) (in-in_order p ys (in-from_is_listed p ys e)))
 is_listed-shown_of_part false p xs ys inside shown =
     equal_bools-from_both (is_listed (Some (lowest ys)) p) (is_listed (Some ys) p)
-    (λ e. is_listed-from_in p ys (in-from_in_order p ys (in-from_take 20 p (in_order ys) (in-from_is_listed p (lowest ys) e))))
+    (λ e. is_listed-from_in p ys (in-from_in_order p ys (in-from_take 20 p (in_order ys)
+    (in-from_is_listed p (lowest ys) e))))
     (λ e. is_listed-from_in p (lowest ys) (in-lowest_of_part p xs ys inside shown (in-from_is_listed p ys e)))
 
-pub routers_with-filter_rows : (all : Bool) (t : TopologyValue) (listed : List (ℕ × ℕ)) (caches : List (List RowValue))
+pub routers_with-filter_rows : (all : Bool) (t : TopologyValue) (listed : List (ℕ × ℕ))
+    (caches : List (List RowValue))
     (pair : ℕ × ℕ) → In pair (shown_unlisted_pairs all (map (summary_of all listed) caches))
     → routers_with t (map (summary_of all listed) caches) pair
     ≡ filter (λ router. has_unlisted_row listed pair (slice_get caches router)) (below (length t.routers))
 routers_with-filter_rows all t listed caches pair shown =
-    filter-equal_tests _ _ (below (length t.routers)) (λ router. has_pair-has_unlisted_row all listed pair caches router (λ rows h.
+    filter-equal_tests _ _ (below (length t.routers)) (λ router. has_pair-has_unlisted_row all listed pair
+    caches router (λ rows h.
     is_listed-shown_of_part all pair (flat_map part caches) (part rows)
     (λ q k. in-flat_map part rows q caches h k)
-    (subst (In pair) (shown_pairs-of_parts all part (λ n. n.lowest) (summary_of all listed) (λ _. refl) caches)
+    (subst (In pair) (shown_pairs-of_parts all part (λ n. n.lowest) (summary_of all listed) (λ _. refl)
+    caches)
     shown)))
   where
     part : List RowValue → List (ℕ × ℕ)

@@ -102,10 +102,12 @@ merge-put_pair b (a ∷ s) l all =
     → merge (put_at r b a s (put_pair b s)) l ≡ merge (a ∷ s) (b ∷ l)) [
       | Less ↦ λ is. merge_into-above b (merge (a ∷ s)) l all ∙ sym (first (key_cmp-flip b a Less is))
       | Equal ↦ λ is.
-          merge_into-above a (merge s) l (subst (λ (x : ℕ × ℕ). AreAbove x l) (key_cmp-antisymmetric b a is) all)
+          merge_into-above a (merge s) l (subst (λ (x : ℕ × ℕ). AreAbove x l) (key_cmp-antisymmetric b a is)
+          all)
           ∙ sym (first (key_cmp-flip b a Equal is))
       | Greater ↦ λ is.
-          merge_into-above a (merge (put_pair b s)) l (are_above-trans a b l (key_cmp-flip b a Greater is) all)
+          merge_into-above a (merge (put_pair b s)) l (are_above-trans a b l (key_cmp-flip b a Greater is)
+          all)
           ∙ ap (λ (x : List (ℕ × ℕ)). a ∷ x) (merge-put_pair b s l all)
           ∙ sym (first (key_cmp-flip b a Greater is))
     ] refl
@@ -161,7 +163,8 @@ is_strictly_sorted_by-from_is_sorted (e ∷ es) is =
 pub is_strictly_sorted_by-in_order : (ps : List (ℕ × ℕ)) → IsStrictlySortedBy key_cmp (in_order ps)
 is_strictly_sorted_by-in_order ps =
     let m = fin.from_entries {R = key_cmp} (as_keys ps) in
-    is_strictly_sorted_by-from_is_sorted (fin.entries m) (true-from_t (fin.is_sorted key_cmp (fin.entries m)) (fin.entries_sorted m))
+    is_strictly_sorted_by-from_is_sorted (fin.entries m)
+    (true-from_t (fin.is_sorted key_cmp (fin.entries m)) (fin.entries_sorted m))
 
 -- the keys of the entries are the entries
 as_keys-map_keys : (es : List ((ℕ × ℕ) × Unit {0})) → as_keys (map (λ e. e.0) es) ≡ es
@@ -194,7 +197,8 @@ find-as_keys_append q [] ys = refl
 find-as_keys_append q (x ∷ xs) ys =
     elim (eq_by_cmp key_cmp q x) as (λ b.
     cond b (Some (tt {0})) (fin.find key_cmp q (as_keys (xs ++ ys)))
-    ≡ found_in_either (cond b (Some (tt {0})) (fin.find key_cmp q (as_keys xs))) (fin.find key_cmp q (as_keys ys))) [
+    ≡ found_in_either (cond b (Some (tt {0})) (fin.find key_cmp q (as_keys xs)))
+    (fin.find key_cmp q (as_keys ys))) [
       | true ↦ refl
       | false ↦ find-as_keys_append q xs ys
     ]
@@ -210,14 +214,16 @@ in_order-same_keys : (xs ys : List (ℕ × ℕ))
     → ((q : ℕ × ℕ) → fin.find key_cmp q (as_keys xs) ≡ fin.find key_cmp q (as_keys ys))
     → in_order xs ≡ in_order ys
 in_order-same_keys xs ys same =
-    ap fin.keys (fin.same_map key_cmp-total key_cmp-antisymmetric (fin.from_entries {R = key_cmp} (as_keys xs))
+    ap fin.keys (fin.same_map key_cmp-total key_cmp-antisymmetric (fin.from_entries {R = key_cmp}
+    (as_keys xs))
     (fin.from_entries {R = key_cmp} (as_keys ys)) (λ q.
     fin.get-from_entries key_cmp-total (as_keys xs) q ∙ same q
     ∙ sym (fin.get-from_entries key_cmp-total (as_keys ys) q)))
 
 pub in_order-append_in_order : (xs ys : List (ℕ × ℕ)) → in_order (xs ++ in_order ys) ≡ in_order (xs ++ ys)
 in_order-append_in_order xs ys =
-    in_order-same_keys (xs ++ in_order ys) (xs ++ ys) (λ q. find-append_same_back q xs (in_order ys) ys (find-in_order q ys))
+    in_order-same_keys (xs ++ in_order ys) (xs ++ ys) (λ q. find-append_same_back q xs (in_order ys) ys
+    (find-in_order q ys))
 
 -- ---- the lowest of parts
 
@@ -234,7 +240,8 @@ lowest-append_same_front xs ys [] same = ap lowest (append-nil xs) ∙ same ∙ 
 lowest-append_same_front xs ys (z ∷ zs) same =
     ap lowest (sym (append_assoc xs (z ∷ []) zs))
     ∙ lowest-append_same_front (xs ++ z ∷ []) (ys ++ z ∷ []) zs
-    (take_in_order-push xs z ∙ ap (λ (l : List (ℕ × ℕ)). take 20 (put_pair z l)) same ∙ sym (take_in_order-push ys z))
+    (take_in_order-push xs z ∙ ap (λ (l : List (ℕ × ℕ)). take 20 (put_pair z l)) same
+    ∙ sym (take_in_order-push ys z))
     ∙ ap lowest (append_assoc ys (z ∷ []) zs)
 
 lowest-of_parts : {A B : Type 0} (part : B → List (ℕ × ℕ)) (kept : A → List (ℕ × ℕ)) (summarize : B → A)
@@ -245,15 +252,18 @@ lowest-of_parts part kept summarize is qs (x ∷ xs) =
     ap (λ (l : List (ℕ × ℕ)). lowest (qs ++ (l ++ flat_map kept (map summarize xs)))) (is x)
     ∙ ap lowest (sym (append_assoc qs (lowest (part x)) (flat_map kept (map summarize xs))))
     ∙ lowest-of_parts part kept summarize is (qs ++ lowest (part x)) xs
-    ∙ lowest-append_same_front (qs ++ lowest (part x)) (qs ++ part x) (flat_map part xs) (lowest-append_lowest qs (part x))
+    ∙ lowest-append_same_front (qs ++ lowest (part x)) (qs ++ part x) (flat_map part xs)
+    (lowest-append_lowest qs (part x))
     ∙ ap lowest (append_assoc qs (part x) (flat_map part xs))
 
 -- ---- all of parts
 
-in_order-append_in_order_append : (xs ys zs : List (ℕ × ℕ)) → in_order (xs ++ (in_order ys ++ zs)) ≡ in_order (xs ++ (ys ++ zs))
+in_order-append_in_order_append : (xs ys zs : List (ℕ × ℕ)) → in_order (xs ++ (in_order ys ++ zs))
+    ≡ in_order (xs ++ (ys ++ zs))
 in_order-append_in_order_append xs ys zs =
     in_order-same_keys (xs ++ (in_order ys ++ zs)) (xs ++ (ys ++ zs)) (λ q.
-    find-append_same_back q xs (in_order ys ++ zs) (ys ++ zs) (find-append_same_front q (in_order ys) ys zs (find-in_order q ys)))
+    find-append_same_back q xs (in_order ys ++ zs) (ys ++ zs) (find-append_same_front q (in_order ys) ys zs
+    (find-in_order q ys)))
 
 in_order-of_parts : {A B : Type 0} (part : B → List (ℕ × ℕ)) (kept : A → List (ℕ × ℕ)) (summarize : B → A)
     → ((x : B) → kept (summarize x) ≡ in_order (part x)) → (qs : List (ℕ × ℕ)) (xs : List B)

@@ -14,11 +14,13 @@ use Rattle.mc_forward.specs.Domains.{DomainValue, IsDomain}
 use Rattle.mc_forward.specs.ListedTables.{DomainFacts, facts}
 use Rattle.mc_forward.proofs.DomainLemmas.{placed-below_lan_count}
 use Rattle.mc_explain.specs.declared.search_line.SearchLine.{SearchLine}
-use Rattle.mc_explain.specs.declared.search_line.SearchLine.TheVariants.{DoesNotSend, Excluded, NoRow, NoSender}
+use Rattle.mc_explain.specs.declared.search_line.SearchLine.TheVariants.{DoesNotSend, Excluded, NoRow}
+use Rattle.mc_explain.specs.declared.search_line.SearchLine.TheVariants.{NoSender}
 use Rattle.mc_explain.specs.declared.search_line.SearchLine.TheVariants.{Unresolved}
 use Rattle.mc_explain.specs.declared.listed_interface.ListedInterface.{ListedInterface}
 use Rattle.mc_explain.specs.SearchLine.{Search, carried, device_lines, every_source_from, expected_lines}
-use Rattle.mc_explain.specs.SearchLine.{stopped_or_waiting, if_missed, is_excluded, is_unresolved, closing_lines, next_lan}
+use Rattle.mc_explain.specs.SearchLine.{stopped_or_waiting, if_missed, is_excluded, is_unresolved}
+use Rattle.mc_explain.specs.SearchLine.{closing_lines, next_lan}
 use Rattle.mc_explain.specs.SearchLine.{lines_of_routers, lines_of_lan, may_send_here, net, router_lines}
 use Rattle.mc_explain.specs.SearchLine.{routers_on, row_for_every_source, row_lines, sends_by, table_lines}
 use Rattle.mc_explain.specs.SearchLine.{incoming_lines, vif_line, vif_lines}
@@ -42,11 +44,13 @@ NextLanIsInside s line = IfSome (next_lan s line) (λ lan. lan < length s.domain
 abbrev pub NextLansAreInside : Search → List SearchLine → Type 0
 NextLansAreInside s lines = (line : SearchLine) → In line lines → NextLanIsInside s line
 
-next_lans_are_inside-one : (s : Search) (line : SearchLine) → NextLanIsInside s line → NextLansAreInside s (line ∷ [])
+next_lans_are_inside-one : (s : Search) (line : SearchLine) → NextLanIsInside s line
+    → NextLansAreInside s (line ∷ [])
 next_lans_are_inside-one s line h x (inl e) = subst (NextLanIsInside s) e h
 next_lans_are_inside-one s line h x (inr none) = absurd none
 
-next_lans_are_inside-append : (s : Search) (xs ys : List SearchLine) → NextLansAreInside s xs → NextLansAreInside s ys
+next_lans_are_inside-append : (s : Search) (xs ys : List SearchLine) → NextLansAreInside s xs
+    → NextLansAreInside s ys
     → NextLansAreInside s (xs ++ ys)
 next_lans_are_inside-append s xs ys f g line h = elim (in-append_cases line xs ys h) [
   | inl left ↦ f line left
@@ -85,14 +89,16 @@ every_source_from-inside s router ok None = tt
 every_source_from-inside s router ok (Some row) = ok router row.1.iif
 
 stopped_or_waiting-inside : (s : Search) (copy : Option Copy) (lan router vif from threshold : ℕ)
-    → from < length s.domain.topology.lans → NextLanIsInside s (stopped_or_waiting copy lan router vif from threshold)
+    → from < length s.domain.topology.lans → NextLanIsInside s (stopped_or_waiting copy lan router vif from
+    threshold)
 stopped_or_waiting-inside s None lan router vif from threshold h = h
 stopped_or_waiting-inside s (Some copy) lan router vif from threshold h = tt
 
 vif_line-inside : (s : Search) (lan router from : ℕ) (pairs : List (ℕ × ℕ)) (vif : ℕ)
     → from < length s.domain.topology.lans → NextLanIsInside s (vif_line s lan router from pairs vif)
 vif_line-inside s lan router from pairs vif h =
-    by (sends_by vif pairs) (stopped_or_waiting (s.first_copy_on from) lan router vif from (threshold_of vif pairs))
+    by (sends_by vif pairs) (stopped_or_waiting (s.first_copy_on from) lan router vif from
+    (threshold_of vif pairs))
     (stopped_or_waiting-inside s (s.first_copy_on from) lan router vif from (threshold_of vif pairs) h)
   where
     by : (b : Bool) (line : SearchLine) → NextLanIsInside s line
@@ -123,7 +129,8 @@ row_lines-inside s lan router is ok (Exact incoming pairs) =
     incoming_lines-inside s lan router pairs is ((net s).placed router incoming)
     (ok router incoming)
 row_lines-inside s lan router is ok Open =
-    next_lans_are_inside-one s _ (if_missed-inside s (every_source_from s router (row_for_every_source s router))
+    next_lans_are_inside-one s _ (if_missed-inside s (every_source_from s router
+    (row_for_every_source s router))
     (every_source_from-inside s router ok (row_for_every_source s router)))
 row_lines-inside s lan router is ok no_row = by (is_unresolved s router)
   where
@@ -140,7 +147,8 @@ closing_lines-inside : (s : Search) (lan : ℕ) (gs : List (ℕ × List ListedIn
     → NextLansAreInside s (closing_lines s lan gs lines)
 closing_lines-inside s lan gs [] = next_lans_are_inside-one s _ tt
 closing_lines-inside s lan gs (line ∷ lines) =
-    next_lans_are_inside-unless s (list_any (may_send_here s) gs) (NoSender lan ∷ []) (next_lans_are_inside-one s (NoSender lan) tt)
+    next_lans_are_inside-unless s (list_any (may_send_here s) gs) (NoSender lan ∷ [])
+    (next_lans_are_inside-one s (NoSender lan) tt)
 
 table_lines-inside : (s : Search) (lan : ℕ) (g : ℕ × List ListedInterface) → PlacesInside s
     → NextLansAreInside s (table_lines s lan g)
@@ -164,7 +172,8 @@ lines_of_lan-inside s lan ok =
     (next_lans_are_inside-append s (flat_map (router_lines s lan) (routers_on s lan)) _
     (next_lans_are_inside-flat_map s (router_lines s lan) (routers_on s lan)
     (λ g. router_lines-inside s lan g ok))
-    (next_lans_are_inside-flat_map s (expected_lines s lan) (routers_on s lan) (λ g. next_lans_are_inside-if s _ _ tt)))
+    (next_lans_are_inside-flat_map s (expected_lines s lan) (routers_on s lan) (λ g. next_lans_are_inside-if
+    s _ _ tt)))
     (closing_lines-inside s lan (routers_on s lan) (lines_of_routers s lan (routers_on s lan)))
 
 -- an element at a place in the list is in the list

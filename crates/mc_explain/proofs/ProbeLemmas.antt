@@ -14,7 +14,8 @@ sends_by_known_vif-no_pairs (Some v) = refl
 
 list_any_sends-no_pairs : (is : List ListedInterface) → list_any (λ i. sends_by_known_vif i.vif []) is ≡ false
 list_any_sends-no_pairs [] = refl
-list_any_sends-no_pairs (i ∷ is) = ap₂ (λ a b. a || b) (sends_by_known_vif-no_pairs i.vif) (list_any_sends-no_pairs is)
+list_any_sends-no_pairs (i ∷ is) = ap₂ (λ a b. a || b) (sends_by_known_vif-no_pairs i.vif)
+    (list_any_sends-no_pairs is)
 
 pub list_any_sends-open_row : (row : Row) (is : List ListedInterface) → row ≡ Open
     → list_any (λ i. sends_by_known_vif i.vif (row_pairs row)) is ≡ false

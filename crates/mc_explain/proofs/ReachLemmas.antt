@@ -14,7 +14,8 @@ use Rattle.mc_theory.proofs.ListLemmas.{in-push_cases}
 use Rattle.mc_theory.specs.Events.{Event}
 use Rattle.mc_forward.specs.ListedTables.{DomainFacts}
 use Rattle.mc_explain.specs.declared.listed_interface.ListedInterface.{ListedInterface}
-use Rattle.mc_explain.specs.TopologyLans.{interface_at, listed_interface_at, interfaces_of_router, interfaces_on_lan}
+use Rattle.mc_explain.specs.TopologyLans.{interface_at, listed_interface_at, interfaces_of_router}
+use Rattle.mc_explain.specs.TopologyLans.{interfaces_on_lan}
 use Rattle.mc_explain.specs.SearchLine.{Search, append_new, group_by_router, add_to_group, routers_on}
 use Rattle.mc_explain.specs.SearchReach.{has_event, routers_of_lans}
 use Rattle.mc_explain.specs.BucketsAndMarks.{AreMarksOf}
@@ -83,9 +84,11 @@ group_router-of_topology d lan g h =
     subst (λ (r : ℕ). r < length t.routers) (sym same ∙ is) lt
 
 -- new numbers of two parts, one after the other
-pub append_new-append : (visited_lans xs ys : List ℕ) → append_new (append_new visited_lans xs) ys ≡ append_new visited_lans (xs ++ ys)
+pub append_new-append : (visited_lans xs ys : List ℕ) → append_new (append_new visited_lans xs) ys
+    ≡ append_new visited_lans (xs ++ ys)
 append_new-append visited_lans [] ys = refl
-append_new-append visited_lans (x ∷ xs) ys = append_new-append (cond (list_any (λ m. m == x) visited_lans) visited_lans (visited_lans ++ x ∷ [])) xs ys
+append_new-append visited_lans (x ∷ xs) ys = append_new-append (cond (list_any (λ m. m == x) visited_lans)
+    visited_lans (visited_lans ++ x ∷ [])) xs ys
 
 -- the routers on one LAN more
 pub routers_of_lans-more : (s : Search) (lans : List ℕ) (i lan : ℕ) (old now : List ℕ) → i < length lans
@@ -99,10 +102,12 @@ routers_of_lans-more s lans i lan old now lt read before more =
     ∙ ap (append_new []) (flat_map_more own [] (take i lans) lan
     ∙ ap (flat_map own) (sym (take_more lans i lan lt ∙ ap (λ (x : ℕ). take i lans ++ x ∷ []) (sym read))))
 
-in-from_append_new : (visited_lans more : List ℕ) (x : ℕ) → In x (append_new visited_lans more) → In x visited_lans ⊎ In x more
+in-from_append_new : (visited_lans more : List ℕ) (x : ℕ) → In x (append_new visited_lans more)
+    → In x visited_lans ⊎ In x more
 in-from_append_new visited_lans [] x h = inl h
 in-from_append_new visited_lans (y ∷ more) x h =
-    by (list_any (λ m. m == y) visited_lans) (in-from_append_new visited_lans more x) (in-from_append_new (visited_lans ++ y ∷ []) more x) h
+    by (list_any (λ m. m == y) visited_lans) (in-from_append_new visited_lans more x)
+    (in-from_append_new (visited_lans ++ y ∷ []) more x) h
   where
     old : In x visited_lans ⊎ In x more → In x visited_lans ⊎ In x (y ∷ more)
     old (inl a) = inl a
@@ -114,7 +119,8 @@ in-from_append_new visited_lans (y ∷ more) x h =
 
     by : (b : Bool) → (In x (append_new visited_lans more) → In x visited_lans ⊎ In x more)
         → (In x (append_new (visited_lans ++ y ∷ []) more) → In x (visited_lans ++ y ∷ []) ⊎ In x more)
-        → In x (append_new (cond b visited_lans (visited_lans ++ y ∷ [])) more) → In x visited_lans ⊎ In x (y ∷ more)
+        → In x (append_new (cond b visited_lans (visited_lans ++ y ∷ [])) more) → In x visited_lans
+        ⊎ In x (y ∷ more)
     by true f g k = old (f k)
     by false f g k = new (g k)
 
@@ -144,7 +150,8 @@ routers_of_lans-all_below s lans rs n e le k d lt =
     omega (arith, one, le)
 
 -- the marks of routers with such an event, and of those without one
-pub are_marks_of-has_event : (events : List Event) (sent : Bool) (old now : List Bool) → length now ≡ length old
+pub are_marks_of-has_event : (events : List Event) (sent : Bool) (old now : List Bool) → length now
+    ≡ length old
     → ((r : ℕ) → get_or old r false ≡ false)
     → ((r : ℕ) → r < length old → get_or now r false ≡ (get_or old r false || has_event sent events r))
     → AreMarksOf (has_event sent events) now

@@ -8,7 +8,8 @@ use Rattle.mc_explain.specs.RouterText.{router_after_space, first_routers_text, 
 use Rattle.mc_explain.specs.SearchText.{reach_text, routers_line}
 use Rattle.mc_explain.specs.WantedText.{more_text}
 
-pub first_routers_text-of_list : (t : TopologyValue) (s : FirstEight) (routers : List ℕ) → IsFirstEightOf s routers
+pub first_routers_text-of_list : (t : TopologyValue) (s : FirstEight) (routers : List ℕ)
+    → IsFirstEightOf s routers
     → first_routers_text t s ≡ routers_text t routers
 first_routers_text-of_list t s routers is =
     ap₂ (λ (ls : List ℕ) (n : ℕ). flat_map (router_after_space t) ls ++ more_text (n - 8)) is.first

@@ -25,7 +25,8 @@ use Rattle.mc_forward.proofs.BelowLemmas.{length-of_distinct_below}
 use Rattle.mc_forward.proofs.IndexLemmas.{take-one_more}
 use Rattle.mc_forward.proofs.PerLanLemmas.{first_with_key-first_copy_on}
 use Rattle.mc_explain.specs.declared.search_line.SearchLine.{SearchLine}
-use Rattle.mc_explain.specs.SearchLine.{Search, append_new, next_lans, lines_of_lan, visited_lans, visited_after}
+use Rattle.mc_explain.specs.SearchLine.{Search, append_new, next_lans, lines_of_lan, visited_lans}
+use Rattle.mc_explain.specs.SearchLine.{visited_after}
 
 -- ---- visited LANs
 
@@ -54,7 +55,8 @@ list_any-from_held marks lans lan marked some =
 
 list_any-from_in : (lans : List ℕ) (lan : ℕ) → In lan lans → list_any (λ m. m == lan) lans ≡ true
 list_any-from_in [] lan h = absurd h
-list_any-from_in (m ∷ lans) lan (inl e) = ap (λ (b : Bool). b || list_any (λ m. m == lan) lans) (eq-eqb m lan e)
+list_any-from_in (m ∷ lans) lan (inl e) = ap (λ (b : Bool). b || list_any (λ m. m == lan) lans)
+    (eq-eqb m lan e)
 list_any-from_in (m ∷ lans) lan (inr h) = by (m == lan) (list_any-from_in lans lan h)
   where
     by : (b : Bool) → list_any (λ m. m == lan) lans ≡ true
@@ -80,7 +82,8 @@ visited-within_marks marks lans k lan marked at =
 pub append_new-keeps_front : (lans more : List ℕ) → (new : List ℕ) × (append_new lans more ≡ lans ++ new)
 append_new-keeps_front lans [] = ([], sym (append-nil lans))
 append_new-keeps_front lans (lan ∷ more) =
-    by (list_any (λ m. m == lan) lans) (append_new-keeps_front lans more) (append_new-keeps_front (lans ++ lan ∷ []) more)
+    by (list_any (λ m. m == lan) lans) (append_new-keeps_front lans more) (append_new-keeps_front (lans
+    ++ lan ∷ []) more)
   where
     by : (b : Bool) → ((new : List ℕ) × (append_new lans more ≡ lans ++ new))
         → ((new : List ℕ) × (append_new (lans ++ lan ∷ []) more ≡ (lans ++ lan ∷ []) ++ new))
@@ -89,13 +92,15 @@ append_new-keeps_front lans (lan ∷ more) =
     by false old new = (lan ∷ new.0, new.1 ∙ append_assoc lans (lan ∷ []) new.0)
 
 pub visited-more : (s : Search) (missed k : ℕ)
-    → visited_lans s missed (k + 1) ≡ visited_after s (visited_lans s missed k) (slice_get (visited_lans s missed k) k)
+    → visited_lans s missed (k + 1) ≡ visited_after s (visited_lans s missed k)
+    (slice_get (visited_lans s missed k) k)
 visited-more s missed k = ap (visited_lans s missed) (add-one k)
 
 -- the lines so far, after one LAN more is searched
 pub lines_so_far-more : (s : Search) (missed k lan : ℕ) (lines_so_far now : List SearchLine)
     → slice_get (visited_lans s missed k) k ≡ Some lan
-    → lines_so_far ≡ flat_map (lines_of_lan s) (take k (visited_lans s missed k)) → now ≡ lines_so_far ++ lines_of_lan s lan
+    → lines_so_far ≡ flat_map (lines_of_lan s) (take k (visited_lans s missed k)) → now ≡ lines_so_far
+    ++ lines_of_lan s lan
     → now ≡ flat_map (lines_of_lan s) (take (k + 1) (visited_lans s missed (k + 1)))
 lines_so_far-more s missed k lan lines_so_far now at before more =
     let lans = visited_lans s missed k in
@@ -127,7 +132,8 @@ lines_so_far-same s missed k lines_so_far all before =
 pub length-from_slice_get_none : (lans : List ℕ) (k : ℕ) → slice_get lans k ≡ None → length lans ≤ k
 length-from_slice_get_none [] k none = omega arith
 length-from_slice_get_none (m ∷ lans) zero none = absurd cc
-length-from_slice_get_none (m ∷ lans) (suc k) none = let h = length-from_slice_get_none lans k none in omega (arith, h)
+length-from_slice_get_none (m ∷ lans) (suc k) none = let h = length-from_slice_get_none lans k none in omega
+    (arith, h)
 
 -- ---- each once
 
@@ -159,14 +165,16 @@ pub distinct-visited : (s : Search) (missed k : ℕ) → Distinct (visited_lans 
 distinct-visited s missed zero = (λ h. h, tt)
 distinct-visited s missed (suc k) = by (slice_get (visited_lans s missed k) k) (distinct-visited s missed k)
   where
-    by : (o : Option ℕ) → Distinct (visited_lans s missed k) → Distinct (visited_after s (visited_lans s missed k) o)
+    by : (o : Option ℕ) → Distinct (visited_lans s missed k)
+        → Distinct (visited_after s (visited_lans s missed k) o)
     by None distinct = distinct
     by (Some lan) distinct = distinct-append_new (visited_lans s missed k) (next_lans s lan) distinct
 
 slice_get-from_in : (lans : List ℕ) (lan : ℕ) → In lan lans → (k : ℕ) × (slice_get lans k ≡ Some lan)
 slice_get-from_in [] lan h = absurd h
 slice_get-from_in (m ∷ lans) lan (inl e) = (0, ap Some e)
-slice_get-from_in (m ∷ lans) lan (inr h) = (suc (slice_get-from_in lans lan h).0, (slice_get-from_in lans lan h).1)
+slice_get-from_in (m ∷ lans) lan (inr h) = (suc (slice_get-from_in lans lan h).0,
+    (slice_get-from_in lans lan h).1)
 
 -- no more LANs are visited than there are
 pub length-visited : (s : Search) (missed k : ℕ) (marks : List (Option ℕ)) (lans : List ℕ)
@@ -174,8 +182,10 @@ pub length-visited : (s : Search) (missed k : ℕ) (marks : List (Option ℕ)) (
     → length (visited_lans s missed k) ≤ length marks
 length-visited s missed k marks lans e marked =
     length-of_distinct_below (visited_lans s missed k) (length marks) (distinct-visited s missed k)
-    (λ lan h. visited-within_marks marks (visited_lans s missed k) (slice_get-from_in (visited_lans s missed k) lan h).0 lan
-    (subst (HoldsFirstOfEachKey (λ (l : ℕ). l) marks) e marked) (slice_get-from_in (visited_lans s missed k) lan h).1)
+    (λ lan h. visited-within_marks marks (visited_lans s missed k)
+    (slice_get-from_in (visited_lans s missed k) lan h).0 lan
+    (subst (HoldsFirstOfEachKey (λ (l : ℕ). l) marks) e marked) (slice_get-from_in (visited_lans s missed k)
+    lan h).1)
 
 -- ---- the lines that were added
 
@@ -191,10 +201,12 @@ take_drop-added {A} old now lines n more count =
 -- ---- what a search reads
 
 held-all_first_copies : (places : List (Option Copy)) (copies cs : List Copy)
-    → HoldsFirstOfEachKey (λ (c : Copy). c.lan) places copies → copies ≡ cs → item_on_lan places ≡ first_copy_on cs
+    → HoldsFirstOfEachKey (λ (c : Copy). c.lan) places copies → copies ≡ cs → item_on_lan places
+    ≡ first_copy_on cs
 held-all_first_copies places copies cs first same =
     let each : (lan : ℕ) → item_on_lan places lan ≡ first_copy_on cs lan = λ lan.
-    first lan ∙ first_with_key-first_copy_on copies lan ∙ ap (λ (xs : List Copy). first_copy_on xs lan) same in
+    first lan ∙ first_with_key-first_copy_on copies lan ∙ ap (λ (xs : List Copy). first_copy_on xs lan)
+    same in
     λ i lan. each lan i
 
 pub search-of_view : (view : FlowOfDomain) (d : DomainValue) (flow : ℕ) (summary : List SummaryValue)
@@ -208,7 +220,8 @@ pub search-of_view : (view : FlowOfDomain) (d : DomainValue) (flow : ℕ) (summa
       excluded = excluded;
       first_copy_on = item_on_lan places;
     })
-    (record { domain = facts d; flow = flow; summary = summary; excluded = excluded; first_copy_on = first_copy_on cs })
+    (record { domain = facts d; flow = flow; summary = summary; excluded = excluded; first_copy_on =
+    first_copy_on cs })
 search-of_view view d flow summary excluded places copies cs e first same =
     ap {B = Search} (λ (v : FlowOfDomain). record {
       domain = facts v.domain;

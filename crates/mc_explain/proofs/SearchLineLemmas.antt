@@ -27,17 +27,22 @@ use Rattle.mc_explain.specs.Indented.{AreIndented}
 use Rattle.mc_explain.specs.RouterText.{router_after_space, routers_text}
 use Rattle.mc_explain.specs.RowText.{byte_text, device_text, incoming_text, is_plain, row_text}
 use Rattle.mc_explain.specs.SearchText.{carries_text, expected_text, from_no_lan_text, interface_text}
-use Rattle.mc_explain.specs.SearchText.{search_line_text, first_lines_text, more_lines_text, no_lan_text, lan_line_text}
-use Rattle.mc_explain.specs.SearchText.{router_line_text, lan_router_text, reach_text, routers_line, search_text}
+use Rattle.mc_explain.specs.SearchText.{search_line_text, first_lines_text, more_lines_text, no_lan_text}
+use Rattle.mc_explain.specs.SearchText.{lan_line_text}
+use Rattle.mc_explain.specs.SearchText.{router_line_text, lan_router_text, reach_text, routers_line}
+use Rattle.mc_explain.specs.SearchText.{search_text}
 use Rattle.mc_explain.specs.SearchText.{shown_line_text}
 use Rattle.mc_explain.specs.ShownLines.{shown_lines}
 use Rattle.mc_explain.specs.TopologyLans.{interface_at}
 use Rattle.mc_explain.specs.WantedText.{more_text}
 use Rattle.mc_explain.proofs.ExplanationLemmas.{no_feed-more_text}
-use Rattle.mc_explain.proofs.LineFeedLemmas.{no_feed-escaped_byte, no_feed-device_text, no_feed-flat_map, no_feed-cond, no_feed-every_source_text}
-use Rattle.mc_explain.proofs.LineFeedLemmas.{no_feed-incoming_text, no_feed-lan_name, number, no_feed-from_list_all, no_feed-router_name}
+use Rattle.mc_explain.proofs.LineFeedLemmas.{no_feed-escaped_byte, no_feed-device_text, no_feed-flat_map}
+use Rattle.mc_explain.proofs.LineFeedLemmas.{no_feed-cond, no_feed-every_source_text}
+use Rattle.mc_explain.proofs.LineFeedLemmas.{no_feed-incoming_text, no_feed-lan_name, number}
+use Rattle.mc_explain.proofs.LineFeedLemmas.{no_feed-from_list_all, no_feed-router_name}
 use Rattle.mc_explain.proofs.LineFeedLemmas.{no_feed-row_text, no_feed-append_front, no_feed-append}
-use Rattle.mc_explain.proofs.IndentedLemmas.{IsLineRest, are_indented-from_line_rest, is_line_rest-feed, is_line_rest-append, is_line_rest-append_front}
+use Rattle.mc_explain.proofs.IndentedLemmas.{IsLineRest, are_indented-from_line_rest, is_line_rest-feed}
+use Rattle.mc_explain.proofs.IndentedLemmas.{is_line_rest-append, is_line_rest-append_front}
 use Rattle.mc_explain.proofs.IndentedLemmas.{are_indented-append, are_indented-flat_map, are_indented-none}
 
 -- ---- the parts of a line
@@ -52,7 +57,8 @@ no_feed-routers_text t routers ok =
 
 no_feed-interface_text : (t : TopologyValue) (interface : ℕ) → HasNoByte 10 (interface_text t interface)
 no_feed-interface_text t interface =
-    no_feed-flat_map byte_text (interface_at t interface).device (λ b. no_feed-escaped_byte b (is_plain b) refl)
+    no_feed-flat_map byte_text (interface_at t interface).device (λ b. no_feed-escaped_byte b (is_plain b)
+    refl)
 
 no_feed-no_lan_text : (t : TopologyValue) (router : ℕ) (o : Option VifValue) → IsValidTopology t
     → HasNoByte 10 (no_lan_text t router o)
@@ -61,7 +67,8 @@ no_feed-no_lan_text t router None ok =
 no_feed-no_lan_text t router (Some v) ok =
     no_feed-cond v.register _ _ (no_feed-from_list_all (codes "PIM's register vif") refl)
     (no_feed-cond v.tunnel _ _ (no_feed-from_list_all (codes "a tunnel") refl)
-    (no_feed-cond (bytes_eq v.device no_device) _ _ (no_feed-from_list_all (codes "which has lost its device") refl)
+    (no_feed-cond (bytes_eq v.device no_device) _ _
+    (no_feed-from_list_all (codes "which has lost its device") refl)
     (no_feed-from_list_all (codes "which is on no listed LAN") refl)))
 
 no_feed-from_no_lan_text : (d : DomainFacts) (router : ℕ) (row : Row) → IsValidTopology d.topology
@@ -72,12 +79,14 @@ no_feed-from_no_lan_text d router Open ok = tt
 no_feed-from_no_lan_text d router no_row ok = tt
 
 -- a line about a router and its rest
-are_indented-lan_router_text : (t : TopologyValue) (lan router : ℕ) (rest : List ℕ) → IsValidTopology t → IsLineRest rest
+are_indented-lan_router_text : (t : TopologyValue) (lan router : ℕ) (rest : List ℕ) → IsValidTopology t
+    → IsLineRest rest
     → AreIndented (lan_router_text t lan router ++ rest)
 are_indented-lan_router_text t lan router rest ok g =
     are_indented-from_line_rest _
     (is_line_rest-append (lan_name t lan ++ (codes ": " ++ router_name t router)) rest
-    (no_feed-append (lan_name t lan) _ (no_feed-lan_name t lan ok) (no_feed-append_front (codes ": ") _ refl (no_feed-router_name t router ok)))
+    (no_feed-append (lan_name t lan) _ (no_feed-lan_name t lan ok) (no_feed-append_front (codes ": ") _ refl
+    (no_feed-router_name t router ok)))
     g)
 
 -- a row ends a line
@@ -105,11 +114,13 @@ are_indented-lan_line t lan what ok none =
 are_indented-router_line : (t : TopologyValue) (lan router : ℕ) (what : List ℕ) → IsValidTopology t
     → list_all (λ b. not (b == 10)) what ≡ true → AreIndented (router_line_text t lan router what)
 are_indented-router_line t lan router what ok none =
-    are_indented-lan_router_text t lan router _ ok (is_line_rest-append_front (codes " ") _ refl (is_line_rest-append_front what _ none is_line_rest-feed))
+    are_indented-lan_router_text t lan router _ ok (is_line_rest-append_front (codes " ") _ refl
+    (is_line_rest-append_front what _ none is_line_rest-feed))
 
 -- ---- a line
 
-are_indented-search_line : (d : DomainFacts) (summary : List SummaryValue) (k : ℕ) (f : Flow) (line : SearchLine)
+are_indented-search_line : (d : DomainFacts) (summary : List SummaryValue) (k : ℕ) (f : Flow)
+    (line : SearchLine)
     → IsValidTopology d.topology → AreIndented (search_line_text d summary k f line)
 are_indented-search_line d summary k f (Excluded lan router) ok =
     are_indented-router_line d.topology lan router (codes "is left out: its tables are not known") ok refl
@@ -179,10 +190,12 @@ are_indented-search_line d summary k f (NoRouter lan) ok =
 are_indented-search_line d summary k f (NoSender lan) ok =
     are_indented-lan_line d.topology lan (codes "no row of this source sends onto it") ok refl
 
-are_indented-shown_line : (d : DomainFacts) (summary : List SummaryValue) (k : ℕ) (f : Flow) (line : ShownLine)
+are_indented-shown_line : (d : DomainFacts) (summary : List SummaryValue) (k : ℕ) (f : Flow)
+    (line : ShownLine)
     → IsValidTopology d.topology → AreIndented (shown_line_text d summary k f line)
 are_indented-shown_line d summary k f (One line) ok = are_indented-search_line d summary k f line ok
-are_indented-shown_line d summary k f (Expected lan routers) ok = are_indented-expected_text d.topology lan routers ok
+are_indented-shown_line d summary k f (Expected lan routers) ok = are_indented-expected_text d.topology lan
+    routers ok
 
 -- ---- all lines
 
@@ -209,7 +222,8 @@ are_indented-reach_text : (t : TopologyValue) (sent_on took_none : List ℕ) →
     → AreIndented (reach_text t sent_on took_none)
 are_indented-reach_text t [] [] ok =
     are_indented-from_line_rest _
-    (is_line_rest-append_front (codes "it comes to no router of this search whose tables are known") _ refl is_line_rest-feed)
+    (is_line_rest-append_front (codes "it comes to no router of this search whose tables are known") _ refl
+    is_line_rest-feed)
 are_indented-reach_text t [] (r ∷ rs) ok = are_indented-not_taken_line t (r ∷ rs) ok
 are_indented-reach_text t (s ∷ ss) took_none ok =
     are_indented-append _ (routers_line t (codes "  it comes to, and is not taken by:") took_none)
@@ -222,7 +236,8 @@ pub are_indented-search_text : (d : DomainFacts) (summary : List SummaryValue) (
     (lines : List SearchLine) (sent_on took_none : List ℕ) → IsValidTopology d.topology
     → AreIndented (search_text d summary k f lines sent_on took_none)
 are_indented-search_text d summary k f lines sent_on took_none ok =
-    are_indented-append (reach_text d.topology sent_on took_none) (first_lines_text d summary k f (shown_lines lines))
+    are_indented-append (reach_text d.topology sent_on took_none) (first_lines_text d summary k f
+    (shown_lines lines))
     (are_indented-reach_text d.topology sent_on took_none ok)
     (are_indented-append _ (more_lines_text (length (shown_lines lines) - 40))
     (are_indented-flat_map (shown_line_text d summary k f) (take 40 (shown_lines lines))

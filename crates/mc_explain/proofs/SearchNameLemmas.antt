@@ -26,25 +26,31 @@ use Rattle.mc_forward.specs.Domains.{DomainValue, IsDomain, lan_of_vif, vif_of}
 use Rattle.mc_forward.specs.ListedTables.{DomainFacts, facts}
 use Rattle.mc_explain.specs.declared.search_line.SearchLine.{SearchLine}
 use Rattle.mc_explain.specs.declared.search_line.SearchLine.TheVariants.{DoesNotSend, EverySource}
-use Rattle.mc_explain.specs.declared.search_line.SearchLine.TheVariants.{ExpectedFromHere, FromUnplaced, Excluded}
+use Rattle.mc_explain.specs.declared.search_line.SearchLine.TheVariants.{ExpectedFromHere, FromUnplaced}
+use Rattle.mc_explain.specs.declared.search_line.SearchLine.TheVariants.{Excluded}
 use Rattle.mc_explain.specs.declared.search_line.SearchLine.TheVariants.{NoRow, NoVif, NotMulticast}
 use Rattle.mc_explain.specs.declared.search_line.SearchLine.TheVariants.{Unresolved}
 use Rattle.mc_explain.specs.declared.listed_interface.ListedInterface.{ListedInterface}
-use Rattle.mc_explain.specs.SearchLine.{Search, carried, device_lines, expected_lines, group_by_router, stopped_or_waiting}
+use Rattle.mc_explain.specs.SearchLine.{Search, carried, device_lines, expected_lines, group_by_router}
+use Rattle.mc_explain.specs.SearchLine.{stopped_or_waiting}
 use Rattle.mc_explain.specs.SearchLine.{is_expecting, is_excluded, is_unresolved, is_virtual, add_to_group}
-use Rattle.mc_explain.specs.SearchLine.{lans_of_search, closing_lines, lines_of_routers, lines_of_lan, net, router_lines}
+use Rattle.mc_explain.specs.SearchLine.{lans_of_search, closing_lines, lines_of_routers, lines_of_lan, net}
+use Rattle.mc_explain.specs.SearchLine.{router_lines}
 use Rattle.mc_explain.specs.SearchLine.{routers_on, row_lines, search_lines, sends_by, table_lines}
 use Rattle.mc_explain.specs.SearchLine.{incoming_lines, vif_line, vif_lines}
 use Rattle.mc_explain.specs.SearchNames.{NamesRouter, lan_and_router_of}
-use Rattle.mc_explain.specs.TopologyLans.{interfaces_by_router, interface_at, vif_has_device, listed_interface_at, listed_interface_of, interfaces_of_router}
+use Rattle.mc_explain.specs.TopologyLans.{interfaces_by_router, interface_at, vif_has_device}
+use Rattle.mc_explain.specs.TopologyLans.{listed_interface_at, listed_interface_of, interfaces_of_router}
 use Rattle.mc_explain.specs.TopologyLans.{interfaces_on_lan}
 
 -- ---- lines that name a router, among others
 
-names_router-left : (lan r : ℕ) (xs ys : List SearchLine) → NamesRouter lan r xs → NamesRouter lan r (xs ++ ys)
+names_router-left : (lan r : ℕ) (xs ys : List SearchLine) → NamesRouter lan r xs
+    → NamesRouter lan r (xs ++ ys)
 names_router-left lan r xs ys n = (n.0, (in-append_left n.0 xs ys n.1.0, n.1.1))
 
-names_router-right : (lan r : ℕ) (xs ys : List SearchLine) → NamesRouter lan r ys → NamesRouter lan r (xs ++ ys)
+names_router-right : (lan r : ℕ) (xs ys : List SearchLine) → NamesRouter lan r ys
+    → NamesRouter lan r (xs ++ ys)
 names_router-right lan r xs ys n = (n.0, (in-append_right n.0 xs ys n.1.0, n.1.1))
 
 names_router-flat_map : {A : Type 0} (lan r : ℕ) (f : A → List SearchLine) (x : A) (xs : List A) → In x xs
@@ -61,7 +67,8 @@ names_router-one lan r line is = (line, (inl refl, is))
 abbrev IsGrouped : ListedInterface → List (ℕ × List ListedInterface) → Type 0
 IsGrouped i gs = (g : ℕ × List ListedInterface) × (In g gs × ((g.0 ≡ i.router) × In i g.1))
 
-is_grouped-own : (i : ListedInterface) (gs : List (ℕ × List ListedInterface)) → IsGrouped i (add_to_group i gs)
+is_grouped-own : (i : ListedInterface) (gs : List (ℕ × List ListedInterface))
+    → IsGrouped i (add_to_group i gs)
 is_grouped-own i [] = ((i.router, i ∷ []), (inl refl, (refl, inl refl)))
 is_grouped-own i (g ∷ gs) = by (g.0 == i.router)
   where
@@ -91,11 +98,14 @@ is_grouped-later i j (f ∷ gs) (g, (h, is)) = by (f.0 == j.router) refl
     ]
     by false e = (g, (inr h, is))
 
-is_grouped-group_by_router : (i : ListedInterface) (is : List ListedInterface) → In i is → IsGrouped i (group_by_router is)
+is_grouped-group_by_router : (i : ListedInterface) (is : List ListedInterface) → In i is
+    → IsGrouped i (group_by_router is)
 is_grouped-group_by_router i [] h = absurd h
 is_grouped-group_by_router i (j ∷ is) (inl e) =
-    subst (λ (x : ListedInterface). IsGrouped i (add_to_group x (group_by_router is))) (sym e) (is_grouped-own i (group_by_router is))
-is_grouped-group_by_router i (j ∷ is) (inr h) = is_grouped-later i j (group_by_router is) (is_grouped-group_by_router i is h)
+    subst (λ (x : ListedInterface). IsGrouped i (add_to_group x (group_by_router is))) (sym e)
+    (is_grouped-own i (group_by_router is))
+is_grouped-group_by_router i (j ∷ is) (inr h) = is_grouped-later i j (group_by_router is)
+    (is_grouped-group_by_router i is h)
 
 -- ---- an interface of the topology among those on its LAN
 
@@ -104,7 +114,8 @@ interface_at-from_get : (t : TopologyValue) (k : ℕ) (i : InterfaceRow) → sli
 interface_at-from_get t k i at =
     ap (λ (o : Option InterfaceRow). unwrap_or o (record { router = 0; device = []; lan = 0 })) at
 
-in-interfaces_on_lan : (x : DomainFacts) (k : ℕ) (i : InterfaceRow) → slice_get x.topology.interfaces k ≡ Some i
+in-interfaces_on_lan : (x : DomainFacts) (k : ℕ) (i : InterfaceRow) → slice_get x.topology.interfaces k
+    ≡ Some i
     → i.router < length x.topology.routers → In (listed_interface_of x k i) (interfaces_on_lan x i.lan)
 in-interfaces_on_lan x k i at few =
     let t = x.topology in
@@ -118,7 +129,8 @@ in-interfaces_on_lan x k i at few =
     in-flat_map (interfaces_of_router t (below (length t.interfaces))) i.router k (below (length t.routers))
     (in-below i.router (length t.routers) few) own in
     subst (λ (y : InterfaceRow). In (listed_interface_of x k y) (interfaces_on_lan x i.lan)) here
-    (in-map (listed_interface_at x) k (filter (λ (n : ℕ). (interface_at t n).lan == i.lan) (interfaces_by_router t))
+    (in-map (listed_interface_at x) k (filter (λ (n : ℕ). (interface_at t n).lan == i.lan)
+    (interfaces_by_router t))
     (in-filter (λ (n : ℕ). (interface_at t n).lan == i.lan) k (interfaces_by_router t) all
     (eq-eqb (interface_at t k).lan i.lan (ap (λ (y : InterfaceRow). y.lan) here))))
 
@@ -145,7 +157,8 @@ bytes_eq-no_device device ok =
     (and_parts (is_device_name device) (not (bytes_eq device (codes "none"))) ok).1
 
 -- the kernel's vif of the device
-lan_of_vif-from_device : (t : TopologyValue) (k : ℕ) (i : InterfaceRow) → AreDistinctBy interface_key t.interfaces
+lan_of_vif-from_device : (t : TopologyValue) (k : ℕ) (i : InterfaceRow) → AreDistinctBy interface_key
+    t.interfaces
     → slice_get t.interfaces k ≡ Some i → is_device i.device ≡ true
     → (o : Option VifValue) → vif_has_device i.device o ≡ true → is_virtual o ≡ false
     → option_and_then (lan_of_vif t i.router) o ≡ Some i.lan
@@ -159,7 +172,8 @@ lan_of_vif-from_device t k i distinct at ok (Some v) own real =
     ∙ lan_of_interface-listed_row t.interfaces k i distinct at
 
 placed_on-from_is_domain : (d : DomainValue) (flow k : ℕ) (i : InterfaceRow) → IsDomain d
-    → slice_get d.topology.interfaces k ≡ Some i → PlacedOn (facts d) flow (listed_interface_of (facts d) k i) i.lan
+    → slice_get d.topology.interfaces k ≡ Some i → PlacedOn (facts d) flow (listed_interface_of (facts d) k
+    i) i.lan
 placed_on-from_is_domain d flow k i ok at vif found real =
     lan_of_vif-from_device d.topology k i ok.topology.distinct_interfaces at
     (ok.topology.valid_interfaces k i at).device (vif_of d.tables i.router vif)
@@ -171,14 +185,16 @@ lan_and_router_of-vif_line : (s : Search) (lan r from : ℕ) (pairs : List (ℕ 
     → lan_and_router_of (vif_line s lan r from pairs vif) ≡ (lan, Some r)
 lan_and_router_of-vif_line s lan r from pairs vif = by (sends_by vif pairs) (s.first_copy_on from)
   where
-    by : (b : Bool) (o : Option Copy) → lan_and_router_of (cond b (stopped_or_waiting o lan r vif from (threshold_of vif pairs))
+    by : (b : Bool) (o : Option Copy) → lan_and_router_of
+        (cond b (stopped_or_waiting o lan r vif from (threshold_of vif pairs))
         (DoesNotSend lan r vif from (carried s from))) ≡ (lan, Some r)
     by true None = refl
     by true (Some copy) = refl
     by false o = refl
 
 -- a router whose row takes from another LAN, by its vifs or its devices
-names_router-vifs_and_devices : (s : Search) (lan from : ℕ) (pairs : List (ℕ × ℕ)) (g : ℕ × List ListedInterface)
+names_router-vifs_and_devices : (s : Search) (lan from : ℕ) (pairs : List (ℕ × ℕ)) (g : ℕ
+    × List ListedInterface)
     (i : ListedInterface) → In i g.1 → g.0 ≡ i.router → PlacedOn s.domain s.flow i lan
     → NamesRouter lan g.0 (flat_map (λ j. vif_lines s lan g.0 from pairs j.vif) g.1
     ++ flat_map (λ j. device_lines s lan j j.vif) g.1)
@@ -192,7 +208,8 @@ names_router-vifs_and_devices s lan from pairs g i h own placed = by i.vif refl
 
     of_device : NamesRouter lan g.0 (device_lines s lan i i.vif) → NamesRouter lan g.0 (rows ++ devices)
     of_device n =
-        names_router-right lan g.0 rows devices (names_router-flat_map lan g.0 (λ j. device_lines s lan j j.vif) i g.1 h n)
+        names_router-right lan g.0 rows devices (names_router-flat_map lan g.0 (λ j. device_lines s lan j
+        j.vif) i g.1 h n)
 
     real : (vif : ℕ) (b : Bool) → i.vif ≡ Some vif → is_virtual (s.domain.vifs i.router vif) ≡ b
         → NamesRouter lan g.0 (rows ++ devices)
@@ -266,9 +283,11 @@ names_router-lines_of_routers s lan gs g i h k own placed = by (is_excluded s.ex
     expected : List SearchLine
     expected = flat_map (expected_lines s lan) gs
 
-    by_router_lines : NamesRouter lan g.0 (router_lines s lan g) → NamesRouter lan g.0 (router_part ++ expected)
+    by_router_lines : NamesRouter lan g.0 (router_lines s lan g) → NamesRouter lan g.0 (router_part
+        ++ expected)
     by_router_lines n =
-        names_router-left lan g.0 router_part expected (names_router-flat_map lan g.0 (router_lines s lan) g gs h n)
+        names_router-left lan g.0 router_part expected (names_router-flat_map lan g.0 (router_lines s lan) g
+        gs h n)
 
     by : (b : Bool) → is_excluded s.excluded g.0 ≡ b → NamesRouter lan g.0 (router_part ++ expected)
     by true e =
@@ -281,12 +300,14 @@ names_router-lines_of_routers s lan gs g i h k own placed = by (is_excluded s.ex
       | inr takes ↦ (
           let expects : is_expecting s lan g.0 ≡ true =
           ap₂ (λ (a b : Bool). not a && b) e takes in
-          names_router-right lan g.0 router_part expected (names_router-flat_map lan g.0 (expected_lines s lan) g gs h
+          names_router-right lan g.0 router_part expected (names_router-flat_map lan g.0
+          (expected_lines s lan) g gs h
           (subst (λ (b : Bool). NamesRouter lan g.0 (cond b (ExpectedFromHere lan g.0 ∷ []) []))
           (sym expects) (names_router-one lan g.0 (ExpectedFromHere lan g.0) refl))))
     ]
 
-names_router-lines_of_lan : (s : Search) (lan : ℕ) (i : ListedInterface) → In i (interfaces_on_lan s.domain lan)
+names_router-lines_of_lan : (s : Search) (lan : ℕ) (i : ListedInterface)
+    → In i (interfaces_on_lan s.domain lan)
     → PlacedOn s.domain s.flow i lan → NamesRouter lan i.router (lines_of_lan s lan)
 names_router-lines_of_lan s lan i h placed =
     let (g, (k, is)) = is_grouped-group_by_router i (interfaces_on_lan s.domain lan) h in

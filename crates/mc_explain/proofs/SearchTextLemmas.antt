@@ -48,16 +48,19 @@ pub search_text-from_parts : (d : DomainValue) (view : FlowOfDomain) (flow : ℕ
     → seen ≡ lines → reached ≡ old ++ reach_text t sent_on took_none
     → new ≡ reached ++ first_lines_text (facts view.domain) summary view.flow f (shown_lines seen)
     → new ≡ old ++ search_text (facts d) summary flow listed lines sent_on took_none
-search_text-from_parts d view flow t summary f listed lines seen sent_on took_none old reached new of_view of_t at
+search_text-from_parts d view flow t summary f listed lines seen sent_on took_none old reached new of_view
+    of_t at
     at_listed of_lines reach all =
     let same : f ≡ listed =
     ap (λ o. unwrap_or o f) (sym at ∙ ap (λ (u : TopologyValue). slice_get u.flows flow) of_t
     ∙ at_listed) in
     all
-    ∙ ap (λ (v : FlowOfDomain). reached ++ first_lines_text (facts v.domain) summary v.flow f (shown_lines seen))
+    ∙ ap (λ (v : FlowOfDomain). reached ++ first_lines_text (facts v.domain) summary v.flow f
+    (shown_lines seen))
     of_view
     ∙ ap (λ (g : Flow). reached ++ first_lines_text (facts d) summary flow g (shown_lines seen)) same
-    ∙ ap (λ (ls : List SearchLine). reached ++ first_lines_text (facts d) summary flow listed (shown_lines ls))
+    ∙ ap (λ (ls : List SearchLine). reached ++ first_lines_text (facts d) summary flow listed
+    (shown_lines ls))
     of_lines
     ∙ ap (λ (l : List ℕ). l ++ first_lines_text (facts d) summary flow listed (shown_lines lines)) reach
     ∙ append_assoc old (reach_text t sent_on took_none)

@@ -16,7 +16,8 @@ use Rattle.mc_explain.proofs.FirstEightLemmas.{is_first_eight_of-push}
 
 -- ---- the routers
 
-expecting_routers-append : (xs ys : List SearchLine) → expecting_routers (xs ++ ys) ≡ expecting_routers xs ++ expecting_routers ys
+expecting_routers-append : (xs ys : List SearchLine) → expecting_routers (xs ++ ys) ≡ expecting_routers xs
+    ++ expecting_routers ys
 expecting_routers-append [] ys = refl
 expecting_routers-append (ExpectedFromHere lan router ∷ xs) ys =
     ap (λ (rs : List ℕ). router ∷ rs) (expecting_routers-append xs ys)
@@ -27,10 +28,12 @@ pub expecting_routers-take_more : (lines : List SearchLine) (i : ℕ) (d : Searc
     → expecting_routers (take (i + 1) lines)
     ≡ expecting_routers (take i lines) ++ expecting_routers (get_or lines i d ∷ [])
 expecting_routers-take_more lines i d lt =
-    ap expecting_routers (take_more lines i d lt) ∙ expecting_routers-append (take i lines) (get_or lines i d ∷ [])
+    ap expecting_routers (take_more lines i d lt) ∙ expecting_routers-append (take i lines)
+    (get_or lines i d ∷ [])
 
 -- one line more about a router that expects copies,
-pub is_first_eight_of-expecting_more : (s s' : FirstEight) (lines : List SearchLine) (i : ℕ) (line : SearchLine)
+pub is_first_eight_of-expecting_more : (s s' : FirstEight) (lines : List SearchLine) (i : ℕ)
+    (line : SearchLine)
     (lan router : ℕ) → i < length lines → line ≡ get_or lines i line
     → line ≡ ExpectedFromHere lan router → IsFirstEightOf s (expecting_routers (take i lines))
     → s'.first ≡ take 8 (s.first ++ router ∷ []) → s'.count ≡ s.count + 1
@@ -41,7 +44,8 @@ is_first_eight_of-expecting_more s s' lines i line lan router lt read is start f
     ∙ sym (expecting_routers-take_more lines i line lt))
     (is_first_eight_of-push s s' front router start first count)
 
-expecting_routers-other_line : (line : SearchLine) → ((lan router : ℕ) → line ≡ ExpectedFromHere lan router → ⊥)
+expecting_routers-other_line : (line : SearchLine) → ((lan router : ℕ) → line ≡ ExpectedFromHere lan router
+    → ⊥)
     → expecting_routers (line ∷ []) ≡ []
 expecting_routers-other_line (ExpectedFromHere lan router) other = absurd (other lan router refl)
 expecting_routers-other_line _ other = refl
@@ -50,7 +54,8 @@ expecting_routers-other_line _ other = refl
 pub is_first_eight_of-expecting_same : (s : FirstEight) (lines : List SearchLine) (i : ℕ) (line : SearchLine)
     → i < length lines → line ≡ get_or lines i line
     → ((lan router : ℕ) → line ≡ ExpectedFromHere lan router → ⊥)
-    → IsFirstEightOf s (expecting_routers (take i lines)) → IsFirstEightOf s (expecting_routers (take (i + 1) lines))
+    → IsFirstEightOf s (expecting_routers (take i lines))
+    → IsFirstEightOf s (expecting_routers (take (i + 1) lines))
 is_first_eight_of-expecting_same s lines i line lt read other start =
     let front = expecting_routers (take i lines) in
     subst (IsFirstEightOf s) (sym (expecting_routers-take_more lines i line lt
@@ -60,9 +65,11 @@ is_first_eight_of-expecting_same s lines i line lt read other start =
 -- ---- the lines
 
 -- there are no more of them at the front than lines
-pub leading_expected-at_most_length : (lan : ℕ) (lines : List SearchLine) → leading_expected lan lines ≤ length lines
+pub leading_expected-at_most_length : (lan : ℕ) (lines : List SearchLine) → leading_expected lan lines ≤
+    length lines
 leading_expected-at_most_length lan [] = omega arith
-leading_expected-at_most_length lan (line ∷ lines) = by (expects_from lan line) (leading_expected-at_most_length lan lines)
+leading_expected-at_most_length lan (line ∷ lines) = by (expects_from lan line)
+    (leading_expected-at_most_length lan lines)
   where
     by : (b : Bool) → leading_expected lan lines ≤ length lines
         → cond b (suc (leading_expected lan lines)) zero ≤ suc (length lines)
@@ -85,7 +92,8 @@ put_expected-shown_lines lan router (ExpectedFromHere own r ∷ lines) =
 
     apart : List ShownLine
     apart =
-        Expected lan (router ∷ []) ∷ Expected own (r ∷ expecting_routers (take (leading_expected own lines) lines))
+        Expected lan (router ∷ []) ∷ Expected own (r ∷ expecting_routers (take (leading_expected own lines)
+        lines))
         ∷ shown_lines (drop (leading_expected own lines) lines)
 
     by : (b : Bool) → (own == lan) ≡ b
@@ -113,7 +121,8 @@ shown_lines-split lan router [] front back n d some is count at_front at_back = 
 shown_lines-split lan router (line ∷ lines) front back n d some is count at_front at_back =
     ap (λ (x : SearchLine). put_line x (shown_lines lines)) is
     ∙ put_expected-shown_lines lan router lines
-    ∙ ap (cut (ExpectedFromHere lan router)) (sym (ap (λ (b : Bool). cond b (suc (leading_expected lan lines)) zero)
+    ∙ ap (cut (ExpectedFromHere lan router)) (sym (ap
+    (λ (b : Bool). cond b (suc (leading_expected lan lines)) zero)
     (eq-eqb lan lan refl)))
     ∙ ap (λ (x : SearchLine). cut x (leading_expected lan (x ∷ lines))) (sym is)
     ∙ ap (cut line) (sym count)

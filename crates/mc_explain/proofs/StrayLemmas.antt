@@ -93,7 +93,8 @@ are_strays_explained-leave n t threshold from incoming pairs i (Some l) f e row 
     are_strays_explained-put n (record { lan = l; ttl = t; sender = Some i }) f
     (is_reached-next_lan n from l incoming pairs i.0 i.1 threshold row pair takes e reached) all
 
-are_strays_explained-cond : (n : Net) (test : Bool) (f g : Flight) → AreStraysExplained n f → AreStraysExplained n g →
+are_strays_explained-cond : (n : Net) (test : Bool) (f g : Flight) → AreStraysExplained n f
+    → AreStraysExplained n g →
     AreStraysExplained n (cond test f g)
 are_strays_explained-cond n true f g all more = all
 are_strays_explained-cond n false f g all more = more
@@ -103,13 +104,16 @@ are_strays_explained-sends : (n : Net) (r t v from : ℕ) (pairs ps : List (ℕ 
     IsReached n from → AreStraysExplained n f → AreStraysExplained n (sends n r t ps f)
 are_strays_explained-sends n r t v from pairs [] f row within takes reached all = all
 are_strays_explained-sends n r t v from pairs (p ∷ ps) f row within takes reached all =
-    are_strays_explained-sends n r t v from pairs ps (send n r t p f) row (λ q h. within q (inr h)) takes reached
+    are_strays_explained-sends n r t v from pairs ps (send n r t p f) row (λ q h. within q (inr h)) takes
+    reached
     (are_strays_explained-cond n (nat_lt p.1 t) (leave n (t - 1) (r, p.0) (n.placed r p.0) f) f
-    (are_strays_explained-leave n (t - 1) p.1 from v pairs (r, p.0) (n.placed r p.0) f refl row (within p (inl refl))
+    (are_strays_explained-leave n (t - 1) p.1 from v pairs (r, p.0) (n.placed r p.0) f refl row
+    (within p (inl refl))
     takes reached all) all)
 
 -- if the copy came in by the vif that the row takes from
-are_strays_explained-if_taken : (n : Net) (w : Waiting) (incoming : ℕ) (pairs : List (ℕ × ℕ)) (f : Flight) (b : Bool) →
+are_strays_explained-if_taken : (n : Net) (w : Waiting) (incoming : ℕ) (pairs : List (ℕ × ℕ)) (f : Flight)
+    (b : Bool) →
     (incoming == w.vif) ≡ b → n.row w.router ≡ Exact incoming pairs → IsVifOnReachedLan n w.router w.vif →
     AreStraysExplained n f → AreStraysExplained n (cond b (sends n w.router w.ttl pairs f) f)
 are_strays_explained-if_taken n w incoming pairs f true is row heard all =
@@ -118,7 +122,8 @@ are_strays_explained-if_taken n w incoming pairs f true is row heard all =
 are_strays_explained-if_taken n w incoming pairs f false is row heard all = all
 
 are_strays_explained-handle_by : (n : Net) (w : Waiting) (row : Row) (f : Flight) → n.row w.router ≡ row →
-    IsVifOnReachedLan n w.router w.vif → AreStraysExplained n f → AreStraysExplained n (handle_by_row n w row f)
+    IsVifOnReachedLan n w.router w.vif → AreStraysExplained n f
+    → AreStraysExplained n (handle_by_row n w row f)
 are_strays_explained-handle_by n w (Exact incoming pairs) f e heard all =
     are_strays_explained-if_taken n w incoming pairs f (incoming == w.vif) refl e heard all
 are_strays_explained-handle_by n w Open f e heard all =
@@ -131,7 +136,8 @@ are_strays_explained-handle_by n w Open f e heard all =
     are_strays_explained-stray n (w.router, w.vif) f (inr arrival) all
 are_strays_explained-handle_by n w NoRow f e heard all = all
 
-are_strays_explained-without : (n : Net) (i : ℕ) (f : Flight) → AreStraysExplained n f → AreStraysExplained n (without_waiting i f)
+are_strays_explained-without : (n : Net) (i : ℕ) (f : Flight) → AreStraysExplained n f
+    → AreStraysExplained n (without_waiting i f)
 are_strays_explained-without n i f all = record {
   strays = all.strays;
   waiting = λ w h. all.waiting w (in-remove w f.waiting i h);
@@ -144,11 +150,14 @@ are_strays_explained-handle n i (Some w) f e all =
     are_strays_explained-handle_by n w (n.row w.router) (without_waiting i f) refl
     (all.waiting w (slice_get-in f.waiting i w e)) (are_strays_explained-without n i f all)
 
-are_strays_explained-run : (n : Net) (ps : List Pick) (f : Flight) → AreStraysExplained n f → AreStraysExplained n (run n ps f)
+are_strays_explained-run : (n : Net) (ps : List Pick) (f : Flight) → AreStraysExplained n f
+    → AreStraysExplained n (run n ps f)
 are_strays_explained-run n [] f all = all
 are_strays_explained-run n (Handles i ∷ ps) f all =
-    are_strays_explained-run n ps (step n i f) (are_strays_explained-handle n i (slice_get f.waiting i) f refl all)
-are_strays_explained-run n (Loses i ∷ ps) f all = are_strays_explained-run n ps (without_waiting i f) (are_strays_explained-without n i f all)
+    are_strays_explained-run n ps (step n i f) (are_strays_explained-handle n i (slice_get f.waiting i) f
+    refl all)
+are_strays_explained-run n (Loses i ∷ ps) f all = are_strays_explained-run n ps (without_waiting i f)
+    (are_strays_explained-without n i f all)
 
 -- for each run, with losses or without
 pub is_stray_at-run : (n : Net) (t : ℕ) (ps : List Pick) (i : Interface)

@@ -12,7 +12,8 @@ use Rattle.mc_theory.proofs.StoppingHop.{is_stopped-unique}
 use Rattle.mc_forward.specs.Domains.{DomainValue, net_of}
 use Rattle.mc_replay.specs.FindingValues.{finding_value}
 use Rattle.mc_maker.specs.declared.examined_flights.ExaminedFlights.{ExaminedFlights}
-use Rattle.mc_maker.specs.declared.examined_flights.ExaminedFlights.TheVariants.{Certified, FoundAtTtl255, FoundAtFlowTtl}
+use Rattle.mc_maker.specs.declared.examined_flights.ExaminedFlights.TheVariants.{Certified, FoundAtTtl255}
+use Rattle.mc_maker.specs.declared.examined_flights.ExaminedFlights.TheVariants.{FoundAtFlowTtl}
 use Rattle.mc_explain.specs.declared.causes.Cause.{Cause}
 use Rattle.mc_explain.specs.declared.causes.Cause.TheVariants.{TakeOut, LeastTtl, StoppedAt}
 use Rattle.mc_explain.specs.Explained.{ExplainsAtFlowTtl, ExplainsDuplicate, ExplainsFinding}
@@ -21,7 +22,8 @@ use Rattle.mc_explain.specs.Explained.{circle_cause, sender_causes}
 
 -- a LAN's first copy came by one path
 path-is_unique : (n : Net) (cs : List Copy) (l : ℕ) (a b : Copy) (hs ks : List Hop) → IsNet n →
-    first_copy_on cs l ≡ Some a → first_copy_on cs l ≡ Some b → CameByHops n cs a hs → CameByHops n cs b ks → hs ≡ ks
+    first_copy_on cs l ≡ Some a → first_copy_on cs l ≡ Some b → CameByHops n cs a hs → CameByHops n cs b ks
+    → hs ≡ ks
 path-is_unique n cs l a b hs ks net on on' by by' = came_by_hops-unique n cs b hs ks net
     (subst (λ (c : Copy). CameByHops n cs c hs) (copy_equal-from_some (first_copy_on cs l) a b on on') by) by'
 
@@ -31,7 +33,8 @@ interface-is_unique o i j p q =
 
 second_copy-is_unique : (n : Net) (f : Flight) (lan : ℕ) (c d : Copy) (r s : Cause) →
     IsRemedy n f lan c r → IsRemedy n f lan d s → c ≡ d
-second_copy-is_unique n f lan c d r s x y = first_double-unique f.carried c d x.spare.first_double y.spare.first_double
+second_copy-is_unique n f lan c d r s x y = first_double-unique f.carried c d x.spare.first_double
+    y.spare.first_double
 
 remedy-is_unique : (n : Net) (f : Flight) (lan : ℕ) (c : Copy) (r s : Cause) → IsNet n →
     IsRemedy n f lan c r → IsRemedy n f lan c s → r ≡ s
@@ -75,7 +78,8 @@ loop_causes-are_unique n f lan causes others net x y =
 least_ttl_causes-are_unique : (n : Net) (f : Flight) (lan : ℕ) (causes others : List Cause) → IsNet n →
     ExplainsLeastTtl n f lan causes → ExplainsLeastTtl n f lan others → causes ≡ others
 least_ttl_causes-are_unique n f lan causes others net x y =
-    let path = path-is_unique n f.carried lan x.copy y.copy x.path y.path net x.copy_is y.copy_is x.came_by_hops
+    let path = path-is_unique n f.carried lan x.copy y.copy x.path y.path net x.copy_is y.copy_is
+        x.came_by_hops
     y.came_by_hops in
     let stop = is_stopped-unique n.ttl y.path x.hop x.left y.hop y.left
     (subst (λ (hs : List Hop). IsStopped n.ttl hs x.hop x.left) path x.stopped) y.stopped in
@@ -87,8 +91,10 @@ least_ttl_causes-are_unique n f lan causes others net x y =
 finding_causes-are_unique : (n : Net) (f : Flight) (x : Finding) (causes others : List Cause) → IsNet n →
     ExplainsFinding n f x causes → ExplainsFinding n f x others → causes ≡ others
 finding_causes-are_unique n f Clean causes others net p q = p ∙ sym q
-finding_causes-are_unique n f (Duplicate lan) causes others net p q = duplicate_causes-are_unique n f lan causes others net p q
-finding_causes-are_unique n f (Loop lan) causes others net p q = loop_causes-are_unique n f lan causes others net p q
+finding_causes-are_unique n f (Duplicate lan) causes others net p q = duplicate_causes-are_unique n f lan
+    causes others net p q
+finding_causes-are_unique n f (Loop lan) causes others net p q = loop_causes-are_unique n f lan causes
+    others net p q
 finding_causes-are_unique n f (Stray router vif) causes others net p q = p ∙ sym q
 finding_causes-are_unique n f (Missed lan) causes others net p q = p ∙ sym q
 
@@ -97,16 +103,22 @@ flow_ttl_causes-are_unique : (n : Net) (f g : Flight) (x : Finding) (causes othe
 flow_ttl_causes-are_unique n f g Clean causes others net p q = p ∙ sym q
 flow_ttl_causes-are_unique n f g (Duplicate lan) causes others net p q =
     duplicate_causes-are_unique n g lan causes others net p q
-flow_ttl_causes-are_unique n f g (Loop lan) causes others net p q = loop_causes-are_unique n g lan causes others net p q
+flow_ttl_causes-are_unique n f g (Loop lan) causes others net p q = loop_causes-are_unique n g lan causes
+    others net p q
 flow_ttl_causes-are_unique n f g (Stray router vif) causes others net p q = p ∙ sym q
-flow_ttl_causes-are_unique n f g (Missed lan) causes others net p q = least_ttl_causes-are_unique n f lan causes others net p q
+flow_ttl_causes-are_unique n f g (Missed lan) causes others net p q = least_ttl_causes-are_unique n f lan
+    causes others net p q
 
-pub causes-are_unique : (d : DomainValue) (flow : ℕ) (examined_flights : ExaminedFlights) (causes others : List Cause) →
-    IsNet (net_of d flow) → IsExplained d flow examined_flights causes → IsExplained d flow examined_flights others →
+pub causes-are_unique : (d : DomainValue) (flow : ℕ) (examined_flights : ExaminedFlights)
+    (causes others : List Cause) →
+    IsNet (net_of d flow) → IsExplained d flow examined_flights causes → IsExplained d flow examined_flights
+    others →
     causes ≡ others
 causes-are_unique d flow (Certified entries) causes others net p q = p ∙ sym q
-causes-are_unique d flow (FoundAtTtl255 ended) causes others net p q = finding_causes-are_unique (net_of d flow)
+causes-are_unique d flow (FoundAtTtl255 ended) causes others net p q = finding_causes-are_unique
+    (net_of d flow)
     ended.flight.flight (finding_value ended.travel.finding) causes others net p q
-causes-are_unique d flow (FoundAtFlowTtl greatest least) causes others net p q = flow_ttl_causes-are_unique (net_of d flow)
+causes-are_unique d flow (FoundAtFlowTtl greatest least) causes others net p q = flow_ttl_causes-are_unique
+    (net_of d flow)
     greatest.flight.flight least.flight.flight (finding_value least.travel.finding) causes others net
     p q

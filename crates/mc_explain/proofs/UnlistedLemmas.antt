@@ -21,7 +21,9 @@ is_strictly_sorted_by-lowest_append qs [] up =
 is_strictly_sorted_by-lowest_append qs (p ∷ ps) up =
     subst (λ (l : List (ℕ × ℕ)). IsStrictlySortedBy key_cmp (lowest l)) (append_assoc qs (p ∷ []) ps)
     (is_strictly_sorted_by-lowest_append (qs ++ p ∷ []) ps
-    (subst (IsStrictlySortedBy key_cmp) (sym (take_in_order-push qs p)) (take_put_pair-ascends p (lowest qs) up)))
+    (subst (IsStrictlySortedBy key_cmp) (sym (take_in_order-push qs p)) (take_put_pair-ascends p (lowest qs)
+    up)))
 
 pub is_strictly_sorted_by-lowest : (ps : List (ℕ × ℕ)) → IsStrictlySortedBy key_cmp (lowest ps)
-is_strictly_sorted_by-lowest ps = is_strictly_sorted_by-lowest_append [] ps (subst (IsStrictlySortedBy key_cmp) take_in_order-none is_strictly_sorted_by-nil)
+is_strictly_sorted_by-lowest ps = is_strictly_sorted_by-lowest_append [] ps
+    (subst (IsStrictlySortedBy key_cmp) take_in_order-none is_strictly_sorted_by-nil)

@@ -11,10 +11,14 @@ use Rattle.mc_explain.specs.Indented.{AreIndented, HasNoLineFeed, indented}
 use Rattle.mc_explain.specs.RouterText.{routers_text}
 use Rattle.mc_explain.specs.UnlistedLines.{AreLines, AreUnlistedLines, IsUnlistedLine, with_line_feed}
 use Rattle.mc_explain.specs.UnlistedText.{byte_order_text, further_rows, further_text, is_multicast}
-use Rattle.mc_explain.specs.UnlistedText.{unlisted_pair_text, shown_unlisted_pairs, unlisted_pair_lines, routers_with, unlisted_text}
+use Rattle.mc_explain.specs.UnlistedText.{unlisted_pair_text, shown_unlisted_pairs, unlisted_pair_lines}
+use Rattle.mc_explain.specs.UnlistedText.{routers_with, unlisted_text}
 use Rattle.mc_explain.proofs.LineFeedLemmas.{no_feed-dotted, number, no_feed-append_front}
-use Rattle.mc_explain.proofs.IndentedLemmas.{IsLineRest, has_no_line_feed-from_no_byte, are_indented-from_line_rest, is_line_rest-feed_then_lines, is_line_rest-feed}
-use Rattle.mc_explain.proofs.IndentedLemmas.{is_line_rest-append, is_line_rest-append_front, are_indented-none}
+use Rattle.mc_explain.proofs.IndentedLemmas.{IsLineRest, has_no_line_feed-from_no_byte}
+use Rattle.mc_explain.proofs.IndentedLemmas.{are_indented-from_line_rest, is_line_rest-feed_then_lines}
+use Rattle.mc_explain.proofs.IndentedLemmas.{is_line_rest-feed}
+use Rattle.mc_explain.proofs.IndentedLemmas.{is_line_rest-append, is_line_rest-append_front}
+use Rattle.mc_explain.proofs.IndentedLemmas.{are_indented-none}
 use Rattle.mc_explain.proofs.SearchLineLemmas.{no_feed-routers_text}
 
 -- ---- sequences of lines with a common beginning
@@ -54,7 +58,8 @@ are_lines-flat_map Begins f (x ∷ xs) each =
 abbrev after_two_spaces : List ℕ → List ℕ
 after_two_spaces line = codes "  " ++ line
 
-flat_map-indented : (lines : List (List ℕ)) → flat_map indented lines ≡ flat_map with_line_feed (map after_two_spaces lines)
+flat_map-indented : (lines : List (List ℕ)) → flat_map indented lines ≡ flat_map with_line_feed
+    (map after_two_spaces lines)
 flat_map-indented [] = refl
 flat_map-indented (line ∷ lines) = ap (λ (l : List ℕ). indented line ++ l) (flat_map-indented lines)
 
@@ -71,7 +76,8 @@ are_unlisted_lines-from_indented text i = record {
 
 -- ---- the line of a pair, and lines after it
 
-are_unlisted_lines-pair_line : (rest : List ℕ) → IsLineRest rest → AreUnlistedLines (codes "unlisted " ++ rest)
+are_unlisted_lines-pair_line : (rest : List ℕ) → IsLineRest rest → AreUnlistedLines (codes "unlisted "
+    ++ rest)
 are_unlisted_lines-pair_line rest g =
     let behind = are_unlisted_lines-from_indented g.after g.lines in
     record {
@@ -125,10 +131,12 @@ are_unlisted_lines-further_text more =
           (is_line_rest-append_front (codes " further rows") _ refl is_line_rest-feed)))
     ]
 
-pub are_unlisted_lines-unlisted_text : (all : Bool) (t : TopologyValue) (summary : List SummaryValue) → IsValidTopology t
+pub are_unlisted_lines-unlisted_text : (all : Bool) (t : TopologyValue) (summary : List SummaryValue)
+    → IsValidTopology t
     → AreUnlistedLines (unlisted_text all t summary)
 are_unlisted_lines-unlisted_text all t summary ok =
-    are_lines-append IsUnlistedLine (flat_map (unlisted_pair_lines t summary) (shown_unlisted_pairs all summary))
+    are_lines-append IsUnlistedLine (flat_map (unlisted_pair_lines t summary) (shown_unlisted_pairs all
+    summary))
     (further_text (further_rows all t summary))
     (are_lines-flat_map IsUnlistedLine (unlisted_pair_lines t summary) (shown_unlisted_pairs all summary)
     (λ pair. are_unlisted_lines-pair_text t pair (routers_with t summary pair) ok))

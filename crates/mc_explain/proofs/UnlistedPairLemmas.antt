@@ -25,7 +25,8 @@ use Rattle.mc_explain.specs.UnlistedText.{has_pair, unlisted_pair_text, unlisted
 use Rattle.mc_explain.specs.UnlistedText.{routers_below}
 use Rattle.mc_forward.proofs.BelowLemmas.{below-more}
 use Rattle.mc_explain.proofs.MergeLemmas.{is_strictly_sorted_by-in_order}
-use Rattle.mc_explain.proofs.LowestPairLemmas.{key_cmp-from_are_above, is_listed-from_in, in-from_is_listed, key_cmp-not_less_itself, equal_bools-from_both}
+use Rattle.mc_explain.proofs.LowestPairLemmas.{key_cmp-from_are_above, is_listed-from_in, in-from_is_listed}
+use Rattle.mc_explain.proofs.LowestPairLemmas.{key_cmp-not_less_itself, equal_bools-from_both}
 use Rattle.mc_explain.proofs.UnlistedLemmas.{is_strictly_sorted_by-lowest}
 
 -- the shown pairs ascend
@@ -55,14 +56,16 @@ is_last-above [] r k less = refl
 is_last-above (x ∷ xs) r zero less = ne_eqb x r (λ e. absurd (omega (arith, less x (inl refl), e)))
 is_last-above (x ∷ xs) r (suc k) less = is_last-above xs r k (λ y h. less y (inr h))
 
-push_unless_last-above : (xs : List ℕ) (r : ℕ) → ((x : ℕ) → In x xs → x < r) → push_unless_last r xs ≡ xs ++ r ∷ []
+push_unless_last-above : (xs : List ℕ) (r : ℕ) → ((x : ℕ) → In x xs → x < r) → push_unless_last r xs ≡ xs
+    ++ r ∷ []
 push_unless_last-above xs r less =
     ap (λ (b : Bool). cond b xs (xs ++ r ∷ [])) (is_last-above xs r (length xs - 1) less)
 
 push_unless_last-cond : (b : Bool) (xs : List ℕ) (r : ℕ) → ((x : ℕ) → In x xs → x < r)
     → push_unless_last r (xs ++ cond b (r ∷ []) []) ≡ xs ++ r ∷ []
 push_unless_last-cond true xs r less = push_unless_last-same xs r
-push_unless_last-cond false xs r less = ap (push_unless_last r) (append-nil xs) ∙ push_unless_last-above xs r less
+push_unless_last-cond false xs r less = ap (push_unless_last r) (append-nil xs) ∙ push_unless_last-above xs
+    r less
 
 routers_below-less : (summary : List SummaryValue) (r : ℕ) (pair : ℕ × ℕ) (x : ℕ)
     → In x (routers_below summary r pair) → x < r
@@ -80,7 +83,8 @@ map-equal_on_list : {A : Type 0} (f g : ℕ × ℕ → A) (ps : List (ℕ × ℕ
     → map f ps ≡ map g ps
 map-equal_on_list f g [] same = refl
 map-equal_on_list {A} f g (p ∷ ps) same =
-    ap₂ (λ (x : A) (xs : List A). x ∷ xs) (same p (inl refl)) (map-equal_on_list f g ps (λ q h. same q (inr h)))
+    ap₂ (λ (x : A) (xs : List A). x ∷ xs) (same p (inl refl)) (map-equal_on_list f g ps
+    (λ q h. same q (inr h)))
 
 -- with none of the router's pairs
 pub with_routers_so_far-none : (summary : List SummaryValue) (router : ℕ) (ps : List (ℕ × ℕ))
@@ -102,7 +106,8 @@ pub with_routers_so_far-all : (summary : List SummaryValue) (router : ℕ) (ps :
     → map (with_routers_so_far summary router (pairs_in (slice_get summary router))) ps
     ≡ map (with_routers_below summary (router + 1)) ps
 with_routers_so_far-all summary router ps =
-    map-equal_on_list (with_routers_so_far summary router (pairs_in (slice_get summary router))) (with_routers_below summary (router + 1)) ps
+    map-equal_on_list (with_routers_so_far summary router (pairs_in (slice_get summary router)))
+    (with_routers_below summary (router + 1)) ps
     (λ p h. ap (λ (rs : List ℕ). (p, rs)) (sym (routers_below-more summary router p)))
 
 -- ---- one pair more
@@ -112,7 +117,8 @@ is_listed-push_other : (own : List (ℕ × ℕ)) (q p : ℕ × ℕ) → p ≢ q
 is_listed-push_other own q p other =
     equal_bools-from_both (is_listed (Some own) p) (is_listed (Some (own ++ q ∷ [])) p)
     (λ e. is_listed-from_in p (own ++ q ∷ []) (in-append_left p own (q ∷ []) (in-from_is_listed p own e)))
-    (λ e. is_listed-from_in p own (elim (in-append_cases p own (q ∷ []) (in-from_is_listed p (own ++ q ∷ []) e)) [
+    (λ e. is_listed-from_in p own (elim (in-append_cases p own (q ∷ []) (in-from_is_listed p (own ++ q ∷ [])
+    e)) [
       | inl h ↦ h
       | inr h ↦ elim h [
         | inl e ↦ absurd (other (sym e))
@@ -121,7 +127,8 @@ is_listed-push_other own q p other =
     ]))
 
 -- another pair has the same routers
-with_routers_so_far-other_pair : (summary : List SummaryValue) (router : ℕ) (own : List (ℕ × ℕ)) (q p : ℕ × ℕ) → p ≢ q
+with_routers_so_far-other_pair : (summary : List SummaryValue) (router : ℕ) (own : List (ℕ × ℕ)) (q p : ℕ
+    × ℕ) → p ≢ q
     → with_routers_so_far summary router own p ≡ with_routers_so_far summary router (own ++ q ∷ []) p
 with_routers_so_far-other_pair summary router own q p other =
     ap (λ (b : Bool). (p, routers_below summary router p ++ cond b (router ∷ []) []))
@@ -140,7 +147,8 @@ unfolding IsStrictlySortedBy
 set-map_sorted f g [] i q up lt at other = absurd (omega (arith, lt))
 set-map_sorted {A} f g (p ∷ ps) zero q up lt at other =
     ap₂ (λ (x : A) (xs : List A). x ∷ xs) (ap g (sym at))
-    (map-equal_on_list f g ps (λ x h. other x (λ e. key_cmp-not_less_itself p x (at ∙ sym e) (key_cmp-from_are_above p x ps up.0 h))))
+    (map-equal_on_list f g ps (λ x h. other x (λ e. key_cmp-not_less_itself p x (at ∙ sym e)
+    (key_cmp-from_are_above p x ps up.0 h))))
 set-map_sorted {A} f g (p ∷ ps) (suc i) q up lt at other =
     let lower : i < length ps = omega (arith, lt) in
     let behind : In q ps = subst (λ (x : ℕ × ℕ). In x ps) at (in-get_or ps i q lower) in
@@ -156,10 +164,12 @@ get_or-map f (p ∷ ps) zero q old lt at read = read ∙ ap f at
 get_or-map f (p ∷ ps) (suc i) q old lt at read = get_or-map f ps i q old (omega (arith, lt)) at read
 
 -- a pair of the router that is shown
-pub with_routers_so_far-more : (summary : List SummaryValue) (router : ℕ) (own ps : List (ℕ × ℕ)) (i : ℕ) (q : ℕ × ℕ)
+pub with_routers_so_far-more : (summary : List SummaryValue) (router : ℕ) (own ps : List (ℕ × ℕ)) (i : ℕ)
+    (q : ℕ × ℕ)
     (old new : (ℕ × ℕ) × List ℕ) → IsStrictlySortedBy key_cmp ps → i < length ps → get_or ps i q ≡ q
     → old ≡ with_routers_so_far summary router own q → new ≡ (old.0, push_unless_last router old.1)
-    → set (map (with_routers_so_far summary router own) ps) i new ≡ map (with_routers_so_far summary router (own ++ q ∷ [])) ps
+    → set (map (with_routers_so_far summary router own) ps) i new
+    ≡ map (with_routers_so_far summary router (own ++ q ∷ [])) ps
 with_routers_so_far-more summary router own ps i q old new up lt at was is =
     let before = routers_below summary router q in
     let put : new ≡ (q, before ++ router ∷ []) =
@@ -170,7 +180,8 @@ with_routers_so_far-more summary router own ps i q old new up lt at was is =
     put ∙ ap (λ (b : Bool). (q, before ++ cond b (router ∷ []) []))
     (sym (is_listed-from_in q (own ++ q ∷ []) (in-push own q))) in
     ap (set (map (with_routers_so_far summary router own) ps) i) now
-    ∙ set-map_sorted (with_routers_so_far summary router own) (with_routers_so_far summary router (own ++ q ∷ [])) ps i q up lt at
+    ∙ set-map_sorted (with_routers_so_far summary router own) (with_routers_so_far summary router (own
+    ++ q ∷ [])) ps i q up lt at
     (with_routers_so_far-other_pair summary router own q)
 
 -- ---- a pair that isn't shown
@@ -183,19 +194,23 @@ index-from_in q (p ∷ ps) (inr h) =
     (suc later.0, (omega (arith, later.1.0), later.1.1))
 
 -- a pair for which the binary search finds only a place between others
-pub with_routers_so_far-absent : (summary : List SummaryValue) (router : ℕ) (own ps seen : List (ℕ × ℕ)) (i : ℕ) (q : ℕ × ℕ)
+pub with_routers_so_far-absent : (summary : List SummaryValue) (router : ℕ) (own ps seen : List (ℕ × ℕ))
+    (i : ℕ) (q : ℕ × ℕ)
     → seen ≡ ps → IsStrictlySortedBy key_cmp ps → i ≤ length seen
     → (IsNonDecreasingBy (λ p. ordering_index (key_cmp p q)) seen
     → IsPartitionPoint (λ p. key_cmp p q ≡ Less) (λ p. key_cmp p q ≡ Greater) seen i)
-    → map (with_routers_so_far summary router own) ps ≡ map (with_routers_so_far summary router (own ++ q ∷ [])) ps
+    → map (with_routers_so_far summary router own) ps
+    ≡ map (with_routers_so_far summary router (own ++ q ∷ [])) ps
 with_routers_so_far-absent summary router own ps seen i q same up le found =
-    map-equal_on_list (with_routers_so_far summary router own) (with_routers_so_far summary router (own ++ q ∷ [])) ps (λ p h.
+    map-equal_on_list (with_routers_so_far summary router own) (with_routers_so_far summary router (own
+    ++ q ∷ [])) ps (λ p h.
     with_routers_so_far-other_pair summary router own q p (λ e.
     let at = index-from_in q ps (subst (λ (x : ℕ × ℕ). In x ps) e h) in
     let equal : key_cmp (get_or ps at.0 q) q ≡ Equal =
     ap (λ (x : ℕ × ℕ). key_cmp x q) at.1.1 ∙ tied_itself key_cmp-total q in
     let whole : insert ps i q ≡ ps =
-    sym (put_pair-at_search_place q ps seen i same up le found) ∙ put_pair-member q q ps at.0 up at.1.0 equal in
+    sym (put_pair-at_search_place q ps seen i same up le found) ∙ put_pair-member q q ps at.0 up at.1.0
+    equal in
     let size = ap length whole in
     let grown = length-insert ps i q (subst (λ (l : List (ℕ × ℕ)). i ≤ length l) same le) in
     absurd (omega (arith, size, grown))))
@@ -220,4 +235,5 @@ pub flat_map-unlisted_pair_lines : (t : TopologyValue) (summary : List SummaryVa
     (map (with_routers t summary) ps) ≡ flat_map (unlisted_pair_lines t summary) ps
 flat_map-unlisted_pair_lines t summary [] = refl
 flat_map-unlisted_pair_lines t summary (p ∷ ps) =
-    ap (λ (rest : List ℕ). unlisted_pair_lines t summary p ++ rest) (flat_map-unlisted_pair_lines t summary ps)
+    ap (λ (rest : List ℕ). unlisted_pair_lines t summary p ++ rest) (flat_map-unlisted_pair_lines t summary
+    ps)

@@ -65,14 +65,16 @@ all_below-visited s missed (suc k) ok lt =
     by : (o : Option ℕ) → AllBelow (length s.domain.topology.lans) (visited_lans s missed k)
         → AllBelow (length s.domain.topology.lans) (visited_after s (visited_lans s missed k) o)
     by None all = all
-    by (Some lan) all = all_below-append_new (length s.domain.topology.lans) (visited_lans s missed k) (next_lans s lan)
+    by (Some lan) all = all_below-append_new (length s.domain.topology.lans) (visited_lans s missed k)
+    (next_lans s lan)
         all (all_below-next_lans s (lines_of_lan s lan) (lines_of_lan-inside s lan ok))
 
 length-visited_at_most_lans : (s : Search) (missed k : ℕ) → PlacesInside s
     → missed < length s.domain.topology.lans
     → length (visited_lans s missed k) ≤ length s.domain.topology.lans
 length-visited_at_most_lans s missed k ok lt =
-    length-of_distinct_below (visited_lans s missed k) (length s.domain.topology.lans) (distinct-visited s missed k)
+    length-of_distinct_below (visited_lans s missed k) (length s.domain.topology.lans)
+    (distinct-visited s missed k)
     (all_below-visited s missed k ok lt)
 
 visited-after_all_lans : (s : Search) (missed more : ℕ) → PlacesInside s
@@ -86,7 +88,8 @@ visited-after_all_lans s missed (suc more) ok lt =
     let few = length-visited_at_most_lans s missed k ok lt in
     ap (visited_lans s missed) (let e : suc more + length s.domain.topology.lans ≡ k + 1 = omega arith in e)
     ∙ visited-more s missed k
-    ∙ ap (visited_after s (visited_lans s missed k)) (slice_get_past (visited_lans s missed k) k (omega (arith, few)))
+    ∙ ap (visited_after s (visited_lans s missed k)) (slice_get_past (visited_lans s missed k) k
+    (omega (arith, few)))
     ∙ visited-after_all_lans s missed more ok lt
 
 -- no more LANs are visited
@@ -94,7 +97,8 @@ pub visited-at_end : (s : Search) (missed k : ℕ) → PlacesInside s
     → missed < length s.domain.topology.lans → length s.domain.topology.lans ≤ k
     → visited_lans s missed k ≡ lans_of_search s missed
 visited-at_end s missed k ok lt le =
-    ap (visited_lans s missed) (let e : k ≡ (k - length s.domain.topology.lans) + length s.domain.topology.lans
+    ap (visited_lans s missed) (let e : k ≡ (k - length s.domain.topology.lans) + length
+    s.domain.topology.lans
     = omega (arith, le) in e)
     ∙ visited-after_all_lans s missed (k - length s.domain.topology.lans) ok lt
 

@@ -14,7 +14,8 @@ use Rattle.mc_forward.specs.Domains.{DomainValue, IsDomain}
 use Rattle.mc_replay.specs.FindingValues.{finding_value}
 use Rattle.mc_maker.specs.ExaminedFlights.{HasExaminedFlights}
 use Rattle.mc_maker.specs.declared.examined_flights.ExaminedFlights.{ExaminedFlights}
-use Rattle.mc_maker.specs.declared.examined_flights.ExaminedFlights.TheVariants.{Certified, FoundAtTtl255, FoundAtFlowTtl}
+use Rattle.mc_maker.specs.declared.examined_flights.ExaminedFlights.TheVariants.{Certified, FoundAtTtl255}
+use Rattle.mc_maker.specs.declared.examined_flights.ExaminedFlights.TheVariants.{FoundAtFlowTtl}
 use Rattle.mc_explain.specs.declared.causes.Cause.{Cause}
 use Rattle.mc_explain.specs.declared.causes.Cause.TheVariants.{TakeOut, LeastTtl, StoppedAt}
 use Rattle.mc_explain.specs.Explained.{IsExplained, circle_cause}
@@ -122,8 +123,8 @@ pub record StopsOnPath (n : Net) (hop : Hop) (left lan : ℕ) : Type 0 where
   pub is_hop : IsHop n hop
   pub stopped : IsStopped n.ttl path hop left
 
--- These causes have the least TTL of a LAN, and a packet with the flow's TTL comes to this vif with TTL `left`
--- on a path to that LAN, and is stopped there.
+-- These causes have the least TTL of a LAN, and a packet with the flow's TTL comes to this vif with TTL
+-- `left` on a path to that LAN, and is stopped there.
 abbrev pub StopsShortOfLan : Net → List Cause → (router vif threshold left : ℕ) → Type 0
 StopsShortOfLan n causes router vif threshold left =
     (hop : Hop) × (lan : ℕ) × (least : ℕ) × In (LeastTtl lan least) causes

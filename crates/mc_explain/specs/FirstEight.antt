@@ -21,4 +21,5 @@ first_lans_text t s = flat_map (lan_after_space t) s.first ++ more_text (s.count
 
 -- exactly the LANs of these copies are marked
 abbrev pub AreMarksOfCopies : List Bool → List Copy → Type 0
-AreMarksOfCopies marks copies = (lan : ℕ) → slice_index_or marks lan false ≡ is_some (first_copy_on copies lan)
+AreMarksOfCopies marks copies =
+    (lan : ℕ) → slice_index_or marks lan false ≡ is_some (first_copy_on copies lan)

@@ -40,7 +40,8 @@ pub record Search : Type 0 where
   pub first_copy_on : ℕ → Option Copy
 
 -- the search of the flow with this number in a domain
-abbrev pub search_of : DomainValue → (flow : ℕ) → List SummaryValue → (excluded : List Bool) → List Copy → Search
+abbrev pub search_of : DomainValue → (flow : ℕ) → List SummaryValue → (excluded : List Bool) → List Copy
+    → Search
 search_of d flow summary excluded copies = record {
   domain = facts d;
   flow = flow;
@@ -234,7 +235,8 @@ visited_after s visited_lans (Some lan) = append_new visited_lans (next_lans s l
 -- the visited LANs, in order, after the first ones of them are searched, as many as there are steps
 abbrev pub visited_lans : Search → (missed : ℕ) → (steps : ℕ) → List ℕ
 visited_lans s missed zero = missed ∷ []
-visited_lans s missed (suc k) = visited_after s (visited_lans s missed k) (slice_get (visited_lans s missed k) k)
+visited_lans s missed (suc k) =
+    visited_after s (visited_lans s missed k) (slice_get (visited_lans s missed k) k)
 
 -- ---- the search
 

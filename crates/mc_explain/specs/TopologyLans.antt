@@ -50,7 +50,8 @@ listed_interface_at d k = listed_interface_of d k (interface_at d.topology k)
 -- the interfaces on a LAN, by router and then in the topology's order
 abbrev pub interfaces_on_lan : DomainFacts → (lan : ℕ) → List ListedInterface
 interfaces_on_lan d lan =
-    map (listed_interface_at d) (filter (λ k. (interface_at d.topology k).lan == lan) (interfaces_by_router d.topology))
+    map (listed_interface_at d) (filter (λ k. (interface_at d.topology k).lan == lan)
+    (interfaces_by_router d.topology))
 
 -- those of each LAN
 abbrev pub interfaces_on_lans : DomainFacts → List (List ListedInterface)

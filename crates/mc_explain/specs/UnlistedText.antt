@@ -5,7 +5,8 @@ use Rattle.std.specs.Prelude.{◌≡◌, sum_by}
 use Rattle.mc_text.specs.Addr.{dotted, first_octet}
 use Rattle.mc_tables.specs.CacheTable.{RowValue}
 use Rattle.mc_tables.specs.ListedRows.{is_listed}
-use Rattle.mc_tables.specs.Summary.{SummaryValue, group_first, in_order, shown_pairs, summary_of, unlisted_keys}
+use Rattle.mc_tables.specs.Summary.{SummaryValue, group_first, in_order, shown_pairs, summary_of}
+use Rattle.mc_tables.specs.Summary.{unlisted_keys}
 use Rattle.mc_topology.specs.Topology.{TopologyValue}
 use Rattle.mc_theory.specs.Lists.{In, below}
 use Rattle.mc_explain.specs.RouterText.{routers_text}
@@ -52,7 +53,8 @@ routers_with_row t listed caches pair =
     filter (λ router. has_unlisted_row listed pair (slice_get caches router)) (below (length t.routers))
 
 -- each pair that is shown of these caches is shown with all routers whose caches have a row of it
-abbrev pub ShownPairsHaveAllRouters : (all : Bool) → TopologyValue → (listed : List (ℕ × ℕ)) → List (List RowValue)
+abbrev pub ShownPairsHaveAllRouters : (all : Bool) → TopologyValue → (listed : List (ℕ × ℕ))
+    → List (List RowValue)
     → Type 0
 ShownPairsHaveAllRouters all t listed caches =
     (pair : ℕ × ℕ) → In pair (shown_unlisted_pairs all (summaries_of all listed caches)) →
@@ -89,7 +91,8 @@ count_rows_of_pairs t summary pairs = sum_by (λ pair. length (routers_with t su
 
 -- how many rows there are besides those of the shown pairs
 abbrev pub further_rows : (all : Bool) → TopologyValue → List SummaryValue → ℕ
-further_rows all t summary = count_unlisted_rows summary - count_rows_of_pairs t summary (shown_unlisted_pairs all summary)
+further_rows all t summary =
+    count_unlisted_rows summary - count_rows_of_pairs t summary (shown_unlisted_pairs all summary)
 
 abbrev pub further_text : ℕ → List ℕ
 further_text more =
@@ -99,4 +102,5 @@ further_text more =
 
 abbrev pub unlisted_text : (all : Bool) → TopologyValue → List SummaryValue → List ℕ
 unlisted_text all t summary =
-    flat_map (unlisted_pair_lines t summary) (shown_unlisted_pairs all summary) ++ further_text (further_rows all t summary)
+    flat_map (unlisted_pair_lines t summary) (shown_unlisted_pairs all summary)
+    ++ further_text (further_rows all t summary)

@@ -26,8 +26,8 @@ pub enum Cause {
         /// The vif by which it sends, 0 to 31.
         vif: u8,
     },
-    /// If this vif is taken out of the router's row, the LAN's second copy isn't sent, and packets with
-    /// at least this TTL still reach each LAN that they reached before.
+    /// If this vif is taken out of the router's row, the LAN's second copy isn't sent, and packets with a
+    /// TTL of at least `least` still reach each LAN that they reached before.
     TakeOut {
         /// The LAN that carried two copies.
         lan: LanNo,

@@ -38,7 +38,7 @@ impl fmt::Display for ShownByte {
     }
 }
 
-/// A device's name, such as `eth1`, with its unprintable bytes escaped.
+/// A device's name, such as `eth1`. The backslash, and bytes outside 0x21 to 0x7e, are escaped as `\xhh`.
 #[derive(Clone, Copy, Drop)]
 pub struct ShownDeviceName<'n> {
     /// Its bytes.

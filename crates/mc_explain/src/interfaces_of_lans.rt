@@ -118,7 +118,8 @@ fn add_interfaces(
     requires numbers { All (λ k. k < length domain.now.topology.interfaces) numbers.now }
     requires lans { length lists.old.items ≡ length domain.now.topology.lans }
     ensures count { length lists.new.items ≡ length domain.now.topology.lans }
-    ensures each { OnOk result ((earlier : List ℕ) → AreInterfacesByLan (facts domain.now) lists.old.items earlier →
+    ensures each { OnOk result ((earlier : List ℕ) →
+        AreInterfacesByLan (facts domain.now) lists.old.items earlier →
         AreInterfacesByLan (facts domain.now) lists.new.items (earlier ++ numbers.now)) }
 {
     for number in numbers {

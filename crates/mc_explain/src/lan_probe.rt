@@ -35,7 +35,7 @@ pub(crate) struct LanProbe<'s> {
     pub(crate) first_copies: &'s FirstCopies,
 }
 
-/// Whether an entry sends by a vif. It sends by none if there is none.
+/// Whether there is a vif and an entry sends by it.
 fn sends_by_known_vif(entry: &Entry<'_>, vif: Option<u8>) -> bool
     requires valid { IsValidEntry entry.now }
     ensures value { result ≡ sends_by_known_vif vif (oif_pairs entry.now.oifs) }
@@ -224,7 +224,7 @@ impl<'s> LanProbe<'s> {
 
     /// The routers that have an interface on the LAN in the topology.
     pub(crate) fn routers_on(&self, lan: LanNo) -> RoutersOnLan<'s>
-        requires lan_probe { IsLanProbe self.now }
+        requires valid { IsLanProbe self.now }
         requires lan { lan < length self.now.view.now.domain.topology.lans }
         ensures value { result ≡ routers_on (search_in self.now) lan }
     {
@@ -253,7 +253,7 @@ impl<'s> LanProbe<'s> {
 
     /// Adds the lines of all routers on the LAN.
     fn add_lines_of_routers(&self, lines: &mut Vec<SearchLine>, lan: LanNo) -> Result<(), Memory>
-        requires lan_probe { IsLanProbe self.now }
+        requires valid { IsLanProbe self.now }
         requires lan { lan < length self.now.view.now.domain.topology.lans }
         ensures added { OnOk result (lines.new.items ≡ lines.old.items
             ++ flat_map (router_lines (search_in self.now) lan)
@@ -274,7 +274,7 @@ impl<'s> LanProbe<'s> {
 
     /// Adds a line for each router that has a row that takes from the LAN.
     fn add_expected_lines(&self, lines: &mut Vec<SearchLine>, lan: LanNo) -> Result<(), Memory>
-        requires lan_probe { IsLanProbe self.now }
+        requires valid { IsLanProbe self.now }
         requires lan { lan < length self.now.view.now.domain.topology.lans }
         ensures added { OnOk result (lines.new.items ≡ lines.old.items
             ++ flat_map (expected_lines (search_in self.now) lan)
@@ -308,7 +308,7 @@ impl<'s> LanProbe<'s> {
 
     /// Whether some router on the LAN sends onto it, or is excluded.
     fn has_possible_sender(&self, lan: LanNo) -> bool
-        requires lan_probe { IsLanProbe self.now }
+        requires valid { IsLanProbe self.now }
         requires lan { lan < length self.now.view.now.domain.topology.lans }
         ensures value { result ≡ list_any (may_send_here (search_in self.now))
             (routers_on (search_in self.now) lan) }
@@ -327,7 +327,7 @@ impl<'s> LanProbe<'s> {
         lines: &mut Vec<SearchLine>,
         lan: LanNo,
     ) -> Result<(), Memory>
-        requires lan_probe { IsLanProbe self.now }
+        requires valid { IsLanProbe self.now }
         requires lan { lan < length self.now.view.now.domain.topology.lans }
         ensures added { OnOk result (lines.new.items ≡
             lines.old.items ++ lines_of_lan (search_in self.now) lan) }

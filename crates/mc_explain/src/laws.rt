@@ -34,7 +34,8 @@ pub fn circle_of_loop_is_closed()
         AreCausesOf d flow flights causes → final_finding flights ≡ Loop lan →
         IsClosedCircle (net_of d flow) lan causes }
     // Each cause is a row's hop: it takes from the one LAN and sends onto the other.
-    ensures hops { (d : DomainValue) (flow from onto router vif : ℕ) → IsReported d flow (Circle from onto router vif) →
+    ensures hops { (d : DomainValue) (flow from onto router vif : ℕ) →
+        IsReported d flow (Circle from onto router vif) →
         (h : Hop) × IsHop (net_of d flow) h × (circle_cause h ≡ Circle from onto router vif) }
 {}
 
@@ -80,8 +81,8 @@ pub fn every_source_row_is_reached()
 
 /// Packets with the reported least TTL or more reach the LAN, and none with less. The flow's TTL is less.
 pub fn reported_ttl_is_least()
-    ensures least { (d : DomainValue) (flow lan least t : ℕ) → IsReported d flow (LeastTtl lan least) → 1 ≤ t →
-        t ≤ 255 → IsReachedWithTtl (net_of d flow) t lan ↔ (least ≤ t) }
+    ensures least { (d : DomainValue) (flow lan least t : ℕ) → IsReported d flow (LeastTtl lan least) →
+        1 ≤ t → t ≤ 255 → IsReachedWithTtl (net_of d flow) t lan ↔ (least ≤ t) }
     ensures range { (d : DomainValue) (flow lan least : ℕ) → IsReported d flow (LeastTtl lan least) →
         ((net_of d flow).ttl < least) × (least ≤ 255) }
 {}
@@ -96,8 +97,8 @@ pub fn reported_stop_stops_packet()
 
 /// The domain and the flights determine the causes: no others explain the flow.
 pub fn causes_are_unique()
-    ensures { (d : DomainValue) (flow : ℕ) (flights : ExaminedFlights) (causes others : List Cause) → IsDomain d →
-        IsExplained d flow flights causes → IsExplained d flow flights others → causes ≡ others }
+    ensures { (d : DomainValue) (flow : ℕ) (flights : ExaminedFlights) (causes others : List Cause) →
+        IsDomain d → IsExplained d flow flights causes → IsExplained d flow flights others → causes ≡ others }
 {}
 
 /// If a packet with TTL 255 has no finding, then one with the flow's TTL has none, or misses a LAN.

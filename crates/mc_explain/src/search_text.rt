@@ -7,15 +7,17 @@ ghost use Rattle.mc_forward.specs.FlightsInDomain.{net_in};
 ghost use Rattle.mc_forward.specs.ListedTables.{facts};
 ghost use Rattle.mc_explain.specs.FirstEight.{IsFirstEightOf};
 ghost use Rattle.mc_explain.specs.ExplanationText.{ForListedFlow};
-ghost use Rattle.mc_explain.specs.SearchContext.{first_lines_text_in, search_line_text_in, shown_line_text_in};
+ghost use Rattle.mc_explain.specs.SearchContext.{first_lines_text_in, search_line_text_in};
+ghost use Rattle.mc_explain.specs.SearchContext.{shown_line_text_in};
 ghost use Rattle.mc_explain.specs.SearchReach.{lan_search_text};
 ghost use Rattle.mc_explain.specs.SearchText.{carries_text, expected_text, from_no_lan_text, interface_text};
-ghost use Rattle.mc_explain.specs.SearchText.{more_lines_text, no_lan_reason, lan_line_text, router_line_text};
-ghost use Rattle.mc_explain.specs.SearchText.{lan_router_text, reach_text, routers_line};
+ghost use Rattle.mc_explain.specs.SearchText.{more_lines_text, no_lan_reason, lan_line_text};
+ghost use Rattle.mc_explain.specs.SearchText.{router_line_text, lan_router_text, reach_text, routers_line};
 ghost use Rattle.mc_explain.specs.ShownLines.{shown_lines};
 ghost use Rattle.mc_explain.specs.declared.search_line.SearchLine.TheVariants.{DoesNotSend, FromUnplaced};
 ghost use Rattle.mc_explain.specs.declared.search_line.SearchLine.TheVariants.{NotMulticast, NoVif};
-ghost use Rattle.mc_explain.specs.declared.search_line.SearchLine.TheVariants.{EverySource, Stopped, WaitsFor};
+ghost use Rattle.mc_explain.specs.declared.search_line.SearchLine.TheVariants.{EverySource, Stopped};
+ghost use Rattle.mc_explain.specs.declared.search_line.SearchLine.TheVariants.{WaitsFor};
 
 use crate::device_text::{NO_DEVICE, ShownDevice, ShownDeviceName};
 use crate::every_source_row::ShownEverySource;
@@ -276,7 +278,7 @@ fn push_from_unplaced(
     writeln!(text, "{place} expects it from {incoming}, {reason}: {row}")
 }
 
-/// What a LAN carries, if it carried a copy or none.
+/// How a line says whether a LAN carried a copy.
 fn carries_text(carried: bool) -> &'static str
     ensures { result.now ≡ carries_text carried }
 {

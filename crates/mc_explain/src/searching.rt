@@ -38,12 +38,14 @@ fn add_next_lans(
     lines: &[SearchLine],
 ) -> Result<(), Memory>
     requires lan_probe { IsLanProbe lan_probe.now }
-    requires visited_lans { IsVisitedLans (length lan_probe.now.view.now.domain.topology.lans) visited_lans.old }
+    requires visited_lans { IsVisitedLans (length lan_probe.now.view.now.domain.topology.lans)
+        visited_lans.old }
     requires lines { All (λ line. IfSome (next_lan (search_in lan_probe.now) line)
         (λ lan. lan < length lan_probe.now.view.now.domain.topology.lans)) lines.now }
     ensures lans { OnOk result (visited_lans.new.lans.items ≡
         append_new visited_lans.old.lans.items (filter_map (next_lan (search_in lan_probe.now)) lines.now)) }
-    ensures visited_lans { OnOk result (IsVisitedLans (length lan_probe.now.view.now.domain.topology.lans) visited_lans.new) }
+    ensures visited_lans { OnOk result (IsVisitedLans (length lan_probe.now.view.now.domain.topology.lans)
+        visited_lans.new) }
 {
     for line in lines {
         if let Some(lan) = lan_probe.next_lan(line) {
@@ -61,13 +63,15 @@ fn search_one_lan(
     lan: LanNo,
 ) -> Result<(), Memory>
     requires lan_probe { IsLanProbe lan_probe.now }
-    requires visited_lans { IsVisitedLans (length lan_probe.now.view.now.domain.topology.lans) visited_lans.old }
+    requires visited_lans { IsVisitedLans (length lan_probe.now.view.now.domain.topology.lans)
+        visited_lans.old }
     requires lan { lan < length lan_probe.now.view.now.domain.topology.lans }
     ensures lines_so_far { OnOk result (lines_so_far.new.items ≡
         lines_so_far.old.items ++ lines_of_lan (search_in lan_probe.now) lan) }
     ensures lans { OnOk result (visited_lans.new.lans.items ≡
         append_new visited_lans.old.lans.items (next_lans (search_in lan_probe.now) lan)) }
-    ensures visited_lans { OnOk result (IsVisitedLans (length lan_probe.now.view.now.domain.topology.lans) visited_lans.new) }
+    ensures visited_lans { OnOk result (IsVisitedLans (length lan_probe.now.view.now.domain.topology.lans)
+        visited_lans.new) }
 {
     let _rules = lan_probe.view.topology();
     let before = lines_so_far.len();

@@ -5,7 +5,8 @@ ghost use Rattle.std.specs.Prelude.{sum_by};
 ghost use Rattle.std.specs.List.Sorted.{IsStrictlySortedBy};
 ghost use Rattle.mc_tables.specs.CacheTable.{key_cmp};
 ghost use Rattle.mc_tables.specs.Summary.{in_order, shown_pairs};
-ghost use Rattle.mc_explain.specs.UnlistedPairs.{AreUnlistedPairs, push_unless_last, with_routers_below, with_routers};
+ghost use Rattle.mc_explain.specs.UnlistedPairs.{AreUnlistedPairs, push_unless_last, with_routers};
+ghost use Rattle.mc_explain.specs.UnlistedPairs.{with_routers_below};
 ghost use Rattle.mc_explain.specs.UnlistedText.{shown_unlisted_pairs, pairs_in, count_unlisted_rows};
 
 use mc_tables::CacheSummary;

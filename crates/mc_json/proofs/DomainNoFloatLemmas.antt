@@ -10,7 +10,8 @@ use Rattle.serde_json.specs.Data.{Data, string}
 use Rattle.serde_json.specs.Written.{has_float}
 use Rattle.mc_json.specs.DomainData.{domain_data, interfaces_data, lan_or_null, parts_data, source_data}
 use Rattle.mc_json.specs.DomainData.{unmatched_data, unmatched_data_of, vif_data, vifs_data}
-use Rattle.mc_json.proofs.NoFloatLemmas.{HaveNoFloat, no_float-append, no_float-map, no_float-lans, no_float-routers}
+use Rattle.mc_json.proofs.NoFloatLemmas.{HaveNoFloat, no_float-append, no_float-map, no_float-lans}
+use Rattle.mc_json.proofs.NoFloatLemmas.{no_float-routers}
 
 -- items with several values each
 no_float-flat_map : {A : Type 0} (f : A → List Data) → ((x : A) → HaveNoFloat (f x)) → (xs : List A)
@@ -23,7 +24,8 @@ no_float-lan_or_null : (t : TopologyValue) (o : Option ℕ) → has_float (lan_o
 no_float-lan_or_null t None = refl
 no_float-lan_or_null t (Some lan) = refl
 
-no_float-vif_data : (d : DomainFacts) (router vif : ℕ) (o : Option VifValue) → HaveNoFloat (vif_data d router vif o)
+no_float-vif_data : (d : DomainFacts) (router vif : ℕ) (o : Option VifValue)
+    → HaveNoFloat (vif_data d router vif o)
 no_float-vif_data d router vif None = refl
 no_float-vif_data d router vif (Some v) = rw (no_float-lan_or_null d.topology ((d.nets 0).placed router vif))
 
@@ -32,7 +34,8 @@ no_float-vifs_data d router =
     no_float-flat_map (λ vif. vif_data d router vif (d.vifs router vif))
     (λ vif. no_float-vif_data d router vif (d.vifs router vif)) (below 32)
 
-no_float-unmatched_data : (o : Option ℕ) (t : TopologyValue) (i : InterfaceRow) → HaveNoFloat (unmatched_data_of o t i)
+no_float-unmatched_data : (o : Option ℕ) (t : TopologyValue) (i : InterfaceRow)
+    → HaveNoFloat (unmatched_data_of o t i)
 no_float-unmatched_data None t i = refl
 no_float-unmatched_data (Some vif) t i = refl
 

@@ -19,7 +19,8 @@ use Rattle.mc_json.specs.EndData.{without_line_of}
 use Rattle.mc_json.specs.FlowData.{right_data, tree_data, wrong_data, wrong_line, wrong_flow_of}
 use Rattle.mc_json.specs.ObjectLines.{AreObjectLines}
 use Rattle.mc_json.specs.RowData.{line_of}
-use Rattle.mc_json.proofs.ObjectLemmas.{are_object_lines-append, are_object_lines-flat_map, are_object_lines-none, are_object_lines-one}
+use Rattle.mc_json.proofs.ObjectLemmas.{are_object_lines-append, are_object_lines-flat_map}
+use Rattle.mc_json.proofs.ObjectLemmas.{are_object_lines-none, are_object_lines-one}
 
 pub are_object_lines-domain : (d : DomainFacts) (words : List (List ℕ))
     → AreObjectLines (line_of (domain_data d words))
@@ -50,7 +51,8 @@ pub are_object_lines-wrong : (d : DomainFacts) (number : ℕ) (f : Flow) (found_
     (events : List Event) (also : List ℕ) (why : List Data) (events_asked : Bool)
     → AreObjectLines (wrong_line d number f found_ttl finding events also why events_asked)
 are_object_lines-wrong d number f found_ttl finding events also why events_asked =
-    are_object_lines-wrong_flow number f (wrong_flow_of d.topology found_ttl finding events also why events_asked)
+    are_object_lines-wrong_flow number f (wrong_flow_of d.topology found_ttl finding events also why
+    events_asked)
 
 -- ---- after the flows
 
@@ -72,13 +74,16 @@ are_object_lines-all_unlisted all t summary =
     let pairs = map (with_routers t summary) (shown_unlisted_pairs all summary) in
     let more = further_rows all t summary in
     are_object_lines-append (flat_map (unlisted_line t) pairs) (unlisted_more_line more)
-    (are_object_lines-flat_map (unlisted_line t) pairs (λ pair. are_object_lines-unlisted t pair.0.1 pair.0.0 pair.1))
+    (are_object_lines-flat_map (unlisted_line t) pairs (λ pair. are_object_lines-unlisted t pair.0.1
+    pair.0.0 pair.1))
     (are_object_lines-unlisted_more more (more == 0))
 
-are_object_lines-without_line_of : (t : TopologyValue) (routers : List ℕ) → AreObjectLines (without_line_of t routers)
+are_object_lines-without_line_of : (t : TopologyValue) (routers : List ℕ)
+    → AreObjectLines (without_line_of t routers)
 unfolding escape_byte
 are_object_lines-without_line_of t [] = are_object_lines-none
-are_object_lines-without_line_of t (router ∷ routers) = are_object_lines-one (without_data t (router ∷ routers)) refl refl
+are_object_lines-without_line_of t (router ∷ routers) = are_object_lines-one
+    (without_data t (router ∷ routers)) refl refl
 
 pub are_object_lines-without : (t : TopologyValue) (excluded : List Bool)
     → AreObjectLines (without_line t excluded)
@@ -87,4 +92,5 @@ are_object_lines-without t excluded = are_object_lines-without_line_of t (exclud
 pub are_object_lines-summary : (right unwanted wrong : ℕ)
     → AreObjectLines (line_of (summary_data right unwanted wrong))
 unfolding escape_byte
-are_object_lines-summary right unwanted wrong = are_object_lines-one (summary_data right unwanted wrong) refl refl
+are_object_lines-summary right unwanted wrong = are_object_lines-one (summary_data right unwanted wrong)
+    refl refl

@@ -61,18 +61,21 @@ no_float-oif_data d router p = rw (no_float-device_data (d.vifs router p.0))
 no_float-entry_data : (d : DomainFacts) (router source group incoming : ℕ) (pairs : List (ℕ × ℕ))
     → has_float (entry_data d router source group incoming pairs) ≡ false
 no_float-entry_data d router source group incoming pairs =
-    rw (no_float-device_data (d.vifs router incoming), no_float-map (oif_data d router) (no_float-oif_data d router) pairs)
+    rw (no_float-device_data (d.vifs router incoming), no_float-map (oif_data d router)
+    (no_float-oif_data d router) pairs)
 
 pub no_float-row_data : (d : DomainFacts) (f : Flow) (router : ℕ) (row : Row)
     → has_float (row_data d f router row) ≡ false
-no_float-row_data d f router (Exact incoming pairs) = no_float-entry_data d router f.source f.group incoming pairs
+no_float-row_data d f router (Exact incoming pairs) = no_float-entry_data d router f.source f.group incoming
+    pairs
 no_float-row_data d f router Open = refl
 no_float-row_data d f router NoRow = refl
 
 pub no_float-every_source_row_data : (d : DomainFacts) (router : ℕ) (o : Option (ℕ × EntryValue))
     → has_float (every_source_row_data d router o) ≡ false
 no_float-every_source_row_data d router None = refl
-no_float-every_source_row_data d router (Some row) = no_float-entry_data d router 0 row.0 row.1.iif (oif_pairs row.1.oifs)
+no_float-every_source_row_data d router (Some row) = no_float-entry_data d router 0 row.0 row.1.iif
+    (oif_pairs row.1.oifs)
 
 pub no_float-incoming_device : (d : DomainFacts) (router : ℕ) (row : Row)
     → has_float (incoming_device d router row) ≡ false
@@ -98,13 +101,16 @@ no_float-cause_data d summary number f (Circle from onto router vif) =
       no_float-row_data d f router ((d.nets number).row router),
       no_float-device_data (d.vifs router vif),
     )
-no_float-cause_data d summary number f (TakeOut lan router vif least) = rw (no_float-device_data (d.vifs router vif))
+no_float-cause_data d summary number f (TakeOut lan router vif least) =
+    rw (no_float-device_data (d.vifs router vif))
 no_float-cause_data d summary number f (Unplaced router vif) =
     rw (no_float-device_data (d.vifs router vif), no_float-row_data d f router ((d.nets number).row router))
 no_float-cause_data d summary number f (LeastTtl lan least) = refl
 no_float-cause_data d summary number f (OnlyEverySource router vif) =
-    rw (no_float-device_data (d.vifs router vif), no_float-every_source_row_data d router (every_source_of summary f.group router))
-no_float-cause_data d summary number f (StoppedAt router vif threshold ttl) = rw (no_float-device_data (d.vifs router vif))
+    rw (no_float-device_data (d.vifs router vif), no_float-every_source_row_data d router
+    (every_source_of summary f.group router))
+no_float-cause_data d summary number f (StoppedAt router vif threshold ttl) =
+    rw (no_float-device_data (d.vifs router vif))
 
 pub no_float-causes_data : (d : DomainFacts) (summary : List SummaryValue) (number : ℕ) (f : Flow)
     (causes : List Cause) → HaveNoFloat (causes_data d summary number f causes)
@@ -185,7 +191,8 @@ pub no_float-wrong_flow_of : (number : ℕ) (f : Flow) (t : TopologyValue) (foun
     → has_float (wrong_data number f (wrong_flow_of t found_ttl finding events also why events_asked)) ≡ false
 no_float-wrong_flow_of number f t found_ttl finding events also why events_asked because =
     no_float-wrong_data number f (map (lan_data t) also) (events_if_asked t events_asked events)
-    (finding_data t finding) found_ttl why (no_float-lans t also) (no_float-events_if_asked t events_asked events)
+    (finding_data t finding) found_ttl why (no_float-lans t also) (no_float-events_if_asked t events_asked
+    events)
     (no_float-finding_data t finding) because
 
 -- ---- after the flows
@@ -197,5 +204,6 @@ pub no_float-unlisted_data : (t : TopologyValue) (source group : ℕ) (routers :
     → has_float (unlisted_data t source group routers) ≡ false
 no_float-unlisted_data t source group routers = rw (no_float-routers t routers)
 
-pub no_float-without_data : (t : TopologyValue) (routers : List ℕ) → has_float (without_data t routers) ≡ false
+pub no_float-without_data : (t : TopologyValue) (routers : List ℕ) → has_float (without_data t routers)
+    ≡ false
 no_float-without_data t routers = rw (no_float-routers t routers)

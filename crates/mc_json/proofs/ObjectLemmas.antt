@@ -52,7 +52,8 @@ are_object_lines-none = record {
   spelled = refl;
 }
 
-pub are_object_lines-append : (xs ys : List ℕ) → AreObjectLines xs → AreObjectLines ys → AreObjectLines (xs ++ ys)
+pub are_object_lines-append : (xs ys : List ℕ) → AreObjectLines xs → AreObjectLines ys
+    → AreObjectLines (xs ++ ys)
 are_object_lines-append xs ys p q = record {
   lines = p.lines ++ q.lines;
   begins = λ line h. elim (in-append_cases line p.lines q.lines h) [

@@ -21,16 +21,19 @@ use Rattle.serde_json.specs.Written.{has_float}
 use Rattle.mc_json.specs.SearchData.{expected_line, search_data, search_line_data, shown_line_data}
 use Rattle.mc_json.specs.CauseData.{causes_data}
 use Rattle.mc_json.specs.WhyData.{search_data_if_any, why_data}
-use Rattle.mc_json.proofs.NoFloatLemmas.{HaveNoFloat, no_float-causes_data, no_float-append, no_float-device_data}
+use Rattle.mc_json.proofs.NoFloatLemmas.{HaveNoFloat, no_float-causes_data, no_float-append}
+use Rattle.mc_json.proofs.NoFloatLemmas.{no_float-device_data}
 use Rattle.mc_json.proofs.NoFloatLemmas.{no_float-incoming_device}
-use Rattle.mc_json.proofs.NoFloatLemmas.{no_float-incoming_vif, no_float-map, no_float-every_source_row_data, no_float-routers}
+use Rattle.mc_json.proofs.NoFloatLemmas.{no_float-incoming_vif, no_float-map}
+use Rattle.mc_json.proofs.NoFloatLemmas.{no_float-every_source_row_data, no_float-routers}
 use Rattle.mc_json.proofs.NoFloatLemmas.{no_float-row_data}
 
 no_float-expected_line : (t : TopologyValue) (lan : ℕ) (routers : List ℕ)
     → has_float (expected_line t lan routers) ≡ false
 no_float-expected_line t lan routers = rw (no_float-routers t routers)
 
-no_float-search_line_data : (d : DomainFacts) (summary : List SummaryValue) (number : ℕ) (f : Flow) (line : SearchLine)
+no_float-search_line_data : (d : DomainFacts) (summary : List SummaryValue) (number : ℕ) (f : Flow)
+    (line : SearchLine)
     → has_float (search_line_data d summary number f line) ≡ false
 no_float-search_line_data d summary number f (NoVif lan router interface) = refl
 no_float-search_line_data d summary number f (NotMulticast lan router interface) = refl
@@ -59,10 +62,12 @@ no_float-search_line_data d summary number f (NoRouter lan) = refl
 no_float-search_line_data d summary number f (NoSender lan) = refl
 no_float-search_line_data d summary number f (Excluded lan router) = refl
 
-no_float-shown_line_data : (d : DomainFacts) (summary : List SummaryValue) (number : ℕ) (f : Flow) (line : ShownLine)
+no_float-shown_line_data : (d : DomainFacts) (summary : List SummaryValue) (number : ℕ) (f : Flow)
+    (line : ShownLine)
     → has_float (shown_line_data d summary number f line) ≡ false
 no_float-shown_line_data d summary number f (One line) = no_float-search_line_data d summary number f line
-no_float-shown_line_data d summary number f (Expected lan routers) = no_float-expected_line d.topology lan routers
+no_float-shown_line_data d summary number f (Expected lan routers) = no_float-expected_line d.topology lan
+    routers
 
 no_float-search_data : (d : DomainFacts) (summary : List SummaryValue) (number : ℕ) (f : Flow)
     (lines : List SearchLine) (sent_on took_none : List ℕ)
@@ -70,16 +75,19 @@ no_float-search_data : (d : DomainFacts) (summary : List SummaryValue) (number :
 unfolding search_data
 no_float-search_data d summary number f lines sent_on took_none =
     rw (no_float-routers d.topology sent_on, no_float-routers d.topology took_none)
-    (no_float-map (shown_line_data d summary number f) (no_float-shown_line_data d summary number f) (shown_lines lines))
+    (no_float-map (shown_line_data d summary number f) (no_float-shown_line_data d summary number f)
+    (shown_lines lines))
 
-no_float-search_data_if_any : (d : DomainFacts) (summary : List SummaryValue) (number : ℕ) (f : Flow) (search : Option LanSearch)
+no_float-search_data_if_any : (d : DomainFacts) (summary : List SummaryValue) (number : ℕ) (f : Flow)
+    (search : Option LanSearch)
     → HaveNoFloat (search_data_if_any d summary number f search)
 no_float-search_data_if_any d summary number f None = refl
 no_float-search_data_if_any d summary number f (Some found) =
     no_float-search_data d summary number f found.lines.items found.reach.sent_on.items
     found.reach.took_none.items
 
-pub no_float-why_data : (d : DomainFacts) (summary : List SummaryValue) (number : ℕ) (f : Flow) (causes : List Cause)
+pub no_float-why_data : (d : DomainFacts) (summary : List SummaryValue) (number : ℕ) (f : Flow)
+    (causes : List Cause)
     (search : Option LanSearch) → HaveNoFloat (why_data d summary number f causes search)
 no_float-why_data d summary number f causes search =
     no_float-append (causes_data d summary number f causes) (search_data_if_any d summary number f search)

@@ -15,13 +15,16 @@ abbrev pub cause_data_in : LineContext → Cause → List Data
 cause_data_in c cause = cause_data (facts c.view.now.domain) c.summary.now c.view.now.flow c.flow.now cause
 
 abbrev pub causes_data_in : LineContext → List Cause → List Data
-causes_data_in c causes = causes_data (facts c.view.now.domain) c.summary.now c.view.now.flow c.flow.now causes
+causes_data_in c causes =
+    causes_data (facts c.view.now.domain) c.summary.now c.view.now.flow c.flow.now causes
 
 abbrev pub search_line_data_in : LineContext → SearchLine → Data
-search_line_data_in c line = search_line_data (facts c.view.now.domain) c.summary.now c.view.now.flow c.flow.now line
+search_line_data_in c line =
+    search_line_data (facts c.view.now.domain) c.summary.now c.view.now.flow c.flow.now line
 
 abbrev pub shown_line_data_in : LineContext → ShownLine → Data
-shown_line_data_in c line = shown_line_data (facts c.view.now.domain) c.summary.now c.view.now.flow c.flow.now line
+shown_line_data_in c line =
+    shown_line_data (facts c.view.now.domain) c.summary.now c.view.now.flow c.flow.now line
 
 abbrev pub search_data_in : LineContext → LanSearch → List Data
 search_data_in c found =

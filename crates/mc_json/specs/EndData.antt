@@ -27,7 +27,8 @@ unlisted_data t source group routers = single_member (codes "unlisted") (object_
 
 -- how many further unlisted rows there are
 abbrev pub unlisted_more_data : (rows : ℕ) → Data
-unlisted_more_data rows = single_member (codes "unlisted_more") (single_member (codes "rows") (count_data rows))
+unlisted_more_data rows =
+    single_member (codes "unlisted_more") (single_member (codes "rows") (count_data rows))
 
 -- the line of a shown pair of a group and a source, with all routers that have a row of it
 abbrev pub unlisted_line : TopologyValue → (pair : (ℕ × ℕ) × List ℕ) → List ℕ

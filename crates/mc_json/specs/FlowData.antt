@@ -117,7 +117,8 @@ abbrev pub event_data : TopologyValue → Event → Data
 event_data t e = outcome_data t e e.outcome
 
 -- the members that each flow has that isn't right, by the TTL of its finding
-abbrev pub each_wrong_members : (number : ℕ) → Flow → (found_ttl : ℕ) → (why : List Data) → List (List ℕ × Data)
+abbrev pub each_wrong_members : (number : ℕ) → Flow → (found_ttl : ℕ) → (why : List Data)
+    → List (List ℕ × Data)
 each_wrong_members number f found_ttl why =
     (codes "flow", count_data (number + 1))
     ∷ (codes "found_ttl", count_data found_ttl)
@@ -175,14 +176,14 @@ abbrev pub also_missed_by : FinishedTravel → List ℕ
 also_missed_by e =
     missed_besides (facts e.flight.domain) e.flight.flow e.flight.flight.carried e.travel.finding
 
--- by the finished travel that shows it
+-- the flow by the finished travel that shows its fault
 abbrev pub wrong_flow_of_travel : FinishedTravel → (found_ttl : ℕ) → (why : List Data) → (events_asked : Bool)
     → WrongFlow
 wrong_flow_of_travel e found_ttl why events_asked =
-    wrong_flow_of e.flight.domain.topology found_ttl e.travel.finding e.travel.events.items (also_missed_by e) why
-    events_asked
+    wrong_flow_of e.flight.domain.topology found_ttl e.travel.finding e.travel.events.items
+    (also_missed_by e) why events_asked
 
--- the same, by the finished travel that shows it
+-- the line of a flow that isn't right, by the finished travel that shows it
 abbrev pub wrong_line_of_travel : (number : ℕ) → Flow → FinishedTravel → (found_ttl : ℕ) → (why : List Data)
     → (events_asked : Bool) → List ℕ
 wrong_line_of_travel number f e found_ttl why events_asked =

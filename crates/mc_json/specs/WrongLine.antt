@@ -14,7 +14,8 @@ use Rattle.mc_json.specs.WhyData.{why_data}
 abbrev pub explained_line : DomainValue → List SummaryValue → (number : ℕ) → Flow → FinishedTravel
     → (found_ttl : ℕ) → List Cause → (events_asked : Bool) → List ℕ
 explained_line d summary number f ended found_ttl causes events_asked =
-    wrong_line_of_travel number f ended found_ttl (why_data (facts d) summary number f causes None) events_asked
+    wrong_line_of_travel number f ended found_ttl (why_data (facts d) summary number f causes None)
+    events_asked
 
 -- a flow whose packet misses a LAN, with the search for that LAN too
 abbrev pub missed_line : DomainValue → List SummaryValue → (number : ℕ) → Flow → FinishedTravel

@@ -5,7 +5,8 @@ ghost use Rattle.serde_json.specs.Data.{string};
 ghost use Rattle.serde_json.specs.View.{view as data_of};
 ghost use Rattle.mc_theory.specs.Events.Outcome.{Sent};
 ghost use Rattle.mc_replay.specs.declared.finding.Finding.TheVariants.{Stray};
-ghost use Rattle.mc_json.specs.FlowData.{finding_at_lan, event_data, finding_data, event_without_copies_data, outcome_data};
+ghost use Rattle.mc_json.specs.FlowData.{event_data, event_without_copies_data, finding_at_lan};
+ghost use Rattle.mc_json.specs.FlowData.{finding_data, outcome_data};
 ghost use Rattle.mc_json.specs.RowData.{object_data};
 
 use crate::fields::Fields;

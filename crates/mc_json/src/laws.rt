@@ -22,7 +22,8 @@ pub fn each_line_is_an_object()
         AreObjectLines (line_of (tree_data t es tree)) }
     ensures right { (whole : Bool) (number : ℕ) (f : Flow) (copies tree : ℕ) (wanted : List Data) →
         AreObjectLines (line_of (right_data whole number f copies tree wanted)) }
-    ensures wrong { (number : ℕ) (f : Flow) (w : WrongFlow) → AreObjectLines (line_of (wrong_data number f w)) }
+    ensures wrong { (number : ℕ) (f : Flow) (w : WrongFlow) →
+        AreObjectLines (line_of (wrong_data number f w)) }
     ensures unlisted { (all : Bool) (t : TopologyValue) (summary : List SummaryValue) →
         AreObjectLines (unlisted_lines all t summary) }
     ensures without { (t : TopologyValue) (excluded : List Bool) →

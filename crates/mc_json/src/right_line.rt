@@ -157,7 +157,8 @@ pub fn push_right_line(
     tree: u32,
 ) -> Result<(), Memory>
     requires flow { flow < length domain.now.topology.flows }
-    ensures line { OnOk result (ForListedFlow domain.now flow (λ f. string_bytes text.new ≡ string_bytes text.old
+    ensures line { OnOk result (ForListedFlow domain.now flow (λ f.
+        string_bytes text.new ≡ string_bytes text.old
         ++ line_of (right_data whole flow f copies tree (wanted_data (facts domain.now) flow)))) }
 {
     let view = FlowView::new(domain, flow);

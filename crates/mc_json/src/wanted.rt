@@ -60,8 +60,8 @@ fn unmarked_lans(
     missed: LanNo,
 ) -> Result<Vec<LanNo>, AllocError>
     requires within { length view.now.domain.topology.lans ≤ length marks.now }
-    ensures marked { (copies : List Copy) → AreMarksOfCopies marks.now copies → IfOk result (λ lans. lans.items
-        ≡ also_missed (facts view.now.domain) view.now.flow copies missed) }
+    ensures marked { (copies : List Copy) → AreMarksOfCopies marks.now copies →
+        IfOk result (λ lans. lans.items ≡ also_missed (facts view.now.domain) view.now.flow copies missed) }
 {
     let mut lans = Vec::new(alloc);
     for number in 0..view.lans() {

@@ -148,8 +148,10 @@ pub fn push_missed_line(
     search: &LanSearch,
 ) -> Result<(), Memory>
     requires flow { flow < length domain.now.topology.flows }
-    ensures line { OnOk result (ForListedFlow domain.now flow (λ f. string_bytes text.new ≡ string_bytes text.old
-        ++ missed_line domain.now summary.now flow f ended.now found_ttl causes.now search.now events_asked)) }
+    ensures line { OnOk result (ForListedFlow domain.now flow (λ f.
+        string_bytes text.new ≡ string_bytes text.old
+        ++ missed_line domain.now summary.now flow f ended.now found_ttl causes.now search.now
+        events_asked)) }
 {
     let view = FlowView::new(domain, flow);
     let listed = domain.topology().flow(flow);
@@ -191,7 +193,8 @@ pub fn push_wrong_line(
     causes: &[Cause],
 ) -> Result<(), Memory>
     requires flow { flow < length domain.now.topology.flows }
-    ensures line { OnOk result (ForListedFlow domain.now flow (λ f. string_bytes text.new ≡ string_bytes text.old
+    ensures line { OnOk result (ForListedFlow domain.now flow (λ f.
+        string_bytes text.new ≡ string_bytes text.old
         ++ explained_line domain.now summary.now flow f ended.now found_ttl causes.now events_asked)) }
 {
     let view = FlowView::new(domain, flow);

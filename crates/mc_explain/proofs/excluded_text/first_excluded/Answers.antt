@@ -1,7 +1,8 @@
 use Rattle.std.proofs.Common.{◌∙◌, sym, arith}
 use Rattle.mc_theory.specs.Lists.{below}
 use Rattle.mc_explain.specs.SearchLine.{is_excluded}
-use Rattle.mc_explain.proofs.FirstEightLemmas.{is_first_eight_of-filter_passed, is_first_eight_of-filter_failed}
+use Rattle.mc_explain.proofs.FirstEightLemmas.{is_first_eight_of-filter_passed}
+use Rattle.mc_explain.proofs.FirstEightLemmas.{is_first_eight_of-filter_failed}
 use Rattle.mc_explain.proofs.excluded_text.first_excluded.Goals as goal
 use Rattle.mc_explain.proofs.excluded_text.first_excluded.Goals.{then-is_excluded, else-is_excluded}
 

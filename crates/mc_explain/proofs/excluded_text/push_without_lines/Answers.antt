@@ -22,7 +22,8 @@ loop-number-preserved c =
     let now = string_bytes c.loop-number.text in
     elim c.if-is_excluded.branch [
       | then-is_excluded+in_ok-writeln w ↦ rw w.text-is (
-          flat_map_filter-passed marked line n old now (string_bytes w.writeln.new.self) c.loop-number.invariant
+          flat_map_filter-passed marked line n old now (string_bytes w.writeln.new.self)
+          c.loop-number.invariant
           (sym c.is_excluded.ensures ∙ w.if-is_excluded.true)
           (w.in_ok-writeln.ensures.bytes
           ∙ ap (λ (name : List ℕ). now ++ (codes "without " ++ (name ++ codes "\n")))

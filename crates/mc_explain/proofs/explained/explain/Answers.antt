@@ -10,9 +10,11 @@ use Rattle.mc_explain.proofs.explained.explain.Goals as goal
 pub explain_least_ttl-requires-clause-path : goal.explain_least_ttl-requires-clause-path
 explain_least_ttl-requires-clause-path c =
     let d = c.args.domain.now in
-    let examined_flights = subst (λ (x : ExaminedFlights). HasExaminedFlights d c.args.flow x) c.in-FoundAtFlowTtl.is c.requires.examined_flights in
+    let examined_flights = subst (λ (x : ExaminedFlights). HasExaminedFlights d c.args.flow x)
+        c.in-FoundAtFlowTtl.is c.requires.examined_flights in
     is_out_of_reach-from_finished d c.args.flow c.in-Missed.lan c.new-view.result c.in-FoundAtFlowTtl.greatest
-    c.in-FoundAtFlowTtl.least c.new-view.ensures.rules c.new-view.ensures.flow examined_flights.0 examined_flights.1 examined_flights.2
+    c.in-FoundAtFlowTtl.least c.new-view.ensures.rules c.new-view.ensures.flow examined_flights.0
+    examined_flights.1 examined_flights.2
     (ap finding_value c.in-Missed.is)
 
 pub explain_finding-requires-in_default : goal.explain_finding-requires-in_default

@@ -3,7 +3,8 @@ use Rattle.std.proofs.Common.{◌≡◌, ℕ, Some, refl, ap, subst, ◌∙◌}
 use Rattle.mc_theory.specs.Flights.{Copy}
 use Rattle.mc_theory.specs.Findings.{first_copy_on}
 use Rattle.mc_forward.specs.FlightsInDomain.{net_in}
-use Rattle.mc_explain.proofs.FoundCopyLemmas.{held-not_none_on_first, first_copy_on-from_held_some, is_remedy-same_copy, first_double-same_copy}
+use Rattle.mc_explain.proofs.FoundCopyLemmas.{held-not_none_on_first, first_copy_on-from_held_some}
+use Rattle.mc_explain.proofs.FoundCopyLemmas.{is_remedy-same_copy, first_double-same_copy}
 use Rattle.mc_explain.proofs.FoundCopyLemmas.{causes-two_senders}
 use Rattle.mc_explain.proofs.explained.explain_duplicate.Goals as goal
 
@@ -11,7 +12,8 @@ pub unreachable-requires : goal.unreachable-requires
 unreachable-requires c =
     let cs = c.args.flight.now.flight.carried in
     let has = c.requires.second in
-    held-not_none_on_first c.in_ok-first_copies.first_copies.by_lan cs c.copies.result.now c.args.lan c.args.lan c.on.result
+    held-not_none_on_first c.in_ok-first_copies.first_copies.by_lan cs c.copies.result.now c.args.lan
+    c.args.lan c.on.result
     has.is.first c.in_ok-first_copies.ensures.first_copies c.copies.ensures.copies refl c.on.ensures
     c.in_default.is (subst (λ (l : ℕ). first_copy_on cs l ≡ Some has.is.first) has.on has.is.path.on)
 
@@ -30,7 +32,8 @@ returns c = record {
         first = first;
         second = has.second;
         remedy = remedy;
-        first_on = first_copy_on-from_held_some c.in_ok-first_copies.first_copies.by_lan f.carried c.copies.result.now lan lan
+        first_on = first_copy_on-from_held_some c.in_ok-first_copies.first_copies.by_lan f.carried
+            c.copies.result.now lan lan
             c.on.result first c.in_ok-first_copies.ensures.first_copies c.copies.ensures.copies refl
             c.on.ensures c.in-Some.is;
         take_out = is_remedy-same_copy n f lan has.second c.in-Some-second.second remedy same has.on

@@ -12,7 +12,8 @@ explain_duplicate-requires-clause-second c =
     let j = c.args.ended.now.flight in
     let ends = subst (λ (x : Finding). EndsTravel f c.requires.travel.0 x j)
     (ap finding_value c.in-Duplicate.is) c.requires.travel.1 in
-    has_second_copy-from_duplicate f c.requires.travel.0 c.in-Duplicate.lan j c.topology-rules.ensures.rules ends
+    has_second_copy-from_duplicate f c.requires.travel.0 c.in-Duplicate.lan j c.topology-rules.ensures.rules
+    ends
 
 pub explain_loop-requires-clause-second : goal.explain_loop-requires-clause-second
 explain_loop-requires-clause-second c =

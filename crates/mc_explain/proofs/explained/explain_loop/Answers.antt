@@ -2,7 +2,8 @@
 use Rattle.std.proofs.Common.{length}
 use Rattle.mc_theory.specs.Hops.{hops_until}
 use Rattle.mc_forward.specs.FlightsInDomain.{net_in}
-use Rattle.mc_explain.proofs.FoundCopyLemmas.{hops_until-same_copy, is_remedy-same_copy, first_double-same_copy, causes-circle_then_remedy}
+use Rattle.mc_explain.proofs.FoundCopyLemmas.{hops_until-same_copy, is_remedy-same_copy}
+use Rattle.mc_explain.proofs.FoundCopyLemmas.{first_double-same_copy, causes-circle_then_remedy}
 use Rattle.mc_explain.proofs.explained.explain_loop.Goals as goal
 
 pub returns : goal.returns

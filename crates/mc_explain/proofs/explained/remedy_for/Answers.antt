@@ -3,7 +3,8 @@ use Rattle.std.proofs.Common.{◌≡◌, ◌≤◌, List, Some, refl, ap, sym, s
 use Rattle.mc_theory.specs.Flights.{Copy}
 use Rattle.mc_theory.specs.Paths.{Hop, need}
 use Rattle.mc_forward.specs.FlightsInDomain.{net_in}
-use Rattle.mc_explain.proofs.FoundCopyLemmas.{held-not_none_on_first, held-is_first_copy, found_hops-are_path, is_remedy-from_second_copy}
+use Rattle.mc_explain.proofs.FoundCopyLemmas.{held-not_none_on_first, held-is_first_copy}
+use Rattle.mc_explain.proofs.FoundCopyLemmas.{found_hops-are_path, is_remedy-from_second_copy}
 use Rattle.mc_explain.proofs.explained.remedy_for.Goals as goal
 
 pub unreachable-requires : goal.unreachable-requires
@@ -43,6 +44,7 @@ returns c = record {
       c.deref.result.now c.copies.ensures.copies same c.in_ok-path.ensures.ok c.deref.ensures.value in
       let sent : c.args.second.now.sender ≡ Some (c.in-Some-sender.router, c.in-Some-sender.vif) =
       sym (ap (λ (x : Copy). x.sender) c.second.view_is) ∙ c.in-Some-sender.is in
-      is_remedy-from_second_copy n c.args.flight.now.flight c.args.second.now _ _ _ _ c.requires.second lan sent
+      is_remedy-from_second_copy n c.args.flight.now.flight c.args.second.now _ _ _ _ c.requires.second lan
+      sent
       (c.need.ensures.value ∙ ap need path));
 }

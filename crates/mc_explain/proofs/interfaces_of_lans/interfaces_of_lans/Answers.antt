@@ -9,8 +9,10 @@ use Rattle.mc_forward.proofs.BelowLemmas.{length-below}
 use Rattle.mc_forward.proofs.IndexLemmas.{map_below-from_items}
 use Rattle.mc_explain.specs.declared.listed_interface.ListedInterface.{ListedInterface}
 use Rattle.mc_explain.specs.BucketsAndMarks.{AreBuckets}
-use Rattle.mc_explain.specs.TopologyLans.{interface_at, listed_interface_at, interfaces_of_router, interfaces_on_lan}
-use Rattle.mc_explain.proofs.BucketLemmas.{are_buckets-none, flat_map-below_push, get_or-map_below, get_or-filter_below_is_less}
+use Rattle.mc_explain.specs.TopologyLans.{interface_at, listed_interface_at, interfaces_of_router}
+use Rattle.mc_explain.specs.TopologyLans.{interfaces_on_lan}
+use Rattle.mc_explain.proofs.BucketLemmas.{are_buckets-none, flat_map-below_push, get_or-map_below}
+use Rattle.mc_explain.proofs.BucketLemmas.{get_or-filter_below_is_less}
 use Rattle.mc_explain.proofs.interfaces_of_lans.interfaces_of_lans.Goals as goal
 
 -- the numbers of each router's interfaces, as they were found by a topology that is the domain's
@@ -44,7 +46,8 @@ add_interfaces-requires-clause-numbers c = λ k default lt.
     c.deref-router-items.ensures.value c.in_ok-routers.ensures in
     let own : c.deref.result.now ≡ interfaces_of_router t (below count) i =
     c.deref.ensures.value ∙ c.router.view_is
-    ∙ get_or-map_below (interfaces_of_router t (below count)) (length t.routers) i c.deref-router-items.result.now
+    ∙ get_or-map_below (interfaces_of_router t (below count)) (length t.routers) i
+    c.deref-router-items.result.now
     c.router-item.result all c.loop-router-test.true c.router-item.is in
     subst (λ (ks : List ℕ). get_or ks k default < count) (sym own)
     (get_or-filter_below_is_less (λ j. (interface_at t j).router == i) count k default
@@ -61,11 +64,13 @@ loop-router-preserved c =
     c.deref-router-items.ensures.value c.in_ok-routers.ensures in
     let own : c.deref.result.now ≡ interfaces_of_router t (below count) i =
     c.deref.ensures.value ∙ c.router.view_is
-    ∙ get_or-map_below (interfaces_of_router t (below count)) (length t.routers) i c.deref-router-items.result.now
+    ∙ get_or-map_below (interfaces_of_router t (below count)) (length t.routers) i
+    c.deref-router-items.result.now
     c.router-item.result all c.loop-router-test.true c.router-item.is in
     record {
       count = c.in_ok-add_interfaces.ensures.count;
-      holds = subst (AreBuckets (listed_interface_at d) (λ k. (interface_at t k).lan) c.add_interfaces.new.lists.items)
+      holds = subst (AreBuckets (listed_interface_at d) (λ k. (interface_at t k).lan)
+          c.add_interfaces.new.lists.items)
           (ap (λ (ks : List ℕ). flat_map (interfaces_of_router t (below count)) (below i) ++ ks) own
           ∙ sym (flat_map-below_push (interfaces_of_router t (below count)) i))
           (c.in_ok-add_interfaces.ensures.each (flat_map (interfaces_of_router t (below count)) (below i))

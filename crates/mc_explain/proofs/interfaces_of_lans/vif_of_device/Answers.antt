@@ -19,5 +19,6 @@ returns-then-vif_has_device c =
 
 pub loop-vif-preserved : goal.loop-vif-preserved
 loop-vif-preserved c =
-    find_below-none_more (λ (v : ℕ). vif_has_device c.args.device.now (vif_of c.args.domain.now.tables c.args.router v))
+    find_below-none_more (λ (v : ℕ). vif_has_device c.args.device.now (vif_of c.args.domain.now.tables
+    c.args.router v))
     c.loop-vif.vif c.loop-vif.invariant (sym c.vif_has_device.ensures ∙ c.if-vif_has_device.false)

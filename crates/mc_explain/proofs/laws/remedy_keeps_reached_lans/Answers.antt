@@ -25,7 +25,8 @@ reaches_as_much-from_remedy : (d : DomainValue) (flow router vif t : ℕ) → Is
     ReachesAsMuch (take_out (router, vif) (net_of d flow)) (net_of d flow) t
 reaches_as_much-from_remedy d flow router vif t x m =
     let r = x.reported in
-    (causes_hold-all d flow r.flights r.causes r.of_flow (TakeOut x.lan router vif x.least) r.listed).reached_with t m x.low x.high
+    (causes_hold-all d flow r.flights r.causes r.of_flow (TakeOut x.lan router vif x.least)
+    r.listed).reached_with t m x.low x.high
 
 pub returns-clause-reached_with : goal.returns-clause-reached_with
 returns-clause-reached_with c = reaches_as_much-from_remedy

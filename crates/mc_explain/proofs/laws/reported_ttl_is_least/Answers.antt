@@ -9,4 +9,5 @@ returns-clause-least c = λ d flow lan least t r.
 
 pub returns-clause-range : goal.returns-clause-range
 returns-clause-range c = λ d flow lan least r.
-    (let l = causes_hold-all d flow r.flights r.causes r.of_flow (LeastTtl lan least) r.listed in (l.above, l.high))
+    (let l = causes_hold-all d flow r.flights r.causes r.of_flow (LeastTtl lan least) r.listed in
+    (l.above, l.high))

@@ -4,4 +4,5 @@ use Rattle.mc_explain.proofs.routers_on_lan.leading_of_router.Given as goal
 
 abbrev pub invariant-loop-index : goal.invariant-loop-index
 invariant-loop-index l =
-    l.index + leading_of_router l.fn.router (drop l.index l.fn.interfaces) ≡ leading_of_router l.fn.router l.fn.interfaces
+    l.index + leading_of_router l.fn.router (drop l.index l.fn.interfaces) ≡ leading_of_router l.fn.router
+    l.fn.interfaces

@@ -7,7 +7,8 @@ returns c =
     let search = c.args.search.now in
     record {
       lines = on_ok-map c.push_shown_lines.result c.push_shown_lines.ensures (λ written listed at.
-          search_text-from_parts c.args.domain.now c.new-view.result c.args.flow c.topology-topology.result.now
+          search_text-from_parts c.args.domain.now c.new-view.result c.args.flow
+          c.topology-topology.result.now
           c.args.summary.now c.flow.result.now listed search.lines.items c.deref.result.now
           search.reach.sent_on.items search.reach.took_none.items
           (string_bytes c.args.text.now) (string_bytes c.push_reach.new.text)

@@ -8,7 +8,8 @@ use Rattle.mc_explain.specs.declared.search_line.SearchLine.{SearchLine}
 use Rattle.mc_explain.specs.LanProbe.{search_in}
 use Rattle.mc_explain.specs.LanProbe.{IsVisitedLans}
 use Rattle.mc_explain.specs.SearchLine.{append_new, next_lans, lines_of_lan, visited_lans, visited_after}
-use Rattle.mc_explain.proofs.SearchLemmas.{length-visited, visited-more, length-from_slice_get_none, lines_so_far-more, lines_so_far-same}
+use Rattle.mc_explain.proofs.SearchLemmas.{length-visited, visited-more, length-from_slice_get_none}
+use Rattle.mc_explain.proofs.SearchLemmas.{lines_so_far-more, lines_so_far-same}
 use Rattle.mc_explain.proofs.searching.search_lans.Goals as goal
 use Rattle.mc_explain.proofs.searching.search_lans.Goals.{in-Some+in_ok-search_one_lan, in_default}
 
@@ -26,13 +27,16 @@ loop-position-preserved c =
       | in-Some+in_ok-search_one_lan w ↦ (
           let at : slice_get lans k ≡ Some w.in-Some.lan = found ∙ w.in-Some.is in
           record {
-            lans = ap (λ (m : VisitedLans). m.lans.items) w.visited_lans-is ∙ w.in_ok-search_one_lan.ensures.lans
+            lans = ap (λ (m : VisitedLans). m.lans.items) w.visited_lans-is
+                ∙ w.in_ok-search_one_lan.ensures.lans
                 ∙ ap (λ (ls : List ℕ). append_new ls (next_lans s w.in-Some.lan)) same
                 ∙ sym (visited-more s missed k ∙ ap (visited_after s lans) at);
             lines_so_far = ap (λ (t : Vec SearchLine Global). t.items) w.lines_so_far-is
-                ∙ lines_so_far-more s missed k w.in-Some.lan c.loop-position.lines_so_far.items w.search_one_lan.new.lines_so_far.items
+                ∙ lines_so_far-more s missed k w.in-Some.lan c.loop-position.lines_so_far.items
+                w.search_one_lan.new.lines_so_far.items
                 at c.loop-position.invariant.lines_so_far w.in_ok-search_one_lan.ensures.lines_so_far;
-            is_visited_lans = subst (IsVisitedLans count) (sym w.visited_lans-is) w.in_ok-search_one_lan.ensures.visited_lans;
+            is_visited_lans = subst (IsVisitedLans count) (sym w.visited_lans-is)
+                w.in_ok-search_one_lan.ensures.visited_lans;
           })
       | in_default w ↦ (
           let none : slice_get lans k ≡ None = found ∙ w.in_default.is in
@@ -40,9 +44,11 @@ loop-position-preserved c =
             lans = ap (λ (m : VisitedLans). m.lans.items) w.visited_lans-is ∙ same
                 ∙ sym (visited-more s missed k ∙ ap (visited_after s lans) none);
             lines_so_far = ap (λ (t : Vec SearchLine Global). t.items) w.lines_so_far-is
-                ∙ lines_so_far-same s missed k c.loop-position.lines_so_far.items (length-from_slice_get_none lans k none)
+                ∙ lines_so_far-same s missed k c.loop-position.lines_so_far.items
+                (length-from_slice_get_none lans k none)
                 c.loop-position.invariant.lines_so_far;
-            is_visited_lans = subst (IsVisitedLans count) (sym w.visited_lans-is) c.loop-position.invariant.is_visited_lans;
+            is_visited_lans = subst (IsVisitedLans count) (sym w.visited_lans-is)
+                c.loop-position.invariant.is_visited_lans;
           })
     ]
 
@@ -55,7 +61,8 @@ returns-clause-lines c =
     let end : k ≡ count =
     omega (arith, c.loop-position-test.false, c.loop-position.auto.position-end, c.lans-lans.ensures.count) in
     let few : length (visited_lans s missed k) ≤ k =
-    let short = length-visited s missed k c.loop-position.visited_lans.marks c.loop-position.visited_lans.lans.items
+    let short = length-visited s missed k c.loop-position.visited_lans.marks
+        c.loop-position.visited_lans.lans.items
     c.loop-position.invariant.lans c.loop-position.invariant.is_visited_lans.marked in
     omega (arith, short, c.loop-position.invariant.is_visited_lans.count, end) in
     c.loop-position.invariant.lines_so_far

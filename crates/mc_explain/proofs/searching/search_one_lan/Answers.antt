@@ -11,6 +11,7 @@ add_next_lans-requires-clause-lines c =
     omega (arith, c.len-before.ensures, c.args.lines_so_far.now.ok.0) in
     let s = search_in c.args.lan_probe.now in
     added_line-inside s c.args.lan _
-    (places_inside-from_is_domain c.args.lan_probe.now.view.now.domain s c.topology-rules.ensures.rules.domain refl)
+    (places_inside-from_is_domain c.args.lan_probe.now.view.now.domain s
+    c.topology-rules.ensures.rules.domain refl)
     (take_drop-added c.args.lines_so_far.now.items c.deref.result.now _ c.len-before.result
     (c.deref.ensures.value ∙ c.in_ok-add_lan_lines.ensures.added) count)

@@ -5,7 +5,9 @@ use Rattle.std.proofs.Common.{◌∙◌}
 use Rattle.std.proofs.lemmas.List.{take_more, take_all}
 use Rattle.mc_tables.proofs.CacheMapLemmas.{key_cmp-antisymmetric}
 use Rattle.mc_explain.specs.declared.unlisted_pairs.UnlistedPair.{UnlistedPair}
-use Rattle.mc_explain.proofs.UnlistedPairLemmas.{with_routers_so_far-absent, with_routers_so_far-all, with_routers_so_far-more, with_routers_so_far-none, get_or-map}
+use Rattle.mc_explain.proofs.UnlistedPairLemmas.{with_routers_so_far-absent, with_routers_so_far-all}
+use Rattle.mc_explain.proofs.UnlistedPairLemmas.{with_routers_so_far-more, with_routers_so_far-none}
+use Rattle.mc_explain.proofs.UnlistedPairLemmas.{get_or-map}
 use Rattle.mc_explain.proofs.UnlistedPairLemmas.{with_routers_so_far}
 use Rattle.mc_explain.proofs.unlisted_pairs.add_router.Goals as goal
 use Rattle.mc_explain.proofs.unlisted_pairs.add_router.Goals.{in-Ok+in_ok-add, in_default}
@@ -37,9 +39,11 @@ loop-pair-preserved c =
           ∙ ap (λ (l : List ((ℕ × ℕ) × List ℕ)). get_or l i old) c.loop-pair.invariant in
           ap (λ (v : Vec UnlistedPair Global). v.items) w.shown-is
           ∙ ap (λ (l : List ((ℕ × ℕ) × List ℕ)). set l i w.add.new.self) c.loop-pair.invariant
-          ∙ with_routers_so_far-more summary router (take k own) pairs i q old w.add.new.self c.requires.sorted
+          ∙ with_routers_so_far-more summary router (take k own) pairs i q old w.add.new.self
+          c.requires.sorted
           w.in-Ok.ensures.bound at
-          (get_or-map (with_routers_so_far summary router (take k own)) pairs i q old w.in-Ok.ensures.bound at read)
+          (get_or-map (with_routers_so_far summary router (take k own)) pairs i q old w.in-Ok.ensures.bound
+          at read)
           w.in_ok-add.ensures
           ∙ next)
       | in_default w ↦ (

@@ -6,7 +6,8 @@ use Rattle.mc_explain.proofs.unlisted_text.push_pairs.Given as goal
 -- the lines so far, and those that are left, are the lines of all
 abbrev pub invariant-loop-pair : goal.invariant-loop-pair
 invariant-loop-pair l =
-    string_bytes l.text ++ flat_map (λ (pair : (ℕ × ℕ) × List ℕ). unlisted_pair_text l.fn.topology pair.0 pair.1)
+    string_bytes l.text ++ flat_map (λ (pair : (ℕ × ℕ) × List ℕ). unlisted_pair_text l.fn.topology pair.0
+    pair.1)
     (drop l.pair-index l.fn.pairs)
     ≡ string_bytes l.initial.text
     ++ flat_map (λ (pair : (ℕ × ℕ) × List ℕ). unlisted_pair_text l.fn.topology pair.0 pair.1) l.fn.pairs

@@ -1,6 +1,7 @@
 use Rattle.std.proofs.Common.{ℕ, List, ◌++◌, ◌∙◌, flat_map, ap, ap₂, append_assoc}
 use Rattle.std.specs.String.{string_bytes}
-use Rattle.mc_explain.specs.UnlistedText.{further_rows, further_text, unlisted_pair_text, shown_unlisted_pairs, unlisted_pair_lines}
+use Rattle.mc_explain.specs.UnlistedText.{further_rows, further_text, unlisted_pair_text}
+use Rattle.mc_explain.specs.UnlistedText.{shown_unlisted_pairs, unlisted_pair_lines}
 use Rattle.mc_explain.proofs.UnlistedPairLemmas.{flat_map-unlisted_pair_lines}
 use Rattle.mc_explain.proofs.unlisted_text.push_unlisted.Goals as goal
 

@@ -1,7 +1,8 @@
 use Rattle.std.proofs.Common.{◌∙◌, sym, arith}
 use Rattle.mc_theory.specs.Lists.{below}
 use Rattle.mc_forward.specs.Domains.{wants_of}
-use Rattle.mc_explain.proofs.FirstEightLemmas.{is_first_eight_of-filter_passed, is_first_eight_of-filter_failed}
+use Rattle.mc_explain.proofs.FirstEightLemmas.{is_first_eight_of-filter_passed}
+use Rattle.mc_explain.proofs.FirstEightLemmas.{is_first_eight_of-filter_failed}
 use Rattle.mc_explain.proofs.wanted_text.lans_wanting.Goals as goal
 use Rattle.mc_explain.proofs.wanted_text.lans_wanting.Goals.{then-wants, else-wants}
 

@@ -20,7 +20,8 @@ returns-in_ok-writeln-clause-line c =
     c.in_ok-writeln.ensures.bytes in
     written
     ∙ ap (λ line. old ++ line)
-    (wanted_text-some topology front count (lans_wanting (facts view.domain) view.flow) c.lans_wanting-front.ensures
+    (wanted_text-some topology front count (lans_wanting (facts view.domain) view.flow)
+    c.lans_wanting-front.ensures
     c.count-count.ensures (let some = c.if-count-eq0.false in omega (arith, some))
     ∙ (ap (λ (t : TopologyValue). wanted_text t (lans_wanting (facts view.domain) view.flow))
     c.topology.ensures.topology

@@ -3,9 +3,11 @@ use Rattle.mc_theory.specs.Lists.{below}
 use Rattle.mc_theory.specs.Flights.{Copy}
 use Rattle.mc_forward.specs.ListedTables.{facts}
 use Rattle.mc_explain.specs.WantedText.{is_also_missed}
-use Rattle.mc_explain.proofs.FirstEightLemmas.{is_first_eight_of-filter_passed, is_first_eight_of-filter_failed}
+use Rattle.mc_explain.proofs.FirstEightLemmas.{is_first_eight_of-filter_passed}
+use Rattle.mc_explain.proofs.FirstEightLemmas.{is_first_eight_of-filter_failed}
 use Rattle.mc_explain.proofs.wanted_text.unmarked_lans.Goals as goal
-use Rattle.mc_explain.proofs.wanted_text.unmarked_lans.Goals.{then-is_wanted_and_unmarked, else-is_wanted_and_unmarked}
+use Rattle.mc_explain.proofs.wanted_text.unmarked_lans.Goals.{then-is_wanted_and_unmarked}
+use Rattle.mc_explain.proofs.wanted_text.unmarked_lans.Goals.{else-is_wanted_and_unmarked}
 
 pub loop-number-init : goal.loop-number-init
 unfolding below

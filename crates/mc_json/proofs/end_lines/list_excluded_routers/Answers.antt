@@ -3,7 +3,8 @@ use Rattle.mc_theory.specs.Lists.{below}
 use Rattle.mc_explain.specs.SearchLine.{is_excluded}
 use Rattle.mc_json.proofs.FilterLemmas.{filter-below_passed, filter-below_failed}
 use Rattle.mc_json.proofs.end_lines.list_excluded_routers.Goals as goal
-use Rattle.mc_json.proofs.end_lines.list_excluded_routers.Goals.{then-is_excluded+in_ok-push, else-is_excluded}
+use Rattle.mc_json.proofs.end_lines.list_excluded_routers.Goals.{then-is_excluded+in_ok-push}
+use Rattle.mc_json.proofs.end_lines.list_excluded_routers.Goals.{else-is_excluded}
 
 pub loop-number-init : goal.loop-number-init
 unfolding below

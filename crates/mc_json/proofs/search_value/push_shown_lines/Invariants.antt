@@ -8,7 +8,8 @@ use Rattle.mc_json.proofs.search_value.push_shown_lines.Given as goal
 -- the lines so far, and those that are left
 abbrev pub invariant-loop-line : goal.invariant-loop-line
 invariant-loop-line l =
-    map data_of l.values.items ++ map (shown_line_data (facts l.fn.context.view.now.domain) l.fn.context.summary.now
+    map data_of l.values.items ++ map (shown_line_data (facts l.fn.context.view.now.domain)
+    l.fn.context.summary.now
     l.fn.context.view.now.flow l.fn.context.flow.now) l.line-iterator
     ≡ map data_of l.initial.values.items ++ map (shown_line_data (facts l.fn.context.view.now.domain)
     l.fn.context.summary.now l.fn.context.view.now.flow l.fn.context.flow.now) (shown_lines l.fn.lines)

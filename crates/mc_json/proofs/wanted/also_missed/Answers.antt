@@ -14,7 +14,8 @@ returns c =
     let copies = c.args.flight.now.flight.carried in
     let marked : AreMarksOfCopies c.mark_lans.new.marks copies = λ lan.
     c.mark_lans.ensures.marks lan
-    ∙ (ap (λ b. b || is_some (first_copy_on c.copies.result.now lan)) (slice_index_or-replicate_false 1024 lan)
+    ∙ (ap (λ b. b || is_some (first_copy_on c.copies.result.now lan)) (slice_index_or-replicate_false 1024
+    lan)
     ∙ ap (λ cs. is_some (first_copy_on cs lan)) c.copies.ensures.copies) in
     subst (λ (v : FlowOfDomain). IfOk c.unmarked_lans.result (λ lans. lans.items
     ≡ filter (is_also_missed (facts v.domain) v.flow copies c.args.missed)

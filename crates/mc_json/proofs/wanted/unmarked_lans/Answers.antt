@@ -5,7 +5,8 @@ use Rattle.mc_forward.specs.ListedTables.{facts}
 use Rattle.mc_explain.specs.WantedText.{is_also_missed}
 use Rattle.mc_json.proofs.FilterLemmas.{filter-below_passed, filter-below_failed}
 use Rattle.mc_json.proofs.wanted.unmarked_lans.Goals as goal
-use Rattle.mc_json.proofs.wanted.unmarked_lans.Goals.{then-is_wanted_and_unmarked+in_ok-push, else-is_wanted_and_unmarked}
+use Rattle.mc_json.proofs.wanted.unmarked_lans.Goals.{then-is_wanted_and_unmarked+in_ok-push}
+use Rattle.mc_json.proofs.wanted.unmarked_lans.Goals.{else-is_wanted_and_unmarked}
 
 pub loop-number-init : goal.loop-number-init
 unfolding below

@@ -4,8 +4,10 @@ use Rattle.std.proofs.Common.{sym, subst, ◌∙◌, arith}
 use Rattle.std.proofs.lemmas.List.{length-replicate}
 use Rattle.mc_theory.specs.Flights.{Copy}
 use Rattle.mc_forward.proofs.PerLanLemmas.{holds_first-start}
-use Rattle.mc_replay.proofs.FirstLemmas.{first_copies_so_far-none, first_copies_so_far-more, second_copy_so_far-all, first_copies_so_far-all}
-use Rattle.mc_replay.proofs.FirstLemmas.{second_copy_so_far, second_copy_so_far-found_now, second_copy_so_far-found_before, second_copy_so_far-first_on_lan}
+use Rattle.mc_replay.proofs.FirstLemmas.{first_copies_so_far-none, first_copies_so_far-more}
+use Rattle.mc_replay.proofs.FirstLemmas.{second_copy_so_far-all, first_copies_so_far-all}
+use Rattle.mc_replay.proofs.FirstLemmas.{second_copy_so_far, second_copy_so_far-found_now}
+use Rattle.mc_replay.proofs.FirstLemmas.{second_copy_so_far-found_before, second_copy_so_far-first_on_lan}
 use Rattle.mc_explain.proofs.first_copies.FirstCopies.new.Goals as goal
 use Rattle.mc_explain.proofs.first_copies.FirstCopies.new.Goals.{then-not-put_first+then-is_none}
 use Rattle.mc_explain.proofs.first_copies.FirstCopies.new.Goals.{else-not-put_first}
@@ -57,7 +59,8 @@ loop-copy-preserved c =
       | else-not-put_first w ↦ elim w.else-not-put_first.branch [
         | else-not-put_first-via-then-not-put_first+else-is_none v ↦ (
             let some : is_some second ≡ true =
-            v.if-is_none.ensures in w.second-is ∙ sym (second_copy_so_far-found_before second (not put) x some))
+            v.if-is_none.ensures in w.second-is ∙ sym (second_copy_so_far-found_before second (not put) x
+            some))
         | else-not-put_first-via-else-not-put_first v ↦ w.second-is ∙
             sym (second_copy_so_far-first_on_lan second (not put) x (ap not v.if-not-put_first.false))
       ]

@@ -9,7 +9,8 @@ returns-clause-first c =
     let shown = ap (λ s. take 8 (s.first ++ c.args.lan ∷ [])) c.self.view_is in
     elim c.if-self-lt8.branch [
       | then-self-lt8 w ↦ rw w.self-inside-is
-          (take-slice_set_below_eight old.first old.count c.args.lan c.self.invariant w.if-self-lt8.true ∙ shown)
+          (take-slice_set_below_eight old.first old.count c.args.lan c.self.invariant w.if-self-lt8.true
+          ∙ shown)
       | else-self-lt8 w ↦ rw w.self-inside-is
           (take-full_eight old.first old.count c.args.lan c.self.invariant w.if-self-lt8.false ∙ shown)
     ]

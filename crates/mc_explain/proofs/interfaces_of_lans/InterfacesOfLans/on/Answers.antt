@@ -15,5 +15,6 @@ returns c = record {
       c.deref.ensures.value ∙ c.behind-self.view_is ∙ c.index.ensures
       ∙ ap₂ (λ (ls : List (List ListedInterface)) (n : ℕ). get_or ls n c.index.result.now)
       c.self.view_is c.lan.view_is
-      ∙ get_or_from_slice_get c.args.self.now c.args.lan (interfaces_on_lan d c.args.lan) c.index.result.now found);
+      ∙ get_or_from_slice_get c.args.self.now c.args.lan (interfaces_on_lan d c.args.lan) c.index.result.now
+      found);
 }

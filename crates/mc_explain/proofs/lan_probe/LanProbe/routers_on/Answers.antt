@@ -13,7 +13,7 @@ on-requires c = record {
   known = (
       let d = facts c.args.self.now.view.now.domain in
       let lans = length d.topology.lans in
-      let size = ap length c.requires.lan_probe.interfaces
+      let size = ap length c.requires.valid.interfaces
       ∙ length-map (below lans) (interfaces_on_lan d) ∙ length-below lans in
       subst (λ (n : ℕ). c.args.lan < n) (sym size) c.requires.lan);
 }
@@ -22,5 +22,5 @@ pub returns : goal.returns
 returns c = record {
   value = (
       c.new.ensures ∙ ap group_by_router (c.on.ensures.item (facts c.args.self.now.view.now.domain)
-      c.requires.lan_probe.interfaces c.requires.lan));
+      c.requires.valid.interfaces c.requires.lan));
 }

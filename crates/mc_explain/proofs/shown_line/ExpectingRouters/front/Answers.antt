@@ -1,5 +1,6 @@
 use Rattle.std.proofs.Common.{arith}
-use Rattle.mc_explain.proofs.ShownLineLemmas.{is_first_eight_of-expecting_more, is_first_eight_of-expecting_same}
+use Rattle.mc_explain.proofs.ShownLineLemmas.{is_first_eight_of-expecting_more}
+use Rattle.mc_explain.proofs.ShownLineLemmas.{is_first_eight_of-expecting_same}
 use Rattle.mc_explain.proofs.shown_line.ExpectingRouters.front.Goals as goal
 use Rattle.mc_explain.proofs.shown_line.ExpectingRouters.front.Goals.{in-ExpectedFromHere, in_default}
 

@@ -12,7 +12,8 @@ pub with_routers-requires : goal.with_routers-requires
 with_routers-requires c = record {
   sorted = (
       subst (IsStrictlySortedBy key_cmp) (sym (c.deref.ensures.value ∙ c.in_ok-pairs.ensures))
-      (is_strictly_sorted_by-shown_pairs c.args.all (flat_map (λ (own : SummaryValue). own.lowest) c.args.summary.now)));
+      (is_strictly_sorted_by-shown_pairs c.args.all (flat_map (λ (own : SummaryValue). own.lowest)
+      c.args.summary.now)));
 }
 
 pub returns : goal.returns

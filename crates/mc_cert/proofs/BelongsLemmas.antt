@@ -1,4 +1,4 @@
--- What a text stands for belongs to the topology.
+-- What a text denotes belongs to the topology.
 use Rattle.std.proofs.Common.{◌≡◌, ℕ, zero, suc, ◌<◌, All, List, [], ◌∷◌, length}
 use Rattle.std.proofs.Common.{Some, option_map, sym, ◌∙◌, arith}
 use Rattle.std.specs.Prelude.{slice_get}

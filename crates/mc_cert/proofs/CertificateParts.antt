@@ -1,4 +1,4 @@
--- A part that is read stands for its value, and a part that stands for a value is read as that.
+-- A part that is read denotes its value, and a part that denotes a value is read as that.
 use Rattle.std.proofs.Common.{◌≡◌, ℕ, ◌+◌, ◌<◌, ◌≤◌, All, IfSome, true, List, [], ◌∷◌, ◌++◌, length}
 use Rattle.std.proofs.Common.{codes, Option, Some, None, Result, Ok, Err, nat_lt, refl, sym, ap}
 use Rattle.std.proofs.Common.{subst, ◌∙◌, arith, append_assoc}
@@ -25,7 +25,7 @@ use Rattle.mc_cert.specs.declared.fault.CertFaultKind.{CertFaultKind}
 use Rattle.mc_cert.specs.declared.fault.CertFaultKind.TheVariants.{MissingKey, BadNumber}
 use Rattle.mc_cert.specs.declared.fault.CertFaultKind.TheVariants.{UnknownName, WrongFlows}
 use Rattle.mc_cert.specs.declared.fault.CertFault.{CertFault}
-use Rattle.mc_cert.specs.Answer.{place, entry_place, each}
+use Rattle.mc_cert.specs.Answer.{locate_fault, entry_place, each_row}
 use Rattle.mc_cert.specs.Certificate.{Tree, IsWritableEntry, IsWritableTree}
 use Rattle.mc_cert.specs.Object.{text_of, number_of, object_of, text_at, number_at, list_of}
 use Rattle.mc_cert.specs.Object.{list_at, in_range, whole_at, at_most}
@@ -44,23 +44,23 @@ use Rattle.mc_cert.proofs.Fields.{list_at-from_HasRows, at_most-sound, at_most-c
 
 -- ---- rows
 
-pub place_ok : {A : Type 0} (at : At) (r : Result A CertFaultKind) (x : A)
-    → place at r ≡ Ok x → r ≡ Ok x
-place_ok at (Ok y) x e = cc
-place_ok at (Err k) x e = absurd cc
+pub locate_fault_ok : {A : Type 0} (at : At) (r : Result A CertFaultKind) (x : A)
+    → locate_fault at r ≡ Ok x → r ≡ Ok x
+locate_fault_ok at (Ok y) x e = cc
+locate_fault_ok at (Err k) x e = absurd cc
 
 length-push : {X : Type 0} (xs : List X) (x : X) → length (xs ++ x ∷ []) ≡ length xs + 1
 length-push xs x = length-append xs (x ∷ [])
 
 module _ {X : Type 0} (one : ℕ → Data → Result X CertFault) (Denotation : ℕ → Data → X → Type 0) where
-  pub each-denotes : ((n : ℕ) (d : Data) (x : X) → one n d ≡ Ok x → Denotation n d x)
-      → (earlier : List X) (ds : List Data) (xs : List X) → each one earlier ds ≡ Ok xs
+  pub each_row-denotes : ((n : ℕ) (d : Data) (x : X) → one n d ≡ Ok x → Denotation n d x)
+      → (earlier : List X) (ds : List Data) (xs : List X) → each_row one earlier ds ≡ Ok xs
       → (ys : List X) × (xs ≡ earlier ++ ys) × EachDenotes Denotation (length earlier) ds ys
-  unfolding each
-  each-denotes takes earlier [] xs e = ([], sym (ok_injective earlier xs e) ∙ sym (append-nil earlier), tt)
-  each-denotes takes earlier (d ∷ ds) xs e =
-      let a = bind_ok (one (length earlier) d) (λ x. each one (earlier ++ x ∷ []) ds) xs e in
-      let (ys, is, denoted) = each-denotes takes (earlier ++ a.0 ∷ []) ds xs a.2 in (
+  unfolding each_row
+  each_row-denotes takes earlier [] xs e = ([], sym (ok_injective earlier xs e) ∙ sym (append-nil earlier), tt)
+  each_row-denotes takes earlier (d ∷ ds) xs e =
+      let a = bind_ok (one (length earlier) d) (λ x. each_row one (earlier ++ x ∷ []) ds) xs e in
+      let (ys, is, denoted) = each_row-denotes takes (earlier ++ a.0 ∷ []) ds xs a.2 in (
         a.0 ∷ ys,
         is ∙ append_assoc earlier (a.0 ∷ []) ys,
         (
@@ -70,28 +70,28 @@ module _ {X : Type 0} (one : ℕ → Data → Result X CertFault) (Denotation : 
         ),
       )
 
-  pub each-from_denotes : ((n : ℕ) (d : Data) (x : X) → Denotation n d x → one n d ≡ Ok x)
+  pub each_row-from_denotes : ((n : ℕ) (d : Data) (x : X) → Denotation n d x → one n d ≡ Ok x)
       → (earlier : List X) (ds : List Data) (xs : List X) → EachDenotes Denotation (length earlier) ds xs
-      → each one earlier ds ≡ Ok (earlier ++ xs)
-  unfolding each
-  each-from_denotes again earlier [] [] s = ap Ok (sym (append-nil earlier))
-  each-from_denotes again earlier [] (x ∷ xs) s = absurd s
-  each-from_denotes again earlier (d ∷ ds) [] s = absurd s
-  each-from_denotes again earlier (d ∷ ds) (x ∷ xs) s =
+      → each_row one earlier ds ≡ Ok (earlier ++ xs)
+  unfolding each_row
+  each_row-from_denotes again earlier [] [] s = ap Ok (sym (append-nil earlier))
+  each_row-from_denotes again earlier [] (x ∷ xs) s = absurd s
+  each_row-from_denotes again earlier (d ∷ ds) [] s = absurd s
+  each_row-from_denotes again earlier (d ∷ ds) (x ∷ xs) s =
       let denoted = subst (λ n. EachDenotes Denotation n ds xs) (sym (length-push earlier x)) s.1 in
-      rw (again (length earlier) d x s.0) (each-from_denotes again (earlier ++ x ∷ []) ds xs denoted
+      rw (again (length earlier) d x s.0) (each_row-from_denotes again (earlier ++ x ∷ []) ds xs denoted
       ∙ ap Ok (append_assoc earlier (x ∷ []) xs))
 
   -- all of them, from the first one on
-  pub each-denotes_all : ((n : ℕ) (d : Data) (x : X) → one n d ≡ Ok x → Denotation n d x)
-      → (ds : List Data) (xs : List X) → each one [] ds ≡ Ok xs → EachDenotes Denotation 0 ds xs
-  each-denotes_all takes ds xs e =
-      let (ys, is, denoted) = each-denotes takes [] ds xs e in
+  pub each_row-denotes_all : ((n : ℕ) (d : Data) (x : X) → one n d ≡ Ok x → Denotation n d x)
+      → (ds : List Data) (xs : List X) → each_row one [] ds ≡ Ok xs → EachDenotes Denotation 0 ds xs
+  each_row-denotes_all takes ds xs e =
+      let (ys, is, denoted) = each_row-denotes takes [] ds xs e in
       subst (λ (zs : List X). EachDenotes Denotation 0 ds zs) (sym is) denoted
 
-  pub each-from_denotes_all : ((n : ℕ) (d : Data) (x : X) → Denotation n d x → one n d ≡ Ok x)
-      → (ds : List Data) (xs : List X) → EachDenotes Denotation 0 ds xs → each one [] ds ≡ Ok xs
-  each-from_denotes_all again ds xs denoted = each-from_denotes again [] ds xs denoted
+  pub each_row-from_denotes_all : ((n : ℕ) (d : Data) (x : X) → Denotation n d x → one n d ≡ Ok x)
+      → (ds : List Data) (xs : List X) → EachDenotes Denotation 0 ds xs → each_row one [] ds ≡ Ok xs
+  each_row-from_denotes_all again ds xs denoted = each_row-from_denotes again [] ds xs denoted
 
 module _ {X : Type 0} (Denotation : ℕ → Data → X → Type 0) where
   pub length-EachDenotes : (n : ℕ) (ds : List Data) (xs : List X) → EachDenotes Denotation n ds xs
@@ -221,8 +221,8 @@ unfolding entries_of
 entries_of-denotes t list rows es few e =
     record {
       few = few;
-      each = each-denotes_all (λ n d. place (entry_place list (n + 1)) (entry_of t d)) (λ _. DenotesEntry t)
-          (λ n d x read. entry_of-denotes t d x (place_ok (entry_place list (n + 1))
+      each = each_row-denotes_all (λ n d. locate_fault (entry_place list (n + 1)) (entry_of t d)) (λ _. DenotesEntry t)
+          (λ n d x read. entry_of-denotes t d x (locate_fault_ok (entry_place list (n + 1))
           (entry_of t d) x read)) rows es e;
     }
 
@@ -230,10 +230,10 @@ entries_of-from_denotes : (t : TopologyValue) (list : At) (rows : List Data) (es
     → DenotesEntries t rows es → entries_of t list rows ≡ Ok es
 unfolding entries_of
 entries_of-from_denotes t list rows es are =
-    each-from_denotes_all (λ n d. place (entry_place list (n + 1)) (entry_of t d)) (λ _. DenotesEntry t)
-    (λ n d x is. ap (place (entry_place list (n + 1))) (entry_of-from_denotes t d x is)) rows es are.each
+    each_row-from_denotes_all (λ n d. locate_fault (entry_place list (n + 1)) (entry_of t d)) (λ _. DenotesEntry t)
+    (λ n d x is. ap (locate_fault (entry_place list (n + 1))) (entry_of-from_denotes t d x is)) rows es are.each
 
--- what holds of each interface that is read holds of a forwarder
+-- what holds of each interface that is denoted holds of a forwarder
 pub IfSome-from_DenotesForwarder : (P : Interface → Type 0) (routers : List RouterRow)
     → ((d v : Data) (i : Interface) → DenotesInterface routers d v i → P i) → (router vif : Option Data)
     (forwarder : Option Interface) → DenotesForwarder routers router vif forwarder → IfSome forwarder P
@@ -250,7 +250,7 @@ IsWritableEntry-from_denotes t d e is =
           is.forwarder;
     }
 
--- entries that are read can be named
+-- entries that are denoted can be written
 pub IsWritableTree-from_denotes : (t : TopologyValue) (rows : List Data) (es : Tree) → DenotesEntries t rows es
     → IsWritableTree es
 IsWritableTree-from_denotes t rows es are =
@@ -275,18 +275,18 @@ are_texts_of_flow-dotted f = rw (
 ) refl
 
 slice_get-from_flow_at : (t : TopologyValue) (n : ℕ) (at : At) (f : Flow)
-    → place at (flow_at t n) ≡ Ok f → slice_get t.flows n ≡ Some f
+    → locate_fault at (flow_at t n) ≡ Ok f → slice_get t.flows n ≡ Some f
 slice_get-from_flow_at t n at f e = ok_or_ok (slice_get t.flows n) WrongFlows f
-    (place_ok at (flow_at t n) f e)
+    (locate_fault_ok at (flow_at t n) f e)
 
 pub flow_of-denotes : (t : TopologyValue) (n : ℕ) (d : Data) (es : Tree) → flow_of t n d ≡ Ok es
     → DenotesFlow t n d es
 unfolding flow_of reached_rows
 flow_of-denotes t n d es e =
-    let f = bind_ok (place (at.Flow (n + 1)) (flow_at t n)) _ es e in
-    let r = bind_ok (place (at.Flow (n + 1)) (reached_rows f.0 d)) _ es f.2 in
+    let f = bind_ok (locate_fault (at.Flow (n + 1)) (flow_at t n)) _ es e in
+    let r = bind_ok (locate_fault (at.Flow (n + 1)) (reached_rows f.0 d)) _ es f.2 in
     let o = bind_ok (object_of flow_keys d) _ r.0
-    (place_ok (at.Flow (n + 1)) (reached_rows f.0 d) r.0 r.1) in
+    (locate_fault_ok (at.Flow (n + 1)) (reached_rows f.0 d) r.0 r.1) in
     let group = bind_ok (text_at (codes "group") o.0) _ r.0 o.2 in
     let rows = bind_ok (list_at (codes "reached") o.0) _ r.0 group.2 in
     let source = bind_ok (text_at (codes "source") o.0) _ r.0 rows.2 in
@@ -323,15 +323,15 @@ flow_of-from_denotes t n d es is =
     )
     (entries_of-from_denotes t (at.Flow (n + 1)) is.rows es is.entries)
 
--- ---- trees and the flows that name them
+-- ---- trees, and the flows with the number of one
 
 pub tree_of-denotes : (t : TopologyValue) (n : ℕ) (d : Data) (es : Tree) → tree_of t n d ≡ Ok es
     → DenotesTree t d es
 unfolding tree_of tree_entry_rows
 tree_of-denotes t n d es e =
-    let r = bind_ok (place (at.Tree (n + 1)) (tree_entry_rows d)) _ es e in
+    let r = bind_ok (locate_fault (at.Tree (n + 1)) (tree_entry_rows d)) _ es e in
     let rows = bind_ok (list_of d) (at_most 1024) r.0
-    (place_ok (at.Tree (n + 1)) (tree_entry_rows d) r.0 r.1) in
+    (locate_fault_ok (at.Tree (n + 1)) (tree_entry_rows d) r.0 r.1) in
     let (same, few) = at_most-sound 1024 rows.0 r.0 rows.2 in
     record {
       rows = r.0;
@@ -353,7 +353,7 @@ below_count-sound count (Some m) n e =
     let same : m ≡ n = ok_injective m n t.1 in
     (ap Some same, subst (λ k. k < count) same (ltb-true m count t.0))
 
--- what is read of a flow that names a tree
+-- a flow of version 2 denotes the number of its tree
 pub record NamesTree (t : TopologyValue) (trees n : ℕ) (d : Data) (number : ℕ) : Type 0 where
   pub flow : Flow
   pub members : Members
@@ -368,9 +368,9 @@ pub NamesTree-from_shared_flow_of : (t : TopologyValue) (trees n : ℕ) (d : Dat
     → shared_flow_of t trees n d ≡ Ok m → NamesTree t trees n d m
 unfolding shared_flow_of tree_no_of
 NamesTree-from_shared_flow_of t trees n d m e =
-    let f = bind_ok (place (at.Flow (n + 1)) (flow_at t n)) _ m e in
+    let f = bind_ok (locate_fault (at.Flow (n + 1)) (flow_at t n)) _ m e in
     let o = bind_ok (object_of shared_flow_keys d) _ m
-    (place_ok (at.Flow (n + 1)) (tree_no_of f.0 trees d) m f.2) in
+    (locate_fault_ok (at.Flow (n + 1)) (tree_no_of f.0 trees d) m f.2) in
     let group = bind_ok (text_at (codes "group") o.0) _ m o.2 in
     let source = bind_ok (text_at (codes "source") o.0) _ m group.2 in
     let num = bind_ok (number_at (codes "tree") o.0) _ m source.2 in

@@ -1,5 +1,4 @@
--- A text that is read stands for what is read, and a text that stands for a certificate is read as
--- that.
+-- A text that is read denotes what is read, and a text that denotes a certificate is read as that.
 use Rattle.std.proofs.Common.{◌≡◌, ℕ, ◌+◌, ◌<◌, ◌≤◌, All, Bool, true, false, cond, List}
 use Rattle.std.proofs.Common.{[], ◌∷◌, length, map, codes, Option, Some, None, Ok, Err, nat_le, eqb}
 use Rattle.std.proofs.Common.{le-leb, refl, ap, subst, ◌∙◌}
@@ -19,7 +18,7 @@ use Rattle.mc_cert.specs.declared.fault.CertFaultKind.TheVariants.{NotJson, BadV
 use Rattle.mc_cert.specs.declared.fault.CertFaultKind.TheVariants.{BadKind, WrongFlows, TooMany}
 use Rattle.mc_cert.specs.declared.version.Version.{Version}
 use Rattle.mc_cert.specs.declared.version.Version.TheVariants.{One, Two}
-use Rattle.mc_cert.specs.Answer.{place, each}
+use Rattle.mc_cert.specs.Answer.{locate_fault, each_row}
 use Rattle.mc_cert.specs.Certificate.{Tree, tree_at, IsWritableTree}
 use Rattle.mc_cert.specs.Object.{has_only, number_at, list_at, at_most}
 use Rattle.mc_cert.specs.Reading.{parse_json, parse_bounded_json, members_of, version_of, top_keys, version_in}
@@ -34,7 +33,7 @@ use Rattle.mc_cert.proofs.Fields.{object-from_as_object, unsigned-from_as_u64, H
 use Rattle.mc_cert.proofs.Fields.{HasRows-from_list_at, list_at-from_HasRows, at_most-sound, at_most-complete}
 use Rattle.mc_cert.proofs.Fields.{IsObject-from_object_of, object_of-from_IsObject}
 use Rattle.mc_cert.proofs.StoredTrees.{slice_get-unwrap_or}
-use Rattle.mc_cert.proofs.CertificateParts.{place_ok, each-denotes_all, each-from_denotes_all, All-from_EachDenotes}
+use Rattle.mc_cert.proofs.CertificateParts.{locate_fault_ok, each_row-denotes_all, each_row-from_denotes_all, All-from_EachDenotes}
 use Rattle.mc_cert.proofs.CertificateParts.{IsWritableTree-from_denotes, flow_of-denotes, flow_of-from_denotes, tree_of-denotes, tree_of-from_denotes}
 use Rattle.mc_cert.proofs.CertificateParts.{NamesTree, NamesTree-from_shared_flow_of, shared_flow_of-from_NamesTree}
 
@@ -63,14 +62,14 @@ flows_in-denotes : (t : TopologyValue) (ms : Members) (flows : List Tree)
     → flows_in t ms ≡ Ok flows → DenotesVersionOne t ms flows
 unfolding flows_in
 flows_in-denotes t ms flows e =
-    let r = bind_ok (place Top (flow_rows t ms)) (λ rows. each (flow_of t) [] rows) flows e in
-    let (has, count) = HasRows-from_flow_rows t ms r.0 (place_ok Top (flow_rows t ms) r.0 r.1) in
+    let r = bind_ok (locate_fault Top (flow_rows t ms)) (λ rows. each_row (flow_of t) [] rows) flows e in
+    let (has, count) = HasRows-from_flow_rows t ms r.0 (locate_fault_ok Top (flow_rows t ms) r.0 r.1) in
     record {
       rows = r.0;
       list = has;
       count = count;
       each =
-          each-denotes_all (flow_of t) (DenotesFlow t) (flow_of-denotes t) r.0 flows r.2;
+          each_row-denotes_all (flow_of t) (DenotesFlow t) (flow_of-denotes t) r.0 flows r.2;
     }
 
 flows_in-from_denotes : (t : TopologyValue) (ms : Members) (flows : List Tree) → DenotesVersionOne t ms flows
@@ -78,14 +77,14 @@ flows_in-from_denotes : (t : TopologyValue) (ms : Members) (flows : List Tree) �
 unfolding flows_in
 flows_in-from_denotes t ms flows is =
     rw (flow_rows-from_HasRows t ms is.rows is.list is.count)
-    (each-from_denotes_all (flow_of t) (DenotesFlow t) (flow_of-from_denotes t) is.rows flows is.each)
+    (each_row-from_denotes_all (flow_of t) (DenotesFlow t) (flow_of-from_denotes t) is.rows flows is.each)
 
--- the lists that are read keep to their rules
+-- the entries of flows that are read can be written
 pub IsWritableTree-from_flow_rows : (t : TopologyValue) (rows : List Data) (flows : List Tree)
-    → each (flow_of t) [] rows ≡ Ok flows → All IsWritableTree flows
+    → each_row (flow_of t) [] rows ≡ Ok flows → All IsWritableTree flows
 IsWritableTree-from_flow_rows t rows flows e =
     All-from_EachDenotes (DenotesFlow t) IsWritableTree (λ _ d es is. IsWritableTree-from_denotes t is.rows es is.entries) 0 rows flows
-    (each-denotes_all (flow_of t) (DenotesFlow t) (flow_of-denotes t) rows flows e)
+    (each_row-denotes_all (flow_of t) (DenotesFlow t) (flow_of-denotes t) rows flows e)
 
 -- ---- version 2
 
@@ -163,13 +162,13 @@ shared_flows_in-denotes : (t : TopologyValue) (ms : Members) (flows : List Tree)
     → shared_flows_in t ms ≡ Ok flows → DenotesVersionTwo t ms flows
 unfolding shared_flows_in
 shared_flows_in-denotes t ms flows e =
-    let r = bind_ok (place Top (flow_rows t ms)) _ flows e in
-    let l = bind_ok (place Top (tree_rows ms)) _ flows r.2 in
-    let trees = bind_ok (each (tree_of t) [] l.0) _ flows l.2 in
-    let numbers = bind_ok (each (shared_flow_of t (length trees.0)) [] r.0) _ flows trees.2 in
-    let (has, count) = HasRows-from_flow_rows t ms r.0 (place_ok Top (flow_rows t ms) r.0 r.1) in
-    let (has_trees, few) = HasRows-from_tree_rows ms l.0 (place_ok Top (tree_rows ms) l.0 l.1) in
-    let named = each-denotes_all (shared_flow_of t (length trees.0)) (NamesTree t (length trees.0))
+    let r = bind_ok (locate_fault Top (flow_rows t ms)) _ flows e in
+    let l = bind_ok (locate_fault Top (tree_rows ms)) _ flows r.2 in
+    let trees = bind_ok (each_row (tree_of t) [] l.0) _ flows l.2 in
+    let numbers = bind_ok (each_row (shared_flow_of t (length trees.0)) [] r.0) _ flows trees.2 in
+    let (has, count) = HasRows-from_flow_rows t ms r.0 (locate_fault_ok Top (flow_rows t ms) r.0 r.1) in
+    let (has_trees, few) = HasRows-from_tree_rows ms l.0 (locate_fault_ok Top (tree_rows ms) l.0 l.1) in
+    let named = each_row-denotes_all (shared_flow_of t (length trees.0)) (NamesTree t (length trees.0))
     (NamesTree-from_shared_flow_of t (length trees.0)) r.0 numbers.0 numbers.1 in
     record {
       rows = r.0;
@@ -179,7 +178,7 @@ shared_flows_in-denotes t ms flows e =
       count = count;
       tree_list = has_trees;
       few_trees = few;
-      each_tree = each-denotes_all (tree_of t) (λ _. DenotesTree t) (tree_of-denotes t) l.0 trees.0 trees.1;
+      each_tree = each_row-denotes_all (tree_of t) (λ _. DenotesTree t) (tree_of-denotes t) l.0 trees.0 trees.1;
       each = subst (λ (xs : List Tree). EachDenotes (DenotesSharedFlow t trees.0) 0 r.0 xs)
           (ok_injective (map (tree_at trees.0) numbers.0) flows numbers.2)
           (EachDenotes-from_NamesTree t trees.0 0 r.0 numbers.0 named);
@@ -193,26 +192,26 @@ shared_flows_in-from_denotes t ms flows is =
     rw (
       flow_rows-from_HasRows t ms is.rows is.list is.count,
       tree_rows-from_HasRows ms is.tree_rows is.tree_list is.few_trees,
-      each-from_denotes_all (tree_of t) (λ _. DenotesTree t) (tree_of-from_denotes t) is.tree_rows is.trees
+      each_row-from_denotes_all (tree_of t) (λ _. DenotesTree t) (tree_of-from_denotes t) is.tree_rows is.trees
           is.each_tree,
-      each-from_denotes_all (shared_flow_of t (length is.trees))
+      each_row-from_denotes_all (shared_flow_of t (length is.trees))
           (NamesTree t (length is.trees)) (shared_flow_of-from_NamesTree t (length is.trees)) is.rows
           numbers named,
     )
     (ap Ok same)
 
--- what is read keeps to the rules of a certificate
+-- trees that are read can be written, and the numbers of trees are below their count
 pub IsWritableTree-from_tree_rows : (t : TopologyValue) (rows : List Data) (trees : List Tree)
-    → each (tree_of t) [] rows ≡ Ok trees → All IsWritableTree trees
+    → each_row (tree_of t) [] rows ≡ Ok trees → All IsWritableTree trees
 IsWritableTree-from_tree_rows t rows trees e =
     All-from_EachDenotes (λ _. DenotesTree t) IsWritableTree (λ _ d es is. IsWritableTree-from_denotes t is.rows es is.entries) 0 rows
-    trees (each-denotes_all (tree_of t) (λ _. DenotesTree t) (tree_of-denotes t) rows trees e)
+    trees (each_row-denotes_all (tree_of t) (λ _. DenotesTree t) (tree_of-denotes t) rows trees e)
 
 pub tree_numbers-below_count : (t : TopologyValue) (trees : ℕ) (rows : List Data) (ms : List ℕ)
-    → each (shared_flow_of t trees) [] rows ≡ Ok ms → All (λ n. n < trees) ms
+    → each_row (shared_flow_of t trees) [] rows ≡ Ok ms → All (λ n. n < trees) ms
 tree_numbers-below_count t trees rows ms e =
     All-from_EachDenotes (NamesTree t trees) (λ n. n < trees) (λ _ d m is. is.in_range) 0 rows ms
-    (each-denotes_all (shared_flow_of t trees) (NamesTree t trees) (NamesTree-from_shared_flow_of t trees) rows ms e)
+    (each_row-denotes_all (shared_flow_of t trees) (NamesTree t trees) (NamesTree-from_shared_flow_of t trees) rows ms e)
 
 -- ---- the version
 
@@ -276,21 +275,21 @@ flows_of_version-from_denotes Two t ms flows is = shared_flows_in-from_denotes t
 
 -- ---- the text
 
--- a text that is read stands for what is read
+-- a text that is read denotes what is read
 pub parse_certificate-denotes : (t : TopologyValue) (text : List ℕ) (flows : List Tree)
     → parse_certificate t text ≡ Ok flows → DenotesCertificate t text flows
 unfolding parse_certificate parse_bounded_json parse_json
 parse_certificate-denotes t text flows e =
-    let v = bind_ok (place Top (parse_bounded_json text)) _ flows e in
-    let m = bind_ok (place Top (members_of v.0)) _ flows v.2 in
-    let version = bind_ok (place Top (version_in m.0)) _ flows m.2 in
+    let v = bind_ok (locate_fault Top (parse_bounded_json text)) _ flows e in
+    let m = bind_ok (locate_fault Top (members_of v.0)) _ flows v.2 in
+    let version = bind_ok (locate_fault Top (version_in m.0)) _ flows m.2 in
     let few = test_ok (nat_le (length text) 16777216) TooMany (parse_json text) v.0
-    (place_ok Top (parse_bounded_json text) v.0 v.1) in
+    (locate_fault_ok Top (parse_bounded_json text) v.0 v.1) in
     let utf8 = test_ok (is_utf8 text) NotJson (ok_or (read text) NotJson) v.0 few.1 in
     let (version_is, keys) = HasNumber-from_version_in m.0 version.0
-    (place_ok Top (version_in m.0) version.0 version.1) in
+    (locate_fault_ok Top (version_in m.0) version.0 version.1) in
     let is_object = object-from_as_object v.0 m.0 (ok_or_ok (as_object v.0) BadKind m.0
-    (place_ok Top (members_of v.0) m.0 m.1)) in
+    (locate_fault_ok Top (members_of v.0) m.0 m.1)) in
     record {
       document = m.0;
       version = version.0;
@@ -302,7 +301,7 @@ parse_certificate-denotes t text flows e =
       denotes = flows_of_version-denotes version.0 t m.0 flows version.2;
     }
 
--- a text that stands for a certificate is read as that
+-- a text that denotes a certificate is read as that
 pub parse_certificate-from_denotes : (t : TopologyValue) (text : List ℕ) (flows : List Tree)
     → DenotesCertificate t text flows → parse_certificate t text ≡ Ok flows
 unfolding parse_certificate parse_bounded_json parse_json

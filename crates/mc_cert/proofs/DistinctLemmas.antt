@@ -1,4 +1,4 @@
--- The different trees among trees, and the place of a tree among them.
+-- The distinct trees among trees, and the number of a tree among them.
 use Rattle.std.proofs.Common.{◌≡◌, ℕ, zero, suc, ◌+◌, ◌<◌, ◌≤◌, Bool, true, false, cond, not}
 use Rattle.std.proofs.Common.{nat_lt, ◌==◌, List, [], ◌∷◌, ◌++◌, length, get_or, fold, All, Option}
 use Rattle.std.proofs.Common.{Some, None, option_map, refl, sym, ap, subst, ◌∙◌, arith}
@@ -42,7 +42,7 @@ module _ {X : Type 0} (p : X → Bool) where
   None-from_cond false None e = (refl, refl)
   None-from_cond false (Some n) e = absurd cc
 
-  -- one more behind them that passes is the first, where none of them does
+  -- an added item that passes is the first to pass, where no other does
   pub position-push_new : (xs : List X) (y : X) → position p xs ≡ None → p y ≡ true
       → position p (xs ++ y ∷ []) ≡ Some (length xs)
   position-push_new [] y none passes = position-cons y [] ∙ rw passes refl
@@ -50,7 +50,7 @@ module _ {X : Type 0} (p : X → Bool) where
       let parts = None-from_cond (p x) (position p xs) (sym (position-cons x xs) ∙ none) in
       position-cons x (xs ++ y ∷ []) ∙ rw (parts.0, position-push_new xs y parts.1 passes) refl
 
-  -- one more behind them that fails changes nothing
+  -- an added item that fails changes nothing
   pub position-push_failing : (xs : List X) (y : X) → p y ≡ false
       → position p (xs ++ y ∷ []) ≡ position p xs
   position-push_failing [] y fails = position-cons y [] ∙ rw fails refl
@@ -65,7 +65,7 @@ module _ {X : Type 0} (p : X → Bool) where
   position-append_by_cases false None k more e same = absurd cc
   position-append_by_cases false (Some n) k more e same = ap (option_map suc) (same n refl) ∙ e
 
-  -- what stands behind them doesn't change the first
+  -- appended items don't change the first that passes
   pub position-append : (xs ys : List X) (k : ℕ) → position p xs ≡ Some k
       → position p (xs ++ ys) ≡ Some k
   position-append [] ys k e = absurd cc
@@ -73,7 +73,7 @@ module _ {X : Type 0} (p : X → Bool) where
       position-cons x (xs ++ ys) ∙ position-append_by_cases (p x) (position p xs) k (position p (xs ++ ys))
       (sym (position-cons x xs) ∙ e) (λ n here. position-append xs ys n here)
 
--- ---- which trees are the same
+-- ---- which trees are equal
 
 same_interface-Decides : (i j : Interface) → (same_interface i j ≡ true → i ≡ j)
     × (i ≡ j → same_interface i j ≡ true)
@@ -131,38 +131,36 @@ same_tree-flip_false a b e = other (same_tree b a) refl where
       let back = (same_tree-Decides a b).1 (sym ((same_tree-Decides b a).0 is)) in
       absurd cc
 
--- ---- places
-
--- one more tree
+-- ---- numbers of trees
 
 pub find_tree-push_new : (trees : List Tree) (es : Tree) → find_tree trees es ≡ None
     → find_tree (trees ++ es ∷ []) es ≡ Some (length trees)
 find_tree-push_new trees es none = position-push_new (same_tree es) trees es none
     ((same_tree-Decides es es).1 refl)
 
-pub with_tree-known : (trees : List Tree) (es : Tree) (place : ℕ) → find_tree trees es ≡ Some place
+pub with_tree-known : (trees : List Tree) (es : Tree) (tree_no : ℕ) → find_tree trees es ≡ Some tree_no
     → with_tree trees es ≡ trees
-with_tree-known trees es place e = rw e refl
+with_tree-known trees es tree_no e = rw e refl
 
 pub with_tree-new : (trees : List Tree) (es : Tree) → find_tree trees es ≡ None
     → with_tree trees es ≡ trees ++ es ∷ []
 with_tree-new trees es e = rw e refl
 
--- a tree stays where it is
-pub find_tree-with_tree : (trees : List Tree) (es more : Tree) (place : ℕ) → find_tree trees es ≡ Some place
-    → find_tree (with_tree trees more) es ≡ Some place
-find_tree-with_tree trees es more place e = by (is_some (find_tree trees more)) where
-  by : (b : Bool) → find_tree (cond b trees (trees ++ more ∷ [])) es ≡ Some place
+-- a tree keeps its number
+pub find_tree-with_tree : (trees : List Tree) (es more : Tree) (tree_no : ℕ) → find_tree trees es ≡ Some tree_no
+    → find_tree (with_tree trees more) es ≡ Some tree_no
+find_tree-with_tree trees es more tree_no e = by (is_some (find_tree trees more)) where
+  by : (b : Bool) → find_tree (cond b trees (trees ++ more ∷ [])) es ≡ Some tree_no
   by true = e
-  by false = position-append (same_tree es) trees (more ∷ []) place e
+  by false = position-append (same_tree es) trees (more ∷ []) tree_no e
 
-pub find_tree-fold_with_tree : (trees : List Tree) (es : Tree) (place : ℕ) (flows : List Tree)
-    → find_tree trees es ≡ Some place → find_tree (fold with_tree trees flows) es ≡ Some place
-find_tree-fold_with_tree trees es place [] e = e
-find_tree-fold_with_tree trees es place (f ∷ flows) e = find_tree-fold_with_tree (with_tree trees f) es place flows
-    (find_tree-with_tree trees es f place e)
+pub find_tree-fold_with_tree : (trees : List Tree) (es : Tree) (tree_no : ℕ) (flows : List Tree)
+    → find_tree trees es ≡ Some tree_no → find_tree (fold with_tree trees flows) es ≡ Some tree_no
+find_tree-fold_with_tree trees es tree_no [] e = e
+find_tree-fold_with_tree trees es tree_no (f ∷ flows) e = find_tree-fold_with_tree (with_tree trees f) es tree_no flows
+    (find_tree-with_tree trees es f tree_no e)
 
--- ---- one tree more
+-- ---- an added tree
 
 tree_at-append : (trees more : List Tree) (n : ℕ) → n < length trees
     → tree_at (trees ++ more) n ≡ tree_at trees n
@@ -170,7 +168,7 @@ tree_at-append [] more n lt = absurd (omega (arith, lt))
 tree_at-append (t ∷ trees) more zero lt = refl
 tree_at-append (t ∷ trees) more (suc n) lt = tree_at-append trees more n (omega (arith, lt))
 
--- a tree stays at its place
+-- a number keeps its tree
 pub tree_at-with_tree : (trees : List Tree) (es : Tree) (n : ℕ) → n < length trees
     → tree_at (with_tree trees es) n ≡ tree_at trees n
 tree_at-with_tree trees es n lt = by (is_some (find_tree trees es)) where
@@ -184,13 +182,13 @@ length-with_tree trees es = by (is_some (find_tree trees es)) where
   by true = omega arith
   by false = omega (arith, length-append trees (es ∷ []))
 
--- there are no more different trees than flows
+-- there are no more distinct trees than flows
 pub length-fold_with_tree : (trees flows : List Tree)
     → length (fold with_tree trees flows) ≤ length trees + length flows
 length-fold_with_tree trees [] = omega arith
 length-fold_with_tree trees (f ∷ flows) = omega (arith, length-fold_with_tree (with_tree trees f) flows, length-with_tree trees f)
 
--- a tree stands at its place
+-- the tree with the number of a tree is that tree
 pub slice_get-find_tree : (trees : List Tree) (es : Tree) (n : ℕ) → find_tree trees es ≡ Some n
     → (n < length trees) × (slice_get trees n ≡ Some es)
 slice_get-find_tree trees es n e =
@@ -198,7 +196,7 @@ slice_get-find_tree trees es n e =
     let same : es ≡ get_or trees n es = (same_tree-Decides es (get_or trees n es)).0 at.1 in
     (at.0, slice_get-get_or trees n es at.0 ∙ ap Some (sym same))
 
--- what holds of all flows holds of the different trees
+-- what holds of the trees of all flows holds of the distinct trees
 module _ (P : Tree → Type 0) where
   pub All-with_tree : (trees : List Tree) (es : Tree) → All P trees → P es → All P (with_tree trees es)
   All-with_tree trees es all here = by (is_some (find_tree trees es)) where

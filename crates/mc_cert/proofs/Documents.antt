@@ -1,4 +1,4 @@
--- The JSON value that a certificate's text is, and what its entries and trees stand for.
+-- The JSON value of a certificate's text, and what its entries and trees denote.
 use Rattle.std.proofs.Common.{◌≡◌, ℕ, zero, suc, ◌+◌, ◌^◌, ◌<◌, ◌≤◌, All, Bool, true, false}
 use Rattle.std.proofs.Common.{List, [], ◌∷◌, ◌++◌, length, map, codes, decimal, Option, Some}
 use Rattle.std.proofs.Common.{None, option_map, unwrap_or, IfSome, refl, sym, ap, ap₂}
@@ -65,14 +65,14 @@ abbrev pub flow_data : Flow × ℕ → Data
 flow_data p = object (flow_members p)
 
 abbrev pub document : TopologyValue → List ℕ → List Tree → Members
-document t places trees =
-    member (codes "flows") (array (items_from flow_data (zip t.flows places)))
+document t tree_numbers trees =
+    member (codes "flows") (array (items_from flow_data (zip t.flows tree_numbers)))
     (member (codes "trees") (array (items_from (tree_data t) trees))
     (member (codes "version") (number (unsigned 2)) no_members))
 
 -- ---- its text
 
--- what ends with a byte, and then the rest
+-- a text with its last byte, and then the rest
 append-closing_byte : (s x : List ℕ) (b : ℕ) (rest : List ℕ) → s ++ b ∷ [] ≡ x → s ++ b ∷ rest ≡ x ++ rest
 append-closing_byte s x b rest e = sym (append_assoc s (b ∷ []) rest) ∙ ap (λ y. y ++ rest) e
 
@@ -137,20 +137,20 @@ flow_text-compact p =
     spelled (dotted p.0.group) (escape (dotted p.0.group)) (dotted p.0.source)
     (escape (dotted p.0.source)) (decimal p.1) (escape-plain _ (IsPlain-dotted p.0.group))
     (escape-plain _ (IsPlain-dotted p.0.source)) where
-      spelled : (group escaped_group source escaped_source place : List ℕ) → escaped_group ≡ group
+      spelled : (group escaped_group source escaped_source tree_no : List ℕ) → escaped_group ≡ group
           → escaped_source ≡ source
           → codes "{\"group\":\"" ++ group ++ codes "\",\"source\":\"" ++ source ++ codes
-          "\",\"tree\":" ++ place ++ codes "}"
+          "\",\"tree\":" ++ tree_no ++ codes "}"
           ≡ 123 ∷ (quoted (codes "group") ++ 58 ∷ ((34 ∷ (escaped_group ++ 34 ∷ []))
           ++ (44 ∷ (quoted (codes "source") ++ 58
           ∷ ((34 ∷ (escaped_source ++ 34 ∷ []))
-          ++ (44 ∷ (quoted (codes "tree") ++ 58 ∷ (place ++ 125 ∷ []))))))))
-      spelled group escaped_group source escaped_source place e f =
+          ++ (44 ∷ (quoted (codes "tree") ++ 58 ∷ (tree_no ++ 125 ∷ []))))))))
+      spelled group escaped_group source escaped_source tree_no e f =
           let start = codes "{\"group\":\"" in
           let middle = codes ",\"source\":\"" in
-          let tail = 44 ∷ (quoted (codes "tree") ++ 58 ∷ (place ++ 125 ∷ [])) in
+          let tail = 44 ∷ (quoted (codes "tree") ++ 58 ∷ (tree_no ++ 125 ∷ [])) in
           let flat : start ++ group ++ codes "\",\"source\":\"" ++ source ++ codes
-          "\",\"tree\":" ++ place ++ codes "}"
+          "\",\"tree\":" ++ tree_no ++ codes "}"
           ≡ start ++ (group ++ 34 ∷ (middle ++ (source ++ 34 ∷ tail))) =
           simp append_assoc in
           flat ∙ ap (λ s. start ++ (group ++ 34 ∷ (middle ++ s)))
@@ -185,45 +185,45 @@ certificate_text-compact flows trees flow_items tree_items e f =
     ++ (middle ++ (tree_items ++ (codes ",\"version\":" ++ (two ++ codes "}"))))))
     (sym (decimal_digit 2 (lit< tt)))
 
--- ---- elements one by one
+-- ---- the elements of a list
 
 module _ {A : Type 0} (P : A → Type 0) where
-  -- what holds of the element with each number holds of one after the other
+  -- what holds of all elements by number holds of them by recursion
   pub AllByRecursion-from_All : (xs : List A) → All P xs → AllByRecursion P xs
   AllByRecursion-from_All [] all = tt
   AllByRecursion-from_All (x ∷ xs) all =
       (all zero x (omega arith), AllByRecursion-from_All xs (λ k d lt. all (suc k) d (omega (arith, lt))))
 
-  -- what holds of all holds of each
+  -- and what always holds does
   AllByRecursion-from_always : ((x : A) → P x) → (xs : List A) → AllByRecursion P xs
   AllByRecursion-from_always holds [] = tt
   AllByRecursion-from_always holds (x ∷ xs) = (holds x, AllByRecursion-from_always holds xs)
 
-  -- what follows from it holds of each as well
+  -- and what follows from it does
   pub AllByRecursion-implies : (Q : A → Type 0) → ((x : A) → P x → Q x) → (xs : List A) → AllByRecursion P xs
       → AllByRecursion Q xs
   AllByRecursion-implies Q follows [] all = tt
   AllByRecursion-implies Q follows (x ∷ xs) (here, all) = (follows x here, AllByRecursion-implies Q follows xs all)
 
--- what holds of each element's image holds of each of the images
+-- what holds of the image of each element holds of the images
 pub AllByRecursion-map : {A B : Type 0} (P : B → Type 0) (f : A → B) (xs : List A)
     → AllByRecursion (λ x. P (f x)) xs → AllByRecursion P (map f xs)
 AllByRecursion-map P f [] all = tt
 AllByRecursion-map P f (x ∷ xs) (here, all) = (here, AllByRecursion-map P f xs all)
 
--- what holds of each second one holds of the second of each pair
+-- what holds of the elements of the second list holds of the second in each pair
 AllByRecursion-zip : {A B : Type 0} (P : B → Type 0) (xs : List A) (ys : List B) → AllByRecursion P ys
     → AllByRecursion (λ (p : A × B). P p.1) (zip xs ys)
 AllByRecursion-zip P [] ys all = tt
 AllByRecursion-zip P (x ∷ xs) [] all = tt
 AllByRecursion-zip P (x ∷ xs) (y ∷ ys) (here, all) = (here, AllByRecursion-zip P xs ys all)
 
--- as many pairs as there are of each
+-- two lists of the same length have as many pairs
 pub length-zip_equal : {A B : Type 0} (xs : List A) (ys : List B) → length ys ≡ length xs
     → length (zip xs ys) ≡ length xs
 length-zip_equal xs ys e = omega (arith, length-zip xs ys, e)
 
--- a list has a row for each of what it is made of
+-- a list has a row for each element that it is made of
 pub length-rows_in : {A : Type 0} (f : A → Data) (xs : List A)
     → length (rows_in (items_from f xs)) ≡ length xs
 length-rows_in f [] = refl
@@ -325,7 +325,7 @@ forwarder_members-denotes t rules name need rank (Some i) is =
       },
     )
 
--- the value of an entry is one that is read again
+-- the value of an entry is read back from its text
 IsReadBack-entry_data : (t : TopologyValue) (e : Entry) → IsValidTopology t → IsWritableEntryFor t e
     → IsReadBack 1 (entry_data t e)
 IsReadBack-entry_data t e rules is =
@@ -340,14 +340,14 @@ IsReadBack-entry_data t e rules is =
     (HasReadBack-member 0 (codes "rank") _ _ (IsUtf8-are_ascii _ refl) (IsReadBack-number 0 e.rank rank_small)
     (HasReadBack-forwarder_members t rules e.forwarder forwarder))))
 
--- its text is an entry's
+-- its text is the entry's
 entry_text-of_writable : (t : TopologyValue) (e : Entry) → IsValidTopology t → IsWritableEntryFor t e
     → entry_text t e ≡ compact_text (entry_data t e)
 entry_text-of_writable t e rules is =
     entry_text-from_plain_names t e (escape-plain (lan_name t e.lan) (lan_name-is_plain t e.lan rules is.among.lan))
     (escape-forwarder_router t rules e.forwarder (IsListedInterface-from_parts t e.forwarder is.among.router is.writable.vif))
 
--- it stands for the entry
+-- it denotes the entry
 entry_data-denotes : (t : TopologyValue) (e : Entry) → IsValidTopology t → IsWritableEntryFor t e
     → DenotesEntry t (entry_data t e) e
 entry_data-denotes t e rules is =
@@ -374,13 +374,13 @@ entry_data-denotes t e rules is =
 -- ---- trees
 
 module _ {X : Type 0} (Denotation : ℕ → Data → X → Type 0) (f : X → Data) where
-  -- rows that each stand for what they are made of, whatever their numbers
+  -- rows denote what they are made of, where each does, whatever its number
   pub items_from-denotes : (n : ℕ) (xs : List X) → AllByRecursion (λ x. (m : ℕ) → Denotation m (f x) x) xs
       → EachDenotes Denotation n (rows_in (items_from f xs)) xs
   items_from-denotes n [] all = tt
   items_from-denotes n (x ∷ xs) (here, all) = (here n, items_from-denotes (n + 1) xs all)
 
--- the value of a tree is one that is read again
+-- the value of a tree is read back from its text
 IsReadBack-tree_data : (t : TopologyValue) (es : Tree) → IsValidTopology t → IsWritableTreeFor t es
     → IsReadBack 2 (tree_data t es)
 IsReadBack-tree_data t es rules is =
@@ -388,7 +388,7 @@ IsReadBack-tree_data t es rules is =
     (AllByRecursion-implies (IsWritableEntryFor t) (λ e. IsReadBack 1 (entry_data t e))
     (λ e written. IsReadBack-entry_data t e rules written) es (AllByRecursion-from_All (IsWritableEntryFor t) es is.each)))
 
--- its text is a tree's
+-- its text is the tree's
 tree_text-of_writable : (t : TopologyValue) (es : Tree) → IsValidTopology t → IsWritableTreeFor t es
     → tree_text t es ≡ compact_text (tree_data t es)
 tree_text-of_writable t es rules is =
@@ -397,7 +397,7 @@ tree_text-of_writable t es rules is =
     (AllByRecursion-implies (IsWritableEntryFor t) (λ e. entry_text t e ≡ compact_text (entry_data t e))
     (λ e written. entry_text-of_writable t e rules written) es (AllByRecursion-from_All (IsWritableEntryFor t) es is.each)))
 
--- it stands for the tree
+-- it denotes the tree
 pub tree_data-denotes : (t : TopologyValue) (es : Tree) → IsValidTopology t → IsWritableTreeFor t es
     → DenotesTree t (tree_data t es) es
 tree_data-denotes t es rules is =
@@ -446,36 +446,36 @@ of_members-document : (flows trees : Items) (n : ℕ) → of_items (items_outlin
     (number (unsigned n)) no_members)))
 of_members-document flows trees n e f small = rw (e, f, number_of-decimal n small) refl
 
--- the whole value is one that is read again
-pub IsReadBack-document : (t : TopologyValue) (places : List ℕ) (trees : List Tree) → IsValidTopology t
-    → AllByRecursion (λ n. n < 2 ^ 64) places → AllByRecursion (IsWritableTreeFor t) trees
-    → IsReadBack 127 (object (document t places trees))
-IsReadBack-document t places trees rules small written =
+-- the value of the whole text is read back from it
+pub IsReadBack-document : (t : TopologyValue) (tree_numbers : List ℕ) (trees : List Tree) → IsValidTopology t
+    → AllByRecursion (λ n. n < 2 ^ 64) tree_numbers → AllByRecursion (IsWritableTreeFor t) trees
+    → IsReadBack 127 (object (document t tree_numbers trees))
+IsReadBack-document t tree_numbers trees rules small written =
     let flows_good =
-    AreReadBack-items_from flow_data 2 (zip t.flows places)
+    AreReadBack-items_from flow_data 2 (zip t.flows tree_numbers)
     (AllByRecursion-implies (λ (p : Flow × ℕ). p.1 < 2 ^ 64) (λ (p : Flow × ℕ). IsReadBack 2 (flow_data p))
-    IsReadBack-flow_data (zip t.flows places) (AllByRecursion-zip (λ n. n < 2 ^ 64) t.flows places small)) in
+    IsReadBack-flow_data (zip t.flows tree_numbers) (AllByRecursion-zip (λ n. n < 2 ^ 64) t.flows tree_numbers small)) in
     let trees_good = AreReadBack-items_from (tree_data t) 2 trees
     (AllByRecursion-implies (IsWritableTreeFor t) (λ es. IsReadBack 2 (tree_data t es))
     (λ es is. IsReadBack-tree_data t es rules is) trees written) in
     IsReadBack-deeper 4 127 _ (omega arith)
-    (IsReadBack-object 3 (document t places trees) (of_members-document _ _ 2 flows_good.reads trees_good.reads
+    (IsReadBack-object 3 (document t tree_numbers trees) (of_members-document _ _ 2 flows_good.reads trees_good.reads
     (omega arith))
     (HasReadBack-member 3 (codes "flows") _ _ (IsUtf8-are_ascii _ refl) (IsReadBack-array 2 _ flows_good)
     (HasReadBack-member 3 (codes "trees") _ _ (IsUtf8-are_ascii _ refl) (IsReadBack-array 2 _ trees_good)
     (HasReadBack-member 3 (codes "version") _ no_members (IsUtf8-are_ascii _ refl)
     (IsReadBack-number 3 2 (omega arith)) (HasReadBack-none 3)))))
 
--- its text is that of the numbers and the trees
-pub version_two_text-compact : (t : TopologyValue) (places : List ℕ) (trees : List Tree) → IsValidTopology t
-    → AllByRecursion (IsWritableTreeFor t) trees → version_two_text t places trees
-    ≡ compact_text (object (document t places trees))
+-- its text is that of these numbers and trees
+pub version_two_text-compact : (t : TopologyValue) (tree_numbers : List ℕ) (trees : List Tree) → IsValidTopology t
+    → AllByRecursion (IsWritableTreeFor t) trees → version_two_text t tree_numbers trees
+    ≡ compact_text (object (document t tree_numbers trees))
 unfolding escape_byte
-version_two_text-compact t places trees rules written =
-    certificate_text-compact (listed (flow_texts t.flows places)) (listed (map (tree_text t) trees)) _ _
-    (listed_after-items_text (λ p. flow_text p.0 p.1) flow_data false (zip t.flows places)
+version_two_text-compact t tree_numbers trees rules written =
+    certificate_text-compact (listed (flow_texts t.flows tree_numbers)) (listed (map (tree_text t) trees)) _ _
+    (listed_after-items_text (λ p. flow_text p.0 p.1) flow_data false (zip t.flows tree_numbers)
     (AllByRecursion-from_always (λ p. flow_text p.0 p.1 ≡ compact_text (flow_data p)) flow_text-compact
-    (zip t.flows places)))
+    (zip t.flows tree_numbers)))
     (listed_after-items_text (tree_text t) (tree_data t) false trees
     (AllByRecursion-implies (IsWritableTreeFor t) (λ es. tree_text t es ≡ compact_text (tree_data t es))
     (λ es is. tree_text-of_writable t es rules is) trees written))

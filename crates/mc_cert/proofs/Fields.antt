@@ -1,4 +1,4 @@
--- What stands under a key is read, and what is read stands there.
+-- What is read under a key is the key's value, and the key's value is read.
 use Rattle.std.proofs.Common.{◌≡◌, ℕ, ◌≤◌, cond, List, length, Option, Some, None, Ok, Err, nat_le}
 use Rattle.std.proofs.Common.{◌&&◌, le-leb, refl, sym, ap, subst, ◌∙◌}
 use Rattle.std.specs.Option.{ok_or}

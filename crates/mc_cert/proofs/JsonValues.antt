@@ -96,7 +96,7 @@ IsPlain-dotted a k d lt = IsPlain-from_IsDigitOrDot _ (All-ipv4_text (octets_of 
 
 -- ---- values
 
--- the value is what its text is read as, and nests at most so deep
+-- the value is read back from its text, and nests at most `n` deep
 pub record IsReadBack (n : ℕ) (d : Data) : Type 0 where
   pub reads : of_json (outline d) ≡ Some d
   pub numbers : tree.HasNumbers (outline d)

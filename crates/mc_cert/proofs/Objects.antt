@@ -1,4 +1,4 @@
--- What stands in an object and in a list that JSON's reader gave.
+-- The values in an object and in a list of JSON's reader.
 use Rattle.std.proofs.Common.{◌≡◌, ℕ, List, [], ◌∷◌, map, refl, ap, ◌∙◌, String, Global}
 use Rattle.std.proofs.Common.{string_bytes, Bool, ◌&&◌, ◌||◌, Bor, Option, option_map}
 use Rattle.std.specs.List.{list_all, list_any}
@@ -18,7 +18,7 @@ pub rows_in-view : (values : List Value) → rows_in (items_view values) ≡ map
 rows_in-view [] = refl
 rows_in-view (v ∷ values) = ap (λ (ds : List _). view v ∷ ds) (rows_in-view values)
 
--- a test of each text that references lead to
+-- a test of texts behind references is that of the texts
 pub list_any-now : (p : List ℕ → Bool) (texts : List (Bor (List ℕ)))
     → list_any (λ k. p k.now) texts ≡ list_any p (map (λ k. k.now) texts)
 list_any-now p [] = refl
@@ -27,7 +27,7 @@ list_any-now p (t ∷ texts) = ap (λ (b : Bool). p t.now || b) (list_any-now p 
 abbrev is_known_key : List (List ℕ) → List ℕ → Bool
 is_known_key known key = list_any (λ k. bytes_eq k key) known
 
--- a test of each key of an object, with the known keys behind references
+-- the test of an object's keys, with the known keys behind references
 pub has_only-now : (known : List (Bor (List ℕ))) (es : List (String Global × Value))
     → list_all (λ key. list_any (λ k. bytes_eq k.now (string_bytes key)) known) (keys_of es)
     ≡ has_only (map (λ k. k.now) known) (members_view es)
@@ -37,7 +37,7 @@ has_only-now known (e ∷ es) =
     (ap (λ (b : Bool). is_known_key (map (λ k. k.now) known) (string_bytes e.0) && b)
     (has_only-now known es))
 
--- what the map of an object finds at a key
+-- the value that an object's map has for a key
 pub get_member-object : (r : Option (Bor Value)) (k : List ℕ) (es : List (String Global × Value))
     → option_map (λ x. x.now) r ≡ lookup (is_at (λ x. slice_cmp nat_cmp k (string_bytes x))) es
     → option_map (λ x. view x.now) r ≡ get_member k (members_view es)

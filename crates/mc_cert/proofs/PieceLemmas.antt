@@ -1,4 +1,4 @@
--- A text that is read from the front, piece by piece.
+-- A text that is read piece by piece.
 use Rattle.std.proofs.Common.{◌≡◌, ℕ, ◌+◌, ◌*◌, ◌/◌, ◌%◌, ◌^◌, ◌<◌, List, [], ◌∷◌, ◌++◌, map}
 use Rattle.std.proofs.Common.{codes, decimal, Option, Some, sym, ap, ap₂, ◌∙◌, arith, append_assoc}
 use Rattle.std.specs.Prelude.{unwrap_or}
@@ -19,7 +19,7 @@ use Rattle.mc_cert.specs.CertificateText.{tree_text, version_two_text, entry_tex
 pub decimal-one_digit : (d : ℕ) (s rest : List ℕ) → d < 10 → s ≡ (48 + d) ∷ rest → s ≡ decimal d ++ rest
 decimal-one_digit d s rest small e = e ∙ ap (λ x. x ++ rest) (sym (decimal_digit d small))
 
--- one digit more
+-- a number with one more digit
 pub decimal-digit_more : (n d : ℕ) (s rest : List ℕ) → 0 < n → n < 10 ^ 8 → d < 10
     → s ≡ (48 + d) ∷ rest → decimal (n * 10 + d) ++ rest ≡ decimal n ++ s
 decimal-digit_more n d s rest some small digit e =
@@ -32,7 +32,7 @@ decimal-digit_more n d s rest some small digit e =
 
 -- ---- names
 
--- a name that is found in the list of LANs is that of the LAN with the number
+-- a name with a number in the list of LANs is the name of that LAN
 pub lan_name-from_index_of : (t : TopologyValue) (lan : ℕ) (s name rest : List ℕ) → s ≡ name ++ rest
     → index_of name t.lans ≡ Some lan → s ≡ lan_name t lan ++ rest
 lan_name-from_index_of t lan s name rest e is =
@@ -45,15 +45,15 @@ router_name-from_router_no_of t router s name rest e is =
     e ∙ ap (λ (o : Option (List ℕ)). unwrap_or o [] ++ rest)
     (sym (router_name-router_no_of t.routers router name is))
 
--- ---- one piece behind another
+-- ---- one piece after another
 
 -- the pieces of a flow
-pub flow_text-pieces : (f : Flow) (place : ℕ) (s a b c d e g h : List ℕ)
+pub flow_text-pieces : (f : Flow) (tree_no : ℕ) (s a b c d e g h : List ℕ)
     → s ≡ codes "{\"group\":\"" ++ a → a ≡ dotted f.group ++ b
     → b ≡ codes "\",\"source\":\"" ++ c → c ≡ dotted f.source ++ d
-    → d ≡ codes "\",\"tree\":" ++ e → e ≡ decimal place ++ g → g ≡ codes "}" ++ h
-    → s ≡ flow_text f place ++ h
-flow_text-pieces f place s a b c d e g h p1 p2 p3 p4 p5 p6 p7 =
+    → d ≡ codes "\",\"tree\":" ++ e → e ≡ decimal tree_no ++ g → g ≡ codes "}" ++ h
+    → s ≡ flow_text f tree_no ++ h
+flow_text-pieces f tree_no s a b c d e g h p1 p2 p3 p4 p5 p6 p7 =
     rw (p1, p2, p3, p4, p5, p6, p7) (simp append_assoc)
 
 -- the pieces of a need and a rank
@@ -62,7 +62,7 @@ pub need_and_rank-pieces : (need rank : ℕ) (s a b c d : List ℕ) → s ≡ co
     → s ≡ (codes "\",\"need\":" ++ decimal need ++ codes ",\"rank\":" ++ decimal rank) ++ d
 need_and_rank-pieces need rank s a b c d p1 p2 p3 p4 = rw (p1, p2, p3, p4) (simp append_assoc)
 
--- five pieces, each behind the one before
+-- five pieces, each after the one before
 append-five : (s x1 x2 x3 x4 x5 a b c d e : List ℕ) → s ≡ x1 ++ a → a ≡ x2 ++ b → b ≡ x3 ++ c
     → c ≡ x4 ++ d → d ≡ x5 ++ e → s ≡ (x1 ++ x2 ++ x3 ++ x4 ++ x5) ++ e
 append-five s x1 x2 x3 x4 x5 a b c d e p1 p2 p3 p4 p5 = rw (p1, p2, p3, p4, p5) (simp append_assoc)
@@ -79,10 +79,10 @@ tree_text-pieces t es s a b c p1 p2 p3 =
     append-three s (codes "[") (listed (map (entry_text t) es)) (codes "]") a b c p1 p2 p3
 
 -- the pieces of the whole text
-pub version_two_text-pieces : (t : TopologyValue) (places : List ℕ) (trees : List Tree) (s a b c d e : List ℕ)
-    → s ≡ codes "{\"flows\":[" ++ a → a ≡ listed (flow_texts t.flows places) ++ b
+pub version_two_text-pieces : (t : TopologyValue) (tree_numbers : List ℕ) (trees : List Tree) (s a b c d e : List ℕ)
+    → s ≡ codes "{\"flows\":[" ++ a → a ≡ listed (flow_texts t.flows tree_numbers) ++ b
     → b ≡ codes "],\"trees\":[" ++ c → c ≡ listed (map (tree_text t) trees) ++ d
-    → d ≡ codes "],\"version\":2}" ++ e → s ≡ version_two_text t places trees ++ e
-version_two_text-pieces t places trees s a b c d e p1 p2 p3 p4 p5 =
-    append-five s (codes "{\"flows\":[") (listed (flow_texts t.flows places)) (codes "],\"trees\":[")
+    → d ≡ codes "],\"version\":2}" ++ e → s ≡ version_two_text t tree_numbers trees ++ e
+version_two_text-pieces t tree_numbers trees s a b c d e p1 p2 p3 p4 p5 =
+    append-five s (codes "{\"flows\":[") (listed (flow_texts t.flows tree_numbers)) (codes "],\"trees\":[")
     (listed (map (tree_text t) trees)) (codes "],\"version\":2}") a b c d e p1 p2 p3 p4 p5

@@ -1,4 +1,4 @@
--- What `read` promises, from what it gives.
+-- The clauses of `read`, from the result that it computes.
 use Rattle.std.proofs.Common.{◌≡◌, ℕ, Bool, true, false, List, None, Result, Ok, Err, refl, sym}
 use Rattle.std.proofs.Common.{subst, ◌∙◌}
 use Rattle.std.specs.Str.{is_utf8}
@@ -15,7 +15,7 @@ use Rattle.mc_cert.specs.Reading.{parse_json, parse_certificate}
 use Rattle.mc_cert.specs.Denotation.{DenotesCertificate}
 use Rattle.mc_cert.proofs.CertificateTexts.{parse_certificate-denotes, parse_certificate-from_denotes}
 
--- a text that is no JSON
+-- a text that isn't JSON
 parse_json-NotJson_by_cases : (text : List ℕ) (b : Bool) → is_utf8 text ≡ b → (IsUtf8 text → read text ≡ None)
     → parse_json text ≡ Err NotJson
 unfolding parse_json
@@ -37,7 +37,7 @@ Gives-from_denotes t text r gives flows is =
     subst (λ (step : Result (List Tree) CertFault). Gives (λ (c : List Tree). c) r step)
     (parse_certificate-from_denotes t text flows is) gives
 
--- a text stands for one certificate at most
+-- a text denotes one certificate at most
 pub DenotesCertificate-unique : (t : TopologyValue) (text : List ℕ) (c d : List Tree)
     → DenotesCertificate t text c → DenotesCertificate t text d → c ≡ d
 DenotesCertificate-unique t text c d is_c is_d = ok_injective {E = CertFault} c d

@@ -1,4 +1,4 @@
--- Texts with commas between them, of which a loop reads one more.
+-- Texts with commas between them, which a loop reads one by one.
 use Rattle.std.proofs.Common.{◌≡◌, ℕ, All, List, [], ◌∷◌, ◌++◌, length, map, codes, Some, refl, sym}
 use Rattle.std.proofs.Common.{ap, ap₂, subst, ◌∙◌, append_assoc, append-nil}
 use Rattle.std.specs.Prelude.{slice_get}
@@ -10,35 +10,35 @@ use Rattle.mc_cert.specs.CertificateText.{listed_after, listed, flow_text, flow_
 
 -- ---- the separator
 
--- what stands before one more item: this text before the first one, and a comma before each other
+-- the separator before the next item: this text before the first one, and a comma before each other
 abbrev separator_after : {A : Type 0} → List ℕ → List A → List ℕ
 separator_after first [] = first
 separator_after first (x ∷ xs) = codes ","
 
--- what stands before one more item, with nothing before the first one
+-- the separator before the next item, with nothing before the first one
 abbrev pub separator_of : {A : Type 0} → List A → List ℕ
 separator_of [] = []
 separator_of (x ∷ xs) = codes ","
 
--- behind an item a comma comes next
+-- after an item the separator is a comma
 separator_of-push : {A : Type 0} (xs : List A) (x : A) → separator_of (xs ++ x ∷ []) ≡ codes ","
 separator_of-push [] x = refl
 separator_of-push (y ∷ xs) x = refl
 
--- where a comma stands before the first item, one stands before each
+-- with a comma before the first item, there is one before each
 separator_after-comma : {A : Type 0} (xs : List A) → separator_after (codes ",") xs ≡ codes ","
 separator_after-comma [] = refl
 separator_after-comma (x ∷ xs) = refl
 
--- the separator goes by whether there are items, and not by what their texts are
+-- the separator depends on whether there are items, and not on their texts
 separator_of-map : {A : Type 0} (f : A → List ℕ) (xs : List A)
     → separator_after [] (map f xs) ≡ separator_of xs
 separator_of-map f [] = refl
 separator_of-map f (x ∷ xs) = refl
 
--- ---- one item more
+-- ---- the next item
 
--- the text of items and one more is theirs, the separator, and that of the one more
+-- the text of items and an added one is theirs, the separator, and that of the added one
 listed_after-push : (first : List ℕ) (xs : List (List ℕ)) (x : List ℕ)
     → listed_after first (xs ++ x ∷ []) ≡ listed_after first xs ++ (separator_after first xs ++ x)
 listed_after-push first [] x = append-nil (first ++ x)
@@ -48,7 +48,7 @@ listed_after-push first (y ∷ ys) x =
     ∙ sym (append_assoc (first ++ y) (listed_after (codes ",") ys) (codes "," ++ x))
 
 module _ {A : Type 0} (f : A → List ℕ) where
-  -- one more item of a list is read
+  -- the next item of a list is read
   pub listed-push : (s before after later separator : List ℕ) (xs new : List A) (x : A)
       → new ≡ xs ++ x ∷ [] → s ≡ listed (map f xs) ++ before → before ≡ separator ++ after
       → after ≡ f x ++ later → separator ≡ separator_of xs → s ≡ listed (map f new) ++ later
@@ -62,31 +62,31 @@ module _ {A : Type 0} (f : A → List ℕ) where
       ∙ sym (listed_after-push [] (map f xs) (f x))
       ∙ ap listed (sym (map_push f xs x) ∙ ap (map f) (sym made)))
 
--- a comma comes next
+-- after it the separator is a comma
 pub separator_of-comma_next : {A : Type 0} (xs new : List A) (x : A) → new ≡ xs ++ x ∷ []
     → codes "," ≡ separator_of new
 separator_of-comma_next {A} xs new x made =
     sym (separator_of-push xs x) ∙ ap (λ (l : List A). separator_of l) (sym made)
 
--- what holds of the items and of one more holds of all
+-- what holds of the items and of the added one holds of all
 pub All-next : {A : Type 0} (P : A → Type 0) (xs new : List A) (x : A) → new ≡ xs ++ x ∷ []
     → All P xs → P x → All P new
 All-next {A} P xs new x made all here =
     subst (λ (l : List A). All P l) (sym made) (All-push P xs x all here)
 
--- what is kept of the items and of one more
+-- the images of the items and of the added one
 pub map-next : {A B : Type 0} (g : A → B) (xs new : List A) (x : A) → new ≡ xs ++ x ∷ []
     → map g new ≡ map g xs ++ g x ∷ []
 map-next g xs new x made = ap (map g) made ∙ map_push g xs x
 
--- ---- flows, each with its place
+-- ---- flows, each with the number of its tree
 
--- no item stands beside none
+-- paired with no items there are no pairs
 zip-none : {A : Type 0} (B : Type 0) (xs : List A) → let none : List B = [] in zip xs none ≡ []
 zip-none B [] = refl
 zip-none B (x ∷ xs) = refl
 
--- one more stands beside the item with its number
+-- an added item is paired with the one at its number
 zip-push : {A : Type 0} {B : Type 0} (xs : List A) (ys : List B) (x : A) (y : B)
     → slice_get xs (length ys) ≡ Some x → zip xs (ys ++ y ∷ []) ≡ zip xs ys ++ (x, y) ∷ []
 zip-push [] ys x y e = absurd cc
@@ -95,7 +95,7 @@ zip-push (z ∷ xs) [] x y e =
     ap₂ (λ w l. (w, y) ∷ l) same (zip-none _ xs)
 zip-push (z ∷ xs) (w ∷ ys) x y e = ap (λ l. (z, w) ∷ l) (zip-push xs ys x y e)
 
--- no flow is read, and nothing stands before the first one
+-- before the first flow nothing is read, and there is no separator
 pub flow_texts-none : (flows : List Flow) (s : List ℕ) → s ≡ listed (flow_texts flows []) ++ s
 flow_texts-none [] s = refl
 flow_texts-none (f ∷ flows) s = refl
@@ -105,19 +105,19 @@ pub separator_of-none : (flows : List Flow) → let none : List ℕ = [] in
 separator_of-none [] = refl
 separator_of-none (f ∷ flows) = refl
 
--- one more flow is read, with its place, and a comma comes next
+-- the next flow is read, with the number of its tree, and then the separator is a comma
 pub flow_texts-push : (s before after later separator : List ℕ) (flows : List Flow)
-    (places new : List ℕ) (f : Flow) (place n : ℕ) → n ≡ length places
-    → slice_get flows n ≡ Some f → new ≡ places ++ place ∷ []
-    → s ≡ listed (flow_texts flows places) ++ before → before ≡ separator ++ after
-    → after ≡ flow_text f place ++ later → separator ≡ separator_of (zip flows places)
+    (tree_numbers new : List ℕ) (f : Flow) (tree_no n : ℕ) → n ≡ length tree_numbers
+    → slice_get flows n ≡ Some f → new ≡ tree_numbers ++ tree_no ∷ []
+    → s ≡ listed (flow_texts flows tree_numbers) ++ before → before ≡ separator ++ after
+    → after ≡ flow_text f tree_no ++ later → separator ≡ separator_of (zip flows tree_numbers)
     → (s ≡ listed (flow_texts flows new) ++ later) × (codes "," ≡ separator_of (zip flows new))
-flow_texts-push s before after later separator flows places new f place n long here made e cut piece is =
-    let there : slice_get flows (length places) ≡ Some f =
+flow_texts-push s before after later separator flows tree_numbers new f tree_no n long here made e cut piece is =
+    let there : slice_get flows (length tree_numbers) ≡ Some f =
     ap (slice_get flows) (sym long) ∙ here in
-    let grown : zip flows new ≡ zip flows places ++ (f, place) ∷ [] =
-    ap (λ (l : List ℕ). zip flows l) made ∙ zip-push flows places f place there in (
+    let grown : zip flows new ≡ zip flows tree_numbers ++ (f, tree_no) ∷ [] =
+    ap (λ (l : List ℕ). zip flows l) made ∙ zip-push flows tree_numbers f tree_no there in (
       listed-push (λ (p : Flow × ℕ). flow_text p.0 p.1) s before after later separator
-          (zip flows places) (zip flows new) (f, place) grown e cut piece is,
-      separator_of-comma_next (zip flows places) (zip flows new) (f, place) grown,
+          (zip flows tree_numbers) (zip flows new) (f, tree_no) grown e cut piece is,
+      separator_of-comma_next (zip flows tree_numbers) (zip flows new) (f, tree_no) grown,
     )

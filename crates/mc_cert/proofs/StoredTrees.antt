@@ -1,4 +1,4 @@
--- What a certificate keeps holds of each of its lists.
+-- The rules of a certificate hold of the tree of each flow.
 use Rattle.std.proofs.Common.{◌≡◌, ℕ, ◌<◌, All, List, [], length, get_or, map, Option, Some, None}
 use Rattle.std.proofs.Common.{refl, sym, ap, subst, ◌∙◌, arith}
 use Rattle.std.specs.Prelude.{slice_get, unwrap_or}
@@ -7,13 +7,13 @@ use Rattle.std.proofs.lemmas.Option.{get_or_from_slice_get, slice_get-get_or, sl
 use Rattle.std.proofs.lemmas.Option.{unwrap_or-slice_get}
 use Rattle.mc_cert.specs.Certificate.{Tree, tree_at, trees_by_flow, IsWritableTree, IsValidCertificate}
 
--- an element of a list, by its place
+-- what holds of all elements of a list holds of the one with a number
 pub All-at_number : {X : Type 0} (P : X → Type 0) (xs : List X) (n : ℕ) (x : X) → All P xs
     → slice_get xs n ≡ Some x → P x
 All-at_number P xs n x all e =
     subst P (get_or_from_slice_get xs n x x e) (all n x (slice_get_within xs n x e))
 
--- where there is one, it is the same with any default
+-- an element that exists is the same with any default
 pub slice_get-unwrap_or : {X : Type 0} (xs : List X) (n : ℕ) (d : X) → n < length xs
     → slice_get xs n ≡ Some (unwrap_or (slice_get xs n) d)
 slice_get-unwrap_or xs n d lt = slice_get-get_or xs n d lt ∙ ap Some (sym (unwrap_or-slice_get xs n d))

@@ -7,7 +7,7 @@ use Rattle.std.proofs.lemmas.Option.{get_or_from_slice_get, slice_get_within}
 use Rattle.mc_topology.specs.declared.flow.Flow.{Flow}
 use Rattle.mc_cert.specs.CertificateText.{listed_after, flow_text, flow_texts}
 
--- one more text is written behind its separator
+-- the next text is written after its separator
 listed_after-text_more : (separator before written now s : List ℕ) (rest : List (List ℕ))
     → now ≡ (before ++ separator) ++ s → before ++ listed_after separator (s ∷ rest) ≡ written
     → now ++ listed_after (codes ",") rest ≡ written
@@ -18,7 +18,7 @@ listed_after-text_more separator before written now s rest e so_far =
     ∙ ap (λ t. before ++ t) (sym (append_assoc separator s later)) ∙ so_far
 
 module _ {A : Type 0} (text_of : A → List ℕ) where
-  -- one more item of a list
+  -- the next item of a list
   pub listed_after-more : (separator before written now : List ℕ) (items : List A) (i : ℕ) (item : A)
       → i < length items → item ≡ get_or items i item
       → now ≡ (before ++ separator) ++ text_of item
@@ -28,17 +28,17 @@ module _ {A : Type 0} (text_of : A → List ℕ) where
       listed_after-text_more separator before written now (text_of item) (map text_of (drop (i + 1) items)) e
       (rw (drop_more items i item lt, ← is) at so_far)
 
--- one more flow, with its place
-pub flow_texts-more : (separator before written now : List ℕ) (flows : List Flow) (places : List ℕ)
-    (i : ℕ) (f : Flow) → slice_get flows i ≡ Some f → i < length places
-    → now ≡ (before ++ separator) ++ flow_text f (get_or places i 0)
-    → before ++ listed_after separator (flow_texts (drop i flows) (drop i places)) ≡ written
-    → now ++ listed_after (codes ",") (flow_texts (drop (i + 1) flows) (drop (i + 1) places))
+-- the next flow, with the number of its tree
+pub flow_texts-more : (separator before written now : List ℕ) (flows : List Flow) (tree_numbers : List ℕ)
+    (i : ℕ) (f : Flow) → slice_get flows i ≡ Some f → i < length tree_numbers
+    → now ≡ (before ++ separator) ++ flow_text f (get_or tree_numbers i 0)
+    → before ++ listed_after separator (flow_texts (drop i flows) (drop i tree_numbers)) ≡ written
+    → now ++ listed_after (codes ",") (flow_texts (drop (i + 1) flows) (drop (i + 1) tree_numbers))
     ≡ written
-flow_texts-more separator before written now flows places i f here lt e so_far =
+flow_texts-more separator before written now flows tree_numbers i f here lt e so_far =
     let flows_left : drop i flows ≡ f ∷ drop (i + 1) flows =
     drop_more flows i f (slice_get_within flows i f here)
     ∙ ap (λ g. g ∷ drop (i + 1) flows) (get_or_from_slice_get flows i f f here) in
-    listed_after-text_more separator before written now (flow_text f (get_or places i 0))
-    (flow_texts (drop (i + 1) flows) (drop (i + 1) places)) e
-    (rw (flows_left, drop_more places i 0 lt) at so_far)
+    listed_after-text_more separator before written now (flow_text f (get_or tree_numbers i 0))
+    (flow_texts (drop (i + 1) flows) (drop (i + 1) tree_numbers)) e
+    (rw (flows_left, drop_more tree_numbers i 0 lt) at so_far)

@@ -1,4 +1,4 @@
--- Trees that come one after another, each different one kept once.
+-- Trees that are added flow by flow, where equal ones are stored once.
 use Rattle.std.proofs.Common.{◌≡◌, ℕ, zero, suc, ◌<◌, ◌≤◌, Bool, true, false, cond, List, []}
 use Rattle.std.proofs.Common.{◌∷◌, ◌++◌, length, map, All, Some, None, refl, sym, ap, ap₂, subst}
 use Rattle.std.proofs.Common.{◌∙◌, arith, length-append}
@@ -30,7 +30,7 @@ module _ {K : Type 0} (tree : K → Tree) where
   abbrev tree_order : K → K → Ordering
   tree_order x y = slice_cmp by_order.cmp (tree x) (tree y)
 
-  -- a new tree is put behind the others, and into the map with its number
+  -- a new tree is added at the end, and to the map with its number
   IsTreeNumberMap-push : (numbers now : BTreeMap K ℕ) (key : K) (n : ℕ) (trees : List Tree)
       → IsTreeNumberMap by_order.cmp tree numbers trees → find_tree trees (tree key) ≡ None
       → n ≡ length trees → Updates tree_order numbers now key (Some n)
@@ -48,7 +48,7 @@ module _ {K : Type 0} (tree : K → Tree) where
           ∙ sym (position-push_failing (same_tree (tree k)) trees (tree key)
           (same_tree-flip_false (tree key) (tree k) differs))
 
-  -- a tree that the map has no number for, put behind the others and into the map
+  -- so is a tree for which the map has no number
   pub IsTreeNumberMap-insert : (numbers now : BTreeMap K ℕ) (old new : List K) (x key : K) (n : ℕ)
       → IsTreeNumberMap by_order.cmp tree numbers (map tree old)
       → get_by (λ k. slice_cmp by_order.cmp (tree x) (tree k)) numbers ≡ None
@@ -69,9 +69,9 @@ module _ {K : Type 0} (tree : K → Tree) where
             ∙ ap Some (sym long),
       )
 
--- ---- one tree more
+-- ---- an added tree
 
--- there are no more different trees than flows
+-- there are no more distinct trees than flows
 pub length-AreSharedTrees : (trees : List Tree) (numbers : List ℕ) → AreSharedTrees trees numbers
     → length trees ≤ length (trees_of trees numbers)
 length-AreSharedTrees trees numbers shared =
@@ -126,7 +126,7 @@ module _ (trees now : List Tree) (es : Tree) (n : ℕ) (grown : now ≡ with_tre
 
 -- ---- the text
 
--- the numbers are the places of the flows' trees
+-- the stored numbers are those of the flows' trees
 tree_numbers-AreSharedTrees : (trees : List Tree) (numbers : List ℕ)
     → All (λ n. find_tree trees (tree_at trees n) ≡ Some n) numbers
     → numbers ≡ map (tree_number_of trees) (trees_of trees numbers)
@@ -135,7 +135,7 @@ tree_numbers-AreSharedTrees trees (n ∷ numbers) named =
     ap₂ (λ m ms. m ∷ ms) (ap (λ o. unwrap_or o 0) (sym (named zero n (omega arith))))
     (tree_numbers-AreSharedTrees trees numbers (λ k d lt. named (suc k) d (omega (arith, lt))))
 
--- what is written of the different trees and the flows' numbers is the certificate's text
+-- the text of the distinct trees and the flows' numbers is the certificate's
 pub version_two_text-AreSharedTrees : (t : TopologyValue) (trees : List Tree) (numbers : List ℕ)
     → AreSharedTrees trees numbers
     → version_two_text t numbers trees ≡ certificate_text t (trees_of trees numbers)

@@ -1,4 +1,4 @@
--- The text of a certificate, which has each different tree once, stands for it.
+-- The text of a certificate, which has equal trees once, denotes it.
 use Rattle.std.proofs.Common.{◌≡◌, ℕ, ◌<◌, ◌≤◌, All, List, []}
 use Rattle.std.proofs.Common.{◌∷◌, length, get_or, fold, map, Option, Some, None}
 use Rattle.std.proofs.Common.{unwrap_or, inl, refl, sym, ap, ap₂, subst, ◌∙◌, arith}
@@ -16,7 +16,7 @@ use Rattle.mc_cert.proofs.DistinctLemmas.{length-fold_with_tree, slice_get-find_
 use Rattle.mc_cert.proofs.Documents.{AllByRecursion-implies, AllByRecursion-map}
 use Rattle.mc_cert.proofs.TextDenotation.{IsTextEnd-from_rest, version_two_text-denotes}
 
--- ---- the different trees
+-- ---- the distinct trees
 
 -- each flow's tree is one of them
 find_tree-each_flow : (trees flows : List Tree) → AllByRecursion
@@ -39,7 +39,7 @@ find_tree-each_flow trees (es ∷ flows) = (
         (ap (λ (ts : List Tree). find_tree ts es) (with_tree-new trees es e) ∙ find_tree-push_new trees es e),
   )
 
--- the trees at the flows' places are the flows' own
+-- the trees with the flows' numbers are the flows' own
 tree_at-tree_number_of : (trees flows : List Tree)
     → AllByRecursion (λ es. (k : ℕ) × (find_tree trees es ≡ Some k)) flows
     → map (tree_at trees) (map (tree_number_of trees) flows) ≡ flows
@@ -50,7 +50,7 @@ tree_at-tree_number_of trees (es ∷ flows) ((k, e), all) =
     ∙ ap (λ o. unwrap_or o []) (slice_get-find_tree trees es k e).1)
     (tree_at-tree_number_of trees flows all)
 
--- a flow's place is one of them
+-- a flow's number is below the number of trees
 tree_number_of-below_length : (trees : List Tree) (es : Tree) → (k : ℕ) × (find_tree trees es ≡ Some k)
     → tree_number_of trees es < length trees
 tree_number_of-below_length trees es (k, e) = omega (
@@ -61,14 +61,14 @@ tree_number_of-below_length trees es (k, e) = omega (
 
 -- ---- the text
 
--- what is written stands for the certificate
+-- the text denotes the certificate,
 certificate_text-denotes_by_trees : (t : TopologyValue) (flows : List Tree) → IsValidTopology t
     → length flows ≡ length t.flows → All (IsWritableTreeFor t) (distinct_trees flows)
     → length (certificate_text t flows) ≤ 16777216
     → DenotesCertificate t (certificate_text t flows) flows
 certificate_text-denotes_by_trees t flows rules count all few =
     let trees = distinct_trees flows in
-    let places = map (tree_number_of trees) flows in
+    let tree_numbers = map (tree_number_of trees) flows in
     let few_trees : length trees ≤ 4096 = omega (
       arith,
       length-fold_with_tree [] flows,
@@ -76,17 +76,17 @@ certificate_text-denotes_by_trees t flows rules count all few =
       rules.few_flows,
     ) in
     let at = find_tree-each_flow [] flows in
-    let named : AllByRecursion (λ n. n < length trees) places =
+    let named : AllByRecursion (λ n. n < length trees) tree_numbers =
     AllByRecursion-map (λ n. n < length trees) (tree_number_of trees) flows
     (AllByRecursion-implies (λ es. (k : ℕ) × (find_tree trees es ≡ Some k))
     (λ es. tree_number_of trees es < length trees) (tree_number_of-below_length trees) flows at) in
     subst (λ (own : List Tree). DenotesCertificate t (certificate_text t flows) own)
     (tree_at-tree_number_of trees flows at)
-    (version_two_text-denotes t places trees (certificate_text t flows) [] rules
+    (version_two_text-denotes t tree_numbers trees (certificate_text t flows) [] rules
     (omega (arith, length-map flows (tree_number_of trees), count)) named few_trees all few
     (sym (append-nil (certificate_text t flows))) (IsTextEnd-from_rest [] (inl refl)))
 
--- a list that a certificate can have, of bytes and of the topology, can be written
+-- a tree of a certificate, with numbers that are bytes and in the topology, can be written
 IsWritableTreeFor-from_parts : (t : TopologyValue) (es : Tree) → IsWritableTree es → All HasByteNumbers es
     → All (IsEntryOf t) es → IsWritableTreeFor t es
 IsWritableTreeFor-from_parts t es list bytes among =
@@ -99,7 +99,7 @@ IsWritableTreeFor-from_parts t es list bytes among =
       };
     }
 
--- the same by the different trees
+-- the same where the numbers of the distinct trees are bytes
 pub certificate_text-denotes_as_written : (t : TopologyValue) (flows trees : List Tree) (text : List ℕ) → IsValidTopology t
     → BelongsTo t flows → trees ≡ distinct_trees flows → All IsWritableTree trees
     → All (All HasByteNumbers) trees

@@ -1,4 +1,4 @@
--- Steps that may be refused, and how a call answers them.
+-- The results of steps that may fail, and how a call's result agrees with them.
 use Rattle.std.specs.Prelude.{◌≡◌, ℕ, List, [], ◌∷◌, ◌++◌, length, Result, Ok, Err}
 use Rattle.mc_cert.specs.declared.fault.At.{At}
 use Rattle.mc_cert.specs.declared.fault.At.TheVariants.{Top, Flow, FlowEntry, Tree}
@@ -10,10 +10,10 @@ use Rattle.mc_text.specs.Steps as Steps
 use Rattle.mc_topology.specs.Answer.{◌>>=◌}
 use Rattle.std.specs.Prelude.{codes, decimal}
 
--- the fault of a step at this place
-abbrev pub place : {A : Type 0} → At → Result A CertFaultKind → Result A CertFault
-place at (Ok x) = Ok x
-place at (Err kind) = Err (record { place = at; kind = kind })
+-- the result of a step, with its fault placed here
+abbrev pub locate_fault : {A : Type 0} → At → Result A CertFaultKind → Result A CertFault
+locate_fault at (Ok x) = Ok x
+locate_fault at (Err kind) = Err (record { place = at; kind = kind })
 
 -- the place of the entry with this number of a flow or a tree
 abbrev pub entry_place : At → ℕ → At
@@ -23,25 +23,25 @@ entry_place (FlowEntry f old) e = FlowEntry f e
 entry_place (Tree t) e = TreeEntry t e
 entry_place (TreeEntry t old) e = TreeEntry t e
 
--- the fault that may stand in place of any answer of a call that takes memory
+-- the fault that a call which takes memory may give in place of any result
 abbrev pub out_of_memory : CertFault
 out_of_memory = record { place = Top; kind = Memory }
 
--- that memory ran out says nothing of a certificate
+-- memory ran out, which depends on no certificate
 abbrev pub IsOutOfMemory : CertFault → Type 0
 IsOutOfMemory fault = fault ≡ out_of_memory
 
--- what a call answers, seen by view, unless memory runs out
+-- a call's result, seen by view, is this one, unless memory runs out
 abbrev pub Gives : {X Y : Type 0} → (X → Y) → Result X CertFault → Result Y CertFault → Type 0
 Gives = Steps.Gives IsOutOfMemory
 
 -- The values of rows, each read by its number, counted from 0, or the first fault.
-unfoldable pub each : {D X : Type 0} → (ℕ → D → Result X CertFault) → List X → List D
+unfoldable pub each_row : {D X : Type 0} → (ℕ → D → Result X CertFault) → List X → List D
     → Result (List X) CertFault
-each one earlier [] = Ok earlier
-each one earlier (d ∷ ds) = one (length earlier) d >>= λ x. each one (earlier ++ x ∷ []) ds
+each_row one earlier [] = Ok earlier
+each_row one earlier (d ∷ ds) = one (length earlier) d >>= λ x. each_row one (earlier ++ x ∷ []) ds
 
--- how a refusal writes where it is
+-- the text of a place
 abbrev pub place_text : At → List ℕ
 place_text Top = codes "top"
 place_text (Flow f) = codes "flow " ++ decimal f

@@ -13,17 +13,17 @@ Tree = List Entry
 abbrev pub tree_at : List Tree → ℕ → Tree
 tree_at trees n = unwrap_or (slice_get trees n) []
 
--- the tree of each flow: the trees in order, or those with these numbers
+-- the tree of each flow: the trees in order, or the ones with these numbers
 abbrev pub trees_by_flow : List Tree → Option (List ℕ) → List Tree
 trees_by_flow trees None = trees
 trees_by_flow trees (Some numbers) = map (tree_at trees) numbers
 
--- an entry that a certificate can name
+-- an entry that a text can write
 pub record IsWritableEntry (e : Entry) : Type 0 where
   pub need : 1 ≤ e.need
   pub vif : IfSome e.forwarder (λ i. i.1 ≤ 31)
 
--- at most 1,024 of them
+-- a tree that a text can write: at most 1,024 such entries
 pub record IsWritableTree (es : Tree) : Type 0 where
   pub few : length es ≤ 1024
   pub each : All IsWritableEntry es
@@ -33,7 +33,7 @@ pub record HasByteNumbers (e : Entry) : Type 0 where
   pub rank : e.rank ≤ 255
   pub need : e.need ≤ 255
 
--- what every certificate keeps, by its trees and the numbers of the flows' trees
+-- the rules of a certificate in memory, by its trees and the numbers of the flows' trees
 pub record IsValidCertificate (trees : List Tree) (numbers : Option (List ℕ)) : Type 0 where
   pub lists : All IsWritableTree trees
   pub named : (ns : List ℕ) → numbers ≡ Some ns → All (λ n. n < length trees) ns

@@ -10,7 +10,7 @@ use Rattle.mc_topology.specs.Topology.{TopologyValue, lan_name, router_name}
 use Rattle.mc_cert.specs.Certificate.{Tree}
 use Rattle.mc_cert.specs.Distinct.{distinct_trees, tree_number_of}
 
--- texts one after the other, the first one behind this separator and each other one behind a comma
+-- texts one after the other, the first one after this separator and each other one after a comma
 abbrev pub listed_after : List ℕ → List (List ℕ) → List ℕ
 listed_after separator [] = []
 listed_after separator (s ∷ ss) = separator ++ s ++ listed_after (codes ",") ss
@@ -34,24 +34,24 @@ entry_text t e =
 abbrev pub tree_text : TopologyValue → Tree → List ℕ
 tree_text t es = codes "[" ++ listed (map (entry_text t) es) ++ codes "]"
 
--- a flow of the topology, and the place of its tree
+-- a flow of the topology, and the number of its tree
 abbrev pub flow_text : Flow → ℕ → List ℕ
-flow_text f place =
+flow_text f tree_no =
     codes "{\"group\":\"" ++ dotted f.group ++ codes "\",\"source\":\"" ++ dotted f.source
-    ++ codes "\",\"tree\":" ++ decimal place
+    ++ codes "\",\"tree\":" ++ decimal tree_no
     ++ codes "}"
 
 abbrev pub flow_texts : List Flow → List ℕ → List (List ℕ)
-flow_texts flows places = map (λ p. flow_text p.0 p.1) (zip flows places)
+flow_texts flows tree_numbers = map (λ p. flow_text p.0 p.1) (zip flows tree_numbers)
 
--- the flows of the topology with these places, and the trees
+-- the flows of the topology with these numbers of their trees, and the trees
 abbrev pub version_two_text : TopologyValue → List ℕ → List Tree → List ℕ
-version_two_text t places trees =
-    codes "{\"flows\":[" ++ listed (flow_texts t.flows places) ++ codes "],\"trees\":["
+version_two_text t tree_numbers trees =
+    codes "{\"flows\":[" ++ listed (flow_texts t.flows tree_numbers) ++ codes "],\"trees\":["
     ++ listed (map (tree_text t) trees)
     ++ codes "],\"version\":2}"
 
--- the text of a certificate: each different tree once, in the order of first use
+-- the text of a certificate: its distinct trees, in the order of first use
 abbrev pub certificate_text : TopologyValue → List Tree → List ℕ
 certificate_text t flows = version_two_text t (map (tree_number_of (distinct_trees flows)) flows)
     (distinct_trees flows)

@@ -1,4 +1,5 @@
--- What a text stands for: the rules of a certificate, over the value that JSON's reader gives.
+-- The certificate that a text denotes: the rules of docs/FORMATS.md, over the value that JSON's reader
+-- gives.
 use Rattle.std.specs.Prelude.{◌≡◌, ℕ, ◌+◌, ◌≤◌, List, [], ◌∷◌, length, codes, slice_get, IsTrue}
 use Rattle.std.specs.Prelude.{IsUtf8, Option, Some, None}
 use Rattle.serde_json.specs.Data.{Data, unsigned, number, string, array, object, Items, Members}
@@ -23,11 +24,11 @@ use Rattle.mc_cert.specs.VersionTwo.{shared_flow_keys}
 
 -- ---- objects
 
--- under the key stands this text
+-- the key has this text
 abbrev pub HasText : List ℕ → Members → List ℕ → Type 0
 HasText key ms text = get_member key ms ≡ Some (string text)
 
--- under the key stands this whole number
+-- the key has this whole number
 abbrev pub HasNumber : List ℕ → Members → ℕ → Type 0
 HasNumber key ms n = get_member key ms ≡ Some (number (unsigned n))
 
@@ -35,16 +36,16 @@ HasNumber key ms n = get_member key ms ≡ Some (number (unsigned n))
 abbrev pub AreRows : Data → List Data → Type 0
 AreRows d rows = (items : Items) × (d ≡ array items) × (rows ≡ rows_in items)
 
--- under the key stands a list of these values
+-- the key has a list of these values
 abbrev pub HasRows : List ℕ → Members → List Data → Type 0
 HasRows key ms rows = (d : Data) × (get_member key ms ≡ Some d) × AreRows d rows
 
--- an object with no other keys than these
+-- an object with no other keys than the known ones
 pub record IsObject (known : List (List ℕ)) (d : Data) (ms : Members) : Type 0 where
   pub members : d ≡ object ms
   pub keys : IsTrue (has_only known ms)
 
--- each row, by its number, stands for its value
+-- each row, by its number, denotes its value
 abbrev pub EachDenotes : {X : Type 0} → (ℕ → Data → X → Type 0) → ℕ → List Data → List X → Type 0
 EachDenotes Denotation n [] [] = Unit {0}
 EachDenotes Denotation n [] (x ∷ xs) = ⊥
@@ -132,8 +133,8 @@ pub record DenotesSharedFlow (t : TopologyValue) (trees : List Tree) (n : ℕ) (
   pub tree_number : HasNumber (codes "tree") members number
   pub tree : slice_get trees number ≡ Some es
 
--- at most 4,096 trees, which may repeat one another and stay unnamed, and one object for each flow
--- of the topology, in order
+-- at most 4,096 trees, which may be equal and may be used by no flow, and one object for each flow of
+-- the topology, in order
 pub record DenotesVersionTwo (t : TopologyValue) (ms : Members) (flows : List Tree) : Type 0 where
   pub rows : List Data
   pub tree_rows : List Data
@@ -147,7 +148,7 @@ pub record DenotesVersionTwo (t : TopologyValue) (ms : Members) (flows : List Tr
 
 -- ---- the whole
 
--- the number of a version, and what stands for a certificate in it
+-- the number of a version, and what an object of it denotes
 abbrev pub version_no : Version → ℕ
 version_no One = 1
 version_no Two = 2
@@ -156,7 +157,7 @@ abbrev pub DenotesVersion : Version → TopologyValue → Members → List Tree 
 DenotesVersion One = DenotesVersionOne
 DenotesVersion Two = DenotesVersionTwo
 
--- a text of at most 16,777,216 bytes that JSON's reader takes, and gives an object of one of the
+-- a text of at most 16,777,216 bytes in UTF-8 that JSON's reader accepts, of an object of one of the
 -- two versions
 pub record DenotesCertificate (t : TopologyValue) (text : List ℕ) (flows : List Tree) : Type 0 where
   pub document : Members

@@ -1,4 +1,4 @@
--- The different trees of a certificate's flows, and the place of each flow's own among them.
+-- The distinct trees of a certificate's flows, and the number of each flow's tree among them.
 use Rattle.std.specs.Prelude.{ℕ, ◌==◌, ◌&&◌, Bool, List, [], ◌∷◌, ◌++◌, fold, position, Option}
 use Rattle.std.specs.Prelude.{is_some, unwrap_or, if◌then◌else◌}
 use Rattle.std.specs.Option.{option_eq}
@@ -7,7 +7,7 @@ use Rattle.mc_theory.specs.Nets.{Interface}
 use Rattle.mc_theory.specs.Certificates.{Entry}
 use Rattle.mc_cert.specs.Certificate.{Tree}
 
--- two interfaces, two entries, and two trees, entry by entry in order, are the same
+-- two interfaces, two entries, and two trees, entry by entry in order, are equal
 abbrev pub same_interface : Interface → Interface → Bool
 same_interface i j = i.0 == j.0 && i.1 == j.1
 
@@ -19,18 +19,18 @@ same_entry a b =
 abbrev pub same_tree : Tree → Tree → Bool
 same_tree = pointwise same_entry
 
--- the place of a tree among trees, counted from 0
+-- the number of a tree among trees, counted from 0, if it is one of them
 abbrev pub find_tree : List Tree → Tree → Option ℕ
 find_tree trees es = position (same_tree es) trees
 
--- the trees, and one more behind them if it is none of them
+-- the trees with one more at the end if it is new
 abbrev pub with_tree : List Tree → Tree → List Tree
 with_tree trees es = if is_some (find_tree trees es) then trees else trees ++ es ∷ []
 
--- the different trees of flows, in the order of first use
+-- the distinct trees of flows, in the order of first use
 abbrev pub distinct_trees : List Tree → List Tree
 distinct_trees = fold with_tree []
 
--- the place of a tree that stands among trees
+-- the number of a tree that is one of these trees
 abbrev pub tree_number_of : List Tree → Tree → ℕ
 tree_number_of trees es = unwrap_or (find_tree trees es) 0

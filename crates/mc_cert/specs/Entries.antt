@@ -1,4 +1,4 @@
--- The entries of a list, each a LAN that the packets of a flow reach.
+-- The entries of a flow or a tree, each a LAN that the packets of a flow reach.
 use Rattle.std.specs.Prelude.{ℕ, ◌+◌, List, [], ◌∷◌, codes, Option, Some, None, Result, Ok, Err}
 use Rattle.std.specs.Prelude.{ok_or}
 use Rattle.serde_json.specs.Data.{Data, Members}
@@ -14,7 +14,7 @@ use Rattle.mc_cert.specs.declared.fault.At.{At}
 use Rattle.mc_cert.specs.declared.fault.CertFaultKind.{CertFaultKind}
 use Rattle.mc_cert.specs.declared.fault.CertFaultKind.TheVariants.{MissingKey, UnknownName}
 use Rattle.mc_cert.specs.declared.fault.CertFault.{CertFault}
-use Rattle.mc_cert.specs.Answer.{place, entry_place, each}
+use Rattle.mc_cert.specs.Answer.{locate_fault, entry_place, each_row}
 use Rattle.mc_cert.specs.Object.{text_of, number_of, text_at, whole_at, in_range, object_of}
 
 -- the keys of an entry
@@ -33,7 +33,7 @@ router_of routers d = text_of d >>= λ name. ok_or (router_no_of name routers) U
 unfoldable pub vif_of : Data → Result ℕ CertFaultKind
 vif_of d = number_of d >>= λ n. in_range 0 31 (as_u64 n)
 
--- the interface of a router and its vif, which stand there together or are both missing
+-- the interface of a router and its vif, which are both there or both missing
 unfoldable pub forwarder_of : List RouterRow → Option Data → Option Data
     → Result (Option Interface) CertFaultKind
 forwarder_of routers None None = Ok None
@@ -59,6 +59,6 @@ entry_of t d = do
       (get_member (codes "vif") members)
   Ok (record { lan = lan; rank = rank; need = need; forwarder = forwarder })
 
--- the entries of a flow or a tree from the front, each with its number, counted from 1
+-- the entries of a flow or a tree, from the first one, each with its number, counted from 1
 unfoldable pub entries_of : TopologyValue → At → List Data → Result (List Entry) CertFault
-entries_of t at rows = each (λ n d. place (entry_place at (n + 1)) (entry_of t d)) [] rows
+entries_of t at rows = each_row (λ n d. locate_fault (entry_place at (n + 1)) (entry_of t d)) [] rows

@@ -1,5 +1,4 @@
--- The certificate that a text stands for, or its first fault, in the order in which a text is
--- judged.
+-- The certificate that a text denotes, or its first fault, in the order in which a text is checked.
 use Rattle.std.specs.Prelude.{ℕ, ◌==◌, nat_le, List, [], ◌∷◌, length, codes, Option, Some, None}
 use Rattle.std.specs.Prelude.{Result, Ok, Err, ok_or, if◌then◌else◌}
 use Rattle.std.specs.Str.{is_utf8}
@@ -15,7 +14,7 @@ use Rattle.mc_cert.specs.declared.fault.CertFaultKind.TheVariants.{BadKind, TooM
 use Rattle.mc_cert.specs.declared.fault.CertFault.{CertFault}
 use Rattle.mc_cert.specs.declared.version.Version.{Version}
 use Rattle.mc_cert.specs.declared.version.Version.TheVariants.{One, Two}
-use Rattle.mc_cert.specs.Answer.{place}
+use Rattle.mc_cert.specs.Answer.{locate_fault}
 use Rattle.mc_cert.specs.Certificate.{Tree}
 use Rattle.mc_cert.specs.Object.{has_only, number_at}
 use Rattle.mc_cert.specs.VersionOne.{flows_in}
@@ -33,7 +32,7 @@ parse_bounded_json text = if nat_le (length text) 16777216 then parse_json text 
 abbrev pub members_of : Data → Result Members CertFaultKind
 members_of d = ok_or (as_object d) BadKind
 
--- the version with this number, of which there may be none (BadVersion)
+-- the version with this number, where the number is whole at all (else BadVersion)
 abbrev pub version_of : Option ℕ → Result Version CertFaultKind
 version_of None = Err BadVersion
 version_of (Some n) = if n == 1 then Ok One else if n == 2 then Ok Two else Err BadVersion
@@ -51,7 +50,7 @@ version_in ms = do
   version ← version_of (as_u64 number)
   if has_only (top_keys version) ms then Ok version else Err UnknownKey
 
--- the flows of a certificate of this version
+-- the trees of an object of this version
 unfoldable pub flows_of_version : Version → TopologyValue → Members → Result (List Tree) CertFault
 flows_of_version One t ms = flows_in t ms
 flows_of_version Two t ms = shared_flows_in t ms
@@ -59,7 +58,7 @@ flows_of_version Two t ms = shared_flows_in t ms
 -- the certificate of a text: first the text as a whole, at `top`, and then its flows
 unfoldable pub parse_certificate : TopologyValue → List ℕ → Result (List Tree) CertFault
 parse_certificate t text = do
-  value ← place Top (parse_bounded_json text)
-  members ← place Top (members_of value)
-  version ← place Top (version_in members)
+  value ← locate_fault Top (parse_bounded_json text)
+  members ← locate_fault Top (members_of value)
+  version ← locate_fault Top (version_in members)
   flows_of_version version t members

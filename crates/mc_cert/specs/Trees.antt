@@ -1,4 +1,4 @@
--- What is kept of trees that come one after another, one a flow: each different one once.
+-- The trees that are added flow by flow, where equal ones are stored once.
 use Rattle.std.specs.Prelude.{◌≡◌, ℕ, ◌≤◌, All, List, length, map, Some}
 use Rattle.std.specs.declared.cmp.Ordering.{Ordering}
 use Rattle.std.specs.BTreeMap.{BTreeMap, get_by}
@@ -7,19 +7,19 @@ use Rattle.mc_theory.specs.Certificates.{Entry}
 use Rattle.mc_cert.specs.Certificate.{Tree, tree_at, IsWritableTree}
 use Rattle.mc_cert.specs.Distinct.{find_tree, distinct_trees}
 
--- the trees that have these numbers among the different ones
+-- the trees with these numbers among the distinct ones
 abbrev pub trees_of : List Tree → List ℕ → List Tree
 trees_of distinct numbers = map (tree_at distinct) numbers
 
--- the map answers each key, by this order of its tree's entries, with the tree's number among the
--- different ones, and with none where it is none of them
+-- the map, by this order of a tree's entries, has for each key the number of its tree among the distinct
+-- ones, and nothing where it is none of them
 abbrev pub IsTreeNumberMap : {K : Type 0} → (Entry → Entry → Ordering) → (K → Tree) → BTreeMap K ℕ
     → List Tree → Type 0
 IsTreeNumberMap {K} order tree numbers distinct = (key : K)
     → get_by (λ k. slice_cmp order (tree key) (tree k)) numbers ≡ find_tree distinct (tree key)
 
--- The trees are the different ones of the flows, in the order of first use, and each flow has the
--- number of its own. There are at most 4,096 flows, such as a certificate can hold.
+-- the trees are the distinct ones of the flows, in the order of first use, and each flow has the number
+-- of its own; there are at most 4,096 flows
 pub record AreSharedTrees (trees : List Tree) (numbers : List ℕ) : Type 0 where
   pub distinct : trees ≡ distinct_trees (trees_of trees numbers)
   pub named : All (λ n. find_tree trees (tree_at trees n) ≡ Some n) numbers

@@ -11,7 +11,7 @@ use Rattle.mc_cert.specs.declared.fault.At.TheVariants as at
 use Rattle.mc_cert.specs.declared.fault.CertFaultKind.{CertFaultKind}
 use Rattle.mc_cert.specs.declared.fault.CertFaultKind.TheVariants.{WrongFlows}
 use Rattle.mc_cert.specs.declared.fault.CertFault.{CertFault}
-use Rattle.mc_cert.specs.Answer.{place, each}
+use Rattle.mc_cert.specs.Answer.{locate_fault, each_row}
 use Rattle.mc_cert.specs.Certificate.{Tree}
 use Rattle.mc_cert.specs.Entries.{entries_of}
 use Rattle.mc_cert.specs.Object.{object_of, text_at, list_at, at_most}
@@ -50,12 +50,12 @@ reached_rows f d = do
 -- the flow with this number, counted from 0, and then its entries
 unfoldable pub flow_of : TopologyValue → ℕ → Data → Result Tree CertFault
 flow_of t n d = do
-  flow ← place (at.Flow (n + 1)) (flow_at t n)
-  rows ← place (at.Flow (n + 1)) (reached_rows flow d)
+  flow ← locate_fault (at.Flow (n + 1)) (flow_at t n)
+  rows ← locate_fault (at.Flow (n + 1)) (reached_rows flow d)
   entries_of t (at.Flow (n + 1)) rows
 
--- the flows from the front
+-- the flows, from the first one
 unfoldable pub flows_in : TopologyValue → Members → Result (List Tree) CertFault
 flows_in t ms = do
-  rows ← place at.Top (flow_rows t ms)
-  each (flow_of t) [] rows
+  rows ← locate_fault at.Top (flow_rows t ms)
+  each_row (flow_of t) [] rows

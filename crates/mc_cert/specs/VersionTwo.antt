@@ -10,7 +10,7 @@ use Rattle.mc_cert.specs.declared.fault.At.TheVariants as at
 use Rattle.mc_cert.specs.declared.fault.CertFaultKind.{CertFaultKind}
 use Rattle.mc_cert.specs.declared.fault.CertFaultKind.TheVariants.{BadNumber, WrongFlows}
 use Rattle.mc_cert.specs.declared.fault.CertFault.{CertFault}
-use Rattle.mc_cert.specs.Answer.{place, each}
+use Rattle.mc_cert.specs.Answer.{locate_fault, each_row}
 use Rattle.mc_cert.specs.Certificate.{Tree, tree_at}
 use Rattle.mc_cert.specs.Entries.{entries_of}
 use Rattle.mc_cert.specs.Object.{object_of, list_of, text_at, number_at, list_at, at_most}
@@ -25,13 +25,13 @@ tree_rows ms = list_at (codes "trees") ms >>= at_most 4096
 unfoldable pub tree_entry_rows : Data → Result (List Data) CertFaultKind
 tree_entry_rows d = list_of d >>= at_most 1024
 
--- a tree, whose entries are judged before the next tree
+-- a tree, with its entries
 unfoldable pub tree_of : TopologyValue → ℕ → Data → Result Tree CertFault
 tree_of t n d = do
-  rows ← place (at.Tree (n + 1)) (tree_entry_rows d)
+  rows ← locate_fault (at.Tree (n + 1)) (tree_entry_rows d)
   entries_of t (at.Tree (n + 1)) rows
 
--- a whole number below a count, of which there may be none
+-- a whole number below a count, where the number is whole at all
 abbrev pub below_count : ℕ → Option ℕ → Result ℕ CertFaultKind
 below_count count None = Err BadNumber
 below_count count (Some n) = if nat_lt n count then Ok n else Err BadNumber
@@ -56,14 +56,14 @@ tree_no_of f trees d = do
 -- the flow with this number, counted from 0
 unfoldable pub shared_flow_of : TopologyValue → ℕ → ℕ → Data → Result ℕ CertFault
 shared_flow_of t trees n d = do
-  flow ← place (at.Flow (n + 1)) (flow_at t n)
-  place (at.Flow (n + 1)) (tree_no_of flow trees d)
+  flow ← locate_fault (at.Flow (n + 1)) (flow_at t n)
+  locate_fault (at.Flow (n + 1)) (tree_no_of flow trees d)
 
--- the two lists, then the trees from the front, and then the flows from the front
+-- the two lists, then the trees from the first one, and then the flows from the first one
 unfoldable pub shared_flows_in : TopologyValue → Members → Result (List Tree) CertFault
 shared_flows_in t ms = do
-  rows ← place at.Top (flow_rows t ms)
-  listed ← place at.Top (tree_rows ms)
-  trees ← each (tree_of t) [] listed
-  numbers ← each (shared_flow_of t (length trees)) [] rows
+  rows ← locate_fault at.Top (flow_rows t ms)
+  listed ← locate_fault at.Top (tree_rows ms)
+  trees ← each_row (tree_of t) [] listed
+  numbers ← each_row (shared_flow_of t (length trees)) [] rows
   Ok (map (tree_at trees) numbers)

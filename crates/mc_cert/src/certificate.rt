@@ -1,4 +1,4 @@
-//! A certificate and what it answers.
+//! A certificate: reading it, making it and writing it.
 
 ghost use Rattle.std.specs.Prelude.{◌≡◌, ◌<◌, ◌≤◌, All, length, map, Some, None, slice_get};
 ghost use Rattle.std.specs.Prelude.{option_map, string_bytes};
@@ -14,15 +14,15 @@ use mc_topology::Topology;
 use std::alloc::Global;
 use std::marker::Model;
 
-/// For each flow of a topology, in order, the LANs that its packets reach. In contracts it is the
-/// list of these lists. A list that many flows share is kept once.
+/// For each flow of a topology, in order, the LANs that its packets reach: its tree. In contracts a
+/// certificate is the list of these trees. A tree that several flows share is stored once.
 #[derive(Debug)]
 pub struct Certificate {
     trees: Vec<Vec<Reached>>,
     tree_of_flow: Option<Vec<u32>>,
 }
 
-// Written out, so that whoever lets a certificate go takes one step, and not one for each of its parts.
+// Written out, so that dropping a certificate is one step in a caller's proof, and not one for each field.
 impl Drop for Certificate {
     fn drop(self) {
         let Self {
@@ -53,33 +53,35 @@ impl Certificate {
     ghost use Rattle.mc_cert.specs.Reading.{parse_certificate};
     ghost use Rattle.mc_cert.specs.Denotation.{DenotesCertificate};
 
-    /// Reads a certificate of version 1 or 2 of this topology: at most 16,777,216 bytes of JSON,
-    /// and lists of at most 1,024 entries, of which version 2 has at most 4,096. Each part is
-    /// judged wholly before the next one, and the first rule that is broken is answered with its
-    /// place. `Memory`, at `top`, where a growth was refused.
+    /// Reads a certificate of version 1 or 2 for this topology: at most 16,777,216 bytes of JSON, with
+    /// at most 1,024 entries for a flow or a tree, and at most 4,096 trees in version 2.
+    ///
+    /// # Errors
+    ///
+    /// The first rule that the text breaks, with its place, where each part is checked before the next
+    /// one; `Memory`, at `top`, where an allocation failed.
     pub fn read(alloc: Global, text: &[u8], topology: &Topology) -> Result<Certificate, CertFault>
-        // What is read is what the text stands for.
+        // What is read is what the text denotes.
         ensures found { IfOk result (DenotesCertificate topology.now text.now) }
-        // A text that stands for a certificate is read as that, unless memory runs out.
+        // A text that denotes a certificate is read as that, unless memory runs out.
         ensures only { (flows : List Tree) → DenotesCertificate topology.now text.now flows →
             Gives (λ c. c) result (Ok flows) }
-        // Which fault it is.
+        // The fault is the first one of the text, unless memory runs out.
         ensures fault { Gives (λ c. c) result (parse_certificate topology.now text.now) }
     {
-        // What `to_json` writes is read with no tree of values, and every other text with one.
+        // What `to_json` writes is read without a tree of JSON values, every other text with one.
         if let Ok(certificate) = compact_certificate(alloc, topology, text) {
             return Ok(certificate);
         }
         parse_certificate(alloc, topology, text)
     }
 
-    /// The certificate of these lists, one a flow, in the order of the topology's flows: at most
-    /// 4,096 lists of at most 1,024 entries, each with a `need` of at least 1 and a vif of at most
-    /// 31.
+    /// The certificate of these trees, one for each flow, in the order of the topology's flows: at most
+    /// 4,096 trees of at most 1,024 entries, each with a `need` of at least 1 and a vif of at most 31.
     pub fn from_flows(flows: Vec<Vec<Reached>>) -> Certificate
         requires few { length flows.items ≤ 4096 }
         requires lists { All IsWritableTree (map (λ t. t.items) flows.items) }
-        ensures value { result ≡ map (λ t. t.items) flows.items }
+        ensures flows { result ≡ map (λ t. t.items) flows.items }
     {
         Certificate {
             trees: flows,
@@ -87,14 +89,14 @@ impl Certificate {
         }
     }
 
-    /// The certificate of these trees, and for each flow the number of its own, counted from 0: at
-    /// most 4,096 flows, and trees of at most 1,024 entries, each with a `need` of at least 1 and a
-    /// vif of at most 31.
+    /// The certificate of these trees, with the number of each flow's tree, counted from 0: at most
+    /// 4,096 flows, and trees of at most 1,024 entries, each with a `need` of at least 1 and a vif of
+    /// at most 31.
     pub fn from_trees(trees: Vec<Vec<Reached>>, tree_of_flow: Vec<u32>) -> Certificate
         requires few { length tree_of_flow.items ≤ 4096 }
         requires lists { All IsWritableTree (map (λ t. t.items) trees.items) }
         requires named { All (λ n. n < length trees.items) tree_of_flow.items }
-        ensures value { result ≡ map (tree_at (map (λ t. t.items) trees.items)) tree_of_flow.items }
+        ensures flows { result ≡ map (tree_at (map (λ t. t.items) trees.items)) tree_of_flow.items }
     {
         Certificate {
             trees,
@@ -113,10 +115,10 @@ impl Certificate {
         }
     }
 
-    /// The tree of the flow with this number.
+    /// The tree of the flow with this number, counted from 0.
     pub(crate) fn tree(&self, flow: u32) -> &[Reached]
         requires known { flow < length self.now }
-        ensures item { slice_get self.now flow ≡ Some result.now }
+        ensures tree { slice_get self.now flow ≡ Some result.now }
     {
         let number = match &self.tree_of_flow {
             Some(numbers) => numbers[flow as usize],
@@ -125,7 +127,7 @@ impl Certificate {
         &self.trees[number as usize]
     }
 
-    /// The same, and what it keeps.
+    /// The same tree, with the rules that it keeps.
     fn writable_tree(&self, flow: u32) -> &[Reached]
         requires known { flow < length self.now }
         ensures tree { slice_get self.now flow ≡ Some result.now }
@@ -135,8 +137,8 @@ impl Certificate {
         self.tree(flow)
     }
 
-    /// What the certificate says of the flow with this number, counted from 0, of the topology that
-    /// it belongs to.
+    /// The certificate of the flow with this number, counted from 0, of the topology that it belongs
+    /// to.
     pub fn flow<'a>(&'a self, flow: u32, topology: &Topology) -> FlowCert<'a>
         requires listed { flow < length self.now }
         requires belongs { length self.now ≡ length topology.now.flows }
@@ -155,7 +157,7 @@ impl Certificate {
         }
     }
 
-    /// The trees of the flows, each different one kept once.
+    /// The trees of the flows, where equal ones are stored once.
     fn to_trees(&self, alloc: Global) -> Result<Trees, Memory>
         ensures { IfOk result (λ trees. trees ≡ self.now) }
     {
@@ -167,9 +169,12 @@ impl Certificate {
         Ok(trees)
     }
 
-    /// The JSON text of the certificate, in version 2, for the topology that it belongs to:
-    /// compact, on one line without a line feed. Each different tree is written once, in the order
-    /// of first use.
+    /// The JSON text of the certificate, in version 2, for the topology that it belongs to: compact,
+    /// on one line without a line feed. Equal trees are written once, in the order of first use.
+    ///
+    /// # Errors
+    ///
+    /// `Memory` where an allocation failed.
     pub fn to_json(&self, alloc: Global, topology: &Topology) -> Result<String, Memory>
         requires valid { BelongsTo topology.now self.now }
         ensures text { IfOk result (λ text. string_bytes text

@@ -1,5 +1,5 @@
-//! Reading a text in the form that `Certificate::to_json` gives it, in one pass and with no tree of
-//! JSON values. Every other text is left to the reader of JSON, which says what is wrong with it.
+//! Reads a text in the form that `Certificate::to_json` writes, in one pass and without a tree of JSON
+//! values. Every other text is left to the reader of JSON, which finds its fault.
 
 ghost use Rattle.std.specs.Prelude.{◌≡◌, ◌++◌, ◌<◌, ◌≤◌, ◌⊎◌, [], ◌∷◌, true, All, length, vec_len};
 ghost use Rattle.std.specs.Prelude.{map, codes, decimal, IfSome, IfOk};
@@ -12,14 +12,14 @@ ghost use Rattle.mc_cert.specs.Writable.{IsWritableEntryFor, IsWritableTreeFor};
 
 use crate::certificate::Certificate;
 use crate::entry::MAX_ENTRIES;
-use crate::pieces::{after_prefix, number, read_until_quote};
+use crate::pieces::{after_prefix, read_number, read_until_quote};
 use crate::reached::Reached;
 use crate::version_two::MAX_TREES;
 use mc_text::{Addr, MAX_TEXT};
 use mc_topology::{Flow, LanNo, RouterNo, Topology};
 use std::alloc::{AllocError, AllocFailed, Global};
 
-/// The text isn't in that form, or memory ran out.
+/// The text isn't in the form that `Certificate::to_json` writes, or memory ran out.
 #[derive(Drop)]
 pub(crate) struct NotCompact;
 
@@ -35,7 +35,7 @@ impl<T: Drop> From<AllocFailed<T>> for NotCompact {
     }
 }
 
-/// The LAN whose name stands before the next quotation mark, and what is left from there.
+/// Reads a LAN, by its name up to the next quotation mark; the rest begins with that.
 fn read_lan<'a>(topology: &Topology, text: &'a [u8]) -> Option<(LanNo, &'a [u8])>
     ensures text { IfSome result (λ r. text.now ≡ lan_name topology.now r.0 ++ r.1.now) }
     ensures listed { IfSome result (λ r. r.0 < length topology.now.lans) }
@@ -45,7 +45,7 @@ fn read_lan<'a>(topology: &Topology, text: &'a [u8]) -> Option<(LanNo, &'a [u8])
     Some((lan, rest))
 }
 
-/// The router whose name stands before the next quotation mark, and what is left from there.
+/// Reads a router, by its name up to the next quotation mark; the rest begins with that.
 fn read_router<'a>(topology: &Topology, text: &'a [u8]) -> Option<(RouterNo, &'a [u8])>
     ensures text { IfSome result (λ r. text.now ≡ router_name topology.now r.0 ++ r.1.now) }
     ensures listed { IfSome result (λ r. r.0 < length topology.now.routers) }
@@ -55,7 +55,7 @@ fn read_router<'a>(topology: &Topology, text: &'a [u8]) -> Option<(RouterNo, &'a
     Some((router, rest))
 }
 
-/// What stands behind the address at the front of the text.
+/// The rest of the text after this address at its start; it begins with a quotation mark.
 fn after_address<'a>(text: &'a [u8], address: Addr) -> Option<&'a [u8]>
     ensures { IfSome result (λ rest. text.now ≡ dotted address ++ rest.now) }
 {
@@ -67,24 +67,23 @@ fn after_address<'a>(text: &'a [u8], address: Addr) -> Option<&'a [u8]>
     Some(rest)
 }
 
-/// The need and the rank at the front of the text, with their keys, and what stands behind them.
+/// Reads a need and a rank with their keys, and gives the rest of the text.
 fn read_numbers(text: &[u8]) -> Option<(u8, u8, &[u8])>
     ensures text { IfSome result (λ r. text.now ≡
         (codes "\",\"need\":" ++ decimal r.0 ++ codes ",\"rank\":" ++ decimal r.1) ++ r.2.now) }
     ensures need { IfSome result (λ r. 1 ≤ r.0) }
 {
     let rest = after_prefix(text, b"\",\"need\":")?;
-    let (need, rest) = number(rest)?;
+    let (need, rest) = read_number(rest)?;
     let rest = after_prefix(rest, b",\"rank\":")?;
-    let (rank, rest) = number(rest)?;
+    let (rank, rest) = read_number(rest)?;
     if need == 0 || need > 255 || rank > 255 {
         return None;
     }
     Some((need as u8, rank as u8, rest))
 }
 
-/// The interface that sends, if its keys stand at the front of the text, and what stands behind
-/// them.
+/// Reads the interface that sends with its keys, if the text begins with them, and gives the rest.
 fn read_forwarder<'a>(
     topology: &Topology,
     text: &'a [u8],
@@ -101,14 +100,14 @@ fn read_forwarder<'a>(
         return None;
     };
     let rest = after_prefix(rest, b"\",\"vif\":")?;
-    let (vif, rest) = number(rest)?;
+    let (vif, rest) = read_number(rest)?;
     if vif > 31 {
         return None;
     }
     Some((Some((router, vif as u8)), rest))
 }
 
-/// The entry at the front of the text, and what stands behind it.
+/// Reads an entry, and gives the rest of the text.
 fn read_entry<'a>(topology: &Topology, text: &'a [u8]) -> Option<(Reached, &'a [u8])>
     ensures text { IfSome result (λ r. text.now ≡ entry_text topology.now r.0 ++ r.1.now) }
     ensures writable { IfSome result (λ r. IsWritableEntryFor topology.now r.0) }
@@ -131,7 +130,7 @@ fn read_entry<'a>(topology: &Topology, text: &'a [u8]) -> Option<(Reached, &'a [
     Some((entry, rest))
 }
 
-/// The list of entries at the front of the text, and what stands behind it.
+/// Reads a list of entries, and gives the rest of the text.
 fn read_tree<'a>(
     alloc: Global,
     topology: &Topology,
@@ -166,7 +165,7 @@ fn read_tree<'a>(
     Ok((entries, rest))
 }
 
-/// The trees at the front of the text, with commas between them, and what stands behind them.
+/// Reads trees with commas between them, and gives the rest of the text.
 fn read_trees<'a>(
     alloc: Global,
     topology: &Topology,
@@ -198,8 +197,7 @@ fn read_trees<'a>(
     Ok((trees, rest))
 }
 
-/// The number of the flow's tree, where the flow stands at the front of the text, and what stands
-/// behind it.
+/// Reads this flow and the number of its tree, and gives the number and the rest of the text.
 fn read_flow<'a>(flow: &Flow, text: &'a [u8]) -> Option<(u32, &'a [u8])>
     ensures { IfSome result (λ r. text.now ≡ flow_text flow.now r.0 ++ r.1.now) }
 {
@@ -208,13 +206,13 @@ fn read_flow<'a>(flow: &Flow, text: &'a [u8]) -> Option<(u32, &'a [u8])>
     let rest = after_prefix(rest, b"\",\"source\":\"")?;
     let rest = after_address(rest, flow.source)?;
     let rest = after_prefix(rest, b"\",\"tree\":")?;
-    let (place, rest) = number(rest)?;
+    let (tree_no, rest) = read_number(rest)?;
     let rest = after_prefix(rest, b"}")?;
-    Some((place, rest))
+    Some((tree_no, rest))
 }
 
-/// The numbers of the flows' trees, where the flows of the topology stand at the front of the text
-/// with commas between them, and what stands behind them.
+/// Reads the flows of the topology with commas between them, and gives the numbers of their trees and
+/// the rest of the text.
 fn read_flows<'a>(
     alloc: Global,
     topology: &Topology,
@@ -225,20 +223,20 @@ fn read_flows<'a>(
     ensures count { IfOk result (λ r. vec_len r.0 ≡ length topology.now.flows) }
 {
     let mut rest = text;
-    let mut places = Vec::new(alloc);
+    let mut tree_numbers = Vec::new(alloc);
     let mut separator: &[u8] = b"";
     for number in 0..topology.flows() {
         let Some(after) = after_prefix(rest, separator) else {
             return Err(NotCompact);
         };
-        let Some((place, after)) = read_flow(topology.flow(number), after) else {
+        let Some((tree_no, after)) = read_flow(topology.flow(number), after) else {
             return Err(NotCompact);
         };
-        places.push(place)?;
+        tree_numbers.push(tree_no)?;
         rest = after;
         separator = b",";
     }
-    Ok((places, rest))
+    Ok((tree_numbers, rest))
 }
 
 /// Whether each number is below the count.
@@ -248,7 +246,7 @@ fn are_below(numbers: &[u32], count: usize) -> bool
     numbers.iter().all(|number| (*number as usize) < count)
 }
 
-/// Whether nothing or a line feed is left.
+/// Whether the rest of the text is nothing, or a line feed.
 fn is_end(rest: &[u8]) -> bool
     ensures { result ≡ true → (rest.now ≡ []) ⊎ (rest.now ≡ 10 ∷ []) }
 {
@@ -258,7 +256,7 @@ fn is_end(rest: &[u8]) -> bool
     }
 }
 
-/// The certificate of a text in that form, with nothing or a line feed behind it.
+/// Reads a certificate in this form, with or without a line feed at its end.
 pub(crate) fn compact_certificate(
     alloc: Global,
     topology: &Topology,
@@ -273,7 +271,7 @@ pub(crate) fn compact_certificate(
     let Some(rest) = after_prefix(text, b"{\"flows\":[") else {
         return Err(NotCompact);
     };
-    let Ok((places, rest)) = read_flows(alloc, topology, rest) else {
+    let Ok((tree_numbers, rest)) = read_flows(alloc, topology, rest) else {
         return Err(NotCompact);
     };
     let Some(rest) = after_prefix(rest, b"],\"trees\":[") else {
@@ -285,8 +283,8 @@ pub(crate) fn compact_certificate(
     let Some(rest) = after_prefix(rest, b"],\"version\":2}") else {
         return Err(NotCompact);
     };
-    if !is_end(rest) || !are_below(&places, trees.len()) {
+    if !is_end(rest) || !are_below(&tree_numbers, trees.len()) {
         return Err(NotCompact);
     }
-    Ok(Certificate::from_trees(trees, places))
+    Ok(Certificate::from_trees(trees, tree_numbers))
 }

@@ -1,4 +1,4 @@
-//! Different trees, each found by its entries.
+//! Distinct trees, found by their entries.
 
 ghost use Rattle.std.specs.Prelude.{◌≡◌, [], ◌<◌, length, map, IfOk, OnOk, OnErr, Some};
 ghost use Rattle.mc_cert.specs.Distinct.{find_tree, with_tree};
@@ -9,9 +9,8 @@ use std::collections::BTreeMap;
 use std::marker::Model;
 use std::rc::Rc;
 
-/// The different trees among those that were looked up, in the order of first use. In contracts it
-/// is the list of these trees. Trees are made of names that a network chooses, so they are found by
-/// their order and not by a hash.
+/// The distinct trees among those that were added, in the order of first use. In contracts this is their
+/// list. An ordered map finds them: a network chooses their entries, so no hash with a fixed seed does.
 #[derive(Debug, Drop)]
 pub struct DistinctTrees {
     alloc: Global,
@@ -45,18 +44,18 @@ impl DistinctTrees {
         }
     }
 
-    /// The trees.
+    /// The trees, in the order of their numbers.
     pub fn trees(&self) -> &[Rc<Vec<Reached>>]
         ensures { map (λ t. t.value.items) result.now ≡ self.now }
     {
         &self.trees
     }
 
-    /// The number of a tree, which is put behind the others if it is none of them.
+    /// The number of a tree, counted from 0, which is added at the end if it is new.
     ///
     /// # Errors
     ///
-    /// `AllocError` where a growth was refused. The trees are then as they were.
+    /// `AllocError` where an allocation failed. The trees are then unchanged.
     pub fn number_of(&mut self, tree: Vec<Reached>) -> Result<u32, AllocError>
         requires bounded { length self.old < 4096 }
         ensures trees { OnOk result (self.new ≡ with_tree self.old tree.items) }

@@ -1,24 +1,24 @@
-//! The entries of a list.
+//! Reads the entries of a flow or a tree.
 
 ghost use Rattle.std.specs.Prelude.{◌≡◌, ◌+◌, ◌<◌, ◌≤◌, map, length, option_map};
 ghost use Rattle.serde_json.specs.View.{view, members_view};
 ghost use Rattle.mc_topology.specs.Answer.{ResultsAgree};
-ghost use Rattle.mc_cert.specs.Answer.{Gives, place, entry_place};
+ghost use Rattle.mc_cert.specs.Answer.{Gives, locate_fault, entry_place};
 ghost use Rattle.mc_cert.specs.Entries.{lan_in, router_of, vif_of, forwarder_of, entry_of};
 ghost use Rattle.mc_cert.specs.Entries.{entries_of};
 
 use crate::fault::{At, CertFault, CertFaultKind};
 use crate::object::{in_range, number_of, object_of, text_at, text_of, value_at, whole_at};
 use crate::reached::Reached;
-use crate::rows::{RowReader, each};
+use crate::rows::{RowReader, each_row};
 use mc_topology::{LanNo, RouterNo, Topology};
 use serde_json::{Map, Value};
 use std::alloc::Global;
 
-/// The greatest number of entries of a list.
+/// The greatest number of entries of a flow or a tree.
 pub(crate) const MAX_ENTRIES: usize = 1024;
 
-/// The LAN whose name stands under `lan`.
+/// Reads the LAN, by its name under `lan`.
 #[tactic(auto, unfolding(crate::specs::Entries::lan_in))]
 fn lan_in(topology: &Topology, object: &Map<String, Value>) -> Result<LanNo, CertFaultKind>
     ensures { ResultsAgree (λ lan. lan) result
@@ -28,7 +28,7 @@ fn lan_in(topology: &Topology, object: &Map<String, Value>) -> Result<LanNo, Cer
     topology.lan_no(name).ok_or(CertFaultKind::UnknownName)
 }
 
-/// The router whose name a value is.
+/// Reads a router, by its name.
 #[tactic(auto, unfolding(crate::specs::Entries::router_of))]
 fn router_of(topology: &Topology, value: &Value) -> Result<RouterNo, CertFaultKind>
     ensures { ResultsAgree (λ router. router) result
@@ -38,7 +38,7 @@ fn router_of(topology: &Topology, value: &Value) -> Result<RouterNo, CertFaultKi
     topology.router_no(name).ok_or(CertFaultKind::UnknownName)
 }
 
-/// The vif that a value is.
+/// Reads a vif, 0 to 31.
 #[tactic(auto, unfolding(crate::specs::Entries::vif_of))]
 fn vif_of(value: &Value) -> Result<u8, CertFaultKind>
     ensures { ResultsAgree (λ vif. vif) result (vif_of (view value.now)) }
@@ -47,7 +47,7 @@ fn vif_of(value: &Value) -> Result<u8, CertFaultKind>
     in_range(0, 31, number)
 }
 
-/// The interface that sends, by the values of its router and its vif.
+/// Reads the interface that sends, by its router and its vif, which are both there or both missing.
 #[tactic(auto, unfolding(crate::specs::Entries::forwarder_of))]
 fn forwarder_of(
     topology: &Topology,
@@ -69,7 +69,7 @@ fn forwarder_of(
     Ok(Some((router, vif_of(vif)?)))
 }
 
-/// Reads one entry.
+/// Reads an entry.
 #[tactic(auto, unfolding(crate::specs::Entries::entry_of))]
 fn entry_of(topology: &Topology, value: &Value) -> Result<Reached, CertFaultKind>
     ensures { ResultsAgree (λ entry. entry) result (entry_of topology.now (view value.now)) }
@@ -91,14 +91,14 @@ fn entry_of(topology: &Topology, value: &Value) -> Result<Reached, CertFaultKind
     })
 }
 
-/// The entries of the flow or the tree at a place.
+/// Reads the entries of the flow or the tree at a place.
 #[derive(Drop)]
-struct Entries<'t> {
+struct EntryReader<'t> {
     topology: &'t Topology,
     list: At,
 }
 
-impl<'t> RowReader for Entries<'t> {
+impl<'t> RowReader for EntryReader<'t> {
     ghost use Rattle.mc_cert.specs.declared.entry.TheConstants.{MAX_ENTRIES};
     ghost use Rattle.mc_theory.specs.Certificates.{Entry};
 
@@ -111,9 +111,9 @@ impl<'t> RowReader for Entries<'t> {
     ghost is_row_number = { λ _ n. n < MAX_ENTRIES };
 
     ghost row_value = { λ entries n d.
-        place (entry_place entries.list (n + 1)) (entry_of entries.topology.now d) };
+        locate_fault (entry_place entries.list (n + 1)) (entry_of entries.topology.now d) };
 
-    /// Reads an entry, and adds to a fault its place.
+    /// Reads an entry, and gives a fault its place.
     fn read_row(&self, number: usize, value: &Value) -> Result<Reached, CertFault> {
         let number = number as u32 + 1;
         let place = self.list.entry(number);
@@ -121,7 +121,7 @@ impl<'t> RowReader for Entries<'t> {
     }
 }
 
-/// The entries of the flow or the tree at this place, one after the other.
+/// Reads the entries of the flow or the tree at this place, one after the other.
 #[tactic(auto, unfolding(crate::specs::Entries::entries_of))]
 pub(crate) fn entries_of(
     alloc: Global,
@@ -133,5 +133,5 @@ pub(crate) fn entries_of(
     ensures gives { Gives (λ entries. entries.items) result
         (entries_of topology.now list (map view rows.now)) }
 {
-    each(alloc, &Entries { topology, list }, rows)
+    each_row(alloc, &EntryReader { topology, list }, rows)
 }

@@ -8,18 +8,18 @@ use std::alloc::{AllocError, AllocFailed};
 use std::fmt;
 use thiserror::Error;
 
-/// The place that a fault lies in. Flows, trees and entries are counted from 1.
+/// The place of a fault. Flows, trees and entries are counted from 1.
 #[derive(Clone, Copy, Debug, PartialEq, Eq)]
 pub enum At {
     /// The text as a whole, its keys, its version and its lists.
     Top,
     /// A flow.
     Flow(u32),
-    /// A flow, and one of its entries (version 1).
+    /// An entry of a flow: the flow, and the entry (version 1).
     FlowEntry(u32, u32),
     /// A tree (version 2).
     Tree(u32),
-    /// A tree, and one of its entries (version 2).
+    /// An entry of a tree: the tree, and the entry (version 2).
     TreeEntry(u32, u32),
 }
 
@@ -57,19 +57,19 @@ pub enum CertFaultKind {
     NotJson,
     /// (2) The version is neither 1 nor 2 (`top`).
     BadVersion,
-    /// (3) A key isn't there.
+    /// (3) A required key is missing.
     MissingKey,
-    /// (4) A key stands there that has no meaning.
+    /// (4) An object has a key that no rule gives a meaning.
     UnknownKey,
     /// (5) A value is of the wrong type.
     BadKind,
-    /// (6) A number isn't whole or out of its range.
+    /// (6) A number isn't whole, or is out of its range.
     BadNumber,
     /// (7) No LAN or router has the name.
     UnknownName,
     /// (8) The flows aren't those of the topology, in its order.
     WrongFlows,
-    /// (9) The text has too many bytes or trees (`top`), or a flow or a tree too many entries.
+    /// (9) The text has too many bytes or trees (`top`), or a flow or a tree has too many entries.
     TooMany,
     /// (10) Memory ran out (`top`).
     Memory,
@@ -84,7 +84,7 @@ impl CertFaultKind {
     }
 }
 
-/// The first fault of a certificate.
+/// The first fault of a certificate's text, and its place.
 #[derive(Clone, Copy, Debug, PartialEq, Eq, Error)]
 #[error("{place}: {kind:?}")]
 pub struct CertFault {

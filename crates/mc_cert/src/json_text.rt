@@ -1,4 +1,4 @@
-//! The JSON text of a certificate, in version 2, piece by piece.
+//! Writes the JSON text of a certificate, in version 2, piece by piece.
 
 ghost use Rattle.std.specs.Prelude.{◌≡◌, ◌++◌, ◌<◌, All, length, map, IfSome, OnOk, codes, decimal};
 ghost use Rattle.std.specs.Prelude.{string_bytes};
@@ -12,8 +12,7 @@ use mc_topology::{Flow, RouterNo, Topology};
 use std::alloc::AllocError;
 use std::rc::Rc;
 
-/// Appends a number. It is written without a formatter, which took most of the time of a large
-/// certificate.
+/// Appends a number. A formatter would take most of the time of a large certificate.
 fn push_number(text: &mut String, number: u8) -> Result<(), AllocError>
     ensures { OnOk result (string_bytes text.new ≡ string_bytes text.old ++ decimal number) }
 {
@@ -42,7 +41,7 @@ fn push_forwarder(
     }
 }
 
-/// Appends an entry as far as its rank.
+/// Appends an entry up to its rank.
 fn push_entry_start(text: &mut String, name: &str, need: u8, rank: u8) -> Result<(), AllocError>
     ensures { OnOk result (string_bytes text.new ≡
         string_bytes text.old ++ codes "{\"lan\":\"" ++ name.now ++ codes "\",\"need\":"
@@ -69,7 +68,7 @@ fn push_entry(text: &mut String, topology: &Topology, entry: &Reached) -> Result
     text.push_str("}")
 }
 
-/// Appends a list of entries.
+/// Appends a tree as a list of entries.
 fn push_tree(text: &mut String, topology: &Topology, entries: &[Reached]) -> Result<(), AllocError>
     requires valid { All (IsEntryOf topology.now) entries.now }
     ensures text { OnOk result (string_bytes text.new ≡
@@ -86,8 +85,8 @@ fn push_tree(text: &mut String, topology: &Topology, entries: &[Reached]) -> Res
     text.push_str("]")
 }
 
-/// How much room to make for the text of trees: what entries with names of some 15 letters take.
-/// Room that isn't written to costs nothing, and a text that grows is copied each time.
+/// How many bytes to reserve for the text of trees: 96 an entry, for names of some 15 letters. A text
+/// that grows is copied each time; reserved bytes that aren't written cost nothing.
 pub(crate) fn room_for(trees: &[Rc<Vec<Reached>>]) -> usize {
     let mut entries = 0usize;
     for tree in trees {
@@ -96,7 +95,7 @@ pub(crate) fn room_for(trees: &[Rc<Vec<Reached>>]) -> usize {
     entries.saturating_mul(96)
 }
 
-/// Appends trees.
+/// Appends trees, with commas between them.
 pub(crate) fn push_trees(
     text: &mut String,
     topology: &Topology,
@@ -128,7 +127,7 @@ fn push_flow(text: &mut String, flow: &Flow, tree: u32) -> Result<(), AllocError
     )
 }
 
-/// Appends the flows of the topology, each with the number of its tree.
+/// Appends the flows of the topology, each with the number of its tree, with commas between them.
 pub(crate) fn push_flows(
     text: &mut String,
     topology: &Topology,

@@ -1,5 +1,5 @@
-//! A certificate: for each flow of a topology the LANs that its packets reach, each with its rank,
-//! the least time to live that reaches it and the interface that sends on it.
+//! Certificates: for each flow of a topology the LANs that its packets reach, each with its rank, the
+//! least time to live that reaches it and the interface that sends on it; read, and written as JSON.
 #![tactic(auto)]
 
 mod certificate;

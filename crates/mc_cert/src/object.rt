@@ -1,4 +1,4 @@
-//! What stands under the keys of an object.
+//! Reads the values of an object by their keys.
 
 ghost use Rattle.std.specs.Prelude.{◌≡◌, ◌≤◌, length, map, option_map, string_bytes, IfOk};
 ghost use Rattle.std.specs.BTreeMap.{keys};
@@ -13,7 +13,7 @@ ghost use Rattle.mc_cert.specs.Object.{number_at, list_at, in_range, whole_at, a
 use crate::fault::CertFaultKind;
 use serde_json::{Map, Number, Value};
 
-/// Whether each key of the object is one of these.
+/// Whether each key of the object is one of the known ones.
 fn has_known_keys(object: &Map<String, Value>, known: &[&str]) -> bool
     ensures { result ≡
         list_all (λ key. list_any (λ k. bytes_eq k.now (string_bytes key)) known.now)
@@ -22,14 +22,14 @@ fn has_known_keys(object: &Map<String, Value>, known: &[&str]) -> bool
     object.keys().all(|key| known.contains(&key.as_str()))
 }
 
-/// Whether the object has no other key than these.
+/// Whether the object has no other keys than the known ones.
 pub(crate) fn has_only(object: &Map<String, Value>, known: &[&str]) -> bool
     ensures { result ≡ has_only (map (λ k. k.now) known.now) (members_view object.now.entries) }
 {
     has_known_keys(object, known)
 }
 
-/// The text that a value is.
+/// The value as a text.
 pub(crate) fn text_of(value: &Value) -> Result<&str, CertFaultKind>
     ensures { ResultsAgree (λ text. text.now) result (text_of (view value.now)) }
 {
@@ -39,7 +39,7 @@ pub(crate) fn text_of(value: &Value) -> Result<&str, CertFaultKind>
     }
 }
 
-/// The number that a value is.
+/// The value as a number.
 pub(crate) fn number_of(value: &Value) -> Result<&Number, CertFaultKind>
     ensures { ResultsAgree (λ number. number_view number.now) result (number_of (view value.now)) }
 {
@@ -49,7 +49,7 @@ pub(crate) fn number_of(value: &Value) -> Result<&Number, CertFaultKind>
     }
 }
 
-/// The values of the list that a value is.
+/// The value as a list.
 pub(crate) fn list_of(value: &Value) -> Result<&[Value], CertFaultKind>
     ensures { ResultsAgree (λ values. map view values.now) result (list_of (view value.now)) }
 {
@@ -59,7 +59,7 @@ pub(crate) fn list_of(value: &Value) -> Result<&[Value], CertFaultKind>
     }
 }
 
-/// The object that a value is, if it has no other key than these.
+/// The value as an object with no other keys than the known ones.
 #[tactic(auto, unfolding(crate::specs::Object::object_of))]
 pub(crate) fn object_of<'a>(
     value: &'a Value,
@@ -75,7 +75,7 @@ pub(crate) fn object_of<'a>(
     }
 }
 
-/// The value under a key.
+/// The value under a key, if there is one.
 pub(crate) fn value_at<'a>(object: &'a Map<String, Value>, key: &str) -> Option<&'a Value>
     ensures { option_map (λ value. view value.now) result ≡
         get_member key.now (members_view object.now.entries) }
@@ -83,7 +83,7 @@ pub(crate) fn value_at<'a>(object: &'a Map<String, Value>, key: &str) -> Option<
     object.get(key)
 }
 
-/// The text under a key.
+/// The text under a required key.
 #[tactic(auto, unfolding(crate::specs::Object::text_at))]
 pub(crate) fn text_at<'a>(
     object: &'a Map<String, Value>,
@@ -98,7 +98,7 @@ pub(crate) fn text_at<'a>(
     }
 }
 
-/// The number under a key.
+/// The number under a required key.
 #[tactic(auto, unfolding(crate::specs::Object::number_at))]
 pub(crate) fn number_at<'a>(
     object: &'a Map<String, Value>,
@@ -113,7 +113,7 @@ pub(crate) fn number_at<'a>(
     }
 }
 
-/// The values of the list under a key.
+/// The list under a required key.
 #[tactic(auto, unfolding(crate::specs::Object::list_at))]
 pub(crate) fn list_at<'a>(
     object: &'a Map<String, Value>,
@@ -128,7 +128,7 @@ pub(crate) fn list_at<'a>(
     }
 }
 
-/// The whole number from low to high that a number is.
+/// The number as a whole number from `low` to `high`.
 pub(crate) fn in_range(low: u8, high: u8, number: &Number) -> Result<u8, CertFaultKind>
     ensures { ResultsAgree (λ n. n) result (in_range low high (as_u64 (number_view number.now))) }
 {
@@ -138,7 +138,7 @@ pub(crate) fn in_range(low: u8, high: u8, number: &Number) -> Result<u8, CertFau
     }
 }
 
-/// The whole number from low to high under a key.
+/// The whole number from `low` to `high` under a required key.
 #[tactic(auto, unfolding(crate::specs::Object::whole_at))]
 pub(crate) fn whole_at(
     object: &Map<String, Value>,
@@ -153,7 +153,7 @@ pub(crate) fn whole_at(
     in_range(low, high, number)
 }
 
-/// The rows of a list, if they are at most so many.
+/// The rows, if they are at most `most`.
 #[tactic(auto, unfolding(crate::specs::Object::at_most))]
 pub(crate) fn at_most(most: usize, rows: &[Value]) -> Result<&[Value], CertFaultKind>
     ensures rows { ResultsAgree (λ rows. map view rows.now) result (at_most most (map view rows.now)) }

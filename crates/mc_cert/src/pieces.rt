@@ -1,18 +1,18 @@
-//! The pieces of a text that is read in one pass, each from the front.
+//! Reads pieces from the start of a text, for reading it in one pass.
 
 ghost use Rattle.std.specs.Prelude.{◌≡◌, ◌+◌, ◌*◌, ◌++◌, ◌∷◌, ◌<◌, ◌≤◌, IfSome, decimal};
 
 use mc_text::find_byte;
 
-/// What stands behind this front of the text.
+/// The rest of the text after this prefix.
 pub(crate) fn after_prefix<'a>(text: &'a [u8], front: &[u8]) -> Option<&'a [u8]>
     ensures { IfSome result (λ rest. text.now ≡ front.now ++ rest.now) }
 {
     text.strip_prefix(front)
 }
 
-/// The decimal digit at the front of the text, and what stands behind it.
-fn digit(text: &[u8]) -> Option<(u32, &[u8])>
+/// Reads a decimal digit, and gives the rest of the text.
+fn read_digit(text: &[u8]) -> Option<(u32, &[u8])>
     ensures text { IfSome result (λ r. text.now ≡ (48 + r.0) ∷ r.1.now) }
     ensures small { IfSome result (λ r. r.0 < 10) }
 {
@@ -23,7 +23,7 @@ fn digit(text: &[u8]) -> Option<(u32, &[u8])>
     }
 }
 
-/// The number with one digit more, if one stands at the front of the text, and what is left.
+/// The number with the next digit appended, if the text begins with one, and the rest of the text.
 fn with_next_digit(number: u32, text: &[u8]) -> (u32, &[u8])
     requires some { 0 < number }
     requires small { number < 100000000 }
@@ -31,19 +31,18 @@ fn with_next_digit(number: u32, text: &[u8]) -> (u32, &[u8])
     ensures some { 0 < result.0 }
     ensures small { result.0 ≤ number * 10 + 9 }
 {
-    match digit(text) {
+    match read_digit(text) {
         Some((digit, rest)) => (number * 10 + digit, rest),
         None => (number, text),
     }
 }
 
-/// The number of at most four decimal digits at the front of the text, which has no needless
-/// leading zero, and what stands behind it.
-pub(crate) fn number(text: &[u8]) -> Option<(u32, &[u8])>
+/// Reads a decimal number of at most four digits without a leading zero, and gives the rest of the text.
+pub(crate) fn read_number(text: &[u8]) -> Option<(u32, &[u8])>
     ensures text { IfSome result (λ r. text.now ≡ decimal r.0 ++ r.1.now) }
     ensures small { IfSome result (λ r. r.0 < 10000) }
 {
-    let (first, rest) = digit(text)?;
+    let (first, rest) = read_digit(text)?;
     if first == 0 {
         return Some((first, rest));
     }
@@ -52,7 +51,7 @@ pub(crate) fn number(text: &[u8]) -> Option<(u32, &[u8])>
     Some(with_next_digit(three, rest))
 }
 
-/// The text up to the next quotation mark, and what is left from there.
+/// The text up to the next quotation mark, and the rest, which begins with that.
 pub(crate) fn read_until_quote(text: &[u8]) -> Option<(&str, &[u8])>
     ensures { IfSome result (λ r. text.now ≡ r.0.now ++ r.1.now) }
 {

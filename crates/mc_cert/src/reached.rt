@@ -1,19 +1,19 @@
-//! What a certificate says of one LAN, and of one flow.
+//! The entry of a LAN, and the certificate of a flow.
 
 use mc_text::Addr;
 use mc_topology::{LanNo, RouterNo};
 use std::marker::Model;
 
-/// A LAN that the packets of a flow reach. In contracts it is an `Entry` of the theory.
+/// A LAN that the packets of a flow reach. In contracts it is an `Entry` of `mc_theory`.
 #[derive(Clone, Copy, Debug, PartialEq, Eq, PartialOrd, Ord)]
 pub struct Reached {
     /// The LAN.
     pub lan: LanNo,
-    /// How many routers stand between the source's LAN and this one.
+    /// How many routers a packet passes from the source's LAN to this one.
     pub rank: u8,
-    /// The least time to live with which the source's packets reach it.
+    /// The least time to live with which a packet of the source reaches it, 1 to 255.
     pub need: u8,
-    /// The router and its vif that send on it. None for the source's LAN.
+    /// The router that sends on it, and the vif by which it does. None for the source's LAN.
     pub forwarder: Option<(RouterNo, u8)>,
 }
 
@@ -37,7 +37,7 @@ impl Model for Reached {
     } };
 }
 
-/// What a certificate says of one flow.
+/// The certificate of one flow.
 #[derive(Clone, Copy, Debug)]
 pub struct FlowCert<'a> {
     /// The address of the source.

@@ -1,11 +1,11 @@
-//! Reading a certificate.
+//! Reads a certificate: the text as JSON, its version and keys, and then its flows.
 
 ghost use Rattle.std.specs.Prelude.{◌≡◌};
 ghost use Rattle.serde_json.specs.View.{view, number_view, members_view};
 ghost use Rattle.serde_json.specs.Find.{as_u64};
 ghost use Rattle.mc_topology.specs.Answer.{ResultsAgree};
 ghost use Rattle.mc_cert.specs.declared.fault.At.TheVariants.{Top};
-ghost use Rattle.mc_cert.specs.Answer.{Gives, place};
+ghost use Rattle.mc_cert.specs.Answer.{Gives, locate_fault};
 ghost use Rattle.mc_cert.specs.Object.{has_only};
 ghost use Rattle.mc_cert.specs.Reading.{parse_json, parse_bounded_json, members_of, version_of, top_keys};
 ghost use Rattle.mc_cert.specs.Reading.{version_in, flows_of_version, parse_certificate};
@@ -21,10 +21,10 @@ use mc_topology::Topology;
 use serde_json::{Map, Number, Value};
 use std::alloc::Global;
 
-/// The value that a text is.
+/// Parses a text as JSON.
 #[tactic(auto, unfolding(crate::specs::Reading::parse_json))]
 fn parse_json(alloc: Global, text: &[u8]) -> Result<Value, CertFault>
-    ensures { Gives view result (place Top (parse_json text.now)) }
+    ensures { Gives view result (locate_fault Top (parse_json text.now)) }
 {
     match Value::from_slice(alloc, text) {
         Ok(value) => Ok(value),
@@ -44,7 +44,7 @@ fn version_of(number: &Number) -> Result<Version, CertFaultKind>
     }
 }
 
-/// The keys of a certificate of this version.
+/// Whether the object has no other keys than those of this version.
 fn has_only_keys_of(version: Version, object: &Map<String, Value>) -> bool
     ensures { result ≡ has_only (top_keys version) (members_view object.now.entries) }
 {
@@ -54,7 +54,7 @@ fn has_only_keys_of(version: Version, object: &Map<String, Value>) -> bool
     }
 }
 
-/// Looks at the version and the keys.
+/// Reads the version, and checks the keys.
 #[tactic(auto, unfolding(crate::specs::Reading::version_in))]
 fn version_in(object: &Map<String, Value>) -> Result<Version, CertFaultKind>
     ensures { ResultsAgree (λ v. v) result (version_in (members_view object.now.entries)) }
@@ -67,7 +67,7 @@ fn version_in(object: &Map<String, Value>) -> Result<Version, CertFaultKind>
     Ok(version)
 }
 
-/// The certificate of an object of this version.
+/// Reads the certificate of an object of this version.
 #[tactic(auto, unfolding(crate::specs::Reading::flows_of_version))]
 fn flows_of_version(
     alloc: Global,
@@ -84,10 +84,10 @@ fn flows_of_version(
     }
 }
 
-/// The value of a text that isn't too long.
+/// Parses a text as JSON, if it isn't too long.
 #[tactic(auto, unfolding(crate::specs::Reading::parse_bounded_json))]
 fn parse_bounded_json(alloc: Global, text: &[u8]) -> Result<Value, CertFault>
-    ensures { Gives view result (place Top (parse_bounded_json text.now)) }
+    ensures { Gives view result (locate_fault Top (parse_bounded_json text.now)) }
 {
     if text.len() > MAX_TEXT {
         return Err(CertFaultKind::TooMany.at(At::Top));
@@ -95,7 +95,7 @@ fn parse_bounded_json(alloc: Global, text: &[u8]) -> Result<Value, CertFault>
     parse_json(alloc, text)
 }
 
-/// The object that a value is.
+/// The value as an object.
 fn members_of(value: &Value) -> Result<&Map<String, Value>, CertFaultKind>
     ensures { ResultsAgree (λ object. members_view object.now.entries) result
         (members_of (view value.now)) }
@@ -106,7 +106,7 @@ fn members_of(value: &Value) -> Result<&Map<String, Value>, CertFaultKind>
     }
 }
 
-/// The certificate of a text.
+/// Reads the certificate of a text.
 #[tactic(auto, unfolding(crate::specs::Reading::parse_certificate))]
 pub(crate) fn parse_certificate(
     alloc: Global,

@@ -1,4 +1,4 @@
-//! Trees as they come, one a flow.
+//! The trees of a certificate, added flow by flow.
 
 ghost use Rattle.std.specs.Prelude.{◌≡◌, ◌<◌, ◌≤◌, [], ◌∷◌, ◌++◌, length, IfOk, OnOk, OnErr};
 ghost use Rattle.std.specs.Prelude.{string_bytes};
@@ -14,12 +14,12 @@ use mc_topology::Topology;
 use std::alloc::Global;
 use std::marker::Model;
 
-/// Trees in the order in which they came, one a flow. In contracts it is the list of these trees.
-/// A tree that many flows share is kept once.
+/// The trees of a certificate, one for each flow, in the order in which they were added. In contracts
+/// this is their list. A tree that several flows share is stored once.
 #[derive(Debug, Drop)]
 pub struct Trees {
     distinct: DistinctTrees,
-    /// For each flow the number of its tree among these.
+    /// The number of each flow's tree among these.
     numbers: Vec<u32>,
 }
 
@@ -46,12 +46,12 @@ impl Trees {
         }
     }
 
-    /// Puts a tree behind the others: at most 1,024 entries, each with a `need` of at least 1 and a
-    /// vif of at most 31.
+    /// Adds the tree of the next flow: at most 1,024 entries, each with a `need` of at least 1 and a
+    /// vif of at most 31. There are at most 4,096 flows.
     ///
     /// # Errors
     ///
-    /// `Memory` where a growth was refused. The trees are then as they were.
+    /// `Memory` where an allocation failed. The trees are then unchanged.
     pub fn push(&mut self, tree: Vec<Reached>) -> Result<(), Memory>
         requires few { length self.old < 4096 }
         requires list { IsWritableTree tree.items }
@@ -65,12 +65,12 @@ impl Trees {
     }
 
     /// The JSON text of the certificate of these trees, in version 2, for the topology that it
-    /// belongs to: compact, on one line without a line feed. Each different tree is written once, in
-    /// the order of first use.
+    /// belongs to: compact, on one line without a line feed. Equal trees are written once, in the
+    /// order of first use.
     ///
     /// # Errors
     ///
-    /// `Memory` where a growth was refused.
+    /// `Memory` where an allocation failed.
     pub fn to_json(&self, alloc: Global, topology: &Topology) -> Result<String, Memory>
         requires valid { BelongsTo topology.now self.now }
         ensures text { IfOk result (λ text. string_bytes text

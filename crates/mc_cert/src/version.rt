@@ -1,6 +1,6 @@
 //! The versions of a certificate.
 
-/// A version.
+/// The version of a certificate's text.
 #[derive(Clone, Copy, Debug, PartialEq, Eq)]
 pub(crate) enum Version {
     /// Each flow has its own entries.

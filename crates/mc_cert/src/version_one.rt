@@ -1,4 +1,4 @@
-//! The flows of version 1, each with its own entries.
+//! Reads the flows of version 1, each with its own entries.
 
 ghost use Rattle.std.specs.Prelude.{◌≡◌, ◌<◌, ◌≤◌, map, length, IfOk};
 ghost use Rattle.std.specs.Str.{bytes_eq};
@@ -14,7 +14,7 @@ use crate::entry::{MAX_ENTRIES, entries_of};
 use crate::fault::{At, CertFault, CertFaultKind};
 use crate::object::{at_most, list_at, object_of, text_at};
 use crate::reached::Reached;
-use crate::rows::{RowReader, each};
+use crate::rows::{RowReader, each_row};
 use mc_text::Addr;
 use mc_topology::{Flow, Topology};
 use serde_json::{Map, Value};
@@ -23,7 +23,7 @@ use std::alloc::Global;
 /// The greatest number of flows.
 pub(crate) const MAX_FLOWS: usize = 4096;
 
-/// Whether the text is the address's.
+/// Whether the text is the address in dotted form.
 fn is_address_text(text: &str, address: Addr) -> bool
     requires valid { IsAddr address }
     ensures value { result ≡ bytes_eq text.now (dotted address) }
@@ -31,7 +31,7 @@ fn is_address_text(text: &str, address: Addr) -> bool
     Addr::parse_dotted(text.as_bytes()) == Some(address)
 }
 
-/// Whether the texts are the flow's group and its source.
+/// Whether the texts are the flow's group and its source in dotted form.
 pub(crate) fn are_texts_of_flow(flow: &Flow, group: &str, source: &str) -> bool
     requires group { IsAddr flow.now.group }
     requires source { IsAddr flow.now.source }
@@ -40,7 +40,7 @@ pub(crate) fn are_texts_of_flow(flow: &Flow, group: &str, source: &str) -> bool
     is_address_text(group, flow.group) && is_address_text(source, flow.source)
 }
 
-/// The list of flows, which are as many as the topology's.
+/// The list of flows, one for each of the topology.
 #[tactic(auto, unfolding(crate::specs::VersionOne::flow_rows))]
 pub(crate) fn flow_rows<'a>(
     topology: &Topology,
@@ -58,7 +58,7 @@ pub(crate) fn flow_rows<'a>(
     Ok(rows)
 }
 
-/// The entries of a flow, still unread.
+/// The list of a flow's entries.
 #[tactic(auto, unfolding(crate::specs::VersionOne::reached_rows))]
 fn reached_rows<'a>(flow: &Flow, value: &'a Value) -> Result<&'a [Value], CertFaultKind>
     requires group { IsAddr flow.now.group }
@@ -77,7 +77,7 @@ fn reached_rows<'a>(flow: &Flow, value: &'a Value) -> Result<&'a [Value], CertFa
     at_most(MAX_ENTRIES, rows)
 }
 
-/// The flows, each with its list of entries.
+/// Reads a flow as its list of entries.
 #[derive(Drop)]
 struct FlowReader<'t> {
     alloc: Global,
@@ -107,7 +107,7 @@ impl<'t> RowReader for FlowReader<'t> {
     }
 }
 
-/// The certificate of an object of version 1.
+/// Reads the certificate of an object of version 1.
 #[tactic(auto, unfolding(crate::specs::VersionOne::flows_in))]
 pub(crate) fn flows_in(
     alloc: Global,
@@ -117,6 +117,6 @@ pub(crate) fn flows_in(
     ensures { Gives (λ c. c) result (flows_in topology.now (members_view object.now.entries)) }
 {
     let rows = flow_rows(topology, object).map_err(|kind| kind.at(At::Top))?;
-    let flows = each(alloc, &FlowReader { alloc, topology }, rows)?;
+    let flows = each_row(alloc, &FlowReader { alloc, topology }, rows)?;
     Ok(Certificate::from_flows(flows))
 }

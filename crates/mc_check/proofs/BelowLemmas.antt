@@ -1,4 +1,4 @@
--- The first reason over the numbers below n, as a loop comes to it.
+-- The first reason over the numbers below n, as a loop finds it.
 use Rattle.std.proofs.Common.{◌≡◌, ℕ, zero, suc, ◌+◌, ◌-◌, ◌<◌, List, [], ◌∷◌, ◌++◌, Option, Some}
 use Rattle.std.specs.Prelude.{IsTrue}
 use Rattle.std.proofs.Common.{Bool, true, false, ◌&&◌, None, refl, ap, ◌∙◌, subst, arith, add-one}
@@ -29,11 +29,11 @@ pub first_of-below_none : (f : ℕ → Option Reason) → first_of f (below 0) �
 unfolding below
 first_of-below_none f = refl
 
-pub none_found-more : (f : ℕ → Option Reason) (k : ℕ) → first_of f (below k) ≡ None → f k ≡ None
+pub first_of-none_more : (f : ℕ → Option Reason) (k : ℕ) → first_of f (below k) ≡ None → f k ≡ None
     → first_of f (below (k + 1)) ≡ None
-none_found-more f k h e = first_of-below_more f k h ∙ e
+first_of-none_more f k h e = first_of-below_more f k h ∙ e
 
--- what was found at k stays the first
+-- what is found at k stays the first reason when more numbers follow
 first_of-kept_by_more : (f : ℕ → Option Reason) (k d : ℕ) (x : Reason) → first_of f (below (k + 1)) ≡ Some x
     → first_of f (below (k + 1 + d)) ≡ Some x
 unfolding below
@@ -51,10 +51,10 @@ first_of-found_at f k n x h e lt =
     subst (λ m. first_of f (below m) ≡ Some x) q
     (first_of-kept_by_more f k (n - (k + 1)) x (first_of-below_more f k h ∙ e))
 
--- the same, told by two answers
-pub none_found-more_by_bools : (f : ℕ → Option Reason) (k : ℕ) (all one : Bool)
+-- the same, from two booleans: none before k, and none at k
+pub first_of-none_more_by_bools : (f : ℕ → Option Reason) (k : ℕ) (all one : Bool)
     → (all ≡ true → first_of f (below k) ≡ None) → (IsTrue one → f k ≡ None)
     → (all && one) ≡ true → first_of f (below (k + 1)) ≡ None
-none_found-more_by_bools f k true true before here e = none_found-more f k (before refl) (here refl)
-none_found-more_by_bools f k true false before here e = absurd cc
-none_found-more_by_bools f k false one before here e = absurd cc
+first_of-none_more_by_bools f k true true before here e = first_of-none_more f k (before refl) (here refl)
+first_of-none_more_by_bools f k true false before here e = absurd cc
+first_of-none_more_by_bools f k false one before here e = absurd cc

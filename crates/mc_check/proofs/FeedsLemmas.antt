@@ -1,4 +1,4 @@
--- Whether an entry's vif feeds a LAN is told behind lower vifs.
+-- Oifs of lower vifs don't change whether a table entry feeds a LAN by a vif.
 use Rattle.std.proofs.Common.{◌≡◌, ℕ, ◌<◌, ◌==◌, Bool, false, ◌&&◌, ◌||◌, List, [], ◌∷◌, ◌++◌}
 use Rattle.std.proofs.Common.{Some, refl, sym, ap, ◌∙◌, arith}
 use Rattle.std.specs.List.{AllByRecursion}

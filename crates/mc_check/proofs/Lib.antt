@@ -1,5 +1,5 @@
 pub mod BelowLemmas
-pub mod FirstLemmas
+pub mod FirstEntriesLemmas
 pub mod VerdictLemmas
-pub mod AllLemmas
+pub mod CheckAllLemmas
 pub mod FeedsLemmas

@@ -1,4 +1,4 @@
--- What a verdict by the first reason says.
+-- What a verdict by the first reason promises.
 use Rattle.std.proofs.Common.{◌≡◌, ℕ, suc, ◌<◌, ◌≤◌, ◌^◌, inl, inr, All, List, [], ◌∷◌}
 use Rattle.std.proofs.Common.{map, length, Option, Some, None, refl, sym, subst, ◌∙◌, arith}
 use Rattle.std.proofs.lemmas.List.{length-map}
@@ -7,17 +7,19 @@ use Rattle.mc_theory.specs.Nets.{Net, IsNet, WantsBelow}
 use Rattle.mc_theory.specs.Certificates.{Entry, IsAccepted}
 use Rattle.mc_theory.specs.Reasons.{first_reason}
 use Rattle.mc_theory.proofs.FirstReason.{first_reason-none_iff_accepted}
-use Rattle.mc_theory.proofs.ReachedLans.{is_safe-from_tree, is_delivered-from_lossless_run, is_right-from_accepted}
+use Rattle.mc_theory.proofs.ReachedLans.{is_safe-from_tree, is_delivered-from_lossless_run}
+use Rattle.mc_theory.proofs.ReachedLans.{is_right-from_accepted}
 use Rattle.mc_theory.proofs.Headline.{headline_holds-from_accepted}
 use Rattle.mc_forward.specs.Domains.{DomainValue, IsDomain, net_of}
 use Rattle.mc_forward.proofs.BelowLemmas.{length-of_distinct_below}
 use Rattle.mc_forward.proofs.DomainLemmas.{is_net-net_of, wants-below_lan_count, ttl-at_least_1}
 use Rattle.mc_check.specs.Reasons.{optional_reason_value}
-use Rattle.mc_check.specs.Verdicts.{verdict_by, YesIffAccepted, YesCountsEntries, NoGivesFirstReason, YesIsSafe}
+use Rattle.mc_check.specs.Verdicts.{verdict_by, YesIffAccepted, YesCountsEntries}
+use Rattle.mc_check.specs.Verdicts.{NoGivesFirstReason, YesIsSafe}
 use Rattle.mc_check.specs.Verdicts.{YesDelivers, YesIsRight, YesKeepsHeadline}
 use Rattle.mc_check.specs.declared.verdict.Reason.{Reason}
 
--- the reason that was found is the first, and the net's tables are in order
+-- this is the first reason, on a net whose tables are valid
 pub record IsFirstReason (n : Net) (count : ℕ) (es : List Entry) (o : Option Reason) : Type 0 where
   pub net : IsNet n
   pub wants : WantsBelow n count
@@ -26,9 +28,11 @@ pub record IsFirstReason (n : Net) (count : ℕ) (es : List Entry) (o : Option R
 
 pub is_accepted-no_reason : (n : Net) (count : ℕ) (es : List Entry) → IsFirstReason n count es None
     → IsAccepted n es
-is_accepted-no_reason n count es j = (first_reason-none_iff_accepted n count es j.net j.wants).0 (sym j.reason_is_first)
+is_accepted-no_reason n count es j = (first_reason-none_iff_accepted n count es j.net j.wants).0
+    (sym j.reason_is_first)
 
-pub yes_iff_accepted : (n : Net) (count : ℕ) (es : List Entry) (o : Option Reason) → IsFirstReason n count es o
+pub yes_iff_accepted : (n : Net) (count : ℕ) (es : List Entry) (o : Option Reason)
+    → IsFirstReason n count es o
     → YesIffAccepted n es (verdict_by o (length es))
 yes_iff_accepted n count es None j = ((λ _. is_accepted-no_reason n count es j), (λ _. refl))
 yes_iff_accepted n count es (Some r) j = (
@@ -37,15 +41,16 @@ yes_iff_accepted n count es (Some r) j = (
       ∙ (first_reason-none_iff_accepted n count es j.net j.wants).1 acc in absurd cc),
 )
 
-pub copy_count : (n : Net) (es : List Entry) (o : Option Reason)
+pub yes_counts_entries : (n : Net) (es : List Entry) (o : Option Reason)
     → YesCountsEntries n es (verdict_by o (length es))
-copy_count n es None = refl
-copy_count n es (Some r) = tt
+yes_counts_entries n es None = refl
+yes_counts_entries n es (Some r) = tt
 
-pub reason_is_first : (n : Net) (count : ℕ) (es : List Entry) (o : Option Reason) → IsFirstReason n count es o
+pub no_gives_first_reason : (n : Net) (count : ℕ) (es : List Entry) (o : Option Reason)
+    → IsFirstReason n count es o
     → NoGivesFirstReason count n es (verdict_by o (length es))
-reason_is_first n count es None j = tt
-reason_is_first n count es (Some r) j = sym j.reason_is_first
+no_gives_first_reason n count es None j = tt
+no_gives_first_reason n count es (Some r) j = sym j.reason_is_first
 
 pub yes_is_safe : (n : Net) (count : ℕ) (es : List Entry) (o : Option Reason) → IsFirstReason n count es o
     → YesIsSafe n es (verdict_by o (length es))
@@ -55,7 +60,8 @@ yes_is_safe n count es (Some r) j = tt
 
 pub yes_delivers : (n : Net) (count : ℕ) (es : List Entry) (o : Option Reason)
     → IsFirstReason n count es o → YesDelivers n es (verdict_by o (length es))
-yes_delivers n count es None j = λ t ps low high range whole done. is_delivered-from_lossless_run n es t ps j.net
+yes_delivers n count es None j = λ t ps low high range whole done. is_delivered-from_lossless_run n
+    es t ps j.net
     (is_accepted-no_reason n count es j).is_tree low high range whole done
 yes_delivers n count es (Some r) j = tt
 
@@ -66,7 +72,8 @@ yes_is_right n count es (Some r) j = tt
 
 pub yes_keeps_headline : (n : Net) (count : ℕ) (es : List Entry) (o : Option Reason)
     → IsFirstReason n count es o → YesKeepsHeadline n es (verdict_by o (length es))
-yes_keeps_headline n count es None j = headline_holds-from_accepted n es j.net j.ttl (is_accepted-no_reason n count es j)
+yes_keeps_headline n count es None j = headline_holds-from_accepted n es j.net j.ttl
+    (is_accepted-no_reason n count es j)
 yes_keeps_headline n count es (Some r) j = tt
 
 -- a LAN that is named is below the count
@@ -81,11 +88,12 @@ entry_lan-below_count (e ∷ es) count l all (inr h) = entry_lan-below_count es 
 pub length-accepted_entries : (n : Net) (es : List Entry) (count : ℕ) → IsAccepted n es
     → All (λ e. e.lan < count) es → length es ≤ count
 length-accepted_entries n es count acc all =
-    let entry_count_fits = length-of_distinct_below (map (λ (e : Entry). e.lan) es) count acc.is_tree.one_entry
+    let bound = length-of_distinct_below (map (λ (e : Entry). e.lan) es) count acc.is_tree.one_entry
     (λ l h. entry_lan-below_count es count l all h) in
-    omega (arith, entry_count_fits, length-map es (λ (e : Entry). e.lan))
+    omega (arith, bound, length-map es (λ (e : Entry). e.lan))
 
-pub is_first_reason-of_domain : (d : DomainValue) (flow : ℕ) (es : List Entry) (o : Option Reason) → IsDomain d
+pub is_first_reason-of_domain : (d : DomainValue) (flow : ℕ) (es : List Entry) (o : Option Reason)
+    → IsDomain d
     → flow < length d.topology.flows
     → optional_reason_value o ≡ first_reason (net_of d flow) (length d.topology.lans) es
     → IsFirstReason (net_of d flow) (length d.topology.lans) es o
@@ -96,7 +104,7 @@ is_first_reason-of_domain d flow es o ok lt e = record {
   reason_is_first = e;
 }
 
--- with no reason the entries are few
+-- without a reason, the number of entries fits into 32 bits
 pub entry_count_fits : (d : DomainValue) (flow : ℕ) (es : List Entry) (o : Option Reason) → IsDomain d
     → IsFirstReason (net_of d flow) (length d.topology.lans) es o
     → All (λ e. e.lan < length d.topology.lans) es → o ≡ None → length es < 2 ^ 32

@@ -1,4 +1,4 @@
--- How a reason and a verdict are written, by the names of a topology.
+-- The texts of a reason and of a verdict, with the names of a topology.
 use Rattle.std.specs.Prelude.{ℕ, List, ◌++◌, codes, decimal}
 use Rattle.mc_topology.specs.Topology.{TopologyValue, lan_name, router_name}
 use Rattle.mc_check.specs.declared.verdict.Reason.{Reason}

@@ -1,4 +1,4 @@
--- The code's reasons as those of the definitions.
+-- The code's reasons as values of the theory.
 use Rattle.std.specs.Prelude.{Option, Some, None}
 use Rattle.mc_theory.specs.Reasons.{Reason as ReasonValue}
 use Rattle.mc_check.specs.declared.verdict.Reason.{Reason}
@@ -18,7 +18,7 @@ reason_value (Unfed lan) = ReasonValue.Unfed lan
 reason_value (Missed lan) = ReasonValue.Missed lan
 reason_value (Low lan) = ReasonValue.Low lan
 
--- the reason that was found, if one was
+-- the reason, if there is one
 abbrev pub optional_reason_value : Option Reason → Option ReasonValue
 optional_reason_value None = None
 optional_reason_value (Some reason) = Some (reason_value reason)

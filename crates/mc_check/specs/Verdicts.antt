@@ -1,4 +1,4 @@
--- What a verdict says of a flow's list of entries.
+-- What a verdict means for a flow's list of entries.
 use Rattle.std.specs.Prelude.{◌≡◌, ℕ, Bool, true, false, IsTrue, ◌↔◌, List, length, slice_get}
 use Rattle.std.specs.Prelude.{Option, Some, None, ⊤}
 use Rattle.mc_theory.specs.Nets.{Net}
@@ -46,14 +46,14 @@ abbrev pub NoGivesFirstReason : ℕ → Net → List Entry → Verdict → Type 
 NoGivesFirstReason count n es v = IfNo v (λ reason. first_reason n count es
     ≡ Some (reason_value reason))
 
--- ---- what a yes is worth, for every packet of the flow and every order in which its copies are
+-- ---- what a yes promises, for every packet of the flow and every order in which its copies are
 -- handled or lost
 
 -- every run of a packet with any TTL, complete or not, is safe
 abbrev pub YesIsSafe : Net → List Entry → Verdict → Type 0
 YesIsSafe n es v = IfYes v (λ copy_count. EveryRun n 1 (IsSafe n es))
 
--- every complete run without loss carries exactly the named LANs whose need the TTL meets
+-- every complete run without loss reaches exactly the named LANs whose need the TTL meets
 abbrev pub YesDelivers : Net → List Entry → Verdict → Type 0
 YesDelivers n es v = IfYes v (λ copy_count. EveryRun n 1 (IsDeliveredWhole es))
 
@@ -61,11 +61,11 @@ YesDelivers n es v = IfYes v (λ copy_count. EveryRun n 1 (IsDeliveredWhole es))
 abbrev pub YesIsRight : Net → List Entry → Verdict → Type 0
 YesIsRight n es v = IfYes v (λ copy_count. IsRight n)
 
--- the headline's promise is kept for the flow, with this many copies
+-- the headline holds for the flow, with this many copies
 abbrev pub YesKeepsHeadline : Net → List Entry → Verdict → Type 0
 YesKeepsHeadline n es v = IfYes v (λ copy_count. HeadlineHolds n copy_count)
 
--- all of this
+-- a verdict of which all of this holds
 pub record IsCorrectVerdict (count : ℕ) (n : Net) (es : List Entry) (v : Verdict) : Type 0 where
   pub accepted : YesIffAccepted n es v
   pub copy_count : YesCountsEntries n es v
@@ -75,9 +75,9 @@ pub record IsCorrectVerdict (count : ℕ) (n : Net) (es : List Entry) (v : Verdi
   pub right : YesIsRight n es v
   pub headline : YesKeepsHeadline n es v
 
--- ---- of each flow
+-- ---- for every flow
 
--- the fact of each flow's net, list and verdict
+-- the fact holds for each flow's net, list and verdict
 abbrev pub HoldsForEachFlow : DomainValue → List (List Entry) → List Verdict
     → (Net → List Entry → Verdict → Type 0) → Type 0
 HoldsForEachFlow d lists verdicts P = (flow : ℕ) (es : List Entry) (v : Verdict)

@@ -5,7 +5,8 @@ ghost use Rattle.mc_theory.specs.Reasons.{first_reason, twice};
 ghost use Rattle.mc_forward.specs.Domains.{net_of};
 ghost use Rattle.mc_forward.specs.FlightsInDomain.{net_in};
 ghost use Rattle.mc_check.specs.Reasons.{optional_reason_value};
-ghost use Rattle.mc_check.specs.Verdicts.{YesCountsEntries, NoGivesFirstReason, YesIffAccepted, HoldsForEachFlow, IsCorrectVerdict};
+ghost use Rattle.mc_check.specs.Verdicts.{YesCountsEntries, NoGivesFirstReason, YesIffAccepted};
+ghost use Rattle.mc_check.specs.Verdicts.{HoldsForEachFlow, IsCorrectVerdict};
 ghost use Rattle.mc_check.specs.Verdicts.{verdict_by};
 ghost use Rattle.mc_check.specs.Verdicts.{YesDelivers, YesIsRight, YesIsSafe, YesKeepsHeadline};
 
@@ -19,10 +20,10 @@ use mc_forward::{Domain, FlowView, PerLan};
 use mc_text::Memory;
 use std::alloc::Global;
 
-/// The first reason to refuse a flow's entries, no two of which name one LAN.
+/// The first reason to refuse a flow's entries, where no two of them name the same LAN.
 fn reason_for_distinct_lans(view: &FlowView<'_>, by_lan: &EntriesByLan<'_>) -> Option<Reason>
-    requires once { twice [] by_lan.now ≡ None }
-    ensures meaning { optional_reason_value result ≡ first_reason (net_in view.now)
+    requires distinct { twice [] by_lan.now ≡ None }
+    ensures reason { optional_reason_value result ≡ first_reason (net_in view.now)
         (length view.now.domain.topology.lans) by_lan.now }
 {
     if !has_source(view, by_lan) {
@@ -57,7 +58,7 @@ fn first_reason_of(
     Ok(reason_for_distinct_lans(&FlowView::new(domain, flow), &by_lan))
 }
 
-/// The verdict by the first reason, if there is one.
+/// No with the first reason, or yes if there is none.
 fn verdict_by(reason: Option<Reason>, entries: &[Reached]) -> Verdict
     requires bounded { reason ≡ None → length entries.now < 2 ^ 32 }
     ensures value { result ≡ verdict_by reason (length entries.now) }
@@ -70,7 +71,7 @@ fn verdict_by(reason: Option<Reason>, entries: &[Reached]) -> Verdict
     }
 }
 
-/// The verdict on a list of entries for a flow, and all that it says.
+/// The verdict on a flow's list of entries, with all that `check_flow` promises of it.
 fn verdict_on(
     alloc: Global,
     domain: &Domain,
@@ -87,7 +88,11 @@ fn verdict_on(
     Ok(verdict_by(reason, entries))
 }
 
-/// Whether a list of entries certifies the flow with this number.
+/// Whether a list of entries certifies the flow with this number, counted from 0.
+///
+/// # Errors
+///
+/// `Memory` if an allocation fails.
 pub fn check_flow(
     alloc: Global,
     domain: &Domain,
@@ -98,25 +103,29 @@ pub fn check_flow(
     requires lans { All (λ e. e.lan < length domain.now.topology.lans) entries.now }
     // Yes exactly where the list is accepted,
     ensures accepted { IfOk result (YesIffAccepted (net_of domain.now flow) entries.now) }
-    // with the number of its entries,
+    // and then with the number of its entries;
     ensures copies { IfOk result (YesCountsEntries (net_of domain.now flow) entries.now) }
-    // and else no with the first reason.
+    // otherwise no, with the first reason.
     ensures reason { IfOk result (NoGivesFirstReason (length domain.now.topology.lans)
         (net_of domain.now flow) entries.now) }
-    // After a yes every run of every packet is safe, whatever the order and whatever is lost,
+    // After a yes, every run of every packet is safe, in any order and whatever is lost;
     ensures safe { IfOk result (YesIsSafe (net_of domain.now flow) entries.now) }
-    // each complete run without loss carries exactly the named LANs whose need the TTL meets,
+    // each complete run without loss reaches exactly the named LANs whose need the TTL meets;
     ensures delivered { IfOk result (YesDelivers (net_of domain.now flow) entries.now) }
-    // so the flow is right,
+    // the flow is right;
     ensures right { IfOk result (YesIsRight (net_of domain.now flow) entries.now) }
-    // and the promise of the headline is kept for it.
+    // and the headline holds for it.
     ensures headline { IfOk result (YesKeepsHeadline (net_of domain.now flow) entries.now) }
 {
     verdict_on(alloc, domain, flow, entries)
 }
 
-/// The verdict on each flow, in the order of the topology, by a certificate of the domain's
-/// topology: a list for each flow, of the topology's LANs.
+/// The verdict on each flow, in the order of the topology, by a certificate that has a list of
+/// entries for each flow of the domain's topology.
+///
+/// # Errors
+///
+/// `Memory` if an allocation fails.
 pub fn check_all(
     alloc: Global,
     domain: &Domain,
@@ -124,16 +133,18 @@ pub fn check_all(
 ) -> Result<Vec<Verdict>, Memory>
     requires flows { length certificate.now ≡ length domain.now.topology.flows }
     requires lans { All (All (λ e. e.lan < length domain.now.topology.lans)) certificate.now }
-    // One verdict a flow, and each is what `check_flow` answers: yes exactly where the list is
-    // accepted,
+    // There is one verdict for each flow.
     ensures count { IfOk result (λ vs. length vs.items ≡ length certificate.now) }
+    // Each is what `check_flow` returns: yes exactly where the list is accepted,
     ensures accepted { IfOk result (λ vs.
         HoldsForEachFlow domain.now certificate.now vs.items YesIffAccepted) }
+    // and then with the number of its entries;
     ensures copies { IfOk result (λ vs.
         HoldsForEachFlow domain.now certificate.now vs.items YesCountsEntries) }
+    // otherwise no, with the first reason.
     ensures reason { IfOk result (λ vs. HoldsForEachFlow domain.now certificate.now vs.items
         (NoGivesFirstReason (length domain.now.topology.lans))) }
-    // and a yes is worth the same.
+    // A yes promises the same as that of `check_flow`.
     ensures safe { IfOk result (λ vs.
         HoldsForEachFlow domain.now certificate.now vs.items YesIsSafe) }
     ensures delivered { IfOk result (λ vs.

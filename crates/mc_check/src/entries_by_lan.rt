@@ -1,4 +1,4 @@
-//! The entries of a flow, with the first of each LAN at hand.
+//! The entries of a flow, with the first entry of each LAN looked up by its number.
 
 ghost use Rattle.std.specs.Prelude.{◌≡◌, ◌<◌, All, IfNone, [], length};
 ghost use Rattle.mc_theory.specs.Reasons.{entry_on, entry_at, twice as first_twice};
@@ -11,7 +11,7 @@ use mc_forward::PerLan;
 use mc_topology::LanNo;
 use std::marker::Model;
 
-/// The entries of a flow, in order, and the first entry of each LAN. Contracts see the entries.
+/// The entries of a flow in order, with the first entry of each LAN. The model is the list of entries.
 #[derive(Drop)]
 pub(crate) struct EntriesByLan<'c> {
     entries: &'c [Reached],
@@ -31,7 +31,7 @@ impl<'c> Model for EntriesByLan<'c> {
     ghost invariant = { λ s. HoldsFirstOfEachKey (λ (e : Entry). e.lan) s.firsts s.entries.now };
 }
 
-/// Puts the first entry of each LAN where none is yet, and tells the first LAN that is named twice.
+/// Stores the first entry of each LAN. Returns the first LAN that is named twice, as a reason.
 pub(crate) fn put_first_entries(firsts: &mut PerLan<Reached>, entries: &[Reached]) -> Option<Reason>
     requires empty { HoldsFirstOfEachKey (λ e. e.lan) firsts.old [] }
     requires lans { All (λ e. e.lan < length firsts.old) entries.now }
@@ -47,9 +47,9 @@ pub(crate) fn put_first_entries(firsts: &mut PerLan<Reached>, entries: &[Reached
 }
 
 impl<'c> EntriesByLan<'c> {
-    /// The entries with these firsts.
+    /// The entries, with the first entry of each LAN as it was stored.
     pub(crate) fn new(entries: &'c [Reached], firsts: PerLan<Reached>) -> EntriesByLan<'c>
-        requires given { HoldsFirstOfEachKey (λ e. e.lan) firsts entries.now }
+        requires firsts { HoldsFirstOfEachKey (λ e. e.lan) firsts entries.now }
         ensures value { result ≡ entries.now }
     {
         EntriesByLan { entries, firsts }
@@ -62,14 +62,14 @@ impl<'c> EntriesByLan<'c> {
         self.entries
     }
 
-    /// The first entry of a LAN.
+    /// The first entry of a LAN, if it has one.
     pub(crate) fn on(&self, lan: LanNo) -> Option<Reached>
         ensures { result ≡ entry_on self.now lan }
     {
         self.firsts.on(lan)
     }
 
-    /// The first entry of the LAN, if there is a LAN.
+    /// The first entry of the LAN that a vif is placed on, if both are there.
     pub(crate) fn at(&self, place: Option<LanNo>) -> Option<Reached>
         ensures { result ≡ entry_at self.now place }
     {

@@ -1,4 +1,4 @@
-//! Whether each entry's forwarder sends onto its LAN.
+//! Checks that each entry's forwarder sends onto its LAN.
 
 ghost use Rattle.std.specs.Prelude.{◌≡◌, Some};
 ghost use Rattle.mc_theory.specs.Reasons.{feeds_from, first_of, is_fed, row_feeds, unless};
@@ -15,7 +15,7 @@ use mc_forward::{FlowView, RowFor, outgoing_from};
 use mc_tables::Entry;
 use mc_topology::RouterNo;
 
-/// Whether one of an entry's pairs sends by a vif what comes from `base`'s LAN.
+/// Whether a table entry forwards copies from `base`'s LAN out of a vif.
 fn feeds(base: &Reached, vif: u8, entry: &Entry<'_>) -> bool
     requires valid { IsValidEntry entry.now }
     ensures value { result ≡ feeds_from vif (oif_pairs entry.now.oifs) (Some base.now) }
@@ -28,7 +28,7 @@ fn feeds(base: &Reached, vif: u8, entry: &Entry<'_>) -> bool
     false
 }
 
-/// Whether a router's row sends by a vif what comes from a named LAN.
+/// Whether a router forwards copies from a named LAN out of a vif.
 fn row_feeds(view: &FlowView<'_>, by_lan: &EntriesByLan<'_>, router: RouterNo, vif: u8) -> bool
     ensures { result ≡ row_feeds (net_in view.now) by_lan.now router vif
         ((net_in view.now).row router) }
@@ -42,7 +42,7 @@ fn row_feeds(view: &FlowView<'_>, by_lan: &EntriesByLan<'_>, router: RouterNo, v
     }
 }
 
-/// Whether an entry's forwarder, if it has one, sends on its LAN.
+/// Whether an entry has no forwarder, or one that sends onto its LAN.
 fn is_fed(view: &FlowView<'_>, by_lan: &EntriesByLan<'_>, entry: &Reached) -> bool
     ensures { result ≡ is_fed (net_in view.now) by_lan.now entry.now.lan entry.now.forwarder }
 {
@@ -58,7 +58,7 @@ fn is_fed(view: &FlowView<'_>, by_lan: &EntriesByLan<'_>, entry: &Reached) -> bo
     }
 }
 
-/// The first entry that isn't fed.
+/// The first entry that isn't fed, as a reason.
 pub(crate) fn unfed_reason(view: &FlowView<'_>, by_lan: &EntriesByLan<'_>) -> Option<Reason>
     ensures { optional_reason_value result ≡ first_of (λ entry.
         unless (is_fed (net_in view.now) by_lan.now entry.lan entry.forwarder) (Unfed entry.lan))

@@ -1,6 +1,6 @@
-//! The checker: whether a list of entries certifies a flow of a domain. It reads each table entry
-//! against the ranks and needs of the list, and simulates nothing; where it says yes, every packet
-//! of the flow is forwarded right, in every order.
+//! The checker: whether a list of entries certifies a flow of a domain. It compares each table entry
+//! with the ranks and needs of the list, and simulates nothing; after a yes, every packet of the flow
+//! is forwarded right, in every order.
 #![tactic(auto)]
 
 mod check;

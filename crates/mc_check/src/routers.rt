@@ -1,4 +1,4 @@
-//! What the routers' rows make of a list of entries: each pair that sends has to give an entry.
+//! Checks the routers' table entries: each oif that sends must lead to an entry of the list.
 
 ghost use Rattle.std.specs.Prelude.{◌≡◌, ◌+◌, ◌<◌};
 ghost use Rattle.mc_theory.specs.Lists.{below};
@@ -15,8 +15,8 @@ use mc_forward::{FlowView, RowFor};
 use mc_tables::Oif;
 use mc_topology::{LanNo, RouterNo};
 
-/// What keeps a LAN's entry from being the one that a router's pair gives, where the router takes
-/// from `base`'s LAN.
+/// Why a LAN's entry isn't the one that follows from a router's oif onto it, if it isn't. The router
+/// takes the flow from `base`'s LAN.
 fn child_reason(
     by_lan: &EntriesByLan<'_>,
     base: &Reached,
@@ -25,7 +25,8 @@ fn child_reason(
     lan: LanNo,
 ) -> Option<Reason>
     requires live { base.now.rank + oif.now.threshold < 255 }
-    ensures meaning { optional_reason_value result ≡ child_reason base.now router (oif.now.vif, oif.now.threshold)
+    ensures reason { optional_reason_value result ≡ child_reason base.now router
+        (oif.now.vif, oif.now.threshold)
         lan (entry_on by_lan.now lan) }
 {
     let extra = Some(Reason::Extra(router, oif.vif, lan));
@@ -47,7 +48,7 @@ fn child_reason(
     None
 }
 
-/// What is wrong with a pair of a router that takes from `base`'s LAN.
+/// What is wrong with an oif of a router that takes the flow from `base`'s LAN.
 fn pair_reason(
     view: &FlowView<'_>,
     by_lan: &EntriesByLan<'_>,
@@ -67,7 +68,7 @@ fn pair_reason(
     }
 }
 
-/// What is wrong with the pairs of a router that takes from `base`'s LAN, the first.
+/// The first thing that is wrong with the oifs of a router that takes the flow from `base`'s LAN.
 fn pairs_reason(
     view: &FlowView<'_>,
     by_lan: &EntriesByLan<'_>,
@@ -87,7 +88,7 @@ fn pairs_reason(
     None
 }
 
-/// The lowest vif on a named LAN of a router whose row is open.
+/// The lowest vif on a named LAN, as a reason, of a router that has a wildcard entry alone.
 fn wildcard_reason(
     view: &FlowView<'_>,
     by_lan: &EntriesByLan<'_>,
@@ -104,7 +105,7 @@ fn wildcard_reason(
     None
 }
 
-/// What is wrong with a router.
+/// The first thing that is wrong with a router.
 fn router_reason(view: &FlowView<'_>, by_lan: &EntriesByLan<'_>, router: RouterNo) -> Option<Reason>
     ensures { optional_reason_value result ≡ row_reason (net_in view.now) by_lan.now router
         ((net_in view.now).row router) }
@@ -119,7 +120,7 @@ fn router_reason(view: &FlowView<'_>, by_lan: &EntriesByLan<'_>, router: RouterN
     }
 }
 
-/// What is wrong with the routers, the first.
+/// The first thing that is wrong with the routers.
 pub(crate) fn routers_reason(view: &FlowView<'_>, by_lan: &EntriesByLan<'_>) -> Option<Reason>
     ensures { optional_reason_value result ≡ first_of (λ router.
         row_reason (net_in view.now) by_lan.now router ((net_in view.now).row router))

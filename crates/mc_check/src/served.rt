@@ -1,4 +1,4 @@
-//! The source's LAN, and the LANs that want the flow.
+//! Checks the entry of the source's LAN, and that each LAN that wants the flow is served.
 
 ghost use Rattle.std.specs.Prelude.{◌≡◌, ◌==◌, ◌||◌, ◌<◌, IsTrue, None, is_some, length};
 ghost use Rattle.std.specs.List.{list_all};
@@ -45,10 +45,10 @@ pub(crate) fn has_source(view: &FlowView<'_>, by_lan: &EntriesByLan<'_>) -> bool
     is_source_entry(by_lan, source) && others_are_forwarded(by_lan.entries(), source)
 }
 
-/// Whether a LAN that wants the flow goes without it.
+/// Why a LAN that wants the flow doesn't get it, if it doesn't.
 fn lan_reason(view: &FlowView<'_>, by_lan: &EntriesByLan<'_>, lan: LanNo) -> Option<Reason>
     requires known { lan < length view.now.domain.topology.lans }
-    ensures meaning { optional_reason_value result ≡ lan_reason (net_in view.now) by_lan.now lan }
+    ensures reason { optional_reason_value result ≡ lan_reason (net_in view.now) by_lan.now lan }
 {
     if !view.wants(lan) {
         return None;
@@ -60,7 +60,7 @@ fn lan_reason(view: &FlowView<'_>, by_lan: &EntriesByLan<'_>, lan: LanNo) -> Opt
     }
 }
 
-/// Whether a LAN that wants the flow has it.
+/// Whether a LAN gets the flow, or doesn't want it.
 fn is_served(view: &FlowView<'_>, by_lan: &EntriesByLan<'_>, lan: LanNo) -> bool
     requires known { lan < length view.now.domain.topology.lans }
     ensures sound { IsTrue result → lan_reason (net_in view.now) by_lan.now lan ≡ None }
@@ -72,8 +72,8 @@ fn is_served(view: &FlowView<'_>, by_lan: &EntriesByLan<'_>, lan: LanNo) -> bool
     !view.wants(lan) | reaches
 }
 
-/// Whether all LANs that want the flow have it. All LANs are asked, without a branch for each,
-/// since a processor doesn't foresee which of them want a flow.
+/// Whether all LANs that want the flow get it. It tests every LAN without a branch, since a processor
+/// predicts badly which of them want a flow.
 fn all_are_served(view: &FlowView<'_>, by_lan: &EntriesByLan<'_>) -> bool
     ensures { IsTrue result → first_of (lan_reason (net_in view.now) by_lan.now)
         (below (length view.now.domain.topology.lans)) ≡ None }
@@ -85,7 +85,7 @@ fn all_are_served(view: &FlowView<'_>, by_lan: &EntriesByLan<'_>) -> bool
     all
 }
 
-/// The first LAN that wants the flow and goes without it.
+/// The first LAN that wants the flow and doesn't get it, as a reason.
 pub(crate) fn lans_reason(view: &FlowView<'_>, by_lan: &EntriesByLan<'_>) -> Option<Reason>
     ensures { optional_reason_value result ≡ first_of (lan_reason (net_in view.now) by_lan.now)
         (below (length view.now.domain.topology.lans)) }

@@ -1,4 +1,4 @@
-//! A reason and a verdict as they are written, by the names of a topology.
+//! Prints a reason and a verdict with the names of a topology.
 
 ghost use Rattle.std.specs.Prelude.{◌≡◌, Some};
 ghost use Rattle.mc_check.specs.ReasonText.{reason_text, verdict_text};
@@ -7,12 +7,12 @@ use crate::verdict::{Reason, Verdict};
 use mc_topology::{Topology, WordAtLan, WordAtVif};
 use std::fmt;
 
-/// A reason, to be written by the names of a topology, as `Extra r3 1 l2`.
+/// A reason that prints with the names of a topology, as `Extra r3 1 l2`.
 #[derive(Clone, Copy, Drop)]
 pub struct ShownReason<'t> {
     /// The reason.
     pub reason: Reason,
-    /// The topology that has the names.
+    /// The topology whose names are printed.
     pub topology: &'t Topology,
 }
 
@@ -41,12 +41,12 @@ impl<'t> fmt::Display for ShownReason<'t> {
     }
 }
 
-/// A verdict, to be written by the names of a topology, as `yes copies 3` or `no Low l2`.
+/// A verdict that prints with the names of a topology, as `yes copies 3` or `no Low l2`.
 #[derive(Clone, Copy, Drop)]
 pub struct ShownVerdict<'t> {
     /// The verdict.
     pub verdict: Verdict,
-    /// The topology that has the names.
+    /// The topology whose names are printed.
     pub topology: &'t Topology,
 }
 
@@ -62,7 +62,7 @@ impl<'t> fmt::Display for ShownVerdict<'t> {
 }
 
 impl Reason {
-    /// The reason by the names of a topology.
+    /// The reason, to be printed with the names of a topology.
     pub fn shown(self, topology: &Topology) -> ShownReason<'_>
         ensures reason { result.reason ≡ self }
         ensures topology { result.topology.now ≡ topology.now }
@@ -75,7 +75,7 @@ impl Reason {
 }
 
 impl Verdict {
-    /// The verdict by the names of a topology.
+    /// The verdict, to be printed with the names of a topology.
     pub fn shown(self, topology: &Topology) -> ShownVerdict<'_>
         ensures verdict { result.verdict ≡ self }
         ensures topology { result.topology.now ≡ topology.now }

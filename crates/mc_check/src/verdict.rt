@@ -5,12 +5,12 @@ use mc_topology::{LanNo, RouterNo};
 /// Whether a list of entries certifies a flow.
 #[derive(Clone, Copy, Debug, PartialEq, Eq)]
 pub enum Verdict {
-    /// It does, and no packet of the flow makes more copies than this, the number of its entries.
+    /// It does, and no packet of the flow is copied onto more LANs than the list has entries.
     Yes {
-        /// How many entries the list has.
+        /// The number of the list's entries, at most 4,294,967,295.
         copies: u32,
     },
-    /// It doesn't: the first condition that it breaks.
+    /// It doesn't, for the first condition that it breaks.
     No(Reason),
 }
 
@@ -22,12 +22,13 @@ pub enum Reason {
     /// (2) The source's LAN isn't named with rank 0, need 1 and no forwarder, or an entry of
     /// another LAN has no forwarder.
     BadSource,
-    /// (3) The router has no row for the flow's source and group, but one of every source for its
-    /// group or for all groups, and the vif, the lowest such, is placed on a named LAN.
+    /// (3) The router has no entry for the flow's source and group, but one for every source of its
+    /// group or of all groups, and the vif, its lowest such, is placed on a named LAN.
     Wildcard(RouterNo, u8),
-    /// (4) The router sends by the vif what comes from a named LAN, and the vif isn't placed.
+    /// (4) The router sends copies from a named LAN out of the vif, and the vif isn't placed.
     Stray(RouterNo, u8),
-    /// (5) The router sends by the vif onto the LAN, which isn't named with that forwarder.
+    /// (5) The router sends copies from a named LAN out of the vif onto the LAN, which isn't named with
+    /// that forwarder.
     Extra(RouterNo, u8, LanNo),
     /// (6) The LAN's rank isn't one more than that of the LAN that feeds it.
     WrongRank(LanNo),

@@ -1,4 +1,4 @@
--- What clap's parse says of the words, for the program without `audit`.
+-- What clap finds in the words, for the program without `audit`.
 use Rattle.std.proofs.Common.{◌≡◌, ℕ, Bool, true, false, List, [], ◌∷◌, refl, subst, ap, inl, inr, Ok, Err, Result}
 use Rattle.std.proofs.lemmas.Bool.{false≢true}
 use Rattle.clap.specs.Faults.{fault_of, is_simple_and_free}
@@ -11,7 +11,7 @@ use Rattle.clap.specs.declared.error.kind.ErrorKind.TheVariants.{OutOfMemory}
 use Rattle.clap.specs.declared.parser.matches.ArgMatches.{ArgMatches}
 use Rattle.mc_cli.specs.Commands.{AreAcceptedByClap, IsCommand, commands, subcommand_in}
 
--- clap's exact clauses hold of this program
+-- the program is one of which clap's exact clauses hold
 is_simple-commands : is_simple commands ≡ true
 is_simple-commands = refl
 
@@ -45,7 +45,7 @@ OutOfMemory-from_no_kind [] error (inl memory) none = memory
 OutOfMemory-from_no_kind [] error (inr among) none = absurd among
 OutOfMemory-from_no_kind (kind ∷ kinds) error has none = absurd (false≢true (ap (λ (kinds : Kinds). is_empty_kinds kinds) none))
 
--- where clap takes the words, an error is that memory ran out
+-- where clap accepts the words, an error is that memory ran out
 pub OutOfMemory-from_clap_error : (T : Type 0) (command : Command) (words : List (List ℕ)) (error : Error) → IsCommand commands command
     → (is_simple_and_free (app_of command) ≡ true → FailsBy {T = T} (fault_of (app_of command) words) (Err error))
     → AreAcceptedByClap words → kind_of error ≡ OutOfMemory

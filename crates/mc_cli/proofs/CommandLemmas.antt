@@ -8,7 +8,7 @@ use Rattle.clap.specs.declared.builder.arg.Arg.{Arg}
 use Rattle.clap.specs.declared.builder.command.Command.{Command}
 use Rattle.mc_cli.specs.Commands.{IsCommand, IsLeaf}
 
--- one argument more
+-- a command with an added argument
 pub IsCommand-with_rule : (old : Command) (argument : Arg) (new : Command) (app : App) (rule : Rule) → rule_of argument ≡ rule
     → argument.global ≡ false → IsCommand app old → AddsArg old argument new → IsCommand (with_rule app rule) new
 IsCommand-with_rule old argument new app rule same local is adds = record {
@@ -16,7 +16,7 @@ IsCommand-with_rule old argument new app rule same local is adds = record {
   local = adds.globals ∙ ap₂ (λ above own. above || own) is.local local;
 }
 
--- one command more
+-- a command with an added subcommand
 pub IsCommand-with_subcommand : (old sub new : Command) (app : App) (shape : Shape) → IsCommand app old → IsLeaf shape sub
     → AddsSubcommand old sub new → IsCommand (with_subcommand app shape) new
 IsCommand-with_subcommand old sub new app shape is leaf adds = record {
@@ -25,11 +25,11 @@ IsCommand-with_subcommand old sub new app shape is leaf adds = record {
   local = adds.globals ∙ ap₂ (λ above own. above || own) is.local leaf.local;
 }
 
--- what holds of a value in `Ok`, where the value is known
+-- what holds of a value in `Ok` holds of the value that it is
 pub value-from_IfOk : {T E : Type 0} (r : Result T E) (x : T) (P : T → Type 0) → r ≡ Ok x → IfOk r P → P x
 value-from_IfOk {T} {E} r x P is holds = let Q : Result T E → Type 0 = λ r. IfOk r P in subst Q is holds
 
--- one argument more, where there is memory for it
+-- a command with its first argument, unless memory runs out
 pub IsCommand-with_first_rule : {E : Type 0} (old : Command) (argument : Arg) (app : App) (rule : Rule) (r : Result Command E)
     → rule_of argument ≡ rule → argument.global ≡ false → IsCommand app old
     → IfOk r (λ new. AddsArg old argument new) → IfOk r (IsCommand (with_rule app rule))

@@ -1,4 +1,4 @@
--- What words give, one word on.
+-- What words give, by the first of them and the rest.
 use Rattle.std.proofs.Common.{◌≡◌, ◌≢◌, ◌∙◌, ℕ, ◌+◌, ◌<◌, ◌≤◌, true, false, List, ◌++◌, length, drop, take, map}
 use Rattle.std.proofs.Common.{get_or, ap, sym, refl, Bool, Option, Some, None, codes, cond}
 use Rattle.std.specs.Borrow.{Bor}
@@ -12,7 +12,7 @@ use Rattle.std.proofs.lemmas.Slice.Eq.{bytes_eq-Decides}
 use Rattle.mc_cli.specs.AuditWords.{Given, router_after_equals}
 use Rattle.mc_cli.specs.AuditWords.{with_word, with_words}
 
--- From a place on they give what is given with the word there and the words behind it,
+-- the words from a place on give what the first gives and then the rest,
 pub with_words-more : {X : Type 0} (f : X → List ℕ) (xs : List X) (i : ℕ) (d : X) (given : Given)
     (next : Option Given) → i < length xs → with_word given.next_word (f (get_or xs i d)) given ≡ next
     → with_words (Some given) (map f (drop i xs)) ≡ with_words next (map f (drop (i + 1) xs))
@@ -21,7 +21,7 @@ with_words-more f xs i d given next lt is =
     at_drop_more (λ rest. with_words (Some given) (map f rest)) xs i d lt
     ∙ ap (λ given. with_words given (map f (drop (i + 1) xs))) is
 
--- nothing where that is wrong,
+-- nothing where a word before them isn't valid,
 pub with_words-None : (words : List (List ℕ)) → with_words None words ≡ None
 unfolding with_words
 with_words-None words = refl
@@ -61,7 +61,7 @@ router_after_equals-strip_prefix (Some router) word strips =
     ap Some (strips.2 ∙ ap (λ n. drop n word) after)
     ∙ router_after_equals-cond word true test
 
--- whether the next word is right
+-- what is given by whether the next word is valid
 pub Some-from_IsNextGiven : (right : Bool) (next : Option Given) (given : Given) → right ≡ true → next ≡ then_some right given
     → next ≡ Some given
 Some-from_IsNextGiven right next given is says = says ∙ ap (λ right. then_some right given) is

@@ -1,4 +1,4 @@
--- What the first word behind the program's name excludes.
+-- What follows from the first word after the program's name.
 use Rattle.std.proofs.Common.{◌≡◌, ◌∙◌, ℕ, Bool, true, false, List, [], ◌∷◌, Some, None, codes, ap}
 use Rattle.std.proofs.Common.{sym, subst, drop, length, map, get_or, refl, ◌≤◌, ◌<◌}
 use Rattle.std.specs.Borrow.{Bor}
@@ -30,7 +30,7 @@ slice_get-map_read words place word within read =
     slice_get-map (λ word. word.now) words place
     ∙ ap (option_map (λ word. word.now)) (slice_get_read words (length words) place word refl within read)
 
--- the first word is this one where it is equal to it,
+-- the first word is this one exactly where it is equal to it,
 pub IsFirstWord-iff_equal : (words : List (List ℕ)) (first word : List ℕ) (result : Bool) → slice_get words 1 ≡ Some first
     → result ≡ bytes_eq first word → (result ≡ true → IsFirstWord word words) × (IsFirstWord word words → result ≡ true)
 IsFirstWord-iff_equal words first word result read test = (
@@ -38,7 +38,7 @@ IsFirstWord-iff_equal words first word result read test = (
   λ at. test ∙ (bytes_eq-Decides first word).1 (Some-injective _ _ (sym read ∙ at)),
 )
 
--- and there is none where there is only the program's name.
+-- and there is none where there is only the program's name
 pub not_IsFirstWord-only_program_name : (words : List (Bor (List ℕ))) (word : List ℕ) → length words ≤ 1
     → IsFirstWord word (map (λ word. word.now) words) → ⊥
 not_IsFirstWord-only_program_name words word few at =
@@ -46,7 +46,7 @@ not_IsFirstWord-only_program_name words word few at =
     slice_get-map (λ word. word.now) words 1 ∙ ap (option_map (λ word. word.now)) (slice_get_past words 1 few) in
     None-is_not_Some _ (sym none ∙ at)
 
--- what holds of no words that begin so, doesn't hold
+-- what holds of no words with this first word, doesn't hold
 pub absurd-from_first_word : (words : List (List ℕ)) (word : List ℕ) (P : List (List ℕ) → Type 0) → IsFirstWord word words
     → ((name : List ℕ) (rest : List (List ℕ)) → P (name ∷ word ∷ rest) → ⊥) → P words → ⊥
 absurd-from_first_word [] word P is never holds = None-is_not_Some _ is
@@ -62,20 +62,20 @@ not_accepted-help : (name : List ℕ) (rest : List (List ℕ)) → AreAcceptedBy
 unfolding clap_on_literals
 not_accepted-help name rest taken = false≢true (ap (λ (kinds : Kinds). is_empty kinds) taken)
 
--- clap takes no words that another reader takes
+-- clap accepts no words that `audit` or `help` begins
 pub not_accepted-audit_words : (words : List (List ℕ)) → IsFirstWord (codes "audit") words → AreAcceptedByClap words → ⊥
 not_accepted-audit_words words is = absurd-from_first_word words _ AreAcceptedByClap is not_accepted-audit
 
 pub not_accepted-help_words : (words : List (List ℕ)) → IsFirstWord (codes "help") words → AreAcceptedByClap words → ⊥
 not_accepted-help_words words is = absurd-from_first_word words _ AreAcceptedByClap is not_accepted-help
 
--- the first word is one word
+-- the first word isn't two different words
 pub IsFirstWord-unique : (words : List (List ℕ)) (one other : List ℕ) → bytes_eq other one ≡ false → bytes_eq one one ≡ true
     → IsFirstWord one words → IsFirstWord other words → ⊥
 IsFirstWord-unique words one other differ same is is_other =
     false≢true (sym differ ∙ ap (λ o. option_map_or (λ word. bytes_eq word one) o false) (sym is_other ∙ is) ∙ same)
 
--- a task that is one of these is none of the others
+-- what holds of a task, and not of the version, holds of another task
 pub not_Version-from_IfOk : {E : Type 0} (r : Result Task E) (P : Task → Type 0) → (P Version → ⊥) → IfOk r P → r ≡ Ok Version → ⊥
 not_Version-from_IfOk {E} r P never holds is = never (let Q : Result Task E → Type 0 = λ r. IfOk r P in subst Q is holds)
 

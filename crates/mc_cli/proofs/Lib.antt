@@ -1,6 +1,6 @@
+mod ArgumentLemmas
 mod AuditLemmas
 mod ClapLemmas
 mod CommandLemmas
 mod DraftLemmas
 mod FirstWordLemmas
-mod FoundLemmas

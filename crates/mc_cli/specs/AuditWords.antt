@@ -1,4 +1,4 @@
--- What the words after `audit` say.
+-- The arguments that the words after `audit` give.
 use Rattle.std.specs.Prelude.{◌≡◌, ℕ, ◌&&◌, not, Bool, true, false, List, [], ◌∷◌, ◌++◌, map, take, drop}
 use Rattle.std.specs.Prelude.{codes, if◌then◌else◌, Option, Some, None, is_some, option_map}
 use Rattle.std.specs.Bool.{then_some}
@@ -15,7 +15,7 @@ use Rattle.mc_cli.specs.declared.draft.NextWord.TheVariants.{Options, Router, Fo
 abbrev pub is_among : List ℕ → List (List ℕ) → Bool
 is_among word words = list_any (λ other. bytes_eq other word) words
 
--- each word is a router's name, and none stands again after itself
+-- each word is a router's name, and none is repeated after itself
 unfoldable pub are_distinct_router_names : List (List ℕ) → Bool
 are_distinct_router_names [] = true
 are_distinct_router_names (word ∷ after) = (is_name word && not (is_among word after)) && are_distinct_router_names after
@@ -24,8 +24,8 @@ are_distinct_router_names (word ∷ after) = (is_name word && not (is_among word
 abbrev pub is_option : List ℕ → Bool
 is_option word = bytes_eq (take 1 word) (codes "-")
 
--- what the words up to some place have given: the folder, the options, the routers to be left out,
--- and what the next word is
+-- what the words so far have given: the folder, the options, the excluded routers, and what the next
+-- word may be
 pub record Given : Type 0 where
   pub folder : Option (List ℕ)
   pub options : AuditOptions
@@ -46,11 +46,11 @@ nothing_given = record {
   next_word = Options;
 }
 
--- an option is given once
+-- these options, unless the new one was given before
 abbrev pub unless_given : Bool → AuditOptions → Option AuditOptions
 unless_given given options = then_some (not given) options
 
--- the options with the one that the word names
+-- the options with the one that the word names; none where it names none, or one given before
 abbrev pub with_option : List ℕ → AuditOptions → Option AuditOptions
 with_option word o =
     if bytes_eq word (codes "--travel") then unless_given o.travels (record o { travels = true })
@@ -61,7 +61,7 @@ with_option word o =
     else (if bytes_eq word (codes "--json") then unless_given o.json (record o { json = true })
     else None))))
 
--- one folder is given
+-- with the folder, of which there is one
 abbrev pub with_folder : List ℕ → Given → Option Given
 with_folder word given =
     if is_some given.folder then None else Some (record given { folder = Some word })
@@ -81,26 +81,26 @@ with_router_or_other None word given = if is_option word
     then option_map (λ options. record given { options = options }) (with_option word given.options)
     else with_folder word given
 
--- a word that is not behind `--without`, nor behind `--`
+-- with a word that follows neither `--without` nor `--`
 abbrev pub with_option_or_folder : List ℕ → Given → Option Given
 with_option_or_folder word given =
     if bytes_eq word (codes "--") then Some (record given { next_word = FolderOnly })
     else (if bytes_eq word (codes "--without") then Some (record given { next_word = Router })
     else with_router_or_other (router_after_equals word) word given)
 
--- what is given with one word more; none where that is wrong
+-- what is given with the next word; none where it isn't valid there
 abbrev pub with_word : NextWord → List ℕ → Given → Option Given
 with_word Options word given = with_option_or_folder word given
 with_word Router word given = Some (with_router word given)
 with_word FolderOnly word given = with_folder word given
 
--- what is given with these words more
+-- what is given with the next words
 unfoldable pub with_words : Option Given → List (List ℕ) → Option Given
 with_words None words = None
 with_words (Some given) [] = Some given
 with_words (Some given) (word ∷ words) = with_words (with_word given.next_word word given) words
 
--- what a draft of them was given
+-- what a draft was given
 abbrev pub given_of : Draft → Given
 given_of draft = record {
   folder = option_map (λ folder. folder.now) draft.folder;
@@ -109,7 +109,7 @@ given_of draft = record {
   next_word = draft.next_word;
 }
 
--- the word is right, and this is given with it, or it is wrong
+-- the next word is valid, and with it this is given, or it isn't
 abbrev pub IsNextGiven : Bool → Option Given → Given → Type 0
 IsNextGiven right next given = next ≡ then_some right given
 
@@ -119,21 +119,21 @@ is_router_expected Router = true
 is_router_expected Options = false
 is_router_expected FolderOnly = false
 
--- what was given is whole, and says this
+-- what was given is complete, and makes these arguments
 pub record IsCompleteDraft (given : Given) (audit : AuditWords) : Type 0 where
   pub next_word : is_router_expected given.next_word ≡ false
   pub folder : given.folder ≡ Some audit.folder.now
   pub options : given.options ≡ audit.options
   pub without : given.without ≡ map (λ router. router.now) audit.without.items
 
--- the words give something whole, which says this
+-- the words are valid and complete, and give these arguments
 pub record AreCompleteAuditWords (words : List (List ℕ)) (audit : AuditWords) : Type 0 where
   pub given : Given
   pub all : with_words (Some nothing_given) words ≡ Some given
   pub whole : IsCompleteDraft given audit
 
--- The words after `audit` say this: one folder, which doesn't begin like an option; before and behind
--- it any options, each once, but none behind `--`; and with each `--without` a router, each once,
+-- The words after `audit` give these arguments: one folder, which doesn't begin with `-`; before and
+-- after it any options, each once, but none after `--`; and after each `--without` a router, each once,
 -- whatever its name begins with.
 pub record AreAuditWords (words : List (List ℕ)) (audit : AuditWords) : Type 0 where
   pub whole : AreCompleteAuditWords words audit

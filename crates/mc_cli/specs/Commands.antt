@@ -1,4 +1,4 @@
--- The commands whose words clap reads, which are all but `audit`, and what it finds in words.
+-- The commands whose words clap parses, which are all but `audit`, and what it finds in the words.
 use Rattle.std.specs.Prelude.{◌≡◌, List, ℕ, Bool, true, false, [], ◌∷◌, Some, None, Option, codes}
 use Rattle.std.specs.Prelude.{unwrap_or}
 use Rattle.std.specs.List.{list_any}
@@ -10,15 +10,15 @@ use Rattle.clap.specs.declared.builder.action.ArgAction.TheVariants.{SetTrue}
 use Rattle.clap.specs.declared.builder.command.Command.{Command}
 use Rattle.clap.specs.declared.builder.command.Command.TheViews.{out-Command}
 
--- `<name>`, which has to be there
+-- the required argument `<name>`
 abbrev pub required_rule : List ℕ → Rule
 required_rule name = record (new_rule name) { required = true }
 
--- `--name`, once or not at all
+-- the flag `--name`, at most once
 abbrev pub flag_rule : List ℕ → Rule
 flag_rule name = record (new_rule name) { long = Some name; action = Some SetTrue }
 
--- `--name` and its value, once or not at all, where this value stands for none
+-- the option `--name` and its value, at most once, with this default value
 abbrev pub option_rule : List ℕ → List ℕ → Rule
 option_rule name value = record (new_rule name) { long = Some name; defaults = value ∷ [] }
 
@@ -44,7 +44,7 @@ abbrev pub wants_shape : Shape
 wants_shape = command_shape (codes "wants")
     (required_rule (codes "group") ∷ required_rule (codes "source") ∷ [])
 
--- the program, of which a command has to be named
+-- the program, which requires a command
 abbrev pub program_shape : Shape
 program_shape = record (new_shape (codes "mcaudit")) {
   subcommand_required = true;
@@ -67,12 +67,12 @@ command_names = codes "audit" ∷ codes "check" ∷ codes "make" ∷ codes "pack
 abbrev pub is_command : List ℕ → Bool
 is_command name = list_any (λ command. bytes_eq name command) command_names
 
--- the command is this one, and has no argument that is global
+-- the command is this one, and has no global argument
 pub record IsCommand (app : App) (command : Command) : Type 0 where
   pub same : app_of command ≡ app
   pub local : (out-Command command).has_globals ≡ false
 
--- the command has this shape, and none below it
+-- the command has this shape, and no subcommand
 abbrev pub IsLeaf : Shape → Command → Type 0
 IsLeaf shape = IsCommand (record { top = shape; subs = [] })
 
@@ -80,11 +80,11 @@ IsLeaf shape = IsCommand (record { top = shape; subs = [] })
 abbrev pub AreAcceptedByClap : List (List ℕ) → Type 0
 AreAcceptedByClap words = fault_of commands words ≡ []
 
--- the command that clap finds in the words, and what it finds behind it
+-- the command that clap finds in the words, and the values of its arguments
 abbrev pub subcommand_in : List (List ℕ) → Option (List ℕ × List Row)
 subcommand_in = subcommand_of commands
 
--- the argument's word, which is empty where there is none
+-- the word that an argument has; empty where it has none
 abbrev pub word_of : List Row → List ℕ → List ℕ
 word_of rows name = unwrap_or (first_of name rows) []
 

@@ -1,4 +1,4 @@
--- What a task's values may be, and how words write them.
+-- Which values a task may have, and which words ask for it.
 use Rattle.std.specs.Prelude.{◌≡◌, ◌≤◌, ◌⊎◌, ℕ, Bool, true, false, List, map, codes, Some, ⊤}
 use Rattle.std.specs.Prelude.{IsSomeAnd, Option, [], ◌∷◌, drop, slice_get}
 use Rattle.clap.specs.Walk.{Row}
@@ -11,7 +11,7 @@ use Rattle.mc_cli.specs.declared.task.Task.{Task}
 use Rattle.mc_cli.specs.declared.task.Task.TheVariants.{Wants, Check, Make, Replay, Pack, Audit}
 use Rattle.mc_cli.specs.declared.task.Task.TheVariants.{Help, Version}
 
--- the folder doesn't begin like an option, and what is left out are names of routers, each once
+-- the folder doesn't begin with `-`, and the excluded routers have valid names, each once
 pub record IsAllowedAudit (words : AuditWords) : Type 0 where
   pub folder : is_option words.folder.now ≡ false
   pub without : are_distinct_router_names (map (λ word. word.now) words.without.items) ≡ true
@@ -32,7 +32,7 @@ AreWantsWords group_word source_word (Wants group source) =
     (group_word ≡ dotted group) × (source_word ≡ dotted source)
 AreWantsWords group_word source_word _ = ⊥
 
--- the word behind `--order`
+-- the word after `--order`
 abbrev pub order_word : Bool → List ℕ
 order_word false = codes "first"
 order_word true = codes "last"
@@ -43,7 +43,7 @@ AreReplayWords flow_word ttl_word order (Replay flow ttl last) =
     IsDecimal flow_word flow × IsDecimal ttl_word ttl × (order ≡ order_word last)
 AreReplayWords flow_word ttl_word order _ = ⊥
 
--- the task is the one that a command asks for, of whose words these rows are found
+-- the task is the one that a command asks for, with the rows that clap finds for its arguments
 abbrev pub IsTaskOfCommand : List ℕ → List Row → Task → Type 0
 IsTaskOfCommand command rows (Wants group source) = (command ≡ codes "wants")
     × AreWantsWords (word_of rows (codes "group")) (word_of rows (codes "source")) (Wants group source)
@@ -58,23 +58,23 @@ IsTaskOfCommand command rows (Audit words) = ⊥
 IsTaskOfCommand command rows (Help text) = ⊥
 IsTaskOfCommand command rows Version = ⊥
 
--- the task is the one that the command which is found asks for
+-- the task is the one that the command asks for which clap finds
 abbrev pub IsTaskOfSubcommand : Option (List ℕ × List Row) → Task → Type 0
 IsTaskOfSubcommand found task = IsSomeAnd found (λ command. IsTaskOfCommand command.0 command.1 task)
 
--- clap takes the words, and the task is that of the command which it finds in them
+-- clap accepts the words, and the task is that of the command which it finds in them
 abbrev pub IsClapTask : List (List ℕ) → Task → Type 0
 IsClapTask words task = AreAcceptedByClap words × IsTaskOfSubcommand (subcommand_in words) task
 
--- the first word behind the program's own name
+-- the first word after the program's own name
 abbrev pub IsFirstWord : List ℕ → List (List ℕ) → Type 0
 IsFirstWord word words = slice_get words 1 ≡ Some word
 
--- the word behind the program's own name asks for the version
+-- the first word after the program's own name asks for the version
 abbrev pub AskForVersion : List (List ℕ) → Type 0
 AskForVersion words = IsFirstWord (codes "--version") words ⊎ IsFirstWord (codes "-V") words
 
--- the words behind `help` are none, or the name of a command
+-- the words after `help` are none, or the name of a command
 abbrev pub is_topic : List (List ℕ) → Bool
 is_topic [] = true
 is_topic (name ∷ []) = is_command name
@@ -88,7 +88,7 @@ abbrev pub IsHelp : Task → Type 0
 IsHelp (Help text) = ⊤
 IsHelp other = ⊥
 
--- the task is an audit of what these words say
+-- the task is an audit with the arguments that these words give
 abbrev pub IsAuditFor : List (List ℕ) → Task → Type 0
 IsAuditFor words (Audit audit) = AreAuditWords words audit
 IsAuditFor words other = ⊥

@@ -1,4 +1,4 @@
-//! What the words after `audit` say.
+//! The arguments of `audit`.
 
 ghost use Rattle.std.specs.Prelude.{◌≡◌, map, is_none, IfErr, IfOk, IfSome, IsSome};
 ghost use Rattle.mc_cli.specs.AuditWords.{AreAuditWords, AreCompleteAuditWords, IsCompleteDraft, are_distinct_router_names};
@@ -12,31 +12,29 @@ use crate::fault::{FOLDER_RULE, WordsFault, refusal_explained_by_clap, usage_ref
 use mc_topology::is_name;
 use std::alloc::{AllocError, Global};
 
-/// What the words after `audit` say.
+/// The arguments of `audit`.
 #[derive(Debug, Drop, PartialEq, Eq)]
 pub struct AuditWords<'a> {
-    /// The folder's path, which is empty for the present directory and never begins with `-`.
+    /// The path of the folder; empty for the current directory. It never begins with `-`.
     pub folder: &'a str,
-    /// What is judged and shown.
+    /// The options.
     pub options: AuditOptions,
-    /// The routers whose tables are left out, in the order of the words. Each is named once, and
-    /// each name can be a router's.
+    /// The excluded routers, in the order of the words: valid names, each once.
     pub without: Vec<&'a str>,
 }
 
-/// What an audit judges and shows, apart from what every audit does.
+/// The options of `audit` that have no value.
 #[derive(Clone, Copy, Debug, PartialEq, Eq)]
 pub struct AuditOptions {
-    /// Whether the travel of each packet that shows a fault is shown.
+    /// `--travel`: the travel of each packet that shows a fault is shown.
     pub travels: bool,
-    /// Whether the flows that are right and wanted are left out.
+    /// `--faults`: the flows that are right and wanted are hidden.
     pub faults: bool,
-    /// Whether all sources and groups that stand in the caches and aren't listed are shown, and not
-    /// the 20 lowest alone.
+    /// `--unlisted`: all unlisted sources and groups of the caches are shown, not the 20 lowest alone.
     pub unlisted: bool,
-    /// Whether the answer is no where a flow that is right is wanted by nobody.
+    /// `--strict`: the answer is no where nobody wants a flow that is right.
     pub strict: bool,
-    /// Whether the answer is told in JSON, one object a line.
+    /// `--json`: the output is JSON, one object a line.
     pub json: bool,
 }
 
@@ -52,8 +50,7 @@ fn is_among(word: &str, words: &[&str]) -> bool
     words.contains(&word)
 }
 
-/// What is wrong with the first of the words that isn't a router's name, or stands again after
-/// itself.
+/// The rule that the first faulty word breaks: it isn't a router's name, or it is repeated after it.
 fn broken_rule(words: &[&str]) -> Option<&'static str>
     ensures { is_none result ≡ are_distinct_router_names (map (λ word. word.now) words.now) }
 {
@@ -68,7 +65,7 @@ fn broken_rule(words: &[&str]) -> Option<&'static str>
     None
 }
 
-/// Whether the next word has to be there, since `--without` is before it.
+/// Whether the next word has to be the router of the `--without` before it.
 fn is_router_expected(next_word: NextWord) -> bool
     ensures { result ≡ is_router_expected next_word }
 {
@@ -78,7 +75,7 @@ fn is_router_expected(next_word: NextWord) -> bool
     }
 }
 
-/// What a draft of all words says, unless a word lacks.
+/// The arguments of a draft of all words. None where the folder or a router is missing.
 fn complete_draft(draft: Draft<'_>) -> Option<AuditWords<'_>>
     ensures found { IfSome result (IsCompleteDraft (given_of draft.entry)) }
     ensures only { (audit : AuditWords) → IsCompleteDraft (given_of draft.entry) audit → IsSome result }
@@ -94,7 +91,7 @@ fn complete_draft(draft: Draft<'_>) -> Option<AuditWords<'_>>
     })
 }
 
-/// What the words say, unless one of them is wrong or lacks.
+/// The arguments that the words give. None where a word isn't valid or one is missing.
 fn complete_words_of<'a>(
     alloc: Global,
     words: &[&'a str],
@@ -110,11 +107,12 @@ fn complete_words_of<'a>(
     }
 }
 
-/// What the words behind `audit` say; `all` are all words of the program, of which they are the end.
+/// The arguments that the words after `audit` give; `all` are all words of the program, for clap to
+/// explain a fault.
 ///
 /// # Errors
 ///
-/// `Wrong` where they say nothing, and `Memory` where memory runs out.
+/// `Wrong` where the words break a rule, and `Memory` where memory runs out.
 pub fn audit_words_of<'a>(
     alloc: Global,
     words: &[&'a str],

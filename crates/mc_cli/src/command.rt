@@ -28,7 +28,7 @@ Statuses: 0 yes, 1 no, 2 refused input, 3 read or write failed, 4 no memory, 5 w
 mcaudit help writes this text, and mcaudit help <command> that of a command
 mcaudit --version tells the version";
 
-/// A command with one argument more.
+/// Adds an argument to a command.
 fn with_argument<'a>(
     command: Result<Command<'a>, AllocError>,
     argument: Arg<'a>,
@@ -41,7 +41,7 @@ fn with_argument<'a>(
     command.arg(argument)
 }
 
-/// A command with one command more below it.
+/// Adds a subcommand to a command.
 fn with_command<'a>(
     command: Result<Command<'a>, AllocError>,
     below: Result<Command<'a>, AllocError>,
@@ -55,7 +55,7 @@ fn with_command<'a>(
     command.subcommand(below)
 }
 
-/// An argument that has to be there.
+/// A required argument, given by its position.
 fn required<'a>(alloc: Global, name: &'a str, help: &'a str) -> Arg<'a>
     ensures rule { rule_of result ≡ required_rule name.now }
     ensures local { result.global ≡ false }
@@ -63,7 +63,7 @@ fn required<'a>(alloc: Global, name: &'a str, help: &'a str) -> Arg<'a>
     Arg::new(alloc, name).required(true).help(help)
 }
 
-/// An argument `--name` that is there or not.
+/// A flag `--name`.
 fn flag<'a>(alloc: Global, name: &'a str, help: &'a str) -> Arg<'a>
     ensures rule { rule_of result ≡ flag_rule name.now }
     ensures local { result.global ≡ false }
@@ -74,7 +74,7 @@ fn flag<'a>(alloc: Global, name: &'a str, help: &'a str) -> Arg<'a>
         .help(help)
 }
 
-/// An argument `--name` with a value, and the value that it has where it isn't there.
+/// An option `--name` with a value, and its default value.
 fn option<'a>(alloc: Global, name: &'a str, value: &'a str, help: &'a str) -> Arg<'a>
     ensures rule { rule_of result ≡ option_rule name.now value.now }
     ensures local { result.global ≡ false }
@@ -85,8 +85,7 @@ fn option<'a>(alloc: Global, name: &'a str, value: &'a str, help: &'a str) -> Ar
         .help(help)
 }
 
-/// An argument `--name` with a value, which may stand again with another one. The word behind it is the
-/// value, whatever it begins with.
+/// An option `--name` that may be repeated. The word after it is its value, whatever it begins with.
 fn repeated<'a>(alloc: Global, name: &'a str, value: &'a str, help: &'a str) -> Arg<'a> {
     Arg::new(alloc, name)
         .long(name)
@@ -96,7 +95,7 @@ fn repeated<'a>(alloc: Global, name: &'a str, value: &'a str, help: &'a str) -> 
         .help(help)
 }
 
-/// A command that has no arguments yet.
+/// A command without arguments.
 fn bare_command<'a>(alloc: Global, name: &'a str, about: &'a str, usage: &'a str) -> Command<'a>
     ensures { IsLeaf (command_shape name.now []) result }
 {
@@ -207,7 +206,7 @@ pub fn replay_command<'a>(alloc: Global) -> Result<Command<'a>, AllocError>
     with_argument(command, option(alloc, "order", "first", order))
 }
 
-/// The program and its help, with no commands yet.
+/// The program and its help, without commands.
 fn bare_program<'a>(alloc: Global) -> Command<'a>
     ensures { IsLeaf program_shape result }
 {
@@ -220,7 +219,7 @@ fn bare_program<'a>(alloc: Global) -> Command<'a>
         .disable_help_subcommand(true)
 }
 
-/// The program with the commands but `audit`.
+/// Adds all commands but `audit` to the program.
 fn with_commands<'a>(
     alloc: Global,
     program: Result<Command<'a>, AllocError>,
@@ -234,13 +233,13 @@ fn with_commands<'a>(
     with_command(program, wants_command(alloc))
 }
 
-/// The program with all commands, which explains what is wrong.
+/// The program with all commands, by which clap explains what is wrong.
 pub fn program<'a>(alloc: Global) -> Result<Command<'a>, AllocError> {
     let program = with_command(Ok(bare_program(alloc)), audit_command(alloc));
     with_commands(alloc, program)
 }
 
-/// The program with the commands whose words clap reads.
+/// The program with the commands whose words clap parses: all but `audit`.
 pub fn clap_program<'a>(alloc: Global) -> Result<Command<'a>, AllocError>
     ensures { IfOk result (IsCommand commands) }
 {

@@ -1,4 +1,4 @@
-//! What the words after `audit` have given so far.
+//! The words after `audit`, read one by one.
 
 ghost use Rattle.std.specs.Prelude.{◌≡◌, map, IfOk, Some, OnOk, option_map};
 ghost use Rattle.mc_cli.specs.AuditWords.{IsNextGiven, given_of, router_after_equals, nothing_given};
@@ -8,27 +8,27 @@ ghost use Rattle.mc_cli.specs.AuditWords.{with_word, with_words};
 use crate::audit_words::AuditOptions;
 use std::alloc::{AllocError, Global};
 
-/// What the next word is.
+/// What the next word may be.
 #[derive(Clone, Copy, Debug, PartialEq, Eq)]
 pub enum NextWord {
     /// An option or the folder.
     Options,
     /// The router of the `--without` before it, whatever it begins with.
     Router,
-    /// The folder, since it stands behind `--`.
+    /// The folder, and no option: `--` came before it.
     FolderOnly,
 }
 
-/// What the words up to some place have given.
+/// What the words so far have given.
 #[derive(Debug, Drop)]
 pub struct Draft<'a> {
     /// The folder.
     pub folder: Option<&'a str>,
-    /// The options that were given.
+    /// The options.
     pub options: AuditOptions,
-    /// The routers to be left out, in the order of the words.
+    /// The routers to exclude, in the order of the words.
     pub without: Vec<&'a str>,
-    /// What the next word is.
+    /// What the next word may be.
     pub next_word: NextWord,
 }
 
@@ -39,7 +39,7 @@ fn router_after_equals(word: &str) -> Option<&str>
     word.strip_prefix("--without=")
 }
 
-/// The options with the one that the word names, unless it was given before.
+/// The options with the one that the word names. None where it names none, or one given before.
 fn with_option(options: AuditOptions, word: &str) -> Option<AuditOptions>
     ensures { result ≡ with_option word.now options }
 {
@@ -69,7 +69,7 @@ fn with_option(options: AuditOptions, word: &str) -> Option<AuditOptions>
 }
 
 impl<'a> Draft<'a> {
-    /// A draft that was given nothing.
+    /// A draft before the first word.
     fn new(alloc: Global) -> Draft<'a>
         ensures { given_of result ≡ nothing_given }
     {
@@ -87,7 +87,7 @@ impl<'a> Draft<'a> {
         }
     }
 
-    /// Takes a router to be left out.
+    /// Adds a router to exclude.
     fn add_router(&mut self, router: &'a str) -> Result<(), AllocError>
         ensures { OnOk result
             (given_of self.new ≡ with_router router.now (given_of self.old)) }
@@ -97,7 +97,7 @@ impl<'a> Draft<'a> {
         Ok(())
     }
 
-    /// Takes the folder, and says whether the word is right.
+    /// Sets the folder. False where it was set before.
     fn add_folder(&mut self, word: &'a str) -> bool
         ensures { IsNextGiven result (with_folder word.now (given_of self.old)) (given_of self.new) }
     {
@@ -108,7 +108,7 @@ impl<'a> Draft<'a> {
         true
     }
 
-    /// Takes an option or the folder, and says whether the word is right.
+    /// Adds an option, or sets the folder. False where the word isn't valid there.
     fn add_option_or_folder(&mut self, word: &'a str) -> Result<bool, AllocError>
         ensures { IfOk result (λ right. IsNextGiven right
             (with_option_or_folder word.now (given_of self.old)) (given_of self.new)) }
@@ -135,7 +135,7 @@ impl<'a> Draft<'a> {
         Ok(true)
     }
 
-    /// Takes one word more, and says whether it is right.
+    /// Adds the next word. False where it isn't valid there.
     fn add_word(&mut self, word: &'a str) -> Result<bool, AllocError>
         ensures { IfOk result (λ right. IsNextGiven right
             (with_word self.old.next_word word.now (given_of self.old)) (given_of self.new)) }
@@ -151,7 +151,7 @@ impl<'a> Draft<'a> {
     }
 }
 
-/// What the words give, unless one of them is wrong.
+/// What the words give. None where one of them isn't valid.
 pub fn draft_of<'a>(alloc: Global, words: &[&'a str]) -> Result<Option<Draft<'a>>, AllocError>
     ensures { IfOk result (λ draft. option_map given_of draft
         ≡ with_words (Some nothing_given) (map (λ word. word.now) words.now)) }

@@ -1,4 +1,4 @@
-//! Why the program's words give no task.
+//! Why a command line is refused.
 
 ghost use Rattle.std.specs.Prelude.{◌≡◌};
 ghost use Rattle.mc_cli.specs.declared.fault.WordsFault.TheVariants.{Memory};
@@ -9,10 +9,10 @@ use clap::error::ErrorKind;
 use std::alloc::{AllocError, Global};
 use thiserror::Error;
 
-/// Why the words give no task.
+/// Why a command line is refused.
 #[derive(Debug, Drop, Error)]
 pub enum WordsFault {
-    /// (1) The words are wrong, or they ask for help. The text tells how the program is used.
+    /// (1) The words ask for no task, or for clap's help. The text explains the usage.
     #[error("{0}")]
     Wrong(String),
     /// (2) Memory ran out.
@@ -28,7 +28,7 @@ impl From<AllocError> for WordsFault {
     }
 }
 
-/// A refusal of the words, with the text that explains it.
+/// The fault for an error of clap's, with its text.
 pub fn refusal(alloc: Global, error: &clap::Error) -> WordsFault {
     if error.kind() == ErrorKind::OutOfMemory {
         return WordsFault::Memory;
@@ -42,8 +42,8 @@ pub fn refusal(alloc: Global, error: &clap::Error) -> WordsFault {
     }
 }
 
-/// The text that explains which rule the words break, with the usage of the command.
-fn explained(
+/// Clap's error for a broken rule, with the usage of the command.
+fn usage_error(
     command: Result<Command<'_>, AllocError>,
     rule: &str,
 ) -> Result<clap::Error, AllocError> {
@@ -51,23 +51,23 @@ fn explained(
     command.error(ErrorKind::ValueValidation, rule)
 }
 
-/// A refusal of the words, with the rule that they break.
+/// The fault for words that break this rule, with the usage of the command.
 pub fn usage_refusal(
     alloc: Global,
     command: Result<Command<'_>, AllocError>,
     rule: &str,
 ) -> WordsFault {
-    match explained(command, rule) {
+    match usage_error(command, rule) {
         Ok(error) => refusal(alloc, &error),
         Err(_) => WordsFault::Memory,
     }
 }
 
-/// The rule of the folder that is to be audited.
+/// The rule for the folder of `audit`.
 pub const FOLDER_RULE: &str = "<folder> doesn't begin with -; ./-x is the folder -x";
 
-/// A refusal of the program's words, as clap explains it for the program with all commands. Of what no
-/// task has, clap takes only `-` for a folder to be audited.
+/// The fault for words that ask for no task, with clap's text for the program with all commands. Where
+/// clap accepts them, the folder of `audit` is `-`.
 pub fn refusal_explained_by_clap<'a>(alloc: Global, words: &'a [&'a str]) -> WordsFault {
     let Ok(program) = program(alloc) else {
         return WordsFault::Memory;

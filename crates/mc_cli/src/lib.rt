@@ -1,11 +1,11 @@
-//! The program's words: which task they ask for, and what is wrong with them.
+//! The command line: the task that the program's words ask for, or what is wrong with them.
 #![tactic(auto)]
 
+mod arguments;
 mod audit_words;
 mod command;
 mod draft;
 mod fault;
-mod found;
 mod task;
 mod words;
 

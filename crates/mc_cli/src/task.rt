@@ -1,4 +1,4 @@
-//! What the program's words ask for.
+//! The task that a command line asks for.
 
 ghost use Rattle.std.specs.Prelude.{◌≡◌, ◌≤◌, ◌↔◌, ℕ, Bool, IsTrue, IfErr, IfOk, IfSome, Ok, Some};
 ghost use Rattle.std.specs.Prelude.{codes, drop, is_some, map, true};
@@ -15,16 +15,16 @@ ghost use Rattle.mc_cli.specs.Task.{IsTaskOfCommand, is_topic, order_word};
 ghost use Rattle.mc_cli.specs.declared.task.Task.{Task};
 ghost use Rattle.mc_cli.specs.declared.fault.WordsFault.TheVariants.{Memory};
 
+use crate::arguments::{is_flag_set, word_of};
 use crate::audit_words::{AuditWords, audit_words_of};
 use crate::command::{clap_program, command_named, program, replay_command, wants_command};
 use crate::fault::{WordsFault, refusal_explained_by_clap, usage_refusal};
-use crate::found::{is_flag_set, word_of};
 use clap::error::ErrorKind;
 use clap::{ArgMatches, Command};
 use mc_text::{Addr, decimal};
 use std::alloc::{AllocError, Global};
 
-/// What the words ask for.
+/// What the program is asked to do.
 #[derive(Debug, Drop, PartialEq, Eq)]
 pub enum Task<'a> {
     /// Whether the LAN whose reports are read wants what the source sends to the group.
@@ -34,31 +34,30 @@ pub enum Task<'a> {
         /// An address whose first octet is 1 to 223 and not 127.
         source: Addr,
     },
-    /// Whether a bundle's certificate proves that its domain forwards every listed flow as it
-    /// should.
+    /// Whether a bundle's certificate proves that every listed flow of its domain is right.
     Check,
-    /// The certificate of a bundle's domain, or what a packet meets of each flow that has none.
+    /// The certificate of a bundle's domain, or what is wrong with each flow that has none.
     Make,
     /// The travel of one packet through a bundle's domain.
     Replay {
-        /// The number of the packet's flow, 1 to 4,096.
+        /// The number of the packet's flow, 1 to 4,096, in the order of the topology.
         flow: u32,
         /// The packet's time to live, 1 to 255.
         ttl: u8,
-        /// Whether the last of the waiting copies is always handled next, and not the first.
+        /// Whether the last waiting copy is always handled next, rather than the first.
         last: bool,
     },
     /// The bundle of a folder's files.
     Pack {
-        /// The folder's path, which is empty for the present directory.
+        /// The path of the folder; empty for the current directory.
         folder: &'a str,
-        /// Whether the certificate is to be in the bundle.
+        /// Whether the bundle has the file `certificate` too.
         certificate: bool,
     },
-    /// Which flows of the domain of a folder's files have a certificate, and what a packet meets of
-    /// each other one.
+    /// Which flows of the domain in a folder's files have a certificate, and what is wrong with each
+    /// other one.
     Audit(AuditWords<'a>),
-    /// The help of the program or of one of its commands, which is this text.
+    /// The help text of the program or of one of its commands.
     Help(String),
     /// The version of the program.
     Version,
@@ -75,7 +74,7 @@ const ORDER_RULE: &str = "--order is first or last";
 const SOURCE_RULE: &str =
     "<source> is an address whose first number is 1 to 223 and not 127, as 10.0.0.5";
 
-/// The group that the word writes, if routers forward it.
+/// Parses the address of a group that routers forward, 224.0.1.0 to 239.255.255.255.
 fn group_of(word: &str) -> Option<Addr>
     ensures found { IfSome result (λ group. IsForwardedGroup group × (word.now ≡ dotted group)) }
     ensures only { (group : ℕ) → IsForwardedGroup group → word.now ≡ dotted group
@@ -85,7 +84,7 @@ fn group_of(word: &str) -> Option<Addr>
     group.is_forwarded_group().then_some(group)
 }
 
-/// The source that the word writes, if a host may send from it.
+/// Parses an address that a host may send from.
 fn source_of(word: &str) -> Option<Addr>
     ensures found { IfSome result (λ source. IsSource source × (word.now ≡ dotted source)) }
     ensures only { (source : ℕ) → IsSource source → word.now ≡ dotted source
@@ -95,7 +94,7 @@ fn source_of(word: &str) -> Option<Addr>
     source.is_source().then_some(source)
 }
 
-/// The number from 1 to the greatest that the word writes in decimal.
+/// Parses a decimal number from 1 to `greatest`.
 fn number_of(word: &str, greatest: u64) -> Option<u64>
     ensures range { IfSome result (λ number. (1 ≤ number) × (number ≤ greatest)) }
     ensures found { IfSome result (IsDecimal word.now) }
@@ -106,7 +105,7 @@ fn number_of(word: &str, greatest: u64) -> Option<u64>
     (number >= 1).then_some(number)
 }
 
-/// Whether the word asks for the last of the waiting copies, `last`, or for the first, `first`.
+/// Parses which waiting copy is handled next: true for `last`, false for `first`.
 fn read_order(word: &str) -> Option<bool>
     ensures found { IfSome result (λ last. word.now ≡ order_word last) }
     ensures only { (last : Bool) → word.now ≡ order_word last → result ≡ Some last }
@@ -118,7 +117,7 @@ fn read_order(word: &str) -> Option<bool>
     }
 }
 
-/// A refusal of the words after `replay`, with the rule that they break.
+/// The fault for words after `replay` that break this rule.
 fn replay_refusal(alloc: Global, rule: &str) -> WordsFault {
     usage_refusal(alloc, replay_command(alloc), rule)
 }
@@ -178,7 +177,7 @@ fn pack_task<'a>(matches: &ArgMatches<'a>) -> Task<'a>
     }
 }
 
-/// The task of a command and the words after it.
+/// The task of a command with the words after it.
 fn named_task<'a>(
     alloc: Global,
     command: &str,
@@ -205,12 +204,12 @@ fn named_task<'a>(
     }
 }
 
-/// A refusal of words that name no command.
+/// The fault for a command line without a command.
 fn missing_command_refusal(alloc: Global) -> WordsFault {
     usage_refusal(alloc, program(alloc), "no command is given")
 }
 
-/// The task of the command that is found, and of the words after it.
+/// The task of the command that clap found.
 fn task_of<'a>(alloc: Global, matches: &ArgMatches<'a>) -> Result<Task<'a>, WordsFault>
     ensures allowed { IfOk result IsAllowed }
     ensures found { IfOk result (IsTaskOfSubcommand (subcommand_rows_of matches.now)) }
@@ -223,7 +222,7 @@ fn task_of<'a>(alloc: Global, matches: &ArgMatches<'a>) -> Result<Task<'a>, Word
     }
 }
 
-/// A refusal of words in which clap finds an error, as the program with all commands explains it.
+/// The fault for words that clap refuses, with clap's text for the program with all commands.
 fn clap_refusal<'a>(alloc: Global, words: &'a [&'a str], error: &clap::Error) -> WordsFault
     ensures { kind_of error.now ≡ OutOfMemory → result ≡ Memory }
 {
@@ -233,7 +232,7 @@ fn clap_refusal<'a>(alloc: Global, words: &'a [&'a str], error: &clap::Error) ->
     }
 }
 
-/// The task of words that clap reads.
+/// The task of a command line that clap parses.
 fn clap_task<'a>(alloc: Global, words: &'a [&'a str]) -> Result<Task<'a>, WordsFault>
     ensures allowed { IfOk result IsAllowed }
     ensures found { IfOk result (IsClapTask (map (λ word. word.now) words.now)) }
@@ -247,7 +246,7 @@ fn clap_task<'a>(alloc: Global, words: &'a [&'a str]) -> Result<Task<'a>, WordsF
     }
 }
 
-/// The words from a place on.
+/// The words from this index on, if any.
 fn words_from<'a>(words: &'a [&'a str], place: usize) -> &'a [&'a str]
     ensures { map (λ word. word.now) result.now ≡ drop place (map (λ word. word.now) words.now) }
 {
@@ -270,7 +269,7 @@ fn audit_task<'a>(alloc: Global, words: &'a [&'a str]) -> Result<Task<'a>, Words
 const HELP_RULE: &str =
     "help takes no word or a command's name: audit, check, make, pack, replay or wants";
 
-/// The command whose help the words behind `help` ask for: the program, or the one that they name.
+/// The command whose help the words after `help` ask for: the one that they name, or the program.
 fn topic_of<'a>(alloc: Global, words: &[&str]) -> Option<Result<Command<'a>, AllocError>>
     ensures { is_some result ≡ is_topic (map (λ word. word.now) words.now) }
 {
@@ -301,7 +300,7 @@ fn help_task<'a>(alloc: Global, words: &'a [&'a str]) -> Result<Task<'a>, WordsF
     }
 }
 
-/// Whether this is the first word behind the program's name.
+/// Whether this is the first word after the program's name.
 fn is_first_word(word: &str, words: &[&str]) -> bool
     ensures { IsTrue result ↔ IsFirstWord word.now (map (λ word. word.now) words.now) }
 {
@@ -311,29 +310,28 @@ fn is_first_word(word: &str, words: &[&str]) -> bool
     }
 }
 
-/// Whether the words ask for the version, by the one behind the program's own name.
+/// Whether the first word after the program's name asks for the version.
 fn ask_for_version(words: &[&str]) -> bool
     ensures { IsTrue result ↔ AskForVersion (map (λ word. word.now) words.now) }
 {
     is_first_word("--version", words) || is_first_word("-V", words)
 }
 
-/// The task that the program's words ask for. The first word is the program's own name.
+/// The task that a command line asks for. The first of its words is the program's own name.
 ///
 /// # Errors
 ///
-/// `Wrong`, with the text that tells how the program is used, where the words give no task, and `Memory`
-/// where memory runs out.
+/// `Wrong`, with a text that explains the usage, where the words ask for no task, and `Memory` where
+/// memory runs out.
 pub fn command_of<'a>(alloc: Global, words: &'a [&'a str]) -> Result<Task<'a>, WordsFault>
-    // A task is given only with a group that routers forward and an address that a host may send
-    // from, with a flow's number from 1 to 4,096 and a time to live from 1 to 255, and with a folder
-    // to be audited that doesn't begin with `-` and names of routers, each once, to be audited
-    // without.
+    // The task's values are in their ranges: a group that routers forward and an address that a
+    // host may send from, a flow's number from 1 to 4,096 and a time to live from 1 to 255, and a
+    // folder to audit that doesn't begin with `-` and excluded routers with valid names, each once.
     ensures allowed { IfOk result IsAllowed }
-    // The version is asked for by `--version` or `-V` as the first word behind the name, whatever
-    // stands behind it, and by nothing else.
+    // The version is given exactly where the first word after the program's name is `--version` or
+    // `-V`, whatever follows it.
     ensures version { (result ≡ Ok Task.Version) ↔ AskForVersion (map (λ word. word.now) words.now) }
-    // The words ask for the task that is given: behind `audit` by a definition of their own, else as
+    // The words ask for the task that is given: after `audit` by a definition of its own, else as
     // clap finds the command and its values in them.
     ensures found { IfOk result (IsAskedFor (map (λ word. word.now) words.now)) }
     // A task that the words ask for is given, unless memory runs out.

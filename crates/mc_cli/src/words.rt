@@ -1,4 +1,4 @@
-//! The program's words, as the system hands them over.
+//! The program's words, as the system passes them.
 
 ghost use Rattle.std.specs.Prelude.{◌≡◌, map, IfOk};
 ghost use Rattle.std.specs.String.{string_bytes};
@@ -10,6 +10,10 @@ use std::env::{self, Env};
 use std::io;
 
 /// The program's words, its own name first.
+///
+/// # Errors
+///
+/// `Wrong` where a word isn't UTF-8, and `Memory` where memory runs out.
 pub fn words_of(rt: &(impl Env + AllocGlobal)) -> Result<Vec<String>, WordsFault> {
     match env::args(rt) {
         Ok(words) => Ok(words.collect(rt.alloc())?),
@@ -21,7 +25,11 @@ pub fn words_of(rt: &(impl Env + AllocGlobal)) -> Result<Vec<String>, WordsFault
     }
 }
 
-/// The words, borrowed.
+/// The words as borrowed texts.
+///
+/// # Errors
+///
+/// `Memory` where memory runs out.
 pub fn borrow_words(alloc: Global, words: &[String]) -> Result<Vec<&str>, WordsFault>
     ensures { IfOk result (λ all. map (λ word. word.now) all.items ≡ map string_bytes words.now) }
 {

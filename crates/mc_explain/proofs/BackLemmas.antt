@@ -1,4 +1,4 @@
--- The walk back, hop by hop.
+-- Following a copy back, hop by hop.
 use Rattle.std.proofs.Common.{◌≡◌, ℕ, suc, ◌+◌, ◌<◌, Bool, false, cond, ◌==◌, List}
 use Rattle.std.proofs.Common.{[], ◌∷◌, ◌++◌, length, drop, Option, Some, ap, sym, ◌∙◌}
 use Rattle.std.proofs.Common.{append_assoc}
@@ -12,14 +12,14 @@ use Rattle.mc_forward.specs.PerLan.{HoldsFirstOfEachKey, item_on_lan}
 use Rattle.mc_forward.proofs.PerLanLemmas.{first_with_key-first_copy_on}
 use Rattle.mc_replay.proofs.WalkLemmas.{length-drop_one_more, sender-copy_on}
 
--- who sent the first copy that is held
+-- the sender of the first copy that is held
 sender_on-held : (first_copies : List (Option Copy)) (cs : List Copy) (l : ℕ) (next : Option Interface) →
     HoldsFirstOfEachKey (λ (c : Copy). c.lan) first_copies cs →
     next ≡ option_and_then (λ (c : Copy). c.sender) (item_on_lan first_copies l) → next ≡ sender_on cs l
 sender_on-held first_copies cs l next are e = e ∙
     (ap (option_and_then (λ (c : Copy). c.sender)) (are l ∙ first_with_key-first_copy_on cs l) ∙ sender-copy_on cs l)
 
--- one hop more, pushed onto those so far
+-- one hop more at the end of the hops so far
 append-push_then_rest : (hops : List Hop) (h : Hop) (rest : List Hop) →
     (hops ++ h ∷ []) ++ rest ≡ hops ++ h ∷ rest
 append-push_then_rest hops h rest = append_assoc hops (h ∷ []) rest

@@ -1,4 +1,4 @@
--- Items in lists by a number, one after the other.
+-- Items that are put into lists by a number, one by one.
 use Rattle.std.proofs.Common.{◌≡◌, ℕ, zero, suc, ◌+◌, ◌-◌, ◌<◌, ◌==◌, inl, inr, Bool, true, false, cond}
 use Rattle.std.proofs.Common.{List, [], ◌∷◌, ◌++◌, map, flat_map, filter, length, set, get_or, find}
 use Rattle.std.proofs.Common.{Option, Some, None, refl, ap, sym, subst, ◌∙◌, arith, append-nil}
@@ -16,7 +16,7 @@ use Rattle.mc_theory.proofs.ListLemmas.{in-below_cases, in-filter_cases}
 use Rattle.mc_forward.proofs.BelowLemmas.{below-more, length-below, slice_get-map_below}
 use Rattle.mc_explain.specs.BucketsAndMarks.{AreBuckets}
 
--- nothing stands in empty lists
+-- empty lists have no keys
 pub are_buckets-none : {A : Type 0} (f : ℕ → A) (number : ℕ → ℕ) (lists : List (List A)) (n : ℕ)
     → lists ≡ map (λ _. []) (below n) → AreBuckets f number lists []
 are_buckets-none {A} f number lists n e b lt =
@@ -25,7 +25,7 @@ are_buckets-none {A} f number lists n e b lt =
     get_or_from_slice_get lists b [] [] (ap (λ (xs : List (List A)). slice_get xs b) e
     ∙ slice_get-map_below (λ _. []) n b (omega (arith, size, lt)))
 
--- what comes of one key more
+-- one key more
 map_filter-push : {A : Type 0} (f : ℕ → A) (number : ℕ → ℕ) (ks : List ℕ) (k b : ℕ) (here : Bool)
     → (number k == b) ≡ here
     → map f (filter (λ x. number x == b) (ks ++ k ∷ []))
@@ -95,7 +95,7 @@ find_below-add p k (suc m) found =
     (let e : ((k + 1) + m) + 1 ≡ (k + 1) + suc m = omega arith in e)
     (find_below-more p k ((k + 1) + m) (find_below-add p k m found))
 
--- the number is the first below a greater bound, too
+-- the first number that passes below a greater bound
 pub find_below-first : (p : ℕ → Bool) (k n : ℕ) → find p (below k) ≡ None → p k ≡ true → k < n
     → find p (below n) ≡ Some k
 find_below-first p k n none passes lt =
@@ -115,7 +115,7 @@ flat_map-below_push {A} f k =
     ap (flat_map f) (below-more k) ∙ flat_map-append f (below k) (k ∷ [])
     ∙ ap (λ (xs : List A). flat_map f (below k) ++ xs) (append-nil (f k))
 
--- what is read of a list is in it
+-- an element at a place in the list is in the list
 in-get_or : (xs : List ℕ) (k d : ℕ) → k < length xs → In (get_or xs k d) xs
 in-get_or [] k d lt = absurd (omega (arith, lt))
 in-get_or (x ∷ xs) zero d lt = inl refl
@@ -127,7 +127,7 @@ pub get_or-filter_below_is_less : (p : ℕ → Bool) (n k d : ℕ) → k < lengt
 get_or-filter_below_is_less p n k d lt =
     in-below_cases _ n (in-filter_cases p _ (below n) (in-get_or (filter p (below n)) k d lt)).0
 
--- an item that was read of a list by numbers
+-- an item of a list by numbers
 pub get_or-map_below : {A : Type 0} (f : ℕ → A) (n i : ℕ) (xs : List A) (x : A) → xs ≡ map f (below n)
     → i < length xs → x ≡ get_or xs i x → x ≡ f i
 get_or-map_below {A} f n i xs x e lt read =

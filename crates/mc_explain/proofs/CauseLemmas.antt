@@ -1,5 +1,5 @@
--- What is so of each line that is told.
-use Rattle.std.proofs.Common.{◌≡◌, ℕ, ◌<◌, ◌≤◌, ◌↔◌, ◌⊎◌, inl, inr, false, List, [], ◌∷◌, ◌++◌, map, reverse}
+-- What holds of each reported cause.
+use Rattle.std.proofs.Common.{◌≡◌, ℕ, ◌<◌, ◌≤◌, ◌↔◌, inl, inr, false, List, [], ◌∷◌, ◌++◌, map, reverse}
 use Rattle.std.proofs.Common.{length, Option, Some, None, refl, ap, sym, subst, ◌∙◌, arith}
 use Rattle.std.proofs.lemmas.List.{reverse-append}
 use Rattle.mc_theory.specs.Lists.{In, Distinct}
@@ -38,14 +38,15 @@ use Rattle.mc_explain.specs.Explained.{ExplainsAtFlowTtl, ExplainsDuplicate, Exp
 use Rattle.mc_explain.specs.Explained.{ExplainsLeastTtl, ExplainsLoop, IsExplained, IsRemedy}
 use Rattle.mc_explain.specs.Explained.{circle_cause, sender_causes, stray_causes}
 use Rattle.mc_explain.specs.LastFlights.{EndsTravel}
-use Rattle.mc_explain.specs.CauseFacts.{AreCausesOf, LeadsOut, SendsOnto, StaysReached, StopsOnPath}
-use Rattle.mc_explain.specs.CauseFacts.{IsClosedCircle, ReachesEverySourceRow, final_finding}
+use Rattle.mc_explain.specs.CauseFacts.{AreCausesOf, LeadsOut, SendsOnto, StaysReached}
+use Rattle.mc_explain.specs.CauseFacts.{IsClosedCircle, IsMissedOrClean, ReachesEverySourceRow}
+use Rattle.mc_explain.specs.CauseFacts.{StopsShortOfLan, final_finding}
 use Rattle.mc_explain.proofs.LastFlightLemmas.{ends_travel-from_finished, ends_travel-at_flow_ttl, last_flight, is_net-from_is_flow_in, shows-last_flight}
 use Rattle.mc_explain.proofs.StrayLemmas.{IsStrayAt, is_stray_at-run, leads_out-from_exact_row, reaches_every_source_row-from_open_row}
 
--- ---- what is so of a line, by what it tells
+-- ---- what holds of a cause, by its kind
 
--- what can be taken out
+-- a remedy
 pub record IsHarmlessRemedy (n : Net) (router vif lan least : ℕ) : Type 0 where
   pub sends : SendsOnto n router vif lan
   pub stays : StaysReached n (router, vif) lan least
@@ -59,12 +60,6 @@ pub record IsLeastTtl (n : Net) (lan least : ℕ) : Type 0 where
   pub above : n.ttl < least
   pub high : least ≤ 255
 
-abbrev pub HasStopOnPath : Net → List Cause → (router vif threshold left : ℕ) → Type 0
-HasStopOnPath n causes router vif threshold left =
-    (hop : Hop) × (lan : ℕ) × (least : ℕ) × In (LeastTtl lan least) causes ×
-    StopsOnPath n hop left lan ×
-    (StoppedAt hop.router hop.vif hop.threshold left ≡ StoppedAt router vif threshold left)
-
 abbrev pub CauseHolds : Net → List Cause → Cause → Type 0
 CauseHolds n causes (SentOnto lan router vif) = SendsOnto n router vif lan
 CauseHolds n causes (Circle from onto router vif) =
@@ -73,7 +68,7 @@ CauseHolds n causes (TakeOut lan router vif least) = IsHarmlessRemedy n router v
 CauseHolds n causes (Unplaced router vif) = LeadsOut n router vif
 CauseHolds n causes (OnlyEverySource router vif) = ReachesEverySourceRow n router vif
 CauseHolds n causes (LeastTtl lan least) = IsLeastTtl n lan least
-CauseHolds n causes (StoppedAt router vif threshold left) = HasStopOnPath n causes router vif threshold left
+CauseHolds n causes (StoppedAt router vif threshold left) = StopsShortOfLan n causes router vif threshold left
 
 abbrev pub CausesHold : Net → List Cause → List Cause → Type 0
 CausesHold n causes lines = (t : Cause) → In t lines → CauseHolds n causes t
@@ -89,7 +84,7 @@ causes_hold-one n causes t is u (inr k) = absurd k
 
 -- ---- two copies
 
--- who sent a copy of the flight has such a row
+-- the sender of a copy of the flight has a row that sends onto its LAN
 sends_onto-from_sender : (f : FlowOfDomain) (ttl : ℕ) (x : Finding) (j : FlightInDomain) (c : Copy) (i : Interface) →
     EndsTravel f ttl x j → In c j.flight.carried → c.sender ≡ Some i →
     SendsOnto (net_in f) i.0 i.1 c.lan
@@ -109,7 +104,7 @@ causes_hold-senders : (n : Net) (causes : List Cause) (lan : ℕ) (x : Option In
 causes_hold-senders n causes lan None sends = λ t h. absurd h
 causes_hold-senders n causes lan (Some i) sends = causes_hold-one n causes (SentOnto lan i.0 i.1) (sends i refl)
 
--- what is told to be taken out
+-- a reported remedy is harmless
 is_harmless_remedy-from_spare : (f : FlowOfDomain) (x : Finding) (j : FlightInDomain) (second : Copy) (i : Interface) (hs : List Hop) →
     IsFlowOfDomain f → EndsTravel f 255 x j → IsSpareInterface (net_in f) j.flight second i hs →
     IsHarmlessRemedy (net_in f) i.0 i.1 second.lan (need hs)
@@ -243,7 +238,7 @@ causes_hold-least_ttl f lan j causes ok e l =
     (in-append_right l.hop l.stopped.after (l.hop ∷ l.stopped.before) (inl refl)) in
     let first_is_cause : In (LeastTtl lan (need l.path)) causes =
     subst (In (LeastTtl lan (need l.path))) (sym l.causes_are) (inl refl) in
-    let stops : HasStopOnPath n causes l.hop.router l.hop.vif l.hop.threshold l.left = (
+    let stops : StopsShortOfLan n causes l.hop.router l.hop.vif l.hop.threshold l.left = (
       l.hop,
       lan,
       need l.path,
@@ -261,7 +256,7 @@ causes_hold-least_ttl f lan j causes ok e l =
       | inr k ↦ causes_hold-one n causes (StoppedAt l.hop.router l.hop.vif l.hop.threshold l.left) stops t k
     ])
 
--- ---- where a packet with TTL 255 met nothing
+-- ---- if a packet with TTL 255 has no finding
 
 not_double-if_distinct : (cs : List Copy) (c : Copy) → Distinct (lans cs) → IsFirstDouble cs c → ⊥
 not_double-if_distinct cs c once d =
@@ -269,7 +264,7 @@ not_double-if_distinct cs c once d =
     let apart = subst Distinct (ap lans d.split ∙ map-append' lan d.earlier (c ∷ d.later)) once in
     distinct_append-disjoint (lans d.earlier) (lans (c ∷ d.later)) apart c.lan d.again (inl refl)
 
--- no other one of the flow's carries two copies to a LAN, or leaves the domain
+-- no other packet of the flow brings two copies to a LAN, or leaves the domain
 is_clean-last_flight : (f : FlowOfDomain) (ttl : ℕ) (x : Finding) (j k : FlightInDomain) → IsFlowOfDomain f →
     EndsTravel f 255 Clean j → (e : EndsTravel f ttl x k) → IsClean (last_flight f ttl x k e)
 is_clean-last_flight f ttl x j k ok high e =
@@ -313,7 +308,7 @@ causes_hold-at_flow_ttl f (Loop lan) j k causes ok high e is = absurd (not_loop-
 causes_hold-at_flow_ttl f (Stray router vif) j k causes ok high e is =
     absurd (not_stray-if_clean_at_255 f router vif j k ok high e)
 
--- ---- all that is told
+-- ---- all causes
 
 causes_hold-finding : (f : FlowOfDomain) (x : Finding) (j : FlightInDomain) (causes : List Cause) → IsFlowOfDomain f →
     EndsTravel f 255 x j → ExplainsFinding (net_in f) j.flight x causes →
@@ -342,7 +337,7 @@ causes_hold-examined d flow (FoundAtFlowTtl greatest least) causes ok examined_f
 pub causes_hold-all : (d : DomainValue) (flow : ℕ) (examined_flights : ExaminedFlights) (causes : List Cause) →
     AreCausesOf d flow examined_flights causes → CausesHold (net_of d flow) causes causes
 causes_hold-all d flow examined_flights causes is = causes_hold-examined d flow examined_flights causes
-    (record { domain = is.domain; flow = is.flow_in }) is.examined is.lines
+    (record { domain = is.flow.domain; flow = is.flow.listed }) is.flow.examined is.explained
 
 -- ---- the whole circle
 
@@ -372,9 +367,6 @@ is_closed_circle-from_explained d flow (FoundAtFlowTtl greatest least) causes la
     is_closed_circle-from_loop n least.flight.flight lan causes l.circle l refl
 
 -- ---- what the flow's TTL can show
-
-abbrev pub IsMissedOrClean : Finding → Type 0
-IsMissedOrClean x = (x ≡ Clean) ⊎ ((lan : ℕ) × (x ≡ Missed lan))
 
 is_missed_or_clean-if_clean_at_255 : (f : FlowOfDomain) (x : Finding) (j k : FlightInDomain) → IsFlowOfDomain f →
     EndsTravel f 255 Clean j → EndsTravel f (net_in f).ttl x k → IsMissedOrClean x

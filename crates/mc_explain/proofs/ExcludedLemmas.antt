@@ -1,4 +1,4 @@
--- The lines that tell which routers are left out.
+-- The lines of excluded routers.
 use Rattle.std.proofs.Common.{◌≡◌, ℕ, ◌+◌, ◌<◌, Bool, true, false, cond, List, [], ◌∷◌, ◌++◌, filter}
 use Rattle.std.proofs.Common.{flat_map, codes}
 use Rattle.std.proofs.Common.{inl, inr, refl, ap, sym, subst, ◌∙◌, append-nil, append_assoc, arith}
@@ -64,7 +64,7 @@ flat_map_filter-below_more p f n =
     ∙ ap (flat_map f) (filter-append p (below n) (n ∷ []))
     ∙ flat_map-append f (filter p (below n)) (filter p (n ∷ []))
 
--- what is written of a number that passes,
+-- a number that passes adds its text
 pub flat_map_filter-passed : (p : ℕ → Bool) (f : ℕ → List ℕ) (n : ℕ) (old now next : List ℕ)
     → now ≡ old ++ flat_map f (filter p (below n)) → p n ≡ true → next ≡ now ++ f n
     → next ≡ old ++ flat_map f (filter p (below (n + 1)))
@@ -75,7 +75,7 @@ flat_map_filter-passed p f n old now next so_far passes more =
     ∙ ap (λ (l : List ℕ). old ++ (flat_map f (filter p (below n)) ++ l)) (sym one)
     ∙ ap (λ (l : List ℕ). old ++ l) (sym (flat_map_filter-below_more p f n))
 
--- and of one that doesn't
+-- a number that doesn't pass adds none
 pub flat_map_filter-failed : (p : ℕ → Bool) (f : ℕ → List ℕ) (n : ℕ) (old now : List ℕ)
     → now ≡ old ++ flat_map f (filter p (below n)) → p n ≡ false
     → now ≡ old ++ flat_map f (filter p (below (n + 1)))
@@ -86,7 +86,7 @@ flat_map_filter-failed p f n old now so_far fails =
     (sym (append-nil (flat_map f (filter p (below n))))
     ∙ ap (λ (l : List ℕ). flat_map f (filter p (below n)) ++ l) (sym none) ∙ sym (flat_map_filter-below_more p f n))
 
--- ---- the line of all
+-- ---- the line for all
 
 pub verdict_reason-some : (t : TopologyValue) (s : FirstEight) (n : ℕ) (routers : List ℕ) → IsFirstEightOf s routers
     → n ≡ s.count → 0 < n

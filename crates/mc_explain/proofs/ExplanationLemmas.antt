@@ -1,4 +1,4 @@
--- The lines of what is told begin with two spaces.
+-- The lines of causes begin with two spaces.
 use Rattle.std.proofs.Common.{◌==◌, ◌-◌, ℕ, List, [], ◌∷◌, ◌++◌, length, take}
 use Rattle.std.proofs.Common.{Option, Some, None, refl}
 use Rattle.std.specs.Prelude.{nat_le, codes, decimal}
@@ -27,7 +27,7 @@ use Rattle.mc_explain.proofs.LineFeedLemmas.{no_feed-row_text, no_feed-append_fr
 use Rattle.mc_explain.proofs.IndentedLemmas.{are_indented-from_line_rest, is_line_rest-feed_then_lines, is_line_rest-feed, is_line_rest-append, is_line_rest-append_front}
 use Rattle.mc_explain.proofs.IndentedLemmas.{are_indented-flat_map, are_indented-none}
 
--- ---- what is told
+-- ---- causes
 
 no_feed-unplaced_reason : (v : VifValue) → HasNoByte 10 (unplaced_reason_text v)
 no_feed-unplaced_reason v =
@@ -137,7 +137,7 @@ are_indented-cause_text d summary k f (StoppedAt router vif threshold ttl) ok =
     (is_line_rest-append_front (codes ", and is sent only above threshold ") _ refl
     (is_line_rest-append (decimal threshold) _ (number threshold) is_line_rest-feed))))))))
 
--- all of it
+-- all causes
 pub are_indented-causes_text : (d : DomainFacts) (summary : List SummaryValue) (number_of : ℕ) (f : Flow)
     (causes : List Cause) → IsValidTopology d.topology → AreIndented (causes_text d summary number_of f causes)
 are_indented-causes_text d summary k f causes ok =
@@ -151,7 +151,7 @@ no_feed-more_text more =
     (no_feed-append_front (codes " and ") _ refl
     (no_feed-append (decimal more) _ (number more) (no_feed-from_list_all (codes " more") refl)))
 
--- the first of a list, and how many more there are
+-- the first LANs of a list, and how many more there are
 pub no_feed-lans_text : (t : TopologyValue) (lans : List ℕ) → IsValidTopology t → HasNoByte 10 (lans_text t lans)
 no_feed-lans_text t lans ok =
     no_feed-append _ (more_text (length lans - 8))

@@ -1,4 +1,4 @@
--- The front of a list of LANs, as the list grows.
+-- The first 8 of a list, as the list grows.
 use Rattle.std.proofs.Common.{◌≡◌, ℕ, zero, suc, ◌+◌, ◌<◌, ◌≤◌, min, Bool, true, false, cond}
 use Rattle.std.proofs.Common.{List, [], ◌∷◌, ◌++◌, length, take, filter, replicate}
 use Rattle.std.proofs.Common.{◌-◌, codes, decimal, flat_map, refl, ap, ap₂, sym, ◌∙◌, subst, arith}
@@ -15,7 +15,7 @@ use Rattle.mc_explain.specs.WantedText.{wanted_text}
 
 -- ---- the array of the first 8
 
--- one more is put behind fewer than 8
+-- one more after fewer than 8
 pub take-slice_set_below_eight : (a : List ℕ) (c x : ℕ) → length a ≡ 8 → c < 8
     → take (min (c + 1) 8) (slice_set a c x) ≡ take 8 (take (min c 8) a ++ x ∷ [])
 take-slice_set_below_eight a c x full few =
@@ -27,7 +27,7 @@ take-slice_set_below_eight a c x full few =
     ∙ sym (take_all 8 (take c a ++ x ∷ []) short)
     ∙ ap (λ n. take 8 (take n a ++ x ∷ [])) (sym here)
 
--- where 8 are there, they stay
+-- if there are 8, they stay the same
 pub take-full_eight : (a : List ℕ) (c x : ℕ) → length a ≡ 8 → 8 ≤ c
     → take (min (c + 1) 8) a ≡ take 8 (take (min c 8) a ++ x ∷ [])
 take-full_eight a c x full many =
@@ -53,12 +53,12 @@ is_first_eight_of-push s s' xs x is first count = record {
   count = let n = is.count in omega (arith, count, n, length-append xs (x ∷ []));
 }
 
--- those below one more that pass a test
+-- the numbers below n + 1 that pass a test
 filter-below_more : (p : ℕ → Bool) (n : ℕ)
     → filter p (below (n + 1)) ≡ filter p (below n) ++ filter p (n ∷ [])
 filter-below_more p n = ap (filter p) (below-more n) ∙ filter-append p (below n) (n ∷ [])
 
--- where the next LAN passes, the list has one more,
+-- if the next LAN passes, the list has one more,
 pub is_first_eight_of-filter_passed : (p : ℕ → Bool) (s s' : FirstEight) (n : ℕ) → IsFirstEightOf s (filter p (below n))
     → p n ≡ true → s'.first ≡ take 8 (s.first ++ n ∷ []) → s'.count ≡ s.count + 1
     → IsFirstEightOf s' (filter p (below (n + 1)))
@@ -67,7 +67,7 @@ is_first_eight_of-filter_passed p s s' n is passes first count =
     subst (IsFirstEightOf s') (ap (λ ys. filter p (below n) ++ ys) (sym one) ∙ sym (filter-below_more p n))
     (is_first_eight_of-push s s' (filter p (below n)) n is first count)
 
--- and where it doesn't, it stays
+-- or else it stays the same
 pub is_first_eight_of-filter_failed : (p : ℕ → Bool) (s : FirstEight) (n : ℕ) → IsFirstEightOf s (filter p (below n))
     → p n ≡ false → IsFirstEightOf s (filter p (below (n + 1)))
 is_first_eight_of-filter_failed p s n is fails =
@@ -77,13 +77,13 @@ is_first_eight_of-filter_failed p s n is fails =
 
 -- ---- the lines
 
--- the list as it is written
+-- the text of the list
 first_lans_text-of_list : (t : TopologyValue) (s : FirstEight) (lans : List ℕ) → IsFirstEightOf s lans
     → first_lans_text t s ≡ lans_text t lans
 first_lans_text-of_list t s lans is =
     ap₂ (λ ls n. flat_map (lan_after_space t) ls ++ more_text (n - 8)) is.first is.count
 
--- of some that want the flow
+-- the text of LANs that want the flow, if there are any
 pub wanted_text-some : (t : TopologyValue) (s : FirstEight) (n : ℕ) (lans : List ℕ) → IsFirstEightOf s lans
     → n ≡ s.count → 0 < n
     → codes "  wanted " ++ (decimal n ++ (codes ":" ++ (first_lans_text t s ++ codes "\n")))
@@ -96,7 +96,7 @@ wanted_text-some t s n (lan ∷ lans) is count_is some =
 -- ---- marks
 
 -- at first no LAN is marked
-pub unmarked_lans : (n lan : ℕ) → slice_index_or (replicate n false) lan false ≡ false
-unmarked_lans zero lan = refl
-unmarked_lans (suc n) zero = refl
-unmarked_lans (suc n) (suc lan) = unmarked_lans n lan
+pub slice_index_or-replicate_false : (n lan : ℕ) → slice_index_or (replicate n false) lan false ≡ false
+slice_index_or-replicate_false zero lan = refl
+slice_index_or-replicate_false (suc n) zero = refl
+slice_index_or-replicate_false (suc n) (suc lan) = slice_index_or-replicate_false n lan

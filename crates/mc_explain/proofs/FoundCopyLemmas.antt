@@ -1,4 +1,4 @@
--- First copies and their ways, as they were found.
+-- First copies and their paths, as the code finds them.
 use Rattle.std.proofs.Common.{◌≡◌, ℕ, List, [], ◌∷◌, ◌++◌, length, Option, Some, None, refl, ap, ap₂}
 use Rattle.std.proofs.Common.{sym, subst, ◌∙◌, append_assoc, map, reverse}
 use Rattle.mc_theory.specs.Nets.{Net, Interface}
@@ -15,14 +15,14 @@ use Rattle.mc_explain.specs.declared.causes.Cause.TheVariants.{TakeOut}
 use Rattle.mc_explain.specs.Explained.{IsRemedy, circle_cause, sender_causes}
 use Rattle.mc_explain.specs.LastFlights.{IsSecondCopy, path_of}
 
--- what is held on a LAN is its first copy
+-- the copy that is held for a LAN is its first one
 pub first_copy_on-from_held : (first_copies : List (Option Copy)) (cs copies : List Copy) (k l : ℕ)
     (o : Option Copy) → HoldsFirstOfEachKey (λ (c : Copy). c.lan) first_copies copies → copies ≡ cs → k ≡ l →
     o ≡ item_on_lan first_copies k → o ≡ first_copy_on cs l
 first_copy_on-from_held first_copies cs copies k l o are same lan e = e ∙ (are k ∙ (first_with_key-first_copy_on copies k ∙
     ap₂ (λ (xs : List Copy) (m : ℕ). first_copy_on xs m) same lan))
 
--- so there is one, and it is that
+-- so there is one, and it is the first
 pub held-not_none_on_first : (first_copies : List (Option Copy)) (cs copies : List Copy) (k l : ℕ) (o : Option Copy)
     (first : Copy) → HoldsFirstOfEachKey (λ (c : Copy). c.lan) first_copies copies → copies ≡ cs → k ≡ l →
     o ≡ item_on_lan first_copies k → o ≡ None → first_copy_on cs l ≡ Some first → ⊥
@@ -42,7 +42,7 @@ pub held-is_first_copy : (first_copies : List (Option Copy)) (cs copies : List C
 held-is_first_copy first_copies cs copies k l o got first are same lan e some on =
     copy_equal-from_some (first_copy_on cs l) got first (first_copy_on-from_held_some first_copies cs copies k l o got are same lan e some) on
 
--- the hops that were found are the copy's way
+-- the hops that were found are the copy's path
 pub found_hops-are_path : (n : Net) (cs copies : List Copy) (first got : Copy) (items now : List Hop) →
     copies ≡ cs → got ≡ first → items ≡ hops_back n copies (length copies) got.lan got.sender →
     now ≡ items → now ≡ path_of n cs first
@@ -69,21 +69,21 @@ is_remedy-from_second_copy n f second lan router vif least is on sent e = record
   cause_is = ap₂ (λ (l k : ℕ). TakeOut l router vif k) on e;
 }
 
--- where no hop was found that stops a packet, it gets through
+-- if no hop stops a packet, it gets through
 pub passes_hops-from_no_stop : (t u : ℕ) (now path : List Hop) (o : Option (Hop × ℕ)) → o ≡ stopping_hop u now →
     u ≡ t → now ≡ path → o ≡ None → PassesHops t path
 passes_hops-from_no_stop t u now path o found ttl same none =
     (stopping_hop-none t path).0 (sym (ap₂ stopping_hop ttl same) ∙ (sym found ∙ none))
 
--- and where one was, it is stopped there
+-- if a hop stops it, it is stopped there
 pub is_stopped-from_stop : (t u : ℕ) (now path : List Hop) (o : Option (Hop × ℕ)) (h : Hop) (left : ℕ) →
     o ≡ stopping_hop u now → u ≡ t → now ≡ path → o ≡ Some (h, left) → IsStopped t path h left
 is_stopped-from_stop t u now path o h left found ttl same one =
     (stopping_hop-some t path h left).0 (sym (ap₂ stopping_hop ttl same) ∙ (sym found ∙ one))
 
--- ---- what was told, line by line
+-- ---- causes, one by one
 
--- two senders and what can be taken out
+-- two senders and the remedy
 pub causes-two_senders : (lan : ℕ) (x y a b : Option Interface) (r : Cause) (ts us vs ws : List Cause) →
     ts ≡ [] → us ≡ ts ++ sender_causes lan a → vs ≡ us ++ sender_causes lan b → ws ≡ vs ++ r ∷ [] →
     a ≡ x → b ≡ y → ws ≡ sender_causes lan x ++ (sender_causes lan y ++ r ∷ [])
@@ -93,13 +93,13 @@ causes-two_senders lan x y a b r ts us vs ws e₁ e₂ e₃ e₄ p q = e₄ ∙
     (append_assoc (sender_causes lan a) (sender_causes lan b) (r ∷ []) ∙
     ap₂ (λ (c d : Option Interface). sender_causes lan c ++ (sender_causes lan d ++ r ∷ [])) p q))
 
--- two lines
+-- two causes
 pub causes-two_pushed : (r s : Cause) (ts us vs : List Cause) → ts ≡ [] → us ≡ ts ++ r ∷ [] →
     vs ≡ us ++ s ∷ [] → vs ≡ r ∷ s ∷ []
 causes-two_pushed r s ts us vs e₁ e₂ e₃ = e₃ ∙ ap (λ (zs : List Cause). zs ++ s ∷ [])
     (e₂ ∙ ap (λ (zs : List Cause). zs ++ r ∷ []) e₁)
 
--- the lines of a circle, and what can be taken out
+-- the causes of a circle, and the remedy
 pub causes-circle_then_remedy : (now items circle : List Hop) (r : Cause) (ts us : List Cause) → now ≡ items →
     items ≡ circle → ts ≡ reverse (map circle_cause now) → us ≡ ts ++ r ∷ [] →
     us ≡ reverse (map circle_cause circle) ++ r ∷ []
@@ -116,7 +116,7 @@ hops_until-same_copy n cs copies lan second got items same one on e = e ∙
     (ap (λ (x : Copy). hops_until n cs x.lan (length cs) x.lan x.sender) one ∙
     ap (λ (l : ℕ). hops_until n cs l (length cs) second.lan second.sender) on))
 
--- what can be taken out is told of this copy, on this LAN
+-- the remedy is for this copy, on this LAN
 pub is_remedy-same_copy : (n : Net) (f : Flight) (lan : ℕ) (second got : Copy) (r : Cause) → got ≡ second →
     second.lan ≡ lan → IsRemedy n f got.lan got r → IsRemedy n f lan second r
 is_remedy-same_copy n f lan second got r one on out = subst (λ (l : ℕ). IsRemedy n f l second r) on

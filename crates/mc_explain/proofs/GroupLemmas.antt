@@ -1,4 +1,4 @@
--- Interfaces of one router that stand side by side.
+-- Adjacent interfaces of one router.
 use Rattle.std.proofs.Common.{◌≡◌, ℕ, zero, suc, ◌≤◌, ◌==◌, Bool, true, false, cond}
 use Rattle.std.proofs.Common.{List, [], ◌∷◌, length, take, drop, get_or, refl, ap, ap₂, sym, ◌∙◌, arith}
 use Rattle.std.proofs.lemmas.Bool.{eq-eqb, eqb-true}
@@ -6,7 +6,7 @@ use Rattle.mc_explain.specs.declared.listed_interface.ListedInterface.{ListedInt
 use Rattle.mc_explain.specs.SearchLine.{group_by_router, add_to_group}
 use Rattle.mc_explain.specs.BucketsAndMarks.{leading_of_router}
 
--- no more of them stand at the front than there are
+-- there are no more of them at the front than interfaces
 pub leading_of_router-at_most_length : (router : ℕ) (is : List ListedInterface) → leading_of_router router is ≤ length is
 leading_of_router-at_most_length router [] = omega arith
 leading_of_router-at_most_length router (i ∷ is) = by (i.router == router) (leading_of_router-at_most_length router is)
@@ -54,13 +54,13 @@ group_by_router-first i (j ∷ js) =
         ∙ ap (λ (gs : List (ℕ × List ListedInterface)). (i.router, i ∷ []) ∷ gs) (sym rest)
         ∙ ap (λ (n : ℕ). (i.router, i ∷ take n (j ∷ js)) ∷ group_by_router (drop n (j ∷ js))) (sym none)
 
--- a list that isn't empty begins with what is read at its front
+-- a list that isn't empty begins with its element at 0
 cons-from_get_or_first : (is : List ListedInterface) (i : ListedInterface) → (length is == 0) ≡ false
     → i ≡ get_or is 0 i → is ≡ i ∷ drop 1 is
 cons-from_get_or_first [] i some read = absurd cc
 cons-from_get_or_first (j ∷ is) i some read = ap (λ (x : ListedInterface). x ∷ is) (sym read)
 
--- the same, of a list that is cut there
+-- the same for a list that is split after the group
 pub group_by_router-split : (is front back : List ListedInterface) (i : ListedInterface) (n : ℕ)
     → (length is == 0) ≡ false → i ≡ get_or is 0 i → n ≡ leading_of_router (get_or is 0 i).router is
     → front ≡ take n is → back ≡ drop n is

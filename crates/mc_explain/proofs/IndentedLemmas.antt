@@ -1,5 +1,4 @@
--- Lines that begin with two spaces: texts of such lines one after the other, and a line that is put
--- together piece by piece.
+-- Lines that begin with two spaces: sequences of them, and one that is put together piece by piece.
 use Rattle.std.proofs.Common.{◌≡◌, ◌==◌, ℕ, true, List, [], ◌∷◌, ◌++◌, flat_map, inl, inr}
 use Rattle.std.proofs.Common.{refl, ap, ap₂, sym, subst, ◌∙◌, append_assoc}
 use Rattle.std.specs.Prelude.{not, codes}
@@ -10,7 +9,7 @@ use Rattle.mc_theory.proofs.ListLemmas.{in-append_cases}
 use Rattle.mc_explain.specs.Indented.{AreIndented, HasNoLineFeed, indented}
 use Rattle.mc_explain.proofs.LineFeedLemmas.{no_feed-from_list_all, no_feed-append}
 
--- ---- lines one after the other
+-- ---- sequences of lines
 
 pub are_indented-none : AreIndented []
 are_indented-none = record { lines = []; feedless = λ line h. absurd h; spelled = refl }
@@ -34,7 +33,7 @@ are_indented-flat_map f (x ∷ xs) each =
 
 -- ---- a line piece by piece
 
--- A line that was begun goes on with this text, which ends with other such lines.
+-- The text is the rest of a line that has begun, and then other such lines.
 pub record IsLineRest (text : List ℕ) : Type 0 where
   pub line : List ℕ
   pub after : List ℕ
@@ -63,7 +62,7 @@ is_line_rest-append xs ys none g = record {
   is = ap (λ (zs : List ℕ). xs ++ zs) g.is ∙ sym (append_assoc xs g.line (10 ∷ g.after));
 }
 
--- words that it goes on with
+-- a piece of a line in front of its rest
 pub is_line_rest-append_front : (front ys : List ℕ) → list_all (λ b. not (b == 10)) front ≡ true → IsLineRest ys
     → IsLineRest (front ++ ys)
 is_line_rest-append_front front ys none g = is_line_rest-append front ys (no_feed-from_list_all front none) g

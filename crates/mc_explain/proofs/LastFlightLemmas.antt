@@ -1,4 +1,4 @@
--- What a travel's last flight has.
+-- Properties of a travel's last flight.
 use Rattle.std.proofs.Common.{◌≡◌, ℕ, ◌≤◌, Bool, true, false, cond, List, [], ◌∷◌, ◌++◌, length}
 use Rattle.std.proofs.Common.{Option, Some, None, is_some, refl, ap, sym, subst, ◌∙◌, arith, inl}
 use Rattle.std.proofs.Common.{append_assoc, append-nil}
@@ -30,7 +30,7 @@ use Rattle.mc_maker.specs.ExaminedFlights.{IsFinishedTravelOf}
 use Rattle.mc_explain.specs.LastFlights.{HasLoop, EndsTravel, HasSecondCopy, HasPath, IsOutOfReach}
 use Rattle.mc_explain.specs.LastFlights.{path_of}
 
--- ---- the first double copy is found
+-- ---- the first duplicate is found
 
 first_double-skip : (earlier : List Copy) (d : Copy) (cs : List Copy) (c : Copy) (test : Bool) →
     is_some (first_copy_on earlier d.lan) ≡ test → (In d.lan (lans earlier) → ⊥) →
@@ -79,7 +79,7 @@ pub shows-last_flight : (f : FlowOfDomain) (ttl : ℕ) (x : Finding) (j : Flight
 shows-last_flight f ttl x j ok e = shows-travel_finding (net_in f) (length f.domain.topology.lans) ttl [] false e.picks x
     (λ l w. wants-below_lan_count f.domain f.flow l ok.domain w) e.travel
 
--- a LAN's first copy has a way
+-- a LAN's first copy has a path
 pub has_path-last_flight : (f : FlowOfDomain) (ttl : ℕ) (x : Finding) (j : FlightInDomain) (lan : ℕ) (first : Copy) →
     IsFlowOfDomain f → (e : EndsTravel f ttl x j) →
     first_copy_on (last_flight f ttl x j e).carried lan ≡ Some first →
@@ -138,7 +138,7 @@ has_loop-from_loop f ttl lan j ok e =
     subst (λ (g : Flight). HasLoop n g.carried lan) (sym e.ends)
     (record { has = has; came_by_hops = came_by_hops })
 
--- ---- a LAN that is missed at the flow's TTL alone
+-- ---- a LAN that is missed only with the flow's TTL
 
 some-from_is_some : (o : Option Copy) → is_some o ≡ true → (c : Copy) × (o ≡ Some c)
 some-from_is_some None e = absurd cc
@@ -153,7 +153,7 @@ first_copy-from_clean f ttl lan j ok e wants =
     some-from_is_some (first_copy_on cs lan)
     (first_copy_on-from_in_lans cs lan ((shows-last_flight f ttl Clean j ok e).2 lan wants))
 
--- by no way do packets with this TTL get through to a LAN that is missed
+-- packets with this TTL get through no path to a LAN that is missed
 pub no_path_passes-to_missed : (f : FlowOfDomain) (ttl lan : ℕ) (j : FlightInDomain) → IsFlowOfDomain f →
     EndsTravel f ttl (Missed lan) j → (hs : _) → IsPath (net_in f) (net_in f).source hs lan →
     PassesHops ttl hs → ⊥
@@ -183,7 +183,7 @@ is_out_of_reach-from_missed f lan j k ok high low =
       stopped = no_path_passes-to_missed f n.ttl lan k ok low (path_of n cs first.0) to;
     })
 
--- ---- what was flown
+-- ---- finished travels
 
 pub ends_travel-from_finished : (d : DomainValue) (flow : ℕ) (f : FlowOfDomain) (ttl : ℕ) (ended : FinishedTravel) →
     f ≡ record { domain = d; flow = flow } → IsFinishedTravelOf d flow ttl ended → 1 ≤ ttl → ttl ≤ 255 →
@@ -199,7 +199,7 @@ ends_travel-from_finished d flow f ttl ended e h low high =
       ends = h.run.ends;
     })
 
--- at the flow's TTL
+-- with the flow's TTL
 pub ends_travel-at_flow_ttl : (d : DomainValue) (flow : ℕ) (f : FlowOfDomain) (ended : FinishedTravel) → IsFlowOfDomain f →
     f ≡ record { domain = d; flow = flow } → IsFinishedTravelOf d flow (ttl_of d flow) ended →
     EndsTravel f (net_in f).ttl (finding_value ended.travel.finding) ended.flight
@@ -209,7 +209,7 @@ ends_travel-at_flow_ttl d flow f ended ok e h =
     ends_travel-from_finished d flow f (net_in f).ttl ended e
     (subst (λ (g : FlowOfDomain). IsFinishedTravelOf d flow (net_in g).ttl ended) (sym e) h) low high
 
--- a LAN that is missed where a packet with TTL 255 met nothing
+-- a LAN that is missed though a packet with TTL 255 has no finding
 pub is_out_of_reach-from_finished : (d : DomainValue) (flow lan : ℕ) (f : FlowOfDomain) (greatest least : FinishedTravel) →
     IsFlowOfDomain f → f ≡ record { domain = d; flow = flow } → IsFinishedTravelOf d flow 255 greatest →
     FindsNothing greatest.travel → IsFinishedTravelOf d flow (ttl_of d flow) least →

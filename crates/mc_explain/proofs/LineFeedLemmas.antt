@@ -1,4 +1,4 @@
--- Words without a line feed: numbers, addresses, names, the devices of vifs, and rows.
+-- Texts without a line feed: numbers, addresses, names, the devices of vifs, and rows.
 use Rattle.std.proofs.Common.{◌≡◌, ℕ, zero, suc, ◌+◌, ◌/◌, ◌%◌, Bool, true, false}
 use Rattle.std.proofs.Common.{cond, eqb, List, [], ◌∷◌, ◌++◌, Option, Some, None, flat_map}
 use Rattle.std.proofs.Common.{refl, sym, ap, ◌∙◌, arith}
@@ -23,8 +23,8 @@ use Rattle.mc_forward.specs.Domains.{oif_pairs}
 use Rattle.mc_forward.specs.ListedTables.{DomainFacts}
 use Rattle.mc_explain.specs.EverySourceText.{every_source_of, every_source_text, every_source_row_text}
 use Rattle.mc_explain.specs.RowText.{byte_text, device_text, device_text_of, hex_digit_of, is_plain}
-use Rattle.mc_explain.specs.RowText.{address_text, entry_text, incoming_text, device_name_text, pair_text}
-use Rattle.mc_explain.specs.RowText.{pairs_text, row_text, vif_number_text}
+use Rattle.mc_explain.specs.RowText.{address_text, entry_text, incoming_text, device_name_text, oif_text}
+use Rattle.mc_explain.specs.RowText.{oifs_text, row_text, vif_number_text}
 
 -- ---- texts
 
@@ -34,7 +34,7 @@ no_feed-from_list_all xs none = HasNoByte-from_list_all (λ b. not (b == 10)) 10
 pub no_feed-append : (xs ys : List ℕ) → HasNoByte 10 xs → HasNoByte 10 ys → HasNoByte 10 (xs ++ ys)
 no_feed-append = HasNoByte-append 10
 
--- words that a text begins with
+-- a piece in front of a text
 pub no_feed-append_front : (front xs : List ℕ) → list_all (λ b. not (b == 10)) front ≡ true → HasNoByte 10 xs
     → HasNoByte 10 (front ++ xs)
 no_feed-append_front front xs none rest = no_feed-append front xs (no_feed-from_list_all front none) rest
@@ -128,17 +128,17 @@ no_feed-device_text d router vif = no_feed-device_text_of vif (d.vifs router vif
 no_feed-address_text : (a : ℕ) → HasNoByte 10 (address_text a)
 no_feed-address_text a = no_feed-cond (a == 0) (codes "*") (dotted a) (no_feed-from_list_all (codes "*") refl) (no_feed-dotted a)
 
-no_feed-pair_text : (d : DomainFacts) (router : ℕ) (p : ℕ × ℕ) → HasNoByte 10 (pair_text d router p)
-no_feed-pair_text d router p =
+no_feed-oif_text : (d : DomainFacts) (router : ℕ) (p : ℕ × ℕ) → HasNoByte 10 (oif_text d router p)
+no_feed-oif_text d router p =
     no_feed-append_front (codes " ") _ refl
     (no_feed-append (device_text d router p.0) _ (no_feed-device_text d router p.0)
     (no_feed-cond (p.1 == 1) [] (codes ":" ++ decimal p.1) tt (no_feed-append_front (codes ":") _ refl (number p.1))))
 
-no_feed-pairs_text : (d : DomainFacts) (router : ℕ) (ps : List (ℕ × ℕ))
-    → HasNoByte 10 (pairs_text d router ps)
-no_feed-pairs_text d router [] = no_feed-from_list_all (codes " none") refl
-no_feed-pairs_text d router (p ∷ ps) =
-    no_feed-flat_map (pair_text d router) (p ∷ ps) (λ q. no_feed-pair_text d router q)
+no_feed-oifs_text : (d : DomainFacts) (router : ℕ) (ps : List (ℕ × ℕ))
+    → HasNoByte 10 (oifs_text d router ps)
+no_feed-oifs_text d router [] = no_feed-from_list_all (codes " none") refl
+no_feed-oifs_text d router (p ∷ ps) =
+    no_feed-flat_map (oif_text d router) (p ∷ ps) (λ q. no_feed-oif_text d router q)
 
 pub no_feed-entry_text : (d : DomainFacts) (router source group incoming : ℕ) (ps : List (ℕ × ℕ))
     → IsValidTopology d.topology → HasNoByte 10 (entry_text d router source group incoming ps)
@@ -150,7 +150,7 @@ no_feed-entry_text d router source group incoming ps ok =
     (no_feed-append_front (codes ") from ") _ refl
     (no_feed-append (device_text d router incoming) _ (no_feed-device_text d router incoming)
     (no_feed-append_front (codes " to") _ refl
-    (no_feed-append (pairs_text d router ps) _ (no_feed-pairs_text d router ps)
+    (no_feed-append (oifs_text d router ps) _ (no_feed-oifs_text d router ps)
     (no_feed-append_front (codes " in cache-") _ refl (no_feed-router_name d.topology router ok)))))))))
 
 pub no_feed-row_text : (d : DomainFacts) (f : Flow) (router : ℕ) (row : Row) → IsValidTopology d.topology

@@ -24,7 +24,7 @@ use Rattle.mc_explain.proofs.MergeLemmas.{in_order-append_in_order, is_strictly_
 use Rattle.mc_explain.proofs.MergeLemmas.{lowest-append, merge, merge_step, find-in_order, shown_pairs-of_parts}
 use Rattle.mc_explain.proofs.UnlistedLemmas.{lowest}
 
--- ---- the first of two ascending lists as one
+-- ---- the first ones of two merged lists
 
 in-from_take : (k : ℕ) (p : ℕ × ℕ) (xs : List (ℕ × ℕ)) → In p (take k xs) → In p xs
 in-from_take zero p xs h = absurd h
@@ -120,7 +120,7 @@ equal_options-from_both None None f g = refl
 equal_options-from_both None (Some y) f g = g refl
 equal_options-from_both (Some x) u f g = sym (f refl)
 
--- pairs that are there change nothing
+-- pairs that are there already change nothing
 in_order-append_covered : (xs ys : List (ℕ × ℕ)) → ((q : ℕ × ℕ) → In q ys → In q xs)
     → in_order (xs ++ ys) ≡ in_order xs
 in_order-append_covered xs ys inside =
@@ -136,7 +136,7 @@ in_order-append_covered xs ys inside =
     (λ e. find-from_in q (xs ++ ys) (in-append_left q xs ys (in-from_find q xs e)))
     ∙ sym (fin.get-from_entries key_cmp-total (as_keys xs) q)))
 
--- what is among the lowest of all is among the lowest of a part that has it
+-- a pair among the lowest of all is among the lowest of each part that has it
 in-lowest_of_part : (p : ℕ × ℕ) (xs ys : List (ℕ × ℕ)) → ((q : ℕ × ℕ) → In q ys → In q xs)
     → In p (lowest xs) → In p ys → In p (lowest ys)
 in-lowest_of_part p xs ys inside h own =
@@ -190,7 +190,7 @@ has_pair-has_unlisted_row all listed pair (rows ∷ caches) zero each = each row
 has_pair-has_unlisted_row all listed pair (rows ∷ caches) (suc router) each =
     has_pair-has_unlisted_row all listed pair caches router (λ own h. each own (inr h))
 
--- what a router's notes have of its own pairs, where a pair is shown
+-- a shown pair is in the summary of each router that has it
 is_listed-shown_of_part : (all : Bool) (p : ℕ × ℕ) (xs ys : List (ℕ × ℕ)) → ((q : ℕ × ℕ) → In q ys → In q xs)
     → In p (shown_pairs all (in_order xs))
     → is_listed (Some (shown_pairs all (in_order ys))) p ≡ is_listed (Some ys) p

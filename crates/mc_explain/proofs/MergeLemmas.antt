@@ -19,9 +19,9 @@ use Rattle.mc_tables.proofs.CacheMapLemmas.{key_cmp-antisymmetric}
 use Rattle.mc_tables.proofs.LowestLemmas.{take_in_order-push}
 use Rattle.mc_explain.proofs.UnlistedLemmas.{lowest, is_strictly_sorted_by-lowest}
 
--- ---- two ascending lists as one
+-- ---- merging two ascending lists
 
--- the first of two, with what comes after it
+-- the lower of two first pairs, and what is merged after it
 abbrev pub merge_step : Ordering → (a b : ℕ × ℕ) → (after_a after_both after_b : List (ℕ × ℕ))
     → List (ℕ × ℕ)
 merge_step Less a b after_a after_both after_b = a ∷ after_a
@@ -41,7 +41,7 @@ merge-nil : (s : List (ℕ × ℕ)) → merge s [] ≡ s
 merge-nil [] = refl
 merge-nil (a ∷ s) = ap (λ (l : List (ℕ × ℕ)). a ∷ l) (merge-nil s)
 
--- the first of them need no more than the first of each
+-- the first k of the merged list depend only on the first ones of each list
 take-merge_right : (k m : ℕ) → k ≤ m → (s l : List (ℕ × ℕ))
     → take k (merge s l) ≡ take k (merge s (take m l))
 take-merge_right zero m le s l = refl
@@ -75,7 +75,7 @@ take-merge_left (suc k) (suc m) le (a ∷ s) (b ∷ l) =
       | Greater ↦ ap (λ (x : List (ℕ × ℕ)). b ∷ x) (take-merge_left k (suc m) (omega (arith, le)) (a ∷ s) l)
     ]
 
--- ---- one more at the front of the second
+-- ---- one pair more at the front of the second list
 
 abbrev pub AreAbove : ℕ × ℕ → List (ℕ × ℕ) → Type 0
 AreAbove x ps = AllByRecursion (λ y. key_cmp x y ≡ Less) ps
@@ -115,7 +115,7 @@ merge-put_pair b (a ∷ s) l all =
     first e =
         ap (λ (r : Ordering). merge_step r a b (merge s (b ∷ l)) (merge s l) (merge_into a (merge s) l)) e
 
--- ---- the lowest, with ascending pairs behind others
+-- ---- the lowest of ascending pairs after others
 
 pub lowest-append : (qs l : List (ℕ × ℕ)) → IsStrictlySortedBy key_cmp l
     → lowest (qs ++ l) ≡ take 20 (merge (lowest qs) l)
@@ -163,7 +163,7 @@ is_strictly_sorted_by-in_order ps =
     let m = fin.from_entries {R = key_cmp} (as_keys ps) in
     is_strictly_sorted_by-from_is_sorted (fin.entries m) (true-from_t (fin.is_sorted key_cmp (fin.entries m)) (fin.entries_sorted m))
 
--- keys with nothing are the entries again
+-- the keys of the entries are the entries
 as_keys-map_keys : (es : List ((ℕ × ℕ) × Unit {0})) → as_keys (map (λ e. e.0) es) ≡ es
 as_keys-map_keys [] = refl
 as_keys-map_keys (e ∷ es) =
@@ -205,7 +205,7 @@ find-append_same_front : (q : ℕ × ℕ) (xs ys zs : List (ℕ × ℕ))
 find-append_same_front q xs ys zs same = find-as_keys_append q xs zs ∙ ap (λ (o : Option (Unit {0})).
     found_in_either o (fin.find key_cmp q (as_keys zs))) same ∙ sym (find-as_keys_append q ys zs)
 
--- lists in which the same are found have the same in order
+-- lists with the same pairs are the same in order
 in_order-same_keys : (xs ys : List (ℕ × ℕ))
     → ((q : ℕ × ℕ) → fin.find key_cmp q (as_keys xs) ≡ fin.find key_cmp q (as_keys ys))
     → in_order xs ≡ in_order ys

@@ -1,4 +1,4 @@
--- The need of a way, and where a packet stops, hop by hop.
+-- The need of a path, and where a packet is stopped, hop by hop.
 use Rattle.std.proofs.Common.{◌≡◌, ℕ, ◌+◌, ◌-◌, ◌<◌, ◌≤◌, max, List, ◌∷◌, length, drop}
 use Rattle.std.proofs.Common.{take, get_or, Some, None, ap, sym, ◌∙◌, arith}
 use Rattle.std.proofs.lemmas.List.{drop_more, length-drop, take-append-drop}
@@ -9,7 +9,7 @@ use Rattle.mc_theory.proofs.StoppingHop.{stopping_hop-here, stopping_hop-more}
 
 -- ---- the need
 
--- the greatest of the needs so far, and of the hops that are left
+-- the greatest of the needs so far and of the hops that are left
 pub record NeedSoFar (hops : List Hop) (i before least : ℕ) : Type 0 where
   pub count : before + i ≡ length hops
   pub low : 1 ≤ least
@@ -20,9 +20,9 @@ need_so_far-none hops =
     let low = need-at_least_one hops in
     record { count = omega arith; low = omega arith; all = omega (arith, low) }
 
--- ---- where a packet stops
+-- ---- where a packet is stopped
 
--- it got through by the last hops of the list, and has so much TTL left
+-- the packet got through the last hops of the list, and has TTL `left`
 pub record ThroughSoFar (t : ℕ) (hops : List Hop) (before left : ℕ) : Type 0 where
   pub ttl : left + before ≡ t
   pub through : stopping_hop t (drop (length hops - before) hops) ≡ None

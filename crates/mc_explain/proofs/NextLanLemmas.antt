@@ -69,7 +69,7 @@ next_lans_are_inside-unless : (s : Search) (b : Bool) (lines : List SearchLine) 
 next_lans_are_inside-unless s true lines h = λ x none. absurd none
 next_lans_are_inside-unless s false lines h = h
 
--- a LAN that carried none, of one on which a vif is placed
+-- a LAN that carried no copy, if a vif is placed on it
 if_missed-inside : (s : Search) (o : Option ℕ) → IfSome o (λ lan. lan < length s.domain.topology.lans)
     → IfSome (if_missed s o) (λ lan. lan < length s.domain.topology.lans)
 if_missed-inside s None h = h
@@ -167,13 +167,13 @@ lines_of_lan-inside s lan ok =
     (next_lans_are_inside-flat_map s (expected_lines s lan) (routers_on s lan) (λ g. next_lans_are_inside-if s _ _ tt)))
     (closing_lines-inside s lan (routers_on s lan) (lines_of_routers s lan (routers_on s lan)))
 
--- what is read of a list is in it
+-- an element at a place in the list is in the list
 in-get_or : (xs : List SearchLine) (k : ℕ) (d : SearchLine) → k < length xs → In (get_or xs k d) xs
 in-get_or [] k d lt = absurd (omega (arith, lt))
 in-get_or (x ∷ xs) zero d lt = inl refl
 in-get_or (x ∷ xs) (suc k) d lt = inr (in-get_or xs k d (omega (arith, lt)))
 
--- the same of lines that were added, place by place
+-- the same for each line that was added
 pub added_line-inside : (s : Search) (lan : ℕ) (lines : List SearchLine) → PlacesInside s
     → lines ≡ lines_of_lan s lan → (k : ℕ) (d : SearchLine) → k < length lines
     → NextLanIsInside s (get_or lines k d)

@@ -1,4 +1,4 @@
--- What is told of a LAN, step by step.
+-- The lines of a LAN, step by step.
 use Rattle.std.proofs.Common.{◌≡◌, ◌||◌, ℕ, false, List, [], ◌∷◌, Option, Some, None, refl, ap, ap₂, ◌∙◌}
 use Rattle.std.specs.List.{list_any}
 use Rattle.mc_explain.specs.declared.listed_interface.ListedInterface.{ListedInterface}
@@ -7,7 +7,7 @@ use Rattle.mc_theory.specs.Nets.Row.{Open, NoRow}
 use Rattle.mc_theory.specs.CertificateOfCopies.{row_pairs}
 use Rattle.mc_explain.specs.SearchLine.{sends_by_known_vif}
 
--- no vif is sent by without a row
+-- without outgoing pairs no vif is sent by
 sends_by_known_vif-no_pairs : (vif : Option ℕ) → sends_by_known_vif vif [] ≡ false
 sends_by_known_vif-no_pairs None = refl
 sends_by_known_vif-no_pairs (Some v) = refl

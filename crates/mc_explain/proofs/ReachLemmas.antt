@@ -34,7 +34,7 @@ filter-take_more p rs i r found now b lt read test before more =
     by true = refl
     by false = sym (append-nil (filter p (take i rs)))
 
--- a group is that of one of the interfaces
+-- each group is of an interface's router
 group-has_interface : (is : List ListedInterface) (g : ℕ × List ListedInterface) → In g (group_by_router is)
     → (i : ListedInterface) × In i is × (i.router ≡ g.0)
 group-has_interface [] g h = absurd h
@@ -82,12 +82,12 @@ group_router-of_topology d lan g h =
     ap (λ (i : ListedInterface). i.router) at.2 ∙ found.2 in
     subst (λ (r : ℕ). r < length t.routers) (sym same ∙ is) lt
 
--- numbers, and more of them in two parts
+-- new numbers of two parts, one after the other
 pub append_new-append : (visited_lans xs ys : List ℕ) → append_new (append_new visited_lans xs) ys ≡ append_new visited_lans (xs ++ ys)
 append_new-append visited_lans [] ys = refl
 append_new-append visited_lans (x ∷ xs) ys = append_new-append (cond (list_any (λ m. m == x) visited_lans) visited_lans (visited_lans ++ x ∷ [])) xs ys
 
--- the routers of one LAN more
+-- the routers on one LAN more
 pub routers_of_lans-more : (s : Search) (lans : List ℕ) (i lan : ℕ) (old now : List ℕ) → i < length lans
     → lan ≡ get_or lans i lan → old ≡ routers_of_lans s (take i lans)
     → now ≡ append_new old (map (λ (g : ℕ × List ListedInterface). g.0) (routers_on s lan))
@@ -118,7 +118,7 @@ in-from_append_new visited_lans (y ∷ more) x h =
     by true f g k = old (f k)
     by false f g k = new (g k)
 
--- each router of LANs is one of the topology
+-- each router on the LANs is one of the topology
 routers_of_lans-inside : (s : Search) (lans : List ℕ) (r : ℕ) → In r (routers_of_lans s lans)
     → r < length s.domain.topology.routers
 routers_of_lans-inside s lans r h = elim (in-from_append_new [] _ r h) [

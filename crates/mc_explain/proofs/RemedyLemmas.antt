@@ -1,4 +1,4 @@
--- What runs do where an interface is taken out of its router's row.
+-- Runs after an interface is taken out of its router's row.
 use Rattle.std.proofs.Common.{◌≡◌, ◌≢◌, ℕ, inl, inr, Bool, true, cond, not, ◌==◌, List}
 use Rattle.std.proofs.Common.{filter, Option, Some, None, refl, ap, sym, subst, ◌∙◌, eq-eqb}
 use Rattle.mc_theory.specs.Lists.{In}
@@ -14,7 +14,7 @@ use Rattle.mc_theory.proofs.EachHearerForwards.{carried-from_path}
 use Rattle.mc_theory.proofs.SpareInterface.{is_net-take_out}
 use Rattle.mc_explain.specs.CauseFacts.{CarriesAsMuch}
 
--- what is reached as before is carried as before
+-- LANs that are reached as before carry copies as before
 pub carries_as_much-from_reached : (n : Net) (i : Interface) (t : ℕ) (qs ps : List Pick) → IsNet n →
     ((m : ℕ) → IsReachedWithTtl n t m → IsReachedWithTtl (take_out i n) t m) →
     CarriesAsMuch (take_out i n) n t qs ps
@@ -43,7 +43,7 @@ is_sent_on-not_by_taken_out n i b c s =
     sym (ap (λ (t : Bool). cond t (row_without_vif i.1 (n.row i.0)) (n.row i.0)) own) ∙ s.row in
     row_without-has_no_pair i.1 s.threshold s.incoming s.pairs (n.row i.0) row s.pair
 
--- none of these copies was
+-- none of these copies was sent by the interface
 abbrev AreNotSentBy : Interface → List Copy → Type 0
 AreNotSentBy i cs = (c : Copy) → In c cs → c.sender ≢ Some i
 

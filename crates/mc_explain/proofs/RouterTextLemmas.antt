@@ -1,4 +1,4 @@
--- Lists of routers, as they are written.
+-- The text of lists of routers.
 use Rattle.std.proofs.Common.{◌≡◌, ℕ, ◌-◌, ◌==◌, false, List, [], ◌∷◌, ◌++◌, length, refl, ap₂}
 use Rattle.std.proofs.Common.{codes, flat_map}
 use Rattle.std.specs.Prelude.{◌&&◌}
@@ -14,9 +14,9 @@ first_routers_text-of_list t s routers is =
     ap₂ (λ (ls : List ℕ) (n : ℕ). flat_map (router_after_space t) ls ++ more_text (n - 8)) is.first
     is.count
 
--- ---- what a search comes to
+-- ---- how far the packet came
 
--- a search that comes to some router
+-- if a copy came to some router of the search
 pub reach_text-some_router : (t : TopologyValue) (sent_on took_none : List ℕ)
     → ((length sent_on == 0) && (length took_none == 0)) ≡ false
     → reach_text t sent_on took_none

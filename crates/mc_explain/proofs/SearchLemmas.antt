@@ -1,4 +1,4 @@
--- The LANs that a search meets, turn by turn.
+-- The LANs that a search visits, step by step.
 use Rattle.std.proofs.Common.{◌≡◌, ℕ, zero, suc, ◌+◌, ◌-◌, ◌<◌, ◌≤◌, ◌==◌, ◌||◌, inl, inr, Bool}
 use Rattle.std.proofs.Common.{true, false, cond}
 use Rattle.std.proofs.Common.{All, get_or, List, [], ◌∷◌, ◌++◌, length, take, drop, flat_map}
@@ -27,7 +27,7 @@ use Rattle.mc_forward.proofs.PerLanLemmas.{first_with_key-first_copy_on}
 use Rattle.mc_explain.specs.declared.search_line.SearchLine.{SearchLine}
 use Rattle.mc_explain.specs.SearchLine.{Search, append_new, next_lans, lines_of_lan, visited_lans, visited_after}
 
--- ---- what was met
+-- ---- visited LANs
 
 list_any-first_by : (lans : List ℕ) (lan : ℕ)
     → list_any (λ m. m == lan) lans ≡ is_some (first_with_key (λ (l : ℕ). l) lans lan)
@@ -76,7 +76,7 @@ visited-within_marks marks lans k lan marked at =
 
 -- ---- more LANs
 
--- those that were met stand before those that are met
+-- visited LANs stay in front of new ones
 pub append_new-keeps_front : (lans more : List ℕ) → (new : List ℕ) × (append_new lans more ≡ lans ++ new)
 append_new-keeps_front lans [] = ([], sym (append-nil lans))
 append_new-keeps_front lans (lan ∷ more) =
@@ -92,7 +92,7 @@ pub visited-more : (s : Search) (missed k : ℕ)
     → visited_lans s missed (k + 1) ≡ visited_after s (visited_lans s missed k) (slice_get (visited_lans s missed k) k)
 visited-more s missed k = ap (visited_lans s missed) (add-one k)
 
--- what was told, once one more was looked at
+-- the lines so far, after one LAN more is searched
 pub lines_so_far-more : (s : Search) (missed k lan : ℕ) (lines_so_far now : List SearchLine)
     → slice_get (visited_lans s missed k) k ≡ Some lan
     → lines_so_far ≡ flat_map (lines_of_lan s) (take k (visited_lans s missed k)) → now ≡ lines_so_far ++ lines_of_lan s lan
@@ -112,7 +112,7 @@ lines_so_far-more s missed k lan lines_so_far now at before more =
     ∙ sym (flat_map-append (lines_of_lan s) (take k lans) (lan ∷ []))
     ∙ ap (flat_map (lines_of_lan s)) (sym looked)
 
--- all of them were looked at
+-- nothing changes once all visited LANs are searched
 pub lines_so_far-same : (s : Search) (missed k : ℕ) (lines_so_far : List SearchLine)
     → length (visited_lans s missed k) ≤ k
     → lines_so_far ≡ flat_map (lines_of_lan s) (take k (visited_lans s missed k))
@@ -168,7 +168,7 @@ slice_get-from_in [] lan h = absurd h
 slice_get-from_in (m ∷ lans) lan (inl e) = (0, ap Some e)
 slice_get-from_in (m ∷ lans) lan (inr h) = (suc (slice_get-from_in lans lan h).0, (slice_get-from_in lans lan h).1)
 
--- no more are met than there are
+-- no more LANs are visited than there are
 pub length-visited : (s : Search) (missed k : ℕ) (marks : List (Option ℕ)) (lans : List ℕ)
     → lans ≡ visited_lans s missed k → HoldsFirstOfEachKey (λ (l : ℕ). l) marks lans
     → length (visited_lans s missed k) ≤ length marks
@@ -188,7 +188,7 @@ take_drop-added {A} old now lines n more count =
     ap (take (length now - n)) rest
     ∙ take_all (length now - n) lines (omega (arith, size, count))
 
--- ---- what is searched
+-- ---- what a search reads
 
 held-all_first_copies : (places : List (Option Copy)) (copies cs : List Copy)
     → HoldsFirstOfEachKey (λ (c : Copy). c.lan) places copies → copies ≡ cs → item_on_lan places ≡ first_copy_on cs
@@ -230,7 +230,7 @@ slice_get-get_or [] k d lt = absurd (omega (arith, lt))
 slice_get-get_or (x ∷ xs) zero d lt = refl
 slice_get-get_or (x ∷ xs) (suc k) d lt = slice_get-get_or xs k d (omega (arith, lt))
 
--- each LAN that was met is one of those that have a mark
+-- each visited LAN has a mark
 pub visited-all_within_marks : (marks : List (Option ℕ)) (lans found : List ℕ) (n : ℕ) → found ≡ lans
     → length marks ≡ n → HoldsFirstOfEachKey (λ (l : ℕ). l) marks lans → All (λ lan. lan < n) found
 visited-all_within_marks marks lans found n same count marked k d lt =

@@ -71,7 +71,7 @@ no_feed-from_no_lan_text d router (Exact incoming pairs) ok =
 no_feed-from_no_lan_text d router Open ok = tt
 no_feed-from_no_lan_text d router no_row ok = tt
 
--- a line of a router goes on behind it
+-- a line about a router and its rest
 are_indented-lan_router_text : (t : TopologyValue) (lan router : ℕ) (rest : List ℕ) → IsValidTopology t → IsLineRest rest
     → AreIndented (lan_router_text t lan router ++ rest)
 are_indented-lan_router_text t lan router rest ok g =
@@ -184,7 +184,7 @@ are_indented-shown_line : (d : DomainFacts) (summary : List SummaryValue) (k : �
 are_indented-shown_line d summary k f (One line) ok = are_indented-search_line d summary k f line ok
 are_indented-shown_line d summary k f (Expected lan routers) ok = are_indented-expected_text d.topology lan routers ok
 
--- ---- all of them
+-- ---- all lines
 
 are_indented-more_lines : (more : ℕ) → AreIndented (more_lines_text more)
 are_indented-more_lines more =

@@ -1,4 +1,4 @@
--- Each router of a LAN is named by a line of a search that looks at it.
+-- Each router on a LAN of a search is named by a line about that LAN.
 use Rattle.std.proofs.Common.{◌≡◌, ◌==◌, ◌||◌, ℕ, ◌<◌, inl, inr, Bool, true, false, cond, List, [], ◌∷◌, ◌++◌}
 use Rattle.std.proofs.Common.{flat_map, filter, find, length, Option, Some, None, refl, ap}
 use Rattle.std.proofs.Common.{ap₂, sym, subst, ◌∙◌}
@@ -57,7 +57,7 @@ names_router-one lan r line is = (line, (inl refl, is))
 
 -- ---- the routers of a LAN
 
--- an interface stands in the group of its router
+-- an interface is in the group of its router
 abbrev IsGrouped : ListedInterface → List (ℕ × List ListedInterface) → Type 0
 IsGrouped i gs = (g : ℕ × List ListedInterface) × (In g gs × ((g.0 ≡ i.router) × In i g.1))
 
@@ -97,7 +97,7 @@ is_grouped-group_by_router i (j ∷ is) (inl e) =
     subst (λ (x : ListedInterface). IsGrouped i (add_to_group x (group_by_router is))) (sym e) (is_grouped-own i (group_by_router is))
 is_grouped-group_by_router i (j ∷ is) (inr h) = is_grouped-later i j (group_by_router is) (is_grouped-group_by_router i is h)
 
--- ---- an interface of the topology among those of its LAN
+-- ---- an interface of the topology among those on its LAN
 
 interface_at-from_get : (t : TopologyValue) (k : ℕ) (i : InterfaceRow) → slice_get t.interfaces k ≡ Some i
     → interface_at t k ≡ i
@@ -122,7 +122,7 @@ in-interfaces_on_lan x k i at few =
     (in-filter (λ (n : ℕ). (interface_at t n).lan == i.lan) k (interfaces_by_router t) all
     (eq-eqb (interface_at t k).lan i.lan (ap (λ (y : InterfaceRow). y.lan) here))))
 
--- ---- where its vif is placed
+-- ---- the LAN on which its vif is placed
 
 -- the vif of its device, if that is no tunnel and no register vif, is placed on its LAN
 abbrev PlacedOn : DomainFacts → (flow : ℕ) → ListedInterface → (lan : ℕ) → Type 0
@@ -177,7 +177,7 @@ lan_and_router_of-vif_line s lan r from pairs vif = by (sends_by vif pairs) (s.f
     by true (Some copy) = refl
     by false o = refl
 
--- a row that takes from another LAN: of the interface's vif, or of its device
+-- a router whose row takes from another LAN, by its vifs or its devices
 names_router-vifs_and_devices : (s : Search) (lan from : ℕ) (pairs : List (ℕ × ℕ)) (g : ℕ × List ListedInterface)
     (i : ListedInterface) → In i g.1 → g.0 ≡ i.router → PlacedOn s.domain s.flow i lan
     → NamesRouter lan g.0 (flat_map (λ j. vif_lines s lan g.0 from pairs j.vif) g.1
@@ -218,7 +218,7 @@ names_router-vifs_and_devices s lan from pairs g i h own placed = by i.vif refl
         (names_router-one lan g.0 (NoVif lan i.router i.interface) (ap (λ (r : ℕ). (lan, Some r)) (sym own))))
     by (Some vif) at = real vif (is_virtual (s.domain.vifs i.router vif)) at refl
 
--- what its tables say names it, or its row takes from the LAN
+-- a line by its tables names the router, or its row takes from the LAN
 abbrev IsNamedBy : Search → (lan : ℕ) → ℕ × List ListedInterface → Row → Type 0
 IsNamedBy s lan g row =
     NamesRouter lan g.0 (row_lines s lan g.0 g.1 row ++ flat_map (λ j. device_lines s lan j j.vif) g.1)

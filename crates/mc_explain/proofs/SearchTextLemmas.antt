@@ -1,4 +1,4 @@
--- A search as it is written, part by part.
+-- The text of a search, part by part.
 use Rattle.std.proofs.Common.{◌≡◌, ℕ, suc, ◌+◌, ◌-◌, ◌<◌, ◌≤◌, List, ◌∷◌, ◌++◌, take, flat_map, Some}
 use Rattle.std.proofs.Common.{Result, Ok, Err, ap, sym, ◌∙◌, append_assoc, arith}
 use Rattle.std.specs.Prelude.{OnOk, slice_get, unwrap_or}
@@ -33,13 +33,13 @@ first_40_lines-full f old line rest count many =
     ap (λ (n : ℕ). old ++ flat_map f (take n rest)) none
     ∙ ap (λ (n : ℕ). old ++ flat_map f (take n (line ∷ rest))) (sym none_now)
 
--- ---- all of it
+-- ---- the whole text
 
 pub on_ok-map : {A B : Type 0} {P Q : Type 0} (r : Result A B) → OnOk r P → (P → Q) → OnOk r Q
 on_ok-map (Ok x) p f = f p
 on_ok-map (Err e) p f = tt
 
--- the parts are those of the flow that the topology has under its number
+-- the parts are those of the flow that the topology lists with this number
 pub search_text-from_parts : (d : DomainValue) (view : FlowOfDomain) (flow : ℕ) (t : TopologyValue)
     (summary : List SummaryValue) (f listed : Flow) (lines seen : List SearchLine)
     (sent_on took_none old reached new : List ℕ)

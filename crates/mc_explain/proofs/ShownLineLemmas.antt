@@ -1,4 +1,4 @@
--- The lines of a search as they are shown, from the front.
+-- The shown lines of a search, from the front.
 use Rattle.std.proofs.Common.{◌≡◌, ℕ, zero, suc, ◌+◌, ◌<◌, ◌≤◌, ◌==◌, Bool, true, false, cond}
 use Rattle.std.proofs.Common.{List, [], ◌∷◌, ◌++◌, length, take, drop, get_or, refl, ap, ap₂, sym}
 use Rattle.std.proofs.Common.{◌∙◌, subst, arith}
@@ -9,57 +9,57 @@ use Rattle.mc_explain.specs.declared.search_line.SearchLine.{SearchLine}
 use Rattle.mc_explain.specs.declared.search_line.SearchLine.TheVariants.{ExpectedFromHere}
 use Rattle.mc_explain.specs.declared.shown_line.ShownLine.{ShownLine}
 use Rattle.mc_explain.specs.declared.shown_line.ShownLine.TheVariants.{One, Expected}
-use Rattle.mc_explain.specs.ExpectingRouters.{expecting, expects_from, leading_expected}
+use Rattle.mc_explain.specs.ExpectingRouters.{expecting_routers, expects_from, leading_expected}
 use Rattle.mc_explain.specs.FirstEight.{FirstEight, IsFirstEightOf}
 use Rattle.mc_explain.specs.ShownLines.{put_expected, put_line, shown_lines}
 use Rattle.mc_explain.proofs.FirstEightLemmas.{is_first_eight_of-push}
 
 -- ---- the routers
 
-expecting-append : (xs ys : List SearchLine) → expecting (xs ++ ys) ≡ expecting xs ++ expecting ys
-expecting-append [] ys = refl
-expecting-append (ExpectedFromHere lan router ∷ xs) ys =
-    ap (λ (rs : List ℕ). router ∷ rs) (expecting-append xs ys)
-expecting-append (_ ∷ xs) ys = expecting-append xs ys
+expecting_routers-append : (xs ys : List SearchLine) → expecting_routers (xs ++ ys) ≡ expecting_routers xs ++ expecting_routers ys
+expecting_routers-append [] ys = refl
+expecting_routers-append (ExpectedFromHere lan router ∷ xs) ys =
+    ap (λ (rs : List ℕ). router ∷ rs) (expecting_routers-append xs ys)
+expecting_routers-append (_ ∷ xs) ys = expecting_routers-append xs ys
 
--- with one line more
-pub expecting-take_more : (lines : List SearchLine) (i : ℕ) (d : SearchLine) → i < length lines
-    → expecting (take (i + 1) lines)
-    ≡ expecting (take i lines) ++ expecting (get_or lines i d ∷ [])
-expecting-take_more lines i d lt =
-    ap expecting (take_more lines i d lt) ∙ expecting-append (take i lines) (get_or lines i d ∷ [])
+-- one line more
+pub expecting_routers-take_more : (lines : List SearchLine) (i : ℕ) (d : SearchLine) → i < length lines
+    → expecting_routers (take (i + 1) lines)
+    ≡ expecting_routers (take i lines) ++ expecting_routers (get_or lines i d ∷ [])
+expecting_routers-take_more lines i d lt =
+    ap expecting_routers (take_more lines i d lt) ∙ expecting_routers-append (take i lines) (get_or lines i d ∷ [])
 
--- one line more that tells of a router,
+-- one line more about a router that expects copies,
 pub is_first_eight_of-expecting_more : (s s' : FirstEight) (lines : List SearchLine) (i : ℕ) (line : SearchLine)
     (lan router : ℕ) → i < length lines → line ≡ get_or lines i line
-    → line ≡ ExpectedFromHere lan router → IsFirstEightOf s (expecting (take i lines))
+    → line ≡ ExpectedFromHere lan router → IsFirstEightOf s (expecting_routers (take i lines))
     → s'.first ≡ take 8 (s.first ++ router ∷ []) → s'.count ≡ s.count + 1
-    → IsFirstEightOf s' (expecting (take (i + 1) lines))
+    → IsFirstEightOf s' (expecting_routers (take (i + 1) lines))
 is_first_eight_of-expecting_more s s' lines i line lan router lt read is start first count =
-    let front = expecting (take i lines) in
-    subst (IsFirstEightOf s') (ap (λ (x : SearchLine). front ++ expecting (x ∷ [])) (sym is ∙ read)
-    ∙ sym (expecting-take_more lines i line lt))
+    let front = expecting_routers (take i lines) in
+    subst (IsFirstEightOf s') (ap (λ (x : SearchLine). front ++ expecting_routers (x ∷ [])) (sym is ∙ read)
+    ∙ sym (expecting_routers-take_more lines i line lt))
     (is_first_eight_of-push s s' front router start first count)
 
-expecting-other_line : (line : SearchLine) → ((lan router : ℕ) → line ≡ ExpectedFromHere lan router → ⊥)
-    → expecting (line ∷ []) ≡ []
-expecting-other_line (ExpectedFromHere lan router) other = absurd (other lan router refl)
-expecting-other_line _ other = refl
+expecting_routers-other_line : (line : SearchLine) → ((lan router : ℕ) → line ≡ ExpectedFromHere lan router → ⊥)
+    → expecting_routers (line ∷ []) ≡ []
+expecting_routers-other_line (ExpectedFromHere lan router) other = absurd (other lan router refl)
+expecting_routers-other_line _ other = refl
 
--- and one that doesn't
+-- and one line more of another kind
 pub is_first_eight_of-expecting_same : (s : FirstEight) (lines : List SearchLine) (i : ℕ) (line : SearchLine)
     → i < length lines → line ≡ get_or lines i line
     → ((lan router : ℕ) → line ≡ ExpectedFromHere lan router → ⊥)
-    → IsFirstEightOf s (expecting (take i lines)) → IsFirstEightOf s (expecting (take (i + 1) lines))
+    → IsFirstEightOf s (expecting_routers (take i lines)) → IsFirstEightOf s (expecting_routers (take (i + 1) lines))
 is_first_eight_of-expecting_same s lines i line lt read other start =
-    let front = expecting (take i lines) in
-    subst (IsFirstEightOf s) (sym (expecting-take_more lines i line lt
-    ∙ ap (λ (x : SearchLine). front ++ expecting (x ∷ [])) (sym read)
-    ∙ ap (λ (rs : List ℕ). front ++ rs) (expecting-other_line line other) ∙ append-nil front)) start
+    let front = expecting_routers (take i lines) in
+    subst (IsFirstEightOf s) (sym (expecting_routers-take_more lines i line lt
+    ∙ ap (λ (x : SearchLine). front ++ expecting_routers (x ∷ [])) (sym read)
+    ∙ ap (λ (rs : List ℕ). front ++ rs) (expecting_routers-other_line line other) ∙ append-nil front)) start
 
 -- ---- the lines
 
--- no more of them stand at the front than there are
+-- there are no more of them at the front than lines
 pub leading_expected-at_most_length : (lan : ℕ) (lines : List SearchLine) → leading_expected lan lines ≤ length lines
 leading_expected-at_most_length lan [] = omega arith
 leading_expected-at_most_length lan (line ∷ lines) = by (expects_from lan line) (leading_expected-at_most_length lan lines)
@@ -69,10 +69,10 @@ leading_expected-at_most_length lan (line ∷ lines) = by (expects_from lan line
     by true h = omega (arith, h)
     by false h = omega arith
 
--- those right behind one that tells of a router are shown with it
+-- the lines right after a line about a router's LAN are joined with it
 put_expected-shown_lines : (lan router : ℕ) (lines : List SearchLine)
     → put_expected lan router (shown_lines lines)
-    ≡ Expected lan (router ∷ expecting (take (leading_expected lan lines) lines))
+    ≡ Expected lan (router ∷ expecting_routers (take (leading_expected lan lines) lines))
     ∷ shown_lines (drop (leading_expected lan lines) lines)
 put_expected-shown_lines lan router [] = refl
 put_expected-shown_lines lan router (ExpectedFromHere own r ∷ lines) =
@@ -80,20 +80,20 @@ put_expected-shown_lines lan router (ExpectedFromHere own r ∷ lines) =
   where
     joined : ℕ → List ShownLine
     joined o =
-        Expected lan (router ∷ r ∷ expecting (take (leading_expected o lines) lines))
+        Expected lan (router ∷ r ∷ expecting_routers (take (leading_expected o lines) lines))
         ∷ shown_lines (drop (leading_expected o lines) lines)
 
     apart : List ShownLine
     apart =
-        Expected lan (router ∷ []) ∷ Expected own (r ∷ expecting (take (leading_expected own lines) lines))
+        Expected lan (router ∷ []) ∷ Expected own (r ∷ expecting_routers (take (leading_expected own lines) lines))
         ∷ shown_lines (drop (leading_expected own lines) lines)
 
     by : (b : Bool) → (own == lan) ≡ b
         → put_expected own r (shown_lines lines)
-        ≡ Expected own (r ∷ expecting (take (leading_expected own lines) lines))
+        ≡ Expected own (r ∷ expecting_routers (take (leading_expected own lines) lines))
         ∷ shown_lines (drop (leading_expected own lines) lines)
         → put_expected lan router (put_expected own r (shown_lines lines))
-        ≡ Expected lan (router ∷ expecting (take (cond b (suc (leading_expected lan lines)) zero)
+        ≡ Expected lan (router ∷ expecting_routers (take (cond b (suc (leading_expected lan lines)) zero)
         (ExpectedFromHere own r ∷ lines)))
         ∷ shown_lines (drop (cond b (suc (leading_expected lan lines)) zero) (ExpectedFromHere own r ∷ lines))
     by true q rest =
@@ -104,11 +104,11 @@ put_expected-shown_lines lan router (ExpectedFromHere own r ∷ lines) =
         ∙ ap (λ (ls : List ShownLine). Expected lan (router ∷ []) ∷ ls) (sym rest)
 put_expected-shown_lines lan router (_ ∷ lines) = refl
 
--- what is shown of lines that are cut behind those of the first one's LAN
+-- the shown lines if the list is split after those about the first one's LAN
 pub shown_lines-split : (lan router : ℕ) (lines front back : List SearchLine) (n : ℕ) (d : SearchLine)
     → (length lines == 0) ≡ false → get_or lines 0 d ≡ ExpectedFromHere lan router
     → n ≡ leading_expected lan lines → front ≡ take n lines → back ≡ drop n lines
-    → shown_lines lines ≡ Expected lan (expecting front) ∷ shown_lines back
+    → shown_lines lines ≡ Expected lan (expecting_routers front) ∷ shown_lines back
 shown_lines-split lan router [] front back n d some is count at_front at_back = absurd cc
 shown_lines-split lan router (line ∷ lines) front back n d some is count at_front at_back =
     ap (λ (x : SearchLine). put_line x (shown_lines lines)) is
@@ -117,13 +117,13 @@ shown_lines-split lan router (line ∷ lines) front back n d some is count at_fr
     (eq-eqb lan lan refl)))
     ∙ ap (λ (x : SearchLine). cut x (leading_expected lan (x ∷ lines))) (sym is)
     ∙ ap (cut line) (sym count)
-    ∙ ap₂ (λ (xs ys : List SearchLine). Expected lan (expecting xs) ∷ shown_lines ys) (sym at_front)
+    ∙ ap₂ (λ (xs ys : List SearchLine). Expected lan (expecting_routers xs) ∷ shown_lines ys) (sym at_front)
     (sym at_back)
   where
     cut : SearchLine → ℕ → List ShownLine
-    cut x m = Expected lan (expecting (take m (x ∷ lines))) ∷ shown_lines (drop m (x ∷ lines))
+    cut x m = Expected lan (expecting_routers (take m (x ∷ lines))) ∷ shown_lines (drop m (x ∷ lines))
 
--- no more are shown than there are
+-- no more lines are shown than there are
 pub length-shown_lines : (lines : List SearchLine) → length (shown_lines lines) ≤ length lines
 length-shown_lines [] = omega arith
 length-shown_lines (line ∷ lines) = put line (shown_lines lines) (length-shown_lines lines)

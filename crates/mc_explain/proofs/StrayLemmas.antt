@@ -1,5 +1,5 @@
--- Where strays come from: an exact row's pair whose vif is placed on no LAN, or a row for every source
--- that a copy of a LAN met.
+-- Where strays come from: an exact row's pair whose vif is placed on no LAN, or a row for every source of
+-- a router that a copy came to.
 use Rattle.std.proofs.Common.{◌≡◌, ℕ, ◌-◌, ◌⊎◌, inl, inr, Bool, true, false, cond, ◌==◌, nat_lt, List}
 use Rattle.std.proofs.Common.{[], ◌∷◌, ◌++◌, map, slice_get, Option, Some, None, refl, ap, sym, subst, ◌∙◌}
 use Rattle.std.proofs.Common.{eqb-true}
@@ -23,11 +23,11 @@ pub record IsVifOnReachedLan (n : Net) (router vif : ℕ) : Type 0 where
   pub placed : n.placed router vif ≡ Some lan
   pub reached : IsReached n lan
 
--- it left by such a pair, or met a row that isn't followed
+-- the copy left by such a pair, or came to a row for every source
 abbrev pub IsStrayAt : Net → Interface → Type 0
 IsStrayAt n i = LeadsOut n i.0 i.1 ⊎ ReachesEverySourceRow n i.0 i.1
 
--- and each copy that waits is one of such a LAN
+-- each stray is explained, and each copy is on a LAN that is reached
 pub record AreStraysExplained (n : Net) (f : Flight) : Type 0 where
   pub strays : (i : Interface) → In i f.strays → IsStrayAt n i
   pub waiting : (w : Waiting) → In w f.waiting → IsVifOnReachedLan n w.router w.vif
@@ -150,7 +150,7 @@ are_strays_explained-run n (Handles i ∷ ps) f all =
     are_strays_explained-run n ps (step n i f) (are_strays_explained-handle n i (slice_get f.waiting i) f refl all)
 are_strays_explained-run n (Loses i ∷ ps) f all = are_strays_explained-run n ps (without_waiting i f) (are_strays_explained-without n i f all)
 
--- of every run, with losses or without
+-- for each run, with losses or without
 pub is_stray_at-run : (n : Net) (t : ℕ) (ps : List Pick) (i : Interface)
     → In i (run n ps (start n t)).strays → IsStrayAt n i
 is_stray_at-run n t ps =
@@ -158,14 +158,14 @@ is_stray_at-run n t ps =
     (record { carried = []; waiting = []; strays = [] }) ([], refl)
     (record { strays = λ i h. absurd h; waiting = λ w h. absurd h }))).strays
 
--- where the row is exact, it left by a pair,
+-- if the row is exact, the copy left by a pair,
 pub leads_out-from_exact_row : (n : Net) (i : Interface) (incoming : ℕ) (pairs : List (ℕ × ℕ)) →
     n.row i.0 ≡ Exact incoming pairs → IsStrayAt n i → LeadsOut n i.0 i.1
 leads_out-from_exact_row n i incoming pairs e (inl out) = out
 leads_out-from_exact_row n i incoming pairs e (inr other) =
     absurd (let both : Exact incoming pairs ≡ Open = sym e ∙ other.row in cc)
 
--- and where it is one for every source, it came in
+-- and if the row is for every source, the copy came in
 pub reaches_every_source_row-from_open_row : (n : Net) (i : Interface) → n.row i.0 ≡ Open → IsStrayAt n i →
     ReachesEverySourceRow n i.0 i.1
 reaches_every_source_row-from_open_row n i e (inl out) =

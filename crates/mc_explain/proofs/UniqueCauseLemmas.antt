@@ -1,4 +1,4 @@
--- What is told is determined by the domain and the flights.
+-- The domain and the flights determine the causes.
 use Rattle.std.proofs.Common.{◌≡◌, ℕ, List, [], ◌∷◌, ◌++◌, map, reverse, Option, Some, ap, ap₂}
 use Rattle.std.proofs.Common.{sym, subst, ◌∙◌}
 use Rattle.mc_theory.specs.Nets.{Net, IsNet, Interface}
@@ -19,7 +19,7 @@ use Rattle.mc_explain.specs.Explained.{ExplainsAtFlowTtl, ExplainsDuplicate, Exp
 use Rattle.mc_explain.specs.Explained.{ExplainsLeastTtl, ExplainsLoop, IsExplained, IsRemedy}
 use Rattle.mc_explain.specs.Explained.{circle_cause, sender_causes}
 
--- a LAN's first copy came by one way
+-- a LAN's first copy came by one path
 path-is_unique : (n : Net) (cs : List Copy) (l : ℕ) (a b : Copy) (hs ks : List Hop) → IsNet n →
     first_copy_on cs l ≡ Some a → first_copy_on cs l ≡ Some b → CameByHops n cs a hs → CameByHops n cs b ks → hs ≡ ks
 path-is_unique n cs l a b hs ks net on on' by by' = came_by_hops-unique n cs b hs ks net
@@ -42,7 +42,7 @@ remedy-is_unique n f lan c r s net x y =
     x.cause_is ∙ (ap₂ (λ (i : Interface) (hs : List Hop). TakeOut lan i.0 i.1 (need hs)) sender path ∙
     sym y.causes_are)
 
--- the same copy's
+-- the remedy for a copy is unique
 remedy-is_unique_on_lan : (n : Net) (f : Flight) (lan : ℕ) (c d : Copy) (r s : Cause) → IsNet n →
     IsRemedy n f lan c r → IsRemedy n f lan d s → r ≡ s
 remedy-is_unique_on_lan n f lan c d r s net x y = remedy-is_unique n f lan d r s net

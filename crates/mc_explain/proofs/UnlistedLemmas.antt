@@ -1,4 +1,4 @@
--- The lowest pairs of all routers, as the notes come.
+-- The lowest pairs of all routers, summary by summary.
 use Rattle.std.proofs.Common.{ℕ, List, [], ◌∷◌, ◌++◌, take, sym, subst, append-nil, append_assoc}
 use Rattle.std.specs.List.Sorted.{IsStrictlySortedBy}
 use Rattle.mc_tables.specs.CacheTable.{key_cmp}
@@ -8,7 +8,7 @@ use Rattle.mc_tables.proofs.LowestLemmas.{take_put_pair-ascends, take_in_order-p
 abbrev pub lowest : List (ℕ × ℕ) → List (ℕ × ℕ)
 lowest ps = take 20 (in_order ps)
 
--- ---- they ascend
+-- ---- ascending order
 
 is_strictly_sorted_by-nil : IsStrictlySortedBy key_cmp []
 unfolding IsStrictlySortedBy

@@ -1,4 +1,4 @@
--- The lines that tell of unlisted rows, how they begin and that they have no line feed.
+-- The lines of unlisted rows: how they begin, and that their only line feed is at the end.
 use Rattle.std.proofs.Common.{◌≡◌, ◌==◌, ℕ, Bool, true, false, cond, List, [], ◌∷◌, ◌++◌, length, map}
 use Rattle.std.proofs.Common.{flat_map, codes, decimal, inl, inr, refl, ap, ap₂, sym, subst, ◌∙◌}
 use Rattle.std.proofs.Common.{append_assoc}
@@ -17,7 +17,7 @@ use Rattle.mc_explain.proofs.IndentedLemmas.{IsLineRest, has_no_line_feed-from_n
 use Rattle.mc_explain.proofs.IndentedLemmas.{is_line_rest-append, is_line_rest-append_front, are_indented-none}
 use Rattle.mc_explain.proofs.SearchLineLemmas.{no_feed-routers_text}
 
--- ---- lines one after the other, which all begin in some way
+-- ---- sequences of lines with a common beginning
 
 pub are_lines-none : (Begins : List ℕ → Type 0) → AreLines Begins []
 are_lines-none Begins = record {
@@ -69,7 +69,7 @@ are_unlisted_lines-from_indented text i = record {
   spelled = i.spelled ∙ flat_map-indented i.lines;
 }
 
--- ---- a line that tells of a pair, and lines behind it
+-- ---- the line of a pair, and lines after it
 
 are_unlisted_lines-pair_line : (rest : List ℕ) → IsLineRest rest → AreUnlistedLines (codes "unlisted " ++ rest)
 are_unlisted_lines-pair_line rest g =

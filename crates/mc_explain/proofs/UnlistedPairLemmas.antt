@@ -28,19 +28,19 @@ use Rattle.mc_explain.proofs.MergeLemmas.{is_strictly_sorted_by-in_order}
 use Rattle.mc_explain.proofs.LowestPairLemmas.{key_cmp-from_are_above, is_listed-from_in, in-from_is_listed, key_cmp-not_less_itself, equal_bools-from_both}
 use Rattle.mc_explain.proofs.UnlistedLemmas.{is_strictly_sorted_by-lowest}
 
--- what is shown ascends
+-- the shown pairs ascend
 pub is_strictly_sorted_by-shown_pairs : (all : Bool) (ps : List (ℕ × ℕ))
     → IsStrictlySortedBy key_cmp (shown_pairs all (in_order ps))
 is_strictly_sorted_by-shown_pairs true ps = is_strictly_sorted_by-in_order ps
 is_strictly_sorted_by-shown_pairs false ps = is_strictly_sorted_by-lowest ps
 
--- ---- a router behind others
+-- ---- a router after others
 
 slice_get-push : (xs : List ℕ) (x : ℕ) → slice_get (xs ++ x ∷ []) (length xs) ≡ Some x
 slice_get-push [] x = refl
 slice_get-push (y ∷ xs) x = slice_get-push xs x
 
--- one that is their last stays so,
+-- the last router isn't added again
 push_unless_last-same : (xs : List ℕ) (r : ℕ) → push_unless_last r (xs ++ r ∷ []) ≡ xs ++ r ∷ []
 push_unless_last-same xs r =
     let place : length (xs ++ r ∷ []) - 1 ≡ length xs = omega (arith, length-append xs (r ∷ [])) in
@@ -49,7 +49,7 @@ push_unless_last-same xs r =
     ap (λ (o : Option ℕ). cond (is_last r o) (xs ++ r ∷ []) ((xs ++ r ∷ []) ++ r ∷ [])) last
     ∙ ap (λ (b : Bool). cond b (xs ++ r ∷ []) ((xs ++ r ∷ []) ++ r ∷ [])) (eq-eqb r r refl)
 
--- and one that is above them is put behind them
+-- a router above all others isn't the last one yet
 is_last-above : (xs : List ℕ) (r k : ℕ) → ((x : ℕ) → In x xs → x < r) → is_last r (slice_get xs k) ≡ false
 is_last-above [] r k less = refl
 is_last-above (x ∷ xs) r zero less = ne_eqb x r (λ e. absurd (omega (arith, less x (inl refl), e)))
@@ -71,7 +71,7 @@ routers_below-less summary r pair x h =
 
 -- ---- a router's pairs, one by one
 
--- a pair with the routers below one, and with that one where the pair is among its first ones
+-- a pair with the routers below this one, and with this one if the pair is among its first ones
 abbrev pub with_routers_so_far : List SummaryValue → (router : ℕ) → List (ℕ × ℕ) → ℕ × ℕ → (ℕ × ℕ) × List ℕ
 with_routers_so_far summary router own pair =
     (pair, routers_below summary router pair ++ cond (is_listed (Some own) pair) (router ∷ []) [])
@@ -82,7 +82,7 @@ map-equal_on_list f g [] same = refl
 map-equal_on_list {A} f g (p ∷ ps) same =
     ap₂ (λ (x : A) (xs : List A). x ∷ xs) (same p (inl refl)) (map-equal_on_list f g ps (λ q h. same q (inr h)))
 
--- with none of its pairs
+-- with none of the router's pairs
 pub with_routers_so_far-none : (summary : List SummaryValue) (router : ℕ) (ps : List (ℕ × ℕ))
     → map (with_routers_below summary router) ps ≡ map (with_routers_so_far summary router []) ps
 with_routers_so_far-none summary router ps =
@@ -97,7 +97,7 @@ routers_below-more summary router pair =
     let has : ℕ → Bool = λ r. has_pair pair (slice_get summary r) in
     ap (filter has) (below-more router) ∙ filter-append has (below router) (router ∷ [])
 
--- with all of its pairs
+-- with all of the router's pairs
 pub with_routers_so_far-all : (summary : List SummaryValue) (router : ℕ) (ps : List (ℕ × ℕ))
     → map (with_routers_so_far summary router (pairs_in (slice_get summary router))) ps
     ≡ map (with_routers_below summary (router + 1)) ps
@@ -132,7 +132,7 @@ in-get_or [] k d lt = absurd (omega (arith, lt))
 in-get_or (x ∷ xs) zero d lt = inl refl
 in-get_or (x ∷ xs) (suc k) d lt = inr (in-get_or xs k d (omega (arith, lt)))
 
--- what stands at the place of one of ascending pairs is changed
+-- one element is changed, at the place of one of ascending pairs
 set-map_sorted : {A : Type 0} (f g : ℕ × ℕ → A) (ps : List (ℕ × ℕ)) (i : ℕ) (q : ℕ × ℕ)
     → IsStrictlySortedBy key_cmp ps → i < length ps → get_or ps i q ≡ q
     → ((p : ℕ × ℕ) → p ≢ q → f p ≡ g p) → set (map f ps) i (g q) ≡ map g ps
@@ -148,7 +148,7 @@ set-map_sorted {A} f g (p ∷ ps) (suc i) q up lt at other =
     (other p (λ e. key_cmp-not_less_itself p q e (key_cmp-from_are_above p q ps up.0 behind)))
     (set-map_sorted f g ps i q up.1 lower at other)
 
--- what is read at its place
+-- the element at the pair's place
 pub get_or-map : {A : Type 0} (f : ℕ × ℕ → A) (ps : List (ℕ × ℕ)) (i : ℕ) (q : ℕ × ℕ) (old : A)
     → i < length ps → get_or ps i q ≡ q → old ≡ get_or (map f ps) i old → old ≡ f q
 get_or-map f [] i q old lt at read = absurd (omega (arith, lt))
@@ -182,7 +182,7 @@ index-from_in q (p ∷ ps) (inr h) =
     let later = index-from_in q ps h in
     (suc later.0, (omega (arith, later.1.0), later.1.1))
 
--- one for which a search found a place to put it
+-- a pair for which the binary search finds only a place between others
 pub with_routers_so_far-absent : (summary : List SummaryValue) (router : ℕ) (own ps seen : List (ℕ × ℕ)) (i : ℕ) (q : ℕ × ℕ)
     → seen ≡ ps → IsStrictlySortedBy key_cmp ps → i ≤ length seen
     → (IsNonDecreasingBy (λ p. ordering_index (key_cmp p q)) seen

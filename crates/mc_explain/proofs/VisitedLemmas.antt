@@ -1,4 +1,4 @@
--- The LANs that a search meets: LANs of the domain, and no more once all could have been looked at.
+-- The LANs that a search visits: LANs of the domain, and no more after as many steps as there are LANs.
 use Rattle.std.proofs.Common.{◌≡◌, ℕ, zero, suc, ◌+◌, ◌-◌, ◌<◌, ◌≤◌, ◌==◌, inl, inr, Bool, true, false, cond}
 use Rattle.std.proofs.Common.{List, [], ◌∷◌, ◌++◌, length, Option, Some, None, refl, ap, subst, ◌∙◌, arith}
 use Rattle.std.specs.Prelude.{slice_get, IfSome}
@@ -89,7 +89,7 @@ visited-after_all_lans s missed (suc more) ok lt =
     ∙ ap (visited_after s (visited_lans s missed k)) (slice_get_past (visited_lans s missed k) k (omega (arith, few)))
     ∙ visited-after_all_lans s missed more ok lt
 
--- no more are met
+-- no more LANs are visited
 pub visited-at_end : (s : Search) (missed k : ℕ) → PlacesInside s
     → missed < length s.domain.topology.lans → length s.domain.topology.lans ≤ k
     → visited_lans s missed k ≡ lans_of_search s missed
@@ -109,7 +109,7 @@ in-append_new_front lans (lan ∷ more) m h =
     by true old new = old
     by false old new = new
 
--- the LAN itself is looked at
+-- the missed LAN itself is visited
 pub in-visited_missed : (s : Search) (missed k : ℕ) → In missed (visited_lans s missed k)
 in-visited_missed s missed zero = inl refl
 in-visited_missed s missed (suc k) = by (slice_get (visited_lans s missed k) k) (in-visited_missed s missed k)

@@ -1,30 +1,37 @@
--- How lists, runs and marks are told of by numbers.
+-- Lists, leading runs and marks that are indexed by numbers.
 use Rattle.std.specs.Prelude.{◌≡◌, ◌==◌, ℕ, ◌<◌, List, [], length, map, filter, slice_index_or}
 use Rattle.std.specs.Prelude.{zero, suc, if◌then◌else◌, ◌∷◌, Bool, false}
+use Rattle.mc_forward.specs.ListedTables.{DomainFacts}
 use Rattle.mc_explain.specs.declared.listed_interface.ListedInterface.{ListedInterface}
+use Rattle.mc_explain.specs.TopologyLans.{interface_at, listed_interface_at}
 use Rattle.std.specs.List.{list_any}
 
 -- ---- items in lists by a number
 
--- each list has what comes of the keys with its number
+-- each list has f of the keys with its number, in order
 abbrev pub AreBuckets : {A : Type 0} → (ℕ → A) → (ℕ → ℕ) → List (List A) → List ℕ → Type 0
 AreBuckets f number lists ks =
     (b : ℕ) → b < length lists → slice_index_or lists b []
     ≡ map f (filter (λ k. number k == b) ks)
 
--- ---- interfaces of one router that stand side by side
+-- each list has the interfaces on one LAN, among these interfaces by number
+abbrev pub AreInterfacesByLan : DomainFacts → List (List ListedInterface) → (numbers : List ℕ) → Type 0
+AreInterfacesByLan d lists numbers =
+    AreBuckets (listed_interface_at d) (λ k. (interface_at d.topology k).lan) lists numbers
 
--- how many from the front are the router's
+-- ---- adjacent interfaces of one router
+
+-- how many interfaces at the front are the router's
 abbrev pub leading_of_router : ℕ → List ListedInterface → ℕ
 leading_of_router router [] = zero
 leading_of_router router (i ∷ is) = if i.router == router then suc (leading_of_router router is) else zero
 
 -- ---- marks by numbers
 
--- each mark is what the test says of its number
+-- each mark is the result of the test for its number
 abbrev pub AreMarksOf : (ℕ → Bool) → List Bool → Type 0
 AreMarksOf p marks = (n : ℕ) → n < length marks → slice_index_or marks n false ≡ p n
 
--- a mark for each of the numbers that are listed
+-- exactly the listed numbers are marked
 abbrev pub AreMarksOfListed : List ℕ → List Bool → Type 0
 AreMarksOfListed numbers marks = AreMarksOf (λ n. list_any (λ m. m == n) numbers) marks

@@ -1,4 +1,4 @@
--- How a router's row for every source is written, by what is noted of its cache.
+-- The text of a router's row for every source, from the summary of its cache.
 use Rattle.std.specs.Prelude.{ℕ, List, [], Option, Some, None, slice_get, option_and_then}
 use Rattle.mc_tables.specs.CacheTable.{EntryValue}
 use Rattle.mc_tables.specs.Summary.{SummaryValue, every_source_row}
@@ -6,14 +6,14 @@ use Rattle.mc_forward.specs.Domains.{oif_pairs}
 use Rattle.mc_forward.specs.ListedTables.{DomainFacts}
 use Rattle.mc_explain.specs.RowText.{entry_text}
 
--- A router's row for every source, with the group that it has: this one, or else 0.0.0.0. The notes
--- have the first router's first.
+-- A router's row for every source, with the row's group: this group, or else 0.0.0.0. The summaries are
+-- in the topology's order of routers.
 abbrev pub every_source_of : List SummaryValue → (group router : ℕ) → Option (ℕ × EntryValue)
 every_source_of summary group router =
     option_and_then (λ n. every_source_row n group) (slice_get summary router)
 
--- as `row (*,239.1.2.3) from eth0 to eth1 eth2:5 in cache-r1`, or `row (*,*) ..`; nothing where the
--- notes have none
+-- such as `row (*,239.1.2.3) from eth0 to eth1 eth2:5 in cache-r1`, or `row (*,*) ..`; nothing if the
+-- summary has none
 abbrev pub every_source_row_text : DomainFacts → (router : ℕ) → Option (ℕ × EntryValue) → List ℕ
 every_source_row_text d router None = []
 every_source_row_text d router (Some row) =

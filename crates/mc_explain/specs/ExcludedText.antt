@@ -1,4 +1,4 @@
--- How it is told which routers are left out.
+-- The text about the excluded routers.
 use Rattle.std.specs.Prelude.{◌≡◌, ℕ, Bool, List, [], ◌∷◌, ◌++◌, length, codes, filter, flat_map}
 use Rattle.mc_topology.specs.Topology.{TopologyValue, router_name}
 use Rattle.mc_theory.specs.Lists.{below}
@@ -6,7 +6,7 @@ use Rattle.mc_explain.specs.RouterText.{routers_text}
 use Rattle.mc_explain.specs.SearchLine.{is_excluded}
 use Rattle.mc_explain.specs.UnlistedLines.{AreLines}
 
--- the routers that are marked, in order
+-- the routers that are marked as excluded, in order
 abbrev pub excluded_routers : TopologyValue → List Bool → List ℕ
 excluded_routers t marks = filter (is_excluded marks) (below (length t.routers))
 
@@ -18,16 +18,16 @@ without_line t router = codes "without " ++ (router_name t router ++ codes "\n")
 abbrev pub without_text : TopologyValue → List Bool → List ℕ
 without_text t marks = flat_map (without_line t) (excluded_routers t marks)
 
--- each of these lines begins so
+-- the line begins with `without `
 abbrev pub IsWithoutLine : List ℕ → Type 0
 IsWithoutLine line = (rest : List ℕ) × (line ≡ codes "without " ++ rest)
 
 abbrev pub AreWithoutLines : List ℕ → Type 0
 AreWithoutLines = AreLines IsWithoutLine
 
--- ---- one line of all
+-- ---- one line for all
 
--- nothing where there are none
+-- why the verdict is no; nothing if no router is excluded
 abbrev pub verdict_reason : TopologyValue → (routers : List ℕ) → List ℕ
 verdict_reason t [] = []
 verdict_reason t (r ∷ rs) =

@@ -1,5 +1,4 @@
--- What is told of a fault: that it is so by the rows of the flow's routers, in the flight that shows
--- it.
+-- Which causes explain a fault, by the rows of the flow's routers and the flight that shows it.
 use Rattle.std.specs.Prelude.{◌≡◌, ℕ, List, [], ◌∷◌, ◌++◌, map, reverse, Some, None, Option}
 use Rattle.mc_theory.specs.Nets.{Net, Row, Interface}
 use Rattle.mc_theory.specs.Nets.Row.{Exact, Open, NoRow}
@@ -15,15 +14,15 @@ use Rattle.mc_explain.specs.declared.causes.Cause.{Cause}
 use Rattle.mc_explain.specs.declared.causes.Cause.TheVariants.{SentOnto, Circle, TakeOut, Unplaced}
 use Rattle.mc_explain.specs.declared.causes.Cause.TheVariants.{LeastTtl, OnlyEverySource, StoppedAt}
 
--- ---- two copies of a LAN
+-- ---- two copies on a LAN
 
--- who sent a copy onto the LAN; nothing is told of the source's own
+-- the sender of a copy onto the LAN; nothing for the source
 abbrev pub sender_causes : (lan : ℕ) → Option Interface → List Cause
 sender_causes lan None = []
 sender_causes lan (Some i) = SentOnto lan i.0 i.1 ∷ []
 
--- The LAN's second copy, the flight's first double one, was sent by an interface that can be spared:
--- the LAN's first copy came by a way of this need.
+-- The LAN's second copy, the flight's first duplicate, was sent by an interface that can be taken out: the
+-- LAN's first copy came by a path with this need.
 pub record IsRemedy (n : Net) (f : Flight) (lan : ℕ) (second : Copy) (cause : Cause) : Type 0 where
   pub sender : Interface
   pub path : List Hop
@@ -31,7 +30,7 @@ pub record IsRemedy (n : Net) (f : Flight) (lan : ℕ) (second : Copy) (cause : 
   pub spare : IsSpareInterface n f second sender path
   pub cause_is : cause ≡ TakeOut lan sender.0 sender.1 (need path)
 
--- Who sent the first copy and who the second, and what can be taken out.
+-- The senders of the first copy and of the second, and the remedy.
 pub record ExplainsDuplicate (n : Net) (f : Flight) (lan : ℕ) (causes : List Cause) : Type 0 where
   pub first : Copy
   pub second : Copy
@@ -43,8 +42,7 @@ pub record ExplainsDuplicate (n : Net) (f : Flight) (lan : ℕ) (causes : List C
 abbrev pub circle_cause : Hop → Cause
 circle_cause h = Circle h.from h.onto h.router h.vif
 
--- The way by which the second copy came from the first, told from there on, and what can be taken
--- out.
+-- The path by which the second copy came from the first, from its beginning, and the remedy.
 pub record ExplainsLoop (n : Net) (f : Flight) (lan : ℕ) (causes : List Cause) : Type 0 where
   pub second : Copy
   pub circle : List Hop
@@ -53,18 +51,18 @@ pub record ExplainsLoop (n : Net) (f : Flight) (lan : ℕ) (causes : List Cause)
   pub take_out : IsRemedy n f lan second remedy
   pub causes_are : causes ≡ reverse (map circle_cause circle) ++ remedy ∷ []
 
--- ---- a way out of the known domain
+-- ---- a stray copy
 
--- The router's row sent a copy by the vif, or one came in by it and met a row for every source alone.
+-- The router's row sent a copy by the vif, or a copy came in by it and found only a row for every source.
 abbrev pub stray_causes : Row → (router vif : ℕ) → List Cause
 stray_causes (Exact incoming pairs) router vif = Unplaced router vif ∷ []
 stray_causes Open router vif = OnlyEverySource router vif ∷ []
 stray_causes NoRow router vif = []
 
--- ---- a LAN that is missed at the flow's TTL alone
+-- ---- a LAN that is missed only with the flow's TTL
 
--- In the flight of a packet with TTL 255 the LAN's copy came by a way. Its need is the least TTL,
--- and a packet with the flow's is stopped at one of its hops.
+-- In the flight of a packet with TTL 255 the LAN's copy came by a path. Its need is the least TTL, and a
+-- packet with the flow's TTL is stopped at one of its hops.
 pub record ExplainsLeastTtl (n : Net) (f : Flight) (lan : ℕ) (causes : List Cause) : Type 0 where
   pub copy : Copy
   pub path : List Hop
@@ -78,7 +76,7 @@ pub record ExplainsLeastTtl (n : Net) (f : Flight) (lan : ℕ) (causes : List Ca
 
 -- ---- all findings
 
--- what is told of the finding that this flight shows
+-- the causes of the finding that this flight shows
 abbrev pub ExplainsFinding : Net → Flight → Finding → List Cause → Type 0
 ExplainsFinding n f Clean causes = causes ≡ []
 ExplainsFinding n f (Duplicate lan) causes = ExplainsDuplicate n f lan causes
@@ -86,13 +84,13 @@ ExplainsFinding n f (Loop lan) causes = ExplainsLoop n f lan causes
 ExplainsFinding n f (Stray router vif) causes = causes ≡ stray_causes (n.row router) router vif
 ExplainsFinding n f (Missed lan) causes = causes ≡ []
 
--- the same, where a packet with TTL 255 flew as `greatest`, and met nothing: then no other one of
--- the flow meets anything but that LANs are missed
+-- the same if the flight `greatest` of a packet with TTL 255 shows no fault: then with the flow's TTL the
+-- only fault can be a missed LAN
 abbrev pub ExplainsAtFlowTtl : Net → (greatest least : Flight) → Finding → List Cause → Type 0
 ExplainsAtFlowTtl n greatest least (Missed lan) causes = ExplainsLeastTtl n greatest lan causes
 ExplainsAtFlowTtl n greatest least finding causes = ExplainsFinding n least finding causes
 
--- what is told of a flow that was examined; nothing of one that is right
+-- the causes of an examined flow's fault; none if the flow is right
 abbrev pub IsExplained : DomainValue → (flow : ℕ) → ExaminedFlights → List Cause → Type 0
 IsExplained d flow (Certified entries) causes = causes ≡ []
 IsExplained d flow (FoundAtTtl255 ended) causes =

@@ -1,11 +1,12 @@
--- How what is told of a fault is written, by the names of the topology and of the vif tables.
-use Rattle.std.specs.Prelude.{ℕ, nat_le, List, ◌++◌, Option}
+-- The text of a fault's causes, with the names of the topology and of the vif tables.
+use Rattle.std.specs.Prelude.{◌≡◌, ℕ, nat_le, List, ◌++◌, Option, slice_get}
 use Rattle.std.specs.Prelude.{Some, None, if◌then◌else◌, codes, decimal, flat_map}
 use Rattle.std.specs.Str.{bytes_eq}
 use Rattle.mc_tables.specs.VifTable.{VifValue, no_device}
 use Rattle.mc_tables.specs.Summary.{SummaryValue}
 use Rattle.mc_topology.specs.declared.flow.Flow.{Flow}
 use Rattle.mc_topology.specs.Topology.{lan_name, router_name}
+use Rattle.mc_forward.specs.Domains.{DomainValue}
 use Rattle.mc_forward.specs.ListedTables.{DomainFacts}
 use Rattle.mc_explain.specs.declared.causes.Cause.{Cause}
 use Rattle.mc_explain.specs.declared.causes.Cause.TheVariants.{SentOnto, Circle, TakeOut, Unplaced}
@@ -13,9 +14,13 @@ use Rattle.mc_explain.specs.declared.causes.Cause.TheVariants.{LeastTtl, OnlyEve
 use Rattle.mc_explain.specs.EverySourceText.{every_source_text}
 use Rattle.mc_explain.specs.RowText.{device_text, incoming_text, row_text}
 
+-- this holds of the domain's flow with this number, which counts from 0
+abbrev pub ForListedFlow : DomainValue → (flow : ℕ) → (Flow → Type 0) → Type 0
+ForListedFlow d flow Holds = (listed : Flow) → slice_get d.topology.flows flow ≡ Some listed → Holds listed
+
 -- ---- why a vif is placed on no LAN
 
--- why a vif of the table is placed on no LAN, the first of these that holds
+-- why a vif of the table is placed on no LAN: the first of these that holds
 abbrev pub unplaced_reason_text : VifValue → List ℕ
 unplaced_reason_text v =
     if v.register
@@ -32,21 +37,21 @@ unplaced_text d router (Some v) = unplaced_reason_text v
 
 -- ---- lines
 
--- what taking out costs a flow that is listed with less than the least TTL,
+-- what a remedy costs a flow whose TTL is below the least one
 abbrev pub low_ttl_cost_text : (lan : List ℕ) (least ttl : ℕ) → List ℕ
 low_ttl_cost_text lan least ttl =
     codes "packets sent with less than ttl " ++ (decimal least
     ++ (codes " may then not reach " ++ (lan
     ++ (codes " and LANs behind it, and this flow is listed with ttl " ++ decimal ttl))))
 
--- and any other one: nothing
+-- what a remedy costs a flow: nothing if its TTL is at least the least one
 abbrev pub cost_text : DomainFacts → Flow → (lan least : ℕ) → List ℕ
 cost_text d f lan least =
     if nat_le least f.ttl
     then codes "each LAN that this flow's packets reach is reached without it"
     else low_ttl_cost_text (lan_name d.topology lan) least f.ttl
 
--- where a packet was stopped
+-- the vif whose threshold stopped a packet
 abbrev pub stopped_text : DomainFacts → (router vif threshold ttl : ℕ) → List ℕ
 stopped_text d router vif threshold ttl =
     codes "  stopped at " ++ (router_name d.topology router
@@ -54,7 +59,7 @@ stopped_text d router vif threshold ttl =
     ++ (codes ": the copy has ttl " ++ (decimal ttl
     ++ (codes ", and is sent only above threshold " ++ (decimal threshold ++ codes "\n")))))))
 
--- where a copy met a row for every source, by what is noted of the routers' caches
+-- the vif at which a copy found only a row for every source, from the summaries of the routers' caches
 abbrev pub only_every_source_text : DomainFacts → List SummaryValue → Flow → (router vif : ℕ) → List ℕ
 only_every_source_text d summary f router vif =
     codes "  a copy comes in at " ++ (device_text d router vif
@@ -63,7 +68,7 @@ only_every_source_text d summary f router vif =
     ++ (every_source_text d summary f.group router
     ++ codes "\n  this may be healthy: mcaudit judges source trees alone\n")))))
 
--- the lines of one thing that is told of a flow, with its number
+-- the lines of one cause, of the flow with this number
 abbrev pub cause_text : DomainFacts → List SummaryValue → (number : ℕ) → Flow → Cause → List ℕ
 cause_text d summary number f (SentOnto lan router vif) =
     codes "  sent onto " ++ (lan_name d.topology lan
@@ -94,6 +99,6 @@ cause_text d summary number f (OnlyEverySource router vif) =
     only_every_source_text d summary f router vif
 cause_text d summary number f (StoppedAt router vif threshold ttl) = stopped_text d router vif threshold ttl
 
--- the lines of all that is told of a flow, in order
+-- the lines of all causes, in order
 abbrev pub causes_text : DomainFacts → List SummaryValue → (number : ℕ) → Flow → List Cause → List ℕ
 causes_text d summary number f causes = flat_map (cause_text d summary number f) causes

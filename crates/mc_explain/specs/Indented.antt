@@ -1,19 +1,18 @@
--- Lines that explain a line above them: each begins with two spaces, and so none of them is a line
--- that says how a flow was judged.
+-- Lines that explain a line above them: each begins with two spaces, so none is the line of a flow.
 use Rattle.std.specs.Prelude.{◌≡◌, ◌==◌, ℕ, not, IsTrue, List, ◌++◌, codes, flat_map}
 use Rattle.std.specs.List.{list_all}
 use Rattle.mc_theory.specs.Lists.{In}
 
--- no line feed stands in the text
+-- the text has no line feed
 abbrev pub HasNoLineFeed : List ℕ → Type 0
 HasNoLineFeed text = IsTrue (list_all (λ b. not (b == 10)) text)
 
--- a line as it is written
+-- a line with two spaces before it and a line feed after it
 abbrev pub indented : List ℕ → List ℕ
 indented line = codes "  " ++ (line ++ codes "\n")
 
--- The text is lines, one after the other, each of which begins with two spaces, ends with a line feed
--- and has none before that.
+-- The text is a sequence of lines, each of which begins with two spaces, ends with a line feed and has
+-- none before that.
 pub record AreIndented (text : List ℕ) : Type 0 where
   pub lines : List (List ℕ)
   pub feedless : (line : List ℕ) → In line lines → HasNoLineFeed line

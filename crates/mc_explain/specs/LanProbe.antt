@@ -1,4 +1,4 @@
--- What the search is done with, and what that stands for.
+-- What a search reads, and its value.
 use Rattle.std.specs.Prelude.{◌≡◌, Some, slice_get, ℕ, length}
 use Rattle.mc_forward.specs.ListedTables.{facts}
 use Rattle.mc_forward.specs.PerLan.{item_on_lan, HoldsFirstOfEachKey}
@@ -20,9 +20,9 @@ pub record IsLanProbe (l : LanProbe) : Type 0 where
   pub flow : slice_get l.view.now.domain.topology.flows l.view.now.flow ≡ Some l.flow.now
   pub interfaces : l.interfaces.now ≡ interfaces_on_lans (facts l.view.now.domain)
 
--- ---- the LANs that a search met, as they are kept
+-- ---- the LANs that a search has visited
 
--- each of so many LANs is marked exactly if it was met
+-- exactly the visited ones of these many LANs are marked
 pub record IsVisitedLans (lans : ℕ) (m : VisitedLans) : Type 0 where
   pub count : length m.marks ≡ lans
   pub marked : HoldsFirstOfEachKey (λ lan. lan) m.marks m.lans.items

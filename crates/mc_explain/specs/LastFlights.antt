@@ -1,4 +1,4 @@
--- What is known of the flights that travels end with, where their copies are followed back.
+-- The flights that travels end with, and the paths of their copies.
 use Rattle.std.specs.Prelude.{◌≡◌, ℕ, ◌≤◌, false, List, [], length, Some}
 use Rattle.mc_theory.specs.Nets.{Net, Interface}
 use Rattle.mc_theory.specs.Flights.{Copy, run, start}
@@ -8,8 +8,8 @@ use Rattle.mc_theory.specs.Paths.{Hop, CameByHops, CameFromLan, PassesHops, need
 use Rattle.mc_theory.specs.Hops.{hops_back, hops_until}
 use Rattle.mc_forward.specs.FlightsInDomain.{FlowOfDomain, FlightInDomain, net_in}
 
--- The flight is the last of a travel of the flow's packet with this TTL, in which the first waiting
--- copy is handled each time, and shows x.
+-- The flight is the last one of a travel of the flow's packet with this TTL, and the travel's finding is
+-- x. The travel always handles the first waiting copy.
 pub record EndsTravel (f : FlowOfDomain) (ttl : ℕ) (x : Finding) (j : FlightInDomain) : Type 0 where
   pub domain : j.domain ≡ f.domain
   pub low : 1 ≤ ttl
@@ -20,18 +20,17 @@ pub record EndsTravel (f : FlowOfDomain) (ttl : ℕ) (x : Finding) (j : FlightIn
       (start (net_in f) ttl) x
   pub ends : j.flight ≡ run (net_in f) (handles picks) (start (net_in f) ttl)
 
--- the hops by which a copy came, as they are found
+-- the hops by which a copy came, followed back from its LAN
 abbrev pub path_of : Net → List Copy → Copy → List Hop
 path_of n cs c = hops_back n cs (length cs) c.lan c.sender
 
--- The LAN's first copy came by the hops that are found, and packets with some TTL get through.
+-- The LAN's first copy came by these hops, and packets with some TTL get through them.
 pub record HasPath (n : Net) (cs : List Copy) (lan : ℕ) (first : Copy) : Type 0 where
   pub on : first_copy_on cs lan ≡ Some first
   pub came_by_hops : CameByHops n cs first (path_of n cs first)
   pub small : need (path_of n cs first) ≤ 255
 
--- The copy is the flight's first double one, an interface sent it, and its LAN's first copy has a
--- way.
+-- The copy is the flight's first duplicate, an interface sent it, and its LAN's first copy has a path.
 pub record IsSecondCopy (n : Net) (cs : List Copy) (second : Copy) : Type 0 where
   pub is_double : IsFirstDouble cs second
   pub found : first_double [] cs ≡ Some second
@@ -40,20 +39,20 @@ pub record IsSecondCopy (n : Net) (cs : List Copy) (second : Copy) : Type 0 wher
   pub first : Copy
   pub path : HasPath n cs second.lan first
 
--- It is on this LAN.
+-- The flight's first duplicate is on this LAN.
 pub record HasSecondCopy (n : Net) (cs : List Copy) (lan : ℕ) : Type 0 where
   pub second : Copy
   pub is : IsSecondCopy n cs second
   pub on : second.lan ≡ lan
 
--- It came from this LAN itself, by the hops that are found.
+-- The flight's first duplicate came from this LAN itself, by the hops that are followed back.
 pub record HasLoop (n : Net) (cs : List Copy) (lan : ℕ) : Type 0 where
   pub has : HasSecondCopy n cs lan
   pub came_by_hops :
       CameFromLan n cs lan has.second
       (hops_until n cs lan (length cs) has.second.lan has.second.sender)
 
--- The LAN's first copy has a way, by which packets with TTL t don't get through.
+-- The LAN's first copy has a path, and packets with TTL t don't get through it.
 pub record IsOutOfReach (n : Net) (cs : List Copy) (t lan : ℕ) : Type 0 where
   pub first : Copy
   pub path : HasPath n cs lan first

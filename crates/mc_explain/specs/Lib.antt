@@ -21,6 +21,7 @@ pub mod UnlistedText
 pub mod UnlistedLines
 pub mod UnlistedPairs
 pub mod ExcludedText
+pub mod SearchContext
 pub use Rattle.mc_tables.specs.Summary
 pub use Rattle.mc_theory.specs.Nets
 pub use Rattle.mc_theory.specs.Flights

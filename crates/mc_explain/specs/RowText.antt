@@ -1,5 +1,4 @@
--- How a router's devices and its rows are written, by the names of the topology and of the vif
--- tables.
+-- The text of a router's devices and rows, with the names of the topology and of the vif tables.
 use Rattle.std.specs.Prelude.{ℕ, ◌+◌, ◌/◌, ◌%◌, ◌==◌, ◌&&◌, not, nat_le, Bool, List, [], ◌∷◌, ◌++◌, Option}
 use Rattle.std.specs.Prelude.{Some, None, if◌then◌else◌, codes, decimal, flat_map}
 use Rattle.std.specs.Str.{bytes_eq}
@@ -13,11 +12,11 @@ use Rattle.mc_forward.specs.ListedTables.{DomainFacts}
 
 -- ---- devices
 
--- a digit of two small hexadecimal ones
+-- a lowercase hexadecimal digit
 abbrev pub hex_digit_of : ℕ → ℕ
 hex_digit_of d = if nat_le d 9 then 48 + d else 87 + d
 
--- a byte that is written as it is: from 0x21 to 0x7e, but for the backslash
+-- a byte that is written unescaped: 0x21 to 0x7e, except the backslash
 abbrev pub is_plain : ℕ → Bool
 is_plain b = (nat_le 0x21 b && nat_le b 0x7e) && not (b == 0x5c)
 
@@ -31,7 +30,7 @@ byte_text b =
 abbrev pub device_name_text : List ℕ → List ℕ
 device_name_text name = flat_map byte_text name
 
--- a vif by its number, where its table has no line for it or no device
+-- a vif by its number, if its table has no line for it or no device
 abbrev pub vif_number_text : ℕ → List ℕ
 vif_number_text vif = codes "vif/" ++ decimal vif
 
@@ -40,32 +39,32 @@ device_text_of vif None = vif_number_text vif
 device_text_of vif (Some v) =
     if bytes_eq v.device no_device then vif_number_text vif else device_name_text v.device
 
--- the device of a router's vif, as `eth1`
+-- the device of a router's vif, such as `eth1`
 abbrev pub device_text : DomainFacts → (router vif : ℕ) → List ℕ
 device_text d router vif = device_text_of vif (d.vifs router vif)
 
 -- ---- rows
 
 -- a row's outgoing vif with its threshold, if that isn't 1
-abbrev pub pair_text : DomainFacts → (router : ℕ) → ℕ × ℕ → List ℕ
-pair_text d router p =
+abbrev pub oif_text : DomainFacts → (router : ℕ) → ℕ × ℕ → List ℕ
+oif_text d router p =
     codes " " ++ (device_text d router p.0
     ++ (if p.1 == 1 then [] else codes ":" ++ decimal p.1))
 
-abbrev pub pairs_text : DomainFacts → (router : ℕ) → List (ℕ × ℕ) → List ℕ
-pairs_text d router [] = codes " none"
-pairs_text d router (p ∷ ps) = flat_map (pair_text d router) (p ∷ ps)
+abbrev pub oifs_text : DomainFacts → (router : ℕ) → List (ℕ × ℕ) → List ℕ
+oifs_text d router [] = codes " none"
+oifs_text d router (p ∷ ps) = flat_map (oif_text d router) (p ∷ ps)
 
--- a row's source or its group; 0.0.0.0 stands for every one
+-- a row's source or group; 0.0.0.0 means every one
 abbrev pub address_text : ℕ → List ℕ
 address_text address = if address == 0 then codes "*" else dotted address
 
--- a row, as `row (10.0.0.5,239.1.2.3) from eth0 to eth1 eth2:5 in cache-r1`
+-- a row, such as `row (10.0.0.5,239.1.2.3) from eth0 to eth1 eth2:5 in cache-r1`
 abbrev pub entry_text : DomainFacts → (router source group incoming : ℕ) → List (ℕ × ℕ) → List ℕ
 entry_text d router source group incoming pairs =
     codes "row (" ++ (address_text source ++ (codes "," ++ (address_text group
     ++ (codes ") from " ++ (device_text d router incoming
-    ++ (codes " to" ++ (pairs_text d router pairs
+    ++ (codes " to" ++ (oifs_text d router pairs
     ++ (codes " in cache-" ++ router_name d.topology router))))))))
 
 -- a router's row for a flow
@@ -75,7 +74,7 @@ row_text d f router (Exact incoming pairs) =
 row_text d f router Open = []
 row_text d f router NoRow = []
 
--- the device that a row takes from
+-- the device of a row's incoming vif
 abbrev pub incoming_text : DomainFacts → (router : ℕ) → Row → List ℕ
 incoming_text d router (Exact incoming pairs) = device_text d router incoming
 incoming_text d router Open = []

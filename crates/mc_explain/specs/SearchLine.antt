@@ -1,6 +1,6 @@
--- The search for a LAN that a packet missed: what is told of a LAN, by the tables of the routers that
--- have an interface on it, and which LANs are looked at after it.
-use Rattle.std.specs.Prelude.{◌==◌, ◌&&◌, ◌||◌, ℕ, zero, suc, not, Bool, false, List, [], ◌∷◌}
+-- The search for a LAN that a packet missed: the lines of a LAN, by the tables of the routers that have an
+-- interface on it, and the LANs that are searched after it.
+use Rattle.std.specs.Prelude.{◌≡◌, ◌==◌, ◌&&◌, ◌||◌, ℕ, zero, suc, not, Bool, false, List, [], ◌∷◌}
 use Rattle.std.specs.Prelude.{◌++◌, length, flat_map, Option, Some, None, is_some, slice_get}
 use Rattle.std.specs.Prelude.{if◌then◌else◌, option_map, slice_index_or, unwrap_or}
 use Rattle.std.specs.List.{filter_map, list_any}
@@ -12,9 +12,10 @@ use Rattle.mc_topology.specs.Topology.{flow_key}
 use Rattle.mc_theory.specs.Nets.{Net, Row, is_lan}
 use Rattle.mc_theory.specs.Nets.Row.{Exact, Open, NoRow as no_row}
 use Rattle.mc_theory.specs.Flights.{Copy}
-use Rattle.mc_theory.specs.Findings.{taken_from}
+use Rattle.mc_theory.specs.Findings.{first_copy_on, taken_from}
 use Rattle.mc_theory.specs.CertificateOfCopies.{row_pairs, threshold_of}
-use Rattle.mc_forward.specs.ListedTables.{DomainFacts}
+use Rattle.mc_forward.specs.Domains.{DomainValue, IsDomain}
+use Rattle.mc_forward.specs.ListedTables.{DomainFacts, facts}
 use Rattle.mc_explain.specs.declared.search_line.SearchLine.{SearchLine}
 use Rattle.mc_explain.specs.declared.search_line.SearchLine.TheVariants.{Excluded}
 use Rattle.mc_explain.specs.declared.search_line.SearchLine.TheVariants.{NoVif, NotMulticast, NoRow}
@@ -27,10 +28,10 @@ use Rattle.mc_explain.specs.declared.listed_interface.ListedInterface.{ListedInt
 use Rattle.mc_explain.specs.EverySourceText.{every_source_of}
 use Rattle.mc_explain.specs.TopologyLans.{interfaces_on_lan}
 
--- ---- what is searched
+-- ---- what a search reads
 
--- A flow of a domain, what is noted of each router's cache, which routers are left out, and the first
--- copy on each LAN.
+-- A flow of a domain, the summary of each router's cache, which routers are excluded, and the first copy
+-- on each LAN.
 pub record Search : Type 0 where
   pub domain : DomainFacts
   pub flow : ℕ
@@ -38,10 +39,25 @@ pub record Search : Type 0 where
   pub excluded : List Bool
   pub first_copy_on : ℕ → Option Copy
 
+-- the search of the flow with this number in a domain
+abbrev pub search_of : DomainValue → (flow : ℕ) → List SummaryValue → (excluded : List Bool) → List Copy → Search
+search_of d flow summary excluded copies = record {
+  domain = facts d;
+  flow = flow;
+  summary = summary;
+  excluded = excluded;
+  first_copy_on = first_copy_on copies;
+}
+
+-- The search reads the tables of a valid domain.
+pub record IsSearchIn (d : DomainValue) (s : Search) : Type 0 where
+  pub domain : IsDomain d
+  pub same : s.domain ≡ facts d
+
 abbrev pub net : Search → Net
 net s = s.domain.nets s.flow
 
--- whether a router is marked as left out, so that its tables are not known
+-- whether a router is marked as excluded, so that its tables are not known
 abbrev pub is_excluded : List Bool → (router : ℕ) → Bool
 is_excluded marks router = slice_index_or marks router false
 
@@ -61,7 +77,7 @@ unresolved_by (Some summary) k = set.contains summary.unresolved k
 abbrev pub is_unresolved : Search → (router : ℕ) → Bool
 is_unresolved s router = unresolved_by (slice_get s.summary router) (source_and_group s)
 
--- a router's row for every source, with the group that it has
+-- a router's row for every source, with the row's group
 abbrev pub row_for_every_source : Search → (router : ℕ) → Option (ℕ × EntryValue)
 row_for_every_source s router = every_source_of s.summary (source_and_group s).1 router
 
@@ -71,12 +87,12 @@ row_for_every_source s router = every_source_of s.summary (source_and_group s).1
 abbrev pub sends_by : ℕ → List (ℕ × ℕ) → Bool
 sends_by vif pairs = not (threshold_of vif pairs == 0)
 
--- a row that sends onto the LAN by this vif and takes from a LAN whose first copy this is
+-- a row that sends onto the LAN by this vif, by the first copy on the LAN that it takes from
 abbrev pub stopped_or_waiting : Option Copy → (lan router vif from threshold : ℕ) → SearchLine
 stopped_or_waiting None lan router vif from threshold = WaitsFor lan router vif from
 stopped_or_waiting (Some copy) lan router vif from threshold = Stopped lan router vif threshold copy.ttl
 
--- a vif on the LAN, of a router whose row takes from another one
+-- a vif on the LAN, of a router whose row takes from another LAN
 abbrev pub vif_line : Search → (lan router from : ℕ) → List (ℕ × ℕ) → (vif : ℕ) → SearchLine
 vif_line s lan router from pairs vif =
     if sends_by vif pairs
@@ -90,7 +106,7 @@ vif_lines s lan router from pairs (Some vif) =
     then vif_line s lan router from pairs vif ∷ []
     else []
 
--- a row that takes from nowhere, from the LAN itself, or from another one
+-- a row that takes from no LAN, from the LAN itself, or from another LAN
 abbrev pub incoming_lines : Search → (lan router : ℕ) → List (ℕ × ℕ) → List ListedInterface
     → Option ℕ → List SearchLine
 incoming_lines s lan router pairs is None = FromUnplaced lan router ∷ []
@@ -121,7 +137,7 @@ device_lines s lan i (Some vif) =
 
 -- ---- the routers of a LAN
 
--- interfaces of one router that stand side by side, together
+-- one interface more, in the group of its router if that is the first
 abbrev pub add_to_group : ListedInterface → List (ℕ × List ListedInterface)
     → List (ℕ × List ListedInterface)
 add_to_group i [] = (i.router, i ∷ []) ∷ []
@@ -135,17 +151,17 @@ group_by_router (i ∷ is) = add_to_group i (group_by_router is)
 abbrev pub routers_on : Search → (lan : ℕ) → List (ℕ × List ListedInterface)
 routers_on s lan = group_by_router (interfaces_on_lan s.domain lan)
 
--- by its tables: of its row, and of its devices
+-- a router by its tables: its row, and its devices
 abbrev pub table_lines : Search → (lan : ℕ) → ℕ × List ListedInterface → List SearchLine
 table_lines s lan g =
     row_lines s lan g.0 g.1 ((net s).row g.0) ++ flat_map (λ i. device_lines s lan i i.vif) g.1
 
--- of a router that is left out that alone is told
+-- a router; for an excluded one only that it is excluded
 abbrev pub router_lines : Search → (lan : ℕ) → ℕ × List ListedInterface → List SearchLine
 router_lines s lan g =
     if is_excluded s.excluded g.0 then Excluded lan g.0 ∷ [] else table_lines s lan g
 
--- a router that isn't, and whose row takes from the LAN
+-- a router that isn't excluded, and whose row takes from the LAN
 abbrev pub is_expecting : Search → (lan router : ℕ) → Bool
 is_expecting s lan router =
     not (is_excluded s.excluded router)
@@ -162,11 +178,11 @@ sends_by_known_vif (Some vif) pairs = sends_by vif pairs
 abbrev pub sends_here : Search → ℕ × List ListedInterface → Bool
 sends_here s g = list_any (λ i. sends_by_known_vif i.vif (row_pairs ((net s).row g.0))) g.1
 
--- a router that may send onto the LAN: its row does so, or isn't known
+-- a router that may send onto the LAN: its row does, or isn't known
 abbrev pub may_send_here : Search → ℕ × List ListedInterface → Bool
 may_send_here s g = is_excluded s.excluded g.0 || sends_here s g
 
--- what is told behind these lines of the routers
+-- the last line of a LAN, after these lines of its routers
 abbrev pub closing_lines : Search → (lan : ℕ) → List (ℕ × List ListedInterface) → List SearchLine
     → List SearchLine
 closing_lines s lan gs [] = NoRouter lan ∷ []
@@ -176,15 +192,15 @@ closing_lines s lan gs (line ∷ lines) =
 abbrev pub lines_of_routers : Search → (lan : ℕ) → List (ℕ × List ListedInterface) → List SearchLine
 lines_of_routers s lan gs = flat_map (router_lines s lan) gs ++ flat_map (expected_lines s lan) gs
 
--- all that is told of a LAN
+-- all lines of a LAN
 abbrev pub lines_of_lan : Search → (lan : ℕ) → List SearchLine
 lines_of_lan s lan =
     lines_of_routers s lan (routers_on s lan)
     ++ closing_lines s lan (routers_on s lan) (lines_of_routers s lan (routers_on s lan))
 
--- ---- the LANs that are looked at
+-- ---- the LANs that are searched
 
--- a LAN that carried no copy
+-- a LAN, if it carried no copy
 abbrev pub if_missed : Search → Option ℕ → Option ℕ
 if_missed s None = None
 if_missed s (Some lan) = if carried s lan then None else Some lan
@@ -204,28 +220,28 @@ next_lan s _ = None
 abbrev pub next_lans : Search → (lan : ℕ) → List ℕ
 next_lans s lan = filter_map (next_lan s) (lines_of_lan s lan)
 
--- LANs and those of others that are not among them, each once
+-- the first LANs, and then those of the others that are not among them, each once
 abbrev pub append_new : List ℕ → List ℕ → List ℕ
 append_new visited_lans [] = visited_lans
 append_new visited_lans (lan ∷ lans) =
     append_new (if list_any (λ m. m == lan) visited_lans then visited_lans else visited_lans ++ lan ∷ []) lans
 
--- the LANs met once one more of them was looked at
+-- the visited LANs after one of them is searched
 abbrev pub visited_after : Search → List ℕ → Option ℕ → List ℕ
 visited_after s visited_lans None = visited_lans
 visited_after s visited_lans (Some lan) = append_new visited_lans (next_lans s lan)
 
--- the LANs met, in that order, once the first so many of them were looked at
-abbrev pub visited_lans : Search → (missed : ℕ) → (looked : ℕ) → List ℕ
+-- the visited LANs, in order, after the first ones of them are searched, as many as there are steps
+abbrev pub visited_lans : Search → (missed : ℕ) → (steps : ℕ) → List ℕ
 visited_lans s missed zero = missed ∷ []
 visited_lans s missed (suc k) = visited_after s (visited_lans s missed k) (slice_get (visited_lans s missed k) k)
 
 -- ---- the search
 
--- the LANs of a search: no more are met once as many were looked at as there are
+-- the LANs of a search: no more are visited after as many steps as there are LANs
 abbrev pub lans_of_search : Search → (missed : ℕ) → List ℕ
 lans_of_search s missed = visited_lans s missed (length s.domain.topology.lans)
 
--- all that is told of them
+-- all lines of a search
 abbrev pub search_lines : Search → (missed : ℕ) → List SearchLine
 search_lines s missed = flat_map (lines_of_lan s) (lans_of_search s missed)

@@ -1,4 +1,4 @@
--- Of which LAN and of which router a line of a search tells.
+-- The LAN and the router that a line of a search is about.
 use Rattle.std.specs.Prelude.{◌≡◌, ℕ, List, Option, Some, None}
 use Rattle.mc_theory.specs.Lists.{In}
 use Rattle.mc_explain.specs.declared.search_line.SearchLine.{SearchLine}
@@ -10,7 +10,7 @@ use Rattle.mc_explain.specs.declared.search_line.SearchLine.TheVariants.{Stopped
 use Rattle.mc_explain.specs.declared.search_line.SearchLine.TheVariants.{ExpectedFromHere, NoRouter}
 use Rattle.mc_explain.specs.declared.search_line.SearchLine.TheVariants.{NoSender}
 
--- the LAN, and the router if it is of one
+-- the LAN, and the router if the line is about one
 abbrev pub lan_and_router_of : SearchLine → ℕ × Option ℕ
 lan_and_router_of (Excluded lan router) = (lan, Some router)
 lan_and_router_of (NoVif lan router interface) = (lan, Some router)
@@ -26,7 +26,7 @@ lan_and_router_of (ExpectedFromHere lan router) = (lan, Some router)
 lan_and_router_of (NoRouter lan) = (lan, None)
 lan_and_router_of (NoSender lan) = (lan, None)
 
--- one of these lines tells of a LAN and a router
+-- one of these lines is about the router on the LAN
 abbrev pub NamesRouter : (lan router : ℕ) → List SearchLine → Type 0
 NamesRouter lan router lines =
     (line : SearchLine) × (In line lines × (lan_and_router_of line ≡ (lan, Some router)))

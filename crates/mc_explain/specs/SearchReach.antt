@@ -1,13 +1,17 @@
--- What a search comes to: how far the packet came among the routers of its LANs.
+-- How far the packet came among the routers of a search.
 use Rattle.std.specs.Prelude.{◌==◌, ◌&&◌, ℕ, not, Bool, true, false, List, [], map, filter}
 use Rattle.std.specs.Prelude.{flat_map, ◌≡◌}
 use Rattle.std.specs.List.{list_any}
 use Rattle.mc_theory.specs.Events.{Event, Outcome}
 use Rattle.mc_theory.specs.Events.Outcome.{Open, NoRow, OtherVif, Sent}
+use Rattle.mc_tables.specs.Summary.{SummaryValue}
+use Rattle.mc_topology.specs.declared.flow.Flow.{Flow}
+use Rattle.mc_forward.specs.ListedTables.{DomainFacts}
+use Rattle.mc_explain.specs.SearchText.{search_text}
 use Rattle.mc_explain.specs.SearchLine.{Search, append_new, lans_of_search, routers_on, search_lines}
 use Rattle.mc_explain.specs.declared.searching.LanSearch.{LanSearch}
 
--- whether a handling sent the copy on, or else took none: a row for every source is neither
+-- whether an event sent the copy on, or else took none; a row for every source does neither
 abbrev pub outcome_matches : (sent : Bool) → Outcome → Bool
 outcome_matches sent Open = false
 outcome_matches sent NoRow = not sent
@@ -30,15 +34,20 @@ routers_of_search s missed = routers_of_lans s (lans_of_search s missed)
 abbrev pub sent_on : List Event → List ℕ → List ℕ
 sent_on events routers = filter (has_event true events) routers
 
--- the others that a copy came to, and that didn't take it
+-- the others that a copy came to and that didn't take it
 abbrev pub took_none : List Event → List ℕ → List ℕ
 took_none events routers = filter (λ r. has_event false events r && not (has_event true events r)) routers
 
--- ---- a search for a missed LAN: its lines, and what it comes to
+-- ---- the result of a search
 
--- what is told of a LAN that a packet missed whose travel has these events
+-- the lines and the reach of the search for a LAN that a packet missed, whose travel has these events
 pub record IsLanSearch (s : Search) (events : List Event) (missed : ℕ) (found : LanSearch)
     : Type 0 where
   pub lines : found.lines.items ≡ search_lines s missed
   pub sent_on : found.reach.sent_on.items ≡ sent_on events (routers_of_search s missed)
   pub took_none : found.reach.took_none.items ≡ took_none events (routers_of_search s missed)
+
+-- the text of a search's result, of the flow with this number
+abbrev pub lan_search_text : DomainFacts → List SummaryValue → (number : ℕ) → Flow → LanSearch → List ℕ
+lan_search_text d summary number f found =
+    search_text d summary number f found.lines.items found.reach.sent_on.items found.reach.took_none.items

@@ -1,4 +1,4 @@
--- How a search for a missed LAN is written.
+-- The text of the search for a missed LAN.
 use Rattle.std.specs.Prelude.{ℕ, ◌-◌, ◌==◌, Bool, true, false, List, [], ◌∷◌, ◌++◌, length, Option, Some}
 use Rattle.std.specs.Prelude.{None, if◌then◌else◌, codes, decimal, flat_map, take}
 use Rattle.std.specs.Str.{bytes_eq}
@@ -20,14 +20,15 @@ use Rattle.mc_explain.specs.declared.search_line.SearchLine.TheVariants.{NoSende
 use Rattle.mc_explain.specs.declared.shown_line.ShownLine.{ShownLine}
 use Rattle.mc_explain.specs.declared.shown_line.ShownLine.TheVariants.{One, Expected}
 use Rattle.mc_explain.specs.EverySourceText.{every_source_text}
+use Rattle.mc_explain.specs.Indented.{AreIndented}
 use Rattle.mc_explain.specs.RouterText.{routers_text}
 use Rattle.mc_explain.specs.RowText.{device_text, incoming_text, device_name_text, row_text}
 use Rattle.mc_explain.specs.ShownLines.{shown_lines}
 use Rattle.mc_explain.specs.TopologyLans.{interface_at}
 
--- ---- what it comes to
+-- ---- how far the packet came
 
--- nothing where there are no routers
+-- nothing if there are no routers
 abbrev pub routers_line : TopologyValue → (what routers : List ℕ) → List ℕ
 routers_line t what [] = []
 routers_line t what (r ∷ rs) = what ++ (routers_text t (r ∷ rs) ++ codes "\n")
@@ -44,7 +45,7 @@ reach_text t sent_on took_none =
 abbrev pub lan_router_text : TopologyValue → (lan router : ℕ) → List ℕ
 lan_router_text t lan router = codes "  " ++ (lan_name t lan ++ (codes ": " ++ router_name t router))
 
--- what is told of a LAN alone, and of a router on it
+-- a line about a LAN, and one about a router on it
 abbrev pub lan_line_text : TopologyValue → (lan : ℕ) → (what : List ℕ) → List ℕ
 lan_line_text t lan what = codes "  " ++ (lan_name t lan ++ (codes ": " ++ (what ++ codes "\n")))
 
@@ -55,7 +56,7 @@ router_line_text t lan router what = lan_router_text t lan router ++ (codes " " 
 abbrev pub interface_text : TopologyValue → (interface : ℕ) → List ℕ
 interface_text t interface = device_name_text (interface_at t interface).device
 
--- why a vif that a row takes from is placed on no LAN, the first of these that holds
+-- why the incoming vif of a row is placed on no LAN: the first of these that holds
 abbrev pub no_lan_reason : VifValue → List ℕ
 no_lan_reason v =
     if v.register then codes "PIM's register vif"
@@ -77,7 +78,7 @@ abbrev pub carries_text : (carried : Bool) → List ℕ
 carries_text true = codes "it"
 carries_text false = codes "none either"
 
--- which routers expect a copy from a LAN
+-- the routers that expect copies from a LAN
 abbrev pub expected_text : TopologyValue → (lan : ℕ) → (routers : List ℕ) → List ℕ
 expected_text t lan routers =
     codes "  " ++ (lan_name t lan ++ (codes ": expected from this LAN by"
@@ -85,7 +86,7 @@ expected_text t lan routers =
 
 -- ---- a line
 
--- by the routers' rows for a flow, with its number, and by what is noted of their caches
+-- by the routers' rows for the flow with this number and by the summaries of their caches
 abbrev pub search_line_text : DomainFacts → List SummaryValue → (number : ℕ) → Flow → SearchLine → List ℕ
 search_line_text d summary number f (Excluded lan router) =
     router_line_text d.topology lan router (codes "is left out: its tables are not known")
@@ -133,18 +134,24 @@ shown_line_text d summary number f (Expected lan routers) = expected_text d.topo
 
 -- ---- the search
 
--- how many more lines there are
+-- the line that counts further lines
 abbrev pub more_lines_text : ℕ → List ℕ
 more_lines_text more =
     if more == 0 then [] else codes "  and " ++ (decimal more ++ codes " more lines\n")
 
--- the first 40 lines
+-- the first 40 lines, and how many more there are
 abbrev pub first_lines_text : DomainFacts → List SummaryValue → (number : ℕ) → Flow → List ShownLine → List ℕ
 first_lines_text d summary number f lines =
     flat_map (shown_line_text d summary number f) (take 40 lines) ++ more_lines_text (length lines - 40)
 
--- what it comes to, and its lines
+-- how far the packet came, and the lines
 abbrev pub search_text : DomainFacts → List SummaryValue → (number : ℕ) → Flow → List SearchLine
     → (sent_on took_none : List ℕ) → List ℕ
 search_text d summary number f lines sent_on took_none =
     reach_text d.topology sent_on took_none ++ first_lines_text d summary number f (shown_lines lines)
+
+-- in a domain with these names each search is text of lines that begin with two spaces
+abbrev pub IsEachSearchIndented : DomainFacts → Type 0
+IsEachSearchIndented d =
+    (summary : List SummaryValue) (number : ℕ) (f : Flow) (lines : List SearchLine)
+    (sent_on took_none : List ℕ) → AreIndented (search_text d summary number f lines sent_on took_none)

@@ -5,7 +5,7 @@ use Rattle.mc_explain.specs.declared.search_line.SearchLine.TheVariants.{Expecte
 use Rattle.mc_explain.specs.declared.shown_line.ShownLine.{ShownLine}
 use Rattle.mc_explain.specs.declared.shown_line.ShownLine.TheVariants.{One, Expected}
 
--- one that tells of a router that expects a copy from a LAN, with those of the LAN right behind it
+-- a line about a router that expects copies from a LAN joins the next line if that is about the same LAN
 abbrev pub put_expected : (lan router : ℕ) → List ShownLine → List ShownLine
 put_expected lan router (Expected next routers ∷ lines) =
     if next == lan then Expected lan (router ∷ routers) ∷ lines

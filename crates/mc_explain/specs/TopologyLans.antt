@@ -1,4 +1,4 @@
--- The interfaces that a topology has on each LAN, whatever the routers' vifs are.
+-- The interfaces that a topology has on each LAN, and the routers' vifs of their devices.
 use Rattle.std.specs.Prelude.{◌==◌, ℕ, Bool, false, List, [], length, map, filter, flat_map, find}
 use Rattle.std.specs.Prelude.{Option, Some, None, slice_get, unwrap_or}
 use Rattle.std.specs.Str.{bytes_eq}
@@ -14,7 +14,7 @@ abbrev pub interface_at : TopologyValue → ℕ → InterfaceRow
 interface_at t k =
     unwrap_or (slice_get t.interfaces k) (record { router = 0; device = []; lan = 0 })
 
--- those of a router among some interfaces
+-- a router's interfaces among these
 abbrev pub interfaces_of_router : TopologyValue → List ℕ → (router : ℕ) → List ℕ
 interfaces_of_router t ks router = filter (λ k. (interface_at t k).router == router) ks
 
@@ -25,7 +25,7 @@ interfaces_by_router t =
 
 -- ---- vifs
 
--- whether the vif is of the device
+-- whether the vif has this device
 abbrev pub vif_has_device : List ℕ → Option VifValue → Bool
 vif_has_device device None = false
 vif_has_device device (Some vif) = bytes_eq vif.device device

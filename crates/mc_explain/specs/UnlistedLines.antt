@@ -1,22 +1,21 @@
--- Lines that all begin in some way, and those that tell of unlisted rows: none of these is a line that
--- says how a flow was judged.
+-- Lines with a common beginning, and the lines of unlisted rows: none of these is the line of a flow.
 use Rattle.std.specs.Prelude.{◌≡◌, ◌⊎◌, ℕ, List, ◌++◌, codes, flat_map}
 use Rattle.mc_theory.specs.Lists.{In}
 use Rattle.mc_explain.specs.Indented.{HasNoLineFeed}
 
--- a line as it is written
+-- a line with a line feed after it
 abbrev pub with_line_feed : List ℕ → List ℕ
 with_line_feed line = line ++ codes "\n"
 
--- The text is lines, one after the other, each of which begins so, ends with a line feed and has none
--- before that.
+-- The text is a sequence of lines, each of which begins so, ends with a line feed and has none before
+-- that.
 pub record AreLines (Begins : List ℕ → Type 0) (text : List ℕ) : Type 0 where
   pub lines : List (List ℕ)
   pub begins : (line : List ℕ) → In line lines → Begins line
   pub feedless : (line : List ℕ) → In line lines → HasNoLineFeed line
   pub spelled : text ≡ flat_map with_line_feed lines
 
--- it begins with `unlisted `, or with two spaces
+-- the line begins with `unlisted ` or with two spaces
 abbrev pub IsUnlistedLine : List ℕ → Type 0
 IsUnlistedLine line =
     (rest : List ℕ) × ((line ≡ codes "unlisted " ++ rest) ⊎ (line ≡ codes "  " ++ rest))

@@ -1,5 +1,4 @@
--- The pairs that are shown of those that are no flow's, with their routers, and how many rows there are
--- besides.
+-- The shown pairs of those that are no flow's, with their routers, and how many further rows there are.
 use Rattle.std.specs.Prelude.{◌≡◌, ◌==◌, ◌≤◌, ◌*◌, ◌-◌, ℕ, Bool, false, List, [], ◌∷◌, ◌++◌, length, map}
 use Rattle.std.specs.Prelude.{Option, Some, None, if◌then◌else◌, slice_get}
 use Rattle.mc_tables.specs.Summary.{SummaryValue}
@@ -7,7 +6,7 @@ use Rattle.mc_topology.specs.Topology.{TopologyValue}
 use Rattle.mc_explain.specs.UnlistedText.{further_rows, shown_unlisted_pairs, routers_below, routers_with}
 use Rattle.mc_explain.specs.declared.unlisted_pairs.UnlistedPairs.{UnlistedPairs}
 
--- a router behind others, if it isn't their last one
+-- whether the router is the last one
 abbrev pub is_last : (router : ℕ) → Option ℕ → Bool
 is_last router None = false
 is_last router (Some last) = last == router
@@ -17,17 +16,17 @@ push_unless_last router routers =
     if is_last router (slice_get routers (length routers - 1)) then routers
     else routers ++ router ∷ []
 
--- a pair of a group and a source, with the routers that have it: those below a number, and all
+-- a pair of a group and a source, with the routers that have it: those below a number, or all
 abbrev pub with_routers_below : List SummaryValue → (number : ℕ) → ℕ × ℕ → (ℕ × ℕ) × List ℕ
 with_routers_below summary number pair = (pair, routers_below summary number pair)
 
 abbrev pub with_routers : TopologyValue → List SummaryValue → ℕ × ℕ → (ℕ × ℕ) × List ℕ
 with_routers t summary pair = (pair, routers_with t summary pair)
 
--- Each pair that is shown stands with all its routers. The further rows are few enough for 64 bits where
--- there are notes of at most 2 ^ 32 routers.
+-- The shown pairs, each with all its routers, and the number of further rows, which 64 bits can hold for
+-- at most 2 ^ 32 routers.
 pub record AreUnlistedPairs (all : Bool) (t : TopologyValue) (summary : List SummaryValue) (u : UnlistedPairs)
     : Type 0 where
   pub shown : u.shown.items ≡ map (with_routers t summary) (shown_unlisted_pairs all summary)
   pub further : u.further ≡ further_rows all t summary
-  pub few : u.further ≤ length summary * 4294967295
+  pub bounded : u.further ≤ length summary * 4294967295

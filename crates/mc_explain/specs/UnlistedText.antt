@@ -1,22 +1,22 @@
--- How the resolved rows are told whose source and group are no flow's.
+-- The text of the resolved rows whose source and group are no flow's.
 use Rattle.std.specs.Prelude.{ℕ, ◌-◌, ◌==◌, ◌&&◌, nat_le, Bool, false, List, [], ◌++◌, length, Option}
 use Rattle.std.specs.Prelude.{Some, None, if◌then◌else◌, codes, decimal, filter, flat_map, map, slice_get}
-use Rattle.std.specs.Prelude.{sum_by}
+use Rattle.std.specs.Prelude.{◌≡◌, sum_by}
 use Rattle.mc_text.specs.Addr.{dotted, first_octet}
 use Rattle.mc_tables.specs.CacheTable.{RowValue}
 use Rattle.mc_tables.specs.ListedRows.{is_listed}
-use Rattle.mc_tables.specs.Summary.{SummaryValue, group_first, in_order, shown_pairs, unlisted_keys}
+use Rattle.mc_tables.specs.Summary.{SummaryValue, group_first, in_order, shown_pairs, summary_of, unlisted_keys}
 use Rattle.mc_topology.specs.Topology.{TopologyValue}
-use Rattle.mc_theory.specs.Lists.{below}
+use Rattle.mc_theory.specs.Lists.{In, below}
 use Rattle.mc_explain.specs.RouterText.{routers_text}
 
 -- ---- the pairs of a group and a source
 
--- all of all routers, or the 20 lowest: each one's notes have all its own, or its own 20 lowest
+-- the pairs of all routers, all or the 20 lowest; each summary has all pairs of its cache, or its 20 lowest
 abbrev pub shown_unlisted_pairs : (all : Bool) → List SummaryValue → List (ℕ × ℕ)
 shown_unlisted_pairs all summary = shown_pairs all (in_order (flat_map (λ own. own.lowest) summary))
 
--- those of a router's notes, and whether a pair is among them
+-- the pairs of a cache's summary, and whether a pair is among them
 abbrev pub pairs_in : Option SummaryValue → List (ℕ × ℕ)
 pairs_in None = []
 pairs_in (Some own) = own.lowest
@@ -24,7 +24,7 @@ pairs_in (Some own) = own.lowest
 abbrev pub has_pair : ℕ × ℕ → Option SummaryValue → Bool
 has_pair pair summary = is_listed (Some (pairs_in summary)) pair
 
--- the routers whose notes have it, in order: those below a number, and all
+-- the routers whose summaries have the pair, in order: those below a number, or all
 abbrev pub routers_below : List SummaryValue → (number : ℕ) → ℕ × ℕ → List ℕ
 routers_below summary number pair =
     filter (λ router. has_pair pair (slice_get summary router)) (below number)
@@ -32,18 +32,38 @@ routers_below summary number pair =
 abbrev pub routers_with : TopologyValue → List SummaryValue → ℕ × ℕ → List ℕ
 routers_with t summary pair = routers_below summary (length t.routers) pair
 
--- whether a router's cache has such a row whose source and group are not listed
+-- the pairs of a cache's resolved rows that aren't listed
+abbrev pub unlisted_pairs : (listed : List (ℕ × ℕ)) → List RowValue → List (ℕ × ℕ)
+unlisted_pairs listed rows = map group_first (unlisted_keys listed rows)
+
+-- the summaries of caches
+abbrev pub summaries_of : (all : Bool) → (listed : List (ℕ × ℕ)) → List (List RowValue) → List SummaryValue
+summaries_of all listed caches = map (summary_of all listed) caches
+
+-- whether a router's cache has a row of the pair, which isn't listed
 abbrev pub has_unlisted_row : (listed : List (ℕ × ℕ)) → ℕ × ℕ → Option (List RowValue) → Bool
 has_unlisted_row listed pair None = false
 has_unlisted_row listed pair (Some rows) =
-    is_listed (Some (map group_first (unlisted_keys listed rows))) pair
+    is_listed (Some (unlisted_pairs listed rows)) pair
+
+-- the routers whose caches have a row of the pair, in order
+abbrev pub routers_with_row : TopologyValue → (listed : List (ℕ × ℕ)) → List (List RowValue) → ℕ × ℕ → List ℕ
+routers_with_row t listed caches pair =
+    filter (λ router. has_unlisted_row listed pair (slice_get caches router)) (below (length t.routers))
+
+-- each pair that is shown of these caches is shown with all routers whose caches have a row of it
+abbrev pub ShownPairsHaveAllRouters : (all : Bool) → TopologyValue → (listed : List (ℕ × ℕ)) → List (List RowValue)
+    → Type 0
+ShownPairsHaveAllRouters all t listed caches =
+    (pair : ℕ × ℕ) → In pair (shown_unlisted_pairs all (summaries_of all listed caches)) →
+    routers_with t (summaries_of all listed caches) pair ≡ routers_with_row t listed caches pair
 
 -- ---- a line for each
 
 abbrev pub is_multicast : ℕ → Bool
 is_multicast group = nat_le 224 (first_octet group) && nat_le (first_octet group) 239
 
--- what is asked where the group can't be one
+-- the question about the byte order, if the group isn't multicast
 abbrev pub byte_order_text : ℕ → List ℕ
 byte_order_text group =
     if is_multicast group then []
@@ -63,11 +83,11 @@ unlisted_pair_lines t summary pair = unlisted_pair_text t pair (routers_with t s
 abbrev pub count_unlisted_rows : List SummaryValue → ℕ
 count_unlisted_rows summary = sum_by (λ own. own.unlisted) summary
 
--- those of some pairs, of which each router that has one has one row
+-- the rows of these pairs: one for each router that has the pair
 abbrev pub count_rows_of_pairs : TopologyValue → List SummaryValue → List (ℕ × ℕ) → ℕ
 count_rows_of_pairs t summary pairs = sum_by (λ pair. length (routers_with t summary pair)) pairs
 
--- how many rows there are besides those of the pairs that are shown
+-- how many rows there are besides those of the shown pairs
 abbrev pub further_rows : (all : Bool) → TopologyValue → List SummaryValue → ℕ
 further_rows all t summary = count_unlisted_rows summary - count_rows_of_pairs t summary (shown_unlisted_pairs all summary)
 

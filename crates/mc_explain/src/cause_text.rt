@@ -1,12 +1,12 @@
-//! What is told of a flow's fault as it is written, line by line.
+//! The text of a fault's causes.
 
-ghost use Rattle.std.specs.Prelude.{◌≡◌, ◌<◌, ◌++◌, [], OnOk, Some, length, slice_get};
+ghost use Rattle.std.specs.Prelude.{◌≡◌, ◌<◌, ◌++◌, [], OnOk, Some, length};
 ghost use Rattle.std.specs.String.{string_bytes};
-ghost use Rattle.mc_topology.specs.declared.flow.Flow.{Flow};
 ghost use Rattle.mc_forward.specs.Domains.{vif_of};
 ghost use Rattle.mc_forward.specs.ListedTables.{facts};
 ghost use Rattle.mc_explain.specs.ExplanationText.{cost_text, unplaced_reason_text, causes_text, cause_text};
 ghost use Rattle.mc_explain.specs.ExplanationText.{only_every_source_text, stopped_text, unplaced_text};
+ghost use Rattle.mc_explain.specs.ExplanationText.{ForListedFlow};
 ghost use Rattle.mc_explain.specs.declared.causes.Cause.TheVariants.{SentOnto, Circle, TakeOut, Unplaced};
 ghost use Rattle.mc_explain.specs.declared.causes.Cause.TheVariants.{LeastTtl};
 
@@ -21,7 +21,7 @@ use mc_topology::{Flow, LanNo, RouterNo};
 use std::alloc::AllocError;
 use std::fmt;
 
-/// Why a vif of a table is placed on no LAN.
+/// Why a vif with a line in its router's table is placed on no LAN.
 fn unplaced_reason(vif: &Vif) -> &'static str
     ensures { result.now ≡ unplaced_reason_text vif.now }
 {
@@ -37,7 +37,7 @@ fn unplaced_reason(vif: &Vif) -> &'static str
     }
 }
 
-/// Why a router's vif is placed on no LAN, as `is a tunnel` or `has no line in vif-r1`.
+/// Why a router's vif is placed on no LAN, such as `is a tunnel` or `has no line in vif-r1`.
 #[derive(Clone, Copy, Drop)]
 struct ShownUnplacedReason<'v> {
     view: &'v FlowView<'v>,
@@ -61,7 +61,7 @@ impl<'v> fmt::Display for ShownUnplacedReason<'v> {
     }
 }
 
-/// What taking out costs packets of the flow.
+/// What taking a vif out of its row costs the flow's packets.
 #[derive(Clone, Copy, Drop)]
 struct ShownCost<'v> {
     view: &'v FlowView<'v>,
@@ -88,7 +88,7 @@ impl<'v> fmt::Display for ShownCost<'v> {
     }
 }
 
-/// Writes who sent a copy onto a LAN.
+/// Writes a `SentOnto` cause: the router and the vif that sent a copy onto a LAN.
 fn push_sent_onto(
     text: &mut String,
     view: &FlowView<'_>,
@@ -108,7 +108,7 @@ fn push_sent_onto(
     writeln!(text, "  sent onto {lan} by {router} at {device}: {row}")
 }
 
-/// Writes which row of a circle takes copies from a LAN and sends them onto the next.
+/// Writes a `Circle` cause: a row that takes copies from one LAN of a circle and sends them onto the next.
 fn push_circle(
     text: &mut String,
     view: &FlowView<'_>,
@@ -134,7 +134,7 @@ fn push_circle(
     )
 }
 
-/// Writes what may be taken out, and what that costs.
+/// Writes a `TakeOut` cause: the vif to take out of its router's row, and what that costs.
 fn push_take_out(
     text: &mut String,
     view: &FlowView<'_>,
@@ -162,7 +162,7 @@ fn push_take_out(
     )
 }
 
-/// Writes why the vif that a copy was sent by is placed on no LAN.
+/// Writes an `Unplaced` cause: why the vif by which a copy was sent is placed on no LAN.
 fn push_unplaced(
     text: &mut String,
     view: &FlowView<'_>,
@@ -180,7 +180,7 @@ fn push_unplaced(
     writeln!(text, "  {device} of {router} {reason}\n  {row}")
 }
 
-/// Writes with which TTL a LAN is reached.
+/// Writes a `LeastTtl` cause: the least TTL with which packets reach a LAN.
 fn push_least_ttl(
     text: &mut String,
     view: &FlowView<'_>,
@@ -200,7 +200,7 @@ fn push_least_ttl(
     )
 }
 
-/// Writes where the flow's packet was stopped.
+/// Writes a `StoppedAt` cause: the vif whose threshold stopped the flow's packet.
 fn push_stopped_at(
     text: &mut String,
     view: &FlowView<'_>,
@@ -222,7 +222,7 @@ fn push_stopped_at(
     )
 }
 
-/// Writes by which row for every source a copy was met.
+/// Writes an `OnlyEverySource` cause: the row for every source of the router at which a copy arrived.
 fn push_only_every_source(
     text: &mut String,
     view: &FlowView<'_>,
@@ -250,7 +250,7 @@ fn push_only_every_source(
     )
 }
 
-/// Writes the lines of one thing that is told.
+/// Writes the lines of one cause.
 fn push_cause(
     text: &mut String,
     view: &FlowView<'_>,
@@ -289,7 +289,7 @@ fn push_cause(
     }
 }
 
-/// Writes the lines of all that is told of a flow, in order.
+/// Writes the lines of a flow's causes, in order.
 fn push_cause_lines(
     text: &mut String,
     view: &FlowView<'_>,
@@ -306,13 +306,13 @@ fn push_cause_lines(
     Ok(())
 }
 
-/// Writes what is told of the flow with this number, by the names of the topology and of the vif
-/// tables, and by what is noted of each router's cache, the first router's first: a line each, and
-/// of what may be taken out, of a vif that is placed on no LAN and of a row for every source two.
+/// Writes the causes of a flow's fault, with the names of the topology and of the vif tables: two lines
+/// for a `TakeOut`, an `Unplaced` and an `OnlyEverySource` cause, one for each other. `flow` counts from 0,
+/// and `summary` has the summary of each router's cache, in the topology's order.
 ///
 /// # Errors
 ///
-/// `Memory` where a growth was refused.
+/// `Memory` if an allocation fails.
 pub fn push_causes(
     text: &mut String,
     domain: &Domain,
@@ -321,9 +321,8 @@ pub fn push_causes(
     causes: &[Cause],
 ) -> Result<(), Memory>
     requires flow { flow < length domain.now.topology.flows }
-    ensures lines { OnOk result ((listed : Flow) → slice_get domain.now.topology.flows flow ≡ Some listed
-        → string_bytes text.new ≡ string_bytes text.old
-        ++ causes_text (facts domain.now) summary.now flow listed causes.now) }
+    ensures lines { OnOk result (ForListedFlow domain.now flow (λ f. string_bytes text.new
+        ≡ string_bytes text.old ++ causes_text (facts domain.now) summary.now flow f causes.now)) }
 {
     let view = FlowView::new(domain, flow);
     push_cause_lines(text, &view, summary, domain.topology().flow(flow), causes)

@@ -1,9 +1,9 @@
-//! A line of what is told of a fault.
+//! A cause of a flow's fault.
 
 use mc_topology::{LanNo, RouterNo};
 
-/// A line of what is told of a flow's fault, by the numbers of LANs, routers and vifs. The rows that
-/// it speaks of are those that the routers have for the flow.
+/// A cause of a flow's fault, with LANs, routers and vifs by their numbers. A router's row is the one that
+/// it has for the flow.
 #[derive(Clone, Copy, Debug)]
 pub enum Cause {
     /// A router's row sent a copy onto the LAN by this vif.
@@ -15,7 +15,7 @@ pub enum Cause {
         /// Its vif, 0 to 31.
         vif: u8,
     },
-    /// A router's row takes copies from a LAN of a circle, and sends them onto the next by this vif.
+    /// A router's row takes copies from a LAN of a circle, and sends them onto the next LAN by this vif.
     Circle {
         /// The LAN that it takes from.
         from: LanNo,
@@ -26,8 +26,8 @@ pub enum Cause {
         /// The vif by which it sends, 0 to 31.
         vif: u8,
     },
-    /// Where this vif is taken out of the router's row, the LAN's second copy isn't sent, and all
-    /// that packets of so much TTL reach is reached without it.
+    /// If this vif is taken out of the router's row, the LAN's second copy isn't sent, and packets with
+    /// at least this TTL still reach each LAN that they reached before.
     TakeOut {
         /// The LAN that carried two copies.
         lan: LanNo,
@@ -35,7 +35,7 @@ pub enum Cause {
         router: RouterNo,
         /// The vif, 0 to 31.
         vif: u8,
-        /// The least TTL with which packets reach the LAN by the way of its first copy, 1 to 255.
+        /// The least TTL with which packets reach the LAN by the path of its first copy, 1 to 255.
         least: u8,
     },
     /// A router's row sent a copy by this vif, which is placed on no LAN.
@@ -45,29 +45,29 @@ pub enum Cause {
         /// The vif.
         vif: u8,
     },
-    /// A copy came in by this vif of a router that has no resolved row but one for every source.
+    /// A copy came in by this vif of a router whose only resolved row for the flow is for every source.
     OnlyEverySource {
         /// The router.
         router: RouterNo,
         /// The vif, 0 to 31.
         vif: u8,
     },
-    /// The LAN is reached by packets with this TTL, and not with one less.
+    /// Packets with this TTL reach the LAN, and packets with a lower one don't.
     LeastTtl {
         /// The LAN.
         lan: LanNo,
         /// The TTL, 1 to 255.
         least: u8,
     },
-    /// On the way to that LAN the flow's packet was stopped by the threshold of this vif.
+    /// On the path to that LAN the threshold of this vif stopped the flow's packet.
     StoppedAt {
         /// The router.
         router: RouterNo,
         /// The vif, 0 to 31.
         vif: u8,
-        /// Its threshold.
+        /// Its threshold, 1 to 255.
         threshold: u8,
-        /// The TTL with which the packet came to the router.
+        /// The packet's TTL when it came to the router.
         ttl: u8,
     },
 }

@@ -1,25 +1,24 @@
-//! The device of a vif as it is written.
+//! The text of a vif's device.
 
 ghost use Rattle.std.specs.Prelude.{◌≡◌, Some};
 ghost use Rattle.mc_forward.specs.ListedTables.{facts};
-ghost use Rattle.mc_explain.specs.RowText.{byte_text, device_text, device_name_text};
-ghost use Rattle.mc_explain.specs.RowText.{is_plain as plain};
+ghost use Rattle.mc_explain.specs.RowText.{byte_text, device_text, device_name_text, is_plain};
 
 use mc_forward::FlowView;
 use mc_topology::RouterNo;
 use std::fmt;
 
-/// The kernel's word for a vif without a device.
+/// The device name that the kernel prints for a vif without a device.
 pub(crate) const NO_DEVICE: &[u8] = b"none";
 
-/// Whether a byte of a device's name is written as it is.
+/// Whether a byte of a device's name is written unescaped.
 fn is_plain(byte: u8) -> bool
-    ensures { result ≡ plain byte }
+    ensures { result ≡ is_plain byte }
 {
     matches!(byte, 0x21..=0x7e) && byte != b'\\'
 }
 
-/// A byte of a device's name, as `e` or `\x20`.
+/// A byte of a device's name, such as `e` or `\x20`.
 #[derive(Clone, Copy, Drop)]
 struct ShownByte {
     byte: u8,
@@ -39,7 +38,7 @@ impl fmt::Display for ShownByte {
     }
 }
 
-/// A device's name, as `eth1`.
+/// A device's name, such as `eth1`, with its unprintable bytes escaped.
 #[derive(Clone, Copy, Drop)]
 pub struct ShownDeviceName<'n> {
     /// Its bytes.
@@ -58,8 +57,8 @@ impl<'n> fmt::Display for ShownDeviceName<'n> {
     }
 }
 
-/// The device of a router's vif, as `eth1`, or the vif's number where its table has no line for it
-/// or no device, as `vif/3`.
+/// The device of a router's vif, such as `eth1`, or the vif's number, such as `vif/3`, if the router's
+/// table has no line for it or no device.
 #[derive(Clone, Copy, Drop)]
 pub(crate) struct ShownDevice<'v> {
     /// A flow of the domain.

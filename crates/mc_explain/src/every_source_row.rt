@@ -1,4 +1,4 @@
-//! A router's row for every source as it is written.
+//! The text of a router's row for every source.
 
 ghost use Rattle.std.specs.Prelude.{◌≡◌, Some};
 ghost use Rattle.mc_forward.specs.ListedTables.{facts};
@@ -11,14 +11,14 @@ use mc_text::Addr;
 use mc_topology::RouterNo;
 use std::fmt;
 
-/// A router's row for every source, as `row (*,239.1.2.3) from eth0 to eth1 eth2:5 in cache-r1`: the
-/// first of the group, or else of the group 0.0.0.0, which is written `*`, too. Nothing is written
-/// where the notes have none.
+/// A router's row for every source, such as `row (*,239.1.2.3) from eth0 to eth1 eth2:5 in cache-r1`: the
+/// first of the group, or else of the group 0.0.0.0, which is written `*` too. It is empty if the summary
+/// of the router's cache has none.
 #[derive(Clone, Copy, Drop)]
 pub(crate) struct ShownEverySource<'v> {
     /// A flow of the domain.
     pub(crate) view: &'v FlowView<'v>,
-    /// What is noted of each router's cache, the first router's first.
+    /// The summary of each router's cache, in the topology's order.
     pub(crate) summary: &'v [CacheSummary],
     /// The flow's group.
     pub(crate) group: Addr,

@@ -1,12 +1,12 @@
-//! How the lines begin that tell which routers are left out.
+//! Theorems about how the lines of excluded routers begin.
 
 ghost use Rattle.std.specs.Prelude.{Bool, List};
 ghost use Rattle.mc_topology.specs.Topology.{IsValidTopology, TopologyValue};
 ghost use Rattle.mc_explain.specs.Indented.{AreIndented};
 ghost use Rattle.mc_explain.specs.ExcludedText.{AreWithoutLines, excluded_text, without_text};
 
-/// The lines that name routers that are left out begin with `without `, and the one that says why the
-/// verdict is no with two spaces, also where names of routers stand in them.
+/// The lines that name excluded routers begin with `without `, and the line that says why the verdict is
+/// no begins with two spaces, whatever the routers' names are.
 pub fn without_lines_have_prefix()
     ensures without { (t : TopologyValue) (marks : List Bool) → IsValidTopology t →
         AreWithoutLines (without_text t marks) }

@@ -1,6 +1,6 @@
-//! The lines that tell which routers are left out.
+//! The lines that name the excluded routers.
 
-ghost use Rattle.std.specs.Prelude.{◌≡◌, ◌++◌, OnOk, slice_get};
+ghost use Rattle.std.specs.Prelude.{◌≡◌, ◌++◌, OnOk};
 ghost use Rattle.std.specs.String.{string_bytes};
 ghost use Rattle.mc_explain.specs.FirstEight.{IsFirstEightOf};
 ghost use Rattle.mc_explain.specs.ExcludedText.{excluded_routers, excluded_text, without_text};
@@ -10,7 +10,7 @@ use crate::first_eight_routers::{FirstEightRouters, ShownRouters};
 use mc_text::Memory;
 use mc_topology::{RouterNo, Topology};
 
-/// Whether a router is marked as left out. Those beyond the marks are not.
+/// Whether a router is marked as excluded. Routers without a mark aren't.
 pub(crate) fn is_excluded(marks: &[bool], router: RouterNo) -> bool
     ensures { result ≡ is_excluded marks.now router }
 {
@@ -20,11 +20,12 @@ pub(crate) fn is_excluded(marks: &[bool], router: RouterNo) -> bool
     }
 }
 
-/// Writes a line for each router that is left out, in the topology's order.
+/// Writes a line for each excluded router, in the topology's order. `excluded` has a mark for each router,
+/// in that order.
 ///
 /// # Errors
 ///
-/// `Memory` where a growth was refused.
+/// `Memory` if an allocation fails.
 pub fn push_without_lines(
     text: &mut String,
     topology: &Topology,
@@ -43,8 +44,8 @@ pub fn push_without_lines(
     Ok(())
 }
 
-/// The routers that are left out.
-fn excluded_front(topology: &Topology, excluded: &[bool]) -> FirstEightRouters
+/// The first 8 excluded routers, and how many there are.
+fn first_excluded(topology: &Topology, excluded: &[bool]) -> FirstEightRouters
     ensures { IsFirstEightOf result (excluded_routers topology.now excluded.now) }
 {
     let mut front = FirstEightRouters::new();
@@ -57,12 +58,12 @@ fn excluded_front(topology: &Topology, excluded: &[bool]) -> FirstEightRouters
     front
 }
 
-/// Writes why the verdict is no where routers are left out: a line that names the first of them. Nothing
-/// is written where none is.
+/// Writes why the verdict is no if routers are excluded: a line that names the first 8 of them. It writes
+/// nothing if none is. `excluded` has a mark for each router, in the topology's order.
 ///
 /// # Errors
 ///
-/// `Memory` where a growth was refused.
+/// `Memory` if an allocation fails.
 pub fn push_excluded(
     text: &mut String,
     topology: &Topology,
@@ -71,7 +72,7 @@ pub fn push_excluded(
     ensures line { OnOk result (string_bytes text.new ≡ string_bytes text.old
         ++ excluded_text topology.now excluded.now) }
 {
-    let front = excluded_front(topology, excluded);
+    let front = first_excluded(topology, excluded);
     if front.count() > 0 {
         let routers = ShownRouters {
             front: &front,

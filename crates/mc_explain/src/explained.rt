@@ -1,7 +1,6 @@
-//! What is told of a flow that isn't right, by the flights that show it.
+//! Explains why a flow isn't right, by the flights that show it.
 
 ghost use Rattle.std.specs.Prelude.{◌≡◌, ◌<◌, ◌++◌, ℕ, IfOk, OnOk, length, map, reverse};
-ghost use Rattle.mc_forward.specs.Domains.{net_of};
 ghost use Rattle.mc_forward.specs.FlightsInDomain.{net_in};
 ghost use Rattle.mc_forward.specs.PerLan.{HoldsFirstOfEachKey};
 ghost use Rattle.mc_replay.specs.FindingValues.{finding_value};
@@ -23,7 +22,7 @@ use mc_text::Memory;
 use mc_topology::{LanNo, RouterNo};
 use std::alloc::Global;
 
-/// Tells who sent a copy onto a LAN, if not the source.
+/// Adds the sender of a copy onto a LAN, if it isn't the source.
 fn add_sender(
     causes: &mut Vec<Cause>,
     lan: LanNo,
@@ -37,8 +36,8 @@ fn add_sender(
     Ok(())
 }
 
-/// That the sender of a LAN's second copy can be taken out.
-fn take_out(
+/// The remedy for a second copy on a LAN: to take out the vif that sent it.
+fn remedy_for(
     alloc: Global,
     view: &FlowView<'_>,
     flight: &Flight<'_>,
@@ -65,7 +64,7 @@ fn take_out(
     })
 }
 
-/// What is told of a LAN that carried two copies.
+/// The causes of two copies on a LAN.
 fn explain_duplicate(
     alloc: Global,
     view: &FlowView<'_>,
@@ -84,7 +83,7 @@ fn explain_duplicate(
     let Some(second) = first_copies.second else {
         unreachable!()
     };
-    let remedy = take_out(alloc, view, flight, &first_copies, &second)?;
+    let remedy = remedy_for(alloc, view, flight, &first_copies, &second)?;
     let mut causes = Vec::new(alloc);
     add_sender(&mut causes, lan, first.sender)?;
     add_sender(&mut causes, lan, second.sender)?;
@@ -92,7 +91,7 @@ fn explain_duplicate(
     Ok(causes)
 }
 
-/// A line for each hop of a circle, in the order of the way.
+/// A cause for each hop of a circle, in the order in which packets take them.
 fn circle_causes(alloc: Global, circle: &[Hop]) -> Result<Vec<Cause>, Memory>
     ensures { IfOk result (λ causes. causes.items ≡ reverse (map circle_cause circle.now)) }
 {
@@ -109,7 +108,7 @@ fn circle_causes(alloc: Global, circle: &[Hop]) -> Result<Vec<Cause>, Memory>
     Ok(causes)
 }
 
-/// What is told of a LAN whose second copy came of its first one.
+/// The causes of a loop: the LAN's second copy came from its first one.
 fn explain_loop(
     alloc: Global,
     view: &FlowView<'_>,
@@ -126,14 +125,14 @@ fn explain_loop(
         unreachable!()
     };
     let circle = hops_around(alloc, view, flight.copies(), &first_copies, &second)?;
-    let remedy = take_out(alloc, view, flight, &first_copies, &second)?;
+    let remedy = remedy_for(alloc, view, flight, &first_copies, &second)?;
     let mut causes = circle_causes(alloc, &circle)?;
     causes.push(remedy)?;
     Ok(causes)
 }
 
-/// What is told of a copy that left the known domain by a router's vif, or met a row there that isn't
-/// followed.
+/// The causes of a stray: a copy left the known domain by a router's vif, or came in by it and found only
+/// a row for every source.
 fn explain_stray(
     alloc: Global,
     view: &FlowView<'_>,
@@ -152,8 +151,8 @@ fn explain_stray(
     Ok(causes)
 }
 
-/// What is told of a LAN that packets with TTL 255 reach, whose flight this is, and packets with
-/// the flow's don't.
+/// The causes of a LAN that packets with the flow's TTL miss, and packets with TTL 255 reach. `greatest`
+/// is the flight of a packet with TTL 255.
 fn explain_least_ttl(
     alloc: Global,
     view: &FlowView<'_>,
@@ -189,8 +188,8 @@ fn explain_least_ttl(
     Ok(causes)
 }
 
-/// What is told of the finding of a travel's flight.
-fn finding(
+/// The causes of a travel's finding, by its last flight.
+fn explain_finding(
     alloc: Global,
     view: &FlowView<'_>,
     ended: &FinishedTravel<'_>,
@@ -209,12 +208,12 @@ fn finding(
     }
 }
 
-/// What is told of a flow that was examined, by the flights that show what is wrong. Nothing of one
-/// that is right. It takes time in proportion to the LANs and the copies of a flight.
+/// The causes of an examined flow's fault, by the flights that show it. There are none if the flow is
+/// right. `flow` counts from 0. The time is in proportion to the number of LANs and of copies in a flight.
 ///
 /// # Errors
 ///
-/// `Memory` where a growth was refused.
+/// `Memory` if an allocation fails.
 pub fn explain(
     alloc: Global,
     domain: &Domain,
@@ -228,10 +227,10 @@ pub fn explain(
     let view = FlowView::new(domain, flow);
     match examined_flights {
         ExaminedFlights::Certified(_) => Ok(Vec::new(alloc)),
-        ExaminedFlights::FoundAtTtl255(ended) => finding(alloc, &view, ended),
+        ExaminedFlights::FoundAtTtl255(ended) => explain_finding(alloc, &view, ended),
         ExaminedFlights::FoundAtFlowTtl { greatest, least } => match least.travel.finding {
             Finding::Missed(lan) => explain_least_ttl(alloc, &view, &greatest.flight, lan),
-            _ => finding(alloc, &view, least),
+            _ => explain_finding(alloc, &view, least),
         },
     }
 }

@@ -1,4 +1,4 @@
-//! The first copy that each LAN carried, and the first second one.
+//! The first copy on each LAN, and the first duplicate.
 
 ghost use Rattle.std.specs.Prelude.{◌≡◌, ◌<◌, All, IfOk, [], length, option_and_then};
 ghost use Rattle.mc_theory.specs.Findings.{first_double};
@@ -9,7 +9,7 @@ use mc_text::Memory;
 use mc_topology::{LanNo, RouterNo};
 use std::alloc::Global;
 
-/// The first copy of each LAN, and the first copy that has an earlier one on its LAN.
+/// The first copy on each LAN, and the first copy that has an earlier one on its LAN.
 #[derive(Drop)]
 pub(crate) struct FirstCopies {
     by_lan: PerLan<CarriedCopy>,
@@ -17,7 +17,7 @@ pub(crate) struct FirstCopies {
 }
 
 impl FirstCopies {
-    /// Those of these copies.
+    /// The first copy on each LAN, and the first duplicate, among these copies.
     pub(crate) fn new(
         alloc: Global,
         view: &FlowView<'_>,
@@ -37,14 +37,14 @@ impl FirstCopies {
         Ok(FirstCopies { by_lan, second })
     }
 
-    /// The first copy of a LAN.
+    /// The first copy on a LAN.
     pub(crate) fn on(&self, lan: LanNo) -> Option<CarriedCopy>
         ensures { result ≡ item_on_lan self.now.by_lan lan }
     {
         self.by_lan.on(lan)
     }
 
-    /// Who sent the first copy of a LAN, none for the source.
+    /// The router and the vif that sent the first copy onto a LAN, `None` for the source.
     pub(crate) fn sender_on(&self, lan: LanNo) -> Option<(RouterNo, u8)>
         ensures { result ≡ option_and_then (λ c. c.sender) (item_on_lan self.now.by_lan lan) }
     {

@@ -1,4 +1,4 @@
-//! The front of a list of LANs, as much of it as is shown.
+//! The first 8 LANs of a list, which is as many as are shown.
 
 ghost use Rattle.std.specs.Prelude.{◌≡◌, ◌+◌, ◌<◌, ◌++◌, ◌∷◌, [], Some, take};
 ghost use Rattle.mc_explain.specs.FirstEight.{IsFirstEightOf, first_lans_text};
@@ -27,7 +27,7 @@ impl Model for FirstEight {
 }
 
 impl FirstEight {
-    /// That of a list without LANs.
+    /// The empty list.
     pub(crate) fn new() -> FirstEight
         ensures { IsFirstEightOf result [] }
     {
@@ -44,7 +44,7 @@ impl FirstEight {
         self.count
     }
 
-    /// The list has one LAN more, behind the others.
+    /// Adds a LAN at the end of the list.
     pub(crate) fn add(&mut self, lan: LanNo)
         requires bounded { self.old.count < 4294967295 }
         ensures first { self.new.first ≡ take 8 (self.old.first ++ lan ∷ []) }
@@ -56,7 +56,7 @@ impl FirstEight {
         self.count += 1;
     }
 
-    /// The first LANs.
+    /// The first LANs, 8 at most.
     fn first(&self) -> &[LanNo]
         ensures { result.now ≡ self.now.first }
     {
@@ -65,10 +65,10 @@ impl FirstEight {
     }
 }
 
-/// How many more LANs there are, as ` and 3 more`, or nothing.
+/// How many more there are, such as ` and 3 more`, or nothing if there are none.
 #[derive(Clone, Copy, Drop)]
 pub(crate) struct ShownMore {
-    /// That number.
+    /// How many more there are.
     pub(crate) more: usize,
 }
 
@@ -85,10 +85,10 @@ impl fmt::Display for ShownMore {
     }
 }
 
-/// The first LANs of a list by their names, and how many more there are, as ` l1 l2`.
+/// The names of the first LANs of a list, such as ` l1 l2`, and how many more there are.
 #[derive(Clone, Copy, Drop)]
 pub(crate) struct ShownLans<'t> {
-    /// The front of the list.
+    /// The first LANs of the list.
     pub(crate) front: &'t FirstEight,
     /// The topology that has the names.
     pub(crate) topology: &'t Topology,

@@ -1,4 +1,4 @@
-//! The front of a list of routers, as much of it as is shown.
+//! The first 8 routers of a list, which is as many as are shown.
 
 ghost use Rattle.std.specs.Prelude.{◌≡◌, ◌+◌, ◌<◌, ◌++◌, ◌∷◌, [], Some, length, take};
 ghost use Rattle.mc_explain.specs.FirstEight.{IsFirstEightOf};
@@ -28,7 +28,7 @@ impl Model for FirstEightRouters {
 }
 
 impl FirstEightRouters {
-    /// That of a list without routers.
+    /// The empty list.
     pub(crate) fn new() -> FirstEightRouters
         ensures { IsFirstEightOf result [] }
     {
@@ -38,7 +38,7 @@ impl FirstEightRouters {
         }
     }
 
-    /// That of these routers.
+    /// The first of these routers.
     pub(crate) fn of(routers: &[RouterNo]) -> FirstEightRouters
         ensures { IsFirstEightOf result routers.now }
     {
@@ -56,7 +56,7 @@ impl FirstEightRouters {
         self.count
     }
 
-    /// The list has one router more, behind the others.
+    /// Adds a router at the end of the list.
     pub(crate) fn add(&mut self, router: RouterNo)
         requires bounded { self.old.count < usize.MAX }
         ensures first { self.new.first ≡ take 8 (self.old.first ++ router ∷ []) }
@@ -68,7 +68,7 @@ impl FirstEightRouters {
         self.count += 1;
     }
 
-    /// The first routers.
+    /// The first routers, 8 at most.
     fn first(&self) -> &[RouterNo]
         ensures { result.now ≡ self.now.first }
     {
@@ -77,10 +77,10 @@ impl FirstEightRouters {
     }
 }
 
-/// The first routers of a list by their names, and how many more there are, as ` r1 r2`.
+/// The names of the first routers of a list, such as ` r1 r2`, and how many more there are.
 #[derive(Clone, Copy, Drop)]
 pub(crate) struct ShownRouters<'t> {
-    /// The front of the list.
+    /// The first routers of the list.
     pub(crate) front: &'t FirstEightRouters,
     /// The topology that has the names.
     pub(crate) topology: &'t Topology,

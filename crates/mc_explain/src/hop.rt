@@ -1,4 +1,4 @@
-//! A hop of a packet's way, as a router's row has it.
+//! A hop of a packet's path, by a router's row.
 
 ghost use Rattle.std.specs.Prelude.{◌≡◌};
 ghost use Rattle.mc_theory.specs.Hops.{hop_by, hop_sent};
@@ -40,7 +40,7 @@ impl Model for Hop {
     } };
 }
 
-/// The hop of an interface onto a LAN, if its router's row takes copies from one.
+/// The hop by an interface onto a LAN, if its router's row takes copies from a LAN.
 fn hop_by(view: &FlowView<'_>, router: RouterNo, vif: u8, onto: LanNo) -> Option<Hop>
     ensures { result ≡ hop_by (net_in view.now) (router, vif) onto }
 {
@@ -62,7 +62,7 @@ fn hop_by(view: &FlowView<'_>, router: RouterNo, vif: u8, onto: LanNo) -> Option
     }
 }
 
-/// The hop of what this sender sent onto a LAN. The source needs none.
+/// The hop by which this sender's copies came onto a LAN. The source's own have none.
 pub(crate) fn hop_sent(
     view: &FlowView<'_>,
     sender: Option<(RouterNo, u8)>,

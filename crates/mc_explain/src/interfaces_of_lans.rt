@@ -1,12 +1,12 @@
 //! The interfaces that the topology has on each LAN.
 
-ghost use Rattle.std.specs.Prelude.{◌≡◌, ◌<◌, ◌++◌, ◌∷◌, ℕ, [], All, IfOk, List, OnOk, length, map};
+ghost use Rattle.std.specs.Prelude.{◌≡◌, ◌<◌, ◌++◌, ℕ, [], All, IfOk, List, OnOk, length, map};
 ghost use Rattle.mc_theory.specs.Lists.{below};
 ghost use Rattle.mc_forward.specs.Domains.{vif_of};
 ghost use Rattle.mc_forward.specs.ListedTables.{DomainFacts, facts};
-ghost use Rattle.mc_explain.specs.TopologyLans.{listed_interface_at, listed_interface_of, interfaces_of_router, interfaces_on_lan, interfaces_on_lans};
-ghost use Rattle.mc_explain.specs.TopologyLans.{interface_at, vif_has_device, vif_of_device};
-ghost use Rattle.mc_explain.specs.BucketsAndMarks.{AreBuckets};
+ghost use Rattle.mc_explain.specs.TopologyLans.{listed_interface_of, interfaces_of_router, interfaces_on_lan};
+ghost use Rattle.mc_explain.specs.TopologyLans.{interfaces_on_lans, vif_has_device, vif_of_device};
+ghost use Rattle.mc_explain.specs.BucketsAndMarks.{AreInterfacesByLan};
 
 use crate::listed_interface::ListedInterface;
 use mc_forward::Domain;
@@ -15,7 +15,7 @@ use mc_topology::{Interface, LanNo, RouterNo, Topology};
 use std::alloc::Global;
 use std::marker::Model;
 
-/// A list that others stand beside.
+/// One list of a list of lists.
 #[derive(Debug, Drop)]
 struct InnerList<T> {
     items: Vec<T>,
@@ -30,7 +30,7 @@ impl<T> Model for InnerList<T> {
 }
 
 /// The interfaces that the topology has on each LAN, by router and then in the topology's order. All
-/// searches in a domain share them.
+/// searches of a domain share them.
 #[derive(Debug, Drop)]
 pub struct InterfacesOfLans {
     lans: Vec<InnerList<ListedInterface>>,
@@ -45,7 +45,7 @@ impl Model for InterfacesOfLans {
     ghost view = { λ i. i.lans.items };
 }
 
-/// So many empty lists.
+/// `count` empty lists.
 fn empty_lists<T: Drop>(alloc: Global, count: u32) -> Result<Vec<InnerList<T>>, Memory>
     ensures { IfOk result (λ lists. lists.items ≡ map (λ _. []) (below count)) }
 {
@@ -98,7 +98,7 @@ pub fn vif_of_device(domain: &Domain, router: RouterNo, device: &[u8]) -> Option
     None
 }
 
-/// An interface with its number, and its router's vif.
+/// An interface's number, its router, and the router's vif of its device.
 fn listed_interface_of(domain: &Domain, number: u32, interface: &Interface<'_>) -> ListedInterface
     ensures { result ≡ listed_interface_of (facts domain.now) number interface.now }
 {
@@ -109,7 +109,7 @@ fn listed_interface_of(domain: &Domain, number: u32, interface: &Interface<'_>) 
     }
 }
 
-/// Adds some interfaces to the lists of their LANs.
+/// Adds the interfaces with these numbers to the lists of their LANs.
 fn add_interfaces(
     lists: &mut Vec<InnerList<ListedInterface>>,
     domain: &Domain,
@@ -118,11 +118,8 @@ fn add_interfaces(
     requires numbers { All (λ k. k < length domain.now.topology.interfaces) numbers.now }
     requires lans { length lists.old.items ≡ length domain.now.topology.lans }
     ensures count { length lists.new.items ≡ length domain.now.topology.lans }
-    ensures each { OnOk result ((earlier : List ℕ) →
-        AreBuckets (listed_interface_at (facts domain.now)) (λ k. (interface_at domain.now.topology k).lan)
-        lists.old.items earlier →
-        AreBuckets (listed_interface_at (facts domain.now)) (λ k. (interface_at domain.now.topology k).lan)
-        lists.new.items (earlier ++ numbers.now)) }
+    ensures each { OnOk result ((earlier : List ℕ) → AreInterfacesByLan (facts domain.now) lists.old.items earlier →
+        AreInterfacesByLan (facts domain.now) lists.new.items (earlier ++ numbers.now)) }
 {
     for number in numbers {
         let interface = domain.topology().interface(*number);
@@ -151,12 +148,12 @@ fn interfaces_of_lans(
 }
 
 impl InterfacesOfLans {
-    /// Those of a domain's topology. It takes time in proportion to the interfaces, the routers and
-    /// the LANs.
+    /// The interfaces of a domain's topology. The time is in proportion to the number of interfaces,
+    /// routers and LANs.
     ///
     /// # Errors
     ///
-    /// `Memory` where a growth was refused.
+    /// `Memory` if an allocation fails.
     pub fn new(alloc: Global, domain: &Domain) -> Result<InterfacesOfLans, Memory>
         ensures { IfOk result (λ interfaces. interfaces ≡ interfaces_on_lans (facts domain.now)) }
     {
@@ -164,7 +161,7 @@ impl InterfacesOfLans {
         Ok(InterfacesOfLans { lans })
     }
 
-    /// Those on a LAN.
+    /// The interfaces on a LAN.
     pub(crate) fn on(&self, lan: LanNo) -> &[ListedInterface]
         requires known { lan < length self.now }
         ensures item { (d : DomainFacts) → self.now ≡ interfaces_on_lans d → lan < length d.topology.lans →

@@ -1,6 +1,6 @@
-//! What is told of one LAN that carried no copy: what the tables of the routers on it say.
+//! Why one LAN carried no copy, by the tables of the routers on it.
 
-ghost use Rattle.std.specs.Prelude.{◌≡◌, ◌<◌, ◌++◌, OnOk, IfOk, flat_map, length};
+ghost use Rattle.std.specs.Prelude.{◌≡◌, ◌<◌, ◌++◌, OnOk, flat_map, length};
 ghost use Rattle.std.specs.List.{list_any};
 ghost use Rattle.mc_tables.specs.CacheTable.{IsValidEntry};
 ghost use Rattle.mc_forward.specs.Domains.{oif_pairs, vif_of};
@@ -22,12 +22,12 @@ use mc_tables::{CacheSummary, Entry};
 use mc_text::Memory;
 use mc_topology::{Flow, LanNo, RouterNo};
 
-/// What is looked into: a flow of a domain, what is noted of each router's cache, which routers are left
-/// out, the topology's interfaces of each LAN, and the first copies that LANs carried.
+/// What a search reads: a flow of a domain, the summaries of the routers' caches, which routers are
+/// excluded, the topology's interfaces on each LAN, and the first copy on each LAN.
 #[derive(Clone, Copy, Drop)]
 pub(crate) struct LanProbe<'s> {
     pub(crate) view: &'s FlowView<'s>,
-    /// The view's flow.
+    /// The view's flow as the topology lists it.
     pub(crate) flow: &'s Flow,
     pub(crate) summary: &'s [CacheSummary],
     pub(crate) excluded: &'s [bool],
@@ -35,8 +35,8 @@ pub(crate) struct LanProbe<'s> {
     pub(crate) first_copies: &'s FirstCopies,
 }
 
-/// Whether an entry sends by a vif, if there is one.
-fn is_sent_by(entry: &Entry<'_>, vif: Option<u8>) -> bool
+/// Whether an entry sends by a vif. It sends by none if there is none.
+fn sends_by_known_vif(entry: &Entry<'_>, vif: Option<u8>) -> bool
     requires valid { IsValidEntry entry.now }
     ensures value { result ≡ sends_by_known_vif vif (oif_pairs entry.now.oifs) }
 {
@@ -47,7 +47,7 @@ fn is_sent_by(entry: &Entry<'_>, vif: Option<u8>) -> bool
 }
 
 impl<'s> LanProbe<'s> {
-    /// Whether a router is left out.
+    /// Whether a router is excluded.
     fn is_excluded(&self, router: RouterNo) -> bool
         ensures { result ≡ is_excluded self.now.excluded.now router }
     {
@@ -65,7 +65,7 @@ impl<'s> LanProbe<'s> {
         }
     }
 
-    /// What is told of a vif on the LAN, where its router's row takes from another one.
+    /// The line of a vif on the LAN, whose router's row takes from another LAN.
     fn vif_line(
         &self,
         lan: LanNo,
@@ -107,7 +107,7 @@ impl<'s> LanProbe<'s> {
         }
     }
 
-    /// The same of a router's vifs of the topology's interfaces on the LAN.
+    /// Adds the lines of a router's vifs on the LAN, where its row takes from another LAN.
     fn add_vif_lines(
         &self,
         lines: &mut Vec<SearchLine>,
@@ -132,7 +132,7 @@ impl<'s> LanProbe<'s> {
         Ok(())
     }
 
-    /// What is told of the row that a router of the LAN has for the flow.
+    /// Adds the lines of the row that a router on the LAN has for the flow.
     fn add_row_lines(
         &self,
         lines: &mut Vec<SearchLine>,
@@ -172,7 +172,7 @@ impl<'s> LanProbe<'s> {
         }
     }
 
-    /// What is told of an interface that the topology has on the LAN, where it is no multicast vif.
+    /// Adds a line for an interface that the topology has on the LAN, if it is no multicast vif.
     fn add_device_line(
         &self,
         lines: &mut Vec<SearchLine>,
@@ -206,7 +206,7 @@ impl<'s> LanProbe<'s> {
         Ok(())
     }
 
-    /// The same of a router's interfaces.
+    /// Adds such lines for all interfaces of a router on the LAN.
     fn add_device_lines(
         &self,
         lines: &mut Vec<SearchLine>,
@@ -222,7 +222,7 @@ impl<'s> LanProbe<'s> {
         Ok(())
     }
 
-    /// The routers that have an interface on the LAN by the topology.
+    /// The routers that have an interface on the LAN in the topology.
     pub(crate) fn routers_on(&self, lan: LanNo) -> RoutersOnLan<'s>
         requires lan_probe { IsLanProbe self.now }
         requires lan { lan < length self.now.view.now.domain.topology.lans }
@@ -231,7 +231,7 @@ impl<'s> LanProbe<'s> {
         RoutersOnLan::new(self.interfaces.on(lan))
     }
 
-    /// What is told of a router of the LAN.
+    /// Adds the lines of a router on the LAN.
     fn add_router_lines(
         &self,
         lines: &mut Vec<SearchLine>,
@@ -251,7 +251,7 @@ impl<'s> LanProbe<'s> {
         self.add_device_lines(lines, lan, own)
     }
 
-    /// What is told of the routers of the LAN, one by one.
+    /// Adds the lines of all routers on the LAN.
     fn add_lines_of_routers(&self, lines: &mut Vec<SearchLine>, lan: LanNo) -> Result<(), Memory>
         requires lan_probe { IsLanProbe self.now }
         requires lan { lan < length self.now.view.now.domain.topology.lans }
@@ -265,14 +265,14 @@ impl<'s> LanProbe<'s> {
         Ok(())
     }
 
-    /// Whether a router has a row that takes from the LAN, and isn't left out.
+    /// Whether a router has a row that takes from the LAN, and isn't excluded.
     fn is_expecting(&self, lan: LanNo, router: RouterNo) -> bool
         ensures { result ≡ is_expecting (search_in self.now) lan router }
     {
         !self.is_excluded(router) && self.view.from_lan(Some((router, 0))) == Some(lan)
     }
 
-    /// Which routers of the LAN have a row that takes from it.
+    /// Adds a line for each router that has a row that takes from the LAN.
     fn add_expected_lines(&self, lines: &mut Vec<SearchLine>, lan: LanNo) -> Result<(), Memory>
         requires lan_probe { IsLanProbe self.now }
         requires lan { lan < length self.now.view.now.domain.topology.lans }
@@ -294,20 +294,20 @@ impl<'s> LanProbe<'s> {
         ensures { result ≡ sends_here (search_in self.now) (router, own.now) }
     {
         match self.view.row(router) {
-            RowFor::Exact(entry) => own.iter().any(|i| is_sent_by(&entry, i.vif)),
+            RowFor::Exact(entry) => own.iter().any(|i| sends_by_known_vif(&entry, i.vif)),
             RowFor::Open | RowFor::NoRow => false,
         }
     }
 
-    /// Whether it does, or is left out.
+    /// Whether a router sends onto the LAN, or is excluded.
     fn may_send_here(&self, router: RouterNo, own: &[ListedInterface]) -> bool
         ensures { result ≡ may_send_here (search_in self.now) (router, own.now) }
     {
         self.is_excluded(router) || self.sends_here(router, own)
     }
 
-    /// Whether some router of the LAN may.
-    fn may_be_sent_onto(&self, lan: LanNo) -> bool
+    /// Whether some router on the LAN sends onto it, or is excluded.
+    fn has_possible_sender(&self, lan: LanNo) -> bool
         requires lan_probe { IsLanProbe self.now }
         requires lan { lan < length self.now.view.now.domain.topology.lans }
         ensures value { result ≡ list_any (may_send_here (search_in self.now))
@@ -321,7 +321,7 @@ impl<'s> LanProbe<'s> {
         false
     }
 
-    /// All that is told of the LAN.
+    /// Adds all lines of the LAN.
     pub(crate) fn add_lan_lines(
         &self,
         lines: &mut Vec<SearchLine>,
@@ -337,7 +337,7 @@ impl<'s> LanProbe<'s> {
         self.add_expected_lines(lines, lan)?;
         if lines.len() == before {
             lines.push(SearchLine::NoRouter { lan })?;
-        } else if !self.may_be_sent_onto(lan) {
+        } else if !self.has_possible_sender(lan) {
             lines.push(SearchLine::NoSender { lan })?;
         }
         Ok(())

@@ -1,5 +1,4 @@
-//! What is told of a flow that isn't right: who sent what, and what may be taken out, as lines that
-//! follow from the tables. And how those lines are written.
+//! Why a flow isn't right: the causes and remedies that follow from the tables, and their text.
 #![tactic(auto)]
 
 mod cause_text;

@@ -1,4 +1,4 @@
-//! How the lines of explanations begin.
+//! Theorems about how the lines of explanations begin.
 
 ghost use Rattle.std.specs.Prelude.{ℕ, List};
 ghost use Rattle.mc_tables.specs.Summary.{SummaryValue};
@@ -11,8 +11,8 @@ ghost use Rattle.mc_explain.specs.ExplanationText.{causes_text};
 ghost use Rattle.mc_explain.specs.Indented.{AreIndented};
 ghost use Rattle.mc_explain.specs.WantedText.{also_missed_line, wanted_line};
 
-/// All lines that explain begin with two spaces, also where names of LANs, routers and devices stand
-/// in them.
+/// Each line of an explanation begins with two spaces, whatever the names of LANs, routers and devices
+/// are.
 pub fn explanations_begin_with_two_spaces()
     ensures causes { (d : DomainFacts) (summary : List SummaryValue) (number : ℕ) (f : Flow)
         (causes : List Cause) → IsValidTopology d.topology →

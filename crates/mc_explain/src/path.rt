@@ -1,4 +1,4 @@
-//! The way by which a copy came, hop by hop back, and which packets get through by it.
+//! The path by which a copy came, hop by hop back, and which packets get through it.
 
 ghost use Rattle.std.specs.Prelude.{◌≡◌, ◌≤◌, IfOk, length};
 ghost use Rattle.mc_theory.specs.Paths.{need};
@@ -12,8 +12,8 @@ use mc_forward::{CarriedCopy, FlowView};
 use mc_text::Memory;
 use std::alloc::Global;
 
-/// The hops by which a copy came from the source's LAN, the last first. In a travel's flight there
-/// are fewer than copies.
+/// The hops by which a copy came from the source's LAN, the last one first. A travel's flight has fewer of
+/// them than copies.
 pub(crate) fn hops_back(
     alloc: Global,
     view: &FlowView<'_>,
@@ -21,7 +21,7 @@ pub(crate) fn hops_back(
     first_copies: &FirstCopies,
     copy: &CarriedCopy,
 ) -> Result<Vec<Hop>, Memory>
-    requires given { HoldsFirstOfEachKey (λ c. c.lan) first_copies.now.by_lan copies.now }
+    requires first_copies { HoldsFirstOfEachKey (λ c. c.lan) first_copies.now.by_lan copies.now }
     ensures ok { IfOk result (λ hops. hops.items ≡ hops_back (net_in view.now) copies.now
         (length copies.now) copy.now.lan copy.now.sender) }
 {
@@ -39,7 +39,7 @@ pub(crate) fn hops_back(
     Ok(hops)
 }
 
-/// The hops by which a copy came from its own LAN, the last first.
+/// The hops by which a copy came from its own LAN, the last one first.
 pub(crate) fn hops_around(
     alloc: Global,
     view: &FlowView<'_>,
@@ -47,7 +47,7 @@ pub(crate) fn hops_around(
     first_copies: &FirstCopies,
     copy: &CarriedCopy,
 ) -> Result<Vec<Hop>, Memory>
-    requires given { HoldsFirstOfEachKey (λ c. c.lan) first_copies.now.by_lan copies.now }
+    requires first_copies { HoldsFirstOfEachKey (λ c. c.lan) first_copies.now.by_lan copies.now }
     ensures ok { IfOk result (λ hops. hops.items ≡ hops_until (net_in view.now) copies.now
         copy.now.lan (length copies.now) copy.now.lan copy.now.sender) }
 {
@@ -68,7 +68,7 @@ pub(crate) fn hops_around(
     Ok(hops)
 }
 
-/// The least TTL with which packets get through by a way.
+/// The least TTL with which packets get through these hops, which have the last one first.
 pub(crate) fn need(hops: &[Hop]) -> u8
     requires bounded { need hops.now ≤ 255 }
     ensures value { result ≡ need hops.now }
@@ -82,8 +82,8 @@ pub(crate) fn need(hops: &[Hop]) -> u8
     least as u8
 }
 
-/// The hop of a way at which a packet sent with this TTL is stopped, and what is left of its TTL
-/// there.
+/// The hop at which a packet that is sent with this TTL is stopped, and what is left of its TTL there. The
+/// hops have the last one first.
 pub(crate) fn first_stop(ttl: u8, hops: &[Hop]) -> Option<(Hop, u8)>
     ensures { result ≡ stopping_hop ttl hops.now }
 {

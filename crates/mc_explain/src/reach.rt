@@ -1,4 +1,4 @@
-//! What a search comes to: which of its routers sent copies on, and which took none.
+//! How far a packet came in a search: which routers sent copies on, and which took none.
 
 ghost use Rattle.std.specs.Prelude.{◌≡◌, ◌<◌, ◌≤◌, ◌||◌, ◌∷◌, ℕ, [], All, IfOk, OnOk, false, filter};
 ghost use Rattle.std.specs.Prelude.{◌&&◌, Bool, length, map, not, slice_index_or, true};
@@ -18,17 +18,17 @@ use std::alloc::Global;
 /// How far a packet came among the routers of a search, in the search's order, each router once.
 #[derive(Debug, Drop)]
 pub struct Reach {
-    /// Those that sent copies on.
+    /// The routers that sent copies on.
     pub sent_on: Vec<RouterNo>,
-    /// The others that a copy came to and that took none: they have no row, or one that takes from
-    /// another vif.
+    /// The other routers that a copy came to and that took none: they have no row, or one with another
+    /// incoming vif.
     pub took_none: Vec<RouterNo>,
 }
 
 /// The greatest number of routers of a topology.
 const MAX_ROUTERS: usize = 256;
 
-/// Whether a handling sent the copy on, or else took none.
+/// Whether an event sent the copy on (`sent`), or took none (not `sent`).
 fn outcome_matches(outcome: Outcome, sent: bool) -> bool
     ensures { result ≡ outcome_matches sent (outcome_value outcome) }
 {
@@ -39,7 +39,7 @@ fn outcome_matches(outcome: Outcome, sent: bool) -> bool
     }
 }
 
-/// Marks the routers of such events.
+/// Marks the routers that have such an event.
 fn mark_routers(marks: &mut [bool], events: &[Event], sent: bool)
     ensures count { length marks.new ≡ length marks.old }
     ensures marks { (router : ℕ) → router < length marks.old →
@@ -54,7 +54,7 @@ fn mark_routers(marks: &mut [bool], events: &[Event], sent: bool)
     }
 }
 
-/// Takes the marks away of the routers that sent a copy on.
+/// Unmarks the routers that sent a copy on.
 fn unmark_senders(marks: &mut [bool], events: &[Event])
     ensures count { length marks.new ≡ length marks.old }
     ensures marks { (router : ℕ) → router < length marks.old →
@@ -69,7 +69,7 @@ fn unmark_senders(marks: &mut [bool], events: &[Event])
     }
 }
 
-/// Adds a router that isn't listed yet.
+/// Adds a router, unless it is listed already.
 fn add_router(
     routers: &mut Vec<RouterNo>,
     listed: &mut [bool],
@@ -89,7 +89,7 @@ fn add_router(
     Ok(())
 }
 
-/// The routers of a LAN are added.
+/// Adds the routers on a LAN that aren't listed yet.
 fn add_routers(
     lan_probe: &LanProbe<'_>,
     routers: &mut Vec<RouterNo>,
@@ -111,7 +111,7 @@ fn add_routers(
     Ok(())
 }
 
-/// The routers of LANs, each once.
+/// The routers on these LANs, each once.
 fn routers_of_lans(
     alloc: Global,
     lan_probe: &LanProbe<'_>,
@@ -121,7 +121,7 @@ fn routers_of_lans(
     requires lans { All (λ lan. lan < length lan_probe.now.view.now.domain.topology.lans) lans.now }
     ensures routers { IfOk result (λ routers.
         routers.items ≡ routers_of_lans (search_in lan_probe.now) lans.now) }
-    ensures few { IfOk result (λ routers. All (λ router. router < 256) routers.items) }
+    ensures bounded { IfOk result (λ routers. All (λ router. router < 256) routers.items) }
 {
     let _rules = lan_probe.view.topology();
     let mut listed = [false; MAX_ROUTERS];
@@ -153,20 +153,20 @@ fn marked_routers(
 
 /// Which of these routers sent copies on, and which others took none.
 fn reach_among(alloc: Global, routers: &[RouterNo], events: &[Event]) -> Result<Reach, Memory>
-    requires valid { All (λ router. router < 256) routers.now }
+    requires bounded { All (λ router. router < 256) routers.now }
     ensures sent_on { IfOk result (λ reach.
         reach.sent_on.items ≡ sent_on events.now routers.now) }
     ensures took_none { IfOk result (λ reach.
         reach.took_none.items ≡ took_none events.now routers.now) }
 {
-    let mut sent = [false; MAX_ROUTERS];
-    mark_routers(&mut sent, events, true);
-    let mut refused = [false; MAX_ROUTERS];
-    mark_routers(&mut refused, events, false);
-    unmark_senders(&mut refused, events);
+    let mut sent_on = [false; MAX_ROUTERS];
+    mark_routers(&mut sent_on, events, true);
+    let mut took_none = [false; MAX_ROUTERS];
+    mark_routers(&mut took_none, events, false);
+    unmark_senders(&mut took_none, events);
     Ok(Reach {
-        sent_on: marked_routers(alloc, routers, &sent)?,
-        took_none: marked_routers(alloc, routers, &refused)?,
+        sent_on: marked_routers(alloc, routers, &sent_on)?,
+        took_none: marked_routers(alloc, routers, &took_none)?,
     })
 }
 

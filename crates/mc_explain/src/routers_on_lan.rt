@@ -1,6 +1,6 @@
 //! The routers that have an interface on a LAN.
 
-ghost use Rattle.std.specs.Prelude.{◌≡◌, ◌≤◌, length};
+ghost use Rattle.std.specs.Prelude.{◌≡◌};
 ghost use Rattle.mc_explain.specs.BucketsAndMarks.{leading_of_router};
 
 use crate::listed_interface::ListedInterface;
@@ -23,7 +23,7 @@ impl<'a> Model for RouterOnLan<'a> {
     ghost view = { λ o. (o.router, o.interfaces.now) };
 }
 
-/// The routers of a LAN, from the first. Its value in contracts is the list of those that are left.
+/// An iterator over the routers on a LAN. Its value in contracts is the list of those that are left.
 #[derive(Drop)]
 pub(crate) struct RoutersOnLan<'a> {
     left: &'a [ListedInterface],
@@ -40,7 +40,7 @@ impl<'a> Model for RoutersOnLan<'a> {
     ghost view = { λ s. group_by_router s.left.now };
 }
 
-/// How many interfaces from the front are this router's.
+/// How many interfaces at the front are this router's.
 fn leading_of_router(router: RouterNo, interfaces: &[ListedInterface]) -> usize
     ensures { result ≡ leading_of_router router interfaces.now }
 {
@@ -55,7 +55,7 @@ fn leading_of_router(router: RouterNo, interfaces: &[ListedInterface]) -> usize
 impl<'a> RoutersOnLan<'a> {
     ghost use Rattle.mc_explain.specs.SearchLine.{group_by_router};
 
-    /// Those of these interfaces, which stand by router.
+    /// The routers of these interfaces, which are sorted by router.
     pub(crate) fn new(all: &'a [ListedInterface]) -> RoutersOnLan<'a>
         ensures { result ≡ group_by_router all.now }
     {

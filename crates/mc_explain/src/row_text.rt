@@ -1,11 +1,11 @@
-//! A router's row as it is written.
+//! The text of a router's row.
 
 ghost use Rattle.std.specs.Prelude.{◌≡◌, Some};
 ghost use Rattle.mc_forward.specs.Domains.{oif_pairs};
 ghost use Rattle.mc_forward.specs.FlightsInDomain.{net_in};
 ghost use Rattle.mc_forward.specs.ListedTables.{facts};
 ghost use Rattle.mc_explain.specs.RowText.{address_text, entry_text, incoming_text};
-ghost use Rattle.mc_explain.specs.RowText.{pair_text, pairs_text, row_text};
+ghost use Rattle.mc_explain.specs.RowText.{oif_text, oifs_text, row_text};
 
 use crate::device_text::ShownDevice;
 use mc_forward::{FlowView, RowFor};
@@ -14,7 +14,7 @@ use mc_text::Addr;
 use mc_topology::{Flow, RouterNo};
 use std::fmt;
 
-/// An outgoing vif of a row, as ` eth1` or ` eth1:5`. A threshold of 1 isn't written.
+/// An outgoing vif of a row, such as ` eth1` or ` eth1:5`. A threshold of 1 isn't written.
 #[derive(Clone, Copy, Drop)]
 struct ShownOif<'v> {
     view: &'v FlowView<'v>,
@@ -23,7 +23,7 @@ struct ShownOif<'v> {
 }
 
 impl<'v> fmt::Display for ShownOif<'v> {
-    ghost output = { λ shown. Some (pair_text (facts shown.view.now.domain) shown.router
+    ghost output = { λ shown. Some (oif_text (facts shown.view.now.domain) shown.router
         (shown.oif.vif, shown.oif.threshold)) };
 
     fn fmt<W: fmt::Write>(&self, f: &mut fmt::Formatter<W>) -> fmt::Result {
@@ -41,7 +41,7 @@ impl<'v> fmt::Display for ShownOif<'v> {
     }
 }
 
-/// The outgoing vifs of a row, as ` eth1 eth2:5` or ` none`.
+/// The outgoing vifs of a row, such as ` eth1 eth2:5`, or ` none`.
 #[derive(Clone, Copy, Drop)]
 struct ShownOifs<'v> {
     view: &'v FlowView<'v>,
@@ -50,7 +50,7 @@ struct ShownOifs<'v> {
 }
 
 impl<'v> fmt::Display for ShownOifs<'v> {
-    ghost output = { λ shown. Some (pairs_text (facts shown.view.now.domain) shown.router
+    ghost output = { λ shown. Some (oifs_text (facts shown.view.now.domain) shown.router
         (oif_pairs shown.oifs.now)) };
 
     fn fmt<W: fmt::Write>(&self, f: &mut fmt::Formatter<W>) -> fmt::Result {
@@ -69,7 +69,7 @@ impl<'v> fmt::Display for ShownOifs<'v> {
     }
 }
 
-/// A row's source or its group. The address 0.0.0.0 stands for every one, and is written `*`.
+/// A row's source or group. The address 0.0.0.0 means every source or group, and is written `*`.
 #[derive(Clone, Copy, Drop)]
 struct ShownAddress {
     address: Addr,
@@ -88,7 +88,7 @@ impl fmt::Display for ShownAddress {
     }
 }
 
-/// A row, as `row (10.0.0.5,239.1.2.3) from eth0 to eth1 eth2:5 in cache-r1`.
+/// A row, such as `row (10.0.0.5,239.1.2.3) from eth0 to eth1 eth2:5 in cache-r1`.
 #[derive(Clone, Copy, Drop)]
 pub(crate) struct ShownEntry<'v> {
     /// A flow of the domain.
@@ -126,12 +126,12 @@ impl<'v> fmt::Display for ShownEntry<'v> {
     }
 }
 
-/// A router's row for a flow. Nothing is written of a row for every source, and where there is none.
+/// A router's row of a flow's source and group. It is empty if the router has none.
 #[derive(Clone, Copy, Drop)]
 pub(crate) struct ShownRow<'v> {
-    /// The flow.
+    /// The flow in its domain.
     pub(crate) view: &'v FlowView<'v>,
-    /// The same, as the topology has it.
+    /// The same flow as the topology lists it.
     pub(crate) flow: &'v Flow,
     /// The router.
     pub(crate) router: RouterNo,
@@ -160,8 +160,7 @@ impl<'v> fmt::Display for ShownRow<'v> {
     }
 }
 
-/// The device that a router's row for a flow takes from. Nothing is written where `ShownRow` writes
-/// nothing.
+/// The device of the incoming vif of a router's row for a flow. It is empty where `ShownRow` is.
 #[derive(Clone, Copy, Drop)]
 pub(crate) struct ShownIncoming<'v> {
     /// The flow.

@@ -1,11 +1,11 @@
-//! What is told where it is searched why a LAN carried no copy, line by line.
+//! A line of the search for why a LAN carried no copy.
 
 use mc_topology::{LanNo, RouterNo};
 
-/// A line of the search for a missed LAN. Rows are those that the routers have for the flow.
+/// A line of the search for a missed LAN. A router's row is the one that it has for the flow.
 #[derive(Clone, Copy, Debug)]
 pub enum SearchLine {
-    /// The router is left out, so that its tables are not known.
+    /// The router is excluded, so its tables are not known.
     Excluded {
         /// The LAN.
         lan: LanNo,
@@ -44,7 +44,7 @@ pub enum SearchLine {
         /// The router.
         router: RouterNo,
     },
-    /// The router has no resolved row but one for every source.
+    /// The router's only resolved row for the flow is for every source.
     EverySource {
         /// The LAN.
         lan: LanNo,
@@ -68,7 +68,7 @@ pub enum SearchLine {
         vif: u8,
         /// The LAN that the row takes from.
         from: LanNo,
-        /// Whether that carried a copy.
+        /// Whether that LAN carried a copy.
         carried: bool,
     },
     /// The router's row sends by this vif on the LAN, and takes from a LAN that carried a copy, which
@@ -80,7 +80,7 @@ pub enum SearchLine {
         router: RouterNo,
         /// The vif, 0 to 31.
         vif: u8,
-        /// Its threshold.
+        /// Its threshold, 1 to 255.
         threshold: u8,
         /// The TTL of the first copy on the LAN that the row takes from.
         ttl: u8,
@@ -108,7 +108,7 @@ pub enum SearchLine {
         /// The LAN.
         lan: LanNo,
     },
-    /// No router of the LAN has a row that sends onto it, and none of them is left out.
+    /// No router on the LAN has a row that sends onto it, and none of them is excluded.
     NoSender {
         /// The LAN.
         lan: LanNo,

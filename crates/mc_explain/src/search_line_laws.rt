@@ -1,22 +1,17 @@
-//! How the lines of searches begin, and those that tell of unlisted rows.
+//! Theorems about how the lines of searches and of unlisted rows begin.
 
-ghost use Rattle.std.specs.Prelude.{ℕ, Bool, List};
+ghost use Rattle.std.specs.Prelude.{Bool, List};
 ghost use Rattle.mc_tables.specs.Summary.{SummaryValue};
-ghost use Rattle.mc_topology.specs.declared.flow.Flow.{Flow};
 ghost use Rattle.mc_topology.specs.Topology.{IsValidTopology, TopologyValue};
 ghost use Rattle.mc_forward.specs.ListedTables.{DomainFacts};
-ghost use Rattle.mc_explain.specs.declared.search_line.SearchLine.{SearchLine};
-ghost use Rattle.mc_explain.specs.Indented.{AreIndented};
-ghost use Rattle.mc_explain.specs.SearchText.{search_text};
+ghost use Rattle.mc_explain.specs.SearchText.{IsEachSearchIndented};
 ghost use Rattle.mc_explain.specs.UnlistedLines.{AreUnlistedLines};
 ghost use Rattle.mc_explain.specs.UnlistedText.{unlisted_text};
 
-/// All lines of a search begin with two spaces, and those that tell of unlisted rows with `unlisted ` or
-/// with two spaces, also where names of LANs, routers and devices stand in them.
+/// Each line of a search begins with two spaces, and each line of unlisted rows with `unlisted ` or with
+/// two spaces, whatever the names of LANs, routers and devices are.
 pub fn search_and_unlisted_lines_have_prefix()
-    ensures search { (d : DomainFacts) (summary : List SummaryValue) (number : ℕ) (f : Flow)
-        (lines : List SearchLine) (sent_on took_none : List ℕ) → IsValidTopology d.topology →
-        AreIndented (search_text d summary number f lines sent_on took_none) }
+    ensures search { (d : DomainFacts) → IsValidTopology d.topology → IsEachSearchIndented d }
     ensures unlisted { (all : Bool) (t : TopologyValue) (summary : List SummaryValue) → IsValidTopology t →
         AreUnlistedLines (unlisted_text all t summary) }
 {}

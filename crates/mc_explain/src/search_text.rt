@@ -1,16 +1,17 @@
-//! A search for a missed LAN as it is written.
+//! The text of the search for a missed LAN.
 
 ghost use Rattle.std.specs.Prelude.{◌≡◌, ◌<◌, ◌++◌, ◌==◌, ◌&&◌, ℕ, List, IfOk, OnOk, Some, codes};
-ghost use Rattle.std.specs.Prelude.{flat_map, length, slice_get, take};
+ghost use Rattle.std.specs.Prelude.{flat_map, length, take};
 ghost use Rattle.std.specs.String.{string_bytes};
-ghost use Rattle.mc_topology.specs.declared.flow.Flow.{Flow};
 ghost use Rattle.mc_forward.specs.FlightsInDomain.{net_in};
 ghost use Rattle.mc_forward.specs.ListedTables.{facts};
 ghost use Rattle.mc_explain.specs.FirstEight.{IsFirstEightOf};
-ghost use Rattle.mc_explain.specs.SearchText.{carries_text, expected_text, from_no_lan_text};
-ghost use Rattle.mc_explain.specs.SearchText.{interface_text, search_line_text, first_lines_text, more_lines_text};
-ghost use Rattle.mc_explain.specs.SearchText.{no_lan_reason, lan_line_text, router_line_text, lan_router_text, reach_text};
-ghost use Rattle.mc_explain.specs.SearchText.{routers_line, search_text, shown_line_text};
+ghost use Rattle.mc_explain.specs.ExplanationText.{ForListedFlow};
+ghost use Rattle.mc_explain.specs.SearchContext.{first_lines_text_in, search_line_text_in, shown_line_text_in};
+ghost use Rattle.mc_explain.specs.SearchReach.{lan_search_text};
+ghost use Rattle.mc_explain.specs.SearchText.{carries_text, expected_text, from_no_lan_text, interface_text};
+ghost use Rattle.mc_explain.specs.SearchText.{more_lines_text, no_lan_reason, lan_line_text, router_line_text};
+ghost use Rattle.mc_explain.specs.SearchText.{lan_router_text, reach_text, routers_line};
 ghost use Rattle.mc_explain.specs.ShownLines.{shown_lines};
 ghost use Rattle.mc_explain.specs.declared.search_line.SearchLine.TheVariants.{DoesNotSend, FromUnplaced};
 ghost use Rattle.mc_explain.specs.declared.search_line.SearchLine.TheVariants.{NotMulticast, NoVif};
@@ -34,7 +35,7 @@ use std::fmt;
 /// How many lines are shown at most.
 const MAX_SHOWN_LINES: usize = 40;
 
-/// A LAN and a router on it, as `  l1: r1`.
+/// A LAN and a router on it, such as `  l1: r1`.
 #[derive(Clone, Copy, Drop)]
 struct ShownLanRouter<'t> {
     topology: &'t Topology,
@@ -52,7 +53,7 @@ impl<'t> fmt::Display for ShownLanRouter<'t> {
     }
 }
 
-/// The device of an interface of the topology. Nothing is written of one that it hasn't.
+/// The device of an interface of the topology. It is empty if the topology has no such interface.
 #[derive(Clone, Copy, Drop)]
 struct ShownInterface<'t> {
     topology: &'t Topology,
@@ -74,7 +75,7 @@ impl<'t> fmt::Display for ShownInterface<'t> {
     }
 }
 
-/// Why a vif of a table that a row takes from is placed on no LAN.
+/// Why an incoming vif with a line in its router's table is placed on no LAN.
 fn no_lan_reason(vif: &Vif) -> &'static str
     ensures { result.now ≡ no_lan_reason vif.now }
 {
@@ -89,8 +90,8 @@ fn no_lan_reason(vif: &Vif) -> &'static str
     }
 }
 
-/// Why the vif that a router's row takes from is placed on no LAN, as `a tunnel`. Nothing is written
-/// where `ShownRow` writes nothing.
+/// Why the incoming vif of a router's row is placed on no LAN, such as `a tunnel`. It is empty where
+/// `ShownRow` is.
 #[derive(Clone, Copy, Drop)]
 struct ShownNoLanReason<'v> {
     view: &'v FlowView<'v>,
@@ -115,7 +116,7 @@ impl<'v> fmt::Display for ShownNoLanReason<'v> {
     }
 }
 
-/// How many more lines there are, as a line, or nothing.
+/// The line that counts further lines, or nothing if there are none.
 #[derive(Clone, Copy, Drop)]
 struct ShownMoreLines {
     more: usize,
@@ -134,8 +135,8 @@ impl fmt::Display for ShownMoreLines {
     }
 }
 
-/// What lines are written by: a flow, the same as the topology has it, and what is noted of each router's
-/// cache.
+/// What the lines of a flow are made from: the flow in its domain, the same flow as the topology lists it,
+/// and the summary of each router's cache.
 #[derive(Clone, Copy, Drop)]
 struct LineContext<'v> {
     view: &'v FlowView<'v>,
@@ -143,7 +144,7 @@ struct LineContext<'v> {
     summary: &'v [CacheSummary],
 }
 
-/// Writes a line of a LAN alone.
+/// Writes a line about a LAN.
 fn push_lan_line(
     text: &mut String,
     topology: &Topology,
@@ -157,7 +158,7 @@ fn push_lan_line(
     writeln!(text, "  {lan}: {what}")
 }
 
-/// Writes a line of a router alone.
+/// Writes a line about a router on a LAN.
 fn push_router_line(
     text: &mut String,
     topology: &Topology,
@@ -176,7 +177,7 @@ fn push_router_line(
     writeln!(text, "{place} {what}")
 }
 
-/// Writes of which device of the topology a router has no vif.
+/// Writes a `NoVif` line: a device of the topology of which its router has no vif.
 fn push_no_vif(
     text: &mut String,
     topology: &Topology,
@@ -200,7 +201,7 @@ fn push_no_vif(
     writeln!(text, "{place} has no vif for {device}")
 }
 
-/// Writes which device of the topology is no multicast vif.
+/// Writes a `NotMulticast` line: a device of the topology that is a tunnel or a register vif.
 fn push_not_multicast(
     text: &mut String,
     topology: &Topology,
@@ -224,7 +225,7 @@ fn push_not_multicast(
     writeln!(text, "{place} has {device} as a tunnel or register vif")
 }
 
-/// Writes which row for every source a router has.
+/// Writes an `EverySource` line: a router's row for every source.
 fn push_every_source(
     text: &mut String,
     context: &LineContext<'_>,
@@ -232,8 +233,7 @@ fn push_every_source(
     router: RouterNo,
 ) -> Result<(), AllocError>
     ensures { OnOk result (string_bytes text.new ≡ string_bytes text.old
-        ++ search_line_text (facts context.now.view.now.domain) context.now.summary.now context.now.view.now.flow
-        context.now.flow.now (EverySource lan router)) }
+        ++ search_line_text_in context.now (EverySource lan router)) }
 {
     let view = context.view;
     let place = ShownLanRouter {
@@ -253,7 +253,7 @@ fn push_every_source(
     )
 }
 
-/// Writes that a router's row takes from a vif that is placed on no LAN.
+/// Writes a `FromUnplaced` line: a row whose incoming vif is placed on no LAN.
 fn push_from_unplaced(
     text: &mut String,
     context: &LineContext<'_>,
@@ -261,8 +261,7 @@ fn push_from_unplaced(
     router: RouterNo,
 ) -> Result<(), AllocError>
     ensures { OnOk result (string_bytes text.new ≡ string_bytes text.old
-        ++ search_line_text (facts context.now.view.now.domain) context.now.summary.now context.now.view.now.flow context.now.flow.now
-        (FromUnplaced lan router)) }
+        ++ search_line_text_in context.now (FromUnplaced lan router)) }
 {
     let (view, flow) = (context.view, context.flow);
     let topology = view.topology();
@@ -277,14 +276,14 @@ fn push_from_unplaced(
     writeln!(text, "{place} expects it from {incoming}, {reason}: {row}")
 }
 
-/// What is said of a LAN that carried a copy, or none.
-fn carries(carried: bool) -> &'static str
+/// What a LAN carries, if it carried a copy or none.
+fn carries_text(carried: bool) -> &'static str
     ensures { result.now ≡ carries_text carried }
 {
     if carried { "it" } else { "none either" }
 }
 
-/// Writes that a router's row doesn't send by a vif.
+/// Writes a `DoesNotSend` line: a row that doesn't send by a vif.
 fn push_does_not_send(
     text: &mut String,
     context: &LineContext<'_>,
@@ -295,8 +294,7 @@ fn push_does_not_send(
     carried: bool,
 ) -> Result<(), AllocError>
     ensures { OnOk result (string_bytes text.new ≡ string_bytes text.old
-        ++ search_line_text (facts context.now.view.now.domain) context.now.summary.now context.now.view.now.flow context.now.flow.now
-        (DoesNotSend lan router vif from carried)) }
+        ++ search_line_text_in context.now (DoesNotSend lan router vif from carried)) }
 {
     let (view, flow) = (context.view, context.flow);
     let topology = view.topology();
@@ -308,14 +306,14 @@ fn push_does_not_send(
     let device = ShownDevice { view, router, vif };
     let row = ShownRow { view, flow, router };
     let from = topology.lan_name_or_empty(from);
-    let carries = carries(carried);
+    let carries = carries_text(carried);
     writeln!(
         text,
         "{place} takes it from {from}, which carries {carries}, and does not send to {device}: {row}"
     )
 }
 
-/// Writes by which threshold a copy is stopped.
+/// Writes a `Stopped` line: a row whose threshold stops the copy.
 fn push_stopped(
     text: &mut String,
     context: &LineContext<'_>,
@@ -326,8 +324,7 @@ fn push_stopped(
     ttl: u8,
 ) -> Result<(), AllocError>
     ensures { OnOk result (string_bytes text.new ≡ string_bytes text.old
-        ++ search_line_text (facts context.now.view.now.domain) context.now.summary.now context.now.view.now.flow context.now.flow.now
-        (Stopped lan router vif threshold ttl)) }
+        ++ search_line_text_in context.now (Stopped lan router vif threshold ttl)) }
 {
     let view = context.view;
     let place = ShownLanRouter {
@@ -342,7 +339,7 @@ fn push_stopped(
     )
 }
 
-/// Writes on which LAN a router waits for a copy.
+/// Writes a `WaitsFor` line: a row that takes from a LAN that carried no copy.
 fn push_waits_for(
     text: &mut String,
     context: &LineContext<'_>,
@@ -352,8 +349,7 @@ fn push_waits_for(
     from: LanNo,
 ) -> Result<(), AllocError>
     ensures { OnOk result (string_bytes text.new ≡ string_bytes text.old
-        ++ search_line_text (facts context.now.view.now.domain) context.now.summary.now context.now.view.now.flow context.now.flow.now
-        (WaitsFor lan router vif from)) }
+        ++ search_line_text_in context.now (WaitsFor lan router vif from)) }
 {
     let (view, flow) = (context.view, context.flow);
     let topology = view.topology();
@@ -368,7 +364,7 @@ fn push_waits_for(
     writeln!(text, "{place} waits for it on {from} at {incoming}: {row}")
 }
 
-/// Writes which routers expect a copy from a LAN.
+/// Writes the routers that expect copies from a LAN.
 fn push_expected(
     text: &mut String,
     topology: &Topology,
@@ -390,8 +386,7 @@ fn push_search_line(
     line: SearchLine,
 ) -> Result<(), AllocError>
     ensures { OnOk result (string_bytes text.new ≡ string_bytes text.old
-        ++ search_line_text (facts context.now.view.now.domain) context.now.summary.now context.now.view.now.flow
-        context.now.flow.now line) }
+        ++ search_line_text_in context.now line) }
 {
     let topology = context.view.topology();
     match line {
@@ -450,15 +445,14 @@ fn push_search_line(
     }
 }
 
-/// Writes a line of a search as it is shown.
+/// Writes a shown line of a search.
 fn push_shown_line(
     text: &mut String,
     context: &LineContext<'_>,
     line: &ShownLine<'_>,
 ) -> Result<(), AllocError>
     ensures { OnOk result (string_bytes text.new ≡ string_bytes text.old
-        ++ shown_line_text (facts context.now.view.now.domain) context.now.summary.now context.now.view.now.flow context.now.flow.now
-        line.now) }
+        ++ shown_line_text_in context.now line.now) }
 {
     match line {
         ShownLine::One(line) => push_search_line(text, context, *line),
@@ -468,15 +462,14 @@ fn push_shown_line(
     }
 }
 
-/// Writes the first lines of a search. It answers how many lines there are.
+/// Writes the first 40 lines of a search, and returns how many lines there are.
 fn push_first_lines(
     text: &mut String,
     context: &LineContext<'_>,
     lines: &[SearchLine],
 ) -> Result<usize, Memory>
     ensures text { OnOk result (string_bytes text.new ≡ string_bytes text.old
-        ++ flat_map (shown_line_text (facts context.now.view.now.domain) context.now.summary.now
-        context.now.view.now.flow context.now.flow.now) (take 40 (shown_lines lines.now))) }
+        ++ flat_map (shown_line_text_in context.now) (take 40 (shown_lines lines.now))) }
     ensures count { IfOk result (λ count. count ≡ length (shown_lines lines.now)) }
 {
     let mut count: usize = 0;
@@ -489,15 +482,14 @@ fn push_first_lines(
     Ok(count)
 }
 
-/// Writes the lines of a search.
+/// Writes the first 40 lines of a search, and how many more there are.
 fn push_shown_lines(
     text: &mut String,
     context: &LineContext<'_>,
     lines: &[SearchLine],
 ) -> Result<(), Memory>
     ensures { OnOk result (string_bytes text.new ≡ string_bytes text.old
-        ++ first_lines_text (facts context.now.view.now.domain) context.now.summary.now context.now.view.now.flow context.now.flow.now
-        (shown_lines lines.now)) }
+        ++ first_lines_text_in context.now (shown_lines lines.now)) }
 {
     let count = push_first_lines(text, context, lines)?;
     let more = ShownMoreLines {
@@ -507,7 +499,7 @@ fn push_shown_lines(
     Ok(())
 }
 
-/// Writes a line of routers, if there are any.
+/// Writes a line that names routers, or nothing if there are none.
 fn push_routers(
     text: &mut String,
     topology: &Topology,
@@ -528,7 +520,7 @@ fn push_routers(
     writeln!(text, "{what}{routers}")
 }
 
-/// Whether a search comes to no router.
+/// Whether no copy came to any router of a search.
 fn reaches_no_router(reach: &Reach) -> bool
     ensures { result ≡
         ((length reach.now.sent_on.items == 0) && (length reach.now.took_none.items == 0)) }
@@ -536,7 +528,7 @@ fn reaches_no_router(reach: &Reach) -> bool
     reach.sent_on.is_empty() && reach.took_none.is_empty()
 }
 
-/// Writes what a search comes to.
+/// Writes how far the packet came.
 fn push_reach(text: &mut String, topology: &Topology, reach: &Reach) -> Result<(), AllocError>
     ensures { OnOk result (string_bytes text.new ≡ string_bytes text.old
         ++ reach_text topology.now reach.now.sent_on.items reach.now.took_none.items) }
@@ -553,14 +545,14 @@ fn push_reach(text: &mut String, topology: &Topology, reach: &Reach) -> Result<(
     )
 }
 
-/// Writes a search for a LAN that the packets of the flow with this number missed, by the names of the
-/// topology and of the vif tables and by what is noted of each router's cache, the first router's first:
-/// what it comes to, then its first 40 lines, and how many more there are. Routers that expect a copy
-/// from one LAN stand in one line.
+/// Writes the search for a LAN that the packets of a flow missed, with the names of the topology and of the
+/// vif tables: how far the packet came, then the first 40 lines, and how many more there are. Routers that
+/// expect copies from the same LAN share a line. `flow` counts from 0, and `summary` has the summary of
+/// each router's cache, in the topology's order.
 ///
 /// # Errors
 ///
-/// `Memory` where a growth was refused.
+/// `Memory` if an allocation fails.
 pub fn push_search(
     text: &mut String,
     domain: &Domain,
@@ -569,10 +561,8 @@ pub fn push_search(
     search: &LanSearch,
 ) -> Result<(), Memory>
     requires flow { flow < length domain.now.topology.flows }
-    ensures lines { OnOk result ((listed : Flow) → slice_get domain.now.topology.flows flow ≡ Some listed
-        → string_bytes text.new ≡ string_bytes text.old
-        ++ search_text (facts domain.now) summary.now flow listed search.now.lines.items
-        search.now.reach.sent_on.items search.now.reach.took_none.items) }
+    ensures lines { OnOk result (ForListedFlow domain.now flow (λ f. string_bytes text.new
+        ≡ string_bytes text.old ++ lan_search_text (facts domain.now) summary.now flow f search.now)) }
 {
     let view = FlowView::new(domain, flow);
     let topology = domain.topology();

@@ -1,14 +1,12 @@
-//! The search for a LAN that carried no copy of a packet: the LAN and those from which the routers on
-//! it would take one, one after the other.
+//! The search for why a LAN carried no copy: the LAN, and those from which its routers would take one.
 
 ghost use Rattle.std.specs.Prelude.{◌≡◌, ◌<◌, ◌++◌, All, IfOk, IfSome, OnOk, length};
 ghost use Rattle.std.specs.List.{filter_map};
-ghost use Rattle.mc_theory.specs.Findings.{first_copy_on};
 ghost use Rattle.mc_forward.specs.ListedTables.{facts};
 ghost use Rattle.mc_explain.specs.LanProbe.{IsLanProbe, search_in};
 ghost use Rattle.mc_explain.specs.LanProbe.{IsVisitedLans};
 ghost use Rattle.mc_explain.specs.SearchLine.{append_new, next_lan, next_lans, lines_of_lan, search_lines};
-ghost use Rattle.mc_explain.specs.SearchLine.{lans_of_search};
+ghost use Rattle.mc_explain.specs.SearchLine.{lans_of_search, search_of};
 ghost use Rattle.mc_explain.specs.TopologyLans.{interfaces_on_lans};
 ghost use Rattle.mc_explain.specs.SearchReach.{IsLanSearch};
 
@@ -24,7 +22,7 @@ use mc_text::Memory;
 use mc_topology::LanNo;
 use std::alloc::Global;
 
-/// A search for a missed LAN.
+/// The result of the search for a missed LAN.
 #[derive(Debug, Drop)]
 pub struct LanSearch {
     /// Its lines.
@@ -33,7 +31,7 @@ pub struct LanSearch {
     pub reach: Reach,
 }
 
-/// The LANs that lines lead to are met.
+/// Adds the LANs that these lines lead to.
 fn add_next_lans(
     lan_probe: &LanProbe<'_>,
     visited_lans: &mut VisitedLans,
@@ -55,7 +53,7 @@ fn add_next_lans(
     Ok(())
 }
 
-/// Looks at a LAN that was met.
+/// Searches one LAN: adds its lines, and the LANs that they lead to.
 fn search_one_lan(
     lan_probe: &LanProbe<'_>,
     lines_so_far: &mut Vec<SearchLine>,
@@ -77,7 +75,7 @@ fn search_one_lan(
     add_next_lans(lan_probe, visited_lans, &lines_so_far[before..])
 }
 
-/// All that is told of a LAN and of those that it leads to, and which these are.
+/// The lines of a missed LAN and of those that it leads to, and all these LANs.
 fn search_lans(
     alloc: Global,
     lan_probe: &LanProbe<'_>,
@@ -103,7 +101,7 @@ fn search_lans(
     Ok((lines_so_far, visited_lans))
 }
 
-/// The same, and what it comes to.
+/// The lines of a missed LAN and of those that it leads to, and how far the packet came.
 fn search_with_reach(
     alloc: Global,
     lan_probe: &LanProbe<'_>,
@@ -119,15 +117,15 @@ fn search_with_reach(
     Ok(LanSearch { lines, reach })
 }
 
-/// Searches why a LAN carried no copy in a flight of a flow's packet with these events, by what is
-/// noted of each router's cache, the first router's first, by a mark for each router that is left out,
-/// and by the interfaces of the domain's LANs. Routers beyond the marks are not left out.
-/// It takes time in proportion to the LANs, the copies, the interfaces of the LANs that are looked at,
-/// and for each of those its row.
+/// Searches why the LAN `missed` carried no copy in a flight of a flow's packet, by the travel's events.
+/// `summary` has the summary of each router's cache, `excluded` a mark for each router, both in the
+/// topology's order, and `interfaces` the interfaces of the domain. Routers without a mark aren't
+/// excluded. `flow` counts from 0. The time is in proportion to the number of LANs and copies, and to the
+/// interfaces on the searched LANs and the size of their routers' rows.
 ///
 /// # Errors
 ///
-/// `Memory` where a growth was refused.
+/// `Memory` if an allocation fails.
 pub fn search(
     alloc: Global,
     domain: &Domain,
@@ -143,13 +141,8 @@ pub fn search(
     requires interfaces { interfaces.now ≡ interfaces_on_lans (facts domain.now) }
     requires flight { flight.now.domain ≡ domain.now }
     requires missed { missed < length domain.now.topology.lans }
-    ensures ok { IfOk result (IsLanSearch (record {
-      domain = facts domain.now;
-      flow = flow;
-      summary = summary.now;
-      excluded = excluded.now;
-      first_copy_on = first_copy_on flight.now.flight.carried;
-    }) events.now missed) }
+    ensures ok { IfOk result (IsLanSearch
+        (search_of domain.now flow summary.now excluded.now flight.now.flight.carried) events.now missed) }
 {
     let view = FlowView::new(domain, flow);
     let first_copies = FirstCopies::new(alloc, &view, flight.copies())?;

@@ -1,5 +1,4 @@
-//! The lines of a search as they are shown: those that tell side by side from which LAN routers expect
-//! a copy are one.
+//! The lines of a search as they are shown: adjacent ones about routers that expect copies are joined.
 
 ghost use Rattle.std.specs.Prelude.{◌≡◌};
 ghost use Rattle.mc_explain.specs.ExpectingRouters.{expects_from, leading_expected};
@@ -10,8 +9,8 @@ use crate::search_line::SearchLine;
 use mc_topology::{LanNo, RouterNo};
 use std::marker::Model;
 
-/// The routers that some lines of a search tell to expect a copy. Its value in contracts is the list
-/// of those that are left.
+/// An iterator over the routers of `ExpectedFromHere` lines. Its value in contracts is the list of those
+/// that are left.
 #[derive(Debug, Drop)]
 pub struct ExpectingRouters<'s> {
     lines: &'s [SearchLine],
@@ -19,19 +18,19 @@ pub struct ExpectingRouters<'s> {
 
 impl<'s> Model for ExpectingRouters<'s> {
     ghost use Rattle.std.specs.Prelude.{ℕ, List};
-    ghost use Rattle.mc_explain.specs.ExpectingRouters.{expecting};
+    ghost use Rattle.mc_explain.specs.ExpectingRouters.{expecting_routers};
 
     ghost Value = { List ℕ };
 
-    ghost view = { λ s. expecting s.lines.now };
+    ghost view = { λ s. expecting_routers s.lines.now };
 }
 
-/// A line of a search as it is shown.
+/// A shown line of a search.
 #[derive(Debug, Drop)]
 pub enum ShownLine<'s> {
-    /// One that stands alone.
+    /// A single line.
     One(SearchLine),
-    /// Which routers have a row that takes from the LAN.
+    /// The routers that have a row that takes from the LAN.
     Expected {
         /// The LAN.
         lan: LanNo,
@@ -40,7 +39,7 @@ pub enum ShownLine<'s> {
     },
 }
 
-/// The lines of a search as they are shown. Its value in contracts is the list of those that are left.
+/// An iterator over the shown lines of a search. Its value in contracts is the list of those that are left.
 #[derive(Debug, Drop)]
 pub struct ShownLines<'s> {
     left: &'s [SearchLine],
@@ -56,7 +55,7 @@ impl<'s> Model for ShownLines<'s> {
     ghost view = { λ s. shown_lines s.left.now };
 }
 
-/// Whether a line tells of a router that expects a copy from this LAN.
+/// Whether a line is about a router that expects copies from this LAN.
 fn expects_from(line: &SearchLine, lan: LanNo) -> bool
     ensures { result ≡ expects_from lan line.now }
 {
@@ -66,7 +65,7 @@ fn expects_from(line: &SearchLine, lan: LanNo) -> bool
     }
 }
 
-/// How many lines from the front tell so.
+/// How many lines at the front are about routers that expect copies from this LAN.
 fn leading_expected(lines: &[SearchLine], lan: LanNo) -> usize
     ensures { result ≡ leading_expected lan lines.now }
 {
@@ -79,7 +78,7 @@ fn leading_expected(lines: &[SearchLine], lan: LanNo) -> usize
 }
 
 impl<'s> ExpectingRouters<'s> {
-    /// The front of their list.
+    /// The first 8 of these routers, and how many there are.
     pub(crate) fn front(&self) -> FirstEightRouters
         ensures { IsFirstEightOf result self.now }
     {
@@ -118,7 +117,7 @@ impl<'s> Iterator for ExpectingRouters<'s> {
 impl<'s> ShownLines<'s> {
     ghost use Rattle.mc_explain.specs.ShownLines.{shown_lines};
 
-    /// Those of all lines of a search.
+    /// The shown lines of a search.
     pub fn new(lines: &'s [SearchLine]) -> ShownLines<'s>
         ensures { result ≡ shown_lines lines.now }
     {

@@ -1,5 +1,4 @@
-//! Which pairs of a group and a source are no flow's: those that are shown, each with its routers, and
-//! how many rows there are besides.
+//! The pairs of a group and a source that are no flow's: the shown ones, and how many further rows exist.
 
 ghost use Rattle.std.specs.Prelude.{◌≡◌, ◌≤◌, ◌*◌, ◌+◌, [], IfOk, OnOk, length, map, slice_get};
 ghost use Rattle.std.specs.Prelude.{sum_by};
@@ -15,7 +14,7 @@ use mc_topology::{RouterNo, Topology};
 use std::alloc::Global;
 use std::marker::Model;
 
-/// How many pairs are shown at most, where not all are.
+/// The greatest number of pairs that are shown, unless all are.
 const MAX_SHOWN_PAIRS: usize = 20;
 
 /// A pair of a group and a source that is no flow's, and the routers that have a row of it. Its value in
@@ -57,7 +56,7 @@ impl UnlistedPair {
         &self.routers
     }
 
-    /// A router more has it, if it isn't the last one.
+    /// Adds a router, unless it is the last one already.
     fn add(&mut self, router: RouterNo) -> Result<(), Memory>
         ensures { OnOk result (self.new ≡ (self.old.0, push_unless_last router self.old.1)) }
     {
@@ -72,16 +71,16 @@ impl UnlistedPair {
     }
 }
 
-/// The pairs that are shown of those that are no flow's, and how many rows there are besides.
+/// The shown pairs of those that are no flow's, and how many further rows there are.
 #[derive(Debug, Drop)]
 pub struct UnlistedPairs {
     /// The pairs, by group and then by source.
     pub shown: Vec<UnlistedPair>,
-    /// How many resolved rows are of other pairs that are no flow's.
+    /// How many resolved rows there are of other pairs that are no flow's.
     pub further: u128,
 }
 
-/// Pairs in order, each once: all, or the lowest.
+/// These pairs in ascending order, each once: all, or the lowest 20.
 fn shown_pairs(mut pairs: Vec<(Addr, Addr)>, all: bool) -> Vec<(Addr, Addr)>
     ensures { result.items ≡ shown_pairs all (in_order pairs.items) }
 {
@@ -93,7 +92,7 @@ fn shown_pairs(mut pairs: Vec<(Addr, Addr)>, all: bool) -> Vec<(Addr, Addr)>
     pairs
 }
 
-/// The pairs that are shown of all routers.
+/// The pairs of all routers that are shown.
 fn shown_unlisted_pairs(
     alloc: Global,
     summary: &[CacheSummary],
@@ -123,7 +122,7 @@ fn without_routers(alloc: Global, pairs: &[(Addr, Addr)]) -> Result<Vec<Unlisted
     Ok(shown)
 }
 
-/// The pairs that a router's notes have.
+/// The unlisted pairs that the summary of a router's cache has.
 fn pairs_in<'n>(summary: &'n [CacheSummary], router: RouterNo) -> &'n [(Addr, Addr)]
     ensures { result.now ≡ pairs_in (slice_get summary.now router) }
 {
@@ -133,14 +132,14 @@ fn pairs_in<'n>(summary: &'n [CacheSummary], router: RouterNo) -> &'n [(Addr, Ad
     }
 }
 
-/// A router is added to those of the pairs that its notes have.
+/// Adds a router to those of the pairs that the summary of its cache has.
 fn add_router(
     shown: &mut Vec<UnlistedPair>,
     pairs: &[(Addr, Addr)],
     summary: &[CacheSummary],
     router: RouterNo,
 ) -> Result<(), Memory>
-    requires ascend { IsStrictlySortedBy key_cmp pairs.now }
+    requires sorted { IsStrictlySortedBy key_cmp pairs.now }
     requires shown { shown.old.items ≡ map (with_routers_below summary.now router) pairs.now }
     ensures ok { OnOk result (shown.new.items ≡ map (with_routers_below summary.now (router + 1)) pairs.now) }
 {
@@ -153,14 +152,14 @@ fn add_router(
     Ok(())
 }
 
-/// Ascending pairs with their routers.
+/// These ascending pairs, each with its routers.
 fn with_routers(
     alloc: Global,
     topology: &Topology,
     summary: &[CacheSummary],
     pairs: &[(Addr, Addr)],
 ) -> Result<Vec<UnlistedPair>, Memory>
-    requires valid { IsStrictlySortedBy key_cmp pairs.now }
+    requires sorted { IsStrictlySortedBy key_cmp pairs.now }
     ensures ok { IfOk result (λ shown.
         shown.items ≡ map (with_routers topology.now summary.now) pairs.now) }
 {
@@ -182,10 +181,10 @@ fn count_rows_of_pairs(shown: &[UnlistedPair]) -> u128
     rows
 }
 
-/// How many rows the notes of all routers count.
+/// How many unlisted rows the summaries of all caches count.
 fn count_unlisted_rows(summary: &[CacheSummary]) -> u128
     ensures rows { result ≡ count_unlisted_rows summary.now }
-    ensures few { result ≤ length summary.now * 4294967295 }
+    ensures bounded { result ≤ length summary.now * 4294967295 }
 {
     let mut rows = 0;
     for own in summary {
@@ -195,13 +194,13 @@ fn count_unlisted_rows(summary: &[CacheSummary]) -> u128
 }
 
 impl UnlistedPairs {
-    /// Those of the routers of a topology, by what is noted of each one's cache, the first router's
-    /// first: all pairs that these notes have, or the 20 lowest. It takes time in proportion to how
-    /// many the notes have, times the logarithm of that.
+    /// The unlisted pairs of a topology's routers: all pairs that the summaries of their caches have, or
+    /// the 20 lowest. `summary` has the summary of each router's cache, in the topology's order. The time
+    /// is in proportion to n log n for n pairs in all summaries.
     ///
     /// # Errors
     ///
-    /// `Memory` where a growth was refused.
+    /// `Memory` if an allocation fails.
     pub fn new(
         alloc: Global,
         topology: &Topology,

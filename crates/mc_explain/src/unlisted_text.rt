@@ -1,4 +1,4 @@
-//! The lines that tell of the resolved rows whose source and group are no flow's.
+//! The lines of resolved rows whose source and group are no flow's.
 
 ghost use Rattle.std.specs.Prelude.{◌≡◌, ◌++◌, OnOk, Some, flat_map};
 ghost use Rattle.std.specs.String.{string_bytes};
@@ -13,14 +13,14 @@ use mc_topology::Topology;
 use std::alloc::{AllocError, Global};
 use std::fmt;
 
-/// Whether a group is one: of 224.0.0.0 to 239.255.255.255.
+/// Whether an address is a multicast group, 224.0.0.0 to 239.255.255.255.
 fn is_multicast(group: Addr) -> bool
     ensures { result ≡ is_multicast group }
 {
     matches!(group.octets()[0], 224..=239)
 }
 
-/// What is asked where a group can't be one, as a line.
+/// The line that asks about the byte order if a group isn't multicast, or nothing.
 #[derive(Clone, Copy, Drop)]
 struct ShownByteOrderQuestion {
     group: Addr,
@@ -40,7 +40,7 @@ impl fmt::Display for ShownByteOrderQuestion {
     }
 }
 
-/// How many more rows there are, as a line, or nothing.
+/// The line that counts further rows, or nothing if there are none.
 #[derive(Clone, Copy, Drop)]
 struct ShownFurther {
     more: u128,
@@ -59,7 +59,7 @@ impl fmt::Display for ShownFurther {
     }
 }
 
-/// Writes which routers have a pair.
+/// Writes the line of a pair and its routers.
 fn push_pair(text: &mut String, topology: &Topology, pair: &UnlistedPair) -> Result<(), AllocError>
     ensures { OnOk result (string_bytes text.new ≡
         string_bytes text.old ++ unlisted_pair_text topology.now pair.now.0 pair.now.1) }
@@ -79,7 +79,7 @@ fn push_pair(text: &mut String, topology: &Topology, pair: &UnlistedPair) -> Res
     )
 }
 
-/// Writes the same of some pairs.
+/// Writes the lines of these pairs.
 fn push_pairs(
     text: &mut String,
     topology: &Topology,
@@ -94,13 +94,13 @@ fn push_pairs(
     Ok(())
 }
 
-/// Writes which resolved rows the routers have whose source and group are no flow's, by what is noted of
-/// each router's cache, the first router's first: a line for each pair of a group and a source, or for
-/// the 20 lowest, and how many more rows there are.
+/// Writes the resolved rows whose source and group are no listed flow's: a line for each pair of a group
+/// and a source, for all pairs or for the 20 lowest, and how many further rows there are. `summary` has
+/// the summary of each router's cache, in the topology's order.
 ///
 /// # Errors
 ///
-/// `Memory` where a growth was refused.
+/// `Memory` if an allocation fails.
 pub fn push_unlisted(
     alloc: Global,
     text: &mut String,

@@ -1,4 +1,4 @@
-//! The LANs that a search met.
+//! The LANs that a search visits.
 
 ghost use Rattle.std.specs.Prelude.{◌≡◌, ◌<◌, ◌∷◌, [], All, IfOk, IfSome, OnOk, length, slice_get};
 ghost use Rattle.mc_explain.specs.LanProbe.{IsVisitedLans};
@@ -9,7 +9,7 @@ use mc_text::Memory;
 use mc_topology::LanNo;
 use std::alloc::Global;
 
-/// LANs, each once, in the order in which they were met.
+/// The visited LANs, each once, in order.
 #[derive(Drop)]
 pub(crate) struct VisitedLans {
     lans: Vec<LanNo>,
@@ -20,7 +20,7 @@ pub(crate) struct VisitedLans {
 impl VisitedLans {
     ghost use Rattle.std.specs.Prelude.{ℕ};
 
-    /// One of so many LANs, which alone was met.
+    /// The missed LAN alone, of `lans` LANs.
     pub(crate) fn new(alloc: Global, lans: u32, missed: LanNo) -> Result<VisitedLans, Memory>
         requires known { missed < lans }
         ensures lans { IfOk result (λ visited_lans. visited_lans.lans.items ≡ missed ∷ []) }
@@ -34,7 +34,7 @@ impl VisitedLans {
         Ok(visited_lans)
     }
 
-    /// The LAN that was met after so many others.
+    /// The LAN at a position, from 0.
     pub(crate) fn at(&self, position: u32) -> Option<LanNo>
         ensures lan { result ≡ slice_get self.now.lans.items position }
         ensures listed { (lans : ℕ) → IsVisitedLans lans self.now → IfSome result (λ lan. lan < lans) }
@@ -47,7 +47,7 @@ impl VisitedLans {
         }
     }
 
-    /// The LANs that were met.
+    /// The visited LANs, in order.
     pub(crate) fn lans(&self) -> &[LanNo]
         ensures lans { result.now ≡ self.now.lans.items }
         ensures listed { (lans : ℕ) → IsVisitedLans lans self.now → All (λ lan. lan < lans) result.now }
@@ -55,7 +55,7 @@ impl VisitedLans {
         &self.lans
     }
 
-    /// Another LAN is met, if it wasn't yet.
+    /// Adds a LAN, unless it was visited already.
     pub(crate) fn add(&mut self, lan: LanNo) -> Result<(), Memory>
         requires lan { lan < length self.old.marks }
         requires visited_lans { IsVisitedLans (length self.old.marks) self.old }

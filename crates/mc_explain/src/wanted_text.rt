@@ -1,10 +1,9 @@
-//! The lines that tell which LANs want a flow, and which more of them carried no copy of a packet.
+//! The lines of the LANs that want a flow, and of those that its packet also missed.
 
-ghost use Rattle.std.specs.Prelude.{◌≡◌, ℕ, ◌<◌, ◌≤◌, ◌++◌, ◌||◌, All, IfOk, List, OnOk, false, filter};
+ghost use Rattle.std.specs.Prelude.{◌≡◌, ℕ, ◌<◌, ◌≤◌, ◌++◌, ◌||◌, All, IfOk, List, OnOk, false};
 ghost use Rattle.std.specs.Prelude.{is_some, length, slice_index_or};
 ghost use Rattle.std.specs.String.{string_bytes};
 ghost use Rattle.mc_forward.specs.ListedTables.{facts};
-ghost use Rattle.mc_theory.specs.Lists.{below};
 ghost use Rattle.mc_theory.specs.Flights.{Copy};
 ghost use Rattle.mc_theory.specs.Findings.{first_copy_on};
 ghost use Rattle.mc_explain.specs.FirstEight.{AreMarksOfCopies, IsFirstEightOf};
@@ -19,7 +18,7 @@ use mc_topology::LanNo;
 /// The greatest number of LANs of a topology.
 const MAX_LANS: usize = 1024;
 
-/// The LANs that want a flow.
+/// The first 8 LANs that want a flow, and how many there are.
 fn lans_wanting(view: &FlowView<'_>) -> FirstEight
     ensures { IsFirstEightOf result (lans_wanting (facts view.now.domain) view.now.flow) }
 {
@@ -33,7 +32,7 @@ fn lans_wanting(view: &FlowView<'_>) -> FirstEight
     front
 }
 
-/// How many LANs want the flow with this number.
+/// How many LANs want a flow. `flow` counts from 0.
 pub fn count_wanted(domain: &Domain, flow: u32) -> u32
     requires flow { flow < length domain.now.topology.flows }
     ensures count { result ≡ length (lans_wanting (facts domain.now) flow) }
@@ -42,12 +41,12 @@ pub fn count_wanted(domain: &Domain, flow: u32) -> u32
     lans_wanting(&view).count()
 }
 
-/// Writes which LANs want the flow with this number, the first 8 of them by their names. It answers
-/// how many there are.
+/// Writes how many LANs want a flow and the names of the first 8, and returns how many there are. `flow`
+/// counts from 0.
 ///
 /// # Errors
 ///
-/// `Memory` where a growth was refused.
+/// `Memory` if an allocation fails.
 pub fn push_wanted(text: &mut String, domain: &Domain, flow: u32) -> Result<u32, Memory>
     requires flow { flow < length domain.now.topology.flows }
     ensures line { OnOk result (string_bytes text.new ≡
@@ -69,7 +68,7 @@ pub fn push_wanted(text: &mut String, domain: &Domain, flow: u32) -> Result<u32,
     Ok(count)
 }
 
-/// Marks the LANs of copies.
+/// Marks the LANs that these copies are on.
 fn mark_lans(marks: &mut [bool], copies: &[CarriedCopy])
     requires within { All (λ c. c.lan < length marks.old) copies.now }
     ensures count { length marks.new ≡ length marks.old }
@@ -81,7 +80,7 @@ fn mark_lans(marks: &mut [bool], copies: &[CarriedCopy])
     }
 }
 
-/// Whether a LAN that isn't this one wants the flow, and isn't marked.
+/// Whether a LAN other than `missed` wants the flow and isn't marked.
 fn is_wanted_and_unmarked(view: &FlowView<'_>, marks: &[bool], missed: LanNo, lan: LanNo) -> bool
     requires listed { lan < length view.now.domain.topology.lans }
     requires marked { lan < length marks.now }
@@ -91,12 +90,11 @@ fn is_wanted_and_unmarked(view: &FlowView<'_>, marks: &[bool], missed: LanNo, la
     view.wants(lan) && !marks[lan.0 as usize] && lan != missed
 }
 
-/// The LANs that aren't this one, want the flow, and aren't marked.
+/// The LANs other than `missed` that want the flow and aren't marked.
 fn unmarked_lans(view: &FlowView<'_>, marks: &[bool], missed: LanNo) -> FirstEight
     requires within { length view.now.domain.topology.lans ≤ length marks.now }
     ensures marked { (copies : List Copy) → AreMarksOfCopies marks.now copies → IsFirstEightOf result
-        (filter (is_also_missed (facts view.now.domain) view.now.flow copies missed)
-        (below (length view.now.domain.topology.lans))) }
+        (also_missed (facts view.now.domain) view.now.flow copies missed) }
 {
     let mut front = FirstEight::new();
     for number in 0..view.lans() {
@@ -108,7 +106,7 @@ fn unmarked_lans(view: &FlowView<'_>, marks: &[bool], missed: LanNo) -> FirstEig
     front
 }
 
-/// The LANs that aren't this one, want the flow, and carried no copy in a flight.
+/// The LANs other than `missed` that want the flow and carried no copy in a flight.
 fn also_missed(flight: &Flight<'_>, missed: LanNo) -> FirstEight
     ensures { IsFirstEightOf result (also_missed (facts flight.now.domain) flight.now.flow
         flight.now.flight.carried missed) }
@@ -120,12 +118,12 @@ fn also_missed(flight: &Flight<'_>, missed: LanNo) -> FirstEight
     unmarked_lans(view, &marks, missed)
 }
 
-/// Writes which LANs besides this one want the flow of a flight and carried no copy in it, the
-/// first 8 of them by their names. Where there are none, nothing is written.
+/// Writes the names of the first 8 LANs other than `missed` that want the flow of a flight and carried no
+/// copy in it, and how many more there are. It writes nothing if there are none.
 ///
 /// # Errors
 ///
-/// `Memory` where a growth was refused.
+/// `Memory` if an allocation fails.
 pub fn push_also_missed(text: &mut String, flight: &Flight<'_>, missed: LanNo) -> Result<(), Memory>
     ensures line { OnOk result (string_bytes text.new ≡
         string_bytes text.old ++ also_missed_line (facts flight.now.domain)

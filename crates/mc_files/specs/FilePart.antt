@@ -1,5 +1,5 @@
--- The part that is made of a folder's file, or why there is none.
-use Rattle.std.specs.Prelude.{ℕ, nat_le, List, length, Option, Some, None, Result, Ok, Err, ⊤}
+-- The part that is made of a folder's file, or why there is none, and how that is printed.
+use Rattle.std.specs.Prelude.{ℕ, nat_le, List, length, Option, Some, None, Result, Ok, Err, ⊤, codes}
 use Rattle.std.specs.Prelude.{if◌then◌else◌}
 use Rattle.mc_text.specs.Steps.{◌>>=◌}
 use Rattle.mc_text.specs.Bundle.{PartText, max_part}
@@ -7,6 +7,9 @@ use Rattle.mc_files.specs.Files.{FileText, file_named}
 use Rattle.mc_files.specs.Layout.{Slot, file_name, part_name}
 use Rattle.mc_files.specs.declared.fault.FileFault.{FileFault}
 use Rattle.mc_files.specs.declared.fault.FileFault.TheVariants.{Failed, TooLarge}
+use Rattle.mc_files.specs.declared.unread.Unread.{Unread}
+use Rattle.mc_files.specs.declared.unread.Unread.TheVariants.{NoSuchFile, NotRegular}
+use Rattle.mc_files.specs.declared.unread.Unread.TheVariants.{PermissionDenied, System, Failed as read_failed}
 
 -- the fault is that of a source or of memory, and says nothing of the file
 abbrev pub IsFailedOrMemory : FileFault → Type 0
@@ -23,3 +26,12 @@ abbrev pub file_part : List FileText → Slot → Result PartText FileFault
 file_part files slot =
     bytes_within_max_part (file_named files (file_name slot))
     >>= λ bytes. Ok (record { name = part_name slot; bytes = bytes })
+
+-- The text behind a file's name in a list of refused files: why it can't be read. An error of the system
+-- has the system's own text, which isn't known here.
+abbrev pub unread_text : Unread → Option (List ℕ)
+unread_text NoSuchFile = Some (codes "no such file")
+unread_text NotRegular = Some (codes "not a regular file")
+unread_text PermissionDenied = Some (codes "permission denied")
+unread_text (System error) = None
+unread_text read_failed = Some (codes "a read failed")

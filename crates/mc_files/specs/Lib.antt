@@ -5,7 +5,6 @@ pub mod Layout
 pub mod Packing
 pub mod PackReading
 pub mod PackRun
-pub mod UnreadText
 pub use Rattle.mc_text.specs.Bundle
 pub use Rattle.mc_text.specs.BundleReading
 pub use Rattle.mc_text.specs.Bundle

@@ -1,6 +1,6 @@
 //! Why a file can't be read, as text for the user.
 
-ghost use Rattle.mc_files.specs.UnreadText.{unread_text};
+ghost use Rattle.mc_files.specs.FilePart.{unread_text};
 
 use std::fmt;
 use std::io::{Error, ErrorKind};

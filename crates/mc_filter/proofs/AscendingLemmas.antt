@@ -1,4 +1,4 @@
--- Lists of addresses, by the test of what they have.
+-- Ascending lists of addresses, by the test for membership.
 use Rattle.std.proofs.Common.{◌≡◌, ℕ, ◌<◌, Bool, true, false, ◌&&◌, Result, Ok, Err, eqb, List}
 use Rattle.std.proofs.Common.{length, get_or, refl, sym, ap, ◌∙◌, arith}
 use Rattle.std.specs.Bool.{Decides}
@@ -23,13 +23,13 @@ use Rattle.std.proofs.lemmas.Map.Views.{any-filter_same}
 use Rattle.std.proofs.lemmas.Result.{MatchResult-weaker}
 use Rattle.mc_filter.specs.SourceFilter.{has}
 
--- the test tells what is in a list
+-- the test decides membership
 pub Decides-has : (xs : List ℕ) (s : ℕ) → Decides (has xs s) (Contains xs s)
 Decides-has xs s =
     Decides-contains xs s (has xs s) (Decides-by_or (λ x. eqb x s) (λ x. x ≡ s) (λ ys. has ys s)
     (λ x. Decides-eqb x s) refl (λ _ _. refl) xs)
 
--- what a filter leaves of ascending addresses
+-- a filter of an ascending list is ascending
 pub filter-ascending : (p : ℕ → Bool) (xs ys : List ℕ) → IsStrictlyIncreasing xs → ys ≡ filter p xs
     → IsStrictlyIncreasing ys × ((s : ℕ) → has ys s ≡ (has xs s && p s))
 filter-ascending p xs ys h is =
@@ -40,7 +40,7 @@ filter-ascending p xs ys h is =
           grind (arith, nat_tests, any-filter_same (λ x. eqb x s) p (p s) same xs),
     )
 
--- a sort and a `dedup` keep each element
+-- sorting and removing duplicates keep each element
 pub has-dedup_sorted : (xs sorted ys : List ℕ) → IsPermutation xs sorted → ys ≡ dedup eqb sorted → (s : ℕ)
     → has ys s ≡ has xs s
 has-dedup_sorted xs sorted ys permutation is s =
@@ -49,7 +49,7 @@ has-dedup_sorted xs sorted ys permutation is s =
     (Decides-like _ (Contains-dedup_nat sorted s) (Contains-from_dedup eqb sorted s)
     (Decides-has sorted s)))
 
--- two ascending lists that have the same addresses are equal, as sets of the library are
+-- two ascending lists with the same addresses are equal
 pub ascending_lists_equal-from_has : (xs ys : List ℕ) → IsStrictlyIncreasing xs → IsStrictlyIncreasing ys
     → ((s : ℕ) → has xs s ≡ has ys s) → xs ≡ ys
 ascending_lists_equal-from_has xs ys h k same =
@@ -59,7 +59,7 @@ ascending_lists_equal-from_has xs ys h k same =
     (sorted_from_strictly_increasing xs h) (sorted_from_strictly_increasing ys k)
     (λ s. is_key xs s ∙ same s ∙ sym (is_key ys s)) exact_unsigned
 
--- what a search for an address in ascending ones tells of its place
+-- a place that the search finds has the address, and an address that it doesn't find isn't there
 pub binary_search-place : (xs : List ℕ) (s : ℕ) (r : Result ℕ ℕ) → IsStrictlyIncreasing xs
     → IsBinarySearchResult (λ y. nat_cmp y s) xs r
     → MatchResult r (λ i. (i < length xs) × (get_or xs i 0 ≡ s))
@@ -71,7 +71,7 @@ binary_search-place xs s r h search =
     (λ i missed k d below.
     grind (arith, nat_tests, get_or_default xs k d 0 below, missed.1 k, missed.2 k))
 
--- a search finds exactly what the list has
+-- the search succeeds exactly if the list has the address
 pub binary_search-is_ok : (xs : List ℕ) (s : ℕ) (r : Result ℕ ℕ) → IsStrictlyIncreasing xs
     → IsBinarySearchResult (λ y. nat_cmp y s) xs r → is_ok r ≡ has xs s
 binary_search-is_ok xs s (Ok i) h search =

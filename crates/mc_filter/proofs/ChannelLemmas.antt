@@ -1,4 +1,4 @@
--- Channels and their places, and what is answered of them.
+-- Channels, their places, and whether they are wanted.
 use Rattle.std.proofs.Common.{◌≡◌, ℕ, ◌+◌, ◌<◌, Bool, false, not, ◌||◌}
 use Rattle.std.proofs.Common.{List, [], ◌∷◌, ◌++◌, length, get_or, map, slice_get, Some, refl, sym}
 use Rattle.std.proofs.Common.{ap, subst, ◌∙◌, arith, inl, inr, length-append, take}
@@ -14,11 +14,11 @@ use Rattle.mc_igmp.specs.declared.record.Record.{Record}
 use Rattle.mc_igmp.specs.Wants.{Wants}
 use Rattle.mc_filter.specs.declared.channels.ChannelPlace.{ChannelPlace}
 use Rattle.mc_filter.specs.declared.tally.ChannelState.{ChannelState}
-use Rattle.mc_filter.specs.ChannelPlaces.{AreWantedAnswers, IsWantedAnswer, IsChannelPlace, channel_at}
+use Rattle.mc_filter.specs.ChannelPlaces.{AreAnswersAtPlaces, IsAnswerAtPlace, IsChannelPlace, channel_at}
 use Rattle.mc_filter.specs.Tallies.{AreTallied, is_unwanted}
 use Rattle.mc_filter.proofs.MergedLemmas.{Decides-wanted}
 
--- what has all that is made of the items of a list has what is made of each
+-- a list that has what another list's items map to has what each maps to
 pub contains-map : (f : ℕ × ℕ → ℕ) (xs : List (ℕ × ℕ)) (made kept : List ℕ) → made ≡ map f xs
     → ((n : ℕ) → Contains kept n ↔ Contains made n) → All (λ x. Contains kept (f x)) xs
 contains-map f xs made kept is same = λ k d below.
@@ -28,7 +28,7 @@ contains-map f xs made kept is same = λ k d below.
       get_or-map f xs k d (f (get_or xs k d)) below,
     ))
 
--- the channels of places, and of one more
+-- the channels of places, with one more
 pub map-channels_more : (f : ChannelPlace → ℕ × ℕ) (places : List ChannelPlace) (place : ChannelPlace) (asked : List (ℕ × ℕ))
     (i : ℕ) (channel : ℕ × ℕ) → i < length asked → channel ≡ get_or asked i channel
     → map f places ≡ take i asked → f place ≡ channel
@@ -37,18 +37,18 @@ map-channels_more f places place asked i channel below is before own =
     map-append f places (place ∷ []) ∙ ap (λ cs. cs ++ f place ∷ []) before
     ∙ ap (λ c. take i asked ++ c ∷ []) (own ∙ is) ∙ sym (take_more asked i channel below)
 
--- a test tells what is wanted
+-- an answer by tests is right
 wanted_answer-from_tests : (answer is_unlisted all : Bool) (P : Type 0) → Decides all P
     → answer ≡ not is_unlisted → (not is_unlisted || false) ≡ all → IsTrue answer ↔ P
 wanted_answer-from_tests answer is_unlisted all P tallied is same = grind arith
 
--- what is told of a channel answers whether it is wanted
+-- the tally of all records gives a right answer for a channel
 pub wanted_answer-from_tallied : (groups channels : List ℕ) (records : List Record) (excludes : List ℕ)
     (states : List ChannelState) (place : ChannelPlace) (own : ChannelState) (seen : ℕ) (answer : Bool)
     → length excludes ≡ length groups
     → AreTallied groups channels records excludes states [] → IsChannelPlace groups channels place
     → own ≡ get_or states place.channel own → seen ≡ get_or excludes place.group seen
-    → answer ≡ not (is_unwanted own seen) → IsWantedAnswer channels records place answer
+    → answer ≡ not (is_unwanted own seen) → IsAnswerAtPlace channels records place answer
 wanted_answer-from_tallied groups channels records excludes states place own seen answer count each at state_is seen_is
     is =
     let channel : ℕ × ℕ = channel_at channels place in
@@ -68,13 +68,13 @@ get_or-last : (xs : List Bool) (x d : Bool) → get_or (xs ++ x ∷ []) (length 
 get_or-last [] x d = refl
 get_or-last (y ∷ ys) x d = get_or-last ys x d
 
--- one answer more
+-- one more right answer
 pub wanted_answers_more : (channels : List ℕ) (records : List Record) (places : List ChannelPlace)
     (answers : List Bool) (place : ChannelPlace) (answer : Bool) → length answers < length places
     → place ≡ get_or places (length answers) place
-    → IsWantedAnswer channels records place answer
-    → AreWantedAnswers channels records places answers
-    → AreWantedAnswers channels records places (answers ++ answer ∷ [])
+    → IsAnswerAtPlace channels records place answer
+    → AreAnswersAtPlaces channels records places answers
+    → AreAnswersAtPlaces channels records places (answers ++ answer ∷ [])
 wanted_answers_more channels records places answers place answer below is own before i d within =
     elim (cases_eq i (length answers)) [
       | inl last ↦
@@ -84,21 +84,21 @@ wanted_answers_more channels records places answers place answer below is own be
           let states : get_or (answers ++ answer ∷ []) i false ≡ answer =
           ap (λ n. get_or (answers ++ answer ∷ []) n false) last ∙ get_or-last answers answer false
           in
-          subst (λ p. IsWantedAnswer channels records p (get_or (answers ++ answer ∷ []) i false))
-          (sym here) (subst (λ b. IsWantedAnswer channels records place b) (sym states) own)
+          subst (λ p. IsAnswerAtPlace channels records p (get_or (answers ++ answer ∷ []) i false))
+          (sym here) (subst (λ b. IsAnswerAtPlace channels records place b) (sym states) own)
       | inr earlier ↦
           let less : i < length answers =
           omega (arith, within, earlier, length-append answers (answer ∷ [])) in
           let states : get_or (answers ++ answer ∷ []) i false ≡ get_or answers i false =
           grind (arith, elements, less) in
-          subst (λ b. IsWantedAnswer channels records (get_or places i d) b) (sym states)
+          subst (λ b. IsAnswerAtPlace channels records (get_or places i d) b) (sym states)
           (before i d less)
     ]
 
--- what is answered of the channels
+-- the answers for all places are right for the channels
 pub wanted_answers_all : (channels : List ℕ) (records : List Record) (places : List ChannelPlace)
     (answers : List Bool) → length answers ≡ length places
-    → AreWantedAnswers channels records places answers
+    → AreAnswersAtPlaces channels records places answers
     → (i : ℕ) (channel : ℕ × ℕ) (answer : Bool)
     → slice_get (map (channel_at channels) places) i ≡ Some channel
     → slice_get answers i ≡ Some answer
@@ -113,10 +113,10 @@ wanted_answers_all channels records places answers count each i channel answer a
     sym (get_or-map f places i d (f d) (omega (arith, within, count)))
     ∙ get_or_from_slice_get (map f places) i channel (f d) at in
     subst (λ (c : ℕ × ℕ). IsTrue answer ↔ Wants records c.1 c.0) own
-    (subst (λ (b : Bool). IsWantedAnswer channels records (get_or places i d) b) here
+    (subst (λ (b : Bool). IsAnswerAtPlace channels records (get_or places i d) b) here
     (each i d within))
 
--- what holds of every answer holds of this one
+-- what follows from a fact of any value follows for the value of an `Ok`
 pub if_ok_map : {A E : Type 0} (P Q : A → Type 0) (r : Result A E) → IfOk r P
     → ((x : A) → P x → Q x) → IfOk r Q
 if_ok_map P Q (Ok x) holds then = then x holds

@@ -1,4 +1,4 @@
--- What a filter and a record admit, as tests.
+-- The tests of what a filter and a record admit.
 use Rattle.std.proofs.Common.{◌≡◌, ℕ, arith}
 use Rattle.std.specs.Bool.{Decides}
 use Rattle.mc_igmp.specs.declared.record.Record.{Record}
@@ -12,7 +12,7 @@ use Rattle.mc_filter.specs.SourceFilter.{SourceFilter, FilterAdmits, admits}
 use Rattle.mc_filter.specs.FilterBuilding.{kind_admits, is_exclude, is_exclude_mode}
 use Rattle.mc_filter.proofs.AscendingLemmas.{Decides-has}
 
--- each test tells its fact
+-- the tests decide their facts
 pub Decides-FilterAdmits : (filter : SourceFilter) (s : ℕ)
     → Decides (admits filter s) (FilterAdmits filter s)
 Decides-FilterAdmits filter s = grind (arith, Decides-has filter.sources s)
@@ -27,7 +27,7 @@ Decides-is_exclude_mode mode = grind arith
 pub Decides-is_exclude : (kind_of_record : Kind) → Decides (is_exclude kind_of_record) (kind_of_record ≡ kind.Exclude)
 Decides-is_exclude kind_of_record = grind arith
 
--- what a test tells, wherever one stands
+-- rules that turn the tests into their facts
 pub ruleset filter_tests = (
   Decides-FilterAdmits,
   Decides-Admits,

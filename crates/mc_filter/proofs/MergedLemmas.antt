@@ -1,4 +1,4 @@
--- The merged value of records, by tests over the records.
+-- The merged filter of records, by tests over the records.
 use Rattle.std.proofs.Common.{◌≡◌, ◌↔◌, ℕ, Bool, not, List, get_or, refl, sym, arith}
 use Rattle.std.specs.Bool.{Decides}
 use Rattle.std.specs.List.{Any, Contains, list_any}
@@ -20,7 +20,7 @@ use Rattle.mc_filter.specs.Merged.{IsMergedValue}
 use Rattle.mc_filter.proofs.AscendingLemmas.{Decides-has, ascending_lists_equal-from_has}
 use Rattle.mc_filter.proofs.FilterLemmas.{Decides-FilterAdmits, Decides-Admits}
 
--- a test of some element tells that there is one of which its fact holds
+-- if a test decides a fact of an element, the test of some element decides the fact of some
 Decides-list_any : {X : Type 0} (p : X → Bool) (P : X → Type 0) → ((x : X) → Decides (p x) (P x))
     → (xs : List X) → Decides (list_any p xs) (Any P xs)
 Decides-list_any p P each xs = (
@@ -47,7 +47,7 @@ Wants-from_included : (records : List Record) (group s : ℕ)
 Wants-from_included records group s (k, r, below, is, (own, listed)) =
     (k, r, below, is, (own.0, rw own.1 listed))
 
--- a source is not wanted if each EXCLUDE list has it and no INCLUDE list does
+-- a source isn't wanted exactly if each EXCLUDE list has it and no INCLUDE list does
 not_wanted : (records : List Record) (group s : ℕ) → ¬ (Wants records group s)
     ↔ (InEachExclude records group s × ¬ (InSomeInclude records group s))
 not_wanted records group s = (
@@ -65,7 +65,7 @@ not_wanted records group s = (
       grind (arith, included, each k r below),
 )
 
--- with no EXCLUDE record a source is wanted if an INCLUDE list has it
+-- without an EXCLUDE record a source is wanted exactly if an INCLUDE list has it
 wanted_iff_included : (records : List Record) (group s : ℕ) → ¬ (HasExclude records group)
     → Wants records group s ↔ InSomeInclude records group s
 wanted_iff_included records group s none = (
@@ -75,7 +75,7 @@ wanted_iff_included records group s none = (
   Wants-from_included records group s,
 )
 
--- a list that has what is wanted, or what isn't, as a fact and as an equation of tests
+-- two tests are equal exactly if their facts are equivalent
 has_iff_wanted : {P Q R : Type 0} (a b : Bool) → Decides a P → Decides b Q → (Q ↔ R)
     → (a ≡ b) ↔ (P ↔ R)
 has_iff_wanted a b own wants is = grind arith
@@ -84,13 +84,13 @@ has_iff_not_wanted : {P Q R : Type 0} (a b : Bool) → Decides a P → Decides b
     → (not a ≡ b) ↔ (P ↔ R)
 has_iff_not_wanted a b own wants is = grind arith
 
--- The merged value is EXCLUDE exactly if a record is, and admits exactly what is wanted.
+-- the merged filter is EXCLUDE exactly if a record is, and admits exactly what is wanted
 pub record Merges (records : List Record) (group : ℕ) (mode : Mode) (sources : List ℕ)
     : Type 0 where
   pub excludes : is_exclude_mode mode ≡ excluding records group
   pub admitted : (s : ℕ) → admits_by mode (has sources s) ≡ wanted records group s
 
--- the definition of the merged value is the same as these tests
+-- the definition of the merged filter is equivalent to these tests
 pub Merges-iff : (mode : Mode) (sources : List ℕ) (records : List Record) (group : ℕ)
     → Merges records group mode sources ↔ IsMergedIn mode sources records group
 Merges-iff Exclude sources records group =
@@ -114,14 +114,14 @@ Merges-iff Include sources records group =
       },
     )
 
--- the merged value admits what is wanted
+-- the merged filter admits exactly what is wanted
 pub merged_admits_wanted : (records : List Record) (group : ℕ) (filter : SourceFilter)
     → IsMergedValue records group filter → (s : ℕ) → FilterAdmits filter s ↔ Wants records group s
 merged_admits_wanted records group filter is s =
     let m = (Merges-iff filter.mode filter.sources records group).1 is.merged in
     grind (arith, m.admitted s, Decides-FilterAdmits filter s, Decides-wanted records group s)
 
--- the order of the records is of no account
+-- the merged filter doesn't depend on the order of the records
 pub merged_in_any_order : (records others : List Record) (group : ℕ) (filter other : SourceFilter)
     → IsPermutation records others → IsMergedValue records group filter
     → IsMergedValue others group other → filter ≡ other

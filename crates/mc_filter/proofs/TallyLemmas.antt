@@ -1,4 +1,4 @@
--- What records tell of channels, one record after the other.
+-- The tally of channels, record by record.
 use Rattle.std.proofs.Common.{◌≡◌, ℕ, ◌+◌, ◌<◌, Bool, true, false, ◌&&◌, ◌||◌, eqb}
 use Rattle.std.proofs.Common.{List, ◌∷◌, length, get_or, set, refl, sym, ap, subst, ◌∙◌, inl, inr}
 use Rattle.std.proofs.Common.{arith}
@@ -20,7 +20,7 @@ use Rattle.mc_filter.specs.FilterBuilding.{kind_admits, wanted}
 use Rattle.mc_filter.specs.Tallies.{AreStatesAfterRecord, AreTallied, IsTallied, channel_numbered, excludes_with}
 use Rattle.mc_filter.specs.Tallies.{state_after_listing, state_after_record}
 
--- to be listed twice by a record is to be listed once
+-- a source that a record lists twice counts once
 state_after_listing-twice : (of_kind : Kind) (excludes : ℕ) (state : ChannelState)
     → state_after_listing of_kind excludes (state_after_listing of_kind excludes state) ≡ state_after_listing of_kind excludes state
 state_after_listing-twice kind.Include excludes state = refl
@@ -34,14 +34,14 @@ pub state_after_record-listed : (listed : Bool) (of_kind : Kind) (excludes : ℕ
 state_after_record-listed true of_kind excludes state = state_after_listing-twice of_kind excludes state
 state_after_record-listed false of_kind excludes state = refl
 
--- what a record tells that lists the source
+-- a record of the channel's group, with its source as the next one, updates the state as if it listed it
 state_after_record-own_source : (a b c : Bool) (of_kind : Kind) (excludes : ℕ) (state : ChannelState) → (a && b) ≡ true
     → state_after_record (a && (b || c)) of_kind excludes state ≡ state_after_listing of_kind excludes state
 state_after_record-own_source true true c of_kind excludes state h = refl
 state_after_record-own_source true false c of_kind excludes state h = absurd cc
 state_after_record-own_source false b c of_kind excludes state h = absurd cc
 
--- what is told of channels whose sources the rest of a list has is what the whole list tells
+-- updating the channels of the sources that are left gives the same as updating those of all sources
 abbrev pub AreListedUpTo : List ℕ → ℕ → Kind → ℕ → List ℕ → List ℕ → List ChannelState → List ChannelState → Type 0
 AreListedUpTo channels group of_kind excludes left sources now old =
     (c g s : ℕ) (d : ChannelState) → c < length channels → channel_numbered channels c ≡ (s, g)
@@ -53,7 +53,7 @@ and_or-false true true c h = absurd cc
 and_or-false true false c h = refl
 and_or-false false b c h = refl
 
--- two channels of one source and one group are one number
+-- channels with one source and one group have one number
 channel_number-unique : (channels : List ℕ) (c place s g x group : ℕ) → channel_numbered channels c ≡ (s, g)
     → channel_numbered channels place ≡ (x, group) → x ≡ s → g ≡ group
     → get_or channels c 0 ≡ get_or channels place 0
@@ -62,7 +62,7 @@ channel_number-unique channels c place s g x group is found source same =
     (is ∙ ap (λ (n : ℕ). let p : ℕ × ℕ = (n, g) in p) (sym source)
     ∙ ap (λ (n : ℕ). let p : ℕ × ℕ = (x, n) in p) same ∙ sym found)
 
--- a source whose channel has this place
+-- updating the channel at a place, which is that of the next source
 pub AreListedUpTo-found : (channels : List ℕ) (group : ℕ) (of_kind : Kind) (excludes x place : ℕ) (own :
     ChannelState)
     (left sources : List ℕ) (now old : List ChannelState) → IsStrictlyIncreasing channels
@@ -112,13 +112,13 @@ AreListedUpTo-found channels group of_kind excludes x place own left sources now
           at (before c g s d within is))
     ]
 
--- a record of a type that tells no filter
+-- a record whose type has no filter changes nothing
 tallied-other_type : (listed : Bool) (excludes : ℕ) (state : ChannelState) (left all : Bool)
     → IsTallied state excludes left all → IsTallied (cond listed state state) excludes left all
 tallied-other_type true excludes state left all h = h
 tallied-other_type false excludes state left all h = h
 
--- one more record, of a channel of its group or of another
+-- one more record, for the channel's group or another one
 tallied_more : (own listed : Bool) (of_kind : Kind) (excludes : ℕ) (state : ChannelState) (left all : Bool)
     → IsTallied state excludes ((own && kind_admits of_kind listed) || left) all
     → IsTallied (state_after_record (own && listed) of_kind excludes state)
@@ -172,7 +172,7 @@ tallied_more true false kind.Exclude excludes (Listed count) left all h = record
   wants = grind (arith, nat_tests, h.within, h.wants);
 }
 
--- one more record, whose group is at a place among the groups
+-- one more record, whose group is among the groups
 pub AreTallied-more : (groups channels : List ℕ) (records left : List Record)
     (excludes : List ℕ) (state now : List ChannelState) (place : ℕ) (r : Record)
     → IsStrictlyIncreasing groups → length groups ≡ length excludes → place < length excludes
@@ -231,7 +231,7 @@ AreTallied-more groups channels records left excludes state now place r up count
           (get_or state c d) (wanted left group s) all old)
     ]
 
--- a record whose group is none of the groups
+-- a record whose group isn't among the groups changes nothing
 pub AreTallied-other_group : (groups channels : List ℕ) (records left : List Record)
     (excludes : List ℕ) (state : List ChannelState) (r : Record) → ¬ Contains groups r.group
     → AreTallied groups channels records excludes state (r ∷ left)

@@ -1,26 +1,39 @@
--- Where channels are kept. Only the contracts of private functions speak of it.
-use Rattle.std.specs.Prelude.{◌≡◌, ◌↔◌, ℕ, ◌<◌, Bool, false, IsTrue, List, length, get_or}
+-- Whether the hosts of a LAN want a channel: a source and a group (RFC 4607, section 1); and the places of
+-- channels in their index, which only contracts of private functions use.
+use Rattle.std.specs.Prelude.{◌≡◌, ◌↔◌, ℕ, ◌<◌, Bool, IsTrue, false, List, [], length, get_or}
+use Rattle.std.specs.List.{All}
 use Rattle.mc_igmp.specs.declared.record.Record.{Record}
-use Rattle.mc_igmp.specs.Wants.{Wants}
 use Rattle.mc_filter.specs.declared.channels.ChannelPlace.{ChannelPlace}
-use Rattle.mc_filter.specs.Tallies.{channel_numbered}
+use Rattle.mc_filter.specs.declared.tally.Tally.{Tally}
+use Rattle.mc_igmp.specs.Wants.{Wants}
+use Rattle.mc_filter.specs.Tallies.{IsTallyOf, channel_numbered}
+
+-- the answer is yes exactly if the hosts that report these records want the channel
+abbrev pub IsWantedAnswer : List Record → ℕ × ℕ → Bool → Type 0
+IsWantedAnswer records channel answer = IsTrue answer ↔ Wants records channel.1 channel.0
 
 -- the source and the group of the channel at a place
 abbrev pub channel_at : List ℕ → ChannelPlace → ℕ × ℕ
 channel_at channels place = channel_numbered channels place.channel
 
--- a group and a channel of the group stand there
+-- the place is one of a group, and of a channel of that group
 pub record IsChannelPlace (groups channels : List ℕ) (place : ChannelPlace) : Type 0 where
   pub group : place.group < length groups
   pub channel : place.channel < length channels
   pub is : get_or groups place.group 0 ≡ (channel_at channels place).1
 
--- whether the channel at a place is wanted
-abbrev pub IsWantedAnswer : List ℕ → List Record → ChannelPlace → Bool → Type 0
-IsWantedAnswer channels records place answer = IsTrue answer
-    ↔ Wants records (channel_at channels place).1 (channel_at channels place).0
+-- the answer is yes exactly if the channel at the place is wanted
+abbrev pub IsAnswerAtPlace : List ℕ → List Record → ChannelPlace → Bool → Type 0
+IsAnswerAtPlace channels records place answer = IsWantedAnswer records (channel_at channels place) answer
 
--- and whether each is, place by place
-abbrev pub AreWantedAnswers : List ℕ → List Record → List ChannelPlace → List Bool → Type 0
-AreWantedAnswers channels records places answers = (i : ℕ) (d : ChannelPlace) → i < length answers
-    → IsWantedAnswer channels records (get_or places i d) (get_or answers i false)
+-- the answers say so of each place
+abbrev pub AreAnswersAtPlaces : List ℕ → List Record → List ChannelPlace → List Bool → Type 0
+AreAnswersAtPlaces channels records places answers = (i : ℕ) (d : ChannelPlace) → i < length answers
+    → IsAnswerAtPlace channels records (get_or places i d) (get_or answers i false)
+
+-- The answers are right for the channels at the places, whatever groups, channels and records the tally
+-- is of.
+abbrev pub AreAnswersOfTally : Tally → List ChannelPlace → List Bool → Type 0
+AreAnswersOfTally tally places answers = (groups channels : List ℕ) (records : List Record) →
+    length tally.excludes.items ≡ length groups → All (IsChannelPlace groups channels) places →
+    IsTallyOf groups channels records tally [] → AreAnswersAtPlaces channels records places answers

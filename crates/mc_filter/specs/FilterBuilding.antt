@@ -1,4 +1,5 @@
--- A walk over records in progress, by tests. Only the contracts of private functions speak of it.
+-- Building a filter record by record, by computable tests, which only contracts of private functions
+-- use.
 use Rattle.std.specs.Prelude.{◌≡◌, ℕ, ◌==◌, ◌&&◌, ◌||◌, Bool, true, false, not, List}
 use Rattle.std.specs.List.{list_any}
 use Rattle.mc_igmp.specs.declared.record.Record.{Record}
@@ -9,7 +10,7 @@ use Rattle.mc_filter.specs.declared.filter.Mode.TheVariants.{Include, Exclude}
 use Rattle.mc_filter.specs.declared.filter_builder.FilterBuilder.{FilterBuilder}
 use Rattle.mc_filter.specs.SourceFilter.{has, admits}
 
--- what a record of a kind admits, by whether its list has the source
+-- whether a record of a kind admits a source, by whether its list has the source
 abbrev pub kind_admits : Kind → Bool → Bool
 kind_admits kind.Include listed = listed
 kind_admits kind.Exclude listed = not listed
@@ -30,18 +31,19 @@ is_exclude_mode Exclude = true
 abbrev pub wanted_by : ℕ → ℕ → Record → Bool
 wanted_by group s r = r.group == group && kind_admits r.kind (has r.sources s)
 
--- whether it is an EXCLUDE record for the group
+-- whether the record is an EXCLUDE record for the group
 abbrev pub excludes_by : ℕ → Record → Bool
 excludes_by group r = r.group == group && is_exclude r.kind
 
+-- whether some record is for the group and admits the source
 abbrev pub wanted : List Record → ℕ → ℕ → Bool
 wanted records group s = list_any (wanted_by group s) records
 
+-- whether some record is an EXCLUDE record for the group
 abbrev pub excluding : List Record → ℕ → Bool
 excluding records group = list_any (excludes_by group) records
 
--- What was gathered for a group and what the records that are left want is what all records want of
--- it.
+-- The builder and the records that are left want of the group what all records want of it.
 pub record BuildsFilter (records : List Record) (group : ℕ) (filter_builder : FilterBuilder)
     (left : List Record) : Type 0 where
   pub excludes : (is_exclude_mode filter_builder.filter.mode || excluding left group)

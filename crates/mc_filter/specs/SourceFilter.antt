@@ -1,4 +1,4 @@
--- A source filter: which sources of a group are wanted (RFC 3376, section 3.2).
+-- Source filters: which sources of a group are wanted (RFC 3376, section 3.2).
 use Rattle.std.specs.Prelude.{ℕ, Bool, not, List, [], Contains}
 use Rattle.mc_igmp.specs.declared.record.Kind.{Kind}
 use Rattle.mc_igmp.specs.declared.record.Kind.TheVariants as kind
@@ -20,8 +20,8 @@ pub record SourceFilter : Type 0 where
 abbrev pub include_nothing : SourceFilter
 include_nothing = record { mode = Include; sources = [] }
 
--- A filter of this mode with this list admits a source. INCLUDE admits the sources in the list, and
--- EXCLUDE admits all others.
+-- a filter of this mode with this list admits a source: INCLUDE admits the sources in the list, and
+-- EXCLUDE admits all others
 abbrev pub AdmitsIn : Mode → List ℕ → ℕ → Type 0
 AdmitsIn Include sources source = Contains sources source
 AdmitsIn Exclude sources source = ¬ (Contains sources source)
@@ -29,15 +29,15 @@ AdmitsIn Exclude sources source = ¬ (Contains sources source)
 abbrev pub FilterAdmits : SourceFilter → ℕ → Type 0
 FilterAdmits filter source = AdmitsIn filter.mode filter.sources source
 
--- Records of types 1 and 2 tell a filter, and no others.
+-- a record of this kind has no filter: its type is neither 1 nor 2
 abbrev pub ChangesNoFilter : Kind → Type 0
 ChangesNoFilter kind.Include = ⊥
 ChangesNoFilter kind.Exclude = ⊥
 ChangesNoFilter (kind.Change type) = Unit {0}
 ChangesNoFilter (kind.Unknown type) = Unit {0}
 
--- The same as a test: whether a filter of this mode admits a source, by whether its list has the
--- source.
+-- whether a filter of this mode admits a source, by whether its list has the source: the same as a
+-- computable test
 abbrev pub admits_by : Mode → Bool → Bool
 admits_by Include listed = listed
 admits_by Exclude listed = not listed

@@ -1,27 +1,29 @@
--- What records told so far of channels, by tests. Only the contracts of private functions speak of
--- it.
+-- The tally of channels over records, by computable tests, which only contracts of private functions
+-- use.
 use Rattle.std.specs.Prelude.{◌≡◌, ℕ, ◌+◌, ◌<◌, ◌≤◌, ◌==◌, ◌&&◌, ◌||◌, Bool, false, not}
-use Rattle.std.specs.Prelude.{cond, List, length, get_or}
+use Rattle.std.specs.Prelude.{cond, List, ◌∷◌, length, get_or}
+use Rattle.std.specs.List.Sorted.{IsStrictlyIncreasing}
 use Rattle.mc_text.specs.Pair.{pair_of}
 use Rattle.mc_igmp.specs.declared.record.Record.{Record}
 use Rattle.mc_igmp.specs.declared.record.Kind.{Kind}
 use Rattle.mc_igmp.specs.declared.record.Kind.TheVariants as kind
 use Rattle.mc_filter.specs.declared.tally.ChannelState.{ChannelState}
 use Rattle.mc_filter.specs.declared.tally.ChannelState.TheVariants.{Included, Listed}
+use Rattle.mc_filter.specs.declared.tally.Tally.{Tally}
 use Rattle.mc_filter.specs.SourceFilter.{has}
 use Rattle.mc_filter.specs.FilterBuilding.{is_exclude, wanted}
 
--- the source and the group of the channel at a place, which is kept as one number
+-- the source and the group of the channel at a place of the index, which holds them as one number
 abbrev pub channel_numbered : List ℕ → ℕ → ℕ × ℕ
 channel_numbered channels place = pair_of (get_or channels place 0)
 
--- whether each EXCLUDE record of the group lists the channel's source and no INCLUDE record does,
--- where so many EXCLUDE records were seen
+-- whether no record wants a channel of this state, after `excludes` EXCLUDE records for its group: each
+-- of them lists its source, and no INCLUDE record does
 abbrev pub is_unwanted : ChannelState → ℕ → Bool
 is_unwanted Included excludes = false
 is_unwanted (Listed count) excludes = count == excludes
 
--- what a record of a kind that lists the source makes of it
+-- the state after a record of a kind that lists the source
 abbrev pub state_after_listing : Kind → ℕ → ChannelState → ChannelState
 state_after_listing kind.Include excludes state = Included
 state_after_listing kind.Exclude excludes state =
@@ -29,34 +31,53 @@ state_after_listing kind.Exclude excludes state =
 state_after_listing (kind.Change type) excludes state = state
 state_after_listing (kind.Unknown type) excludes state = state
 
--- and what a record makes of it that lists it or not
+-- the state after a record of a kind, by whether it lists the source
 abbrev pub state_after_record : Bool → Kind → ℕ → ChannelState → ChannelState
 state_after_record listed of_kind excludes state = cond listed (state_after_listing of_kind excludes state) state
 
--- what is told of each channel is what the record makes of what was told
+-- the new state of each channel is its old state after the record
 abbrev pub AreStatesAfterRecord : List ℕ → Record → ℕ → List ChannelState → List ChannelState → Type 0
 AreStatesAfterRecord channels r excludes old new =
     (c g s : ℕ) (d : ChannelState) → c < length channels → channel_numbered channels c ≡ (s, g) →
     get_or new c d ≡ state_after_record (r.group == g && has r.sources s) r.kind excludes (get_or old c d)
 
--- how many EXCLUDE records were seen with this one
+-- the number of EXCLUDE records, with one more record of this kind
 abbrev pub excludes_with : Kind → ℕ → ℕ
 excludes_with of_kind excludes = cond (is_exclude of_kind) (excludes + 1) excludes
 
--- no more EXCLUDE records list the source than were seen
+-- the state counts no more EXCLUDE records than there were
 abbrev pub IsCountWithin : ChannelState → ℕ → Type 0
 IsCountWithin Included excludes = Unit {0}
 IsCountWithin (Listed count) excludes = count ≤ excludes
 
--- What was told of a channel and what the records that are left want is what all records want.
+-- a channel of this state is wanted, or by the records that are left, exactly if all records want it
 pub record IsTallied (state : ChannelState) (excludes : ℕ) (left all : Bool) : Type 0 where
   pub within : IsCountWithin state excludes
   pub wants : (not (is_unwanted state excludes) || left) ≡ all
 
--- the same of each channel whose group is one of the groups
+-- the same of each channel whose group is among the groups
 abbrev pub AreTallied : List ℕ → List ℕ → List Record → List ℕ → List ChannelState → List Record → Type 0
 AreTallied groups channels records excludes state left =
     (g c s : ℕ) (d : ChannelState) → g < length groups → c < length channels →
     channel_numbered channels c ≡ (s, get_or groups g 0) →
     IsTallied (get_or state c d) (get_or excludes g 0)
     (wanted left (get_or groups g 0) s) (wanted records (get_or groups g 0) s)
+
+-- the tally counts all records but those that are left
+abbrev pub IsTallyOf : (groups channels : List ℕ) → List Record → Tally → (left : List Record) → Type 0
+IsTallyOf groups channels records tally left =
+    AreTallied groups channels records tally.excludes.items tally.states.items left
+
+-- the tally, of so many groups and channels, counts no record yet
+abbrev pub CountsNoRecord : (groups channels : ℕ) → Tally → Type 0
+CountsNoRecord groups channels tally = (all_groups all_channels : List ℕ) (records : List Record) →
+    length all_groups ≡ groups → length all_channels ≡ channels →
+    IsTallyOf all_groups all_channels records tally records
+
+-- The new tally counts one more record than the old one: r, whose group is at this place among the
+-- groups.
+abbrev pub AddsRecord : (channels : List ℕ) → (place : ℕ) → Record → (old new : Tally) → Type 0
+AddsRecord channels place r old new = (groups : List ℕ) (records left : List Record) →
+    IsStrictlyIncreasing groups → length groups ≡ length old.excludes.items →
+    get_or groups place 0 ≡ r.group →
+    IsTallyOf groups channels records old (r ∷ left) → IsTallyOf groups channels records new left

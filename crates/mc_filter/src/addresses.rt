@@ -1,4 +1,4 @@
-//! Lists of addresses, as sets.
+//! Sets of addresses, as ascending lists.
 
 ghost use Rattle.std.specs.Prelude.{◌≡◌, ◌++◌, ◌&&◌, ℕ, not, OnOk};
 ghost use Rattle.std.specs.List.Sorted.{IsStrictlyIncreasing};
@@ -21,7 +21,7 @@ pub(crate) fn append_sources(
     Ok(())
 }
 
-/// Puts addresses in ascending order, each once.
+/// Sorts addresses in ascending order and removes duplicates.
 pub(crate) fn sort_and_dedup(addresses: &mut Vec<Addr>)
     ensures ascending { IsStrictlyIncreasing addresses.new.items }
     ensures same { (address : ℕ)
@@ -31,7 +31,7 @@ pub(crate) fn sort_and_dedup(addresses: &mut Vec<Addr>)
     addresses.dedup();
 }
 
-/// Whether the address is among addresses that ascend.
+/// Whether the address is in the ascending list.
 pub(crate) fn is_listed(addresses: &[Addr], address: Addr) -> bool
     requires valid { IsStrictlyIncreasing addresses.now }
     ensures value { result ≡ has addresses.now address }
@@ -39,7 +39,7 @@ pub(crate) fn is_listed(addresses: &[Addr], address: Addr) -> bool
     addresses.binary_search(&address).is_ok()
 }
 
-/// Keeps the addresses that the others have too.
+/// Keeps only the addresses that are also in `others`.
 pub(crate) fn retain_common(addresses: &mut Vec<Addr>, others: &[Addr])
     requires ascending { IsStrictlyIncreasing addresses.old.items }
     requires others_ascending { IsStrictlyIncreasing others.now }
@@ -50,7 +50,7 @@ pub(crate) fn retain_common(addresses: &mut Vec<Addr>, others: &[Addr])
     addresses.retain(|address| is_listed(others, *address));
 }
 
-/// Takes away the addresses that the others have.
+/// Removes the addresses that are also in `others`.
 pub(crate) fn remove_common(addresses: &mut Vec<Addr>, others: &[Addr])
     requires ascending { IsStrictlyIncreasing addresses.old.items }
     requires others_ascending { IsStrictlyIncreasing others.now }

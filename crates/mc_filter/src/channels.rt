@@ -1,13 +1,12 @@
-//! Channels, of which it is asked whether the hosts of a LAN want them.
+//! Channels, and which of them the hosts of a LAN want.
 
-ghost use Rattle.std.specs.Prelude.{◌≡◌, ◌↔◌, ◌<◌, ℕ, Bool, Contains, IfOk, IsTrue, List, [], Some};
+ghost use Rattle.std.specs.Prelude.{◌≡◌, ◌<◌, ℕ, Bool, Contains, IfOk, [], Some};
 ghost use Rattle.std.specs.Prelude.{length, map, slice_get, vec_len};
 ghost use Rattle.std.specs.List.{All};
 ghost use Rattle.mc_text.specs.Pair.{pair_number};
-ghost use Rattle.mc_igmp.specs.declared.record.Record.{Record};
-ghost use Rattle.mc_igmp.specs.Wants.{Wants};
-ghost use Rattle.mc_filter.specs.ChannelPlaces.{AreWantedAnswers, IsChannelPlace, channel_at};
-ghost use Rattle.mc_filter.specs.Tallies.{AreTallied};
+ghost use Rattle.mc_filter.specs.ChannelPlaces.{AreAnswersOfTally, IsChannelPlace, channel_at};
+ghost use Rattle.mc_filter.specs.ChannelPlaces.{IsWantedAnswer};
+ghost use Rattle.mc_filter.specs.Tallies.{IsTallyOf};
 
 use crate::tally::Tally;
 use mc_igmp::ReportList;
@@ -15,8 +14,7 @@ use mc_text::{Addr, Index, Memory, pair_number, pair_numbers};
 use std::alloc::Global;
 use std::marker::Model;
 
-/// The place of a channel among all channels, which ascend by their numbers, and of its group among
-/// their groups.
+/// The places of a channel and of its group, each in the index that has it.
 #[derive(Clone, Copy, Debug)]
 struct ChannelPlace {
     group: usize,
@@ -34,7 +32,7 @@ fn group_numbers(alloc: Global, asked: &[(Addr, Addr)]) -> Result<Vec<u64>, Memo
     Ok(numbers)
 }
 
-/// The place of a channel among channels, which have to have it.
+/// The place of a channel, which must be in both indexes.
 fn place_of(groups: &Index, channels: &Index, source: Addr, group: Addr) -> ChannelPlace
     requires group { Contains groups.now group }
     requires channel { Contains channels.now (pair_number (source, group)) }
@@ -51,7 +49,7 @@ fn place_of(groups: &Index, channels: &Index, source: Addr, group: Addr) -> Chan
     }
 }
 
-/// The places of channels.
+/// The place of each channel.
 fn places_of(
     alloc: Global,
     groups: &Index,
@@ -71,7 +69,7 @@ fn places_of(
     Ok(places)
 }
 
-/// What the records of a list tell of channels.
+/// The tally of the channels over the records of a list.
 fn tally_of(
     alloc: Global,
     groups: &Index,
@@ -80,8 +78,7 @@ fn tally_of(
 ) -> Result<Tally, Memory>
     ensures groups { IfOk result (λ tally. length tally.excludes.items ≡ length groups.now) }
     ensures channels { IfOk result (λ tally. length tally.states.items ≡ length channels.now) }
-    ensures each { IfOk result (λ tally. AreTallied groups.now channels.now reports.now
-        tally.excludes.items tally.states.items []) }
+    ensures each { IfOk result (λ tally. IsTallyOf groups.now channels.now reports.now tally []) }
 {
     let mut tally = Tally::none(alloc, groups.count(), channels.count())?;
     for group_record in reports.records() {
@@ -93,7 +90,7 @@ fn tally_of(
     Ok(tally)
 }
 
-/// Whether each channel is wanted, by what the records of a list told.
+/// Whether the channel at each place is wanted, by the tally of all records.
 fn wanted_answers(
     alloc: Global,
     tally: &Tally,
@@ -102,10 +99,7 @@ fn wanted_answers(
     requires groups { All (λ place. place.group < length tally.now.excludes.items) places.now }
     requires channels { All (λ place. place.channel < length tally.now.states.items) places.now }
     ensures count { IfOk result (λ answers. length answers.items ≡ length places.now) }
-    ensures each { IfOk result (λ answers. (groups channels : List ℕ) (records : List Record) →
-        length tally.now.excludes.items ≡ length groups → All (IsChannelPlace groups channels) places.now →
-        AreTallied groups channels records tally.now.excludes.items tally.now.states.items [] →
-        AreWantedAnswers channels records places.now answers.items) }
+    ensures each { IfOk result (λ answers. AreAnswersOfTally tally.now places.now answers.items) }
 {
     let mut answers = Vec::with_capacity(alloc, places.len())?;
     for place in places {
@@ -115,8 +109,8 @@ fn wanted_answers(
     Ok(answers)
 }
 
-/// Channels, each a source and a group (RFC 4607, section 1), as they are looked for in reports.
-/// Its value in contracts is the list of them.
+/// Channels, each a source and a group (RFC 4607, section 1), indexed to be found in reports. Its value
+/// in contracts is the list of them.
 #[derive(Debug, Drop)]
 pub struct Channels {
     groups: Index,
@@ -137,11 +131,11 @@ impl Model for Channels {
 }
 
 impl Channels {
-    /// These channels.
+    /// Indexes these channels.
     ///
     /// # Errors
     ///
-    /// `Memory` where a growth was refused.
+    /// `Memory` if an allocation is refused.
     pub fn of(alloc: Global, asked: &[(Addr, Addr)]) -> Result<Channels, Memory>
         ensures { IfOk result (λ channels. channels ≡ asked.now) }
     {
@@ -156,16 +150,16 @@ impl Channels {
     }
 
     /// Whether the hosts of a LAN want each channel, by their reports: whether some record for its
-    /// group admits its source (RFC 3376, section 3.2). The list is walked over once.
+    /// group admits its source (RFC 3376, section 3.2). The list is read once.
     ///
     /// # Errors
     ///
-    /// `Memory` where a growth was refused.
+    /// `Memory` if an allocation is refused.
     pub fn wanted(&self, alloc: Global, reports: &ReportList) -> Result<Vec<bool>, Memory>
         ensures count { IfOk result (λ wanted. vec_len wanted ≡ length self.now) }
         ensures each { IfOk result (λ wanted. (i : ℕ) (channel : ℕ × ℕ) (is_wanted : Bool) →
             slice_get self.now i ≡ Some channel → slice_get wanted.items i ≡ Some is_wanted →
-            IsTrue is_wanted ↔ Wants reports.now channel.1 channel.0) }
+            IsWantedAnswer reports.now channel is_wanted) }
     {
         let tally = tally_of(alloc, &self.groups, &self.channels, reports)?;
         wanted_answers(alloc, &tally, &self.places)

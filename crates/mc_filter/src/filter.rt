@@ -1,4 +1,4 @@
-//! A source filter.
+//! Source filters, and merging records into them.
 
 ghost use Rattle.std.specs.Prelude.{◌≡◌, ◌⊎◌, ◌↔◌, ◌||◌, ℕ, IsTrue, IsOk, OnOk, OnErr};
 ghost use Rattle.std.specs.List.Sorted.{IsStrictlyIncreasing};
@@ -14,7 +14,7 @@ use mc_text::{Addr, Memory};
 use std::alloc::Global;
 use std::marker::Model;
 
-/// What a filter's list says of the sources in it.
+/// The meaning of a filter's list of sources.
 #[derive(Clone, Copy, Debug, PartialEq, Eq)]
 pub enum Mode {
     /// Only the sources in the list are wanted.
@@ -23,8 +23,8 @@ pub enum Mode {
     Exclude,
 }
 
-/// A mode and a list of sources, which is ascending and has none twice. Its value in contracts is
-/// the two.
+/// A source filter: a mode and an ascending list of distinct sources. Its value in contracts is the
+/// two.
 #[derive(Debug, Drop)]
 pub struct Filter {
     mode: Mode,
@@ -43,7 +43,7 @@ impl Model for Filter {
 }
 
 impl Filter {
-    /// The filter that admits no source. It takes no memory.
+    /// The filter that admits no source. It allocates no memory.
     pub fn none(alloc: Global) -> Filter
         ensures { result ≡ include_nothing }
     {
@@ -53,9 +53,12 @@ impl Filter {
         }
     }
 
-    /// Merges in what a record tells (RFC 3376, section 3.2): afterwards the filter admits what it
-    /// did before and what the record admits. A record of another type than 1 and 2 changes
-    /// nothing.
+    /// Merges in a record (RFC 3376, section 3.2): afterwards the filter admits what it admitted before
+    /// and what the record admits. A record of another type than 1 and 2 changes nothing.
+    ///
+    /// # Errors
+    ///
+    /// `Memory` if an allocation is refused. The filter is unchanged then.
     pub fn merge(&mut self, group_record: &Record<'_>) -> Result<(), Memory>
         ensures admits { OnOk result ((source : ℕ) →
             FilterAdmits self.new source
@@ -78,7 +81,7 @@ impl Filter {
         self.merge_list(mode, listed)
     }
 
-    /// Merges in a filter of this mode with these sources, in whatever order they stand.
+    /// Merges in a filter of this mode with these sources, which may be in any order.
     pub(crate) fn merge_list(&mut self, mode: Mode, mut listed: Vec<Addr>) -> Result<(), Memory>
         ensures admits { OnOk result ((source : ℕ) →
             admits self.new source
@@ -114,14 +117,14 @@ impl Filter {
         Ok(())
     }
 
-    /// Whether the list has the sources that are wanted, or those that are not.
+    /// The mode: whether the listed sources are the wanted ones, or the others.
     pub fn mode(&self) -> Mode
         ensures { result ≡ self.now.mode }
     {
         self.mode
     }
 
-    /// The sources in the list, ascending and none twice.
+    /// The listed sources, ascending and distinct.
     pub fn sources(&self) -> &[Addr]
         ensures value { result.now ≡ self.now.sources }
         ensures ascending { IsStrictlyIncreasing result.now }

@@ -1,4 +1,4 @@
-//! What the records for one group tell together, gathered in one walk over a list.
+//! Merging the records for one group into a filter, in one pass over a list.
 
 ghost use Rattle.std.specs.Prelude.{◌≡◌, ℕ, List, [], ◌∷◌, IfOk, OnOk};
 ghost use Rattle.mc_igmp.specs.declared.record.Record.{Record};
@@ -11,18 +11,18 @@ use mc_igmp::{Kind, Record};
 use mc_text::{Addr, Memory};
 use std::alloc::Global;
 
-/// What records for one group tell. An EXCLUDE list shrinks what is merged, but INCLUDE lists grow:
-/// they are merged as one at the end, so that no pass goes over the sources of all earlier records.
+/// The records for one group so far. An EXCLUDE list shrinks the merged list, but INCLUDE lists make it
+/// grow: they are merged together at the end, so that no record takes a pass over all earlier sources.
 #[derive(Debug, Drop)]
 pub(crate) struct FilterBuilder {
-    /// What all records but those of INCLUDE lists merge to.
+    /// The filter that all records but those of type INCLUDE merge to.
     filter: Filter,
     /// The sources of all INCLUDE lists.
     included: Vec<Addr>,
 }
 
 impl FilterBuilder {
-    /// What no record tells.
+    /// The builder before any record.
     pub(crate) fn none(alloc: Global) -> FilterBuilder
         ensures { (records : List Record) (group : ℕ) → BuildsFilter records group result records }
     {
@@ -32,7 +32,7 @@ impl FilterBuilder {
         }
     }
 
-    /// Takes in what one more record for the group tells.
+    /// Adds a record for the group.
     pub(crate) fn add(&mut self, group_record: &Record<'_>) -> Result<(), Memory>
         ensures { OnOk result ((records left : List Record) →
             BuildsFilter records group_record.now.group self.old (group_record.now ∷ left) →

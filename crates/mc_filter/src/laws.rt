@@ -1,4 +1,4 @@
-//! What follows from the definition of the merged filter alone, for whoever builds on it.
+//! Laws of the merged filter, which follow from its definition alone.
 
 ghost use Rattle.std.specs.Prelude.{◌≡◌, ◌↔◌, ℕ, List};
 ghost use Rattle.std.specs.List.Sorted.{IsPermutation};
@@ -7,7 +7,7 @@ ghost use Rattle.mc_igmp.specs.Wants.{Wants};
 ghost use Rattle.mc_filter.specs.SourceFilter.{SourceFilter, FilterAdmits};
 ghost use Rattle.mc_filter.specs.Merged.{IsMergedValue};
 
-/// What records for a group merge to admits exactly the sources that one of them admits.
+/// The filter that the records for a group merge to admits exactly the sources that one of them admits.
 #[tactic(auto, using(crate::proofs::MergedLemmas::merged_admits_wanted))]
 pub fn merged_filter_admits_what_is_wanted()
     ensures { (records : List Record) (group : ℕ) (filter : SourceFilter) →

@@ -1,4 +1,4 @@
-//! Source filters: what the hosts of a LAN want of a group, merged from all that they report
+//! Source filters: the sources of a group that the hosts of a LAN want, merged from their reports
 //! (RFC 3376, section 3.2).
 #![tactic(auto)]
 

@@ -1,27 +1,25 @@
-//! What records tell of channels, as they are walked over.
+//! The tally of channels over records: which channels some record wants.
 
-ghost use Rattle.std.specs.Prelude.{◌≡◌, ℕ, ◌<◌, IfOk, IfSome, OnOk, List, ◌∷◌, length, get_or};
-ghost use Rattle.std.specs.List.Sorted.{IsStrictlyIncreasing};
-ghost use Rattle.mc_igmp.specs.declared.record.Record.{Record};
-ghost use Rattle.mc_filter.specs.Tallies.{AreStatesAfterRecord, AreTallied, excludes_with};
-ghost use Rattle.mc_filter.specs.Tallies.{is_unwanted, state_after_listing};
+ghost use Rattle.std.specs.Prelude.{◌≡◌, ◌<◌, IfOk, IfSome, OnOk, length};
+ghost use Rattle.mc_filter.specs.Tallies.{AddsRecord, AreStatesAfterRecord, CountsNoRecord};
+ghost use Rattle.mc_filter.specs.Tallies.{excludes_with, is_unwanted, state_after_listing};
 
 use mc_igmp::{Kind, Record};
 use mc_text::{Index, Memory, pair_number};
 use std::alloc::Global;
 
-/// What records told of a channel.
+/// The state of a channel after some records.
 #[derive(Clone, Copy, Debug, PartialEq, Eq)]
 pub(crate) enum ChannelState {
     /// An INCLUDE record lists its source.
     Included,
-    /// The first so many EXCLUDE records of its group list its source, and no INCLUDE record.
+    /// The first so many EXCLUDE records for its group list its source, and no INCLUDE record does.
     Listed(u32),
 }
 
 impl ChannelState {
-    /// Whether nobody wants the channel, where so many EXCLUDE records were seen: each of them
-    /// lists its source.
+    /// Whether no record wants the channel, after `excludes` EXCLUDE records for its group: whether
+    /// each of them lists its source.
     pub(crate) fn is_unwanted(self, excludes: u32) -> bool
         ensures { result ≡ is_unwanted self excludes }
     {
@@ -31,8 +29,8 @@ impl ChannelState {
         }
     }
 
-    /// What a record that lists the source makes of it, where so many EXCLUDE records were seen
-    /// before it, and so many with it.
+    /// The state after a record that lists the source, with `before` EXCLUDE records for the group
+    /// before it and `with` up to it.
     fn after_listing(self, kind: Kind, before: u32, with: u32) -> ChannelState
         requires kind { with ≡ excludes_with kind before }
         ensures value { result ≡ state_after_listing kind before self }
@@ -45,7 +43,7 @@ impl ChannelState {
     }
 }
 
-/// How many EXCLUDE records were seen with one more record, if so many can be counted.
+/// The number of EXCLUDE records with one more record of this kind, if 32 bits hold it.
 fn excludes_with(kind: Kind, before: u32) -> Option<u32>
     ensures { IfSome result (λ with. with ≡ excludes_with kind before) }
 {
@@ -55,24 +53,25 @@ fn excludes_with(kind: Kind, before: u32) -> Option<u32>
     }
 }
 
-/// What records told so far.
+/// The state of groups and channels after some records.
 #[derive(Debug, Drop)]
 pub(crate) struct Tally {
-    /// How many EXCLUDE records of each group were seen.
+    /// The number of EXCLUDE records for each group.
     pub(crate) excludes: Vec<u32>,
-    /// What was told of each channel.
+    /// The state of each channel.
     pub(crate) states: Vec<ChannelState>,
 }
 
 impl Tally {
-    /// What no record told, of so many groups and channels.
+    /// The tally of so many groups and channels before any record.
+    ///
+    /// # Errors
+    ///
+    /// `Memory` if an allocation is refused.
     pub(crate) fn none(alloc: Global, groups: usize, channels: usize) -> Result<Tally, Memory>
         ensures groups { IfOk result (λ tally. length tally.excludes.items ≡ groups) }
         ensures channels { IfOk result (λ tally. length tally.states.items ≡ channels) }
-        ensures each { IfOk result (λ tally. (all_groups all_channels : List ℕ)
-            (records : List Record) → length all_groups ≡ groups → length all_channels ≡ channels →
-            AreTallied all_groups all_channels records tally.excludes.items tally.states.items
-            records) }
+        ensures each { IfOk result (CountsNoRecord groups channels) }
     {
         let mut excludes = Vec::new(alloc);
         excludes.resize(groups, 0)?;
@@ -81,8 +80,8 @@ impl Tally {
         Ok(Tally { excludes, states })
     }
 
-    /// Takes in that the record lists its sources, where so many EXCLUDE records of its group were
-    /// seen before it, and so many with it.
+    /// Updates the channels whose sources the record lists, with `before` EXCLUDE records for its group
+    /// before it and `with` up to it.
     fn list_sources(&mut self, channels: &Index, group_record: &Record<'_>, before: u32, with: u32)
         requires room { length self.old.states.items ≡ length channels.now }
         requires with { with ≡ excludes_with group_record.now.kind before }
@@ -103,11 +102,11 @@ impl Tally {
         }
     }
 
-    /// Takes in what one more record tells, whose group is at this place among the groups.
+    /// Adds a record, whose group is at this place among the groups.
     ///
     /// # Errors
     ///
-    /// `Memory` where a group has more EXCLUDE records than 32 bits count, as no list that can be
+    /// `Memory` if the group has more EXCLUDE records than 32 bits count, which no list that can be
     /// read has.
     pub(crate) fn add(
         &mut self,
@@ -120,13 +119,7 @@ impl Tally {
         ensures groups { OnOk result
             (length self.new.excludes.items ≡ length self.old.excludes.items) }
         ensures channels { OnOk result (length self.new.states.items ≡ length channels.now) }
-        ensures each { OnOk result ((groups : List ℕ) (records left : List Record) →
-            IsStrictlyIncreasing groups → length groups ≡ length self.old.excludes.items →
-            get_or groups place 0 ≡ group_record.now.group →
-            AreTallied groups channels.now records self.old.excludes.items self.old.states.items
-            (group_record.now ∷ left) →
-            AreTallied groups channels.now records self.new.excludes.items self.new.states.items
-            left) }
+        ensures each { OnOk result (AddsRecord channels.now place group_record.now self.old self.new) }
     {
         let before = self.excludes[place];
         let with = excludes_with(group_record.kind, before).ok_or(Memory)?;

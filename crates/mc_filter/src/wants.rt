@@ -1,4 +1,4 @@
-//! What the hosts of a LAN want of a group.
+//! The sources of a group that the hosts of a LAN want.
 
 ghost use Rattle.std.specs.Prelude.{◌↔◌, ℕ, IfOk, IsTrue};
 ghost use Rattle.mc_igmp.specs.Wants.{Admits, Wants};
@@ -11,8 +11,12 @@ use mc_igmp::{Kind, ListRecords, Record, ReportList};
 use mc_text::{Addr, Memory};
 use std::alloc::Global;
 
-/// The filter that all records for a group merge to (RFC 3376, section 3.2). It admits a source
-/// exactly if one of them does.
+/// The filter that all records for a group merge to (RFC 3376, section 3.2). It admits a source exactly
+/// if one of them does.
+///
+/// # Errors
+///
+/// `Memory` if an allocation is refused.
 #[tactic(auto, using(crate::proofs::MergedLemmas::merged_admits_wanted))]
 pub fn wants_of(alloc: Global, reports: &ReportList, group: Addr) -> Result<Filter, Memory>
     ensures merged { IfOk result (IsMergedValue reports.now group) }
@@ -40,8 +44,8 @@ fn admits(group_record: &Record<'_>, source: Addr) -> bool
     }
 }
 
-/// Whether some of the records is for the group and admits the source. Nothing is merged for that:
-/// the records are walked over up to the first that does, and no memory is taken.
+/// Whether some record is for the group and admits the source. The records are read up to the first
+/// that does. Nothing is merged, and no memory is allocated.
 pub fn is_wanted(mut records: ListRecords<'_>, group: Addr, source: Addr) -> bool
     ensures { IsTrue result ↔ Wants records.entry group source }
 {

@@ -59,7 +59,8 @@ pub map_below-more : {A : Type 0} (f : ℕ → A) (n : ℕ)
 map_below-more f n = ap (map f) (below-more n) ∙ map-push f (below n) n
 
 -- different numbers below n are at most n
-pub length-of_distinct_below : (xs : List ℕ) (n : ℕ) → Distinct xs → ((x : ℕ) → In x xs → x < n) → length xs ≤ n
+pub length-of_distinct_below : (xs : List ℕ) (n : ℕ) → Distinct xs → ((x : ℕ) → In x xs → x < n) →
+    length xs ≤ n
 length-of_distinct_below xs n distinct below_n =
     let within : total {A = ℕ} (λ _. 1) xs ≤ total {A = ℕ} (λ _. 1) (below n) =
     total-at_most_of_superset {A = ℕ} (λ _. 1) xs (below n) distinct (λ x h. in-below x n (below_n x h)) in

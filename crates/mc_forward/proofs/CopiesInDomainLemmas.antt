@@ -20,7 +20,8 @@ pub are_placed_below-domain : (d : DomainValue) (flow : ℕ) → IsDomain d
     → ArePlacedBelow (net_of d flow) (length d.topology.lans)
 are_placed_below-domain d flow ok r v l e = placed-below_lan_count d r v ok (Some l) e
 
-pub copies_in_domain-put : (n : Net) (lans routers : ℕ) (c : Copy) (f : Flight) → IsCopyInDomain lans routers c
+pub copies_in_domain-put : (n : Net) (lans routers : ℕ) (c : Copy) (f : Flight) →
+    IsCopyInDomain lans routers c
     → AreCopiesInDomain lans routers f → AreCopiesInDomain lans routers (put n c f)
 copies_in_domain-put n lans routers c f own all x h = elim (in-push_cases x f.carried c h) [
   | inl old ↦ all x old
@@ -49,7 +50,8 @@ copies_in_domain-sends n lans routers below r t lt (p ∷ ps) f all =
     (copies_in_domain-cond lans routers (nat_lt p.1 t) (leave n (t - 1) (r, p.0) (n.placed r p.0) f) f
     (copies_in_domain-leave n lans routers below (t - 1) r p.0 lt (n.placed r p.0) refl f all) all)
 
-copies_in_domain-row : (n : Net) (lans routers : ℕ) → ArePlacedBelow n lans → (w : Waiting) → w.router < routers
+copies_in_domain-row : (n : Net) (lans routers : ℕ) → ArePlacedBelow n lans → (w : Waiting) →
+    w.router < routers
     → (row : Row) (f : Flight) → AreCopiesInDomain lans routers f
     → AreCopiesInDomain lans routers (handle_by_row n w row f)
 copies_in_domain-row n lans routers below w lt (Exact incoming pairs) f all =

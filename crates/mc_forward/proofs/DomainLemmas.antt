@@ -1,4 +1,4 @@
--- What the rules of a domain say of the nets of its flows.
+-- What the rules of a domain mean for the nets of its flows.
 use Rattle.std.proofs.Common.{◌≡◌, ℕ, zero, suc, ◌<◌, ◌≤◌, ◌⊎◌, inl, inr, Bool, true, false}
 use Rattle.std.proofs.Common.{cond, ◌||◌, List, [], ◌∷◌, map, length, slice_get, get_or, Option}
 use Rattle.std.proofs.Common.{Some, None, option_map, unwrap_or, IsSome, refl, ap, sym, subst, ◌∙◌}
@@ -28,7 +28,7 @@ use Rattle.mc_forward.proofs.BelowLemmas.{length-below, slice_get-map_below}
 
 -- ---- placed
 
--- a placed vif stands in its router's table
+-- a placed vif is in its router's table
 vif_exists-from_placed : (t : TopologyValue) (tables : List TablesValue) (router vif lan : ℕ)
     → placed_in t tables router vif ≡ Some lan
     → (own : TablesValue) × (slice_get tables router ≡ Some own) × IsSome (finite.get own.vifs vif)
@@ -143,7 +143,8 @@ index-below_from_true (b ∷ rows) (suc i) j e = let h = index-below_from_true r
 -- only LANs of the topology want a flow
 pub wants-below_lan_count : (d : DomainValue) (flow lan : ℕ) → IsDomain d → wants_of d flow lan ≡ true
     → lan < length d.topology.lans
-wants-below_lan_count d flow lan ok e = subst (λ (n : ℕ). lan < n) ok.lans (index-below_from_true d.wants lan flow e)
+wants-below_lan_count d flow lan ok e =
+    subst (λ (n : ℕ). lan < n) ok.lans (index-below_from_true d.wants lan flow e)
 
 -- the flow of a number
 pub flow-exists_at_index : (flows : List Flow) (i : ℕ) → i < length flows
@@ -173,7 +174,7 @@ ttl-at_most_255 d flow ok h =
     subst (λ (o : Option Flow). unwrap_or (option_map (λ (f : Flow). f.ttl) o) 0 ≤ 255) (sym f.1)
     (ok.topology.valid_flows flow f.0 f.1).ttl_to
 
--- ---- what was worked out
+-- ---- the look-up tables
 
 pub length-vif_lans_of : (d : DomainValue) → length (vif_lans_of d) ≡ length d.topology.routers
 length-vif_lans_of d = length-map (below (length d.topology.routers))

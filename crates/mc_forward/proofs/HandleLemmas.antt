@@ -21,7 +21,8 @@ remove-append (x ∷ xs) ys (suc i) lt = ap (λ zs. x ∷ zs) (remove-append xs 
 abbrev LeavesWaitingInPlace : ℕ → (Flight → Flight) → Flight → Type 0
 LeavesWaitingInPlace i F f = (without_waiting i (F f) ≡ F (without_waiting i f)) × (i < length (F f).waiting)
 
-leaves_waiting-put : (n : Net) (c : Copy) (i : ℕ) (f : Flight) → i < length f.waiting → LeavesWaitingInPlace i (put n c) f
+leaves_waiting-put : (n : Net) (c : Copy) (i : ℕ) (f : Flight) → i < length f.waiting →
+    LeavesWaitingInPlace i (put n c) f
 leaves_waiting-put n c i f lt = (
   ap (λ ws. flight_of (f.carried ++ c ∷ []) ws f.strays)
       (remove-append f.waiting (map (waits_at c.ttl) (hearers n c)) i lt),
@@ -31,7 +32,8 @@ leaves_waiting-put n c i f lt = (
 leaves_waiting-leave : (n : Net) (t : ℕ) (x : Interface) (o : Option ℕ) (i : ℕ) (f : Flight)
     → i < length f.waiting → LeavesWaitingInPlace i (leave n t x o) f
 leaves_waiting-leave n t x None i f lt = (refl, lt)
-leaves_waiting-leave n t x (Some l) i f lt = leaves_waiting-put n (record { lan = l; ttl = t; sender = Some x }) i f lt
+leaves_waiting-leave n t x (Some l) i f lt =
+    leaves_waiting-put n (record { lan = l; ttl = t; sender = Some x }) i f lt
 
 leaves_waiting-cond : (b : Bool) (F : Flight → Flight) (i : ℕ) (f : Flight) → i < length f.waiting
     → LeavesWaitingInPlace i F f → LeavesWaitingInPlace i (λ g. cond b (F g) g) f
@@ -70,7 +72,7 @@ without_waiting-after_handle n f g i w lt read e =
     ap (without_waiting i) e ∙ (leaves_waiting-row n w (n.row w.router) i f lt).0
     ∙ ap (λ o. handle n o (without_waiting i f)) (sym at)
 
--- what is seen of the handling
+-- the event of the handling
 pub event_of-handled_copy : (n : Net) (ws : List Waiting) (i : ℕ) (w own : Waiting) (o : Outcome)
     → i < length ws → w ≡ get_or ws i w → own ≡ w
     → o ≡ outcome_by_row n w (n.row w.router)

@@ -33,7 +33,8 @@ each_by_index-push {A} R xs now y k more size here each i z at =
 item_equal-from_some : {A : Type 0} (o : Option A) (x z : A) → o ≡ Some x → o ≡ Some z → x ≡ z
 item_equal-from_some o x z a b = cc
 
-pub related_at_each_index-push : {A B : Type 0} (R : A → B → Type 0) (xs : List A) (ys : List B) (x : A) (y : B)
+pub related_at_each_index-push : {A B : Type 0} (R : A → B → Type 0) (xs : List A) (ys : List B)
+    (x : A) (y : B)
     → RelatedAtEachIndex R xs ys
     → slice_get xs (length ys) ≡ Some x → R x y → RelatedAtEachIndex R xs (ys ++ y ∷ [])
 related_at_each_index-push R xs ys x y each at r k w z ew ez = elim (slice_get-push_cases ys y z k ez) [
@@ -72,7 +73,7 @@ take-map_below xs f d each (suc k) h =
     more ∙ ap (λ ys. ys ++ get_or xs k d ∷ []) (take-map_below xs f d each k (omega (arith, h)))
     ∙ ap (λ y. map f (below k) ++ y ∷ []) (each k (omega (arith, h))) ∙ sym next
 
--- a list whose items are told by their places
+-- a list whose items are known by their places
 pub map_below-from_items : {A : Type 0} (xs : List A) (f : ℕ → A) (n : ℕ) (d : A) → length xs ≡ n
     → ((i : ℕ) → i < n → get_or xs i d ≡ f i)
     → xs ≡ map f (below n)
@@ -80,15 +81,17 @@ map_below-from_items xs f n d size each =
     sym (take_all n xs (omega (arith, size))) ∙ take-map_below xs f d
     (λ i lt. each i (omega (arith, lt, size))) n (omega (arith, size))
 
--- the same of a list that was seen to grow
+-- the same of a list that grew
 pub length-push : {A : Type 0} (ys now : List A) (y : A) (k : ℕ) → now ≡ ys ++ y ∷ []
     → length ys ≡ k → length now ≡ k + 1
 length-push ys now y k more size = ap length more ∙ length-append ys (y ∷ [])
     ∙ (let e : length ys + 1 ≡ k + 1 = omega (arith, size) in e)
 
-pub related_at_each_index-pushed_list : {A B : Type 0} (R : A → B → Type 0) (xs : List A) (ys now : List B) (x : A)
+pub related_at_each_index-pushed_list : {A B : Type 0} (R : A → B → Type 0) (xs : List A)
+    (ys now : List B) (x : A)
     (y : B) (k : ℕ) → now ≡ ys ++ y ∷ []
-    → length ys ≡ k → slice_get xs k ≡ Some x → R x y → RelatedAtEachIndex R xs ys → RelatedAtEachIndex R xs now
+    → length ys ≡ k → slice_get xs k ≡ Some x → R x y → RelatedAtEachIndex R xs ys →
+        RelatedAtEachIndex R xs now
 related_at_each_index-pushed_list R xs ys now x y k more size at r each =
     subst (RelatedAtEachIndex R xs) (sym more) (related_at_each_index-push R xs ys x y each
     (subst (λ (n : ℕ). slice_get xs n ≡ Some x) (sym size) at) r)

@@ -1,5 +1,5 @@
--- A domain of which each router's cache has the rows of the listed flows alone says of each flow
--- what the whole one says.
+-- A domain whose caches have the rows of the listed flows alone has the same facts of each flow as the
+-- whole one.
 use Rattle.std.proofs.Common.{◌≡◌, ℕ, zero, suc, Bool, true, List, [], ◌∷◌, ◌++◌, length}
 use Rattle.std.proofs.Common.{slice_get, Option, Some, None, refl, ap, sym, subst, arith, ◌||◌}
 use Rattle.std.specs.Prelude.{option_and_then}
@@ -12,7 +12,8 @@ use Rattle.mc_forward.specs.Domains.{DomainValue, TablesValue, vif_of, row_at, l
 use Rattle.mc_forward.specs.Domains.{source_of, ttl_of}
 use Rattle.mc_forward.specs.Assembling.{RelatedAtEachIndex}
 use Rattle.mc_forward.specs.DomainParts.{domain_with}
-use Rattle.mc_forward.specs.ListedTables.{AreListedPartsOfTables, IsListedPartOfTables, Pairwise, HaveSameFacts}
+use Rattle.mc_forward.specs.ListedTables.{AreListedPartsOfTables, IsListedPartOfTables, Pairwise}
+use Rattle.mc_forward.specs.ListedTables.{HaveSameFacts}
 use Rattle.mc_forward.specs.ListedTables.{facts, flow_pairs}
 
 or-true : (b : Bool) → (b || true) ≡ true
@@ -36,7 +37,8 @@ row_at-of_listed_part flows part whole listed k (Some f) at =
     rw (listed.cache.entries (f.source, f.group) (is_listed-of_flow flows k f at), listed.cache.wildcards)
     refl
 
-row_at-of_listed_parts : (flows : List Flow) (parts wholes : List TablesValue) → AreListedPartsOfTables flows parts wholes
+row_at-of_listed_parts : (flows : List Flow) (parts wholes : List TablesValue) →
+    AreListedPartsOfTables flows parts wholes
     → (k router : ℕ) → row_at (slice_get parts router) (slice_get flows k)
     ≡ row_at (slice_get wholes router) (slice_get flows k)
 row_at-of_listed_parts flows [] [] are k router = refl
@@ -48,7 +50,8 @@ row_at-of_listed_parts flows (part ∷ parts) (whole ∷ wholes) are k (suc rout
     row_at-of_listed_parts flows parts wholes are.1 k router
 
 -- and its vifs are placed alike
-vif_of-of_listed_parts : (flows : List Flow) (parts wholes : List TablesValue) → AreListedPartsOfTables flows parts wholes
+vif_of-of_listed_parts : (flows : List Flow) (parts wholes : List TablesValue) →
+    AreListedPartsOfTables flows parts wholes
     → (router vif : ℕ) → vif_of parts router vif ≡ vif_of wholes router vif
 vif_of-of_listed_parts flows [] [] are router vif = refl
 vif_of-of_listed_parts flows [] (whole ∷ wholes) are router vif = absurd are
@@ -58,7 +61,8 @@ vif_of-of_listed_parts flows (part ∷ parts) (whole ∷ wholes) are zero vif =
 vif_of-of_listed_parts flows (part ∷ parts) (whole ∷ wholes) are (suc router) vif =
     vif_of-of_listed_parts flows parts wholes are.1 router vif
 
-pub have_same_facts-of_listed_parts : (t : TopologyValue) (parts wholes : List TablesValue) (wants : List (List Bool))
+pub have_same_facts-of_listed_parts : (t : TopologyValue) (parts wholes : List TablesValue)
+    (wants : List (List Bool))
     → AreListedPartsOfTables t.flows parts wholes
     → HaveSameFacts (domain_with t wholes wants) (domain_with t parts wants)
 have_same_facts-of_listed_parts t parts wholes wants are =
@@ -79,7 +83,7 @@ have_same_facts-of_listed_parts t parts wholes wants are =
       vifs = λ router vif. sym (vif_of-of_listed_parts t.flows parts wholes are router vif);
     }
 
--- so all is the same that a domain says
+-- so both domains have the same facts
 pub facts-of_same_facts : {d e : DomainValue} → HaveSameFacts d e → facts d ≡ facts e
 facts-of_same_facts same = λ i. record {
   topology = same.topology i;

@@ -13,18 +13,21 @@ use Rattle.mc_forward.specs.PerLan.{item_on_lan, first_with_key, HoldsFirstOfEac
 
 -- ---- the first of a key, with one item more
 
-first_with_key-push : {A : Type 0} (key : A → ℕ) (xs : List A) (x : A) (n : ℕ) → first_with_key key xs n ≡ None
+first_with_key-push : {A : Type 0} (key : A → ℕ) (xs : List A) (x : A) (n : ℕ) →
+    first_with_key key xs n ≡ None
     → first_with_key key (xs ++ x ∷ []) n ≡ first_with_key key (x ∷ []) n
 first_with_key-push key [] x n none = refl
 first_with_key-push {A} key (y ∷ xs) x n none = by (key y == n) none (first_with_key-push key xs x n)
   where
     by : (b : Bool) → cond b (Some y) (first_with_key key xs n) ≡ None
-        → (first_with_key key xs n ≡ None → first_with_key key (xs ++ x ∷ []) n ≡ first_with_key key (x ∷ []) n)
+        → (first_with_key key xs n ≡ None →
+            first_with_key key (xs ++ x ∷ []) n ≡ first_with_key key (x ∷ []) n)
         → cond b (Some y) (first_with_key key (xs ++ x ∷ []) n) ≡ first_with_key key (x ∷ []) n
     by true none rest = absurd cc
     by false none rest = rest none
 
-first_with_key-push_other_key : {A : Type 0} (key : A → ℕ) (xs : List A) (x : A) (n : ℕ) → (key x == n) ≡ false
+first_with_key-push_other_key : {A : Type 0} (key : A → ℕ) (xs : List A) (x : A) (n : ℕ) →
+    (key x == n) ≡ false
     → first_with_key key (xs ++ x ∷ []) n ≡ first_with_key key xs n
 first_with_key-push_other_key key [] x n other = ap (λ (b : Bool). cond b (Some x) None) other
 first_with_key-push_other_key key (y ∷ xs) x n other =
@@ -33,7 +36,8 @@ first_with_key-push_other_key key (y ∷ xs) x n other =
 first_with_key-push_again : {A : Type 0} (key : A → ℕ) (xs : List A) (x y : A) (n : ℕ)
     → first_with_key key xs n ≡ Some y → first_with_key key (xs ++ x ∷ []) n ≡ Some y
 first_with_key-push_again key [] x y n some = absurd cc
-first_with_key-push_again {A} key (z ∷ xs) x y n some = by (key z == n) some (first_with_key-push_again key xs x y n)
+first_with_key-push_again {A} key (z ∷ xs) x y n some =
+    by (key z == n) some (first_with_key-push_again key xs x y n)
   where
     by : (b : Bool) → cond b (Some z) (first_with_key key xs n) ≡ Some y
         → (first_with_key key xs n ≡ Some y → first_with_key key (xs ++ x ∷ []) n ≡ Some y)
@@ -47,7 +51,8 @@ item_on_lan-slice_set_same : {A : Type 0} (places : List (Option A)) (x : A) (n 
     → item_on_lan (slice_set places n (Some x)) n ≡ Some x
 item_on_lan-slice_set_same [] x n lt = absurd (omega (arith, lt))
 item_on_lan-slice_set_same (p ∷ places) x zero lt = refl
-item_on_lan-slice_set_same (p ∷ places) x (suc n) lt = item_on_lan-slice_set_same places x n (omega (arith, lt))
+item_on_lan-slice_set_same (p ∷ places) x (suc n) lt =
+    item_on_lan-slice_set_same places x n (omega (arith, lt))
 
 item_on_lan-slice_set_other : {A : Type 0} (places : List (Option A)) (x : A) (n m : ℕ) → n ≢ m
     → item_on_lan (slice_set places n (Some x)) m ≡ item_on_lan places m
@@ -55,7 +60,8 @@ item_on_lan-slice_set_other [] x n m other = refl
 item_on_lan-slice_set_other (p ∷ places) x zero zero other = absurd (other refl)
 item_on_lan-slice_set_other (p ∷ places) x zero (suc m) other = refl
 item_on_lan-slice_set_other (p ∷ places) x (suc n) zero other = refl
-item_on_lan-slice_set_other (p ∷ places) x (suc n) (suc m) other = item_on_lan-slice_set_other places x n m (λ q. other (ap suc q))
+item_on_lan-slice_set_other (p ∷ places) x (suc n) (suc m) other =
+    item_on_lan-slice_set_other places x n m (λ q. other (ap suc q))
 
 -- ---- item by item
 
@@ -67,7 +73,8 @@ item_on_lan-replicate_none {A} (suc lans) (suc n) = item_on_lan-replicate_none {
 -- no item was put yet
 pub holds_first-start : {A : Type 0} (key : A → ℕ) (places : List (Option A)) (lans : ℕ)
     → places ≡ replicate lans None → HoldsFirstOfEachKey key places []
-holds_first-start {A} key places lans e n = ap (λ ps. item_on_lan ps n) e ∙ item_on_lan-replicate_none {A = A} lans n
+holds_first-start {A} key places lans e n =
+    ap (λ ps. item_on_lan ps n) e ∙ item_on_lan-replicate_none {A = A} lans n
 
 -- an item was put at a place that held none
 pub holds_first-put : {A : Type 0} (key : A → ℕ) (places : List (Option A)) (xs : List A) (x : A)
@@ -85,7 +92,8 @@ holds_first-put {A} key places xs x lt filled free n = by (key x == n) refl
         (item_on_lan-slice_set_same places x (key x) lt)
         ∙ sym (first_with_key-push key xs x n none ∙ ap (λ (b : Bool). cond b (Some x) None) q)
     by false q =
-        item_on_lan-slice_set_other places x (key x) n (λ same. absurd (false≢true (sym q ∙ eq-eqb (key x) n same)))
+        item_on_lan-slice_set_other places x (key x)
+            n (λ same. absurd (false≢true (sym q ∙ eq-eqb (key x) n same)))
         ∙ (filled n ∙ sym (first_with_key-push_other_key key xs x n q))
 
 -- an item after the first of its key changes nothing
@@ -130,10 +138,12 @@ length-after_put places now n x false is kept = ap length (kept refl)
 
 -- ---- entries and copies
 
-pub first_with_key-entry_on : (es : List Entry) (l : ℕ) → first_with_key (λ (e : Entry). e.lan) es l ≡ entry_on es l
+pub first_with_key-entry_on : (es : List Entry) (l : ℕ) →
+    first_with_key (λ (e : Entry). e.lan) es l ≡ entry_on es l
 first_with_key-entry_on [] l = refl
 first_with_key-entry_on (e ∷ es) l = ap (cond (e.lan == l) (Some e)) (first_with_key-entry_on es l)
 
-pub first_with_key-first_copy_on : (cs : List Copy) (l : ℕ) → first_with_key (λ (c : Copy). c.lan) cs l ≡ first_copy_on cs l
+pub first_with_key-first_copy_on : (cs : List Copy) (l : ℕ) →
+    first_with_key (λ (c : Copy). c.lan) cs l ≡ first_copy_on cs l
 first_with_key-first_copy_on [] l = refl
 first_with_key-first_copy_on (c ∷ cs) l = ap (cond (c.lan == l) (Some c)) (first_with_key-first_copy_on cs l)

@@ -15,7 +15,8 @@ use Rattle.mc_theory.specs.Nets.{Row}
 use Rattle.mc_theory.specs.Nets.Row.{Exact as exact, Open as open_row, NoRow as no_row}
 use Rattle.mc_forward.specs.declared.row.RowFor.{RowFor}
 use Rattle.mc_forward.specs.declared.row.RowFor.TheVariants as row
-use Rattle.mc_forward.specs.Domains.{TablesValue, DomainValue, IsDomain, oif_pairs, row_by_entry, row_in_cache}
+use Rattle.mc_forward.specs.Domains.{TablesValue, DomainValue, IsDomain, oif_pairs, row_by_entry}
+use Rattle.mc_forward.specs.Domains.{row_in_cache}
 use Rattle.mc_forward.specs.Domains.{row_at, row_of}
 use Rattle.mc_forward.specs.DomainParts.{rows_by_tables}
 use Rattle.mc_forward.specs.RowValues.{row_value, HasValidEntry}
@@ -70,7 +71,8 @@ pub length-rows_of_router : (d : DomainValue) (router : ℕ) (own : List Row) �
 length-rows_of_router d router own are = ap length are.rows
     ∙ length-map d.topology.flows (row_in_cache are.tables.cache)
 
-pub row_of-rows_of_router : (d : DomainValue) (router flow : ℕ) (own : List Row) (r : Row) → AreRowsOfRouter d router own
+pub row_of-rows_of_router : (d : DomainValue) (router flow : ℕ) (own : List Row) (r : Row) →
+    AreRowsOfRouter d router own
     → slice_get own flow ≡ Some r → r ≡ row_of d flow router
 row_of-rows_of_router d router flow own r are at =
     by are.tables d.topology.flows (sym (slice_get-map (row_in_cache are.tables.cache) d.topology.flows flow)
@@ -87,7 +89,7 @@ row_of-rows_of_router d router flow own r are at =
         → r ≡ row_at (Some t) (slice_get flows flow)
     by t flows e = by_flow t (slice_get flows flow) e
 
--- ---- an entry that is a row stands as a kernel has it
+-- ---- the entry of a row is one that a kernel may have
 
 map_to_oif-oif_pairs : (oifs : List Oif) → map to_oif (oif_pairs oifs) ≡ oifs
 map_to_oif-oif_pairs [] = refl
@@ -107,8 +109,10 @@ entry_equal-from_row e entry same =
     ∙ ap (with entry.iif) (map_to_oif-oif_pairs entry.oifs)
 
 is_entry-from_row_by_entry : (wild : Bool) (o : Option EntryValue) (entry : EntryValue)
-    → row_by_entry wild o ≡ exact entry.iif (oif_pairs entry.oifs) → IfSome o IsValidEntry → IsValidEntry entry
-is_entry-from_row_by_entry wild (Some e) entry same ok = subst IsValidEntry (entry_equal-from_row e entry same) ok
+    → row_by_entry wild o ≡ exact entry.iif (oif_pairs entry.oifs) → IfSome o IsValidEntry →
+        IsValidEntry entry
+is_entry-from_row_by_entry wild (Some e) entry same ok =
+    subst IsValidEntry (entry_equal-from_row e entry same) ok
 is_entry-from_row_by_entry true None entry same ok = absurd cc
 is_entry-from_row_by_entry false None entry same ok = absurd cc
 
@@ -124,5 +128,6 @@ has_valid_entry-from_row_value d flow router (row.Exact entry) ok same =
     by None o at e = absurd cc
     by (Some t) None at e = absurd cc
     by (Some t) (Some f) at e =
-        is_entry-from_row_by_entry (has_row_for_every_source t.cache f) (finite.get t.cache.entries (f.source, f.group)) entry e
+        is_entry-from_row_by_entry (has_row_for_every_source t.cache f)
+            (finite.get t.cache.entries (f.source, f.group)) entry e
         ((ok.tables router t at).cache.entries (f.source, f.group))

@@ -1,4 +1,4 @@
--- What a domain has of a router that its topology hasn't: nothing.
+-- A domain has nothing of a router that isn't in its topology.
 use Rattle.std.proofs.Common.{◌≡◌, ℕ, ◌≤◌, length, slice_get, Option, Some, None, refl, arith}
 use Rattle.std.specs.Prelude.{option_and_then}
 use Rattle.std.specs.FinMap as finite
@@ -8,7 +8,8 @@ use Rattle.mc_topology.specs.declared.flow.Flow.{Flow}
 use Rattle.mc_forward.specs.Domains.{TablesValue, DomainValue, IsDomain, lan_of_vif, placed_of}
 use Rattle.mc_forward.specs.Domains.{row_at, row_of}
 
-tables-none_past_last_router : (d : DomainValue) → IsDomain d → (router : ℕ) → length d.topology.routers ≤ router
+tables-none_past_last_router : (d : DomainValue) → IsDomain d → (router : ℕ) →
+    length d.topology.routers ≤ router
     → slice_get d.tables router ≡ None
 tables-none_past_last_router d ok router past = slice_get_past d.tables router (omega (arith, ok.routers))
 
@@ -25,7 +26,8 @@ placed_of-none_past_last_router d ok router vif past = by d router vif (slice_ge
 
 pub row_of-none_past_last_router : (d : DomainValue) → IsDomain d → (flow router : ℕ)
     → length d.topology.routers ≤ router → row_of d flow router ≡ NoRow
-row_of-none_past_last_router d ok flow router past = by (slice_get d.tables router) (slice_get d.topology.flows flow)
+row_of-none_past_last_router d ok flow router past =
+    by (slice_get d.tables router) (slice_get d.topology.flows flow)
     (tables-none_past_last_router d ok router past)
   where
     by : (o : Option TablesValue) (f : Option Flow) → o ≡ None → row_at o f ≡ NoRow

@@ -19,7 +19,8 @@ use Rattle.mc_forward.specs.Domains.{placed_of}
 use Rattle.mc_forward.specs.DomainParts.{vif_lans_of, interfaces_of}
 use Rattle.mc_forward.specs.Assembling.{vif_lan_in, interfaces_by_vif_lans, vifs_on, vif_lans_by_tables}
 use Rattle.mc_forward.proofs.BelowLemmas.{below-more, map_below-more, slice_get-map_below}
-use Rattle.mc_forward.proofs.DomainLemmas.{is_net-net_of, vif_lans-placed_of, placed-below_lan_count, length-vif_lans_of}
+use Rattle.mc_forward.proofs.DomainLemmas.{is_net-net_of, vif_lans-placed_of}
+use Rattle.mc_forward.proofs.DomainLemmas.{placed-below_lan_count, length-vif_lans_of}
 
 -- ---- one vif more
 
@@ -45,7 +46,7 @@ vifs_on-single vif_lans router lan k b e =
     ap (λ (t : Bool). map {B = Interface} (λ (vif : ℕ). (router, vif)) (cond t (k ∷ []) [])) e
     ∙ map-filter_of_one router k b
 
--- the lists have what stood in them at first, and a router's vifs so far
+-- the lists have what was in them at first, and a router's vifs so far
 abbrev pub HaveVifs : List (List Interface) → List (List Interface) → List (Option ℕ) → ℕ → ℕ
     → Type 0
 HaveVifs start lists vif_lans router k =
@@ -74,7 +75,8 @@ vifs_on-more_placed vif_lans router lan k old now e h =
     (sym (vifs_on-single vif_lans router lan k true e)) ∙ sym (vifs_on-more vif_lans router lan k))
 
 -- the next vif is placed on no LAN
-pub have_vifs-more_unplaced : (start lists : List (List Interface)) (vif_lans : List (Option ℕ)) (router k : ℕ)
+pub have_vifs-more_unplaced : (start lists : List (List Interface)) (vif_lans : List (Option ℕ))
+    (router k : ℕ)
     → slice_index_or vif_lans k None ≡ None
     → HaveVifs start lists vif_lans router k → HaveVifs start lists vif_lans router (k + 1)
 have_vifs-more_unplaced start lists vif_lans router k none have lan lt =
@@ -82,7 +84,8 @@ have_vifs-more_unplaced start lists vif_lans router k none have lan lt =
     (ap (λ (o : Option ℕ). is_lan o lan) none) (have lan lt)
 
 -- the next vif is placed on the LAN q, to whose list it was added
-pub have_vifs-more_placed : (start lists : List (List Interface)) (vif_lans : List (Option ℕ)) (router k q : ℕ)
+pub have_vifs-more_placed : (start lists : List (List Interface)) (vif_lans : List (Option ℕ))
+    (router k q : ℕ)
     (own next : List Interface)
     → q < length lists → own ≡ get_or lists q own → next ≡ own ++ (router, k) ∷ []
     → slice_index_or vif_lans k None ≡ Some q
@@ -118,7 +121,8 @@ filter-map p f (x ∷ xs) = step p f x xs (p (f x)) (filter-map p f xs)
     step p f x xs true e = ap (λ ys. f x ∷ ys) e
     step p f x xs false e = e
 
-router_vif_pairs-more : (r : ℕ) → router_vif_pairs 32 (r + 1) ≡ router_vif_pairs 32 r ++ map {B = Interface} (λ (v : ℕ). (r, v))
+router_vif_pairs-more : (r : ℕ) →
+    router_vif_pairs 32 (r + 1) ≡ router_vif_pairs 32 r ++ map {B = Interface} (λ (v : ℕ). (r, v))
     (below 32)
 router_vif_pairs-more r =
     ap (flat_map (λ (n : ℕ). map {B = Interface} (λ (v : ℕ). (n, v)) (below 32))) (below-more r)
@@ -145,7 +149,8 @@ placed_of-none_past_routers d router vif ok past None e = refl
 placed_of-none_past_routers d router vif ok past (Some lan) e =
     let lt = (is_net-net_of d 0 ok).router router vif lan e in absurd (omega (arith, lt, past))
 
-vif_lan_in-placed_of : (d : DomainValue) (vif_lans : List (List (Option ℕ))) → IsDomain d → vif_lans ≡ vif_lans_of d
+vif_lan_in-placed_of : (d : DomainValue) (vif_lans : List (List (Option ℕ))) → IsDomain d →
+    vif_lans ≡ vif_lans_of d
     → (router vif : ℕ)
     → vif_lan_in vif_lans router vif ≡ placed_of d router vif
 vif_lan_in-placed_of d vif_lans ok e router vif = elim (cases_lt router (length d.topology.routers)) [
@@ -166,7 +171,8 @@ pub vif_lan_in-below_lan_count : (d : DomainValue) (vif_lans : List (List (Optio
     → vif_lans ≡ vif_lans_of d → (router vif lan : ℕ)
     → vif_lan_in vif_lans router vif ≡ Some lan → lan < length d.topology.lans
 vif_lan_in-below_lan_count d vif_lans ok e router vif lan at =
-    placed-below_lan_count d router vif ok (Some lan) (sym (vif_lan_in-placed_of d vif_lans ok e router vif) ∙ at)
+    placed-below_lan_count d router vif ok (Some lan)
+        (sym (vif_lan_in-placed_of d vif_lans ok e router vif) ∙ at)
 
 filter-by_placed_of : (d : DomainValue) (place : ℕ → ℕ → Option ℕ) (routers : ℕ) → place ≡ placed_of d
     → routers ≡ length d.topology.routers
@@ -182,9 +188,11 @@ filter-by_placed_of d place routers e size =
 
 pub interfaces_by_vif_lans-interfaces_of : (d : DomainValue) (vif_lans : List (List (Option ℕ))) → IsDomain d
     → vif_lans ≡ vif_lans_of d
-    → map (interfaces_by_vif_lans vif_lans (length vif_lans)) (below (length d.topology.lans)) ≡ interfaces_of d
+    → map (interfaces_by_vif_lans vif_lans (length vif_lans)) (below (length d.topology.lans))
+        ≡ interfaces_of d
 interfaces_by_vif_lans-interfaces_of d vif_lans ok e =
-    let same : vif_lan_in vif_lans ≡ placed_of d = λ i router vif. vif_lan_in-placed_of d vif_lans ok e router vif
+    let same : vif_lan_in vif_lans ≡ placed_of d =
+        λ i router vif. vif_lan_in-placed_of d vif_lans ok e router vif
     i in
     filter-by_placed_of d (vif_lan_in vif_lans) (length vif_lans) same (ap length e ∙ length-vif_lans_of d)
 
@@ -248,7 +256,7 @@ lists-after_next_router old now vif_lans own lans r size within read before adde
     ∙ ap (λ (o : List (Option ℕ)). interfaces_by_vif_lans vif_lans r lan ++ vifs_on o r lan (below 32)) row
     ∙ sym (interfaces_by_vif_lans-more vif_lans r lan)
 
--- a place that was read, whatever stands for one past the end
+-- a place that was read, whatever the default for one past the end
 pub slice_index_or-from_read : (vif_lans : List (Option ℕ)) (k : ℕ) (d o : Option ℕ) → k < length vif_lans
     → get_or vif_lans k d ≡ o → slice_index_or vif_lans k None ≡ o
 slice_index_or-from_read vif_lans k d o lt read = get_or_default vif_lans k None d lt ∙ read

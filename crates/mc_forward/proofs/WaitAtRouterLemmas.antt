@@ -13,7 +13,8 @@ use Rattle.mc_forward.specs.FlightsInDomain.{WaitAtRouters}
 
 pub wait_at_routers-put : (n : Net) → IsNet n → (c : Copy) (f : Flight) → WaitAtRouters n.routers f
     → WaitAtRouters n.routers (put n c f)
-wait_at_routers-put n net c f at w k = elim (in-append_cases w f.waiting (map (waits_at c.ttl) (hearers n c)) k) [
+wait_at_routers-put n net c f at w k =
+    elim (in-append_cases w f.waiting (map (waits_at c.ttl) (hearers n c)) k) [
   | inl old ↦ at w old
   | inr new ↦ (
       let heard = in-map_cases (waits_at c.ttl) w (hearers n c) new in
@@ -26,14 +27,17 @@ wait_at_routers-put n net c f at w k = elim (in-append_cases w f.waiting (map (w
 wait_at_routers-leave : (n : Net) → IsNet n → (t : ℕ) (x : Interface) (o : Option ℕ) (f : Flight)
     → WaitAtRouters n.routers f → WaitAtRouters n.routers (leave n t x o f)
 wait_at_routers-leave n net t x None f at = at
-wait_at_routers-leave n net t x (Some l) f at = wait_at_routers-put n net (record { lan = l; ttl = t; sender = Some x }) f at
+wait_at_routers-leave n net t x (Some l) f at =
+    wait_at_routers-put n net (record { lan = l; ttl = t; sender = Some x }) f at
 
-wait_at_routers-cond : (routers : ℕ) (b : Bool) (f g : Flight) → WaitAtRouters routers f → WaitAtRouters routers g
+wait_at_routers-cond : (routers : ℕ) (b : Bool) (f g : Flight) → WaitAtRouters routers f →
+    WaitAtRouters routers g
     → WaitAtRouters routers (cond b f g)
 wait_at_routers-cond routers true f g h k = h
 wait_at_routers-cond routers false f g h k = k
 
-wait_at_routers-sends : (n : Net) → IsNet n → (r t : ℕ) (ps : List (ℕ × ℕ)) (f : Flight) → WaitAtRouters n.routers f
+wait_at_routers-sends : (n : Net) → IsNet n → (r t : ℕ) (ps : List (ℕ × ℕ)) (f : Flight) →
+    WaitAtRouters n.routers f
     → WaitAtRouters n.routers (sends n r t ps f)
 wait_at_routers-sends n net r t [] f at = at
 wait_at_routers-sends n net r t (p ∷ ps) f at =
@@ -68,7 +72,7 @@ pub wait_at_routers-none : (routers : ℕ) (f : Flight) → f ≡ record { carri
     → WaitAtRouters routers f
 wait_at_routers-none routers f e = subst (WaitAtRouters routers) (sym e) (λ w k. absurd k)
 
--- what holds of either outcome holds of the one that there was
+-- what holds of both outcomes holds of the one that there was
 pub from_either_outcome : {A T E : Type 0} (r : Result T E) (Q : A → Type 0) (x y z : A) → OnOk r (x ≡ y)
     → OnErr r (x ≡ z) → Q y → Q z → Q x
 from_either_outcome (Ok v) Q x y z same other ok err = subst Q (sym same) ok

@@ -10,12 +10,13 @@ use Rattle.mc_topology.specs.declared.flow.Flow.{Flow}
 use Rattle.mc_topology.specs.Topology.{TopologyValue, IsValidTopology}
 use Rattle.mc_forward.specs.Domains.{TablesValue, AreTables, IsDomain}
 use Rattle.mc_forward.specs.DomainParts.{domain_with}
-use Rattle.mc_forward.specs.Assembling.{RelatedAtEachIndex, AreAnswers, HaveMatchingCounts, IsAssembled, AreWanted}
+use Rattle.mc_forward.specs.Assembling.{RelatedAtEachIndex, AreAnswers, HaveMatchingCounts}
+use Rattle.mc_forward.specs.Assembling.{IsAssembled, AreWanted}
 use Rattle.mc_forward.specs.Assembling.{AreChannelsWanted}
 use Rattle.mc_forward.specs.ListedTables.{flow_pairs}
 use Rattle.mc_forward.proofs.IndexLemmas.{slice_get-exists}
 
--- what the rows of wants say, LAN by LAN and flow by flow
+-- what the rows of wants mean, LAN by LAN and flow by flow
 pub wants-at_lan_and_flow : (flows : List Flow) (reports : List (List Record)) (wants : List (List Bool))
     → length wants ≡ length reports
     → RelatedAtEachIndex (AreWanted flows) reports wants → (lan flow : ℕ) (records : List Record) (f : Flow)
@@ -37,7 +38,7 @@ wants-at_lan_and_flow flows reports wants size each lan flow records f at here =
     subst (λ (b : Bool). IsTrue b ↔ Wants records f.group f.source) (sym read)
     (own.each flow f flag.0 here flag.1)
 
--- what was worked out makes a domain
+-- the answers make a domain
 pub is_domain-from_parts : (t : TopologyValue) (ts : List TablesValue) (wants : List (List Bool))
     → IsValidTopology t → length ts ≡ length t.routers
     → ((router : ℕ) (own : TablesValue) → slice_get ts router ≡ Some own → AreTables own)
@@ -79,7 +80,7 @@ pub length-flow_pairs : (flows : List Flow) (channels : List (ℕ × ℕ)) → c
 length-flow_pairs flows channels are =
     ap length are ∙ length-map flows (λ (f : Flow). (f.source, f.group))
 
--- which channels of flows are wanted says which flows are
+-- which channels of flows are wanted determines which flows are
 pub are_wanted-from_channels : (flows : List Flow) (records : List Record) (channels : List (ℕ × ℕ))
     (wanted : List Bool) → channels ≡ flow_pairs flows
     → AreChannelsWanted channels records wanted → AreWanted flows records wanted

@@ -1,4 +1,4 @@
--- How a domain is put together of its parts.
+-- How a domain is put together from its parts.
 use Rattle.std.specs.Prelude.{◌≡◌, ◌↔◌, ℕ, Bool, IsTrue, List, [], length, map, filter, Option}
 use Rattle.std.specs.Prelude.{Some, None, slice_get, slice_index_or, option_and_then}
 use Rattle.std.specs.FinMap as finite
@@ -28,7 +28,7 @@ pub record IsAssembled (t : TopologyValue) (ts : List TablesValue) (rs : List (L
 
 -- ---- step by step
 
--- what stands at one place of both lists is so related
+-- the items at one place of both lists are so related
 abbrev pub RelatedAtEachIndex : {A B : Type 0} → (A → B → Type 0) → List A → List B → Type 0
 RelatedAtEachIndex {A} {B} R xs ys =
     (k : ℕ) (x : A) (y : B) → slice_get xs k ≡ Some x → slice_get ys k ≡ Some y → R x y
@@ -64,7 +64,7 @@ vif_lans_by_tables topology router tables =
     map (λ vif. option_and_then (lan_of_vif topology router) (finite.get tables.vifs vif))
     (below 32)
 
--- the place of a vif in a table of the LANs of each router's vifs
+-- the LAN of a vif, from a table of the LANs of each router's vifs
 abbrev pub vif_lan_in : List (List (Option ℕ)) → ℕ → ℕ → Option ℕ
 vif_lan_in vif_lans router vif = slice_index_or (slice_index_or vif_lans router []) vif None
 

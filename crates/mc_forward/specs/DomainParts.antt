@@ -1,4 +1,4 @@
--- How a domain is kept: what was worked out once beside its value.
+-- How a domain is stored: the look-up tables that are computed once beside its value.
 use Rattle.std.specs.Prelude.{◌≡◌, ℕ, Bool, List, map, length, Option, refl}
 use Rattle.std.specs.Coded.{Coded, code_by, coded×, coded_list, coded_ℕ, coded_bool}
 use Rattle.std.specs.FinMap as finite
@@ -41,7 +41,7 @@ interfaces_of d = map (interfaces (net_of d 0)) (below (length d.topology.lans))
 abbrev pub rows_by_tables : List Flow → List TablesValue → List (List Row)
 rows_by_tables flows tables = map (λ t. map (row_in_cache t.cache) flows) tables
 
--- what was worked out belongs to the domain
+-- the look-up tables are those of the domain
 pub record AreDerivedTables (d : DomainValue) (ps : List (List (Option ℕ)))
     (is : List (List Interface)) (rs : List (List Row)) : Type 0 where
   pub domain : IsDomain d

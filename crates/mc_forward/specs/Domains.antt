@@ -1,5 +1,5 @@
--- A domain: its topology, what the kernels of its routers say, and what its hosts want. And the net
--- of one of its flows, which is all that matters to the copies of that flow.
+-- A domain: its topology, the kernel tables of its routers, and what its hosts want; and the net of one
+-- of its flows, which is all that matters to the copies of that flow.
 use Rattle.std.specs.Prelude.{◌≡◌, ℕ, Bool, true, false, ◌||◌, List, [], map, length, Option, Some}
 use Rattle.std.specs.Prelude.{None, slice_get, slice_index_or, option_map, option_and_then}
 use Rattle.std.specs.Prelude.{unwrap_or, if◌then◌else◌}
@@ -90,7 +90,7 @@ source_of d flow = unwrap_or (option_map (λ f. f.lan) (slice_get d.topology.flo
 abbrev pub ttl_of : DomainValue → (flow : ℕ) → ℕ
 ttl_of d flow = unwrap_or (option_map (λ f. f.ttl) (slice_get d.topology.flows flow)) 0
 
--- what the routers do with the packets of one flow
+-- the net of a flow: what the routers do with its packets
 abbrev pub net_of : DomainValue → (flow : ℕ) → Net
 net_of d flow = record {
   routers = length d.topology.routers;

@@ -3,7 +3,8 @@ use Rattle.std.specs.Prelude.{◌≡◌, ℕ, ◌<◌, List, length, take, Optio
 use Rattle.std.specs.Coded.{Coded, code_by, coded×, coded_list, coded_option, coded_ℕ}
 use Rattle.mc_theory.specs.Lists.{In}
 use Rattle.mc_theory.specs.Nets.{Net, Interface}
-use Rattle.mc_theory.specs.Flights.{Copy, Waiting, Flight}
+use Rattle.mc_theory.specs.Flights.{Copy, Waiting, Flight, start}
+use Rattle.mc_theory.specs.Findings.{Finding, Choices, IsTravel, OnFinding}
 use Rattle.mc_forward.specs.Domains.{DomainValue, IsDomain, net_of}
 use Rattle.mc_forward.specs.DomainParts.{domain_code}
 
@@ -12,7 +13,7 @@ pub record FlowOfDomain : Type 0 where
   pub domain : DomainValue
   pub flow : ℕ
 
--- what the packets of the flow meet
+-- the net of the flow's packets
 abbrev pub net_in : FlowOfDomain → Net
 net_in f = net_of f.domain f.flow
 
@@ -26,11 +27,11 @@ pub record FlightInDomain : Type 0 where
   pub flow : ℕ
   pub flight : Flight
 
--- what the packet meets
+-- the net of the packet
 abbrev pub net_of_flight_in_domain : FlightInDomain → Net
 net_of_flight_in_domain j = net_of j.domain j.flow
 
--- the same packet, so far
+-- the same packet, with another flight
 abbrev pub with_flight : FlightInDomain → Flight → FlightInDomain
 with_flight j f = record { domain = j.domain; flow = j.flow; flight = f }
 
@@ -47,13 +48,24 @@ pub record IsCopyInDomain (lans routers : ℕ) (c : Copy) : Type 0 where
 abbrev pub AreCopiesInDomain : ℕ → ℕ → Flight → Type 0
 AreCopiesInDomain lans routers f = (c : Copy) → In c f.carried → IsCopyInDomain lans routers c
 
--- what every flight keeps
+-- what holds of every flight
 pub record IsFlight (n : FlowOfDomain) (f : Flight) : Type 0 where
   pub flow : IsFlowOfDomain n
   pub routers : WaitAtRouters (length n.domain.topology.routers) f
   pub listed : AreCopiesInDomain (length n.domain.topology.lans) (length n.domain.topology.routers) f
 
--- ---- how they are kept
+-- ---- travels of a flow's packet with TTL t
+
+-- These picks, by the picker's choices, are a travel that finds x.
+abbrev pub IsFlowTravel : DomainValue → (flow t : ℕ) → Choices → (picks : List ℕ) → Finding → Type 0
+IsFlowTravel d flow t by picks x =
+    IsTravel (net_of d flow) (length d.topology.lans) by.numbers by.last picks (start (net_of d flow) t) x
+
+-- Where a travel finds x, P holds of its last flight, whatever the picker chooses.
+abbrev pub OnFlowFinding : DomainValue → (flow t : ℕ) → Finding → (Flight → Type 0) → Type 0
+OnFlowFinding d flow t x P = OnFinding (net_of d flow) (length d.topology.lans) t x P
+
+-- ---- how flights are stored
 
 abbrev pub flight_of : List Copy → List Waiting → List Interface → Flight
 flight_of carried waiting strays = record { carried = carried; waiting = waiting; strays = strays }
@@ -89,13 +101,13 @@ flight_in_domain_code =
     (λ j. (j.domain, (j.flow, j.flight)))
     (λ p. record { domain = p.0; flow = p.1.0; flight = p.1.1 }) (λ _. refl)
 
--- the flight with only so many copies, waiting copies and strays
+-- flight g with only as many copies, waiting copies and strays as flight f has
 abbrev pub cut_to_lengths : Flight → Flight → Flight
 cut_to_lengths f g = flight_of
     (take (length f.carried) g.carried)
     (take (length f.waiting) g.waiting)
     (take (length f.strays) g.strays)
 
--- each list of the second flight begins with that of the first
+-- each list of flight g begins with that of flight f
 abbrev pub Extends : Flight → Flight → Type 0
 Extends f g = cut_to_lengths f g ≡ f

@@ -1,5 +1,5 @@
--- The tables of a router of which the rows of the listed flows were kept, and domains that say the
--- same of each flow.
+-- A router's tables that keep the rows of the listed flows alone, and domains that have the same facts
+-- of each flow.
 use Rattle.std.specs.Prelude.{◌≡◌, ℕ, List, [], ◌∷◌, map, Option, Some}
 use Rattle.mc_tables.specs.ListedRows.{IsListedPart}
 use Rattle.mc_tables.specs.VifTable.{VifValue}
@@ -12,7 +12,7 @@ use Rattle.mc_forward.specs.Domains.{TablesValue, DomainValue, net_of, vif_of}
 abbrev pub flow_pairs : List Flow → List (ℕ × ℕ)
 flow_pairs flows = map (λ f. (f.source, f.group)) flows
 
--- All vifs, and of the cache what it says of the flows.
+-- The part has all vifs, and of the cache what the flows need.
 pub record IsListedPartOfTables (flows : List Flow) (part whole : TablesValue) : Type 0 where
   pub vifs : part.vifs ≡ whole.vifs
   pub cache : IsListedPart (Some (flow_pairs flows)) part.cache whole.cache
@@ -27,7 +27,7 @@ Pairwise R _ _ = ⊥
 abbrev pub AreListedPartsOfTables : List Flow → List TablesValue → List TablesValue → Type 0
 AreListedPartsOfTables flows parts wholes = Pairwise (IsListedPartOfTables flows) parts wholes
 
--- What a domain says: its topology, what the packets of each flow meet, and each router's vifs.
+-- The facts of a domain: its topology, the net of each flow, and each router's vifs.
 pub record DomainFacts : Type 0 where
   pub topology : TopologyValue
   pub nets : (flow : ℕ) → Net
@@ -36,7 +36,7 @@ pub record DomainFacts : Type 0 where
 abbrev pub facts : DomainValue → DomainFacts
 facts d = record { topology = d.topology; nets = net_of d; vifs = vif_of d.tables }
 
--- Two domains have one topology and the same vifs, and the packets of each flow meet the same.
+-- Two domains have the same topology, the same net for each flow, and the same vifs.
 pub record HaveSameFacts (d e : DomainValue) : Type 0 where
   pub topology : d.topology ≡ e.topology
   pub nets : (flow : ℕ) → net_of d flow ≡ net_of e flow

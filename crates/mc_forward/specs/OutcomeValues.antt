@@ -1,4 +1,4 @@
--- What a handling's answer shows.
+-- Outcomes of code and outcomes of the theory, as each other's values.
 use Rattle.std.specs.Prelude.{◌≡◌, refl}
 use Rattle.mc_theory.specs.Events.{Outcome as Value}
 use Rattle.mc_theory.specs.Events.Outcome.{Open as open_row, NoRow as no_row, OtherVif as other_vif}
@@ -6,14 +6,14 @@ use Rattle.mc_theory.specs.Events.Outcome.{Sent as sent}
 use Rattle.mc_forward.specs.declared.event.Outcome.{Outcome}
 use Rattle.mc_forward.specs.declared.event.Outcome.TheVariants.{Open, NoRow, OtherVif, Sent}
 
--- the outcome that an answer shows
+-- the value of an outcome
 abbrev pub outcome_value : Outcome → Value
 outcome_value Open = open_row
 outcome_value NoRow = no_row
 outcome_value OtherVif = other_vif
 outcome_value (Sent copies strays) = sent copies strays
 
--- the answer that shows an outcome
+-- the outcome with this value
 abbrev pub outcome_of_value : Value → Outcome
 outcome_of_value open_row = Open
 outcome_of_value no_row = NoRow

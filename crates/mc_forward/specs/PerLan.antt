@@ -2,12 +2,12 @@
 use Rattle.std.specs.Prelude.{◌≡◌, ◌==◌, ℕ, if◌then◌else◌, List, [], ◌∷◌, Option, Some, None}
 use Rattle.std.specs.Prelude.{slice_get}
 
--- what stands at a place, if there is the place and it holds something
+-- the item of a place, if there is the place and it holds one
 abbrev pub flatten_option : {A : Type 0} → Option (Option A) → Option A
 flatten_option None = None
 flatten_option (Some o) = o
 
--- what is held on a LAN
+-- the item on a LAN
 abbrev pub item_on_lan : {A : Type 0} → List (Option A) → ℕ → Option A
 item_on_lan places lan = flatten_option (slice_get places lan)
 

@@ -19,7 +19,7 @@ use mc_text::Memory;
 use mc_topology::Topology;
 use std::alloc::Global;
 
-/// What is worked out of a topology, of the routers' tables and of which LAN wants which flow.
+/// The look-up tables of a topology, the routers' tables, and which LAN wants which flow.
 fn derive_tables(
     alloc: Global,
     topology: &Topology,
@@ -44,14 +44,14 @@ fn derive_tables(
     })
 }
 
-/// The same, of the reports of each LAN.
+/// The look-up tables of a topology, the routers' tables, and the reports of each LAN.
 fn derive_tables_from_reports(
     alloc: Global,
     topology: &Topology,
     tables: &[Tables],
     reports: &[ReportList],
 ) -> Result<DerivedTables, Memory>
-    requires given { HaveMatchingCounts topology.now tables.now reports.now }
+    requires matching_counts { HaveMatchingCounts topology.now tables.now reports.now }
     ensures derived { IfOk result (λ w.
         AreDerivedTables (domain_with topology.now tables.now w.wants.items)
         w.vif_lans.items w.interfaces.items w.rows.items) }
@@ -64,8 +64,8 @@ fn derive_tables_from_reports(
 
 impl Domain {
     /// Puts a domain together: its topology, the tables of each router and the reports of each LAN,
-    /// in the topology's order of routers and LANs. What hosts report is let go once it is known
-    /// which LAN wants which flow.
+    /// in the topology's order of routers and LANs. The reports are dropped once it is known which LAN
+    /// wants which flow.
     ///
     /// # Errors
     ///
@@ -105,6 +105,7 @@ impl Domain {
             }),
         }
     }
+
     /// Puts a domain together: its topology, the tables of each router, and for each LAN whether it
     /// wants each flow, in the topology's order of routers, LANs and flows. There have to be as many
     /// of each.

@@ -1,12 +1,11 @@
-//! All copies of one packet so far, and what one handling adds to them.
+//! All copies of one packet so far, and how one handling changes them.
 
 ghost use Rattle.std.specs.Prelude.{◌≡◌, ◌-◌, ◌<◌, ◌≤◌, ◌++◌, ◌∷◌, [], Some, length, map, take};
 ghost use Rattle.std.specs.Prelude.{remove, filter, not, is_some, IfOk, OnOk, OnErr, slice_get};
 ghost use Rattle.std.specs.Prelude.{option_map};
 ghost use Rattle.mc_theory.specs.Flights.{hearers, waits_at, is_sender, put, leave, sends, handle};
 ghost use Rattle.mc_theory.specs.Flights.{step, without_waiting};
-ghost use Rattle.mc_theory.specs.Events.Outcome.{Sent};
-ghost use Rattle.mc_theory.specs.Events.{event_of, outcome_by_row, onto_lan_count, astray_count};
+ghost use Rattle.mc_theory.specs.Events.{event_of, outcome_by_row, outcome_of_sending};
 ghost use Rattle.mc_forward.specs.Domains.{oif_pairs};
 ghost use Rattle.mc_forward.specs.FlightsInDomain.{net_in, Extends};
 ghost use Rattle.mc_forward.specs.OutcomeValues.{outcome_value};
@@ -53,13 +52,13 @@ fn is_sent_by(copy: &CarriedCopy, router: RouterNo, vif: u8) -> bool
     }
 }
 
-/// A copy that its LAN carries waits at the other interfaces of the LAN.
+/// Lets a copy that its LAN carries wait at the LAN's interfaces other than its sender.
 fn wait_at_hearers(
     waiting: &mut VecDeque<WaitingCopy>,
     view: &FlowView<'_>,
     copy: &CarriedCopy,
 ) -> Result<(), Memory>
-    requires within { copy.now.lan < length view.now.domain.topology.lans }
+    requires listed_lan { copy.now.lan < length view.now.domain.topology.lans }
     ensures ok { OnOk result (waiting.new.items ≡
         waiting.old.items ++ map (waits_at copy.now.ttl) (hearers (net_in view.now) copy.now)) }
     ensures kept { take (length waiting.old.items) waiting.new.items ≡ waiting.old.items }
@@ -77,10 +76,10 @@ fn wait_at_hearers(
     Ok(())
 }
 
-/// Takes the copy with this index away. The others keep their order, and the fewer of those before
-/// and after it are moved.
+/// Removes the copy with this index. The others keep their order; those before it are moved, or those
+/// after it, whichever are fewer.
 fn remove_waiting(waiting: &mut VecDeque<WaitingCopy>, index: usize)
-    requires known { index < length waiting.old.items }
+    requires waits { index < length waiting.old.items }
     ensures removed { waiting.new.items ≡ remove waiting.old.items index }
 {
     let _taken = if index == 0 {
@@ -91,8 +90,8 @@ fn remove_waiting(waiting: &mut VecDeque<WaitingCopy>, index: usize)
 }
 
 impl Copies {
-    /// No copy yet, with room for one on each of so many LANs, and for one at each of so many
-    /// routers that waits. Few packets of a right flow need more.
+    /// No copy yet, with room for one on each of so many LANs and for a waiting one at each of so many
+    /// routers. Few packets of a right flow need more.
     pub(crate) fn new(alloc: Global, lans: u32, routers: u32) -> Result<Copies, Memory>
         ensures { IfOk result (λ copies.
             copies ≡ record { carried = []; waiting = []; strays = [] }) }
@@ -122,10 +121,10 @@ impl Copies {
         &self.strays
     }
 
-    /// A copy is put on its LAN.
+    /// Puts a copy on its LAN.
     #[inline(always)]
     pub(crate) fn put(&mut self, view: &FlowView<'_>, copy: &CarriedCopy) -> Result<(), Memory>
-        requires within { copy.now.lan < length view.now.domain.topology.lans }
+        requires listed_lan { copy.now.lan < length view.now.domain.topology.lans }
         ensures ok { OnOk result (self.new ≡ put (net_in view.now) copy.now self.old) }
         ensures kept { Extends self.old self.new }
     {
@@ -133,8 +132,8 @@ impl Copies {
         wait_at_hearers(&mut self.waiting, view, copy)
     }
 
-    /// A router sends by a vif, for a copy that came with one more time to live. Whether that puts
-    /// one on a LAN.
+    /// Sends the taken copy on by a vif of its router, with one less to live. Whether that puts it on a
+    /// LAN.
     fn send(&mut self, view: &FlowView<'_>, taken: &WaitingCopy, vif: u8) -> Result<bool, Memory>
         requires positive { 0 < taken.now.ttl }
         ensures ok { OnOk result (self.new ≡ leave (net_in view.now) (taken.now.ttl - 1)
@@ -161,19 +160,18 @@ impl Copies {
         }
     }
 
-    /// A router sends by each outgoing vif whose threshold the time to live exceeds.
+    /// Sends the taken copy on by each outgoing vif whose threshold its time to live exceeds.
     fn send_all(
         &mut self,
         view: &FlowView<'_>,
         taken: &WaitingCopy,
         oifs: &[Oif],
     ) -> Result<Outcome, Memory>
-        requires bounded { length oifs.now ≤ 32 }
+        requires at_most_32 { length oifs.now ≤ 32 }
         ensures ok { OnOk result (self.new ≡
             sends (net_in view.now) taken.now.router taken.now.ttl (oif_pairs oifs.now) self.old) }
-        ensures outcome { IfOk result (λ outcome. outcome_value outcome ≡ Sent
-            (onto_lan_count (net_in view.now) taken.now.router taken.now.ttl (oif_pairs oifs.now))
-            (astray_count (net_in view.now) taken.now.router taken.now.ttl (oif_pairs oifs.now))) }
+        ensures outcome { IfOk result (λ outcome. outcome_value outcome ≡ outcome_of_sending
+            (net_in view.now) taken.now.router taken.now.ttl (oif_pairs oifs.now)) }
         ensures kept { Extends self.old self.new }
     {
         let mut copies = 0;
@@ -190,7 +188,7 @@ impl Copies {
         Ok(Outcome::Sent { copies, strays })
     }
 
-    /// What a router does with a copy that waits at its vif. The copy still waits afterwards.
+    /// Does what the router does with a copy that waits at its vif. The copy still waits afterwards.
     fn forward(&mut self, flow: &FlowWithRows<'_>, taken: &WaitingCopy) -> Result<Outcome, Memory>
         ensures ok { OnOk result (self.new ≡ handle (net_in flow.now) (Some taken.now) self.old) }
         ensures outcome { IfOk result (λ outcome. outcome_value outcome ≡
@@ -216,11 +214,11 @@ impl Copies {
         }
     }
 
-    /// The waiting copy with this index is taken away and handled. All that grows does so before,
-    /// so that nothing is changed where memory runs out.
+    /// Handles and removes the waiting copy with this index. All growth comes first, so that nothing is
+    /// changed where memory runs out.
     #[inline(always)]
     pub(crate) fn handle(&mut self, flow: &FlowWithRows<'_>, index: usize) -> Result<Event, Memory>
-        requires known { index < length self.old.waiting }
+        requires waits { index < length self.old.waiting }
         ensures ok { OnOk result (self.new ≡ step (net_in flow.now) index self.old) }
         ensures event { IfOk result (λ event.
             option_map (event_of (net_in flow.now)) (slice_get self.old.waiting index)
@@ -250,10 +248,10 @@ impl Copies {
         }
     }
 
-    /// The waiting copy with this index is taken away.
+    /// Removes the waiting copy with this index.
     pub(crate) fn lose(&mut self, lost: usize)
-        requires known { lost < length self.old.waiting }
-        ensures change { self.new ≡ without_waiting lost self.old }
+        requires waits { lost < length self.old.waiting }
+        ensures removed { self.new ≡ without_waiting lost self.old }
     {
         remove_waiting(&mut self.waiting, lost);
     }

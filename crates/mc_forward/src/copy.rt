@@ -9,7 +9,7 @@ use std::marker::Model;
 pub struct CarriedCopy {
     /// The LAN.
     pub lan: LanNo,
-    /// The time to live that it had there, at most 255.
+    /// The time to live that it had there, 0 to 255.
     pub ttl: u8,
     /// The router and its vif that sent it, or none for the copy of the source.
     pub sender: Option<(RouterNo, u8)>,
@@ -48,8 +48,8 @@ impl Model for WaitingCopy {
 pub struct Stray {
     /// The router.
     pub router: RouterNo,
-    /// The vif that it sent the copy to, which is placed on no LAN, or at which the copy met a row
-    /// that is not followed.
+    /// The vif that it sent the copy to, which is placed on no LAN, or the one at which the copy waited
+    /// where the router's row is not followed.
     pub vif: u8,
 }
 

@@ -1,4 +1,4 @@
-//! A domain, and what it says of each flow.
+//! A domain, and its look-ups for each flow.
 
 ghost use Rattle.std.specs.Prelude.{◌≡◌, ◌<◌, ℕ, None, IfSome, length, slice_get, unwrap_or};
 ghost use Rattle.std.specs.Option.{option_copied};
@@ -17,7 +17,7 @@ use mc_tables::Vif;
 use mc_topology::{LanNo, RouterNo, Topology};
 use std::marker::Model;
 
-/// What is worked out once of the parts of a domain.
+/// Look-up tables that are computed once from the parts of a domain.
 #[derive(Drop)]
 pub(crate) struct DerivedTables {
     /// For each LAN, whether it wants each flow.
@@ -37,7 +37,7 @@ pub struct Domain {
     derived: DerivedTables,
 }
 
-// Written out, so that whoever lets a domain go takes one step, and not one for each of its parts.
+// Written by hand, so that a proof takes one step where a domain is dropped, and not one for each part.
 impl Drop for Domain {
     fn drop(self) {
         let Self {
@@ -63,6 +63,7 @@ impl Model for Domain {
         d.derived.vif_lans.items d.derived.interfaces.items d.derived.rows.items };
 }
 
+/// The LAN of a vif, from those of its router's vifs.
 fn vif_lan(vif_lans: &[Option<LanNo>], vif: u8) -> Option<LanNo>
     ensures { result ≡ unwrap_or (slice_get vif_lans.now vif) None }
 {
@@ -83,7 +84,7 @@ fn vif_of_router(tables: &[Tables], router: RouterNo, vif: u8) -> Option<&Vif>
 }
 
 impl Domain {
-    /// The domain of a topology, the routers' tables, and what was worked out of them.
+    /// The domain of a topology and the routers' tables, with the look-up tables of these.
     pub(crate) fn new(topology: Topology, tables: Vec<Tables>, derived: DerivedTables) -> Domain
         requires valid { AreDerivedTables (domain_with topology tables.items derived.wants.items)
             derived.vif_lans.items derived.interfaces.items derived.rows.items }
@@ -96,19 +97,19 @@ impl Domain {
         }
     }
 
-    /// The topology that it was put together with.
+    /// The topology.
     pub fn topology(&self) -> &Topology
         ensures topology { result.now ≡ self.now.topology }
-        // What every domain keeps.
+        // What holds of every domain.
         ensures rules { IsDomain self.now }
     {
         &self.topology
     }
 
-    /// The LAN that a router's vif is placed on. None for a vif that its table hasn't, for a tunnel
+    /// The LAN that a router's vif is placed on. None for a vif that isn't in its table, for a tunnel
     /// or a register interface, and for a device of which the topology has no interface.
     pub fn placed(&self, router: RouterNo, vif: u8) -> Option<LanNo>
-        requires known { router < length self.now.topology.routers }
+        requires listed_router { router < length self.now.topology.routers }
         ensures lan { result ≡ placed_of self.now router vif }
         ensures listed { IfSome result (λ lan. lan < length self.now.topology.lans) }
     {
@@ -116,8 +117,8 @@ impl Domain {
         vif_lan(vif_lans, vif)
     }
 
-    /// The vif of a router with this index, as its table has it. None where that has no line of
-    /// the index, and for a router that the topology hasn't.
+    /// The vif of a router with this index, from its table. None where that has no line of the index,
+    /// and for a router that isn't in the topology.
     pub fn vif(&self, router: RouterNo, vif: u8) -> Option<&Vif>
         ensures { option_copied result ≡ vif_of self.now.tables router vif }
     {
@@ -148,7 +149,7 @@ impl Domain {
 
     /// The vifs that are placed on a LAN, by router and then by vif.
     pub fn interfaces(&self, lan: LanNo) -> Interfaces<'_>
-        requires known { lan < length self.now.topology.lans }
+        requires listed_lan { lan < length self.now.topology.lans }
         ensures each_flow { (flow : ℕ) → result ≡ interfaces (net_of self.now flow) lan }
     {
         let interfaces = &self.derived.interfaces[lan.0 as usize];

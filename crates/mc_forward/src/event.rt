@@ -1,4 +1,4 @@
-//! What a handling shows.
+//! The event of a router's handling of a copy.
 
 use mc_topology::RouterNo;
 use std::marker::Model;

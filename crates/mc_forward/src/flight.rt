@@ -64,8 +64,8 @@ impl<'d> Flight<'d> {
         flow: u32,
         ttl: u8,
     ) -> Result<Flight<'d>, Memory>
-        requires known { flow < length domain.now.topology.flows }
-        ensures ok { IfOk result (λ journey. journey ≡ record {
+        requires listed_flow { flow < length domain.now.topology.flows }
+        ensures ok { IfOk result (λ flight. flight ≡ record {
           domain = domain.now;
           flow = flow;
           flight = start (net_of domain.now flow) ttl;
@@ -83,7 +83,7 @@ impl<'d> Flight<'d> {
         Ok(Flight { flow, copies })
     }
 
-    /// The flow whose packet it is.
+    /// The flow of the packet.
     pub fn flow_view(&self) -> &FlowView<'d>
         ensures { result.now ≡ record { domain = self.now.domain; flow = self.now.flow } }
     {
@@ -114,7 +114,7 @@ impl<'d> Flight<'d> {
     /// The copies that LANs carried, in order. The first is the source's.
     pub fn copies(&self) -> &[CarriedCopy]
         ensures copies { result.now ≡ self.now.flight.carried }
-        // Each on a LAN of the topology, and sent by one of its routers if not by the source.
+        // Each is on a LAN of the topology, and one of its routers sent it if not the source.
         ensures lans { All (λ c. c.lan < length self.now.domain.topology.lans) result.now }
         ensures senders { All (λ c. IfSome c.sender (λ i.
             i.0 < length self.now.domain.topology.routers)) result.now }
@@ -130,7 +130,7 @@ impl<'d> Flight<'d> {
     /// `Memory` where a growth was refused. The flight is then as it was.
     #[inline(always)]
     pub fn handle(&mut self, index: usize) -> Result<Event, Memory>
-        requires known { index < length self.old.flight.waiting }
+        requires waits { index < length self.old.flight.waiting }
         ensures ok { OnOk result (self.new ≡
             with_flight self.old (step (net_of_flight_in_domain self.old) index self.old.flight)) }
         ensures event { IfOk result (λ event. option_map (event_of (net_of_flight_in_domain self.old))
@@ -142,8 +142,8 @@ impl<'d> Flight<'d> {
 
     /// The waiting copy with this index is lost: no router handles it. Nothing else changes.
     pub fn lose(&mut self, index: usize)
-        requires known { index < length self.old.flight.waiting }
-        ensures change { self.new ≡ with_flight self.old (without_waiting index self.old.flight) }
+        requires waits { index < length self.old.flight.waiting }
+        ensures removed { self.new ≡ with_flight self.old (without_waiting index self.old.flight) }
     {
         self.copies.lose(index);
     }

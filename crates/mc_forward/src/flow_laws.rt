@@ -1,18 +1,18 @@
-//! The theorems of `mc_theory`, over a flow of a domain.
+//! The theorems of `mc_theory`, for a flow of a domain.
 
 ghost use Rattle.std.specs.Prelude.{◌≡◌, ◌≢◌, ◌↔◌, ◌<◌, ◌≤◌, ◌++◌, ◌∷◌, [], ℕ, Bool, List, None};
 ghost use Rattle.std.specs.Prelude.{length};
 ghost use Rattle.mc_theory.specs.Nets.{Net, placed_interfaces};
 ghost use Rattle.mc_theory.specs.Flights.{Flight, Pick, EveryRun, InRange, apply_pick, picked_index, run};
-ghost use Rattle.mc_theory.specs.Flights.{start};
 ghost use Rattle.mc_theory.specs.Certificates.{Entry, IsTree, IsAccepted, IsRight};
 ghost use Rattle.mc_theory.specs.Certificates.{IsSafe, IsDeliveredWhole};
 ghost use Rattle.mc_theory.specs.Headline.{HeadlineHolds};
 ghost use Rattle.mc_theory.specs.Reasons.{first_reason};
-ghost use Rattle.mc_theory.specs.Findings.{Finding, IsTravel, handles};
+ghost use Rattle.mc_theory.specs.Findings.{Finding, Choices};
 ghost use Rattle.mc_theory.specs.Findings.Finding.{Clean};
-ghost use Rattle.mc_theory.specs.CertificateOfCopies.{entries_of};
+ghost use Rattle.mc_theory.specs.CertificateOfCopies.{IsCertifiedBy};
 ghost use Rattle.mc_forward.specs.Domains.{DomainValue, IsDomain, net_of, ttl_of};
+ghost use Rattle.mc_forward.specs.FlightsInDomain.{IsFlowTravel, OnFlowFinding};
 
 use crate::laws::domains_are_nets;
 
@@ -57,7 +57,7 @@ pub fn flow_is_right_iff_a_list_is_accepted()
     mc_theory::certificate_exists_iff_flow_is_right();
 }
 
-/// No reason is left exactly where the list is accepted.
+/// There is no reason to refuse a list exactly where it is accepted.
 pub fn no_reason_iff_list_is_accepted()
     ensures { (d : DomainValue) (flow : ℕ) (es : List Entry) → IsDomain d →
         (first_reason (net_of d flow) (length d.topology.lans) es ≡ None)
@@ -67,14 +67,12 @@ pub fn no_reason_iff_list_is_accepted()
     mc_theory::no_reason_iff_accepted();
 }
 
-/// Another finding than `Clean`, of a travel at a TTL from the flow's to 255, shows that the flow
+/// A travel at a TTL from the flow's to 255 that finds something else than `Clean` shows that the flow
 /// is not right.
 pub fn finding_shows_that_a_flow_is_wrong()
-    ensures { (d : DomainValue) (flow t : ℕ) (numbers : List ℕ) (last : Bool) (is : List ℕ)
-        (x : Finding) → IsDomain d → ttl_of d flow ≤ t → t ≤ 255 →
-        IsTravel (net_of d flow) (length d.topology.lans) numbers last is (start (net_of d flow) t)
-        x →
-        x ≢ Clean → ¬ IsRight (net_of d flow) }
+    ensures { (d : DomainValue) (flow t : ℕ) (x : Finding) → IsDomain d →
+        ttl_of d flow ≤ t → t ≤ 255 → x ≢ Clean →
+        OnFlowFinding d flow t x (λ f. ¬ IsRight (net_of d flow)) }
 {
     domains_are_nets();
     mc_theory::non_clean_finding_is_not_right();
@@ -82,11 +80,9 @@ pub fn finding_shows_that_a_flow_is_wrong()
 
 /// A travel has at most as many events as there are placed interfaces.
 pub fn a_travel_through_a_domain_ends()
-    ensures { (d : DomainValue) (flow t : ℕ) (numbers : List ℕ) (last : Bool) (is : List ℕ)
-        (x : Finding) → IsDomain d →
-        IsTravel (net_of d flow) (length d.topology.lans) numbers last is (start (net_of d flow) t)
-        x →
-        length is ≤ length (placed_interfaces (net_of d flow)) }
+    ensures { (d : DomainValue) (flow t : ℕ) (by : Choices) (picks : List ℕ) (x : Finding) →
+        IsDomain d → IsFlowTravel d flow t by picks x →
+        length picks ≤ length (placed_interfaces (net_of d flow)) }
 {
     domains_are_nets();
     mc_theory::a_travel_ends();
@@ -95,16 +91,9 @@ pub fn a_travel_through_a_domain_ends()
 /// Two clean travels, one at TTL 255 and one at the flow's, certify it by the entries that the
 /// first makes.
 pub fn clean_travels_certify_a_flow()
-    ensures { (d : DomainValue) (flow : ℕ)
-        (numbers : List ℕ) (last : Bool) (is : List ℕ)
-        (numbers' : List ℕ) (last' : Bool) (js : List ℕ) →
-        IsDomain d → flow < length d.topology.flows →
-        IsTravel (net_of d flow) (length d.topology.lans) numbers last is
-        (start (net_of d flow) 255) Clean →
-        IsTravel (net_of d flow) (length d.topology.lans) numbers' last' js
-        (start (net_of d flow) (ttl_of d flow)) Clean →
-        IsAccepted (net_of d flow) (entries_of (net_of d flow)
-        (run (net_of d flow) (handles is) (start (net_of d flow) 255)).carried) }
+    ensures { (d : DomainValue) (flow : ℕ) → IsDomain d → flow < length d.topology.flows →
+        OnFlowFinding d flow 255 Clean (λ f. OnFlowFinding d flow (ttl_of d flow) Clean (λ g.
+        IsCertifiedBy (net_of d flow) f)) }
 {
     domains_are_nets();
     mc_theory::clean_travels_certify();

@@ -1,5 +1,5 @@
-//! What each router has for each flow, in the order of the flows: whoever goes from flow to flow
-//! reads the rows of each router one after another.
+//! Each router's rows for all flows, in the order of the flows, so that a pass over the flows reads them
+//! one after another.
 
 ghost use Rattle.std.specs.Prelude.{◌≡◌, ◌<◌, ◌++◌, ◌∷◌, [], IfOk, OnOk, Some, length, map};
 ghost use Rattle.std.specs.Prelude.{slice_get};
@@ -16,7 +16,7 @@ use mc_topology::{Flow, Topology};
 use std::alloc::Global;
 use std::marker::Model;
 
-/// What a row has before its outgoing vifs.
+/// A row without its outgoing vifs.
 #[derive(Clone, Copy, Debug)]
 pub(crate) enum RowHead {
     /// The incoming vif of an entry.
@@ -47,7 +47,7 @@ impl Model for RouterRows {
 impl RouterRows {
     /// The row of the flow with this number.
     pub(crate) fn row(&self, flow: u32) -> RowFor<'_>
-        requires known { flow < length self.now }
+        requires listed_flow { flow < length self.now }
         ensures item { slice_get self.now flow ≡ Some (row_value result) }
     {
         let (head, oifs) = self.rows.at(flow);
@@ -74,7 +74,8 @@ fn push_row(rows: &mut FlatOifs<RowHead>, row: &RowFor<'_>) -> Result<(), Memory
     Ok(())
 }
 
-/// What a cache has for a flow, where that of another router had it at this place.
+/// A cache's row for a flow. The hint is the place at which another router's cache had it, and becomes
+/// the place in this one.
 fn row_of<'c>(cache: &'c CacheTable, flow: &Flow, hint: &mut usize) -> RowFor<'c>
     ensures row { row_value result ≡ row_in_cache cache.now flow.now }
     ensures valid { HasValidEntry result }
@@ -91,14 +92,14 @@ fn row_of<'c>(cache: &'c CacheTable, flow: &Flow, hint: &mut usize) -> RowFor<'c
     }
 }
 
-/// A router's rows for the flows, of which other routers had those of entries at these places.
+/// A router's rows for the flows. The hints are the places at which other routers' caches had them.
 fn flow_rows_of(
     alloc: Global,
     topology: &Topology,
     tables: &Tables,
     hints: &mut Vec<usize>,
 ) -> Result<RouterRows, Memory>
-    requires lengths { length hints.old.items ≡ length topology.now.flows }
+    requires hint_per_flow { length hints.old.items ≡ length topology.now.flows }
     ensures rows { IfOk result (λ rows. rows ≡ map (row_in_cache tables.now.cache) topology.now.flows) }
     ensures hints { OnOk result (length hints.new.items ≡ length topology.now.flows) }
 {

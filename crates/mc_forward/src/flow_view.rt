@@ -1,4 +1,4 @@
-//! A domain as the packets of one flow meet it.
+//! A domain for the packets of one flow.
 
 ghost use Rattle.std.specs.Prelude.{◌≡◌, ◌<◌, IfSome, length};
 ghost use Rattle.std.specs.Option.{option_copied};
@@ -37,7 +37,7 @@ impl<'d> Model for FlowView<'d> {
 impl<'d> FlowView<'d> {
     /// The flow with this number.
     pub fn new(domain: &'d Domain, flow: u32) -> FlowView<'d>
-        requires known { flow < length domain.now.topology.flows }
+        requires listed_flow { flow < length domain.now.topology.flows }
         ensures flow { result ≡ record { domain = domain.now; flow = flow } }
         ensures rules { IsFlowOfDomain result }
     {
@@ -48,7 +48,7 @@ impl<'d> FlowView<'d> {
     /// The topology of the domain.
     pub fn topology(&self) -> &'d Topology
         ensures topology { result.now ≡ self.now.domain.topology }
-        // What every flow of a domain keeps.
+        // What holds of every flow of a domain.
         ensures rules { IsFlowOfDomain self.now }
     {
         self.domain.topology()
@@ -87,13 +87,13 @@ impl<'d> FlowView<'d> {
 
     /// Whether a LAN wants the flow.
     pub fn wants(&self, lan: LanNo) -> bool
-        requires known { lan < length self.now.domain.topology.lans }
+        requires listed_lan { lan < length self.now.domain.topology.lans }
         ensures value { result ≡ (net_in self.now).wants lan }
     {
         self.domain.wants(lan, self.flow)
     }
 
-    /// The LAN that a router's vif is placed on. None for a router that the topology hasn't.
+    /// The LAN that a router's vif is placed on. None for a router that isn't in the topology.
     pub fn placed(&self, router: RouterNo, vif: u8) -> Option<LanNo>
         ensures lan { result ≡ (net_in self.now).placed router vif }
         ensures listed { IfSome result (λ lan. lan < length self.now.domain.topology.lans) }
@@ -105,15 +105,15 @@ impl<'d> FlowView<'d> {
         }
     }
 
-    /// The vif of a router with this index, as its table has it. None for a router that the
-    /// topology hasn't, too.
+    /// The vif of a router with this index, from its table. None where that has no line of the index,
+    /// and for a router that isn't in the topology.
     pub fn vif(&self, router: RouterNo, vif: u8) -> Option<&'d Vif>
         ensures { option_copied result ≡ vif_of self.now.domain.tables router vif }
     {
         self.domain.vif(router, vif)
     }
 
-    /// What a router has for the flow. No row for a router that the topology hasn't.
+    /// What a router has for the flow: no row for a router that isn't in the topology.
     pub fn row(&self, router: RouterNo) -> RowFor<'d>
         ensures row { row_value result ≡ (net_in self.now).row router }
         ensures valid { HasValidEntry result }
@@ -127,7 +127,7 @@ impl<'d> FlowView<'d> {
 
     /// The interfaces of a LAN.
     pub fn interfaces(&self, lan: LanNo) -> Interfaces<'d>
-        requires known { lan < length self.now.domain.topology.lans }
+        requires listed_lan { lan < length self.now.domain.topology.lans }
         ensures value { result ≡ interfaces (net_in self.now) lan }
     {
         self.domain.interfaces(lan)
@@ -143,7 +143,8 @@ impl<'d> FlowView<'d> {
         }
     }
 
-    /// The LAN that a sender took its copy from; the source took it from none.
+    /// The LAN that a sender took its copy from. None for the source, and where the sender's row or
+    /// its incoming vif doesn't give one.
     pub fn from_lan(&self, sender: Option<(RouterNo, u8)>) -> Option<LanNo>
         ensures { result ≡ from_lan (net_in self.now) sender }
     {

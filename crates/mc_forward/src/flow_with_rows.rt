@@ -1,5 +1,5 @@
-//! A flow of a domain, with what each router has for it. All of that is looked up at once, since a
-//! processor then waits for many routers together, and not for one after another.
+//! A flow of a domain, with each router's row for it. All rows are looked up at once, since a processor
+//! then waits for those of many routers at the same time, and not for one after another.
 
 ghost use Rattle.std.specs.Prelude.{◌≡◌, IfOk};
 ghost use Rattle.mc_forward.specs.FlightsInDomain.{net_in};
@@ -34,7 +34,7 @@ impl<'d> Model for FlowWithRows<'d> {
     ghost invariant = { λ s. AreRowsOf (net_in s.view) s.rows.items };
 }
 
-/// The same row once more.
+/// A copy of a row.
 fn copy_row<'d>(row: &RowFor<'d>) -> RowFor<'d>
     requires valid { HasValidEntry row.now }
     ensures row { row_value result ≡ row_value row.now }
@@ -63,9 +63,9 @@ fn rows_of<'d>(alloc: Global, view: &FlowView<'d>) -> Result<Vec<RowFor<'d>>, Me
 }
 
 impl<'d> FlowWithRows<'d> {
-    /// Looks the rows of a flow up.
+    /// Looks up the rows of a flow.
     pub(crate) fn new(alloc: Global, view: FlowView<'d>) -> Result<FlowWithRows<'d>, Memory>
-        ensures { IfOk result (λ seen. seen ≡ view.entry) }
+        ensures { IfOk result (λ flow. flow ≡ view.entry) }
     {
         let rows = rows_of(alloc, &view)?;
         Ok(FlowWithRows { view, rows })
@@ -78,7 +78,7 @@ impl<'d> FlowWithRows<'d> {
         &self.view
     }
 
-    /// What a router has for the flow. No row for a router that the topology hasn't.
+    /// What a router has for the flow: no row for a router that isn't in the topology.
     pub(crate) fn row(&self, router: RouterNo) -> RowFor<'d>
         ensures row { row_value result ≡ (net_in self.now).row router }
         ensures valid { HasValidEntry result }

@@ -12,8 +12,8 @@ use mc_topology::RouterNo;
 use std::alloc::Global;
 use std::marker::Model;
 
-/// The interfaces of a LAN, from the first: each a router and its vif. Its value in contracts is
-/// the list of those that are left.
+/// An iterator over the interfaces of a LAN, each a router and its vif. Its value in contracts is the
+/// list of those that are left.
 #[derive(Debug, Drop)]
 pub struct Interfaces<'a> {
     left: &'a [(RouterNo, u8)],
@@ -56,7 +56,7 @@ impl<'a> Iterator for Interfaces<'a> {
     }
 }
 
-/// No interface yet, for so many LANs.
+/// An empty list of interfaces for each of so many LANs.
 fn empty_interface_lists(alloc: Global, lans: u32) -> Result<Vec<Items<(RouterNo, u8)>>, Memory>
     ensures { IfOk result (λ lists. lists.items ≡ map (λ lan. []) (below lans)) }
 {
@@ -75,7 +75,7 @@ fn add_router(
     router: RouterNo,
     vif_lans: &VifLans,
 ) -> Result<(), Memory>
-    requires within { (vif lan : ℕ) → slice_index_or vif_lans.now vif None ≡ Some lan →
+    requires listed_lans { (vif lan : ℕ) → slice_index_or vif_lans.now vif None ≡ Some lan →
         lan < length lists.old.items }
     ensures count { length lists.new.items ≡ length lists.old.items }
     ensures each { OnOk result ((lan : ℕ) → lan < length lists.old.items →
@@ -91,7 +91,7 @@ fn add_router(
     Ok(())
 }
 
-/// The interfaces of each LAN, where these are the LANs of the routers' vifs.
+/// The interfaces of each LAN, from the LANs of the routers' vifs.
 pub(crate) fn interfaces_of_lans(
     alloc: Global,
     lans: u32,

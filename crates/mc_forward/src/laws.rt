@@ -1,4 +1,4 @@
-//! What follows from the definitions alone, for whoever builds on them.
+//! Laws of domains that follow from the definitions alone.
 
 ghost use Rattle.std.specs.Prelude.{◌≡◌, ◌<◌, ◌≤◌, ℕ, List, length, map};
 ghost use Rattle.std.specs.List.Sorted.{IsStrictlyIncreasing};
@@ -7,8 +7,8 @@ ghost use Rattle.mc_theory.specs.Nets.Row.{Exact};
 ghost use Rattle.mc_forward.specs.Domains.{DomainValue, IsDomain, net_of, row_of, source_of};
 ghost use Rattle.mc_forward.specs.Domains.{ttl_of};
 
-/// What every domain keeps is what the theorems about a flow rest on: its net is one, wanting LANs
-/// are LANs of the topology, its source is on one, and its packets have a time to live of 1 to 255.
+/// Every domain meets the premises of the theorems about a flow: its net keeps the rules of one, wanting
+/// LANs and the source's are LANs of the topology, and its packets have a time to live of 1 to 255.
 pub fn domains_are_nets()
     ensures net { (d : DomainValue) (flow : ℕ) → IsDomain d → IsNet (net_of d flow) }
     ensures wanting { (d : DomainValue) (flow : ℕ) → IsDomain d →

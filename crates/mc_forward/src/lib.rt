@@ -1,5 +1,5 @@
-//! A domain: its topology, the kernel tables of its routers and the reports of its hosts, put
-//! together. And the flight of one packet's copies through it, one handling at a time.
+//! A domain, put together from its topology, the kernel tables of its routers and the reports of its
+//! hosts, and the flight of one packet's copies through it, one handling at a time.
 #![tactic(auto)]
 
 mod assemble;

@@ -1,4 +1,4 @@
-//! Where an entry's outgoing vifs stand, and their thresholds.
+//! Look-ups of an entry's outgoing vifs, and their thresholds.
 
 ghost use Rattle.std.specs.Prelude.{◌≡◌, ◌<◌, ◌++◌, List};
 ghost use Rattle.std.specs.List.{AllByRecursion};
@@ -9,9 +9,9 @@ ghost use Rattle.mc_forward.specs.Domains.{oif_pairs};
 
 use mc_tables::{Entry, Oif};
 
-/// An entry's outgoing vifs without those at the front that are lower than this one, as their
-/// places tell: vifs ascend, and none is higher than 31. Where an entry sends by all vifs but one,
-/// as many routers' do, the vif itself is one of the first two that are left.
+/// An entry's outgoing vifs without some at the front that are lower than this one: as vifs ascend and
+/// none is higher than 31, so many of them must be. Where an entry sends by all vifs but one, as many
+/// routers' do, the vif itself is one of the first two that are left.
 pub fn outgoing_from<'a>(entry: &Entry<'a>, vif: u8) -> &'a [Oif]
     requires valid { IsValidEntry entry.now }
     ensures rest { (lower : List OifValue) × (lower ++ result.now ≡ entry.now.oifs)

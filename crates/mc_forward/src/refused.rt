@@ -1,11 +1,11 @@
-//! Why a domain is refused.
+//! Why a domain can't be put together.
 
 use crate::tables::Tables;
 use mc_igmp::ReportList;
 use mc_topology::Topology;
 use thiserror::Error;
 
-/// What is wrong with the parts of a domain.
+/// What is wrong with the parts of a domain, the first fault in this order.
 #[derive(Clone, Copy, Debug, PartialEq, Eq, Error)]
 pub enum DomainFault {
     /// (1) There is not one `Tables` for each router, or not one report list for each LAN.
@@ -16,7 +16,7 @@ pub enum DomainFault {
     Memory,
 }
 
-/// The parts that made no domain, as they were handed in, and why.
+/// The parts of which no domain can be put together, unchanged, and why.
 #[derive(Debug, Drop)]
 pub struct Refused {
     /// The topology.

@@ -3,7 +3,7 @@
 use mc_tables::{CacheTable, VifTable};
 use std::marker::Model;
 
-/// What a router's kernel says: its multicast vifs and its forwarding cache.
+/// The kernel's two tables of a router: its multicast vifs and its forwarding cache.
 #[derive(Debug, Drop)]
 pub struct Tables {
     /// `/proc/net/ip_mr_vif`.

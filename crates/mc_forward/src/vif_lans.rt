@@ -45,8 +45,7 @@ fn lan_of_vif_number(
     }
 }
 
-/// What the tables keep, as their look-ups tell. It is known of any tables, wherever they were
-/// read.
+/// The rules that all tables keep, wherever they were read. They are facts of the look-ups' contracts.
 fn recall_table_rules(tables: &Tables)
     ensures { AreTables tables.now }
 {
@@ -73,7 +72,7 @@ pub(crate) fn vif_lans_of_routers(
     topology: &Topology,
     tables: &[Tables],
 ) -> Result<Vec<VifLans>, Memory>
-    requires lengths { length tables.now ≡ length topology.now.routers }
+    requires tables_per_router { length tables.now ≡ length topology.now.routers }
     ensures vif_lans { IfOk result (λ vif_lans. vif_lans.items ≡
         map (λ router. map (placed_in topology.now tables.now router) (below 32))
         (below (length topology.now.routers))) }

@@ -44,7 +44,7 @@ impl Model for FlowChannels {
 }
 
 impl FlowChannels {
-    /// Those of a topology's flows, in their order.
+    /// The channels of a topology's flows, in their order.
     ///
     /// # Errors
     ///
@@ -70,7 +70,7 @@ impl FlowChannels {
     }
 }
 
-/// Which flows each LAN wants. Each list is walked over once.
+/// Which flows each LAN wants. Each list of reports is read once.
 pub(crate) fn wants_of_lans(
     alloc: Global,
     topology: &Topology,

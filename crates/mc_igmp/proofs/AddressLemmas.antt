@@ -1,4 +1,4 @@
--- Addresses as bytes and back.
+-- Addresses written as bytes, and read from them.
 use Rattle.std.proofs.Common.{◌≡◌, ℕ, zero, suc, ◌+◌, ◌*◌, ◌<◌, ◌≤◌, List, [], ◌∷◌, ◌++◌, length}
 use Rattle.std.proofs.Common.{get_or, take, drop, refl, ap, arith}
 use Rattle.std.specs.Int.{w32, from_be_bytes}
@@ -27,13 +27,13 @@ unfolding addresses_in
 addresses_in-first (a ∷ b ∷ c ∷ d ∷ rest) h = refl
 addresses_in-first _ h = absurd (omega arith)
 
--- fewer bytes are no address
+-- fewer than four bytes have no address
 pub addresses_in-short : (s : List ℕ) → length s < 4 → addresses_in s ≡ []
 unfolding addresses_in
 addresses_in-short (a ∷ b ∷ c ∷ d ∷ rest) h = absurd (omega arith)
 addresses_in-short _ h = refl
 
--- what bytes of whole addresses hold
+-- the bytes are those of n addresses: they are that many, and the addresses in them are written as them
 pub record HoldsAddresses (n : ℕ) (s : List ℕ) : Type 0 where
   pub spelled : flat_map octets_of (addresses_in s) ≡ s
   pub count : length (addresses_in s) ≡ n
@@ -54,7 +54,7 @@ addresses_in-whole (suc n) (a ∷ b ∷ c ∷ d ∷ rest) fits len =
     }
 addresses_in-whole _ _ fits len = absurd (omega arith)
 
--- addresses that are written are read again
+-- the addresses in the octets of addresses are these
 pub addresses_in-octets_of : (xs : List ℕ) → AllByRecursion IsAddr xs
     → addresses_in (flat_map octets_of xs) ≡ xs
 unfolding addresses_in

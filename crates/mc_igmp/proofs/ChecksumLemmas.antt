@@ -1,30 +1,30 @@
--- The sum of a message's words, a word or a piece at a time.
+-- The sum of a message's words, taken word by word or piece by piece.
 use Rattle.std.proofs.Common.{◌≡◌, ℕ, zero, suc, ◌+◌, ◌*◌, ◌%◌, ◌<◌, ◌≤◌, List, [], ◌∷◌, length}
 use Rattle.std.proofs.Common.{get_or, take, drop, refl, arith}
 use Rattle.mc_igmp.specs.Checksum.{word_sum}
 use Rattle.mc_igmp.proofs.AddressLemmas.{IsBytes, IsBytes-drop}
 
--- the first word and the others
+-- the sum is the first word and the sum of the others
 pub word_sum-cons : (s : List ℕ) → 2 ≤ length s
     → word_sum s ≡ 256 * get_or s 0 0 + get_or s 1 0 + word_sum (drop 2 s)
 unfolding word_sum
 word_sum-cons (a ∷ b ∷ rest) h = refl
 word_sum-cons _ h = absurd (omega arith)
 
--- an odd last byte, or none
+-- the sum of an odd last byte, or of none
 pub word_sum-last : (s : List ℕ) → length s < 2 → word_sum s ≡ 256 * get_or s 0 0
 unfolding word_sum
 word_sum-last [] h = refl
 word_sum-last (a ∷ []) h = refl
 word_sum-last _ h = absurd (omega arith)
 
--- no bytes are left
+-- the sum of no bytes
 pub word_sum-none : (s : List ℕ) → length s ≡ 0 → word_sum s ≡ 0
 unfolding word_sum
 word_sum-none [] h = refl
 word_sum-none (a ∷ rest) h = absurd (omega arith)
 
--- the words of the first n bytes and of the others, where no word is cut
+-- the sum is that of the first n bytes and of the others, if no word is split
 pub word_sum-take_drop : (n : ℕ) (s : List ℕ) → (n < length s → n % 2 ≡ 0)
     → word_sum s ≡ word_sum (take n s) + word_sum (drop n s)
 unfolding word_sum
@@ -36,7 +36,7 @@ word_sum-take_drop (suc (suc n)) (a ∷ []) even = omega arith
 word_sum-take_drop (suc (suc n)) (a ∷ b ∷ rest) even =
     omega (arith, word_sum-take_drop n rest (λ more. omega (arith, even (omega arith))))
 
--- a word is at most 65,535
+-- the sum is at most 65,535 for each word
 pub word_sum-bound : (s : List ℕ) → IsBytes s → 2 * word_sum s ≤ 65535 * (length s + 1)
 unfolding word_sum
 word_sum-bound [] fits = omega arith

@@ -1,4 +1,4 @@
--- Where a line ends whose digits are written ahead.
+-- The end of a line whose digits are decoded ahead.
 use Rattle.std.proofs.Common.{◌≡◌, ℕ, ◌+◌, ◌-◌, ◌*◌, ◌<◌, ◌≤◌, Bool, true, false, List, [], ◌++◌}
 use Rattle.std.proofs.Common.{length, get_or, eqb, take, drop, Option, Some, None, inl, inr}
 use Rattle.std.proofs.Common.{refl, sym, ap, subst, ◌∙◌, arith}
@@ -13,7 +13,7 @@ use Rattle.hex.specs.Hex.{is_hex_digit}
 use Rattle.mc_text.specs.DigitPairs.{bytes_of_pairs}
 use Rattle.mc_igmp.specs.ListSoFar.{IsDecodedAhead}
 
--- a digit is no line feed
+-- a hexadecimal digit is no line feed
 hex_digit-no_line_feed : (b : ℕ) → is_hex_digit b ≡ true → eqb b 10 ≡ false
 hex_digit-no_line_feed b digit = elim (eqb b 10) as (λ (t : Bool). eqb b 10 ≡ t → t ≡ false) [
   | true ↦ λ is. absurd (let feed = eqb-true b 10 is in
@@ -29,7 +29,7 @@ get_or-no_line_feed k text digits j less within =
     hex_digit-no_line_feed (get_or text j 0) (ap is_hex_digit (sym (get_or-take k text j 0 less))
     ∙ passes j 0 (omega (arith, length-take k text)))
 
--- the first line feed
+-- a line feed with none before it is the first
 position-first_line_feed : (text : List ℕ) (i : ℕ) → i < length text
     → ((k : ℕ) → k < i → eqb (get_or text k 0) 10 ≡ false) → eqb (get_or text i 0) 10 ≡ true
     → position (λ b. eqb b 10) text ≡ Some i
@@ -45,7 +45,7 @@ position-no_line_feed text none =
     (λ less. absurd (omega arith)) in
     grind (arith, nat_tests, is)
 
--- it is the first behind the digits
+-- the first line feed after the digits is the first of the text
 pub position-line_feed_after_digits : (k : ℕ) (text : List ℕ) (place : ℕ) → k ≤ length text
     → list_all is_hex_digit (take k text) ≡ true
     → position (λ b. eqb b 10) (drop k text) ≡ Some place
@@ -81,7 +81,7 @@ position-no_line_feed_after_digits k text within digits none =
           ∙ fails_before_first (λ b. eqb b 10) (drop k text) (j - k) 0 (omega (arith, past, size))
     ])
 
--- what is written of the digits ahead is written of the line that they begin
+-- digits decoded ahead in a text are decoded in the line that it begins with
 decoded_ahead-of_line : (begun text message : List ℕ) (decoded end : ℕ) → IsDecodedAhead text message decoded
     → (begun ≡ []) ⊎ (decoded ≡ 0) → position (λ b. eqb b 10) text ≡ Some end
     → IsDecodedAhead (begun ++ take end text) message decoded

@@ -1,4 +1,4 @@
--- The bytes that are written of hexadecimal digits.
+-- Bytes that were decoded from hexadecimal digits.
 use Rattle.std.proofs.Common.{◌≡◌, ◌≢◌, ℕ, ◌+◌, ◌-◌, ◌*◌, ◌<◌, ◌≤◌, true}
 use Rattle.std.proofs.Common.{false, List, ◌++◌, length, take}
 use Rattle.std.proofs.Common.{drop, refl, sym, ap, ap₂, ◌∙◌, subst, arith, Ok}
@@ -17,7 +17,7 @@ use Rattle.mc_text.specs.DigitPairs.{bytes_of_pairs, AreDecoded}
 use Rattle.mc_text.proofs.DigitLaneLemmas.{decode_of-digits, take-bytes_of_pairs, bytes_of_pairs-append, length-bytes_of_pairs}
 use Rattle.mc_text.proofs.DigitLaneLemmas.{list_all-take, list_all-of_append, list_all-drop}
 
--- fewer bytes are written where more are
+-- if the first k bytes are decoded, so are the first m, for m up to k
 pub decoded_fewer : (digits bytes : List ℕ) (m k : ℕ) → m ≤ k → AreDecoded digits bytes k
     → AreDecoded digits bytes m
 decoded_fewer digits bytes m k few decoded =
@@ -29,7 +29,7 @@ decoded_fewer digits bytes m k few decoded =
           ∙ take-bytes_of_pairs m (take (2 * k) digits) ∙ ap bytes_of_pairs digits_front,
     )
 
--- a piece of n bytes more is written
+-- with a piece of n more bytes, the first at + n bytes are decoded
 pub decoded_more : (n : ℕ) (digits bytes piece : List ℕ) (at : ℕ) → 2 * (at + n) ≤ length digits
     → at + n ≤ length bytes → list_all is_hex_digit (chunk (2 * at) (2 * n) digits) ≡ true
     → piece ≡ bytes_of_pairs (chunk (2 * at) (2 * n) digits) → AreDecoded digits bytes at
@@ -49,7 +49,7 @@ decoded_more n digits bytes piece at fits room all is decoded =
           ∙ sym (bytes_of_pairs-append at (take (2 * at) digits) text even) ∙ ap bytes_of_pairs (sym front),
     )
 
--- all bytes are written
+-- if all bytes are decoded, they are the digits decoded
 pub decode_of-all_decoded : (digits bytes : List ℕ) (count : ℕ) → count ≡ length bytes
     → length digits ≡ 2 * length bytes → AreDecoded digits bytes count → decode_of digits ≡ Ok bytes
 decode_of-all_decoded digits bytes count is twice decoded =
@@ -58,16 +58,16 @@ decode_of-all_decoded digits bytes count is twice decoded =
     (subst (λ s. list_all is_hex_digit s ≡ true) whole decoded.0)
     ∙ ap Ok (ap bytes_of_pairs (sym whole) ∙ sym decoded.1 ∙ take_all count bytes (omega arith))
 
--- where a piece has another byte than digits, nothing is decoded
+-- digits of which a piece isn't all digits don't decode
 pub decode_of-non_digit_chunk : (digits : List ℕ) (i n : ℕ) → list_all is_hex_digit (chunk i n digits) ≡ false
     → (out : List ℕ) → decode_of digits ≢ Ok out
 decode_of-non_digit_chunk digits i n other out e =
     let all = list_all-from_AllPass is_hex_digit digits (decode_of-ok digits out e).1 in
     cc (sym other ∙ list_all-take is_hex_digit n (drop i digits) (list_all-drop is_hex_digit i digits all))
 
--- ---- few digits, the first sixteen and the last
+-- ---- a few digits, by the first sixteen and the last sixteen
 
--- the halves of the bytes of two parts
+-- the bytes of two halves are those of each half
 bytes_of_pairs-halves : (a b w : List ℕ) → length a ≡ 16 → length b ≡ 16 → w ≡ bytes_of_pairs (a ++ b)
     → (pick_l 0 (w ++ w) (range_with_len 0 8) ≡ bytes_of_pairs a)
     × (pick_l 0 (w ++ w) (range_with_len 8 8) ≡ bytes_of_pairs b)

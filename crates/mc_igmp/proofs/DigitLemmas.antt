@@ -1,4 +1,4 @@
--- Bytes from pairs of hexadecimal digits, a pair at a time.
+-- Decoding hexadecimal digits, a pair at a time.
 use Rattle.std.proofs.Common.{◌≡◌, ◌≢◌, ℕ, ◌+◌, ◌*◌, ◌<◌, ◌≤◌, true, List, length, get_or}
 use Rattle.std.proofs.Common.{take, drop, Ok}
 use Rattle.std.proofs.Common.{inl, inr, arith, slice_set, bit_or}
@@ -11,7 +11,7 @@ use Rattle.hex.proofs.Pairs.{prepend, decode_step}
 use Rattle.mc_text.specs.AddressWord.{hex_value_or_16}
 use Rattle.mc_text.proofs.DigitLaneLemmas.{pair_value-Ok, is_hex_digit-false}
 
--- what has a byte that is no digit doesn't decode
+-- a text with a byte that is no digit doesn't decode
 decode_pairs-non_digit : (s : List ℕ) (k : ℕ) → k < length s → 16 ≤ hex_value_or_16 (get_or s k 0)
     → (out : List ℕ) → decode_pairs 0 s ≢ Ok out
 decode_pairs-non_digit s k within h out e =
@@ -21,7 +21,7 @@ decode_pairs-non_digit s k within h out e =
 
 -- ---- the loop over the pairs
 
--- one pair more, where all values so far are below 16
+-- one more pair, if all values so far are below 16
 pub decode_pairs_more : (s out : List ℕ) (i values high low byte : ℕ) → 2 * i + 1 < length s
     → i < length out → high ≡ hex_value_or_16 (get_or s (2 * i) 0)
     → low ≡ hex_value_or_16 (get_or s (2 * i + 1) 0)
@@ -40,7 +40,7 @@ decode_pairs_more s out i values high low byte fits room high_is low_is byte_is 
     (omega arith) (omega arith) (omega (arith, byte_is a b)) in
     decode_step s out i byte fits room pair (so_far v)
 
--- one pair more, where some value is 16
+-- one more pair, if some value is 16
 pub decode_pairs_refused_more : (s : List ℕ) (i values high low : ℕ) → 2 * i + 1 < length s
     → high ≡ hex_value_or_16 (get_or s (2 * i) 0) → low ≡ hex_value_or_16 (get_or s (2 * i + 1) 0)
     → (16 ≤ values → (out : List ℕ) → decode_pairs 0 s ≢ Ok out)

@@ -1,4 +1,4 @@
--- A report list, line by line: what is read is what the text stands for, and the other way round.
+-- Reading a report list line by line: the functions agree with the relations.
 use Rattle.std.proofs.Common.{◌≡◌, ◌≢◌, ℕ, ◌+◌, ◌≤◌, true, List, [], ◌∷◌, length, None}
 use Rattle.std.proofs.Common.{Result, Ok, Err, refl, arith, ◌<◌, ◌⊎◌, ◌++◌, append_assoc}
 use Rattle.std.specs.Prelude.{◌⊎◌, IfOk}
@@ -25,7 +25,7 @@ use Rattle.mc_igmp.specs.ReadingList.{accepted_records, read_line, read_lines, r
 use Rattle.mc_igmp.proofs.MessageLemmas.{read_message-gives_message, read_message-complete}
 use Rattle.std.proofs.lemmas.List.{append-nil}
 
--- ---- records that tell of a change
+-- ---- records that report a change
 
 first_change-none_is_accepted : (number : ℕ) (rs : List Record) → first_change number rs ≡ None
     → IsAcceptedMessage (Report rs)
@@ -46,7 +46,7 @@ pub bytes_of_line-digits : (line : LineText) → line.ended ≡ true → line.nu
 unfolding bytes_of_line
 bytes_of_line-digits line e h g = rw (e, le-ltb _ _ h, le-ltb _ _ g) refl
 
--- what doesn't decode is refused, whatever the reason
+-- a line that doesn't decode has the fault `BadHex`, whatever the reason
 pub decoded_or_bad_hex-bad_hex : (number : ℕ) (decoded : Result (List ℕ) FromHexError)
     → ((out : List ℕ) → decoded ≢ Ok out)
     → decoded_or_bad_hex number decoded ≡ Err (fault_at number 0 BadHex)
@@ -66,20 +66,20 @@ pub read_line-accepted_records : (line : LineText) (bytes : List ℕ) → bytes_
 unfolding read_line
 read_line-accepted_records line bytes e = rw e refl
 
--- what is known of a line whose bytes were read
+-- the line of bytes that were read is ended, within the limits, and decodes to them
 bytes_of_line-sound : (line : LineText) (bytes : List ℕ) → bytes_of_line line ≡ Ok bytes
     → (line.ended ≡ true) × (line.number ≤ 65536) × (length line.bytes ≤ 131030)
     × (decode_of line.bytes ≡ Ok bytes)
 unfolding bytes_of_line
 bytes_of_line-sound line bytes e = grind (arith, nat_tests)
 
--- the message whose records were taken
+-- accepted records are those of a message that the list accepts
 accepted_records-sound : (number : ℕ) (r : Result Message MessageFault) (rs : List Record)
     → accepted_records number r ≡ Ok rs
     → (m : Message) × (r ≡ Ok m) × IsAcceptedMessage m × (rs ≡ records_of m)
 accepted_records-sound number r rs e = grind (arith, first_change-none_is_accepted 1)
 
--- a line that is read is the hexadecimal of a message with these records
+-- a line that is read is a message in hexadecimal with these records
 pub read_line-sound : (line : LineText) (rs : List Record) → read_line line ≡ Ok rs
     → (m : Message) × IsMessageLine line m × (rs ≡ records_of m)
 unfolding read_line
@@ -90,7 +90,7 @@ read_line-sound line rs e =
     let denotes = read_message-gives_message bytes m (decode_of-ok line.bytes bytes decoded).3 is in
     (m, grind arith, records)
 
--- the hexadecimal of a message is read as its records
+-- a message in hexadecimal is read as its records
 pub read_line-complete : (line : LineText) (m : Message) → IsMessageLine line m
     → read_line line ≡ Ok (records_of m)
 read_line-complete line m h =
@@ -100,7 +100,7 @@ read_line-complete line m h =
 
 -- ---- the loop over the lines
 
--- a line that is read moves from what comes to what was read
+-- after one more line the records that were read and those to come are the same in all
 pub read_lines_more : (front first new : List Record) (line : LineText) (all lines : List LineText)
     (total : Result (List Record) ListFault) → all ≡ line ∷ lines → read_line line ≡ Ok first
     → new ≡ front ++ first → with_front front (read_lines all) ≡ total
@@ -111,7 +111,7 @@ read_lines_more front first new line all lines total all_is read_is new_is so_fa
 
 -- ---- the whole text
 
--- what lines stand for
+-- the lines are messages with these records
 abbrev AreReadLines : List LineText → List Record → Type 0
 AreReadLines lines rs = (ms : List Message) × AreMessageLines lines ms × (rs ≡ flat_map records_of ms)
 
@@ -133,23 +133,23 @@ read_lines-complete (line ∷ lines) (m ∷ ms) h =
     rw (read_line-complete line m h.0, read_lines-complete lines ms h.1) refl
 read_lines-complete _ _ h = absurd h
 
--- a text that is read stands for what was read
+-- a text is a report list of the records that are read
 pub read_list-sound : (text : List ℕ) (rs : List Record) → read_list text ≡ Ok rs
     → IsReportList text rs
 unfolding read_list
 read_list-sound text rs e = grind (arith, nat_tests, read_lines-sound)
 
--- what a text stands for is read
+-- a report list is read as its records
 pub read_list-complete : (text : List ℕ) (rs : List Record) → IsReportList text rs
     → read_list text ≡ Ok rs
 unfolding read_list
 read_list-complete text rs h = grind (arith, nat_tests, read_lines-complete)
 
--- the answer, unless memory runs out
+-- the result is that of reading the text, unless memory ran out
 abbrev IsReadOrOutOfMemory : List ℕ → Result (List Record) ListFault → Type 0
 IsReadOrOutOfMemory text result = (result ≡ read_list text) ⊎ (result ≡ Err oom_fault)
 
--- all that is said of the answer
+-- the clauses of `read`, for a text and its result
 abbrev IsReportListAnswer : List ℕ → Result (List Record) ListFault → Type 0
 IsReportListAnswer text result = record {
   found : IfOk result (IsReportList text);
@@ -170,7 +170,7 @@ pub report_list_answer-too_large : (text : List ℕ) (result : Result (List Reco
 unfolding read_list
 report_list_answer-too_large text result h e = report_list_answer-from_read_list text result (grind (arith, nat_tests))
 
--- no line is left: what was read is the list
+-- when no line is left, the records that were read are the list
 pub read_lines_all : (text : List ℕ) (list : List Record) (all : List LineText) → length text ≤ 16777216
     → all ≡ [] → with_front list (read_lines all) ≡ read_lines (lines_of text)
     → IsReportListAnswer text (Ok list)
@@ -178,7 +178,7 @@ unfolding read_lines read_list
 read_lines_all text list all size all_is so_far =
     report_list_answer-from_read_list text (Ok list) (grind (arith, nat_tests, append-nil))
 
--- a line that is refused ends the reading
+-- the fault of a line is the fault of the text
 pub read_lines_fault : (text : List ℕ) (front : List Record) (line : LineText)
     (all lines : List LineText) (fault : ListFault) → length text ≤ 16777216 → all ≡ line ∷ lines
     → IsMemory fault ⊎ (read_line line ≡ Err fault)

@@ -1,4 +1,4 @@
--- A message that is read is what the bytes are, and bytes that are a message are read as it.
+-- Reading a message: the function agrees with the relation.
 use Rattle.std.proofs.Common.{◌≡◌, ℕ, ◌-◌, ◌⊎◌, List, [], ◌∷◌, length, take, drop, Result, Ok, Err}
 use Rattle.std.proofs.Common.{inl, inr, arith}
 use Rattle.std.specs.Prelude.{IfOk, MatchResult, IsOkAnd, IsErrAnd, slice_index}
@@ -20,9 +20,9 @@ use Rattle.mc_igmp.specs.ReadingMessage.{report_of, read_by_type, read_message}
 use Rattle.mc_igmp.proofs.AddressLemmas.{IsBytes, IsBytes-drop}
 use Rattle.mc_igmp.proofs.RecordsLemmas.{big_number-at, records_in-complete, after_records-sound}
 
--- ---- what is read is the message that the bytes are
+-- ---- the bytes are the message that is read
 
--- if something was read, it is what the bytes are
+-- if a message was read, the bytes are it
 abbrev IsReadMessageOf : List ℕ → Result Message MessageFault → Type 0
 IsReadMessageOf bytes read = IfOk read (IsMessage bytes)
 
@@ -63,16 +63,16 @@ pub read_message-gives_message : (bytes : List ℕ) (m : Message) → IsBytes by
     → IsMessage bytes m
 read_message-gives_message bytes m fits e = IfOk-at_ok (IsMessage bytes) e (read_message-sound bytes fits)
 
--- ---- as the code reads it
+-- ---- the code's reading
 
--- what was read of a Version 3 report's records
+-- the result is the first records of the bytes, or the number of the first that doesn't end in them
 abbrev AreRecordsReadOf : List ℕ → ℕ → Result (List Record) ℕ → Type 0
 AreRecordsReadOf body count read = MatchResult read
     (λ rs. (ignored : List ℕ) × (after_records 1 count body ≡ Ok ignored)
     × (rs ≡ records_in count body))
     (λ number. after_records 1 count body ≡ Err number)
 
--- it as a message, with the number of the record that wasn't read as the fault
+-- the result of reading records, made a report, and then with its fault converted
 abbrev IsReportAnswer : Result (List Record) ℕ → Result Message ℕ → Result Message MessageFault → Type 0
 IsReportAnswer read parsed answer =
     MatchResult read (λ rs. IsOkAnd parsed (λ m. m ≡ Report rs)) (λ number. parsed ≡ Err number)

@@ -1,4 +1,4 @@
--- A report list whose text comes in pieces.
+-- Reading a report list whose text comes in pieces.
 use Rattle.std.proofs.Common.{◌≡◌, ℕ, suc, ◌+◌, ◌<◌, ◌≤◌, true, false, eqb, cond, List, [], ◌∷◌, ◌++◌, length}
 use Rattle.std.proofs.Common.{take, drop, get_or, Some, None, Ok, Err, refl, sym, ap, ◌∙◌, arith}
 use Rattle.std.proofs.Common.{append_assoc, length-take, ◌⊎◌, zero-add}
@@ -35,13 +35,13 @@ without_line_feed-from_each [] none = tt
 without_line_feed-from_each (x ∷ xs) none =
     (none 0 (omega arith), without_line_feed-from_each xs (λ k lt. none (suc k) (omega (arith, lt))))
 
--- where none is found there is none
+-- a text in which no line feed is found has none
 pub without_line_feed-from_position : (xs : List ℕ) → position (λ b. eqb b 10) xs ≡ None → WithoutLineFeed xs
 without_line_feed-from_position xs none =
     let past : length xs ≤ position_or_len (λ b. eqb b 10) xs = grind (arith, nat_tests) in
     without_line_feed-from_each xs (λ k lt. fails_before_first (λ b. eqb b 10) xs k 0 (omega (arith, past)))
 
--- before the first there is none
+-- the bytes before the first line feed have none
 without_line_feed-take : (xs : List ℕ) (end : ℕ) → position (λ b. eqb b 10) xs ≡ Some end
     → WithoutLineFeed (take end xs)
 without_line_feed-take xs end found =
@@ -50,13 +50,13 @@ without_line_feed-take xs end found =
     let before : k < end = omega (arith, lt, length-take end xs) in
     ap (λ b. eqb b 10) (get_or-take end xs k 0 before) ∙ at.2 k before)
 
--- it stands within the text
+-- the place of a line feed is within the text
 pub position-within_length : (xs : List ℕ) (end : ℕ) → position (λ b. eqb b 10) xs ≡ Some end
     → end + 1 ≤ length xs
 position-within_length xs end found =
     let at = position-Some (λ b. eqb b 10) xs end 0 found in omega (arith, at.0)
 
--- a text at its first line feed
+-- a text is the bytes before its first line feed, the line feed, and the bytes after it
 split_at_line_feed : (xs : List ℕ) (end : ℕ) → position (λ b. eqb b 10) xs ≡ Some end
     → xs ≡ take end xs ++ 10 ∷ drop (end + 1) xs
 split_at_line_feed xs end found =
@@ -68,7 +68,7 @@ split_at_line_feed xs end found =
 
 -- ---- lines
 
--- bytes without a line feed stand at the front of the first part
+-- bytes without a line feed before a text are the front of its first part
 slice_split-append_front : (front text part : List ℕ) (parts : List (List ℕ)) → WithoutLineFeed front
     → slice_split (λ b. eqb b 10) text ≡ part ∷ parts
     → slice_split (λ b. eqb b 10) (front ++ text) ≡ (front ++ part) ∷ parts
@@ -82,7 +82,7 @@ numbered-more : (n : ℕ) (part : List ℕ) (parts : List (List ℕ)) → 0 < le
     ∷ numbered (n + 1) parts
 numbered-more n part parts some = grind arith
 
--- a line without a line feed, and one after it
+-- bytes without a line feed, and then one, are the first line
 lines_from-line_and_rest : (n : ℕ) (line rest : List ℕ) → WithoutLineFeed line
     → lines_from n (line ++ 10 ∷ rest)
     ≡ record { number = n; bytes = line; ended = true } ∷ lines_from (n + 1) rest
@@ -93,7 +93,7 @@ lines_from-line_and_rest n line rest without =
     ∙ ap (λ part. part ∷ slice_split (λ b. eqb b 10) rest) (append-nil line))
     ∙ numbered-more n line (slice_split (λ b. eqb b 10) rest) (omega (arith, more))
 
--- the first of the lines to come, where a line feed stands in the next bytes
+-- the first of the lines to come, if the next bytes contain a line feed
 lines_from-first_ended : (ended : ℕ) (begun rest more : List ℕ) (end : ℕ) → WithoutLineFeed begun
     → position (λ b. eqb b 10) rest ≡ Some end
     → lines_from (ended + 1) (begun ++ (rest ++ more))
@@ -111,7 +111,7 @@ lines_from-first_ended ended begun rest more end without found =
 
 -- ---- reading on
 
--- a line that was read
+-- after one more line that was read, the rest of the lines reads alike
 pub read_rest_of_lines_more : (old first new : List Record) (ended : ℕ) (begun rest more : List ℕ) (end : ℕ)
     → WithoutLineFeed begun → position (λ b. eqb b 10) rest ≡ Some end
     → read_line (line_after ended (begun ++ take end rest)) ≡ Ok first → new ≡ old ++ first
@@ -123,7 +123,7 @@ read_rest_of_lines_more old first new ended begun rest more end without found re
     (lines_from (ended + 1 + 1) (drop (end + 1) rest ++ more)) _
     (lines_from-first_ended ended begun rest more end without found) read grown refl)
 
--- and one that was refused
+-- a line that was refused gives the fault of the rest of the lines
 read_lines-first_fault : (old : List Record) (line : LineText) (all lines : List LineText)
     (fault : ListFault) → all ≡ line ∷ lines → read_line line ≡ Err fault
     → with_front old (read_lines all) ≡ Err fault
@@ -143,7 +143,7 @@ read_rest_of_lines-fault old ended begun rest more end fault without found why =
 
 -- ---- a text from its front to its end
 
--- where nothing has come, what the text is read as
+-- fed to a new reader, a text is read as a whole
 pub list_if-no_list : (text : List ℕ) → list_if no_list text ≡ read_list text
 unfolding read_list
 list_if-no_list text = rw zero-add (ap (λ r. cond (nat_lt 16777216 (length text))
@@ -159,12 +159,12 @@ read_rest_of_lines-unended records ended begun without some =
     (All-from_recursion (λ b. eqb b 10 ≡ false) begun without) in
     rw (one, some) refl
 
--- and without them no line is left
+-- without bytes no line is left
 read_rest_of_lines-none : (records : List Record) (ended : ℕ) → read_rest_of_lines records ended [] ≡ Ok records
 unfolding read_lines
 read_rest_of_lines-none records ended = ap Ok (append-nil records)
 
--- a text within the limit that ends here, where no line was refused
+-- the end of a text within the limit, of which no line was refused
 list_if-nothing_more : (so_far : ListSoFar) → so_far.size ≤ 16777216 → so_far.fault ≡ None
     → list_if so_far [] ≡ read_rest_of_lines so_far.records so_far.ended so_far.begun
 list_if-nothing_more so_far within none =

@@ -1,4 +1,4 @@
--- Records: what is read is spelled so, and what is spelled so is read, one or one after another.
+-- Reading one record, and consecutive records: the functions agree with the relations.
 use Rattle.std.proofs.Common.{◌≡◌, ℕ, ◌+◌, ◌-◌, ◌*◌, ◌<◌, ◌≤◌, false, ltb, List, [], ◌∷◌, ◌++◌}
 use Rattle.std.proofs.Common.{length, get_or, take, drop, Some, None, refl, sym, ap, ◌∙◌}
 use Rattle.std.proofs.Common.{append_assoc, arith, zero, suc, Ok, zero-add}
@@ -28,13 +28,13 @@ use Rattle.mc_igmp.specs.Records.{after_other_records}
 
 -- ---- one record
 
--- a record that would end past the bytes is none
+-- no record is read if it would end past the bytes
 pub read_record-none : (bytes : List ℕ) → length bytes < record_size bytes
     → None ≡ read_record bytes
 unfolding read_record
 read_record-none bytes short = rw (lt-ltb _ _ short) refl
 
--- what stands at the front is spelled so
+-- the record at the front is spelled by its bytes
 record_at-spelled : (bytes : List ℕ) → IsBytes bytes → record_size bytes ≤ length bytes
     → IsRecord (take (record_size bytes) bytes) (record_at bytes)
 record_at-spelled (a ∷ w ∷ x ∷ y ∷ d ∷ e ∷ f ∷ g ∷ rest) fits within =
@@ -66,7 +66,7 @@ record_at-spelled (a ∷ w ∷ x ∷ y ∷ d ∷ e ∷ f ∷ g ∷ rest) fits wi
     }
 record_at-spelled _ fits within = absurd (omega arith)
 
--- a record that is spelled is read, whatever follows it
+-- a record's bytes are read as it, whatever follows them
 read_record-complete : (own rest : List ℕ) (r : Record) → IsRecord own r
     → read_record (own ++ rest) ≡ Some (r, rest)
 unfolding read_record
@@ -91,7 +91,7 @@ read_record-complete own rest r h =
     (λ i. record { kind = sym h.kind i; group = group i; sources = r.sources }) in
     rw (h.spelled, within, at, drop_at spelled rest (record_size bytes) size) refl
 
--- the record as the code takes it off the front
+-- the record that the code takes off the front is the one that is read
 pub read_record-from_parts : (bytes : List ℕ) (sources_end end : ℕ) (r : Record)
     → sources_end ≡ 8 + 4 * source_count bytes → end ≡ sources_end + 4 * get_or bytes 1 0
     → end ≤ length bytes → r.kind ≡ kind_of (get_or bytes 0 0) → r.group ≡ group_at bytes
@@ -107,7 +107,7 @@ pub big_number-at : (bytes : List ℕ) (n : ℕ) → big_number 2 (take (length 
 big_number-at bytes n =
     grind (arith, take_rest bytes n, get_or-drop n bytes)
 
--- bytes after a record don't change it
+-- more bytes after a record don't change it
 pub read_record-append : (a b : List ℕ) → record_size a ≤ length a
     → read_record (a ++ b) ≡ Some (record_at a, drop (record_size a) a ++ b)
 unfolding read_record
@@ -121,7 +121,7 @@ read_record-append _ b within = absurd (omega arith)
 
 -- ---- records one after another
 
--- the record that was read before the others stands at the front
+-- if records were read, the first of them was
 after_records-first_read : (number count : ℕ) (bytes rest : List ℕ)
     → after_records number (suc count) bytes ≡ Ok rest
     → (record_size bytes ≤ length bytes)
@@ -131,7 +131,7 @@ unfolding after_records read_record
 after_records-first_read number count bytes rest e =
     grind (arith, nat_tests)
 
--- What stands after so many records doesn't hang on the number of the first.
+-- the bytes after `count` records don't depend on the number of the first
 pub after_records-any_number : (count j k : ℕ) (bytes rest : List ℕ)
     → after_records j count bytes ≡ Ok rest → after_records k count bytes ≡ Ok rest
 unfolding after_records
@@ -141,7 +141,7 @@ after_records-any_number (suc count) j k bytes rest e =
     rw read (after_records-any_number count (j + 1) (k + 1) (drop (record_size bytes) bytes) rest
     later)
 
--- records that are spelled are read, whatever follows them
+-- the bytes of records are read as them, whatever follows them
 pub records_in-complete : (k : ℕ) (rs : List Record) (own ignored : List ℕ) → AreRecords own rs
     → (after_records k (length rs) (own ++ ignored) ≡ Ok ignored)
     × (records_in (length rs) (own ++ ignored) ≡ rs)
@@ -153,7 +153,7 @@ records_in-complete k (r ∷ rs) own ignored (first, rest, parts, is, later) =
     let (after, records) = records_in-complete (k + 1) rs rest ignored later in
     (rw read after, rw (read, records) refl)
 
--- records that are read are spelled so
+-- the bytes before `rest` are the records that are read
 pub record HoldsRecords (count : ℕ) (bytes rest : List ℕ) : Type 0 where
   pub own : List ℕ
   pub parts : bytes ≡ own ++ rest
@@ -178,7 +178,7 @@ after_records-sound k (suc count) bytes rest fits e =
       counted = rw read (ap suc others.counted);
     }
 
--- The bytes before what stands after so many records are these records, and nothing else.
+-- the bytes before the rest, alone, are read as the same records
 pub records_in-own_bytes : (count : ℕ) (bytes rest own : List ℕ) → IsBytes bytes
     → after_records 1 count bytes ≡ Ok rest → own ≡ take (length bytes - length rest) bytes
     → AreWholeRecords count own × (records_in count own ≡ records_in count bytes)
@@ -194,13 +194,13 @@ records_in-own_bytes count bytes rest own fits e own_is =
 
 -- ---- one record off the front
 
--- the first, and the others
+-- the records in the bytes are the first one and the others
 pub records_in-first : (left count : ℕ) (bytes : List ℕ) → left ≡ suc count
     → records_in left bytes ≡ with_other_records (read_record bytes) (records_in count)
 unfolding records_in
 records_in-first left count bytes left_is = rw left_is refl
 
--- what stands after the others stands after all
+-- the bytes after the other records are those after all
 pub after_records-first : (left count number : ℕ) (bytes : List ℕ) → left ≡ suc count
     → after_records number left bytes
     ≡ after_other_records number (read_record bytes) (after_records (number + 1) count)
@@ -220,7 +220,7 @@ after_records-none left number bytes left_is = rw left_is refl
 
 -- ---- two parts, one after another
 
--- the records of two parts
+-- the records of bytes joined are the records of each
 pub records_in-append : (k count more : ℕ) (a b rest end : List ℕ) → after_records k count a ≡ Ok rest
     → after_records 1 more (rest ++ b) ≡ Ok end → (after_records k (count + more) (a ++ b) ≡ Ok end)
     × (records_in (count + more) (a ++ b) ≡ records_in count a ++ records_in more (rest ++ b))
@@ -233,7 +233,7 @@ records_in-append k (suc count) more a b rest end e f =
     let both = records_in-append (k + 1) count more (drop (record_size a) a) b rest end later f in
     rw (counted, read_record-append a b within) (both.0, rw (both.1, read) refl)
 
--- each record takes eight bytes at least
+-- each record takes at least eight bytes
 pub length-after_records : (k count : ℕ) (bytes rest : List ℕ) → after_records k count bytes ≡ Ok rest
     → 8 * count + length rest ≤ length bytes
 unfolding after_records

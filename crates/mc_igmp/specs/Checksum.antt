@@ -1,11 +1,9 @@
--- Which messages are well formed. The checksum is the sixteen-bit one's complement of the one's
--- complement sum of the whole message (RFC 3376, section 4.2.2; RFC 1071). So the receiver's sum,
--- which takes the checksum in, is one whose ones stand in all sixteen bits: a multiple of 65,535
--- that is not zero.
+-- Well-formed messages. The checksum is the sixteen-bit one's complement of the one's complement sum
+-- of the whole message (RFC 3376, section 4.2.2; RFC 1071). So the receiver's sum, with the checksum
+-- among its words, has ones in all sixteen bits: it is a multiple of 65,535 other than zero.
 use Rattle.std.specs.Prelude.{◌≡◌, ℕ, ◌+◌, ◌*◌, ◌%◌, ◌<◌, ◌≤◌, List, [], ◌∷◌, length}
 
--- the sum of the big-endian sixteen-bit words, an odd last byte being taken with a zero byte after
--- it
+-- the sum of the big-endian sixteen-bit words; an odd last byte is the high byte of a word
 unfoldable pub word_sum : List ℕ → ℕ
 word_sum [] = 0
 word_sum (last ∷ []) = 256 * last

@@ -3,7 +3,7 @@ use Rattle.std.specs.Prelude.{ℕ, ◌==◌, ◌&&◌, nat_le, Bool, true, false
 use Rattle.mc_igmp.specs.declared.record.Kind.{Kind}
 use Rattle.mc_igmp.specs.declared.record.Kind.TheVariants.{Include, Exclude, Change, Unknown}
 
--- 1 is MODE_IS_INCLUDE and 2 is MODE_IS_EXCLUDE. 3 to 6 tell of a change: CHANGE_TO_INCLUDE_MODE,
+-- 1 is MODE_IS_INCLUDE and 2 is MODE_IS_EXCLUDE. 3 to 6 report a change: CHANGE_TO_INCLUDE_MODE,
 -- CHANGE_TO_EXCLUDE_MODE, ALLOW_NEW_SOURCES and BLOCK_OLD_SOURCES.
 unfoldable pub kind_of : ℕ → Kind
 kind_of type =

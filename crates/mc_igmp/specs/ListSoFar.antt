@@ -1,4 +1,4 @@
--- A report list whose text comes in pieces: how far reading has come.
+-- A report list whose text comes in pieces: the state of reading, and what it ends with.
 use Rattle.std.specs.Prelude.{ℕ, ◌+◌, ◌*◌, ◌≤◌, ◌==◌, nat_lt, true, false, ◌≡◌, List, [], ◌++◌}
 use Rattle.std.specs.Prelude.{length, Option, Some, None, Result, Ok, Err, if◌then◌else◌}
 use Rattle.std.specs.List.{AllByRecursion}
@@ -7,35 +7,40 @@ use Rattle.mc_text.specs.Lines.{LineText, lines_from}
 use Rattle.mc_text.specs.Steps.{◌>>=◌}
 use Rattle.mc_igmp.specs.declared.record.Record.{Record}
 use Rattle.mc_igmp.specs.declared.fault.ListFault.{ListFault}
+use Rattle.mc_igmp.specs.declared.list_reader.LineReader.{LineReader}
 use Rattle.mc_igmp.specs.declared.fault.ListFaultKind.TheVariants.{TooLarge}
 use Rattle.mc_igmp.specs.ReadingList.{fault_at, read_lines}
 
--- no line feed stands there
+-- the bytes contain no line feed
 abbrev pub WithoutLineFeed : List ℕ → Type 0
 WithoutLineFeed bytes = AllByRecursion (λ b. (b == 10) ≡ false) bytes
 
--- so many bytes of a line's message are written
+-- the first `decoded` bytes of a line's message are decoded
 pub record IsDecodedAhead (line message : List ℕ) (decoded : ℕ) : Type 0 where
   pub ahead : AreDecoded line message decoded
   pub within : 2 * decoded ≤ length line
   pub fits : decoded ≤ length message
 
--- these records, and those of the lines of these bytes, which come after so many lines
+-- these records, and those of the lines of these bytes, which come after `ended` lines
 abbrev pub read_rest_of_lines : List Record → ℕ → List ℕ → Result (List Record) ListFault
 read_rest_of_lines records ended bytes =
     read_lines (lines_from (ended + 1) bytes) >>= λ others. Ok (records ++ others)
 
--- a line whose line feed comes next, after so many lines
+-- the records that the lines so far and these bytes after them are read as
+abbrev pub lines_if : LineReader → List ℕ → Result (List Record) ListFault
+lines_if lines more = read_rest_of_lines lines.list lines.ended (lines.begun.items ++ more)
+
+-- the line of these bytes, which a line feed ends, after `ended` lines
 abbrev pub line_after : ℕ → List ℕ → LineText
 line_after ended bytes = record { number = ended + 1; bytes = bytes; ended = true }
 
--- where no fault was met and the text is within the limit, the lines can be read on
+-- if there was no fault, and the text is within the limit, more lines can be read
 abbrev pub CanReadOn : ℕ → ℕ → List ℕ → Option ListFault → Type 0
 CanReadOn size ended begun fault = size ≤ 16777216 → fault ≡ None →
     WithoutLineFeed begun × (ended + length begun ≤ size)
 
--- how many bytes have come and how many lines have ended, the bytes after the last line feed, the
--- records of the lines that have ended, and the first fault of one
+-- the number of bytes that have come and of lines that have ended, the bytes after the last line feed,
+-- the records of the lines that have ended, and the first fault of a line
 pub record ListSoFar : Type 0 where
   pub size : ℕ
   pub ended : ℕ
@@ -47,7 +52,7 @@ pub record ListSoFar : Type 0 where
 abbrev pub no_list : ListSoFar
 no_list = record { size = 0; ended = 0; begun = []; records = []; fault = None }
 
--- the records of the lines that have ended were handed on
+-- the state without its records, which were forgotten
 abbrev pub without_records : ListSoFar → ListSoFar
 without_records so_far = record {
   size = so_far.size;
@@ -62,8 +67,8 @@ abbrev pub unless_fault : Option ListFault → Result (List Record) ListFault
 unless_fault None read = read
 unless_fault (Some fault) read = Err fault
 
--- What reading ends with if these bytes come: a text past the limit is refused whatever its lines
--- are, as in one piece.
+-- What reading ends with if these bytes come. A text past the limit is refused whatever its lines are,
+-- as in one piece.
 abbrev pub list_if : ListSoFar → List ℕ → Result (List Record) ListFault
 list_if so_far more =
     if nat_lt 16777216 (so_far.size + length more) then Err (fault_at 0 0 TooLarge)

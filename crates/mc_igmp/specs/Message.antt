@@ -1,4 +1,4 @@
--- What a message stands for (RFC 3376, section 4).
+-- IGMP messages (RFC 3376, section 4).
 use Rattle.std.specs.Prelude.{◌≡◌, ◌⊎◌, ℕ, ◌+◌, ◌*◌, List, [], ◌++◌, length, drop, slice_index}
 use Rattle.mc_igmp.specs.declared.record.Record.{Record}
 use Rattle.mc_igmp.specs.declared.message.Message.{Message}
@@ -7,12 +7,12 @@ use Rattle.mc_igmp.specs.Checksum.{IsWellFormed}
 use Rattle.mc_igmp.specs.OlderReport.{IsOlderReport}
 use Rattle.mc_igmp.specs.Records.{AreRecords}
 
--- the number of group records that a Version 3 report tells in its bytes 6 and 7 (section 4.2.3)
+-- the number of group records, in bytes 6 and 7 of a Version 3 report (section 4.2.3)
 abbrev pub record_count : List ℕ → ℕ
 record_count bytes = 256 * slice_index bytes 6 + slice_index bytes 7
 
--- A Version 3 report's records follow one another from byte 8, as many as it tells. Bytes after the
--- last record count for the checksum and say nothing (section 4.2.11).
+-- The bytes are a Version 3 report: its records follow one another from byte 8, as many as bytes 6 and
+-- 7 give. Bytes after the last record count for the checksum only (section 4.2.11).
 pub record IsReport (bytes : List ℕ) (records : List Record) : Type 0 where
   pub own : List ℕ
   pub ignored : List ℕ
@@ -25,15 +25,14 @@ pub record IsReport (bytes : List ℕ) (records : List Record) : Type 0 where
 abbrev pub IsReportType : ℕ → Type 0
 IsReportType type = (type ≡ 0x12) ⊎ ((type ≡ 0x16) ⊎ (type ≡ 0x22))
 
--- The bytes are this message. A message of another type than the reports' stands for its type
--- alone.
+-- The bytes are this message. Of a message that is no report only the type matters.
 abbrev pub IsMessage : List ℕ → Message → Type 0
 IsMessage bytes (Report records) =
     IsWellFormed bytes × (IsReport bytes records ⊎ IsOlderReport bytes records)
 IsMessage bytes (Other type) =
     IsWellFormed bytes × (slice_index bytes 0 ≡ type) × (¬ (IsReportType type))
 
--- the records that a message stands for
+-- the records of a message
 abbrev pub records_of : Message → List Record
 records_of (Report records) = records
 records_of (Other type) = []

@@ -4,7 +4,7 @@ use Rattle.mc_igmp.specs.declared.record.Kind.TheVariants.{Exclude}
 use Rattle.mc_igmp.specs.declared.record.Record.{Record}
 use Rattle.mc_igmp.specs.Record.{group_at}
 
--- what such a report says of its group: MODE_IS_EXCLUDE with no source (RFC 3376, section 7.3.2)
+-- the record that such a report counts as: MODE_IS_EXCLUDE with no source (RFC 3376, section 7.3.2)
 abbrev pub older_record : ℕ → Record
 older_record group = record { kind = Exclude; group = group; sources = [] }
 
@@ -13,8 +13,8 @@ older_records None = []
 older_records (Some group) = older_record group ∷ []
 
 -- The bytes have the type 0x12 (version 1: RFC 1112, appendix I) or 0x16 (version 2: RFC 2236,
--- section 2) and their group in bytes 4 to 7. They stand for one record. Bytes after the eighth
--- count for the checksum and say nothing (RFC 2236, section 2.5).
+-- section 2) and their group in bytes 4 to 7. They count as one record. Bytes after the eighth count
+-- for the checksum only (RFC 2236, section 2.5).
 pub record IsOlderReport (bytes : List ℕ) (records : List Record) : Type 0 where
   pub type : (slice_index bytes 0 ≡ 0x12) ⊎ (slice_index bytes 0 ≡ 0x16)
   pub one : records ≡ older_record (group_at bytes) ∷ []

@@ -1,4 +1,4 @@
--- A report list read line by line, with the first fault that is met.
+-- Reading a report list line by line, up to its first fault.
 use Rattle.std.specs.Prelude.{ℕ, ◌+◌, ◌||◌, not, nat_lt, List, [], ◌∷◌, ◌++◌, length, Option, Some}
 use Rattle.std.specs.Prelude.{None, Result, Ok, Err, if◌then◌else◌}
 use Rattle.hex.specs.declared.error.FromHexError.{FromHexError}
@@ -20,15 +20,16 @@ use Rattle.mc_igmp.specs.ReadingMessage.{read_message}
 use Rattle.std.specs.Prelude.{◌≡◌}
 use Rattle.mc_igmp.specs.declared.fault.ListFaultKind.TheVariants.{Memory}
 
--- a fault of this line and record
+-- the fault of this kind at a line and a record
 abbrev pub fault_at : ℕ → ℕ → ListFaultKind → ListFault
 fault_at line record_no kind = record { line = line; record_no = record_no; kind = kind }
 
--- the bytes that the digits of a line write
+-- the bytes that were decoded from a line, or the fault `BadHex`
 abbrev pub decoded_or_bad_hex : ℕ → Result (List ℕ) FromHexError → Result (List ℕ) ListFault
 decoded_or_bad_hex line (Ok bytes) = Ok bytes
 decoded_or_bad_hex line (Err e) = Err (fault_at line 0 BadHex)
 
+-- the bytes that the digits of a line write
 unfoldable pub bytes_of_line : LineText → Result (List ℕ) ListFault
 bytes_of_line line =
     if not line.ended then Err (fault_at line.number 0 Unended)
@@ -36,19 +37,18 @@ bytes_of_line line =
     then Err (fault_at line.number 0 TooLarge)
     else decoded_or_bad_hex line.number (decode_of line.bytes)
 
--- the number of the first record that tells of a change, where the first record has the number
--- `number`
+-- the number of the first record that reports a change, counted from `number`
 unfoldable pub first_change : ℕ → List Record → Option ℕ
 first_change number [] = None
 first_change number (r ∷ rs) =
     if is_change r.kind then Some number else first_change (number + 1) rs
 
--- the records, if none tells of a change
+-- the records, if none reports a change
 abbrev pub without_change : ℕ → List Record → Option ℕ → Result (List Record) ListFault
 without_change line records None = Ok records
 without_change line records (Some number) = Err (fault_at line number StateChange)
 
--- the records of what was read as a message, if a list takes it
+-- the records of a message that was read, if a list accepts it
 abbrev pub accepted_records : ℕ → Result Message MessageFault → Result (List Record) ListFault
 accepted_records line (Ok (Report records)) = without_change line records (first_change 1 records)
 accepted_records line (Ok (Other type)) = Ok []
@@ -70,7 +70,7 @@ read_lines (line ∷ lines) = do
   others ← read_lines lines
   Ok (records ++ others)
 
--- a text past the limit is refused before any line is looked at
+-- the records of a text; one past the limit is refused before any line is read
 unfoldable pub read_list : List ℕ → Result (List Record) ListFault
 read_list text =
     if nat_lt 16777216 (length text) then Err (fault_at 0 0 TooLarge)

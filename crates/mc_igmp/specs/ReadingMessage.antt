@@ -1,4 +1,4 @@
--- A message read from the front, with the first fault that is met.
+-- Reading a message from the front, up to its first fault.
 use Rattle.std.specs.Prelude.{ℕ, ◌==◌, ◌%◌, ◌&&◌, ◌||◌, nat_lt, List, [], ◌∷◌, length, drop}
 use Rattle.std.specs.Prelude.{slice_index, Result, Ok, Err, if◌then◌else◌}
 use Rattle.mc_igmp.specs.declared.message.Message.{Message}
@@ -16,7 +16,7 @@ abbrev pub report_of : List ℕ → Result (List ℕ) ℕ → Result Message Mes
 report_of bytes (Ok ignored) = Ok (Report (records_in (record_count bytes) (drop 8 bytes)))
 report_of bytes (Err number) = Err (Truncated number)
 
--- what stands in a well formed message of this type
+-- the message of these bytes, which are well-formed and of this type
 unfoldable pub read_by_type : List ℕ → ℕ → Result Message MessageFault
 read_by_type bytes type =
     if type == 0x22 then report_of bytes (after_records 1 (record_count bytes) (drop 8 bytes))

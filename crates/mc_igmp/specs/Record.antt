@@ -9,7 +9,7 @@ use Rattle.mc_igmp.specs.Kind.{kind_of}
 use Rattle.mc_igmp.specs.Addresses.{addresses_in}
 
 -- The bytes are this record, whole: its type, the length of its auxiliary data in words of 32 bits,
--- the number of its sources, its group, its sources, and the auxiliary data, which say nothing.
+-- the number of its sources, its group, its sources, and the auxiliary data, which are ignored.
 pub record IsRecord (bytes : List ℕ) (r : Record) : Type 0 where
   pub type : ℕ
   pub auxiliary_words : ℕ
@@ -27,14 +27,15 @@ abbrev pub group_at : List ℕ → ℕ
 group_at bytes = from_be_bytes w32
     (slice_index bytes 4 ∷ slice_index bytes 5 ∷ slice_index bytes 6 ∷ slice_index bytes 7 ∷ [])
 
--- The number of sources of the record that the bytes begin with, and the bytes that the record
--- takes.
+-- the number of sources of the record that the bytes begin with
 abbrev pub source_count : List ℕ → ℕ
 source_count bytes = 256 * slice_index bytes 2 + slice_index bytes 3
 
+-- the number of bytes of that record
 abbrev pub record_size : List ℕ → ℕ
 record_size bytes = 8 + 4 * source_count bytes + 4 * slice_index bytes 1
 
+-- that record, if it ends within the bytes
 abbrev pub record_at : List ℕ → Record
 record_at bytes = record {
   kind = kind_of (slice_index bytes 0);

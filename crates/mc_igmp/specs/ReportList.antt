@@ -1,4 +1,4 @@
--- What a report list stands for: the records of its messages, in order.
+-- Report lists: a text with a message on each line, and the records of these messages.
 use Rattle.std.specs.Prelude.{◌≡◌, ℕ, ◌≤◌, true, List, [], ◌∷◌, length, Ok}
 use Rattle.std.specs.List.{flat_map}
 use Rattle.hex.specs.Hex.{decode_of}
@@ -9,16 +9,15 @@ use Rattle.mc_igmp.specs.declared.message.Message.TheVariants.{Report, Other}
 use Rattle.mc_igmp.specs.Message.{IsMessage, records_of}
 use Rattle.mc_igmp.specs.Records.{HaveNoChanges}
 
--- The messages that a list takes. No record tells of a change (types 3 to 6, RFC 3376, section
--- 4.2.12), since its meaning hangs on what was reported before.
+-- A message that a list accepts. No record reports a change (types 3 to 6, RFC 3376, section 4.2.12),
+-- since the meaning of a change depends on earlier reports.
 abbrev pub IsAcceptedMessage : Message → Type 0
 IsAcceptedMessage (Report records) = HaveNoChanges records
 IsAcceptedMessage (Other type) = Unit {0}
 
--- The line is the hexadecimal of this message, and nothing else. A message is the payload of one IP
--- packet, of at most 65,535 bytes less 20 of its header (RFC 791, section 3.1), each of two digits.
--- A list has at most
--- 65,536 lines.
+-- The line is this message in hexadecimal, and nothing else. A message is the payload of one IP packet:
+-- at most 65,535 bytes less the 20 of its header (RFC 791, section 3.1), each of two digits. A list has
+-- at most 65,536 lines.
 pub record IsMessageLine (line : LineText) (message : Message) : Type 0 where
   pub bytes : List ℕ
   pub ended : line.ended ≡ true

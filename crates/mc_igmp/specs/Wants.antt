@@ -1,4 +1,4 @@
--- What the hosts of a LAN want (RFC 3376, section 3.2), from the answers to one General Query.
+-- What the hosts of a LAN want (RFC 3376, section 3.2), by their replies to one General Query.
 use Rattle.std.specs.Prelude.{◌≡◌, ℕ, List, Contains}
 use Rattle.std.specs.List.{Any}
 use Rattle.mc_igmp.specs.declared.record.Record.{Record}

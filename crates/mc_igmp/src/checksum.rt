@@ -6,12 +6,12 @@ ghost use Rattle.mc_igmp.specs.Checksum.{word_sum};
 /// Ones in all sixteen bits.
 const ALL_ONES: u64 = 0xffff;
 
-/// The bytes whose words are added up at a time, a whole number of words. Thirty-two bits hold the
-/// sum of so many.
+/// The number of bytes whose words are added up at a time, a whole number of words. Their sum fits in
+/// 32 bits.
 const PIECE_LEN: usize = 65_536;
 
-/// The one's complement sum of a sum and a number: the carries out of the sixteen bits are added at
-/// their end.
+/// The one's complement sum of a sum and a number: carries out of the sixteen bits are added at their
+/// low end.
 fn add_with_carries(sum: u64, number: u32) -> u64
     requires bounded { sum ≤ ALL_ONES }
     ensures bound { result ≤ ALL_ONES }
@@ -26,8 +26,7 @@ fn add_with_carries(sum: u64, number: u32) -> u64
     }
 }
 
-/// The sum of the big-endian words of a piece, an odd last byte being taken with a zero byte after
-/// it.
+/// The sum of the big-endian words of a piece. An odd last byte is the high byte of a word.
 fn sum_of_words(piece: &[u8]) -> u32
     requires bounded { length piece.now ≤ PIECE_LEN }
     ensures value { result ≡ word_sum piece.now }
@@ -44,8 +43,8 @@ fn sum_of_words(piece: &[u8]) -> u32
     }
 }
 
-/// The one's complement sum of the words of a message. One of at most `PIECE_LEN` bytes, as each
-/// that an IP packet holds, is summed at once and its carries added at the end.
+/// The one's complement sum of the words of a message. A message of at most `PIECE_LEN` bytes, as is
+/// each that fits in an IP packet, is summed at once, and the carries are added at the end.
 fn ones_complement_sum(message: &[u8]) -> u64
     ensures bound { result ≤ ALL_ONES }
     ensures congruent { result % 65535 ≡ word_sum message.now % 65535 }
@@ -61,7 +60,7 @@ fn ones_complement_sum(message: &[u8]) -> u64
     sum
 }
 
-/// Whether the words of a message, the checksum among them, add up to ones alone.
+/// Whether the words of a message, with the checksum among them, add up to all ones.
 pub(crate) fn is_checksum_right(message: &[u8]) -> bool
     ensures { result ≡ (nat_lt 0 (word_sum message.now) && (word_sum message.now % 65535 == 0)) }
 {

@@ -10,13 +10,13 @@ ghost use Rattle.mc_text.specs.DigitPairs.{AreDecoded};
 use mc_text::{are_hex_digits, bytes_of_hex_digits, hex_digit};
 use std::simd::prelude::*;
 
-/// How many bytes are written together, of twice as many digits.
+/// The number of bytes that are decoded at a time, from twice as many digits.
 const LANES: usize = 16;
 
-/// Half of that.
+/// Half of `LANES`.
 const HALF_OF_LANES: usize = 8;
 
-/// The bytes of both, one after the other.
+/// The lanes of both, those of `front` first.
 #[inline(always)]
 fn concat_lanes(front: u8x16, back: u8x16) -> u8x32
     ensures { result ≡ front ++ back }
@@ -30,15 +30,15 @@ fn concat_lanes(front: u8x16, back: u8x16) -> u8x32
     )
 }
 
-/// The byte of two digits with these values.
+/// The byte that two digits with these values write.
 fn byte_of(high: u8, low: u8) -> u8
     ensures { high < 16 → low < 16 → result ≡ high * 16 + low }
 {
     high.wrapping_mul(16).wrapping_add(low)
 }
 
-/// Writes the bytes of a few digits by a table, as `decode_all` does. The values of all digits are
-/// looked at together, once, since a branch at each would be guessed wrong too often.
+/// Decodes a few digits by a table, as `decode_all` does. The values of all digits are checked together
+/// at the end, since a branch at each digit would be mispredicted too often.
 fn decode_by_table(digits: &[u8], bytes: &mut [u8]) -> bool
     requires lengths { length digits.now ≡ 2 * length bytes.old }
     ensures found { result ≡ true → decode_of digits.now ≡ Ok bytes.new }
@@ -54,7 +54,7 @@ fn decode_by_table(digits: &[u8], bytes: &mut [u8]) -> bool
     values < 16
 }
 
-/// Writes the sixteen bytes from `at` on, and tells whether all that stands for them are digits.
+/// Decodes the sixteen bytes from `at` on, and returns whether all their digits are hexadecimal.
 #[inline(always)]
 fn decode_lanes(digits: &[u8], bytes: &mut [u8], at: usize) -> bool
     requires digits { 2 * (at + LANES) ≤ length digits.now }
@@ -72,8 +72,8 @@ fn decode_lanes(digits: &[u8], bytes: &mut [u8], at: usize) -> bool
     true
 }
 
-/// Writes all bytes, eight to fifteen, those of the first sixteen digits and of the last sixteen,
-/// which may be some of the first.
+/// Decodes eight to fifteen bytes: those of the first sixteen digits, and those of the last sixteen,
+/// which may overlap.
 fn decode_short(digits: &[u8], bytes: &mut [u8]) -> bool
     requires size { length digits.now ≡ 2 * length bytes.old }
     requires some { HALF_OF_LANES ≤ length bytes.old }
@@ -95,8 +95,8 @@ fn decode_short(digits: &[u8], bytes: &mut [u8]) -> bool
     true
 }
 
-/// Writes the bytes of the digits that a text begins with, sixteen together, as far as there is room,
-/// and answers how many are written.
+/// Decodes the digits at the front of a text, sixteen bytes at a time, as long as there is room, and
+/// returns the number of bytes.
 pub(crate) fn decode_prefix(text: &[u8], room: &mut [u8]) -> usize
     ensures decoded { AreDecoded text.now room.new result }
     ensures text { 2 * result ≤ length text.now }
@@ -113,8 +113,8 @@ pub(crate) fn decode_prefix(text: &[u8], room: &mut [u8]) -> usize
     at
 }
 
-/// Writes all bytes, those that the digits stand for, two digits a byte, of which so many are
-/// written, and tells whether all are digits. If not, what is written says nothing.
+/// Decodes all digits, two a byte, of which the first `decoded` bytes are decoded already, and returns
+/// whether all are hexadecimal. If not, the bytes are of no use.
 fn decode_all(digits: &[u8], bytes: &mut [u8], decoded: usize) -> bool
     requires size { length digits.now ≡ 2 * length bytes.old }
     requires decoded { AreDecoded digits.now bytes.old decoded }
@@ -135,12 +135,12 @@ fn decode_all(digits: &[u8], bytes: &mut [u8], decoded: usize) -> bool
         }
         at += LANES;
     }
-    // The last piece ends with the digits, and so may begin within the one before.
+    // The last piece ends where the digits do, so it may overlap the one before.
     decode_lanes(digits, bytes, last)
 }
 
-/// Writes the bytes that the digits stand for to the front of the room, where so many are written,
-/// and tells whether all are digits.
+/// Decodes the digits to the front of `room`, where the first `decoded` bytes are decoded already, and
+/// returns whether all are hexadecimal.
 pub(crate) fn decode_to_front(digits: &[u8], room: &mut [u8], decoded: usize) -> bool
     requires even { length digits.now % 2 ≡ 0 }
     requires fits { length digits.now ≤ 2 * length room.old }

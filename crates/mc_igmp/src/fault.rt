@@ -9,7 +9,7 @@ use thiserror::Error;
 /// What is wrong with a report list.
 #[derive(Clone, Copy, Debug, PartialEq, Eq)]
 pub enum ListFaultKind {
-    /// (1) The line is no hexadecimal of whole bytes.
+    /// (1) The line isn't hexadecimal, two digits for each byte.
     BadHex,
     /// (2) The message has fewer than 8 bytes.
     Short,
@@ -17,7 +17,7 @@ pub enum ListFaultKind {
     BadChecksum,
     /// (4) The record doesn't end within the message.
     Truncated,
-    /// (5) The record tells of a change: its meaning hangs on what was reported before.
+    /// (5) The record reports a change, whose meaning depends on earlier reports.
     StateChange,
     // (6) is no longer used: it refused reports of versions 1 and 2.
     /// (7) The text has more than 16,777,216 bytes (line 0), or more than 65,536 lines, or the line
@@ -29,8 +29,8 @@ pub enum ListFaultKind {
     Memory,
 }
 
-/// Why a text is no report list, with the line and the record that it is about. Both count from 1,
-/// and are 0 where no line or no record is meant.
+/// Why a text is no report list, with the line and the record at fault. Both are counted from 1, and
+/// are 0 if the fault isn't about a line or a record.
 #[derive(Clone, Copy, Debug, PartialEq, Eq, Error)]
 #[error("line {line} record {record_no}: {kind:?}")]
 pub struct ListFault {
@@ -38,7 +38,7 @@ pub struct ListFault {
     pub line: u32,
     /// The record of its message, or 0.
     pub record_no: u32,
-    /// What is wrong there.
+    /// The kind of fault.
     pub kind: ListFaultKind,
 }
 

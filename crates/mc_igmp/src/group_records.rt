@@ -1,4 +1,4 @@
-//! Group records one after another, as a Version 3 report and a list keep them.
+//! Consecutive group records, as a Version 3 report and a report list hold them.
 
 ghost use Rattle.std.specs.Prelude.{◌≡◌, ℕ, List, MatchResult, true};
 ghost use Rattle.mc_igmp.specs.Records.{records_in, after_records, AreWholeRecords, HaveNoChanges};
@@ -6,12 +6,12 @@ ghost use Rattle.mc_igmp.specs.Records.{records_in, after_records, AreWholeRecor
 use crate::record::{Record, split_record};
 use std::marker::Model;
 
-/// Group records, from the first. Its value in contracts is the list of those that are left.
+/// An iterator over group records. Its value in contracts is the list of those that are left.
 #[derive(Debug, Drop)]
 pub struct GroupRecords<'a> {
     left: usize,
     bytes: &'a [u8],
-    /// Whether it is known that no record that is left tells of a change.
+    /// Whether it is known that no record that is left reports a change.
     known_without_changes: bool,
 }
 
@@ -28,8 +28,8 @@ impl<'a> Model for GroupRecords<'a> {
         × (s.known_without_changes ≡ true → HaveNoChanges (records_in s.left s.bytes.now)) };
 }
 
-/// The bytes after so many records and whether none of these tells of a change, or the number of
-/// the first, counted from 1, that doesn't end within the bytes.
+/// The bytes after the first `count` records and whether none of these reports a change, or the number
+/// of the first, counted from 1, that doesn't end within the bytes.
 fn skip_records(count: u16, bytes: &[u8]) -> Result<(&[u8], bool), u32>
     ensures { MatchResult result
         (λ x. (after_records 1 count bytes.now ≡ Ok x.0.now)
@@ -66,7 +66,7 @@ impl<'a> GroupRecords<'a> {
         })
     }
 
-    /// So many records that follow one another and end with the bytes.
+    /// The `count` records that the bytes are, one after another.
     pub(crate) fn new(count: usize, bytes: &'a [u8]) -> GroupRecords<'a>
         requires valid { AreWholeRecords count bytes.now }
         ensures value { result ≡ records_in count bytes.now }
@@ -78,7 +78,7 @@ impl<'a> GroupRecords<'a> {
         }
     }
 
-    /// The same records, to be walked apart from these.
+    /// A copy of the iterator.
     pub(crate) fn iter(&self) -> GroupRecords<'a>
         ensures { result ≡ self.now }
     {
@@ -89,7 +89,7 @@ impl<'a> GroupRecords<'a> {
         }
     }
 
-    /// Whether it is known, from when they were read, that none tells of a change.
+    /// Whether it is known, from reading them, that none reports a change.
     pub(crate) fn has_no_changes(&self) -> bool
         ensures { result ≡ true → HaveNoChanges self.now }
     {

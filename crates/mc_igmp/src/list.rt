@@ -1,4 +1,4 @@
-//! A report list: what the hosts of one LAN answer to one General Query, a message on each line.
+//! A report list: the replies of the hosts of one LAN to one General Query, a message on each line.
 
 ghost use Rattle.std.specs.Prelude.{◌≡◌, ◌≢◌, ◌*◌, ◌++◌, ◌∷◌, ◌<◌, ◌≤◌, ◌^◌, ◌⊎◌, List, [], length};
 ghost use Rattle.std.specs.Prelude.{unwrap_or};
@@ -30,8 +30,8 @@ const MAX_LINES: u32 = 65_536;
 /// The greatest line, in bytes: two digits for each byte of an IP packet's greatest payload.
 const MAX_LINE_LEN: usize = 131_030;
 
-/// The bytes of the record that a report of version 1 or 2 stands for (RFC 3376, sections 4.2.4 and
-/// 7.3.2).
+/// The bytes of the record that a report of version 1 or 2 for this group counts as (RFC 3376, sections
+/// 4.2.4 and 7.3.2).
 fn older_record_bytes(group: Addr) -> [u8; 8]
     ensures whole { AreWholeRecords 1 result }
     ensures record { records_in 1 result ≡ older_record group ∷ [] }
@@ -40,8 +40,8 @@ fn older_record_bytes(group: Addr) -> [u8; 8]
     [2, 0, 0, 0, a, b, c, d]
 }
 
-/// Reads the bytes that a line's hexadecimal digits write, at the front of `bytes`, where so many
-/// are written. It stays as long as the longest line makes it: what stands there is written over.
+/// Decodes a line's hexadecimal digits to the front of `bytes`, where the first `decoded` bytes are
+/// decoded already. `bytes` grows to the longest line and is overwritten by the next one.
 fn decode_line<'a>(
     line: &Line<'_>,
     bytes: &'a mut Vec<u8>,
@@ -74,7 +74,7 @@ fn decode_line<'a>(
     }
 }
 
-/// The number of the first record, counted from 1, that tells of a change.
+/// The number of the first record, counted from 1, that reports a change.
 fn first_change_of(records: &Records<'_>) -> Option<u32>
     requires bounded { length records.now < 2 ^ 16 }
     ensures value { result ≡ first_change 1 records.now }
@@ -92,7 +92,7 @@ fn first_change_of(records: &Records<'_>) -> Option<u32>
     None
 }
 
-/// The records of the message on a line, none if the list takes it and it is no report.
+/// The records of the message on a line, or none if it is no report.
 fn accepted_records_of_line(
     line_number: u32,
     bytes: &[u8],
@@ -116,11 +116,10 @@ fn accepted_records_of_line(
     }
 }
 
-/// The records of a list that are left to be walked, from the first.
+/// An iterator over the records of a list.
 pub type ListRecords<'a> = GroupRecords<'a>;
 
-/// The records of a LAN's reports, in the order of the list. Its value in contracts is the list of
-/// them.
+/// The records of a LAN's reports, in order. Its value in contracts is the list of them.
 #[derive(Debug, Drop)]
 pub struct ReportList {
     /// The number of the records.
@@ -142,7 +141,7 @@ impl Model for ReportList {
 }
 
 impl ReportList {
-    /// The list without a record.
+    /// The list of no records.
     pub(crate) fn none(alloc: Global) -> ReportList
         ensures { result ≡ [] }
     {
@@ -152,7 +151,7 @@ impl ReportList {
         }
     }
 
-    /// Takes all records away.
+    /// Removes all records.
     pub(crate) fn clear(&mut self)
         ensures { self.new ≡ [] }
     {
@@ -162,17 +161,17 @@ impl ReportList {
 
     /// Reads a report list: a message in hexadecimal on each line, with nothing else on it. The
     /// empty text is a list without a record, and so is one of messages that are no reports. A
-    /// report of version 1 or 2 counts as one record, as [`Message`] has it.
+    /// report of version 1 or 2 counts as one record, as in [`Message`].
     ///
     /// # Errors
-    /// `TooLarge` at line 0 for a text of more than 16,777,216 bytes. Else the first line that has
-    /// a fault is refused, for the first of `Unended`, `TooLarge` (line 65,537, or more than
+    /// `TooLarge` at line 0 for a text of more than 16,777,216 bytes. Otherwise the fault of the first
+    /// line that has one: the first of `Unended`, `TooLarge` (line 65,537, or more than
     /// 131,030 bytes on the line), `BadHex`, `Short`, `BadChecksum`, `Truncated` and `StateChange`.
-    /// `Memory` where a growth was refused.
+    /// `Memory` if an allocation is refused.
     pub fn read(alloc: Global, text: &[u8]) -> Result<ReportList, ListFault>
-        // What is read are the records of the text's messages.
+        // The text is a report list of the records that are read.
         ensures found { IfOk result (λ records. IsReportList text.now records) }
-        // A text that stands for records is read as those, unless memory runs out.
+        // A report list is read as its records, unless memory runs out.
         ensures only { (records : List Record) → IsReportList text.now records →
             (result ≡ Ok records) ⊎ (result ≡ Err oom_fault) }
         // Which fault it is, unless memory runs out.
@@ -189,8 +188,8 @@ impl ReportList {
         Ok(list)
     }
 
-    // Appends the records of the message on a line, for whose bytes `message` is room meanwhile, and
-    // of which so many are written there.
+    // Appends the records of the message on a line. `message` is a buffer for the bytes of the message,
+    // of which the first `decoded` are decoded already.
     pub(crate) fn push_line(
         &mut self,
         line: &Line<'_>,
@@ -224,7 +223,7 @@ impl ReportList {
         self.append_bytes(count, bytes)
     }
 
-    // Appends group records that follow one another in the bytes.
+    // Appends the `count` group records that the bytes are.
     fn append_bytes(&mut self, count: usize, bytes: &[u8]) -> Result<(), AllocError>
         requires valid { AreWholeRecords count bytes.now }
         ensures added { OnOk result (self.new ≡ self.old ++ records_in count bytes.now) }
@@ -234,7 +233,7 @@ impl ReportList {
         Ok(())
     }
 
-    /// All records, in the order of the list.
+    /// The records, in order.
     pub fn records(&self) -> ListRecords<'_>
         ensures { result ≡ self.now }
     {

@@ -1,4 +1,4 @@
-//! Reading a report list from pieces of its text.
+//! Reading a report list whose text comes in pieces.
 
 ghost use Rattle.std.specs.Prelude.{◌≡◌, ◌+◌, ◌<◌, ◌≤◌, ◌⊎◌, ◌↔◌, ℕ, List, [], ◌++◌, length, min};
 ghost use Rattle.std.specs.Prelude.{Ok, Err, Some, IfOk, OnOk, IfErr, OnErr, IsErr, IfSome, IsTrue};
@@ -8,7 +8,7 @@ ghost use Rattle.hex.specs.Hex.{is_hex_digit};
 ghost use Rattle.mc_text.specs.Lines.{max_text};
 ghost use Rattle.mc_igmp.specs.declared.record.Record.{Record};
 ghost use Rattle.mc_igmp.specs.ReadingList.{IsMemory, oom_fault, read_line, read_list};
-ghost use Rattle.mc_igmp.specs.ListSoFar.{IsDecodedAhead, WithoutLineFeed, line_after, read_rest_of_lines};
+ghost use Rattle.mc_igmp.specs.ListSoFar.{IsDecodedAhead, WithoutLineFeed, line_after, lines_if};
 ghost use Rattle.mc_igmp.specs.ListSoFar.{no_list, without_records, list_if};
 
 use crate::digits::decode_prefix;
@@ -18,7 +18,7 @@ use mc_text::{Line, MAX_TEXT, Memory, find_byte};
 use std::alloc::{AllocError, Global};
 use std::marker::Model;
 
-/// The line that ends with these bytes: what has begun it and they, or they alone, where they stand.
+/// The line of the bytes so far and these. If there are none so far, these bytes aren't copied.
 fn join_line<'a>(begun: &'a mut Vec<u8>, bytes: &'a [u8]) -> Result<&'a [u8], AllocError>
     ensures { IfOk result (λ whole. whole.now ≡ begun.old.items ++ bytes.now) }
 {
@@ -29,7 +29,7 @@ fn join_line<'a>(begun: &'a mut Vec<u8>, bytes: &'a [u8]) -> Result<&'a [u8], Al
     Ok(begun.as_slice())
 }
 
-/// The place of the first line feed, where so many digits stand before it.
+/// The place of the first line feed of a text that begins with so many digits.
 fn line_feed_after_digits(digits: usize, text: &[u8]) -> Option<usize>
     requires within { digits ≤ length text.now }
     requires digits { list_all is_hex_digit (take digits text.now) ≡ true }
@@ -39,23 +39,23 @@ fn line_feed_after_digits(digits: usize, text: &[u8]) -> Option<usize>
     Some(digits + place)
 }
 
-/// The lines that have come.
+/// The lines that have come so far.
 #[derive(Debug, Drop)]
 struct LineReader {
-    /// How many have ended.
+    /// The number of lines that have ended.
     ended: u32,
     /// The bytes after the last line feed.
     begun: Vec<u8>,
-    /// The records of those that have ended.
+    /// The records of the lines that have ended.
     list: ReportList,
-    /// Room for the bytes of a line's message, as long as it is read.
+    /// A buffer for the bytes of a line's message.
     message: Vec<u8>,
-    /// How many of them are written before the line's end is known.
+    /// The number of these bytes that are decoded before the line's end is known.
     decoded: usize,
 }
 
 impl LineReader {
-    // Writes the bytes of the digits that come next, if they begin a line.
+    // Decodes the digits at the front of the bytes, if a line begins there.
     fn decode_ahead(&mut self, rest: &[u8])
         ensures ahead { IsDecodedAhead rest.now self.new.message.items self.new.decoded }
         ensures split { (self.new.begun.items ≡ []) ⊎ (self.new.decoded ≡ 0) }
@@ -70,8 +70,8 @@ impl LineReader {
         }
     }
 
-    // Where the line ends, if it does. Its digits are read meanwhile, so that its end isn't looked
-    // for among them.
+    // The place where the line ends, if it does. Its digits are decoded on the way, so that they aren't
+    // searched for the line's end.
     fn find_line_end(&mut self, rest: &[u8]) -> Option<usize>
         ensures end { result ≡ position (λ b. b == 10) rest.now }
         ensures ahead { IfSome result (λ end. IsDecodedAhead
@@ -84,8 +84,8 @@ impl LineReader {
         line_feed_after_digits(2 * self.decoded, rest)
     }
 
-    // A line ends here, of the bytes that have begun it, if it is split, and of these. One that
-    // isn't is read where it stands.
+    // Reads the line that ends here: the bytes that have begun it, if it is split between pieces, and
+    // these.
     fn end_line(&mut self, bytes: &[u8]) -> Result<(), ListFault>
         requires few { self.old.ended < u32.MAX }
         requires ahead { IsDecodedAhead
@@ -109,17 +109,15 @@ impl LineReader {
         Ok(())
     }
 
-    // Reads the lines that end in a piece.
+    // Reads the lines that end in a piece, and keeps the bytes after them.
     fn read_piece(&mut self, piece: &[u8]) -> Result<(), ListFault>
         requires few { self.old.ended + (length self.old.begun.items + length piece.now)
             < u32.MAX }
         requires begun { WithoutLineFeed self.old.begun.items }
         ensures reads { (more : List ℕ) → OnOk result
-            (read_rest_of_lines self.old.list self.old.ended (self.old.begun.items ++ (piece.now ++ more))
-            ≡ read_rest_of_lines self.new.list self.new.ended (self.new.begun.items ++ more)) }
+            (lines_if self.old (piece.now ++ more) ≡ lines_if self.new more) }
         ensures fault { (more : List ℕ) → IfErr result (λ fault. IsMemory fault
-            ⊎ (read_rest_of_lines self.old.list self.old.ended
-            (self.old.begun.items ++ (piece.now ++ more)) ≡ Err fault)) }
+            ⊎ (lines_if self.old (piece.now ++ more) ≡ Err fault)) }
         ensures few { OnOk result (self.new.ended + length self.new.begun.items
             ≤ self.old.ended + (length self.old.begun.items + length piece.now)) }
         ensures begun { OnOk result (WithoutLineFeed self.new.begun.items) }
@@ -134,11 +132,11 @@ impl LineReader {
     }
 }
 
-/// A reader of a report list that is fed the text in pieces of any size, and holds no more of it
-/// than the line that has begun. The records can be looked at as they come, and forgotten.
+/// A reader of a report list that is fed the text in pieces of any size. Of the text it keeps only the
+/// line that has begun. The records can be read as they come, and forgotten.
 #[derive(Debug, Drop)]
 pub struct ListReader {
-    /// How many bytes have come, or one more than a text may have.
+    /// The number of bytes that have come, at most one more than a text may have.
     size: usize,
     lines: LineReader,
     /// The first fault of a line, or that memory ran out.
@@ -169,7 +167,7 @@ impl ListReader {
     /// A reader that was fed nothing.
     pub fn new(alloc: Global) -> ListReader
         ensures start { result ≡ no_list }
-        // A text of any bytes ends with what the whole text is read as.
+        // Fed any text, reading ends with what the whole text is read as.
         ensures reads { (text : List ℕ) → list_if result text ≡ read_list text }
     {
         ListReader {
@@ -185,28 +183,28 @@ impl ListReader {
         }
     }
 
-    /// How many bytes may still be fed until the text is known to be too large.
+    /// The number of bytes that can be fed until the text is known to be too large.
     pub fn room(&self) -> usize
         ensures { self.now.size + result ≡ max_text + 1 }
     {
         MAX_TEXT + 1 - self.size
     }
 
-    /// Takes the next piece of the text. A fault of a line is kept until the text ends, since a text
-    /// that is too large is refused for that.
+    /// Reads the next piece of the text. A fault of a line is returned by `finish` only, since a text
+    /// that is too large is refused for its size first.
     ///
     /// # Errors
     ///
-    /// `Memory` where a growth was refused. Each later call answers it again, and so does `finish`.
+    /// `Memory` if an allocation is refused. Each later call returns it again, and so does `finish`.
     pub fn feed(&mut self, piece: &[u8]) -> Result<(), Memory>
-        // Whatever bytes come then, reading ends as it would have with this piece before them.
+        // Whatever bytes come next, reading ends as with this piece and these bytes before.
         ensures goes_on { (more : List ℕ) → OnOk result
             (list_if self.new more ≡ list_if self.old (piece.now ++ more)) }
         ensures size { OnOk result
             (self.new.size ≡ min (self.old.size + length piece.now) (max_text + 1)) }
         ensures within { self.new.size ≤ self.old.size + length piece.now }
         ensures memory { OnErr result (self.new.fault ≡ Some oom_fault) }
-        // Once memory ran out each call answers that again.
+        // Once memory ran out, each call returns that again.
         ensures again { self.old.fault ≡ Some oom_fault → IsErr result × (self.new ≡ self.old) }
     {
         if self.is_out_of_memory() {
@@ -237,7 +235,7 @@ impl ListReader {
         }
     }
 
-    /// The records of the lines that have ended, but those that were forgotten.
+    /// The records of the lines that have ended, without those that were forgotten.
     pub fn records(&self) -> ListRecords<'_>
         ensures { result ≡ self.now.records }
     {
@@ -251,11 +249,11 @@ impl ListReader {
         self.lines.list.clear();
     }
 
-    /// The records, if the text ends here.
+    /// Ends the text and returns its records, without those that were forgotten.
     ///
     /// # Errors
     ///
-    /// The first fault, as `ReportList::read` has it, or `Memory` where `feed` answered that.
+    /// The first fault, as of `ReportList::read`, or `Memory` if `feed` returned that.
     pub fn finish(self) -> Result<ReportList, ListFault>
         ensures ends { result ≡ list_if self [] }
         ensures again { self.fault ≡ Some oom_fault → result ≡ Err oom_fault }

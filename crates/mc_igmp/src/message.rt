@@ -11,7 +11,7 @@ use crate::records::Records;
 use byteorder::{BigEndian, ByteOrder};
 use thiserror::Error;
 
-/// The bytes of a report before its records, and of every message at least.
+/// The number of bytes of a report before its records, which each message has at least.
 const HEADER_LEN: usize = 8;
 
 /// The type of a Version 1 report (RFC 1112, appendix I).
@@ -23,11 +23,11 @@ const VERSION_2_REPORT: u8 = 0x16;
 /// The type of a Version 3 report.
 const VERSION_3_REPORT: u8 = 0x22;
 
-/// What a message stands for.
+/// An IGMP message.
 #[derive(Debug, Drop)]
 pub enum Message<'a> {
-    /// A report, with its records. One of version 1 or 2 stands for one record: all sources of its
-    /// group are wanted (RFC 3376, section 7.3.2).
+    /// A report, with its records. A report of version 1 or 2 counts as one record, by which all sources
+    /// of its group are wanted (RFC 3376, section 7.3.2).
     Report(Records<'a>),
     /// A message of another type, with its type byte.
     Other(u8),
@@ -47,7 +47,7 @@ pub enum MessageFault {
     Truncated(u32),
 }
 
-/// What the bytes of a message with a right checksum stand for.
+/// The message of these bytes, whose length and checksum are right.
 fn parse_by_type(bytes: &[u8]) -> Result<Message<'_>, MessageFault>
     requires within { HEADER_LEN ≤ length bytes.now }
     ensures value { result ≡ read_by_type bytes.now (slice_index bytes.now 0) }
@@ -67,13 +67,16 @@ fn parse_by_type(bytes: &[u8]) -> Result<Message<'_>, MessageFault>
 }
 
 impl<'a> Message<'a> {
-    /// Reads a message. All types have the same checksum. Reports of versions 1 and 2 have the
-    /// types 0x12 and 0x16, and one of version 3 has 0x22; of other types nothing else is looked
-    /// at.
+    /// Reads a message. All types have the same checksum. Reports of versions 1, 2 and 3 have the types
+    /// 0x12, 0x16 and 0x22. Of a message of another type nothing else is read.
+    ///
+    /// # Errors
+    ///
+    /// The first of `Short`, `BadChecksum` and `Truncated`.
     pub fn parse(bytes: &'a [u8]) -> Result<Message<'a>, MessageFault>
-        // What is read is the message that the bytes are.
+        // The bytes are the message that is read.
         ensures found { IfOk result (λ message. IsMessage bytes.now message) }
-        // Bytes that are a message are read as that message.
+        // Bytes that are a message are read as it.
         ensures only { (message : Message) → IsMessage bytes.now message → result ≡ Ok message }
         // Which fault it is.
         ensures fault { result ≡ read_message bytes.now }

@@ -1,4 +1,4 @@
-//! Group records, which each tell one group's filter (RFC 3376, section 4.2.4 and on).
+//! Group records, each with a filter for one group (RFC 3376, section 4.2.4 and on).
 
 ghost use Rattle.std.specs.Prelude.{◌≡◌, ◌≤◌, length};
 ghost use Rattle.std.specs.Option.{option_map};
@@ -10,13 +10,13 @@ use byteorder::{BigEndian, ByteOrder};
 use mc_text::Addr;
 use std::marker::Model;
 
-/// The bytes of a record before its sources.
+/// The number of bytes of a record before its sources.
 const HEADER_LEN: usize = 8;
 
-/// The bytes of an address, and of a word of auxiliary data.
+/// The number of bytes of an address, and of a word of auxiliary data.
 const WORD_LEN: usize = 4;
 
-/// What a record says of its sources, by its type.
+/// The meaning of a record's sources, by its type.
 #[derive(Clone, Copy, Debug, PartialEq, Eq)]
 pub enum Kind {
     /// Only these sources are wanted (MODE_IS_INCLUDE, 1).
@@ -42,7 +42,7 @@ impl Kind {
         }
     }
 
-    /// Whether it tells of a change.
+    /// Whether the record reports a change.
     pub(crate) fn is_change(self) -> bool
         ensures { result ≡ is_change self }
     {
@@ -50,8 +50,7 @@ impl Kind {
     }
 }
 
-/// The sources of a record, from the first. Its value in contracts is the list of those that are
-/// left.
+/// An iterator over the sources of a record. Its value in contracts is the list of those that are left.
 #[derive(Debug, Drop)]
 pub struct Sources<'a> {
     bytes: &'a [u8],
@@ -67,7 +66,7 @@ impl<'a> Model for Sources<'a> {
 }
 
 impl<'a> Sources<'a> {
-    /// The same sources, to be walked apart from these.
+    /// A copy of the iterator.
     pub fn iter(&self) -> Sources<'a>
         ensures { result ≡ self.now }
     {
@@ -96,10 +95,10 @@ impl<'a> Iterator for Sources<'a> {
     }
 }
 
-/// What one record says of one group.
+/// A group record.
 #[derive(Debug, Drop)]
 pub struct Record<'a> {
-    /// What it says of its sources.
+    /// The meaning of its sources.
     pub kind: Kind,
     /// The group that it is about.
     pub group: Addr,
@@ -108,8 +107,8 @@ pub struct Record<'a> {
 }
 
 impl<'a> Record<'a> {
-    /// What a report of version 1 or 2 says of its group: all sources are wanted (RFC 3376, section
-    /// 7.3.2).
+    /// The record that a report of version 1 or 2 counts as: all sources of the group are wanted
+    /// (RFC 3376, section 7.3.2).
     #[tactic(auto, unfolding(crate::specs::Addresses::addresses_in))]
     pub(crate) fn of_older_report(group: Addr) -> Record<'a>
         ensures { result ≡ older_record group }
@@ -122,7 +121,7 @@ impl<'a> Record<'a> {
     }
 }
 
-/// The group in bytes 4 to 7, where records and reports of versions 1 and 2 have it.
+/// The group of a record, or of a report of version 1 or 2: the address in bytes 4 to 7.
 pub(crate) fn group_of(bytes: &[u8]) -> Addr
     requires within { 8 ≤ length bytes.now }
     ensures value { result ≡ group_at bytes.now }
@@ -130,8 +129,8 @@ pub(crate) fn group_of(bytes: &[u8]) -> Addr
     Addr::from_octets([bytes[4], bytes[5], bytes[6], bytes[7]])
 }
 
-/// The record that the bytes begin with, and the bytes after it. There is none where it doesn't end
-/// within the bytes. Its auxiliary data are passed over.
+/// The record that the bytes begin with, and the bytes after it, or none if it doesn't end within the
+/// bytes. Its auxiliary data are skipped.
 pub(crate) fn split_record(bytes: &[u8]) -> Option<(Record<'_>, &[u8])>
     ensures { option_map (λ x. (x.0, x.1.now)) result ≡ read_record bytes.now }
 {

@@ -9,11 +9,10 @@ use crate::record::Record;
 use mc_text::Addr;
 use std::marker::Model;
 
-/// The records of a report, from the first. Its value in contracts is the list of those that are
-/// left.
+/// An iterator over the records of a report. Its value in contracts is the list of those that are left.
 #[derive(Debug, Drop)]
 pub struct Records<'a> {
-    /// The group of a report of version 1 or 2, as long as its record is left.
+    /// The group of a report of version 1 or 2, if its record is left.
     older_group: Option<Addr>,
     /// The group records that are left of a Version 3 report.
     group_records: GroupRecords<'a>,
@@ -56,7 +55,7 @@ impl<'a> Records<'a> {
         }
     }
 
-    /// The same records, to be walked apart from these.
+    /// A copy of the iterator.
     pub(crate) fn iter(&self) -> Records<'a>
         ensures { result ≡ self.now }
     {
@@ -66,7 +65,7 @@ impl<'a> Records<'a> {
         }
     }
 
-    /// Whether it is known, from when they were read, that none tells of a change.
+    /// Whether it is known, from reading them, that none reports a change.
     pub(crate) fn has_no_changes(&self) -> bool
         ensures { result ≡ true → HaveNoChanges self.now }
     {

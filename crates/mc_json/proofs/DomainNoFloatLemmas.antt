@@ -1,4 +1,4 @@
--- No value that is told of a domain has a fraction.
+-- No value of a domain's line has a fraction.
 use Rattle.std.proofs.Common.{◌≡◌, ℕ, false, length, List, [], ◌∷◌, Option, Some, None, flat_map, refl}
 use Rattle.mc_tables.specs.VifTable.{VifValue}
 use Rattle.mc_topology.specs.SectionRows.{InterfaceRow}
@@ -12,7 +12,7 @@ use Rattle.mc_json.specs.DomainData.{domain_data, interfaces_data, lan_or_null, 
 use Rattle.mc_json.specs.DomainData.{unmatched_data, unmatched_data_of, vif_data, vifs_data}
 use Rattle.mc_json.proofs.NoFloatLemmas.{HaveNoFloat, no_float-append, no_float-map, no_float-lans, no_float-routers}
 
--- items that are each told by several values
+-- items with several values each
 no_float-flat_map : {A : Type 0} (f : A → List Data) → ((x : A) → HaveNoFloat (f x)) → (xs : List A)
     → HaveNoFloat (flat_map f xs)
 no_float-flat_map f each [] = refl

@@ -1,4 +1,4 @@
--- Each line but the verdict's is an object whose first key isn't the verdict's.
+-- Each line except the verdict's is an object whose first key isn't the verdict's.
 use Rattle.std.proofs.Common.{◌==◌, ℕ, Bool, true, false, cond, List, [], ◌∷◌, flat_map, map, refl}
 use Rattle.mc_tables.specs.Summary.{SummaryValue}
 use Rattle.mc_topology.specs.Topology.{TopologyValue}
@@ -41,15 +41,18 @@ are_object_lines-right true number f copies tree wanted =
 are_object_lines-right false number f copies tree wanted =
     are_object_lines-one (right_data false number f copies tree wanted) refl refl
 
+pub are_object_lines-wrong_flow : (number : ℕ) (f : Flow) (w : WrongFlow)
+    → AreObjectLines (line_of (wrong_data number f w))
+unfolding escape_byte
+are_object_lines-wrong_flow number f w = are_object_lines-one (wrong_data number f w) refl refl
+
 pub are_object_lines-wrong : (d : DomainFacts) (number : ℕ) (f : Flow) (found_ttl : ℕ) (finding : Finding)
     (events : List Event) (also : List ℕ) (why : List Data) (events_asked : Bool)
     → AreObjectLines (wrong_line d number f found_ttl finding events also why events_asked)
-unfolding escape_byte
 are_object_lines-wrong d number f found_ttl finding events also why events_asked =
-    are_object_lines-one (wrong_data number f (wrong_flow_of d.topology found_ttl finding events also why events_asked))
-    refl refl
+    are_object_lines-wrong_flow number f (wrong_flow_of d.topology found_ttl finding events also why events_asked)
 
--- ---- behind the flows
+-- ---- after the flows
 
 are_object_lines-unlisted : (t : TopologyValue) (source group : ℕ) (routers : List ℕ)
     → AreObjectLines (line_of (unlisted_data t source group routers))

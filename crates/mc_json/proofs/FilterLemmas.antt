@@ -9,7 +9,7 @@ filter-below_more : (p : ℕ → Bool) (n : ℕ)
     → filter p (below (n + 1)) ≡ filter p (below n) ++ filter p (n ∷ [])
 filter-below_more p n = ap (filter p) (below-more n) ∙ filter-append p (below n) (n ∷ [])
 
--- where the next number passes, the list has one more,
+-- if the next number passes, the list has one more,
 pub filter-below_passed : (p : ℕ → Bool) (xs now : List ℕ) (n : ℕ) → xs ≡ filter p (below n) → p n ≡ true
     → now ≡ xs ++ n ∷ [] → now ≡ filter p (below (n + 1))
 filter-below_passed p xs now n so_far passes pushed =
@@ -17,7 +17,7 @@ filter-below_passed p xs now n so_far passes pushed =
     pushed ∙ ap (λ ys. ys ++ n ∷ []) so_far
     ∙ sym (filter-below_more p n ∙ ap (λ ys. filter p (below n) ++ ys) one)
 
--- and where it doesn't, it stays
+-- or else it stays the same
 pub filter-below_failed : (p : ℕ → Bool) (xs : List ℕ) (n : ℕ) → xs ≡ filter p (below n) → p n ≡ false
     → xs ≡ filter p (below (n + 1))
 filter-below_failed p xs n so_far fails =

@@ -1,4 +1,4 @@
--- What is told of numbers, of interfaces and of sources, one further.
+-- Lists of values with one number, interface or source more.
 use Rattle.std.proofs.Common.{◌≡◌, ℕ, ◌+◌, List, [], ◌∷◌, ◌++◌, flat_map, map, take, slice_get, Some}
 use Rattle.std.proofs.Common.{ap, sym, ◌∙◌, append_assoc, append-nil}
 use Rattle.std.proofs.lemmas.Grind.{flat_map-append}

@@ -1,4 +1,4 @@
--- No line feed stands in the text of a value: in a string it is escaped.
+-- The text of a value has no line feed: in a string it is escaped.
 use Rattle.std.proofs.Common.{◌≡◌, ℕ, suc, ◌/◌, ◌%◌, Bool, true, false, cond, eqb, List, [], ◌∷◌}
 use Rattle.std.proofs.Common.{refl, sym, ap, ◌∙◌, arith}
 use Rattle.std.specs.Prelude.{ℤ, pos, negsuc, nat_lt}

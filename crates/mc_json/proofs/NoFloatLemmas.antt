@@ -1,4 +1,4 @@
--- No value that is told has a fraction.
+-- No value of a line has a fraction.
 use Rattle.std.proofs.Common.{◌≡◌, ℕ, Bool, true, false, List, [], ◌∷◌, ◌++◌, Option, Some, None, map}
 use Rattle.std.proofs.Common.{refl}
 use Rattle.std.proofs.lemmas.Bool.{or_parts}
@@ -85,7 +85,7 @@ no_float-incoming_vif (Exact incoming pairs) = refl
 no_float-incoming_vif Open = refl
 no_float-incoming_vif NoRow = refl
 
--- ---- what is told
+-- ---- causes
 
 no_float-cause_data : (d : DomainFacts) (summary : List SummaryValue) (number : ℕ) (f : Flow) (causes : Cause)
     → HaveNoFloat (cause_data d summary number f causes)
@@ -155,7 +155,7 @@ no_float-finding_data t (Loop lan) = refl
 no_float-finding_data t (Stray router vif) = refl
 no_float-finding_data t (Missed lan) = refl
 
--- of the events that are told
+-- the events, if they are written
 abbrev pub EventsHaveNoFloat : Option (List Data) → Type 0
 EventsHaveNoFloat None = Unit {0}
 EventsHaveNoFloat (Some es) = HaveNoFloat es
@@ -188,7 +188,7 @@ no_float-wrong_flow_of number f t found_ttl finding events also why events_asked
     (finding_data t finding) found_ttl why (no_float-lans t also) (no_float-events_if_asked t events_asked events)
     (no_float-finding_data t finding) because
 
--- ---- behind the flows
+-- ---- after the flows
 
 pub no_float-routers : (t : TopologyValue) (routers : List ℕ) → HaveNoFloat (map (router_data t) routers)
 no_float-routers t routers = no_float-map (router_data t) (λ router. refl) routers

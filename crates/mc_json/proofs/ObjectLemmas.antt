@@ -1,4 +1,4 @@
--- Lines that are objects, none of which is the verdict: one, and several one after the other.
+-- Lines that are objects other than the verdict: one, and a sequence of them.
 use Rattle.std.proofs.Common.{◌≡◌, ◌==◌, ℕ, false, List, [], ◌∷◌, ◌++◌, drop, take, flat_map, inl, inr}
 use Rattle.std.proofs.Common.{codes, refl, ap, ap₂, sym, subst, ◌∙◌, append-nil, take-append-drop}
 use Rattle.std.specs.Prelude.{slice_index_or}

@@ -1,4 +1,4 @@
--- No value that is told of a search, or of why a flow isn't right, has a fraction.
+-- No value of a search, or of why a flow isn't right, has a fraction.
 use Rattle.std.proofs.Common.{◌≡◌, ℕ, false, List, [], ◌∷◌, Option, Some, None, refl}
 use Rattle.mc_tables.specs.Summary.{SummaryValue}
 use Rattle.mc_topology.specs.Topology.{TopologyValue}

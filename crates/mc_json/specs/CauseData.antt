@@ -1,4 +1,4 @@
--- What is told of a fault in JSON, by the names of the topology and of the vif tables.
+-- The causes of a fault as JSON values, with the names of the topology and of the vif tables.
 use Rattle.std.specs.Prelude.{ℕ, List, [], ◌∷◌, Option, Some, None, if◌then◌else◌, codes, flat_map}
 use Rattle.std.specs.Str.{bytes_eq}
 use Rattle.mc_tables.specs.Summary.{SummaryValue}
@@ -22,7 +22,7 @@ lan_data t lan = string (lan_name t lan)
 abbrev pub router_data : TopologyValue → (router : ℕ) → Data
 router_data t router = string (router_name t router)
 
--- ---- the vif that a row takes from
+-- ---- the incoming vif of a row
 
 abbrev pub incoming_device : DomainFacts → (router : ℕ) → Row → Data
 incoming_device d router (Exact incoming pairs) = device_data d router incoming
@@ -34,7 +34,7 @@ incoming_vif (Exact incoming pairs) = count_data incoming
 incoming_vif Open = null
 incoming_vif NoRow = null
 
--- ---- lines
+-- ---- causes
 
 -- why a vif is placed on no LAN, the first of these that holds
 abbrev pub unplaced_kind : Option VifValue → List ℕ
@@ -66,7 +66,7 @@ circle_data d f row from onto router vif = object_data (
     ∷ (codes "to_lan", lan_data d.topology onto)
     ∷ (codes "to_vif", count_data vif) ∷ [])
 
--- with the least TTL by which the LAN is reached without it, and the flow's
+-- with the least TTL that reaches the LAN without the vif, and the flow's TTL
 abbrev pub take_out_data : DomainFacts → Flow → (lan router vif least : ℕ) → Data
 take_out_data d f lan router vif least = object_data (
     (codes "device", device_data d router vif)
@@ -77,7 +77,7 @@ take_out_data d f lan router vif least = object_data (
     ∷ (codes "ttl", count_data f.ttl)
     ∷ (codes "vif", count_data vif) ∷ [])
 
--- a vif that is placed on no LAN, and behind it the row that sends by it
+-- a vif that is placed on no LAN; the row that sends by it follows
 abbrev pub unplaced_data : DomainFacts → (router vif : ℕ) → Data
 unplaced_data d router vif = object_data (
     (codes "device", device_data d router vif)
@@ -90,7 +90,7 @@ row_only_data d f row router = object_data (
     (codes "kind", string (codes "row"))
     ∷ (codes "row", row_data d f router row) ∷ [])
 
--- by what is noted of the routers' caches
+-- with the row from the summary of the router's cache
 abbrev pub only_every_source_data : DomainFacts → List SummaryValue → Flow → (router vif : ℕ) → Data
 only_every_source_data d summary f router vif = object_data (
     (codes "device", device_data d router vif)
@@ -115,7 +115,7 @@ stopped_at_data d router vif threshold ttl = object_data (
     ∷ (codes "ttl", count_data ttl)
     ∷ (codes "vif", count_data vif) ∷ [])
 
--- one thing that is told of a flow, with its number
+-- the values of one cause, of the flow with this number
 abbrev pub cause_data : DomainFacts → List SummaryValue → (number : ℕ) → Flow → Cause → List Data
 cause_data d summary number f (SentOnto lan router vif) =
     sent_onto_data d f ((d.nets number).row router) lan router vif ∷ []
@@ -131,6 +131,6 @@ cause_data d summary number f (OnlyEverySource router vif) =
 cause_data d summary number f (StoppedAt router vif threshold ttl) =
     stopped_at_data d router vif threshold ttl ∷ []
 
--- all that is told of a flow, in order
+-- the values of all causes, in order
 abbrev pub causes_data : DomainFacts → List SummaryValue → (number : ℕ) → Flow → List Cause → List Data
 causes_data d summary number f causes = flat_map (cause_data d summary number f) causes

@@ -1,4 +1,4 @@
--- What an audit tells first in JSON: the domain that was read, and by which words.
+-- The first line in JSON: the domain that was read, and the words of the command line.
 use Rattle.std.specs.Prelude.{ℕ, List, [], ◌∷◌, ◌++◌, length, map, flat_map, Option, Some, None, codes}
 use Rattle.mc_text.specs.Addr.{dotted}
 use Rattle.mc_tables.specs.VifTable.{VifValue}
@@ -25,7 +25,7 @@ abbrev pub lan_or_null : TopologyValue → Option ℕ → Data
 lan_or_null t None = null
 lan_or_null t (Some lan) = lan_data t lan
 
--- a vif, if the table has a line for it, with the LAN that it is placed on, for whichever flow
+-- a vif, if the table has a line for it, with the LAN that it is placed on, which is the same for each flow
 abbrev pub vif_data : DomainFacts → (router vif : ℕ) → Option VifValue → List Data
 vif_data d router vif None = []
 vif_data d router vif (Some v) =
@@ -43,7 +43,7 @@ unmatched_data_of (Some vif) t i = []
 abbrev pub unmatched_data : DomainFacts → InterfaceRow → List Data
 unmatched_data d i = unmatched_data_of (vif_of_device d i.router i.device) d.topology i
 
--- all vifs by router and number, then those interfaces in the topology's order
+-- all vifs by router and number, then the unmatched interfaces in the topology's order
 abbrev pub interfaces_data : DomainFacts → List Data
 interfaces_data d =
     flat_map (vifs_data d) (below (length d.topology.routers))
@@ -62,7 +62,7 @@ parts_data d = object_data (
     ∷ (codes "routers", list_data (map (router_data d.topology) (below (length d.topology.routers))))
     ∷ (codes "sources", list_data (map (source_data d.topology) d.topology.sources)) ∷ [])
 
--- and with the words of the call, each behind the other
+-- with the words of the command line, in order
 abbrev pub domain_data : DomainFacts → List (List ℕ) → Data
 domain_data d words = object_data (
     (codes "domain", parts_data d)

@@ -1,4 +1,4 @@
--- What is told behind the flows in JSON: a line each.
+-- The lines after the flows in JSON.
 use Rattle.std.specs.Prelude.{ℕ, ◌+◌, ◌==◌, Bool, List, [], ◌∷◌, ◌++◌, flat_map, map}
 use Rattle.std.specs.Prelude.{if◌then◌else◌, codes}
 use Rattle.mc_tables.specs.Summary.{SummaryValue}
@@ -18,22 +18,22 @@ routers_data t routers = list_data (map (router_data t) routers)
 abbrev pub single_member : (key : List ℕ) → Data → Data
 single_member key d = object_data ((key, d) ∷ [])
 
--- a source and a group that aren't listed, and the routers that have a row of them
+-- an unlisted source and group, and the routers that have a row of them
 abbrev pub unlisted_data : TopologyValue → (source group : ℕ) → List ℕ → Data
 unlisted_data t source group routers = single_member (codes "unlisted") (object_data (
     (codes "group", string (dotted group))
     ∷ (codes "routers", routers_data t routers)
     ∷ (codes "source", string (dotted source)) ∷ []))
 
--- how many further rows aren't listed
+-- how many further unlisted rows there are
 abbrev pub unlisted_more_data : (rows : ℕ) → Data
 unlisted_more_data rows = single_member (codes "unlisted_more") (single_member (codes "rows") (count_data rows))
 
--- a line for each pair of a group and a source that is shown, with all routers that have a row of it
+-- the line of a shown pair of a group and a source, with all routers that have a row of it
 abbrev pub unlisted_line : TopologyValue → (pair : (ℕ × ℕ) × List ℕ) → List ℕ
 unlisted_line t pair = line_of (unlisted_data t pair.0.1 pair.0.0 pair.1)
 
--- and one for the further rows, nothing where there are none
+-- the line that counts the further rows, nothing if there are none
 abbrev pub unlisted_more_line : (rows : ℕ) → List ℕ
 unlisted_more_line rows = if rows == 0 then [] else line_of (unlisted_more_data rows)
 
@@ -42,11 +42,11 @@ unlisted_lines all t summary =
     flat_map (unlisted_line t) (map (with_routers t summary) (shown_unlisted_pairs all summary))
     ++ unlisted_more_line (further_rows all t summary)
 
--- the routers that were left out
+-- the excluded routers
 abbrev pub without_data : TopologyValue → List ℕ → Data
 without_data t routers = single_member (codes "without") (routers_data t routers)
 
--- as a line, nothing where there are none
+-- as a line, nothing if there are none
 abbrev pub without_line_of : TopologyValue → List ℕ → List ℕ
 without_line_of t [] = []
 without_line_of t (router ∷ routers) = line_of (without_data t (router ∷ routers))
@@ -55,7 +55,7 @@ without_line_of t (router ∷ routers) = line_of (without_data t (router ∷ rou
 abbrev pub without_line : TopologyValue → (excluded : List Bool) → List ℕ
 without_line t excluded = without_line_of t (excluded_routers t excluded)
 
--- how many flows there are, and how many of them are right, wanted by nobody, and not right
+-- how many flows there are, how many are right, how many of these no LAN wants, and how many aren't right
 abbrev pub summary_data : (right unwanted wrong : ℕ) → Data
 summary_data right unwanted wrong = single_member (codes "summary") (object_data (
     (codes "flows", count_data (right + wrong))

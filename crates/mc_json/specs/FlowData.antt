@@ -1,4 +1,4 @@
--- What is told of a flow, and of the way of a right one, in JSON: a line each.
+-- The line of a flow, and of the tree of a right one, in JSON.
 use Rattle.std.specs.Prelude.{ℕ, ◌+◌, Bool, true, false, List, [], ◌∷◌, ◌++◌, map, Option, Some, None}
 use Rattle.std.specs.Prelude.{if◌then◌else◌, codes}
 use Rattle.mc_text.specs.Addr.{dotted}
@@ -18,9 +18,19 @@ use Rattle.serde_json.specs.Data.{Data, null, boolean, string}
 use Rattle.mc_json.specs.RowData.{count_data, line_of, list_data, object_data}
 use Rattle.mc_json.specs.CauseData.{lan_data, router_data}
 
--- ---- ways
+-- ---- any flow
 
--- the router and the vif that send onto a LAN; the source's own has none
+-- the flow with this number, which counts from 0
+abbrev pub flow_members : (number : ℕ) → Flow → List (List ℕ × Data)
+flow_members number f =
+    (codes "flow", count_data (number + 1))
+    ∷ (codes "group", string (dotted f.group))
+    ∷ (codes "source", string (dotted f.source))
+    ∷ (codes "ttl", count_data f.ttl) ∷ []
+
+-- ---- trees
+
+-- the router and the vif that send onto a LAN, null for the source's own
 abbrev pub sender_router : TopologyValue → Option Interface → Data
 sender_router t None = null
 sender_router t (Some i) = router_data t i.0
@@ -37,7 +47,7 @@ reached_data t e = object_data (
     ∷ (codes "router", sender_router t e.forwarder)
     ∷ (codes "vif", sender_vif e.forwarder) ∷ [])
 
--- a way with its number
+-- a tree with its number
 abbrev pub tree_data : TopologyValue → List Entry → (tree : ℕ) → Data
 tree_data t es tree = object_data (
     (codes "entries", list_data (map (reached_data t) es))
@@ -45,13 +55,13 @@ tree_data t es tree = object_data (
 
 -- ---- a right flow
 
--- that it is right, where the whole domain is known; else that can't be told
+-- that it is right, if the whole domain is known, or else null
 abbrev pub right_mark : (whole : Bool) → Data
 right_mark true = boolean true
 right_mark false = null
 
--- the flow with this number, from 0: on how many LANs a packet has a copy, by the way with which
--- number, and which LANs want it
+-- the flow with this number, from 0: how many LANs carry a copy of its packet, the number of its tree,
+-- and which LANs want it
 abbrev pub right_data : (whole : Bool) → (number : ℕ) → Flow → (copies tree : ℕ)
     → (wanted : List Data) → Data
 right_data whole number f copies tree wanted = object_data (
@@ -83,7 +93,7 @@ finding_data t (Stray router vif) = object_data (
     ∷ (codes "vif", count_data vif) ∷ [])
 finding_data t (Missed lan) = finding_at_lan t (codes "Missed") lan
 
--- a handling that sent no copies
+-- an event that sent no copies
 abbrev pub event_without_copies_data : TopologyValue → Event → (outcome : List ℕ) → Data
 event_without_copies_data t e outcome = object_data (
     (codes "outcome", string outcome)
@@ -106,8 +116,19 @@ outcome_data t e (Sent copies strays) = object_data (
 abbrev pub event_data : TopologyValue → Event → Data
 event_data t e = outcome_data t e e.outcome
 
--- What is told of a flow that isn't right: what was found at which TTL, the LANs that were missed
--- besides, the travel's events where they are asked for, and why it is so.
+-- the members that each flow has that isn't right, by the TTL of its finding
+abbrev pub each_wrong_members : (number : ℕ) → Flow → (found_ttl : ℕ) → (why : List Data) → List (List ℕ × Data)
+each_wrong_members number f found_ttl why =
+    (codes "flow", count_data (number + 1))
+    ∷ (codes "found_ttl", count_data found_ttl)
+    ∷ (codes "group", string (dotted f.group))
+    ∷ (codes "right", boolean false)
+    ∷ (codes "source", string (dotted f.source))
+    ∷ (codes "ttl", count_data f.ttl)
+    ∷ (codes "why", list_data why) ∷ []
+
+-- A flow that isn't right: the finding and its TTL, the LANs that were also missed, the travel's events
+-- if they are asked for, and the causes.
 pub record WrongFlow : Type 0 where
   pub also : List Data
   pub events : Option (List Data)
@@ -123,23 +144,16 @@ abbrev pub wrong_members : (number : ℕ) → Flow → WrongFlow → List (List 
 wrong_members number f w =
     (codes "also", list_data w.also)
     ∷ (events_member w.events
-    ++ ((codes "finding", w.finding)
-    ∷ (codes "flow", count_data (number + 1))
-    ∷ (codes "found_ttl", count_data w.found_ttl)
-    ∷ (codes "group", string (dotted f.group))
-    ∷ (codes "right", boolean false)
-    ∷ (codes "source", string (dotted f.source))
-    ∷ (codes "ttl", count_data f.ttl)
-    ∷ (codes "why", list_data w.why) ∷ []))
+    ++ ((codes "finding", w.finding) ∷ each_wrong_members number f w.found_ttl w.why))
 
 abbrev pub wrong_data : (number : ℕ) → Flow → WrongFlow → Data
 wrong_data number f w = object_data (wrong_members number f w)
 
--- the events of a travel, where they are asked for
+-- the events of a travel, if they are asked for
 abbrev pub events_if_asked : TopologyValue → (events_asked : Bool) → List Event → Option (List Data)
 events_if_asked t events_asked es = if events_asked then Some (map (event_data t) es) else None
 
--- of a travel that found it, by its events and by the LANs that it missed besides
+-- by a travel's finding, its events and the LANs that it also missed
 abbrev pub wrong_flow_of : TopologyValue → (found_ttl : ℕ) → Finding → List Event → (also : List ℕ)
     → (why : List Data) → (events_asked : Bool) → WrongFlow
 wrong_flow_of t found_ttl finding events also why events_asked = record {
@@ -150,16 +164,27 @@ wrong_flow_of t found_ttl finding events also why events_asked = record {
   why = why;
 }
 
--- and as a line
+-- the line of a flow that isn't right
 abbrev pub wrong_line : DomainFacts → (number : ℕ) → Flow → (found_ttl : ℕ) → Finding → List Event
     → (also : List ℕ) → (why : List Data) → (events_asked : Bool) → List ℕ
 wrong_line d number f found_ttl finding events also why events_asked =
     line_of (wrong_data number f (wrong_flow_of d.topology found_ttl finding events also why events_asked))
 
--- of the flow and the travel that ended so
+-- the LANs that a finished travel missed besides the one of its finding
+abbrev pub also_missed_by : FinishedTravel → List ℕ
+also_missed_by e =
+    missed_besides (facts e.flight.domain) e.flight.flow e.flight.flight.carried e.travel.finding
+
+-- by the finished travel that shows it
+abbrev pub wrong_flow_of_travel : FinishedTravel → (found_ttl : ℕ) → (why : List Data) → (events_asked : Bool)
+    → WrongFlow
+wrong_flow_of_travel e found_ttl why events_asked =
+    wrong_flow_of e.flight.domain.topology found_ttl e.travel.finding e.travel.events.items (also_missed_by e) why
+    events_asked
+
+-- the same, by the finished travel that shows it
 abbrev pub wrong_line_of_travel : (number : ℕ) → Flow → FinishedTravel → (found_ttl : ℕ) → (why : List Data)
     → (events_asked : Bool) → List ℕ
 wrong_line_of_travel number f e found_ttl why events_asked =
     wrong_line (facts e.flight.domain) number f found_ttl e.travel.finding e.travel.events.items
-    (missed_besides (facts e.flight.domain) e.flight.flow e.flight.flight.carried e.travel.finding)
-    why events_asked
+    (also_missed_by e) why events_asked

@@ -6,6 +6,9 @@ pub mod SearchData
 pub mod WhyData
 pub mod DomainData
 pub mod ObjectLines
+pub mod ContextData
+pub mod WrongLine
+pub use Rattle.mc_explain.specs.ExplanationText
 pub use Rattle.serde_json.specs.Data
 pub use Rattle.serde_json.specs.View
 pub use Rattle.serde_json.specs.Written

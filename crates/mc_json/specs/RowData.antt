@@ -1,4 +1,5 @@
--- Values and lines in JSON, and a router's devices and rows, by the names of the topology and of the vif tables.
+-- JSON values and lines, and the devices and rows of routers, with the names of the topology and of the
+-- vif tables.
 use Rattle.std.specs.Prelude.{ℕ, List, [], ◌∷◌, ◌++◌, map, Option, Some, None, codes}
 use Rattle.mc_tables.specs.CacheTable.{EntryValue}
 use Rattle.mc_tables.specs.Summary.{SummaryValue}
@@ -24,7 +25,7 @@ count_data n = number (unsigned n)
 abbrev pub list_data : List Data → Data
 list_data items = array (items_of items)
 
--- an object's members, of which the keys come ascending
+-- an object's members, in ascending order of keys
 abbrev pub members : List (List ℕ × Data) → Members
 members [] = no_members
 members (m ∷ ms) = member m.0 m.1 (members ms)
@@ -38,7 +39,7 @@ line_of d = compact_text d ++ codes "\n"
 
 -- ---- devices
 
--- the name of a vif's device, null where the vif table has no line for it
+-- the name of a vif's device, null if the vif table has no line for it
 abbrev pub device_data_of : Option VifValue → Data
 device_data_of None = null
 device_data_of (Some v) = string (device_name_text v.device)
@@ -55,13 +56,13 @@ oif_data d router p = object_data (
     ∷ (codes "threshold", count_data p.1)
     ∷ (codes "vif", count_data p.0) ∷ [])
 
--- the vif that a row takes from
+-- the incoming vif of a row
 abbrev pub incoming_data : DomainFacts → (router incoming : ℕ) → Data
 incoming_data d router incoming = object_data (
     (codes "device", device_data d router incoming)
     ∷ (codes "vif", count_data incoming) ∷ [])
 
--- a row; its source or group 0.0.0.0 stands for every one, and is told as `*`
+-- a row; the source or group 0.0.0.0 means every one, and is written `*`
 abbrev pub entry_data : DomainFacts → (router source group incoming : ℕ) → List (ℕ × ℕ) → Data
 entry_data d router source group incoming pairs = object_data (
     (codes "from", incoming_data d router incoming)
@@ -77,7 +78,7 @@ row_data d f router (Exact incoming pairs) =
 row_data d f router Open = null
 row_data d f router NoRow = null
 
--- a router's row for every source, by what is noted of its cache
+-- a router's row for every source, as the summary of its cache has it
 abbrev pub every_source_row_data : DomainFacts → (router : ℕ) → Option (ℕ × EntryValue) → Data
 every_source_row_data d router None = null
 every_source_row_data d router (Some row) =

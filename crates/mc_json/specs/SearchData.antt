@@ -1,4 +1,4 @@
--- What is told of a search for a missed LAN in JSON, by the names of the topology and of the vif tables.
+-- The search for a missed LAN as JSON values, with the names of the topology and of the vif tables.
 use Rattle.std.specs.Prelude.{ℕ, Bool, List, [], ◌∷◌, ◌++◌, map, Option, Some, None, if◌then◌else◌, codes}
 use Rattle.std.specs.Str.{bytes_eq}
 use Rattle.mc_tables.specs.Summary.{SummaryValue}
@@ -27,7 +27,7 @@ use Rattle.mc_json.specs.EndData.{routers_data}
 
 -- ---- the parts of a line
 
--- what is told of a LAN alone, and of a router on it
+-- a line about a LAN, and one about a router on it
 abbrev pub kind_and_lan : TopologyValue → (kind : List ℕ) → (lan : ℕ) → Data
 kind_and_lan t kind lan = object_data (
     (codes "kind", string kind) ∷ (codes "lan", lan_data t lan) ∷ [])
@@ -38,7 +38,7 @@ kind_lan_router t kind lan router = object_data (
     ∷ (codes "lan", lan_data t lan)
     ∷ (codes "router", router_data t router) ∷ [])
 
--- of a device that the topology has on the LAN
+-- a line about a device that the topology has on the LAN
 abbrev pub kind_lan_router_device : TopologyValue → (kind : List ℕ) → (lan router interface : ℕ) → Data
 kind_lan_router_device t kind lan router interface = object_data (
     (codes "device", string (device_name_text (interface_at t interface).device))
@@ -46,7 +46,7 @@ kind_lan_router_device t kind lan router interface = object_data (
     ∷ (codes "lan", lan_data t lan)
     ∷ (codes "router", router_data t router) ∷ [])
 
--- why the vif that a row takes from is placed on no LAN, the first of these that holds
+-- why the incoming vif of a row is placed on no LAN: the first of these that holds
 abbrev pub incoming_kind_of : Option VifValue → List ℕ
 incoming_kind_of None = codes "from_no_vif_line"
 incoming_kind_of (Some v) =
@@ -55,7 +55,7 @@ incoming_kind_of (Some v) =
     else if bytes_eq v.device no_device then codes "from_no_device"
     else codes "from_no_lan"
 
--- a router that has no row of the flow takes from no vif
+-- empty for a router without a row of the flow's source and group
 abbrev pub incoming_kind : DomainFacts → (router : ℕ) → Row → List ℕ
 incoming_kind d router (Exact incoming pairs) = incoming_kind_of (d.vifs router incoming)
 incoming_kind d router Open = []
@@ -120,7 +120,7 @@ expected_line t lan routers = object_data (
     ∷ (codes "lan", lan_data t lan)
     ∷ (codes "routers", routers_data t routers) ∷ [])
 
--- a line, by the routers' rows for a flow, with its number, and by what is noted of their caches
+-- a line, by the routers' rows for the flow with this number and by the summaries of their caches
 abbrev pub search_line_data : DomainFacts → List SummaryValue → (number : ℕ) → Flow → SearchLine → Data
 search_line_data d summary number f (NoVif lan router interface) =
     kind_lan_router_device d.topology (codes "no_vif") lan router interface
@@ -146,19 +146,19 @@ search_line_data d summary number f (NoSender lan) = kind_and_lan d.topology (co
 search_line_data d summary number f (Excluded lan router) =
     kind_lan_router d.topology (codes "left_out") lan router
 
--- routers that expect a copy from one LAN stand together
+-- routers that expect copies from the same LAN share a line
 abbrev pub shown_line_data : DomainFacts → List SummaryValue → (number : ℕ) → Flow → ShownLine → Data
 shown_line_data d summary number f (One line) = search_line_data d summary number f line
 shown_line_data d summary number f (Expected lan routers) = expected_line d.topology lan routers
 
 -- ---- the search
 
--- which routers sent copies on, or took none
+-- the routers that sent copies on, or that took none
 abbrev pub reach_line : TopologyValue → (kind : List ℕ) → List ℕ → Data
 reach_line t kind routers = object_data (
     (codes "kind", string kind) ∷ (codes "routers", routers_data t routers) ∷ [])
 
--- what it comes to, and its lines
+-- how far the packet came, and the lines
 unfoldable pub search_data : DomainFacts → List SummaryValue → (number : ℕ) → Flow → List SearchLine
     → (sent_on took_none : List ℕ) → List Data
 search_data d summary number f lines sent_on took_none =

@@ -1,4 +1,4 @@
--- Why a flow isn't right, in JSON: what is told of it, and the search for a LAN that was missed.
+-- Why a flow isn't right, in JSON: the causes, and the search for a LAN that was missed.
 use Rattle.std.specs.Prelude.{ℕ, List, [], ◌++◌, Option, Some, None}
 use Rattle.mc_tables.specs.Summary.{SummaryValue}
 use Rattle.mc_topology.specs.declared.flow.Flow.{Flow}
@@ -9,7 +9,7 @@ use Rattle.serde_json.specs.Data.{Data}
 use Rattle.mc_json.specs.SearchData.{search_data}
 use Rattle.mc_json.specs.CauseData.{causes_data}
 
--- nothing where there was no search
+-- nothing if there was no search
 abbrev pub search_data_if_any : DomainFacts → List SummaryValue → (number : ℕ) → Flow → Option LanSearch
     → List Data
 search_data_if_any d summary number f None = []
@@ -17,7 +17,7 @@ search_data_if_any d summary number f (Some found) =
     search_data d summary number f found.lines.items found.reach.sent_on.items
     found.reach.took_none.items
 
--- of the flow with this number, by what is noted of the routers' caches
+-- for the flow with this number, by the summaries of the routers' caches
 abbrev pub why_data : DomainFacts → List SummaryValue → (number : ℕ) → Flow → List Cause
     → Option LanSearch → List Data
 why_data d summary number f causes search =

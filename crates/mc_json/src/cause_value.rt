@@ -1,4 +1,4 @@
-//! What is told of a flow's fault as JSON, line by line.
+//! The causes of a flow's fault as JSON values.
 
 ghost use Rattle.std.specs.Prelude.{◌≡◌, ◌++◌, IfOk, OnOk, Some, map};
 ghost use Rattle.serde_json.specs.View.{view as data_of};
@@ -6,10 +6,10 @@ ghost use Rattle.mc_forward.specs.Domains.{vif_of};
 ghost use Rattle.mc_forward.specs.FlightsInDomain.{net_in};
 ghost use Rattle.mc_forward.specs.ListedTables.{facts};
 ghost use Rattle.mc_explain.specs.declared.causes.Cause.TheVariants.{Unplaced};
-ghost use Rattle.mc_json.specs.CauseData.{causes_data, circle_data, incoming_device, incoming_vif};
-ghost use Rattle.mc_json.specs.CauseData.{least_ttl_data, only_every_source_data, row_only_data};
-ghost use Rattle.mc_json.specs.CauseData.{sent_onto_data, stopped_at_data, take_out_data, cause_data};
-ghost use Rattle.mc_json.specs.CauseData.{unplaced_data, unplaced_kind};
+ghost use Rattle.mc_json.specs.CauseData.{circle_data, incoming_device, incoming_vif, least_ttl_data};
+ghost use Rattle.mc_json.specs.CauseData.{only_every_source_data, row_only_data, sent_onto_data};
+ghost use Rattle.mc_json.specs.CauseData.{stopped_at_data, take_out_data, unplaced_data, unplaced_kind};
+ghost use Rattle.mc_json.specs.ContextData.{cause_data_in, causes_data_in};
 
 use crate::device_value::{NO_DEVICE, device_value};
 use crate::fields::Fields;
@@ -22,7 +22,7 @@ use mc_topology::{LanNo, RouterNo};
 use serde_json::Value;
 use std::alloc::{AllocError, Global};
 
-/// The vif that a router's row for a flow takes from. Null where it has no row of the flow.
+/// The incoming vif of a router's row for a flow, or null if it has no row of the flow's source and group.
 pub(crate) fn incoming_vif(view: &FlowView<'_>, router: RouterNo) -> Value
     ensures { data_of result ≡ incoming_vif ((net_in view.now).row router) }
 {
@@ -32,7 +32,7 @@ pub(crate) fn incoming_vif(view: &FlowView<'_>, router: RouterNo) -> Value
     }
 }
 
-/// The device of that vif. Null where there is none, too.
+/// The device of that vif, or null if there is none.
 pub(crate) fn incoming_device(
     alloc: Global,
     view: &FlowView<'_>,
@@ -47,7 +47,7 @@ pub(crate) fn incoming_device(
     }
 }
 
-/// Who sent a copy onto a LAN.
+/// A `SentOnto` cause: the router and the vif that sent a copy onto a LAN.
 fn sent_onto_value(
     alloc: Global,
     context: &LineContext<'_>,
@@ -69,7 +69,7 @@ fn sent_onto_value(
         .object()
 }
 
-/// Which row of a circle takes copies from a LAN and sends them onto the next.
+/// A `Circle` cause: a row that takes copies from one LAN of a circle and sends them onto the next.
 fn circle_value(
     alloc: Global,
     context: &LineContext<'_>,
@@ -95,7 +95,7 @@ fn circle_value(
         .object()
 }
 
-/// What may be taken out.
+/// A `TakeOut` cause: the vif to take out of its router's row.
 fn take_out_value(
     alloc: Global,
     context: &LineContext<'_>,
@@ -120,7 +120,7 @@ fn take_out_value(
         .object()
 }
 
-/// Why a vif of a table is placed on no LAN.
+/// Why a vif with a line in its router's table is placed on no LAN.
 fn unplaced_vif_kind(vif: &Vif) -> &'static str
     ensures { result.now ≡ unplaced_kind (Some vif.now) }
 {
@@ -145,7 +145,7 @@ fn unplaced_kind(view: &FlowView<'_>, router: RouterNo, vif: u8) -> &'static str
     }
 }
 
-/// A vif that a copy was sent by, and why it is placed on no LAN.
+/// A vif by which a copy was sent, and why it is placed on no LAN.
 fn unplaced_value(
     alloc: Global,
     view: &FlowView<'_>,
@@ -178,7 +178,7 @@ fn row_only_value(
         .object()
 }
 
-/// With which TTL a LAN is reached.
+/// A `LeastTtl` cause: the least TTL with which packets reach a LAN.
 fn least_ttl_value(
     alloc: Global,
     context: &LineContext<'_>,
@@ -197,7 +197,7 @@ fn least_ttl_value(
         .object()
 }
 
-/// By which row for every source a copy was met.
+/// An `OnlyEverySource` cause: the row for every source of the router at which a copy arrived.
 fn only_every_source_value(
     alloc: Global,
     context: &LineContext<'_>,
@@ -225,7 +225,7 @@ fn only_every_source_value(
         .object()
 }
 
-/// Where the flow's packet was stopped.
+/// A `StoppedAt` cause: the vif whose threshold stopped the flow's packet.
 fn stopped_at_value(
     alloc: Global,
     view: &FlowView<'_>,
@@ -247,7 +247,7 @@ fn stopped_at_value(
         .object()
 }
 
-/// Tells of a vif that a copy was sent by, and of the row that sent it.
+/// Adds an `Unplaced` cause: the vif by which a copy was sent, and the row that sent it.
 fn push_unplaced_values(
     alloc: Global,
     values: &mut Vec<Value>,
@@ -256,15 +256,14 @@ fn push_unplaced_values(
     vif: u8,
 ) -> Result<(), AllocError>
     ensures { OnOk result (map data_of values.new.items ≡ map data_of values.old.items
-        ++ cause_data (facts context.now.view.now.domain) context.now.summary.now context.now.view.now.flow
-        context.now.flow.now (Unplaced router vif)) }
+        ++ cause_data_in context.now (Unplaced router vif)) }
 {
     values.push(unplaced_value(alloc, context.view, router, vif)?)?;
     values.push(row_only_value(alloc, context, router)?)?;
     Ok(())
 }
 
-/// Tells one thing.
+/// Adds the values of one cause.
 fn push_cause(
     alloc: Global,
     values: &mut Vec<Value>,
@@ -272,8 +271,7 @@ fn push_cause(
     cause: Cause,
 ) -> Result<(), AllocError>
     ensures { OnOk result (map data_of values.new.items ≡ map data_of values.old.items
-        ++ cause_data (facts context.now.view.now.domain) context.now.summary.now context.now.view.now.flow
-        context.now.flow.now cause) }
+        ++ cause_data_in context.now cause) }
 {
     let view = context.view;
     let line = match cause {
@@ -308,7 +306,7 @@ fn push_cause(
     Ok(())
 }
 
-/// Tells all of a flow, in order.
+/// Adds the values of a flow's causes, in order.
 pub(crate) fn push_causes(
     alloc: Global,
     values: &mut Vec<Value>,
@@ -316,8 +314,7 @@ pub(crate) fn push_causes(
     causes: &[Cause],
 ) -> Result<(), AllocError>
     ensures { OnOk result (map data_of values.new.items ≡ map data_of values.old.items
-        ++ causes_data (facts context.now.view.now.domain) context.now.summary.now context.now.view.now.flow
-        context.now.flow.now causes.now) }
+        ++ causes_data_in context.now causes.now) }
 {
     for line in causes {
         push_cause(alloc, values, context, *line)?;

@@ -13,10 +13,10 @@ use mc_topology::RouterNo;
 use serde_json::Value;
 use std::alloc::{AllocError, Global};
 
-/// The kernel's word for a vif without a device.
+/// The device name that the kernel prints for a vif without a device.
 pub(crate) const NO_DEVICE: &[u8] = b"none";
 
-/// A device's name, as `eth1`.
+/// A device's name, such as `eth1`, with its unprintable bytes escaped.
 pub(crate) fn device_name(alloc: Global, name: &[u8]) -> Result<String, AllocError>
     ensures { IfOk result (λ text. string_bytes text ≡ device_name_text name.now) }
 {
@@ -24,7 +24,7 @@ pub(crate) fn device_name(alloc: Global, name: &[u8]) -> Result<String, AllocErr
     format!(in alloc; "{name}")
 }
 
-/// The device of a router's vif, or null where its table has no line for it.
+/// The device of a router's vif, or null if its table has no line for it.
 pub(crate) fn device_value(
     alloc: Global,
     view: &FlowView<'_>,

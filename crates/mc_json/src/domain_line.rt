@@ -1,4 +1,4 @@
-//! The first line: the domain that was read, and by which words.
+//! The first line: the domain that was read, and the words of the command line.
 
 ghost use Rattle.std.specs.Prelude.{◌≡◌, ◌<◌, ◌++◌, IfOk, OnOk, flat_map, length, map};
 ghost use Rattle.std.specs.String.{string_bytes};
@@ -53,7 +53,7 @@ fn interface_value(
         .object()
 }
 
-/// Tells a vif, if its table has a line for it.
+/// Adds a vif, if its router's table has a line for it.
 fn push_vif(
     alloc: Global,
     values: &mut Vec<Value>,
@@ -76,7 +76,7 @@ fn push_vif(
     Ok(())
 }
 
-/// Tells the vifs of a router.
+/// Adds the vifs of a router.
 fn push_vifs(
     alloc: Global,
     values: &mut Vec<Value>,
@@ -93,7 +93,7 @@ fn push_vifs(
     Ok(())
 }
 
-/// Tells the vifs of all routers.
+/// Adds the vifs of all routers.
 fn push_all_vifs(alloc: Global, values: &mut Vec<Value>, domain: &Domain) -> Result<(), AllocError>
     ensures { OnOk result (map data_of values.new.items ≡ map data_of values.old.items
         ++ flat_map (vifs_data (facts domain.now)) (below (length domain.now.topology.routers))) }
@@ -104,7 +104,7 @@ fn push_all_vifs(alloc: Global, values: &mut Vec<Value>, domain: &Domain) -> Res
     Ok(())
 }
 
-/// Tells an interface of the topology, if its router has no vif of its device.
+/// Adds an interface of the topology, if its router has no vif of its device.
 fn push_interface(
     alloc: Global,
     values: &mut Vec<Value>,
@@ -131,7 +131,7 @@ fn push_interface(
     Ok(())
 }
 
-/// Tells those of all interfaces of the topology.
+/// Adds all interfaces of the topology whose routers have no vif of their devices.
 fn push_unmatched(alloc: Global, values: &mut Vec<Value>, domain: &Domain) -> Result<(), AllocError>
     ensures { OnOk result (map data_of values.new.items ≡ map data_of values.old.items
         ++ flat_map (unmatched_data (facts domain.now)) domain.now.topology.interfaces) }
@@ -153,7 +153,7 @@ fn interface_values(alloc: Global, domain: &Domain) -> Result<Vec<Value>, AllocE
     Ok(values)
 }
 
-/// All LANs.
+/// The numbers of all LANs.
 fn all_lans(alloc: Global, topology: &Topology) -> Result<Vec<LanNo>, AllocError>
     ensures { IfOk result (λ lans. lans.items ≡ below (length topology.now.lans)) }
 {
@@ -164,7 +164,7 @@ fn all_lans(alloc: Global, topology: &Topology) -> Result<Vec<LanNo>, AllocError
     Ok(lans)
 }
 
-/// All routers.
+/// The numbers of all routers.
 fn all_routers(alloc: Global, topology: &Topology) -> Result<Vec<RouterNo>, AllocError>
     ensures { IfOk result (λ routers. routers.items ≡ below (length topology.now.routers)) }
 {
@@ -216,7 +216,7 @@ fn source_values(alloc: Global, topology: &Topology) -> Result<Vec<Value>, Alloc
     Ok(values)
 }
 
-/// Words.
+/// Words as JSON strings.
 fn word_values(alloc: Global, words: &[String]) -> Result<Vec<Value>, AllocError>
     ensures { IfOk result (λ values. map data_of values.items
         ≡ map string (map string_bytes words.now)) }
@@ -228,7 +228,7 @@ fn word_values(alloc: Global, words: &[String]) -> Result<Vec<Value>, AllocError
     Ok(values)
 }
 
-/// The parts of a domain.
+/// A domain: its interfaces, LANs, routers and sources.
 fn parts_value(alloc: Global, domain: &Domain) -> Result<Value, AllocError>
     ensures { IfOk result (λ value. data_of value ≡ parts_data (facts domain.now)) }
 {
@@ -241,7 +241,7 @@ fn parts_value(alloc: Global, domain: &Domain) -> Result<Value, AllocError>
         .object()
 }
 
-/// The whole of the first line.
+/// The object of the first line.
 fn domain_value(alloc: Global, domain: &Domain, words: &[String]) -> Result<Value, AllocError>
     ensures { IfOk result (λ value. data_of value
         ≡ domain_data (facts domain.now) (map string_bytes words.now)) }
@@ -253,11 +253,11 @@ fn domain_value(alloc: Global, domain: &Domain, words: &[String]) -> Result<Valu
         .object()
 }
 
-/// Writes the first line: a domain, and the words of the call.
+/// Writes the first line: a domain, and the words of the command line.
 ///
 /// # Errors
 ///
-/// `Memory` where a growth was refused.
+/// `Memory` if an allocation fails.
 pub fn push_domain_line(
     alloc: Global,
     text: &mut String,

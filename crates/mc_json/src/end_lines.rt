@@ -1,5 +1,4 @@
-//! The lines behind the flows: what isn't listed, which routers were left out, how many flows are right,
-//! and the verdict.
+//! The lines after the flows: unlisted rows, excluded routers, how many flows are right, and the verdict.
 
 ghost use Rattle.std.specs.Prelude.{◌≡◌, ◌++◌, IfOk, OnOk, flat_map};
 ghost use Rattle.std.specs.String.{string_bytes};
@@ -21,7 +20,7 @@ use mc_topology::{RouterNo, Topology};
 use serde_json::Value;
 use std::alloc::{AllocError, Global};
 
-/// A group and a source that aren't listed, and the routers that have a row of them.
+/// An unlisted group and source, and the routers that have a row of them.
 fn unlisted_value(
     alloc: Global,
     topology: &Topology,
@@ -39,7 +38,7 @@ fn unlisted_value(
     Fields::new(alloc).value("unlisted", inner).object()
 }
 
-/// Writes their line.
+/// Writes the line of an unlisted pair.
 fn push_unlisted_line(
     alloc: Global,
     text: &mut String,
@@ -53,7 +52,7 @@ fn push_unlisted_line(
     push_line(alloc, text, &value)
 }
 
-/// Writes the lines of pairs that are shown.
+/// Writes the lines of the pairs that are shown.
 fn push_unlisted_pair_lines(
     alloc: Global,
     text: &mut String,
@@ -69,7 +68,7 @@ fn push_unlisted_pair_lines(
     Ok(())
 }
 
-/// Writes the line of the further rows, nothing where there are none.
+/// Writes the line that counts the further rows, or nothing if there are none.
 fn push_unlisted_more_line(text: &mut String, rows: u128) -> Result<(), AllocError>
     ensures { OnOk result (string_bytes text.new ≡ string_bytes text.old ++ unlisted_more_line rows) }
 {
@@ -80,14 +79,13 @@ fn push_unlisted_more_line(text: &mut String, rows: u128) -> Result<(), AllocErr
     Ok(())
 }
 
-/// Writes which resolved rows the routers have whose source and group are no flow's, by what is noted
-/// of each router's cache, the first router's first: a line for each pair of a group and a source, all
-/// of them or the 20 lowest, with all routers that have a row of it, and how many further rows there
-/// are.
+/// Writes the resolved rows whose source and group are no listed flow's: a line for each pair of a group
+/// and a source, for all pairs or for the 20 lowest, with all routers that have a row of it, and how many
+/// further rows there are. `summary` has the summary of each router's cache, in the topology's order.
 ///
 /// # Errors
 ///
-/// `Memory` where a growth was refused.
+/// `Memory` if an allocation fails.
 pub fn push_unlisted_lines(
     alloc: Global,
     text: &mut String,
@@ -104,7 +102,7 @@ pub fn push_unlisted_lines(
     Ok(())
 }
 
-/// The routers that were left out.
+/// The excluded routers.
 fn without_value(
     alloc: Global,
     topology: &Topology,
@@ -117,7 +115,7 @@ fn without_value(
         .object()
 }
 
-/// Whether a router is marked as left out. Those beyond the marks are not.
+/// Whether a router is marked as excluded. Routers without a mark aren't.
 fn is_excluded(excluded: &[bool], router: RouterNo) -> bool
     ensures { result ≡ is_excluded excluded.now router }
 {
@@ -127,11 +125,11 @@ fn is_excluded(excluded: &[bool], router: RouterNo) -> bool
     }
 }
 
-/// The routers that are marked, in order; those beyond the marks are not.
+/// The routers that are marked as excluded, in the topology's order. Routers without a mark aren't.
 ///
 /// # Errors
 ///
-/// `AllocError` where a growth was refused.
+/// `AllocError` if an allocation fails.
 pub fn list_excluded_routers(
     alloc: Global,
     topology: &Topology,
@@ -149,12 +147,12 @@ pub fn list_excluded_routers(
     Ok(routers)
 }
 
-/// Writes the line of the routers that were left out, of which there is a mark for each router, the
-/// first router's first; nothing where none was.
+/// Writes the line of the excluded routers, or nothing if there are none. `excluded` has a mark for each
+/// router, in the topology's order.
 ///
 /// # Errors
 ///
-/// `Memory` where a growth was refused.
+/// `Memory` if an allocation fails.
 pub fn push_without_line(
     alloc: Global,
     text: &mut String,
@@ -173,7 +171,7 @@ pub fn push_without_line(
     Ok(())
 }
 
-/// How many flows there are, and of which kind.
+/// How many flows there are, and how many are right, unwanted and wrong.
 fn summary_value(alloc: Global, right: u32, unwanted: u32, wrong: u32) -> Result<Value, AllocError>
     ensures { IfOk result (λ value. data_of value ≡ summary_data right unwanted wrong) }
 {
@@ -187,12 +185,12 @@ fn summary_value(alloc: Global, right: u32, unwanted: u32, wrong: u32) -> Result
     Fields::new(alloc).value("summary", inner).object()
 }
 
-/// Writes the line of how many flows there are: of how many are right, are right and wanted by
-/// nobody, and are not right.
+/// Writes the line that counts the flows: how many are right, how many of these no LAN wants, and how
+/// many aren't right.
 ///
 /// # Errors
 ///
-/// `Memory` where a growth was refused.
+/// `Memory` if an allocation fails.
 pub fn push_summary_line(
     alloc: Global,
     text: &mut String,
@@ -208,14 +206,14 @@ pub fn push_summary_line(
     Ok(())
 }
 
-/// A verdict in a word.
+/// A verdict in one word.
 fn verdict_word(is_yes: bool) -> &'static str
     ensures { result.now ≡ verdict_word is_yes }
 {
     if is_yes { "yes" } else { "no" }
 }
 
-/// The verdict.
+/// The object of the verdict.
 fn verdict_value(alloc: Global, is_yes: bool) -> Result<Value, AllocError>
     ensures { IfOk result (λ value. data_of value ≡ verdict_data is_yes) }
 {
@@ -227,7 +225,7 @@ fn verdict_value(alloc: Global, is_yes: bool) -> Result<Value, AllocError>
 ///
 /// # Errors
 ///
-/// `Memory` where a growth was refused.
+/// `Memory` if an allocation fails.
 pub fn push_verdict_line(alloc: Global, text: &mut String, is_yes: bool) -> Result<(), Memory>
     ensures line { OnOk result (string_bytes text.new ≡ string_bytes text.old
         ++ line_of (verdict_data is_yes)) }

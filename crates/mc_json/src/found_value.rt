@@ -1,4 +1,4 @@
-//! What was found of a flow as JSON: the finding, and the events of the travel that made it.
+//! The finding of a flow's travel, and the travel's events, as JSON values.
 
 ghost use Rattle.std.specs.Prelude.{◌≡◌, ◌∷◌, [], IfOk, map, codes};
 ghost use Rattle.serde_json.specs.Data.{string};
@@ -15,7 +15,7 @@ use mc_topology::{LanNo, RouterNo, Topology};
 use serde_json::Value;
 use std::alloc::{AllocError, Global};
 
-/// A handling that sent no copies.
+/// An event that sent no copies.
 fn event_without_copies(
     alloc: Global,
     topology: &Topology,
@@ -34,7 +34,7 @@ fn event_without_copies(
         .object()
 }
 
-/// A handling that sent copies.
+/// An event that sent copies.
 fn event_with_copies(
     alloc: Global,
     topology: &Topology,
@@ -55,7 +55,7 @@ fn event_with_copies(
         .object()
 }
 
-/// A handling.
+/// An event of a travel.
 fn event_value(alloc: Global, topology: &Topology, event: &Event) -> Result<Value, AllocError>
     ensures { IfOk result (λ value. data_of value ≡ event_data topology.now event.now) }
 {
@@ -69,7 +69,7 @@ fn event_value(alloc: Global, topology: &Topology, event: &Event) -> Result<Valu
     }
 }
 
-/// The handlings of a travel, in order.
+/// The events of a travel, in order.
 pub(crate) fn event_values(
     alloc: Global,
     topology: &Topology,
@@ -85,7 +85,7 @@ pub(crate) fn event_values(
     Ok(values)
 }
 
-/// What is found at a LAN.
+/// A finding at a LAN: a duplicate, a loop or a missed LAN.
 fn finding_at_lan(
     alloc: Global,
     topology: &Topology,
@@ -100,7 +100,7 @@ fn finding_at_lan(
         .object()
 }
 
-/// That nothing is found.
+/// The finding of a travel without a fault.
 fn clean_finding(alloc: Global) -> Result<Value, AllocError>
     ensures { IfOk result (λ value. data_of value
         ≡ object_data ((codes "kind", string (codes "Clean")) ∷ [])) }
@@ -108,7 +108,7 @@ fn clean_finding(alloc: Global) -> Result<Value, AllocError>
     Fields::new(alloc).text("kind", "Clean").object()
 }
 
-/// What is found at a vif that leads out of the listed LANs.
+/// A stray copy at a router's vif.
 fn stray_finding(
     alloc: Global,
     topology: &Topology,
@@ -124,7 +124,7 @@ fn stray_finding(
         .object()
 }
 
-/// A finding.
+/// The finding of a travel.
 pub(crate) fn finding_value(
     alloc: Global,
     topology: &Topology,

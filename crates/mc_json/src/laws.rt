@@ -1,4 +1,4 @@
-//! What each line is, whatever it tells: an object that only the last line has a verdict in.
+//! Theorems about the lines: each is a JSON object, and only the last one has a verdict.
 
 ghost use Rattle.std.specs.Prelude.{◌≡◌, ℕ, Bool, List, codes, false, true};
 ghost use Rattle.serde_json.specs.Data.{Data};
@@ -6,17 +6,15 @@ ghost use Rattle.mc_tables.specs.Summary.{SummaryValue};
 ghost use Rattle.mc_topology.specs.declared.flow.Flow.{Flow};
 ghost use Rattle.mc_topology.specs.Topology.{TopologyValue};
 ghost use Rattle.mc_theory.specs.Certificates.{Entry};
-ghost use Rattle.mc_theory.specs.Events.{Event};
 ghost use Rattle.mc_forward.specs.ListedTables.{DomainFacts};
-ghost use Rattle.mc_replay.specs.declared.finding.Finding.{Finding};
 ghost use Rattle.mc_json.specs.DomainData.{domain_data};
 ghost use Rattle.mc_json.specs.EndData.{summary_data, unlisted_lines, verdict_data, without_line};
-ghost use Rattle.mc_json.specs.FlowData.{right_data, tree_data, wrong_line};
+ghost use Rattle.mc_json.specs.FlowData.{WrongFlow, right_data, tree_data, wrong_data};
 ghost use Rattle.mc_json.specs.ObjectLines.{AreObjectLines};
 ghost use Rattle.mc_json.specs.RowData.{line_of};
 
-/// Each line but the verdict's begins an object that isn't the verdict, and has no line feed but its
-/// end, also where words of a call, and names of LANs, routers and devices stand in it.
+/// Each line except the verdict's begins an object other than the verdict, and its only line feed ends it,
+/// whatever words of the command line and names of LANs, routers and devices it has.
 pub fn each_line_is_an_object()
     ensures domain { (d : DomainFacts) (words : List (List ℕ)) →
         AreObjectLines (line_of (domain_data d words)) }
@@ -24,9 +22,7 @@ pub fn each_line_is_an_object()
         AreObjectLines (line_of (tree_data t es tree)) }
     ensures right { (whole : Bool) (number : ℕ) (f : Flow) (copies tree : ℕ) (wanted : List Data) →
         AreObjectLines (line_of (right_data whole number f copies tree wanted)) }
-    ensures wrong { (d : DomainFacts) (number : ℕ) (f : Flow) (found_ttl : ℕ) (finding : Finding)
-        (events : List Event) (also : List ℕ) (why : List Data) (events_asked : Bool) →
-        AreObjectLines (wrong_line d number f found_ttl finding events also why events_asked) }
+    ensures wrong { (number : ℕ) (f : Flow) (w : WrongFlow) → AreObjectLines (line_of (wrong_data number f w)) }
     ensures unlisted { (all : Bool) (t : TopologyValue) (summary : List SummaryValue) →
         AreObjectLines (unlisted_lines all t summary) }
     ensures without { (t : TopologyValue) (excluded : List Bool) →
@@ -35,7 +31,7 @@ pub fn each_line_is_an_object()
         AreObjectLines (line_of (summary_data right unwanted wrong)) }
 {}
 
-/// The verdict's line.
+/// The line of each verdict, letter by letter.
 pub fn the_verdict_is_a_line()
     ensures yes { line_of (verdict_data true) ≡ codes "{\"verdict\":\"yes\"}\n" }
     ensures no { line_of (verdict_data false) ≡ codes "{\"verdict\":\"no\"}\n" }

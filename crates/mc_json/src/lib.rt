@@ -1,4 +1,4 @@
-//! What an audit tells, as JSON: an object a line.
+//! The report of an audit as JSON, one object a line.
 #![tactic(auto)]
 
 mod cause_value;

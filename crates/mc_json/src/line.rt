@@ -1,4 +1,4 @@
-//! A value as a line.
+//! Writes a JSON value as a line.
 
 ghost use Rattle.std.specs.Prelude.{◌≡◌, ◌++◌, OnOk, false};
 ghost use Rattle.std.specs.String.{string_bytes};
@@ -9,7 +9,7 @@ ghost use Rattle.mc_json.specs.RowData.{line_of};
 use serde_json::Value;
 use std::alloc::{AllocError, Global};
 
-/// Writes a value without a fraction, with no space, and a line feed behind it.
+/// Writes a value that has no fraction, without spaces, and then a line feed.
 pub(crate) fn push_line(alloc: Global, text: &mut String, value: &Value) -> Result<(), AllocError>
     requires no_float { has_float (data_of value.now) ≡ false }
     ensures added { OnOk result (string_bytes text.new ≡ string_bytes text.old ++ line_of (data_of value.now)) }

@@ -1,16 +1,16 @@
-//! What a flow's lines are told by.
+//! The flow that lines are about, and the summaries of the routers' caches.
 
 use mc_forward::FlowView;
 use mc_tables::CacheSummary;
 use mc_topology::Flow;
 
-/// A flow, and what is noted of each router's cache, the first router's first.
+/// What the lines of a flow are made from.
 #[derive(Clone, Copy, Drop)]
 pub(crate) struct LineContext<'v> {
-    /// The flow.
+    /// The flow in its domain.
     pub(crate) view: &'v FlowView<'v>,
-    /// The same, as the topology has it.
+    /// The same flow as the topology lists it.
     pub(crate) flow: &'v Flow,
-    /// The notes.
+    /// The summary of each router's cache, in the topology's order.
     pub(crate) summary: &'v [CacheSummary],
 }

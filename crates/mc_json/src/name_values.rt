@@ -1,4 +1,4 @@
-//! Names of LANs and routers as JSON.
+//! Names of LANs and routers as JSON strings.
 
 ghost use Rattle.std.specs.Prelude.{◌≡◌, IfOk, map};
 ghost use Rattle.serde_json.specs.View.{view as data_of};
@@ -8,7 +8,7 @@ use mc_topology::{LanNo, RouterNo, Topology};
 use serde_json::Value;
 use std::alloc::{AllocError, Global};
 
-/// LANs by their names.
+/// The names of LANs.
 pub(crate) fn lan_names(
     alloc: Global,
     topology: &Topology,
@@ -24,7 +24,7 @@ pub(crate) fn lan_names(
     Ok(values)
 }
 
-/// Routers by their names.
+/// The names of routers.
 pub(crate) fn router_names(
     alloc: Global,
     topology: &Topology,

@@ -1,11 +1,12 @@
-//! The lines of right flows, and of the ways by which they go.
+//! The lines of right flows and of their trees.
 
-ghost use Rattle.std.specs.Prelude.{◌≡◌, ◌<◌, ◌++◌, IfOk, OnOk, Some, codes, length, map, slice_get};
+ghost use Rattle.std.specs.Prelude.{◌≡◌, ◌<◌, ◌++◌, IfOk, OnOk, codes, length, map};
 ghost use Rattle.std.specs.String.{string_bytes};
 ghost use Rattle.serde_json.specs.Data.{Members, put as with_member};
-ghost use Rattle.serde_json.specs.View.{members_view, view as data_of};
-ghost use Rattle.mc_topology.specs.declared.flow.Flow.{Flow};
+ghost use Rattle.serde_json.specs.View.{view as data_of};
 ghost use Rattle.mc_forward.specs.ListedTables.{facts};
+ghost use Rattle.mc_explain.specs.ExplanationText.{ForListedFlow};
+ghost use Rattle.mc_json.specs.ObjectLines.{HasMembers};
 ghost use Rattle.mc_json.specs.FlowData.{reached_data, right_data, right_mark, sender_router};
 ghost use Rattle.mc_json.specs.FlowData.{sender_vif, tree_data, wanted_data};
 ghost use Rattle.mc_json.specs.RowData.{line_of};
@@ -22,12 +23,10 @@ use mc_topology::{Flow, RouterNo, Topology};
 use serde_json::Value;
 use std::alloc::{AllocError, Global};
 
-/// The members of a LAN of a way with the router and the vif that send onto it, which the source's own
-/// LAN doesn't have.
+/// Adds the router and the vif that send onto a LAN of a tree, null for the source's own LAN.
 fn with_sender(fields: Fields, topology: &Topology, forwarder: Option<(RouterNo, u8)>) -> Fields
-    ensures { (ms : Members) → IfOk fields.built (λ map. members_view map.entries ≡ ms)
-        → IfOk result.built (λ map. members_view map.entries
-        ≡ with_member (codes "vif") (sender_vif forwarder)
+    ensures { (ms : Members) → HasMembers fields ms
+        → HasMembers result (with_member (codes "vif") (sender_vif forwarder)
         (with_member (codes "router") (sender_router topology.now forwarder) ms)) }
 {
     match forwarder {
@@ -38,7 +37,7 @@ fn with_sender(fields: Fields, topology: &Topology, forwarder: Option<(RouterNo,
     }
 }
 
-/// A LAN of a way.
+/// A LAN of a tree.
 fn reached_value(alloc: Global, topology: &Topology, entry: &Reached) -> Result<Value, AllocError>
     ensures { IfOk result (λ value. data_of value ≡ reached_data topology.now entry.now) }
 {
@@ -49,7 +48,7 @@ fn reached_value(alloc: Global, topology: &Topology, entry: &Reached) -> Result<
     with_sender(fields, topology, entry.forwarder).object()
 }
 
-/// The LANs of a way.
+/// The LANs of a tree.
 fn reached_values(
     alloc: Global,
     topology: &Topology,
@@ -65,7 +64,7 @@ fn reached_values(
     Ok(values)
 }
 
-/// A way.
+/// A tree with its number.
 fn tree_value(
     alloc: Global,
     topology: &Topology,
@@ -80,11 +79,11 @@ fn tree_value(
         .object()
 }
 
-/// Writes the line of a way with this number, by the names of the topology.
+/// Writes the line of the tree with this number, with the topology's names.
 ///
 /// # Errors
 ///
-/// `Memory` where a growth was refused.
+/// `Memory` if an allocation fails.
 pub fn push_tree_line(
     alloc: Global,
     text: &mut String,
@@ -100,7 +99,7 @@ pub fn push_tree_line(
     Ok(())
 }
 
-/// That a flow is right, where the whole domain is known.
+/// That a flow is right if the whole domain is known, or else null.
 fn right_mark_value(whole: bool) -> Value
     ensures { data_of result ≡ right_mark whole }
 {
@@ -111,7 +110,7 @@ fn right_mark_value(whole: bool) -> Value
     }
 }
 
-/// A flow without a fault, with its number, and the LANs that want it.
+/// A flow without a fault, and the LANs that want it.
 fn right_value(
     alloc: Global,
     whole: bool,
@@ -132,7 +131,7 @@ fn right_value(
         .object()
 }
 
-/// The LANs that want a flow, by their names.
+/// The names of the LANs that want a flow.
 fn wanted_values(alloc: Global, view: &FlowView<'_>) -> Result<Vec<Value>, AllocError>
     ensures { IfOk result (λ values. map data_of values.items
         ≡ wanted_data (facts view.now.domain) view.now.flow) }
@@ -141,13 +140,13 @@ fn wanted_values(alloc: Global, view: &FlowView<'_>) -> Result<Vec<Value>, Alloc
     lan_names(alloc, view.topology(), &lans)
 }
 
-/// Writes the line of the flow with this number, which has no fault: that it is right, where the whole
-/// domain is known, on how many LANs a packet of it has a copy, by the way with which number, and which
-/// LANs want it.
+/// Writes the line of a flow without a fault: that it is right, if the `whole` domain is known, how many
+/// LANs carry a copy of its packet, the number of its tree, and the LANs that want it. `flow` counts
+/// from 0.
 ///
 /// # Errors
 ///
-/// `Memory` where a growth was refused.
+/// `Memory` if an allocation fails.
 pub fn push_right_line(
     alloc: Global,
     text: &mut String,
@@ -158,10 +157,8 @@ pub fn push_right_line(
     tree: u32,
 ) -> Result<(), Memory>
     requires flow { flow < length domain.now.topology.flows }
-    ensures line { OnOk result ((listed : Flow) → slice_get domain.now.topology.flows flow ≡ Some listed
-        → string_bytes text.new ≡ string_bytes text.old
-        ++ line_of (right_data whole flow listed copies tree
-        (wanted_data (facts domain.now) flow))) }
+    ensures line { OnOk result (ForListedFlow domain.now flow (λ f. string_bytes text.new ≡ string_bytes text.old
+        ++ line_of (right_data whole flow f copies tree (wanted_data (facts domain.now) flow)))) }
 {
     let view = FlowView::new(domain, flow);
     let listed = domain.topology().flow(flow);

@@ -1,4 +1,4 @@
-//! Routers' rows as JSON.
+//! The rows of routers as JSON values.
 
 ghost use Rattle.std.specs.Prelude.{◌≡◌, IfOk, map};
 ghost use Rattle.std.specs.String.{string_bytes};
@@ -20,8 +20,8 @@ use mc_topology::{Flow, RouterNo};
 use serde_json::Value;
 use std::alloc::{AllocError, Global};
 
-/// A row's source or its group. The address 0.0.0.0 stands for every one, and is told as `*`.
-fn address(alloc: Global, address: Addr) -> Result<String, AllocError>
+/// A row's source or group. The address 0.0.0.0 means every source or group, and is written `*`.
+fn address_text(alloc: Global, address: Addr) -> Result<String, AllocError>
     ensures { IfOk result (λ text. string_bytes text ≡ address_text address) }
 {
     if address == Addr::from_octets([0, 0, 0, 0]) {
@@ -66,7 +66,7 @@ fn oif_values(
     Ok(values)
 }
 
-/// What a row is of: its router, its source and its group.
+/// The router, the source and the group of a row.
 #[derive(Clone, Copy, Drop)]
 struct RowKey {
     router: RouterNo,
@@ -74,31 +74,31 @@ struct RowKey {
     group: Addr,
 }
 
-/// A row of these vifs.
+/// A row with its incoming and outgoing vifs.
 fn entry_value(
     alloc: Global,
     view: &FlowView<'_>,
-    of: RowKey,
+    key: RowKey,
     incoming: u8,
     oifs: &[Oif],
 ) -> Result<Value, AllocError>
     ensures { IfOk result (λ value. data_of value ≡ entry_data (facts view.now.domain)
-        of.router of.source of.group incoming (oif_pairs oifs.now)) }
+        key.router key.source key.group incoming (oif_pairs oifs.now)) }
 {
     let from = Fields::new(alloc)
-        .value("device", device_value(alloc, view, of.router, incoming))
+        .value("device", device_value(alloc, view, key.router, incoming))
         .count("vif", incoming as u64)
         .object();
     Fields::new(alloc)
         .value("from", from)
-        .string("group", address(alloc, of.group))
-        .router("router", view.topology(), of.router)
-        .string("source", address(alloc, of.source))
-        .list("to", oif_values(alloc, view, of.router, oifs))
+        .string("group", address_text(alloc, key.group))
+        .router("router", view.topology(), key.router)
+        .string("source", address_text(alloc, key.source))
+        .list("to", oif_values(alloc, view, key.router, oifs))
         .object()
 }
 
-/// A router's row for a flow. Null for a row for every source, and where there is none.
+/// A router's row of a flow's source and group, or null if it has none.
 pub(crate) fn row_value(
     alloc: Global,
     view: &FlowView<'_>,
@@ -110,18 +110,18 @@ pub(crate) fn row_value(
 {
     match view.row(router) {
         RowFor::Exact(entry) => {
-            let of = RowKey {
+            let key = RowKey {
                 router,
                 source: flow.source,
                 group: flow.group,
             };
-            entry_value(alloc, view, of, entry.iif, entry.oifs)
+            entry_value(alloc, view, key, entry.iif, entry.oifs)
         }
         RowFor::Open | RowFor::NoRow => Ok(Value::Null),
     }
 }
 
-/// A router's row for every source, with the group that it has.
+/// A router's row for every source, with the row's group.
 fn row_for_every_source<'n>(
     summary: &'n [CacheSummary],
     group: Addr,
@@ -135,8 +135,8 @@ fn row_for_every_source<'n>(
     }
 }
 
-/// A router's row for every source, by what is noted of the routers' caches: that of the group, or else
-/// that of the group 0.0.0.0. Null where the notes have none.
+/// A router's row for every source: that of the group, or else that of the group 0.0.0.0. Null if the
+/// summary of its cache has none.
 pub(crate) fn every_source_value(
     alloc: Global,
     view: &FlowView<'_>,
@@ -150,12 +150,12 @@ pub(crate) fn every_source_value(
     match row_for_every_source(summary, group, router) {
         Some(row) => {
             let (every, entry) = row;
-            let of = RowKey {
+            let key = RowKey {
                 router,
                 source: Addr::from_octets([0, 0, 0, 0]),
                 group: every,
             };
-            entry_value(alloc, view, of, entry.iif, entry.oifs)
+            entry_value(alloc, view, key, entry.iif, entry.oifs)
         }
         None => Ok(Value::Null),
     }

@@ -1,4 +1,4 @@
-//! A search for a missed LAN as JSON, line by line.
+//! The search for a missed LAN as JSON values, one for each line.
 
 ghost use Rattle.std.specs.Prelude.{◌≡◌, ◌++◌, IfOk, OnOk, Some, map};
 ghost use Rattle.std.specs.String.{string_bytes};
@@ -8,11 +8,11 @@ ghost use Rattle.mc_forward.specs.ListedTables.{facts};
 ghost use Rattle.mc_explain.specs.RowText.{device_name_text};
 ghost use Rattle.mc_explain.specs.ShownLines.{shown_lines};
 ghost use Rattle.mc_explain.specs.TopologyLans.{interface_at};
+ghost use Rattle.mc_json.specs.ContextData.{search_data_in, search_line_data_in, shown_line_data_in};
 ghost use Rattle.mc_json.specs.SearchData.{does_not_send_line, every_source_line, expected_line};
 ghost use Rattle.mc_json.specs.SearchData.{incoming_kind, incoming_kind_of, from_unplaced_line, kind_and_lan};
-ghost use Rattle.mc_json.specs.SearchData.{reach_line, kind_lan_router, search_data, search_line_data};
-ghost use Rattle.mc_json.specs.SearchData.{shown_line_data, stopped_line, waits_for_line, kind_lan_router_device};
-ghost use Rattle.mc_json.specs.CauseData.{router_data};
+ghost use Rattle.mc_json.specs.SearchData.{kind_lan_router, kind_lan_router_device, reach_line};
+ghost use Rattle.mc_json.specs.SearchData.{stopped_line, waits_for_line};
 
 use crate::cause_value::{incoming_device, incoming_vif};
 use crate::device_value::{NO_DEVICE, device_name, device_value};
@@ -27,7 +27,7 @@ use mc_topology::{LanNo, RouterNo, Topology};
 use serde_json::Value;
 use std::alloc::{AllocError, Global};
 
-/// What is told of a LAN alone.
+/// A line about a LAN.
 fn kind_and_lan(
     alloc: Global,
     topology: &Topology,
@@ -42,7 +42,7 @@ fn kind_and_lan(
         .object()
 }
 
-/// What is told of a router alone.
+/// A line about a router on a LAN.
 fn kind_lan_router(
     alloc: Global,
     topology: &Topology,
@@ -59,7 +59,7 @@ fn kind_lan_router(
         .object()
 }
 
-/// The device of an interface of the topology, empty for one that it hasn't.
+/// The device of an interface of the topology, empty if the topology has no such interface.
 fn interface_name(alloc: Global, topology: &Topology, interface: u32) -> Result<String, AllocError>
     ensures { IfOk result (λ text. string_bytes text
         ≡ device_name_text (interface_at topology.now interface).device) }
@@ -70,7 +70,7 @@ fn interface_name(alloc: Global, topology: &Topology, interface: u32) -> Result<
     device_name(alloc, topology.interface(interface).device)
 }
 
-/// What is told of a router and a device that the topology has on the LAN.
+/// A line about a device of a router that the topology has on the LAN.
 fn kind_lan_router_device(
     alloc: Global,
     topology: &Topology,
@@ -90,7 +90,7 @@ fn kind_lan_router_device(
         .object()
 }
 
-/// Which row for every source a router has.
+/// An `EverySource` line: a router's row for every source.
 fn every_source_line_value(
     alloc: Global,
     context: &LineContext<'_>,
@@ -118,7 +118,7 @@ fn every_source_line_value(
         .object()
 }
 
-/// Why a vif of a table that a row takes from is placed on no LAN.
+/// Why an incoming vif with a line in its router's table is placed on no LAN.
 fn incoming_vif_kind(vif: &Vif) -> &'static str
     ensures { result.now ≡ incoming_kind_of (Some vif.now) }
 {
@@ -133,7 +133,7 @@ fn incoming_vif_kind(vif: &Vif) -> &'static str
     }
 }
 
-/// Why the vif that a router's row takes from is placed on no LAN.
+/// Why the incoming vif of a router's row is placed on no LAN.
 fn incoming_kind(view: &FlowView<'_>, router: RouterNo) -> &'static str
     ensures { result.now ≡ incoming_kind (facts view.now.domain) router ((net_in view.now).row router) }
 {
@@ -146,7 +146,7 @@ fn incoming_kind(view: &FlowView<'_>, router: RouterNo) -> &'static str
     }
 }
 
-/// A row that takes from a vif that is placed on no LAN.
+/// A `FromUnplaced` line: a row whose incoming vif is placed on no LAN.
 fn from_unplaced_value(
     alloc: Global,
     context: &LineContext<'_>,
@@ -167,7 +167,7 @@ fn from_unplaced_value(
         .object()
 }
 
-/// A row that doesn't send by a vif.
+/// A `DoesNotSend` line: a row that doesn't send by a vif.
 fn does_not_send_value(
     alloc: Global,
     context: &LineContext<'_>,
@@ -193,7 +193,7 @@ fn does_not_send_value(
         .object()
 }
 
-/// A row whose threshold stops the copy.
+/// A `Stopped` line: a row whose threshold stops the copy.
 fn stopped_value(
     alloc: Global,
     context: &LineContext<'_>,
@@ -219,7 +219,7 @@ fn stopped_value(
         .object()
 }
 
-/// A row that takes from a LAN that carried no copy.
+/// A `WaitsFor` line: a row that takes from a LAN that carried no copy.
 fn waits_for_value(
     alloc: Global,
     context: &LineContext<'_>,
@@ -245,7 +245,7 @@ fn waits_for_value(
         .object()
 }
 
-/// Which routers expect a copy from a LAN.
+/// The routers that expect copies from a LAN.
 fn expected_value(
     alloc: Global,
     topology: &Topology,
@@ -267,8 +267,7 @@ fn search_line_value(
     context: &LineContext<'_>,
     line: SearchLine,
 ) -> Result<Value, AllocError>
-    ensures { IfOk result (λ value. data_of value ≡ search_line_data (facts context.now.view.now.domain)
-        context.now.summary.now context.now.view.now.flow context.now.flow.now line) }
+    ensures { IfOk result (λ value. data_of value ≡ search_line_data_in context.now line) }
 {
     let topology = context.view.topology();
     match line {
@@ -325,7 +324,7 @@ fn search_line_value(
     }
 }
 
-/// Routers that stand in one line.
+/// The routers of one `Expected` line.
 fn collect_routers(
     alloc: Global,
     routers: ExpectingRouters<'_>,
@@ -339,14 +338,13 @@ fn collect_routers(
     Ok(list)
 }
 
-/// A line of a search as it is shown.
+/// A shown line of a search.
 fn shown_line_value(
     alloc: Global,
     context: &LineContext<'_>,
     line: ShownLine<'_>,
 ) -> Result<Value, AllocError>
-    ensures { IfOk result (λ value. data_of value ≡ shown_line_data (facts context.now.view.now.domain)
-        context.now.summary.now context.now.view.now.flow context.now.flow.now line.entry) }
+    ensures { IfOk result (λ value. data_of value ≡ shown_line_data_in context.now line.entry) }
 {
     match line {
         ShownLine::One(line) => search_line_value(alloc, context, line),
@@ -357,7 +355,7 @@ fn shown_line_value(
     }
 }
 
-/// Tells the lines of a search.
+/// Adds the shown lines of a search.
 fn push_shown_lines(
     alloc: Global,
     values: &mut Vec<Value>,
@@ -365,8 +363,7 @@ fn push_shown_lines(
     lines: &[SearchLine],
 ) -> Result<(), AllocError>
     ensures { OnOk result (map data_of values.new.items ≡ map data_of values.old.items
-        ++ map (shown_line_data (facts context.now.view.now.domain) context.now.summary.now context.now.view.now.flow
-        context.now.flow.now) (shown_lines lines.now)) }
+        ++ map (shown_line_data_in context.now) (shown_lines lines.now)) }
 {
     for line in ShownLines::new(lines) {
         values.push(shown_line_value(alloc, context, line)?)?;
@@ -374,7 +371,7 @@ fn push_shown_lines(
     Ok(())
 }
 
-/// Which routers sent copies on, or took none.
+/// The routers that sent copies on, or that took none.
 fn reach_value(
     alloc: Global,
     topology: &Topology,
@@ -389,7 +386,7 @@ fn reach_value(
         .object()
 }
 
-/// Tells what a search comes to, and its lines.
+/// Adds how far the packet came, and the lines of the search.
 #[tactic(auto, unfolding(crate::specs::SearchData::search_data))]
 pub(crate) fn push_search_values(
     alloc: Global,
@@ -397,9 +394,8 @@ pub(crate) fn push_search_values(
     context: &LineContext<'_>,
     search: &LanSearch,
 ) -> Result<(), AllocError>
-    ensures { OnOk result (map data_of values.new.items ≡ map data_of values.old.items ++ search_data
-        (facts context.now.view.now.domain) context.now.summary.now context.now.view.now.flow context.now.flow.now
-        search.now.lines.items search.now.reach.sent_on.items search.now.reach.took_none.items) }
+    ensures { OnOk result (map data_of values.new.items ≡ map data_of values.old.items
+        ++ search_data_in context.now search.now) }
 {
     let topology = context.view.topology();
     let sent_on = reach_value(alloc, topology, "gets_as_far_as", &search.reach.sent_on)?;

@@ -1,9 +1,8 @@
-//! The LANs that want a flow, and those of them that a packet missed.
+//! The LANs that want a flow, and those of them that its packet missed.
 
-ghost use Rattle.std.specs.Prelude.{◌≡◌, ℕ, ◌<◌, ◌≤◌, ◌||◌, All, IfOk, List, false, filter, is_some};
+ghost use Rattle.std.specs.Prelude.{◌≡◌, ℕ, ◌<◌, ◌≤◌, ◌||◌, All, IfOk, List, false, is_some};
 ghost use Rattle.std.specs.Prelude.{length, slice_index_or};
 ghost use Rattle.mc_forward.specs.ListedTables.{facts};
-ghost use Rattle.mc_theory.specs.Lists.{below};
 ghost use Rattle.mc_theory.specs.Flights.{Copy};
 ghost use Rattle.mc_theory.specs.Findings.{first_copy_on};
 ghost use Rattle.mc_explain.specs.FirstEight.{AreMarksOfCopies};
@@ -31,7 +30,7 @@ pub(crate) fn lans_wanting(alloc: Global, view: &FlowView<'_>) -> Result<Vec<Lan
     Ok(lans)
 }
 
-/// Marks the LANs of copies.
+/// Marks the LANs that these copies are on.
 fn mark_lans(marks: &mut [bool], copies: &[CarriedCopy])
     requires within { All (λ c. c.lan < length marks.old) copies.now }
     ensures count { length marks.new ≡ length marks.old }
@@ -43,7 +42,7 @@ fn mark_lans(marks: &mut [bool], copies: &[CarriedCopy])
     }
 }
 
-/// Whether a LAN that isn't this one wants the flow, and isn't marked.
+/// Whether a LAN other than `missed` wants the flow and isn't marked.
 fn is_wanted_and_unmarked(view: &FlowView<'_>, marks: &[bool], missed: LanNo, lan: LanNo) -> bool
     requires listed { lan < length view.now.domain.topology.lans }
     requires marked { lan < length marks.now }
@@ -53,7 +52,7 @@ fn is_wanted_and_unmarked(view: &FlowView<'_>, marks: &[bool], missed: LanNo, la
     view.wants(lan) && !marks[lan.0 as usize] && lan != missed
 }
 
-/// The LANs that aren't this one, want the flow, and aren't marked.
+/// The LANs other than `missed` that want the flow and aren't marked.
 fn unmarked_lans(
     alloc: Global,
     view: &FlowView<'_>,
@@ -61,9 +60,8 @@ fn unmarked_lans(
     missed: LanNo,
 ) -> Result<Vec<LanNo>, AllocError>
     requires within { length view.now.domain.topology.lans ≤ length marks.now }
-    ensures marked { (copies : List Copy) → AreMarksOfCopies marks.now copies → IfOk result (λ lans. lans.items ≡
-        filter (is_also_missed (facts view.now.domain) view.now.flow copies missed)
-        (below (length view.now.domain.topology.lans))) }
+    ensures marked { (copies : List Copy) → AreMarksOfCopies marks.now copies → IfOk result (λ lans. lans.items
+        ≡ also_missed (facts view.now.domain) view.now.flow copies missed) }
 {
     let mut lans = Vec::new(alloc);
     for number in 0..view.lans() {
@@ -75,7 +73,7 @@ fn unmarked_lans(
     Ok(lans)
 }
 
-/// The LANs that aren't this one, want the flow, and carried no copy in a flight.
+/// The LANs other than `missed` that want the flow and carried no copy in a flight.
 fn also_missed(alloc: Global, flight: &Flight<'_>, missed: LanNo) -> Result<Vec<LanNo>, AllocError>
     ensures { IfOk result (λ lans. lans.items ≡ also_missed (facts flight.now.domain) flight.now.flow
         flight.now.flight.carried missed) }
@@ -87,7 +85,7 @@ fn also_missed(alloc: Global, flight: &Flight<'_>, missed: LanNo) -> Result<Vec<
     unmarked_lans(alloc, view, &marks, missed)
 }
 
-/// The LANs that were missed besides the one that is found.
+/// The LANs that were missed besides the one of the finding.
 pub(crate) fn missed_besides(
     alloc: Global,
     flight: &Flight<'_>,

@@ -1,19 +1,17 @@
 //! The line of a flow that isn't right.
 
-ghost use Rattle.std.specs.Prelude.{◌≡◌, ◌<◌, ◌+◌, ◌∷◌, ◌++◌, [], IfOk, OnOk, None, Some, codes, false};
-ghost use Rattle.std.specs.Prelude.{length, map, slice_get};
+ghost use Rattle.std.specs.Prelude.{◌≡◌, ◌<◌, ◌++◌, IfOk, OnOk, None, Some, false, length, map};
 ghost use Rattle.std.specs.String.{string_bytes};
-ghost use Rattle.serde_json.specs.Data.{boolean, string};
-ghost use Rattle.serde_json.specs.View.{items_of, members_view, view as data_of};
+ghost use Rattle.serde_json.specs.View.{items_of, view as data_of};
 ghost use Rattle.serde_json.specs.Written.{items_have_float};
-ghost use Rattle.mc_text.specs.Addr.{dotted};
-ghost use Rattle.mc_topology.specs.declared.flow.Flow.{Flow as FlowValue};
-ghost use Rattle.mc_forward.specs.ListedTables.{facts};
-ghost use Rattle.mc_explain.specs.WantedText.{missed_besides};
-ghost use Rattle.mc_json.specs.FlowData.{wrong_line_of_travel, wrong_data, wrong_flow_of};
-ghost use Rattle.mc_json.specs.RowData.{count_data, list_data, members};
+ghost use Rattle.mc_explain.specs.ExplanationText.{ForListedFlow};
 ghost use Rattle.mc_json.specs.CauseData.{lan_data};
-ghost use Rattle.mc_json.specs.WhyData.{why_data};
+ghost use Rattle.mc_json.specs.ContextData.{why_data_in};
+ghost use Rattle.mc_json.specs.ObjectLines.{HasMembers};
+ghost use Rattle.mc_json.specs.FlowData.{also_missed_by, each_wrong_members, wrong_data};
+ghost use Rattle.mc_json.specs.FlowData.{wrong_flow_of_travel, wrong_line_of_travel};
+ghost use Rattle.mc_json.specs.RowData.{members};
+ghost use Rattle.mc_json.specs.WrongLine.{explained_line, missed_line};
 
 use crate::cause_value::push_causes;
 use crate::fields::Fields;
@@ -33,16 +31,10 @@ use mc_topology::Flow;
 use serde_json::Value;
 use std::alloc::{AllocError, Global};
 
-/// The members of the object of a flow that isn't right, by its number, the TTL and why it is so.
+/// The members of each wrong flow: the flow, the TTL of the travel that shows it, and the causes.
 fn wrong_fields(alloc: Global, number: u32, flow: &Flow, found_ttl: u8, why: Vec<Value>) -> Fields
-    ensures { IfOk result.built (λ built. members_view built.entries ≡ members (
-        (codes "flow", count_data (number + 1))
-        ∷ (codes "found_ttl", count_data found_ttl)
-        ∷ (codes "group", string (dotted flow.now.group))
-        ∷ (codes "right", boolean false)
-        ∷ (codes "source", string (dotted flow.now.source))
-        ∷ (codes "ttl", count_data flow.now.ttl)
-        ∷ (codes "why", list_data (map data_of why.items)) ∷ [])) }
+    ensures { HasMembers result
+        (members (each_wrong_members number flow.now found_ttl (map data_of why.items))) }
 {
     flow_fields(alloc, number, flow)
         .count("found_ttl", found_ttl as u64)
@@ -50,19 +42,17 @@ fn wrong_fields(alloc: Global, number: u32, flow: &Flow, found_ttl: u8, why: Vec
         .list("why", Ok(why))
 }
 
-/// The LANs that a travel missed besides the one that was found.
+/// The names of the LANs that a travel missed besides the one of its finding.
 fn also_missed_values(alloc: Global, ended: &FinishedTravel<'_>) -> Result<Vec<Value>, AllocError>
     ensures { IfOk result (λ values. map data_of values.items
-        ≡ map (lan_data ended.now.flight.domain.topology) (missed_besides
-        (facts ended.now.flight.domain) ended.now.flight.flow ended.now.flight.flight.carried
-        ended.now.travel.finding)) }
+        ≡ map (lan_data ended.now.flight.domain.topology) (also_missed_by ended.now)) }
 {
     let topology = ended.flight.flow_view().topology();
     let lans = missed_besides(alloc, &ended.flight, ended.travel.finding)?;
     lan_names(alloc, topology, &lans)
 }
 
-/// A flow that a travel found not to be right, and why.
+/// The object of a flow that isn't right, by the travel that shows it.
 fn wrong_value(
     alloc: Global,
     number: u32,
@@ -73,10 +63,7 @@ fn wrong_value(
     why: Vec<Value>,
 ) -> Result<Value, AllocError>
     ensures { IfOk result (λ value. data_of value ≡ wrong_data number flow.now
-        (wrong_flow_of ended.now.flight.domain.topology found_ttl ended.now.travel.finding
-        ended.now.travel.events.items (missed_besides (facts ended.now.flight.domain)
-        ended.now.flight.flow ended.now.flight.flight.carried ended.now.travel.finding)
-        (map data_of why.items) events_asked)) }
+        (wrong_flow_of_travel ended.now found_ttl (map data_of why.items) events_asked)) }
 {
     let topology = ended.flight.flow_view().topology();
     let fields = wrong_fields(alloc, number, flow, found_ttl, why)
@@ -92,7 +79,7 @@ fn wrong_value(
     fields.list("events", events).object()
 }
 
-/// Writes the line of such a flow.
+/// Writes the line of a flow that isn't right.
 fn push_wrong_flow(
     alloc: Global,
     text: &mut String,
@@ -111,31 +98,28 @@ fn push_wrong_flow(
     push_line(alloc, text, &value)
 }
 
-/// The lines of an explanation.
+/// The values of causes.
 fn cause_values(
     alloc: Global,
     context: &LineContext<'_>,
     causes: &[Cause],
 ) -> Result<Vec<Value>, AllocError>
-    ensures { IfOk result (λ values. map data_of values.items ≡ why_data
-        (facts context.now.view.now.domain) context.now.summary.now context.now.view.now.flow context.now.flow.now causes.now
-        None) }
+    ensures { IfOk result (λ values. map data_of values.items ≡ why_data_in context.now causes.now None) }
 {
     let mut values = Vec::new(alloc);
     push_causes(alloc, &mut values, context, causes)?;
     Ok(values)
 }
 
-/// The same, and behind them what a search found.
+/// The values of causes, and then those of a search.
 fn cause_and_search_values(
     alloc: Global,
     context: &LineContext<'_>,
     causes: &[Cause],
     search: &LanSearch,
 ) -> Result<Vec<Value>, AllocError>
-    ensures { IfOk result (λ values. map data_of values.items ≡ why_data
-        (facts context.now.view.now.domain) context.now.summary.now context.now.view.now.flow context.now.flow.now causes.now
-        (Some search.now)) }
+    ensures { IfOk result (λ values. map data_of values.items
+        ≡ why_data_in context.now causes.now (Some search.now)) }
 {
     let mut values = Vec::new(alloc);
     push_causes(alloc, &mut values, context, causes)?;
@@ -143,13 +127,14 @@ fn cause_and_search_values(
     Ok(values)
 }
 
-/// Writes the line of the flow with this number, of which a travel that starts with this TTL missed a
-/// LAN, and why: these lines and what a search found, by what is noted of each router's cache, the
-/// first router's first. It has the travel's events where they are asked for.
+/// Writes the line of a flow whose packet misses a LAN: the finished travel that shows it, the TTL with
+/// which that began, the causes, and the search for the LAN. The travel's events are written if they are
+/// asked for. `flow` counts from 0, and `summary` has the summary of each router's cache, in the
+/// topology's order.
 ///
 /// # Errors
 ///
-/// `Memory` where a growth was refused.
+/// `Memory` if an allocation fails.
 pub fn push_missed_line(
     alloc: Global,
     text: &mut String,
@@ -163,10 +148,8 @@ pub fn push_missed_line(
     search: &LanSearch,
 ) -> Result<(), Memory>
     requires flow { flow < length domain.now.topology.flows }
-    ensures line { OnOk result ((listed : FlowValue) →
-        slice_get domain.now.topology.flows flow ≡ Some listed → string_bytes text.new ≡
-        string_bytes text.old ++ wrong_line_of_travel flow listed ended.now found_ttl (why_data
-        (facts domain.now) summary.now flow listed causes.now (Some search.now)) events_asked) }
+    ensures line { OnOk result (ForListedFlow domain.now flow (λ f. string_bytes text.new ≡ string_bytes text.old
+        ++ missed_line domain.now summary.now flow f ended.now found_ttl causes.now search.now events_asked)) }
 {
     let view = FlowView::new(domain, flow);
     let listed = domain.topology().flow(flow);
@@ -189,13 +172,13 @@ pub fn push_missed_line(
     Ok(())
 }
 
-/// Writes the line of the flow with this number, which a travel that starts with this TTL found not
-/// to be right, and why: these lines, by what is noted of each router's cache, the first router's
-/// first. It has the travel's events where they are asked for.
+/// Writes the line of a flow that isn't right: the finished travel that shows it, the TTL with which that
+/// began, and the causes. The travel's events are written if they are asked for. `flow` counts from 0,
+/// and `summary` has the summary of each router's cache, in the topology's order.
 ///
 /// # Errors
 ///
-/// `Memory` where a growth was refused.
+/// `Memory` if an allocation fails.
 pub fn push_wrong_line(
     alloc: Global,
     text: &mut String,
@@ -208,10 +191,8 @@ pub fn push_wrong_line(
     causes: &[Cause],
 ) -> Result<(), Memory>
     requires flow { flow < length domain.now.topology.flows }
-    ensures line { OnOk result ((listed : FlowValue) →
-        slice_get domain.now.topology.flows flow ≡ Some listed → string_bytes text.new ≡
-        string_bytes text.old ++ wrong_line_of_travel flow listed ended.now found_ttl (why_data
-        (facts domain.now) summary.now flow listed causes.now None) events_asked) }
+    ensures line { OnOk result (ForListedFlow domain.now flow (λ f. string_bytes text.new ≡ string_bytes text.old
+        ++ explained_line domain.now summary.now flow f ended.now found_ttl causes.now events_asked)) }
 {
     let view = FlowView::new(domain, flow);
     let listed = domain.topology().flow(flow);

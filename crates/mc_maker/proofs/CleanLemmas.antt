@@ -1,4 +1,4 @@
--- What the copies of a clean travel at TTL 255 make.
+-- The certificate entries of the copies of a clean travel at TTL 255.
 use Rattle.std.proofs.Common.{◌≡◌, ℕ, ◌<◌, ◌≤◌, inl, inr, All, true, false, List, [], ◌∷◌, ◌++◌, map}
 use Rattle.std.proofs.Common.{length, Option, Some, None, refl, ap, sym, subst, ◌∙◌, arith}
 use Rattle.std.specs.Prelude.{IfSome}
@@ -28,7 +28,7 @@ use Rattle.mc_maker.proofs.FilledLemmas.{each_in-all, all-each_in}
 
 -- ---- of each entry
 
--- what holds of each copy's entry, whatever the entries before it, holds of all
+-- what holds of each copy's entry, whatever the entries before it, holds of all entries
 entries_after-each : (n : Net) (P : Entry → Type 0) (es : List Entry) (cs : List Copy)
     → ((ds : List Entry) (c : Copy) → In c cs → P (entry_after n ds c))
     → ((e : Entry) → In e es → P e) → (e : Entry) → In e (entries_after n es cs) → P e
@@ -52,12 +52,14 @@ need_after-at_least_one n ds None = omega arith
 need_after-at_least_one n ds (Some i) = need_over-at_least_one (threshold_of i.1 (row_pairs (n.row i.0)))
     (entry_at ds (from_lan n (Some i)))
 
-pub entries_of-needs_at_least_one : (n : Net) (cs : List Copy) (e : Entry) → In e (entries_of n cs) → 1 ≤ e.need
-entries_of-needs_at_least_one n cs = entries_of-each n (λ e. 1 ≤ e.need) cs (λ ds c h. need_after-at_least_one n ds c.sender)
+pub entries_of-needs_at_least_one : (n : Net) (cs : List Copy) (e : Entry) → In e (entries_of n cs)
+    → 1 ≤ e.need
+entries_of-needs_at_least_one n cs = entries_of-each n (λ e. 1 ≤ e.need) cs
+    (λ ds c h. need_after-at_least_one n ds c.sender)
 
 -- an entry's LAN carried a copy
-lans-carry_entry_lan : (n : Net) (cs : List Copy) (e : Entry) → In e (entries_of n cs) → In e.lan (lans cs)
-lans-carry_entry_lan n cs = entries_of-each n (λ e. In e.lan (lans cs)) cs
+in_lans-entry_lan : (n : Net) (cs : List Copy) (e : Entry) → In e (entries_of n cs) → In e.lan (lans cs)
+in_lans-entry_lan n cs = entries_of-each n (λ e. In e.lan (lans cs)) cs
     (λ ds c h. in-map (λ (x : Copy). x.lan) c cs h)
 
 -- ---- of the copies of a clean travel
@@ -72,7 +74,7 @@ entries_of-needs_at_most_255 n count picks net travel e h =
     let s : IsSafe n es 255 (handles picks) f =
     is_safe-from_tree n es 255 (handles picks) net tree (omega arith) (omega arith)
     (in_range-travel n count [] false picks (start n 255) Clean travel) in
-    let c = in-map_cases (λ (x : Copy). x.lan) e.lan f.carried (lans-carry_entry_lan n f.carried e h) in
+    let c = in-map_cases (λ (x : Copy). x.lan) e.lan f.carried (in_lans-entry_lan n f.carried e h) in
     let named = s.named c.0 c.1 in
     let same : e ≡ named.0 = equal-from_same_image (λ (x : Entry). x.lan) e named.0 es tree.one_entry h
     named.1 (sym c.2 ∙ sym named.2.lan) in
@@ -110,28 +112,31 @@ are_clean_copies-of_travel d a flow t g cs ok same is none carried on by =
 
 -- ---- what a certificate can hold
 
-is_entry_of-entries_of : (d : DomainValue) (flow : ℕ) (cs : List Copy) → AreCleanCopies d flow cs → (e : Entry)
+is_entry_of-entries_of : (d : DomainValue) (flow : ℕ) (cs : List Copy) → AreCleanCopies d flow cs
+    → (e : Entry)
     → In e (entries_of (net_of d flow) cs) → IsEntryOf d.topology e
-is_entry_of-entries_of d flow cs clean = entries_of-each (net_of d flow) (IsEntryOf d.topology) cs (λ ds c h. record {
-  lan = each_in-all (λ (x : Copy). x.lan < length d.topology.lans) cs clean.lans c h;
-  router = each_in-all (λ (x : Copy). IfSome x.sender (λ i. i.0 < length d.topology.routers)) cs
-      clean.senders c h;
-})
+is_entry_of-entries_of d flow cs clean = entries_of-each (net_of d flow) (IsEntryOf d.topology) cs
+    (λ ds c h. record {
+      lan = each_in-all (λ (x : Copy). x.lan < length d.topology.lans) cs clean.lans c h;
+      router = each_in-all (λ (x : Copy). IfSome x.sender (λ i. i.0 < length d.topology.routers)) cs
+          clean.senders c h;
+    })
 
-pub reordered-all_of_topology : (d : DomainValue) (flow : ℕ) (cs : List Copy) (es : List Entry)
+pub all_of_topology-reordered : (d : DomainValue) (flow : ℕ) (cs : List Copy) (es : List Entry)
     → AreCleanCopies d flow cs → IsReordering (entries_of (net_of d flow) cs) es
     → All (IsEntryOf d.topology) es
-reordered-all_of_topology d flow cs es clean made = all-each_in (IsEntryOf d.topology) es
+all_of_topology-reordered d flow cs es clean made = all-each_in (IsEntryOf d.topology) es
     (λ e h. is_entry_of-entries_of d flow cs clean e (made.from e h))
 
-pub reordered-lans_below_count : (d : DomainValue) (flow : ℕ) (cs : List Copy) (es : List Entry)
+pub lans_below_count-reordered : (d : DomainValue) (flow : ℕ) (cs : List Copy) (es : List Entry)
     → AreCleanCopies d flow cs → IsReordering (entries_of (net_of d flow) cs) es
     → All (λ (e : Entry). e.lan < length d.topology.lans) es
-reordered-lans_below_count d flow cs es clean made =
+lans_below_count-reordered d flow cs es clean made =
     all-each_in (λ (e : Entry). e.lan < length d.topology.lans) es
     (λ e h. (is_entry_of-entries_of d flow cs clean e (made.from e h)).lan)
 
-forwarder_vif-at_most_31 : (n : Net) (es : List Entry) (e : Entry) (o : Option Interface) → IsNet n → IsTree n es
+forwarder_vif-at_most_31 : (n : Net) (es : List Entry) (e : Entry) (o : Option Interface) → IsNet n
+    → IsTree n es
     → In e es → e.forwarder ≡ o → IfSome o (λ i. i.1 ≤ 31)
 forwarder_vif-at_most_31 n es e None net tree h q = tt
 forwarder_vif-at_most_31 n es e (Some i) net tree h q =
@@ -148,11 +153,11 @@ length-listed_entries d es once all =
     (each_in-all (IsEntryOf d.topology) es all e.0 e.1).lan) in
     omega (arith, few, length-map es (λ (e : Entry). e.lan))
 
-pub is_list-reordered : (d : DomainValue) (flow : ℕ) (cs : List Copy) (es : List Entry) → IsDomain d
+pub is_writable_tree-reordered : (d : DomainValue) (flow : ℕ) (cs : List Copy) (es : List Entry) → IsDomain d
     → AreCleanCopies d flow cs → IsReordering (entries_of (net_of d flow) cs) es → IsWritableTree es
-is_list-reordered d flow cs es ok clean made =
+is_writable_tree-reordered d flow cs es ok clean made =
     let n = net_of d flow in
-    let few = length-listed_entries d es made.one_entry (reordered-all_of_topology d flow cs es clean made) in
+    let few = length-listed_entries d es made.one_entry (all_of_topology-reordered d flow cs es clean made) in
     let most : length d.topology.lans ≤ 1024 = ok.topology.few_lans in
     record {
       few = omega (arith, few, most);

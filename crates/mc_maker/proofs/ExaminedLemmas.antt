@@ -1,4 +1,4 @@
--- What an examination says, by the travels that were made.
+-- What the result of examining a flow means, by its travels.
 use Rattle.std.proofs.Common.{◌≡◌, ◌≢◌, ℕ, ◌≤◌, ◌<◌, All, Bool, true, false, List, [], ◌∷◌, map, length}
 use Rattle.std.proofs.Common.{Option, Some, None, refl, ap, sym, subst, ◌∙◌}
 use Rattle.std.specs.Prelude.{option_map, slice_get, unwrap_or}
@@ -14,9 +14,11 @@ use Rattle.mc_topology.specs.declared.flow.Flow.{Flow}
 use Rattle.mc_topology.specs.Topology.{TopologyValue}
 use Rattle.mc_theory.proofs.ReorderedEntries.{is_tree-reordering, is_served-reordering}
 use Rattle.mc_theory.proofs.ReachedLans.{is_right-from_accepted}
-use Rattle.mc_theory.proofs.Travels.{is_accepted-from_clean_travels, is_clean-iff_served, not_right-from_fault_finding}
+use Rattle.mc_theory.proofs.Travels.{is_accepted-from_clean_travels, is_clean-iff_served}
+use Rattle.mc_theory.proofs.Travels.{not_right-from_fault_finding}
 use Rattle.mc_forward.specs.Domains.{DomainValue, IsDomain, net_of, ttl_of}
-use Rattle.mc_forward.proofs.DomainLemmas.{is_net-net_of, wants-below_lan_count, ttl-at_least_1, ttl-at_most_255}
+use Rattle.mc_forward.proofs.DomainLemmas.{is_net-net_of, wants-below_lan_count, ttl-at_least_1}
+use Rattle.mc_forward.proofs.DomainLemmas.{ttl-at_most_255}
 use Rattle.mc_forward.specs.FlightsInDomain.{FlowOfDomain, IsFlowOfDomain, FlightInDomain, net_in}
 use Rattle.mc_replay.specs.declared.travel.Travel.{Travel}
 use Rattle.mc_replay.specs.declared.finding.Finding.{Finding as Found}
@@ -27,9 +29,9 @@ use Rattle.mc_maker.specs.Examined.{IsTtlOfFault, AreEntriesOfCleanTravel}
 use Rattle.mc_maker.specs.EntriesByLan.{AreEntriesByLan, held_entries, serves}
 use Rattle.mc_maker.specs.Examined.{AreCleanCopies}
 use Rattle.mc_maker.proofs.ListedLemmas.{ascending-held_entries, is_reordering-entries_by_lan}
-use Rattle.mc_maker.proofs.ServedLemmas.{served-each, served-not}
+use Rattle.mc_maker.proofs.ServedLemmas.{is_served-each, is_served-not}
 
--- ---- a picker's travel is one
+-- ---- a picker's travel is unique
 
 is_travel-same_finding : (n : Net) (count : ℕ) (numbers : List ℕ) (last : Bool) (is js : List ℕ) (f : Flight)
     (x y : Finding)
@@ -52,7 +54,7 @@ finding_value-unique d flow ttl t u a b =
     (finding_value u.finding)
     a.1.travel b.1.travel
 
--- what the code finds is clean where its value is
+-- a finding of the code that isn't clean has a value that isn't clean
 pub finding_value-not_clean : (x : Found) → x ≢ Found.Clean → finding_value x ≢ Clean
 finding_value-not_clean Found.Clean other e = other refl
 finding_value-not_clean (Found.Duplicate l) other e = absurd cc
@@ -60,7 +62,7 @@ finding_value-not_clean (Found.Loop l) other e = absurd cc
 finding_value-not_clean (Found.Stray r v) other e = absurd cc
 finding_value-not_clean (Found.Missed l) other e = absurd cc
 
--- ---- something is found
+-- ---- a fault is found
 
 -- at TTL 255
 pub is_ttl_of_fault-255 : (d : DomainValue) (flow : ℕ) (t : Travel) → IsFirstPickTravel d flow 255 t
@@ -70,7 +72,7 @@ is_ttl_of_fault-255 d flow t is fault = record {
   least = λ u a none. absurd (fault (finding_value-unique d flow 255 t u is a ∙ none));
 }
 
--- or at the flow's
+-- or at the flow's TTL
 pub is_ttl_of_fault-flow_ttl : (d : DomainValue) (flow : ℕ) (t : Travel) → IsFirstPickTravel d flow 255 t
     → FindsNothing t → IsTtlOfFault d flow (ttl_of d flow)
 is_ttl_of_fault-flow_ttl d flow t is none = record {
@@ -113,7 +115,8 @@ pub is_right-accepted : (d : DomainValue) (flow : ℕ) (es : List Entry) → IsD
 is_right-accepted d flow es ok lt acc = is_right-from_accepted (net_of d flow) es (is_net-net_of d flow ok)
     (ttl-at_least_1 d flow ok lt) acc
 
-pub entries_of_clean_travel-reordered : (d : DomainValue) (flow : ℕ) (t : Travel) (g : Flight) (cs : List Copy)
+pub entries_of_clean_travel-reordered : (d : DomainValue) (flow : ℕ) (t : Travel) (g : Flight)
+    (cs : List Copy)
     (es : List Entry) → IsRunTo (replay_of d flow 255 first_choices) t g → FindsNothing t
     → IsReordering (entries_of (net_of d flow) cs) es → cs ≡ g.carried → AreEntriesOfCleanTravel d flow es
 entries_of_clean_travel-reordered d flow t g cs es is none made carried =
@@ -135,13 +138,14 @@ clean-not_not (Loop l) h = absurd (h (λ e. cc))
 clean-not_not (Stray r v) h = absurd (h (λ e. cc))
 clean-not_not (Missed l) h = absurd (h (λ e. cc))
 
-pub finds_nothing-right_flow : (d : DomainValue) (flow ttl : ℕ) (t : Travel) → IsDomain d → ttl_of d flow ≤ ttl
+pub finds_nothing-right_flow : (d : DomainValue) (flow ttl : ℕ) (t : Travel) → IsDomain d
+    → ttl_of d flow ≤ ttl
     → ttl ≤ 255 → IsRight (net_of d flow) → IsFirstPickTravel d flow ttl t → FindsNothing t
 finds_nothing-right_flow d flow ttl t ok low high is_right is =
     clean-not_not (finding_value t.finding) (λ fault. not_right-by_fault d flow ttl t ok low high is fault
     is_right)
 
--- where both find nothing, the flow is right
+-- where both travels find nothing, the flow is right
 pub is_right-both_travels_clean : (d : DomainValue) (flow : ℕ) (first second : Travel) → IsDomain d
     → flow < length d.topology.flows → IsFirstPickTravel d flow 255 first
     → IsFirstPickTravel d flow (ttl_of d flow) second → FindsNothing first → FindsNothing second
@@ -157,7 +161,8 @@ is_right-both_travels_clean d flow first second ok lt a b none none' =
     b.1.travel in
     is_right-accepted d flow (entries_of n (run n (handles a.1.picks) (start n 255)).carried) ok lt
     (is_accepted-from_clean_travels n count [] false a.1.picks [] false b.1.picks (is_net-net_of d flow ok)
-    (λ l w. wants-below_lan_count d flow l ok w) (ttl-at_least_1 d flow ok lt) (ttl-at_most_255 d flow ok lt) one two)
+    (λ l w. wants-below_lan_count d flow l ok w) (ttl-at_least_1 d flow ok lt)
+    (ttl-at_most_255 d flow ok lt) one two)
 
 -- the flow's TTL
 pub ttl_of-listed_flow : (d : DomainValue) (flow : ℕ) (t : TopologyValue) (f : Flow) → t ≡ d.topology
@@ -169,7 +174,8 @@ ttl_of-listed_flow d flow t f same at =
 
 -- ---- by the view of the flight's flow
 
-pub flow_view-same_domain_and_flow : (d : DomainValue) (flow : ℕ) (j : FlightInDomain) (f : FlowOfDomain) → j.domain ≡ d
+pub flow_view-same_domain_and_flow : (d : DomainValue) (flow : ℕ) (j : FlightInDomain)
+    (f : FlowOfDomain) → j.domain ≡ d
     → j.flow ≡ flow → f ≡ record { domain = j.domain; flow = j.flow }
     → f ≡ record { domain = d; flow = flow }
 flow_view-same_domain_and_flow d flow j f same number is =
@@ -184,14 +190,15 @@ is_reordering-held_entries f cs by_lan es clean is held =
     subst (IsReordering (entries_of (net_in f) cs)) (sym held)
     (is_reordering-entries_by_lan by_lan (entries_of (net_in f) cs) is clean.tree.one_entry)
 
-pub ascending-entries_by_lan : (f : FlowOfDomain) (cs : List Copy) (by_lan : List (Option Entry)) (es : List Entry)
+pub ascending-entries_by_lan : (f : FlowOfDomain) (cs : List Copy) (by_lan : List (Option Entry))
+    (es : List Entry)
     → AreEntriesByLan by_lan (entries_of (net_in f) cs) → es ≡ held_entries by_lan
     → IsStrictlyIncreasing (map (λ (e : Entry). e.lan) es)
 ascending-entries_by_lan f cs by_lan es is held =
     subst (λ xs. IsStrictlyIncreasing (map (λ (e : Entry). e.lan) xs)) (sym held)
     (ascending-held_entries by_lan (entries_of (net_in f) cs) is)
 
--- where each wanting LAN is served, they are accepted
+-- where each wanting LAN is served, the entries are accepted
 pub is_accepted-held_entries : (f : FlowOfDomain) (cs : List Copy) (by_lan : List (Option Entry))
     (es : List Entry) → AreCleanCopies f.domain f.flow cs
     → AreEntriesByLan by_lan (entries_of (net_in f) cs) → es ≡ held_entries by_lan
@@ -199,14 +206,15 @@ pub is_accepted-held_entries : (f : FlowOfDomain) (cs : List Copy) (by_lan : Lis
 is_accepted-held_entries f cs by_lan es clean is held all =
     let made = is_reordering-held_entries f cs by_lan es clean is held in
     is_accepted-reordered f.domain f.flow cs es clean made
-    (served-each (net_in f) cs es made clean.reached all)
+    (is_served-each (net_in f) cs es made clean.reached all)
 
 -- and where one isn't, the travel at the flow's TTL finds a fault
-pub finds_fault-held_entries : (f : FlowOfDomain) (cs : List Copy) (by_lan : List (Option Entry)) (es : List Entry)
+pub finds_fault-held_entries : (f : FlowOfDomain) (cs : List Copy) (by_lan : List (Option Entry))
+    (es : List Entry)
     → IsFlowOfDomain f → AreCleanCopies f.domain f.flow cs → AreEntriesByLan by_lan (entries_of (net_in f) cs)
     → es ≡ held_entries by_lan → (e : Entry) × In e es × (serves (net_in f) e ≡ false)
     → (t : Travel) → IsFirstPickTravel f.domain f.flow (net_in f).ttl t → FindsFault t
 finds_fault-held_entries f cs by_lan es rules clean is held low t travel =
     finds_fault-not_served f.domain f.flow cs t rules.domain rules.flow clean
-    (served-not (net_in f) cs es (is_reordering-held_entries f cs by_lan es clean is held) low.0
+    (is_served-not (net_in f) cs es (is_reordering-held_entries f cs by_lan es clean is held) low.0
     clean.tree.one_entry low.1 low.2) travel

@@ -1,4 +1,4 @@
--- The vector of entries, as it fills copy by copy.
+-- The vector of entries, filled copy by copy.
 use Rattle.std.proofs.Common.{◌≡◌, ℕ, zero, suc, ◌+◌, ◌-◌, ◌<◌, ◌≤◌, inl, inr, All, Bool}
 use Rattle.std.proofs.Common.{List, [], ◌∷◌, ◌++◌, length, take, drop}
 use Rattle.std.proofs.Common.{get_or, Option, Some, None, refl, ap, sym, subst, ◌∙◌}
@@ -15,8 +15,10 @@ use Rattle.mc_theory.specs.CertificateOfCopies.{entry_after, entries_after, entr
 use Rattle.mc_theory.specs.CertificateOfCopies.{row_pairs, threshold_of}
 use Rattle.mc_theory.proofs.ListLemmas.{in-append_left, in-push}
 use Rattle.mc_forward.specs.PerLan.{item_on_lan}
-use Rattle.mc_forward.proofs.PerLanLemmas.{first_with_key-entry_on, length-after_put, holds_first-more as filled-first}
-use Rattle.mc_maker.specs.EntriesByLan.{AreEntriesByLan, entry_by_held_entries, held_entry_at, need_by_held_entries}
+use Rattle.mc_forward.proofs.PerLanLemmas.{first_with_key-entry_on, length-after_put}
+use Rattle.mc_forward.proofs.PerLanLemmas.{holds_first-more as filled-first}
+use Rattle.mc_maker.specs.EntriesByLan.{AreEntriesByLan, entry_by_held_entries, held_entry_at}
+use Rattle.mc_maker.specs.EntriesByLan.{need_by_held_entries}
 
 -- ---- elements
 
@@ -46,17 +48,18 @@ in-entries_after n es (c ∷ cs) e h = in-entries_after n (es ++ entry_after n e
 
 -- ---- copy by copy
 
--- the entries of the first k copies were put
+-- the entries of the first k copies are stored
 pub record EntriesSoFar (n : Net) (by_lan old : List (Option Entry)) (cs : List Copy)
     (k : ℕ) : Type 0 where
   pub count : length by_lan ≡ length old
   pub places : AreEntriesByLan by_lan (entries_of n (take k cs))
 
-pub entries_so_far-none : (n : Net) (by_lan : List (Option Entry)) (cs : List Copy) → AreEntriesByLan by_lan []
+pub entries_so_far-none : (n : Net) (by_lan : List (Option Entry)) (cs : List Copy)
+    → AreEntriesByLan by_lan []
     → EntriesSoFar n by_lan by_lan cs 0
 entries_so_far-none n by_lan cs none = record { count = refl; places = none }
 
--- a copy's need by the entries that are held is that after the entries so far
+-- a copy's need by the held entries is its need after the entries so far
 need_by_held-need_after : (n : Net) (by_lan : List (Option Entry)) (es : List Entry) (x : Option Interface)
     → AreEntriesByLan by_lan es → need_by_held_entries n by_lan x ≡ need_after n es x
 need_by_held-need_after n by_lan es None is = refl
@@ -75,7 +78,7 @@ entries_of-take_more n cs k c lt at =
     ∙ ap (λ x. take k cs ++ x ∷ []) (sym at) in
     ap (entries_of n) more ∙ entries_after-append n [] (take k cs) (c ∷ [])
 
--- the next copy's entry is one of all
+-- the next copy's entry is one of all entries
 in-entries_of_next : (n : Net) (cs : List Copy) (k : ℕ) (c : Copy) → k < length cs → c ≡ get_or cs k c
     → In (entry_after n (entries_of n (take k cs)) c) (entries_of n cs)
 in-entries_of_next n cs k c lt at =
@@ -89,7 +92,8 @@ in-entries_of_next n cs k c lt at =
     subst (In e) whole (in-entries_after n (entries_of n (take (k + 1) cs)) (drop (k + 1) cs) e here)
 
 -- so its need is a byte
-pub need_by_held-at_most_255 : (n : Net) (by_lan old : List (Option Entry)) (cs : List Copy) (k : ℕ) (c : Copy)
+pub need_by_held-at_most_255 : (n : Net) (by_lan old : List (Option Entry)) (cs : List Copy) (k : ℕ)
+    (c : Copy)
     → EntriesSoFar n by_lan old cs k → k < length cs → c ≡ get_or cs k c
     → All (λ (e : Entry). e.need ≤ 255) (entries_of n cs) → need_by_held_entries n by_lan c.sender ≤ 255
 need_by_held-at_most_255 n by_lan old cs k c f lt at small =

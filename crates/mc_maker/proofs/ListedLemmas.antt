@@ -1,4 +1,4 @@
--- The entries that are held, in the order of their places.
+-- The held entries, in the order of their places.
 use Rattle.std.proofs.Common.{◌≡◌, ℕ, zero, suc, ◌+◌, ◌<◌, ◌≤◌, inl, inr, Bool, true, false, cond}
 use Rattle.std.proofs.Common.{◌==◌, List, [], ◌∷◌, map, slice_index, Option, Some, None}
 use Rattle.std.proofs.Common.{refl, ap, sym, subst, ◌∙◌, arith}
@@ -37,12 +37,13 @@ in-held_entries (Some x ∷ places) zero e h = inl cc
 in-held_entries (None ∷ places) (suc l) e h = in-held_entries places l e h
 in-held_entries (Some x ∷ places) (suc l) e h = inr (in-held_entries places l e h)
 
-held-in_held_entries : (places : List (Option Entry)) (e : Entry) → In e (held_entries places)
+item_on_lan-held_entry : (places : List (Option Entry)) (e : Entry) → In e (held_entries places)
     → (l : ℕ) × (item_on_lan places l ≡ Some e)
-held-in_held_entries [] e h = absurd h
-held-in_held_entries (None ∷ places) e h = let r = held-in_held_entries places e h in (suc r.0, r.1)
-held-in_held_entries (Some x ∷ places) e (inl q) = (0, ap Some q)
-held-in_held_entries (Some x ∷ places) e (inr h) = let r = held-in_held_entries places e h in (suc r.0, r.1)
+item_on_lan-held_entry [] e h = absurd h
+item_on_lan-held_entry (None ∷ places) e h = let r = item_on_lan-held_entry places e h in (suc r.0, r.1)
+item_on_lan-held_entry (Some x ∷ places) e (inl q) = (0, ap Some q)
+item_on_lan-held_entry (Some x ∷ places) e (inr h) = let r = item_on_lan-held_entry places e h
+    in (suc r.0, r.1)
 
 -- ---- ascending
 
@@ -59,7 +60,8 @@ strictly_increasing-cons x (y ∷ xs) above rest (suc i) lt =
 abbrev pub HoldsLansFrom : ℕ → List (Option Entry) → Type 0
 HoldsLansFrom k places = (l : ℕ) (e : Entry) → item_on_lan places l ≡ Some e → e.lan ≡ k + l
 
-holds_lans_from-drop_one : (k : ℕ) (o : Option Entry) (places : List (Option Entry)) → HoldsLansFrom k (o ∷ places)
+holds_lans_from-drop_one : (k : ℕ) (o : Option Entry) (places : List (Option Entry))
+    → HoldsLansFrom k (o ∷ places)
     → HoldsLansFrom (suc k) places
 holds_lans_from-drop_one k o places at l e h = let q : e.lan ≡ k + suc l = at (suc l) e h in omega (arith, q)
 
@@ -67,7 +69,7 @@ held_entries-at_least_first : (k : ℕ) (places : List (Option Entry)) (l : ℕ)
     → In l (map (λ (e : Entry). e.lan) (held_entries places)) → k ≤ l
 held_entries-at_least_first k places l at h =
     let e = in-map_cases (λ (e : Entry). e.lan) l (held_entries places) h in
-    let place = held-in_held_entries places e.0 e.1 in
+    let place = item_on_lan-held_entry places e.0 e.1 in
     let q : e.0.lan ≡ k + place.0 = at place.0 e.0 place.1 in
     let r : e.0.lan ≡ l = e.2 in
     omega (arith, q, r)
@@ -75,7 +77,8 @@ held_entries-at_least_first k places l at h =
 ascending-holds_lans_from : (k : ℕ) (places : List (Option Entry)) → HoldsLansFrom k places
     → IsStrictlyIncreasing (map (λ (e : Entry). e.lan) (held_entries places))
 ascending-holds_lans_from k [] at = λ i lt. absurd (omega (arith, lt))
-ascending-holds_lans_from k (None ∷ places) at = ascending-holds_lans_from (suc k) places (holds_lans_from-drop_one k None places at)
+ascending-holds_lans_from k (None ∷ places) at = ascending-holds_lans_from (suc k) places
+    (holds_lans_from-drop_one k None places at)
 ascending-holds_lans_from k (Some x ∷ places) at =
     let rest : HoldsLansFrom (suc k) places = holds_lans_from-drop_one k (Some x) places at in
     let first : x.lan ≡ k + 0 = at 0 x refl in
@@ -85,7 +88,8 @@ ascending-holds_lans_from k (Some x ∷ places) at =
 
 -- ---- the entries by the numbers of their LANs
 
-holds_lans_from-zero : (by_lan : List (Option Entry)) (es : List Entry) → AreEntriesByLan by_lan es → HoldsLansFrom 0 by_lan
+holds_lans_from-zero : (by_lan : List (Option Entry)) (es : List Entry) → AreEntriesByLan by_lan es
+    → HoldsLansFrom 0 by_lan
 holds_lans_from-zero by_lan es is l e h = let q : e.lan ≡ l =
     (in-entry_on es l e (sym (is l ∙ first_with_key-entry_on es l) ∙ h)).1 in omega (arith, q)
 
@@ -93,12 +97,15 @@ pub ascending-held_entries : (by_lan : List (Option Entry)) (es : List Entry) �
     → IsStrictlyIncreasing (map (λ (e : Entry). e.lan) (held_entries by_lan))
 ascending-held_entries by_lan es is = ascending-holds_lans_from 0 by_lan (holds_lans_from-zero by_lan es is)
 
-pub is_reordering-entries_by_lan : (by_lan : List (Option Entry)) (es : List Entry) → AreEntriesByLan by_lan es
+pub is_reordering-entries_by_lan : (by_lan : List (Option Entry)) (es : List Entry)
+    → AreEntriesByLan by_lan es
     → Distinct (map (λ (e : Entry). e.lan) es) → IsReordering es (held_entries by_lan)
 is_reordering-entries_by_lan by_lan es is once = record {
   one_entry = distinct-from_increasing (map (λ (e : Entry). e.lan) (held_entries by_lan))
       (ascending-held_entries by_lan es is);
-  to = λ e h. in-held_entries by_lan e.lan e (is e.lan ∙ first_with_key-entry_on es e.lan ∙ entry_on-of_member es e once h);
+  to = λ e h. in-held_entries by_lan e.lan e (is e.lan ∙ first_with_key-entry_on es e.lan
+      ∙ entry_on-of_member es e once h);
   from = λ e h. (let place =
-      held-in_held_entries by_lan e h in (in-entry_on es place.0 e (sym (is place.0 ∙ first_with_key-entry_on es place.0) ∙ place.1)).0);
+      item_on_lan-held_entry by_lan e h in (in-entry_on es place.0 e
+      (sym (is place.0 ∙ first_with_key-entry_on es place.0) ∙ place.1)).0);
 }

@@ -1,4 +1,4 @@
--- Whether each wanting LAN is served, by the entries of the copies.
+-- Whether the entries of the copies serve each LAN that wants the flow.
 use Rattle.std.proofs.Common.{◌≡◌, ℕ, Bool, true, false, not, ◌||◌, nat_le, All, inl, inr, List, []}
 use Rattle.std.proofs.Common.{◌∷◌, ◌++◌, map, refl, ap, ◌∙◌, arith}
 use Rattle.std.proofs.lemmas.Bool.{leb-true, leb-false}
@@ -30,7 +30,7 @@ entries_of-entry_of_lan n cs l h =
     let c = in-map_cases (λ (x : Copy). x.lan) l cs h in
     let e = entry_after-of_copy n [] cs c.0 c.1 in (e.0, e.1, e.2 ∙ c.2)
 
--- ---- what is served
+-- ---- served LANs
 
 served_if_wanted : (m w : Bool) → w ≡ true → (m || not w) ≡ true → m ≡ true
 served_if_wanted true w q e = refl
@@ -44,9 +44,9 @@ wanted_and_not_served false false e = absurd cc
 
 module _ (n : Net) (cs : List Copy) (es : List Entry) (made : IsReordering (entries_of n cs) es)
   where
-    pub served-each : ((l : ℕ) → n.wants l ≡ true → In l (lans cs))
+    pub is_served-each : ((l : ℕ) → n.wants l ≡ true → In l (lans cs))
         → All (λ (e : Entry). serves n e ≡ true) es → IsServed n (entries_of n cs)
-    served-each reached all l w =
+    is_served-each reached all l w =
         let e = entries_of-entry_of_lan n cs l (reached l w) in
         let wanted : n.wants e.0.lan ≡ true = ap n.wants e.2 ∙ w in
         let good = each_in-all (λ (x : Entry). serves n x ≡ true) es all e.0 (made.to e.0 e.1) in (
@@ -56,9 +56,9 @@ module _ (n : Net) (cs : List Copy) (es : List Entry) (made : IsReordering (entr
           leb-true e.0.need n.ttl (served_if_wanted (nat_le e.0.need n.ttl) (n.wants e.0.lan) wanted good),
         )
 
-    pub served-not : (e : Entry) → Distinct (map (λ (x : Entry). x.lan) (entries_of n cs)) → In e es
+    pub is_served-not : (e : Entry) → Distinct (map (λ (x : Entry). x.lan) (entries_of n cs)) → In e es
         → serves n e ≡ false → ¬ IsServed n (entries_of n cs)
-    served-not e once h low served =
+    is_served-not e once h low served =
         let un = wanted_and_not_served (nat_le e.need n.ttl) (n.wants e.lan) low in
         let s = served e.lan un.1 in
         let same : s.0 ≡ e = equal-from_same_image (λ (x : Entry). x.lan) s.0 e (entries_of n cs) once s.1

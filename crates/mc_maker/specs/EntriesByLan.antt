@@ -8,7 +8,7 @@ use Rattle.mc_theory.specs.Findings.{from_lan}
 use Rattle.mc_theory.specs.CertificateOfCopies.{need_over, row_pairs, threshold_of}
 use Rattle.mc_forward.specs.PerLan.{item_on_lan, HoldsFirstOfEachKey}
 
--- each place holds the first entry of the LAN with its number
+-- each place holds the first entry of the LAN with the place's number
 abbrev pub AreEntriesByLan : List (Option Entry) → List Entry → Type 0
 AreEntriesByLan by_lan es = HoldsFirstOfEachKey (λ (e : Entry). e.lan) by_lan es
 
@@ -17,19 +17,19 @@ abbrev pub held_entry_at : List (Option Entry) → Option ℕ → Option Entry
 held_entry_at by_lan None = None
 held_entry_at by_lan (Some lan) = item_on_lan by_lan lan
 
--- the entries that are held, in the order of their places
+-- the held entries, in the order of their places
 abbrev pub held_entries : List (Option Entry) → List Entry
 held_entries [] = []
 held_entries (None ∷ places) = held_entries places
 held_entries (Some e ∷ places) = e ∷ held_entries places
 
--- the need of a copy with this sender, after the entries that are held
+-- the need of a copy with this sender, by the held entries
 abbrev pub need_by_held_entries : Net → List (Option Entry) → Option Interface → ℕ
 need_by_held_entries n by_lan None = 1
 need_by_held_entries n by_lan (Some i) = need_over (threshold_of i.1 (row_pairs (n.row i.0)))
     (held_entry_at by_lan (from_lan n (Some i)))
 
--- a copy's entry, after those that are held
+-- a copy's entry, by the held entries
 abbrev pub entry_by_held_entries : Net → List (Option Entry) → Copy → Entry
 entry_by_held_entries n by_lan c = record {
   lan = c.lan;
@@ -38,6 +38,6 @@ entry_by_held_entries n by_lan c = record {
   forwarder = c.sender;
 }
 
--- all packets of the flow meet the entry's need, or its LAN doesn't want the flow
+-- the flow's TTL meets the entry's need, or its LAN doesn't want the flow
 abbrev pub serves : Net → Entry → Bool
 serves n e = nat_le e.need n.ttl || not (n.wants e.lan)

@@ -1,8 +1,9 @@
--- What an examination of a flow says.
-use Rattle.std.specs.Prelude.{◌≡◌, ◌≢◌, ℕ, Bool, true, false, List, [], ⊤}
-use Rattle.mc_theory.specs.Flights.{Flight}
+-- What the result of examining a flow means.
+use Rattle.std.specs.Prelude.{◌≡◌, ◌≢◌, ◌↔◌, ◌<◌, ◌≤◌, ℕ, Bool, true, false, All, IfSome, List, [], ⊤}
+use Rattle.std.specs.Prelude.{length}
+use Rattle.mc_theory.specs.Flights.{Copy, Flight}
 use Rattle.mc_theory.specs.Lists.{In}
-use Rattle.mc_theory.specs.Certificates.{Entry, IsReordering, lans}
+use Rattle.mc_theory.specs.Certificates.{Entry, IsReordering, IsTree, lans}
 use Rattle.mc_theory.specs.Findings.{Choices}
 use Rattle.mc_theory.specs.Findings.Finding.{Clean}
 use Rattle.mc_theory.specs.CertificateOfCopies.{entries_of}
@@ -12,12 +13,9 @@ use Rattle.mc_replay.specs.Travels.{replay_of, IsRunTo, IsRunOfChoices}
 use Rattle.mc_replay.specs.declared.travel.Travel.{Travel}
 use Rattle.mc_maker.specs.declared.examination.Examined.{Examined}
 use Rattle.mc_maker.specs.declared.examination.Examined.TheVariants.{Certified, Found}
-use Rattle.std.specs.Prelude.{◌<◌, ◌≤◌, All, IfSome, length}
-use Rattle.mc_theory.specs.Flights.{Copy}
-use Rattle.mc_theory.specs.Certificates.{IsTree}
 
 -- The copies are of the domain's LANs and routers, each LAN that wants the flow carried one, and
--- their entries meet all conditions of a certificate but the last, with needs up to 255.
+-- their entries fulfil all conditions of a certificate but the last, with needs up to 255.
 pub record AreCleanCopies (d : DomainValue) (flow : ℕ) (cs : List Copy) : Type 0 where
   pub tree : IsTree (net_of d flow) (entries_of (net_of d flow) cs)
   pub needs : All (λ e. e.need ≤ 255) (entries_of (net_of d flow) cs)
@@ -25,14 +23,14 @@ pub record AreCleanCopies (d : DomainValue) (flow : ℕ) (cs : List Copy) : Type
   pub lans : All (λ c. c.lan < length d.topology.lans) cs
   pub senders : All (λ c. IfSome c.sender (λ i. i.0 < length d.topology.routers)) cs
 
--- ---- the answer
+-- ---- the result
 
 -- a fact of the entries, where the flow is certified
 abbrev pub IfCertified : (List Entry → Type 0) → Examined → Type 0
 IfCertified P (Certified entries) = P entries.items
 IfCertified P (Found ttl travel) = ⊤
 
--- a fact of the TTL and the travel, where something is found
+-- a fact of the TTL and the travel, where a fault is found
 abbrev pub IfFound : (ℕ → Travel → Type 0) → Examined → Type 0
 IfFound P (Certified entries) = ⊤
 IfFound P (Found ttl travel) = P ttl travel
@@ -43,7 +41,7 @@ is_certified (Found ttl travel) = false
 
 -- ---- travels in which the first waiting copy is handled each time
 
--- what they are chosen by: no number, and then always the first
+-- the picker's choices: no numbers, and then always the first
 abbrev pub first_choices : Choices
 first_choices = record { numbers = []; last = false }
 
@@ -57,7 +55,12 @@ FindsNothing t = finding_value t.finding ≡ Clean
 abbrev pub FindsFault : Travel → Type 0
 FindsFault t = finding_value t.finding ≢ Clean
 
--- The TTL at which a fault is found: 255 if the travel at 255 finds one, and else the flow's.
+-- the fact holds exactly if the travels at TTL 255 and at the flow's TTL both find nothing
+abbrev pub IffTravelsFindNothing : DomainValue → (flow : ℕ) → Type 0 → Type 0
+IffTravelsFindNothing d flow P = (first second : Travel) → IsFirstPickTravel d flow 255 first
+    → IsFirstPickTravel d flow (ttl_of d flow) second → P ↔ (FindsNothing first × FindsNothing second)
+
+-- The TTL at which a fault is found: 255 if the travel at 255 finds one, and otherwise the flow's.
 pub record IsTtlOfFault (d : DomainValue) (flow ttl : ℕ) : Type 0 where
   pub greatest : (t : Travel) → IsFirstPickTravel d flow 255 t → FindsFault t → ttl ≡ 255
   pub least : (t : Travel) → IsFirstPickTravel d flow 255 t → FindsNothing t → ttl ≡ ttl_of d flow

@@ -1,4 +1,4 @@
--- What an examination of a flow answers, with the flights of the travels that were made.
+-- What the result of examining a flow means, with the flights of its travels.
 use Rattle.std.specs.Prelude.{◌≡◌, ℕ, ⊤}
 use Rattle.mc_forward.specs.Domains.{DomainValue, ttl_of}
 use Rattle.mc_replay.specs.Travels.{IsRunTo, replay_of}
@@ -7,9 +7,11 @@ use Rattle.mc_maker.specs.Examined.{FindsNothing, first_choices}
 use Rattle.mc_maker.specs.declared.examination.Examined as examined
 use Rattle.mc_maker.specs.declared.examination.Examined.TheVariants as examined_as
 use Rattle.mc_maker.specs.declared.examined_flights.ExaminedFlights.{ExaminedFlights}
-use Rattle.mc_maker.specs.declared.examined_flights.ExaminedFlights.TheVariants.{Certified, FoundAtTtl255, FoundAtFlowTtl}
+use Rattle.mc_maker.specs.declared.examined_flights.ExaminedFlights.TheVariants.{Certified}
+use Rattle.mc_maker.specs.declared.examined_flights.ExaminedFlights.TheVariants.{FoundAtTtl255}
+use Rattle.mc_maker.specs.declared.examined_flights.ExaminedFlights.TheVariants.{FoundAtFlowTtl}
 
--- what it answers, without the flights
+-- the result without the flights
 abbrev pub without_flights : DomainValue → (flow : ℕ) → ExaminedFlights → examined.Examined
 without_flights d flow (Certified entries) = examined_as.Certified entries
 without_flights d flow (FoundAtTtl255 ended) = examined_as.Found 255 ended.travel
@@ -22,7 +24,7 @@ pub record IsFinishedTravelOf (d : DomainValue) (flow ttl : ℕ) (ended : Finish
   pub flow_of_flight : ended.flight.flow ≡ flow
   pub run : IsRunTo (replay_of d flow ttl first_choices) ended.travel ended.flight.flight
 
--- The travels are those: at TTL 255, and where nothing is found there, at the flow's.
+-- The travels are those at TTL 255 and, where that one finds nothing, at the flow's TTL.
 abbrev pub HasExaminedFlights : DomainValue → (flow : ℕ) → ExaminedFlights → Type 0
 HasExaminedFlights d flow (Certified entries) = ⊤
 HasExaminedFlights d flow (FoundAtTtl255 ended) = IsFinishedTravelOf d flow 255 ended

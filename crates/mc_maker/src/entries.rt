@@ -1,9 +1,10 @@
-//! The entries that a clean travel at TTL 255 makes, one for each copy that it carried, each on its
-//! LAN.
+//! The certificate entries of a clean travel at TTL 255: one for each copy that it carried, stored by
+//! the copy's LAN.
 
 ghost use Rattle.std.specs.Prelude.{◌≡◌, ◌<◌, ◌≤◌, All, IfOk, IfSome, Some, [], length};
 ghost use Rattle.mc_theory.specs.CertificateOfCopies.{entries_of, need_over};
-ghost use Rattle.mc_maker.specs.EntriesByLan.{AreEntriesByLan, entry_by_held_entries, held_entry_at, held_entries, need_by_held_entries};
+ghost use Rattle.mc_maker.specs.EntriesByLan.{AreEntriesByLan, entry_by_held_entries};
+ghost use Rattle.mc_maker.specs.EntriesByLan.{held_entry_at, held_entries, need_by_held_entries};
 ghost use Rattle.mc_forward.specs.FlightsInDomain.{net_in};
 
 use mc_cert::Reached;
@@ -12,7 +13,7 @@ use mc_text::Memory;
 use mc_topology::{LanNo, RouterNo};
 use std::alloc::Global;
 
-/// The entry of a LAN, if there is a LAN and it has one.
+/// The entry of the LAN that a vif is placed on, if both are there.
 pub(crate) fn entry_at(by_lan: &PerLan<Reached>, place: Option<LanNo>) -> Option<Reached>
     ensures { result ≡ held_entry_at by_lan.now place }
 {
@@ -22,8 +23,7 @@ pub(crate) fn entry_at(by_lan: &PerLan<Reached>, place: Option<LanNo>) -> Option
     }
 }
 
-/// The least TTL with which packets come over a pair with this threshold, from a LAN with this
-/// entry.
+/// The least TTL with which packets pass an oif with this threshold, from a LAN with this entry.
 fn need_over(threshold: u8, base: Option<Reached>) -> u8
     requires bounded { need_over threshold base ≤ 255 }
     ensures value { result ≡ need_over threshold base }
@@ -34,7 +34,7 @@ fn need_over(threshold: u8, base: Option<Reached>) -> u8
     }
 }
 
-/// The least TTL with which packets are sent by a router's vif.
+/// The least TTL with which packets leave a router by a vif.
 fn need_at_vif(view: &FlowView<'_>, by_lan: &PerLan<Reached>, router: RouterNo, vif: u8) -> u8
     requires bounded { need_by_held_entries (net_in view.now) by_lan.now (Some (router, vif)) ≤ 255 }
     ensures value { result ≡ need_by_held_entries (net_in view.now) by_lan.now (Some (router, vif)) }
@@ -48,7 +48,8 @@ fn need_at_vif(view: &FlowView<'_>, by_lan: &PerLan<Reached>, router: RouterNo, 
     }
 }
 
-/// The least TTL with which packets reach the LAN of a copy with this sender, 1 for the source's.
+/// The least TTL with which packets reach the LAN of a copy with this sender; 1 without a sender, on
+/// the source's LAN.
 fn need_of_sender(
     view: &FlowView<'_>,
     by_lan: &PerLan<Reached>,
@@ -63,7 +64,7 @@ fn need_of_sender(
     }
 }
 
-/// The entry of a copy, after those of the earlier ones.
+/// The entry of a copy, by the entries of the copies before it.
 fn entry_of_copy(view: &FlowView<'_>, by_lan: &PerLan<Reached>, copy: &CarriedCopy) -> Reached
     requires bounded { need_by_held_entries (net_in view.now) by_lan.now copy.now.sender ≤ 255 }
     ensures value { result ≡ entry_by_held_entries (net_in view.now) by_lan.now copy.now }
@@ -76,12 +77,12 @@ fn entry_of_copy(view: &FlowView<'_>, by_lan: &PerLan<Reached>, copy: &CarriedCo
     }
 }
 
-/// Puts the entry of each copy on its LAN, unless an earlier one is there.
+/// Stores the entry of each copy by its LAN, unless the LAN has one.
 fn put_entries(view: &FlowView<'_>, by_lan: &mut PerLan<Reached>, copies: &[CarriedCopy])
     requires empty { AreEntriesByLan by_lan.old [] }
     requires lans { All (λ c. c.lan < length by_lan.old) copies.now }
     requires needs { All (λ e. e.need ≤ 255) (entries_of (net_in view.now) copies.now) }
-    ensures meaning { AreEntriesByLan by_lan.new (entries_of (net_in view.now) copies.now) }
+    ensures entries { AreEntriesByLan by_lan.new (entries_of (net_in view.now) copies.now) }
 {
     for copy in copies {
         let entry = entry_of_copy(view, by_lan, copy);
@@ -89,7 +90,7 @@ fn put_entries(view: &FlowView<'_>, by_lan: &mut PerLan<Reached>, copies: &[Carr
     }
 }
 
-/// The entries of the copies that a travel at TTL 255 carried, each on its LAN.
+/// The entries of the copies that a travel at TTL 255 carried, stored by their LANs.
 pub(crate) fn entries_by_lan(
     alloc: Global,
     view: &FlowView<'_>,
@@ -105,7 +106,8 @@ pub(crate) fn entries_by_lan(
     Ok(by_lan)
 }
 
-/// The entries, by ascending numbers of their LANs. Room is made for so many at once.
+/// The entries by ascending numbers of their LANs, in a vector with room for `count` entries from the
+/// start.
 pub(crate) fn entries_in_lan_order(
     alloc: Global,
     by_lan: &PerLan<Reached>,

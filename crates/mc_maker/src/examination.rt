@@ -1,4 +1,4 @@
-//! A flow is examined: it has a certificate, or something is found.
+//! Examines a flow: it has a certificate, or a travel finds a fault.
 
 ghost use Rattle.std.specs.Prelude.{◌≡◌, ◌↔◌, ◌<◌, All, IfNone, IfOk, IfSome, IsSome, IsTrue};
 ghost use Rattle.std.specs.Prelude.{length, map};
@@ -8,8 +8,9 @@ ghost use Rattle.mc_theory.specs.CertificateOfCopies.{entries_of};
 ghost use Rattle.mc_forward.specs.Domains.{net_of, ttl_of};
 ghost use Rattle.mc_forward.specs.FlightsInDomain.{net_in};
 ghost use Rattle.mc_cert.specs.Certificate.{IsEntryOf, IsWritableTree};
-ghost use Rattle.mc_maker.specs.Examined.{FindsFault, FindsNothing, IfCertified, IfFound};
-ghost use Rattle.mc_maker.specs.Examined.{AreEntriesOfCleanTravel, IsFirstPickTravel, IsTtlOfFault, is_certified};
+ghost use Rattle.mc_maker.specs.Examined.{FindsFault, IfCertified, IfFound, IffTravelsFindNothing};
+ghost use Rattle.mc_maker.specs.Examined.{AreEntriesOfCleanTravel, IsFirstPickTravel, IsTtlOfFault};
+ghost use Rattle.mc_maker.specs.Examined.{is_certified};
 ghost use Rattle.mc_maker.specs.Examined.{AreCleanCopies};
 
 use crate::examined_flights::{ExaminedFlights, examine_to_end};
@@ -19,12 +20,12 @@ use mc_replay::Travel;
 use mc_text::Memory;
 use std::alloc::Global;
 
-/// What an examination of a flow answers.
+/// The result of examining a flow.
 #[derive(Debug, Drop)]
 pub enum Examined {
-    /// The flow is right: the entries of its certificate.
+    /// The flow is right, and these are the entries of its certificate.
     Certified(Vec<Reached>),
-    /// It isn't: what a packet of it meets.
+    /// The flow isn't right, as the travel of one packet shows.
     Found {
         /// The packet's time to live.
         ttl: u8,
@@ -33,13 +34,13 @@ pub enum Examined {
     },
 }
 
-/// Examines the flow with this number: the travel of a packet of TTL 255 shows that the flow is not
-/// right, or its copies make the entries of a certificate, or these leave a LAN unserved and so
-/// does a packet of the flow's least TTL.
+/// Examines the flow with this number, counted from 0. Either the travel of a packet with TTL 255 finds
+/// a fault, or its copies make the entries of a certificate, or these entries leave a LAN unserved, and
+/// then the travel of a packet with the flow's TTL finds a fault.
 ///
 /// # Errors
 ///
-/// `Memory` where a growth was refused.
+/// `Memory` if an allocation fails.
 pub fn examine(alloc: Global, domain: &Domain, flow: u32) -> Result<Examined, Memory>
     requires known { flow < length domain.now.topology.flows }
     // The entries of a certified flow are accepted,
@@ -48,15 +49,15 @@ pub fn examine(alloc: Global, domain: &Domain, flow: u32) -> Result<Examined, Me
     ensures ascending { IfOk result (IfCertified (λ es. IsStrictlyIncreasing (map (λ e. e.lan) es))) }
     // of the topology,
     ensures listed { IfOk result (IfCertified (All (IsEntryOf domain.now.topology))) }
-    // such as a certificate can hold,
-    ensures list { IfOk result (IfCertified IsWritableTree) }
+    // which a certificate can hold,
+    ensures writable { IfOk result (IfCertified IsWritableTree) }
     // and those of the copies that the travel at TTL 255 carried.
     ensures made { IfOk result (IfCertified (AreEntriesOfCleanTravel domain.now flow)) }
-    // What is found is the travel at that TTL in which the first waiting copy is handled each time,
+    // A found travel is the one at that TTL in which the first waiting copy is handled each time;
     ensures travel { IfOk result (IfFound (IsFirstPickTravel domain.now flow)) }
-    // it finds a fault,
+    // it finds a fault;
     ensures fault { IfOk result (IfFound (λ ttl travel. FindsFault travel)) }
-    // and the TTL is 255 if a fault is found there, and else the flow's.
+    // and its TTL is 255 if a fault is found there, and otherwise the flow's.
     ensures ttl { IfOk result (IfFound (λ ttl travel. IsTtlOfFault domain.now flow ttl)) }
     // The flow is certified exactly if it is right.
     ensures right { IfOk result (λ examined.
@@ -75,11 +76,11 @@ pub fn examine(alloc: Global, domain: &Domain, flow: u32) -> Result<Examined, Me
     }
 }
 
-/// The entries of a certificate of the flow with this number, if it is right.
+/// The entries of a certificate for the flow with this number, counted from 0, if the flow is right.
 ///
 /// # Errors
 ///
-/// `Memory` where a growth was refused.
+/// `Memory` if an allocation fails.
 pub fn make(alloc: Global, domain: &Domain, flow: u32) -> Result<Option<Vec<Reached>>, Memory>
     requires known { flow < length domain.now.topology.flows }
     // The entries are accepted,
@@ -91,17 +92,15 @@ pub fn make(alloc: Global, domain: &Domain, flow: u32) -> Result<Option<Vec<Reac
     // of the topology,
     ensures listed { IfOk result (λ made. IfSome made (λ es.
         All (IsEntryOf domain.now.topology) es.items)) }
-    // such as a certificate can hold,
-    ensures list { IfOk result (λ made. IfSome made (λ es. IsWritableTree es.items)) }
+    // which a certificate can hold,
+    ensures writable { IfOk result (λ made. IfSome made (λ es. IsWritableTree es.items)) }
     // and those of the copies that the travel at TTL 255 carried.
-    ensures made { IfOk result (λ made. IfSome made (λ es. AreEntriesOfCleanTravel domain.now flow es.items)) }
-    // There are some exactly if the flow is right,
+    ensures made { IfOk result (λ made. IfSome made (λ es. AreEntriesOfCleanTravel domain.now flow
+        es.items)) }
+    // There are entries exactly if the flow is right,
     ensures right { IfOk result (λ made. IsSome made ↔ IsRight (net_of domain.now flow)) }
-    // which is to say that the travels at TTL 255 and at the flow's both find nothing.
-    ensures travels { IfOk result (λ made. (first second : Travel) →
-        IsFirstPickTravel domain.now flow 255 first →
-        IsFirstPickTravel domain.now flow (ttl_of domain.now flow) second →
-        IsSome made ↔ (FindsNothing first × FindsNothing second)) }
+    // and exactly if the travels at TTL 255 and at the flow's TTL both find nothing.
+    ensures travels { IfOk result (λ made. IffTravelsFindNothing domain.now flow (IsSome made)) }
 {
     let _rules = domain.topology();
     match examine(alloc, domain, flow)? {

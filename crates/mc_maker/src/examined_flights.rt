@@ -1,4 +1,4 @@
-//! A flow is examined, and the flights are kept that show what is found.
+//! Examines a flow, and keeps the flights that show the fault.
 
 ghost use Rattle.std.specs.Prelude.{◌≡◌, ◌↔◌, ◌<◌, All, IfNone, IfOk, IfSome, IsTrue};
 ghost use Rattle.std.specs.Prelude.{length, map};
@@ -8,7 +8,8 @@ ghost use Rattle.mc_theory.specs.CertificateOfCopies.{entries_of};
 ghost use Rattle.mc_forward.specs.Domains.{net_of};
 ghost use Rattle.mc_forward.specs.FlightsInDomain.{net_in};
 ghost use Rattle.mc_cert.specs.Certificate.{IsEntryOf, IsWritableTree};
-ghost use Rattle.mc_maker.specs.Examined.{AreCleanCopies, FindsFault, IfCertified, IfFound, AreEntriesOfCleanTravel};
+ghost use Rattle.mc_maker.specs.Examined.{AreCleanCopies, FindsFault, IfCertified, IfFound};
+ghost use Rattle.mc_maker.specs.Examined.{AreEntriesOfCleanTravel};
 ghost use Rattle.mc_maker.specs.Examined.{IsFirstPickTravel, IsTtlOfFault, is_certified};
 ghost use Rattle.mc_maker.specs.ExaminedFlights.{HasExaminedFlights, without_flights};
 
@@ -20,14 +21,14 @@ use mc_replay::{Finding, FinishedTravel, First, Travel, replay_to_end};
 use mc_text::Memory;
 use std::alloc::Global;
 
-/// What an examination of a flow answers, with the flights that show what is found.
+/// The result of examining a flow, with the flights that show the fault.
 #[derive(Drop)]
 pub enum ExaminedFlights<'d> {
-    /// The flow is right: the entries of its certificate.
+    /// The flow is right, and these are the entries of its certificate.
     Certified(Vec<Reached>),
-    /// What a packet with TTL 255 meets.
+    /// A packet with TTL 255 meets a fault: its travel.
     FoundAtTtl255(FinishedTravel<'d>),
-    /// What a packet with the flow's least TTL meets, where one with TTL 255 meets nothing.
+    /// A packet with the flow's TTL meets a fault, and one with TTL 255 meets none.
     FoundAtFlowTtl {
         /// The travel at TTL 255.
         greatest: FinishedTravel<'d>,
@@ -50,10 +51,10 @@ fn certificate_of(
         IsStrictlyIncreasing (map (λ e. e.lan) es.items))) }
     ensures listed { IfOk result (λ made. IfSome made (λ es.
         All (IsEntryOf view.now.domain.topology) es.items)) }
-    ensures list { IfOk result (λ made. IfSome made (λ es. IsWritableTree es.items)) }
+    ensures writable { IfOk result (λ made. IfSome made (λ es. IsWritableTree es.items)) }
     ensures entries { IfOk result (λ made. IfSome made (λ es.
         IsReordering (entries_of (net_in view.now) copies.now) es.items)) }
-    // Else the travel at the flow's TTL finds a fault.
+    // Without entries, the travel at the flow's TTL finds a fault.
     ensures none { IfOk result (λ made. IfNone made ((travel : Travel) →
         IsFirstPickTravel view.now.domain view.now.flow (net_in view.now).ttl travel → FindsFault travel)) }
 {
@@ -65,11 +66,12 @@ fn certificate_of(
     Ok(Some(entries))
 }
 
-/// Examines the flow with this number, as `examine` does, and answers with the flights too.
+/// Examines the flow with this number, counted from 0, as [`examine`](crate::examine) does, and returns
+/// the flights too.
 ///
 /// # Errors
 ///
-/// `Memory` where a growth was refused.
+/// `Memory` if an allocation fails.
 pub fn examine_to_end<'d>(
     alloc: Global,
     domain: &'d Domain,
@@ -86,23 +88,25 @@ pub fn examine_to_end<'d>(
     // of the topology,
     ensures listed { IfOk result (λ examined_flights. IfCertified (All (IsEntryOf domain.now.topology))
         (without_flights domain.now flow examined_flights)) }
-    // such as a certificate can hold,
-    ensures list { IfOk result (λ examined_flights. IfCertified IsWritableTree (without_flights domain.now flow examined_flights)) }
+    // which a certificate can hold,
+    ensures writable { IfOk result (λ examined_flights. IfCertified IsWritableTree
+        (without_flights domain.now flow examined_flights)) }
     // and those of the copies that the travel at TTL 255 carried.
     ensures made { IfOk result (λ examined_flights. IfCertified (AreEntriesOfCleanTravel domain.now flow)
         (without_flights domain.now flow examined_flights)) }
-    // What is found is found by the travel at that TTL in which the first waiting copy is handled
-    // each time, with the flight that it ends with,
-    ensures examined_flights { IfOk result (HasExaminedFlights domain.now flow) }
-    // it is a fault,
+    // A found travel is the one at that TTL in which the first waiting copy is handled each time, with
+    // the flight that it ends with;
+    ensures flights { IfOk result (HasExaminedFlights domain.now flow) }
+    // it finds a fault;
     ensures fault { IfOk result (λ examined_flights. IfFound (λ ttl travel. FindsFault travel)
         (without_flights domain.now flow examined_flights)) }
-    // and the TTL is 255 if a fault is found there, and else the flow's.
+    // and its TTL is 255 if a fault is found there, and otherwise the flow's.
     ensures ttl { IfOk result (λ examined_flights. IfFound (λ ttl travel. IsTtlOfFault domain.now flow ttl)
         (without_flights domain.now flow examined_flights)) }
     // The flow is certified exactly if it is right.
     ensures right { IfOk result (λ examined_flights.
-        IsTrue (is_certified (without_flights domain.now flow examined_flights)) ↔ IsRight (net_of domain.now flow)) }
+        IsTrue (is_certified (without_flights domain.now flow examined_flights))
+        ↔ IsRight (net_of domain.now flow)) }
 {
     let topology = domain.topology();
     let greatest = replay_to_end(alloc, domain, flow, 255, &mut First)?;

@@ -1,4 +1,4 @@
-//! The maker: for a flow that is right the certificate's entries, and for another one a travel that
+//! The maker: the certificate entries of a flow that is right, and for any other flow a travel that
 //! shows what is wrong.
 #![tactic(auto)]
 

@@ -1,4 +1,4 @@
-//! Whether the entries serve each LAN that wants the flow.
+//! Checks that the entries serve each LAN that wants the flow.
 
 ghost use Rattle.std.specs.Prelude.{◌≡◌, ◌<◌, All, IsFalse, IsTrue, false, length, true};
 ghost use Rattle.mc_theory.specs.Certificates.{Entry};
@@ -9,7 +9,7 @@ ghost use Rattle.mc_forward.specs.FlightsInDomain.{IsFlowOfDomain, net_in};
 use mc_cert::Reached;
 use mc_forward::FlowView;
 
-/// Whether all packets of the flow meet the need of an entry, if its LAN wants the flow.
+/// Whether the flow's TTL meets the need of an entry, or its LAN doesn't want the flow.
 fn serves(view: &FlowView<'_>, entry: &Reached) -> bool
     requires within { entry.now.lan < length view.now.domain.topology.lans }
     ensures value { result ≡ serves (net_in view.now) entry.now }
@@ -17,8 +17,8 @@ fn serves(view: &FlowView<'_>, entry: &Reached) -> bool
     entry.need <= view.ttl() || !view.wants(entry.lan)
 }
 
-/// Whether each LAN of these entries is served, if it wants the flow. Where a travel found nothing,
-/// each LAN that wants the flow has an entry.
+/// Whether each LAN of these entries is served, if it wants the flow. After a clean travel, each LAN
+/// that wants the flow has an entry.
 pub(crate) fn serves_all(view: &FlowView<'_>, entries: &[Reached]) -> bool
     requires within { All (λ e. e.lan < length view.now.domain.topology.lans) entries.now }
     ensures rules { IsFlowOfDomain view.now }

@@ -1,4 +1,4 @@
--- The vector of first copies, as it fills.
+-- The vector of first copies, filled copy by copy.
 use Rattle.std.proofs.Common.{◌≡◌, ℕ, zero, suc, ◌+◌, ◌-◌, ◌<◌, ◌≤◌, Bool, true, false, cond}
 use Rattle.std.proofs.Common.{List, [], ◌∷◌, ◌++◌, length, take, drop, get_or}
 use Rattle.std.proofs.Common.{Option, Some, None, is_some, refl, ap, sym, subst, ◌∙◌, arith}
@@ -10,9 +10,9 @@ use Rattle.mc_theory.specs.Findings.{first_copy_on, first_double}
 use Rattle.mc_forward.specs.PerLan.{item_on_lan, HoldsFirstOfEachKey}
 use Rattle.mc_forward.proofs.PerLanLemmas.{first_with_key-first_copy_on, holds_first-more, length-after_put}
 
--- ---- the first second copy, among more copies
+-- ---- the first second copy, with more copies
 
--- what was found earlier, or else later
+-- the earlier one, or else the later one
 abbrev pub first_some : {A : Type 0} → Option A → Option A → Option A
 first_some None y = y
 first_some (Some x) y = Some x
@@ -38,13 +38,14 @@ double-append earlier (x ∷ xs) ys = by (is_some (first_copy_on earlier x.lan))
 
 -- ---- copy by copy
 
--- the first second copy so far, after one copy more, which is a second one or not
+-- the first second copy so far, and one copy more, which is a second one or isn't
 abbrev pub second_copy_so_far : Option Copy → Bool → Copy → Option Copy
 second_copy_so_far (Some d) is_second_copy c = Some d
 second_copy_so_far None true c = Some c
 second_copy_so_far None false c = None
 
-pub second_copy_so_far-found_now : (o : Option Copy) (is_second_copy : Bool) (c : Copy) → is_second_copy ≡ true → is_some o ≡ false
+pub second_copy_so_far-found_now : (o : Option Copy) (is_second_copy : Bool) (c : Copy)
+    → is_second_copy ≡ true → is_some o ≡ false
     → second_copy_so_far o is_second_copy c ≡ Some c
 second_copy_so_far-found_now None true c e none = refl
 second_copy_so_far-found_now None false c e none = absurd cc
@@ -55,13 +56,14 @@ pub second_copy_so_far-found_before : (o : Option Copy) (is_second_copy : Bool) 
 second_copy_so_far-found_before None is_second_copy c some = absurd cc
 second_copy_so_far-found_before (Some d) is_second_copy c some = refl
 
-pub second_copy_so_far-first_on_lan : (o : Option Copy) (is_second_copy : Bool) (c : Copy) → is_second_copy ≡ false
+pub second_copy_so_far-first_on_lan : (o : Option Copy) (is_second_copy : Bool) (c : Copy)
+    → is_second_copy ≡ false
     → second_copy_so_far o is_second_copy c ≡ o
 second_copy_so_far-first_on_lan None true c e = absurd cc
 second_copy_so_far-first_on_lan None false c e = refl
 second_copy_so_far-first_on_lan (Some d) is_second_copy c e = refl
 
--- the first k copies were taken in, and the first second copy among them is this
+-- the first k copies are stored, and this is the first second copy among them
 pub record FirstCopiesSoFar (firsts old : List (Option Copy)) (cs : List Copy) (k : ℕ)
     (found : Option Copy) : Type 0 where
   pub count : length firsts ≡ length old
@@ -69,7 +71,8 @@ pub record FirstCopiesSoFar (firsts old : List (Option Copy)) (cs : List Copy) (
   pub second : first_some found (first_double (take k cs) (drop k cs)) ≡ first_double [] cs
 
 pub first_copies_so_far-none : (firsts : List (Option Copy)) (cs : List Copy) (k : ℕ)
-    → HoldsFirstOfEachKey (λ (c : Copy). c.lan) firsts (take k cs) → first_double [] (take k cs) ≡ None → FirstCopiesSoFar firsts firsts cs k None
+    → HoldsFirstOfEachKey (λ (c : Copy). c.lan) firsts (take k cs) → first_double [] (take k cs)
+    ≡ None → FirstCopiesSoFar firsts firsts cs k None
 first_copies_so_far-none firsts cs k filled once = record {
   count = refl;
   filled = filled;
@@ -88,7 +91,7 @@ second_copy_so_far-more None earlier cs c true q =
 second_copy_so_far-more None earlier cs c false q =
     sym (ap (λ (x : Bool). cond x (Some c) (first_double (earlier ++ c ∷ []) cs)) q)
 
--- whether the copy is a second one
+-- the copy is a second one, or isn't
 is_second_copy : (o : Option Copy) (put : Bool) → (IsTrue put → o ≡ None) → (IsFalse put → IsSome o)
     → is_some o ≡ not put
 is_second_copy o true free earlier = ap is_some (free refl)
@@ -101,7 +104,8 @@ pub first_copies_so_far-more : (firsts firsts' old : List (Option Copy)) (cs : L
     → (IsTrue put → firsts' ≡ slice_set firsts c.lan (Some c))
     → (IsFalse put → IsSome (item_on_lan firsts c.lan)) → (IsFalse put → firsts' ≡ firsts)
     → second' ≡ second_copy_so_far second (not put) c → FirstCopiesSoFar firsts' old cs (k + 1) second'
-first_copies_so_far-more firsts firsts' old cs k second second' c put t lt at within free is earlier kept found =
+first_copies_so_far-more firsts firsts' old cs k second second' c put t lt at within free is earlier
+    kept found =
     let more : take (k + 1) cs ≡ take k cs ++ c ∷ [] = take_more cs k c lt
     ∙ ap (λ x. take k cs ++ x ∷ []) (sym at) in
     let rest : drop k cs ≡ c ∷ drop (k + 1) cs = drop_more cs k c lt
@@ -142,9 +146,12 @@ pub second_copy_so_far-all : (firsts old : List (Option Copy)) (cs : List Copy) 
 second_copy_so_far-all firsts old cs k second t le = sym (first_some-none second)
     ∙ (ap (λ xs. first_some second (first_double (take k cs) xs)) (sym (drop-length_le cs k le)) ∙ t.second)
 
-pub first_copies_so_far-all : (firsts old : List (Option Copy)) (cs : List Copy) (k : ℕ) (second : Option Copy)
-    → FirstCopiesSoFar firsts old cs k second → length cs ≤ k → HoldsFirstOfEachKey (λ (c : Copy). c.lan) firsts cs
-first_copies_so_far-all firsts old cs k second t le = subst (HoldsFirstOfEachKey (λ (c : Copy). c.lan) firsts) (take-length_le cs k le) t.filled
+pub first_copies_so_far-all : (firsts old : List (Option Copy)) (cs : List Copy) (k : ℕ)
+    (second : Option Copy)
+    → FirstCopiesSoFar firsts old cs k second → length cs ≤ k
+    → HoldsFirstOfEachKey (λ (c : Copy). c.lan) firsts cs
+first_copies_so_far-all firsts old cs k second t le = subst (HoldsFirstOfEachKey
+    (λ (c : Copy). c.lan) firsts) (take-length_le cs k le) t.filled
 
 -- ---- the copies from a place on
 
@@ -159,7 +166,8 @@ take-drop_rest cs k = take-length_le (drop k cs) (length cs - k) (omega (arith, 
 get_or-drop_copies : (cs : List Copy) (k i : ℕ) (d : Copy) → get_or (drop k cs) i d ≡ get_or cs (k + i) d
 get_or-drop_copies cs zero i d = let e : i ≡ zero + i = omega arith in ap (λ j. get_or cs j d) e
 get_or-drop_copies [] (suc k) i d = refl
-get_or-drop_copies (c ∷ cs) (suc k) i d = let e : suc (k + i) ≡ suc k + i = omega arith in get_or-drop_copies cs k i d
+get_or-drop_copies (c ∷ cs) (suc k) i d = let e : suc (k + i)
+    ≡ suc k + i = omega arith in get_or-drop_copies cs k i d
     ∙ ap (λ j. get_or (c ∷ cs) j d) e
 
 -- an item of those from place k on is one of all
@@ -174,4 +182,5 @@ get_or-take_drop cs k i c lt at = (
 
 pub length-take_drop_end : (cs : List Copy) (k i : ℕ) → length (take (length cs - k) (drop k cs)) ≤ i
     → length cs ≤ k + i
-length-take_drop_end cs k i le = let e = ap length (take-drop_rest cs k) in omega (arith, le, e, length-drop_copies cs k)
+length-take_drop_end cs k i le = let e = ap length (take-drop_rest cs k) in omega
+    (arith, le, e, length-drop_copies cs k)

@@ -1,6 +1,7 @@
--- The lowest LAN that was missed, in a loop over the LANs.
+-- The lowest missed LAN, as a loop over the LANs finds it.
 use Rattle.std.proofs.Common.{◌≡◌, ℕ, zero, suc, ◌+◌, ◌-◌, ◌<◌, Bool, true, false, cond, List, []}
-use Rattle.std.proofs.Common.{◌∷◌, ◌++◌, Some, None, Option, ◌||◌, ◌&&◌, not, is_some, refl, ap, ◌∙◌, subst, arith, add-one}
+use Rattle.std.proofs.Common.{◌∷◌, ◌++◌, Some, None, Option, ◌||◌, ◌&&◌, not, is_some, refl, ap}
+use Rattle.std.proofs.Common.{◌∙◌, subst, arith, add-one}
 use Rattle.mc_theory.specs.Lists.{below}
 use Rattle.mc_theory.specs.Nets.{Net}
 use Rattle.mc_theory.specs.Flights.{Copy}
@@ -31,7 +32,8 @@ pub missed-below_none : (n : Net) (cs : List Copy) → missed n cs (below 0) ≡
 unfolding below
 missed-below_none n cs = refl
 
-missed-one_wanting : (n : Net) (cs : List Copy) (k : ℕ) → n.wants k ≡ true → is_some (first_copy_on cs k) ≡ false
+missed-one_wanting : (n : Net) (cs : List Copy) (k : ℕ) → n.wants k ≡ true
+    → is_some (first_copy_on cs k) ≡ false
     → missed n cs (k ∷ []) ≡ Some k
 missed-one_wanting n cs k w b = ap (λ x. cond x (cond (is_some (first_copy_on cs k)) None (Some k)) None) w
     ∙ ap (λ x. cond x None (Some k)) b
@@ -41,7 +43,8 @@ missed-one_unwanting n cs k w = ap (λ x. cond x (cond (is_some (first_copy_on c
 
 missed-one_with_copy : (n : Net) (cs : List Copy) (k : ℕ) (w : Bool) → is_some (first_copy_on cs k) ≡ true
     → n.wants k ≡ w → missed n cs (k ∷ []) ≡ None
-missed-one_with_copy n cs k true b e = ap (λ x. cond x (cond (is_some (first_copy_on cs k)) None (Some k)) None) e
+missed-one_with_copy n cs k true b e = ap (λ x. cond x (cond (is_some (first_copy_on cs k)) None
+    (Some k)) None) e
     ∙ ap (λ x. cond x None (Some k)) b
 missed-one_with_copy n cs k false b e = missed-one_unwanting n cs k e
 
@@ -53,7 +56,8 @@ missed-below_more_unwanting n cs k h w = missed-below_more n cs k h ∙ missed-o
 -- nor is one that carried a copy
 pub missed-below_more_with_copy : (n : Net) (cs : List Copy) (k : ℕ) → missed n cs (below k) ≡ None
     → is_some (first_copy_on cs k) ≡ true → missed n cs (below (k + 1)) ≡ None
-missed-below_more_with_copy n cs k h b = missed-below_more n cs k h ∙ missed-one_with_copy n cs k (n.wants k) b refl
+missed-below_more_with_copy n cs k h b = missed-below_more n cs k h
+    ∙ missed-one_with_copy n cs k (n.wants k) b refl
 
 missed-kept_by_more : (n : Net) (cs : List Copy) (k d l : ℕ) → missed n cs (below (k + 1)) ≡ Some l
     → missed n cs (below (k + 1 + d)) ≡ Some l
@@ -65,7 +69,7 @@ missed-kept_by_more n cs k (suc d) l h =
     subst (λ m. missed n cs (below m) ≡ Some l) e (missed-push n cs (below (k + 1 + d)) (k + 1 + d)
     ∙ ap (λ o. first_some o (missed n cs ((k + 1 + d) ∷ []))) (missed-kept_by_more n cs k d l h))
 
--- the first that wants the flow and carried none is the one that was missed
+-- the first LAN that wants the flow and carried no copy is the missed one
 pub missed-first_wanting : (n : Net) (cs : List Copy) (k m : ℕ) → missed n cs (below k) ≡ None
     → n.wants k ≡ true → is_some (first_copy_on cs k) ≡ false → k < m → missed n cs (below m) ≡ Some k
 missed-first_wanting n cs k m h w b lt =
@@ -73,7 +77,7 @@ missed-first_wanting n cs k m h w b lt =
     subst (λ x. missed n cs (below x) ≡ Some k) q
     (missed-kept_by_more n cs k (m - (k + 1)) k (missed-below_more n cs k h ∙ missed-one_wanting n cs k w b))
 
--- whether one was missed, by the numbers before and by the next
+-- whether a LAN is missed, by the numbers before the next one and by that
 is_some-first_some : (a b : Option ℕ) → is_some (first_some a b) ≡ (is_some a || is_some b)
 is_some-first_some None b = refl
 is_some-first_some (Some x) b = refl
@@ -89,4 +93,5 @@ unfolding below
 is_some-missed_below_more n cs k = ap (λ m. is_some (missed n cs (below m))) (add-one k)
     ∙ ap is_some (missed-push n cs (below k) k)
     ∙ is_some-first_some (missed n cs (below k)) (missed n cs (k ∷ []))
-    ∙ ap (λ s. is_some (missed n cs (below k)) || s) (is_some-missed_one k (n.wants k) (is_some (first_copy_on cs k)))
+    ∙ ap (λ s. is_some (missed n cs (below k)) || s) (is_some-missed_one k (n.wants k)
+    (is_some (first_copy_on cs k)))

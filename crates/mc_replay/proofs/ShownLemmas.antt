@@ -1,4 +1,4 @@
--- What the run of a picker's choices shows.
+-- What the finding of a travel shows of its flow.
 use Rattle.std.proofs.Common.{ℕ, ◌≤◌, length, sym, subst}
 use Rattle.mc_theory.specs.Flights.{Flight}
 use Rattle.mc_theory.specs.Findings.{Choices, AllWalksEnd}
@@ -34,6 +34,7 @@ pub shows_wrong_flow : (d : DomainValue) (flow ttl : ℕ) (choices : Choices) (t
     → IsDomain d → ttl ≤ 255
     → IsRunTo (replay_of d flow ttl choices) t f → ShowsWrongFlow (replay_of d flow ttl choices) t
 shows_wrong_flow d flow ttl choices t f ok high r low other =
-    not_right-from_fault_finding (net_of d flow) (length d.topology.lans) ttl choices.numbers choices.last r.picks
+    not_right-from_fault_finding (net_of d flow) (length d.topology.lans) ttl choices.numbers
+    choices.last r.picks
     (finding_value t.finding) (is_net-net_of d flow ok) (λ l w. wants-below_lan_count d flow l ok w)
     low high r.travel other

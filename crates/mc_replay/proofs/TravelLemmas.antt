@@ -1,4 +1,4 @@
--- A travel under way, event by event.
+-- An unfinished travel, event by event.
 use Rattle.std.proofs.Common.{◌≡◌, ℕ, ◌+◌, ◌-◌, ◌<◌, ◌≤◌, Bool, true, false, cond, ◌==◌, nat_lt}
 use Rattle.std.proofs.Common.{List, [], ◌∷◌, ◌++◌, length, take, slice_get, Option, Some, None}
 use Rattle.std.proofs.Common.{refl, ap, sym, ◌∙◌, subst, arith, append_assoc, append-nil}
@@ -18,7 +18,7 @@ use Rattle.mc_forward.specs.FlightsInDomain.{FlightInDomain, net_of_flight_in_do
 use Rattle.mc_forward.specs.PerLan.{HoldsFirstOfEachKey}
 use Rattle.mc_replay.specs.Travels.{IsTravelTo}
 
--- ---- what was carried stays the front of what is carried
+-- ---- the copies so far stay in front of the later ones
 
 abbrev pub ExtendsCarried : Flight → Flight → Type 0
 ExtendsCarried f g = (cs : List Copy) × (g.carried ≡ f.carried ++ cs)
@@ -39,7 +39,8 @@ extends_carried-cond : (f g : Flight) (b : Bool) → ExtendsCarried f g → Exte
 extends_carried-cond f g true h = h
 extends_carried-cond f g false h = extends_carried-same f f refl
 
-extends_carried-sends : (n : Net) (r t : ℕ) (ps : List (ℕ × ℕ)) (f : Flight) → ExtendsCarried f (sends n r t ps f)
+extends_carried-sends : (n : Net) (r t : ℕ) (ps : List (ℕ × ℕ)) (f : Flight)
+    → ExtendsCarried f (sends n r t ps f)
 extends_carried-sends n r t [] f = extends_carried-same f f refl
 extends_carried-sends n r t (p ∷ ps) f =
     extends_carried-more f (send n r t p f) (sends n r t ps (send n r t p f))
@@ -47,8 +48,10 @@ extends_carried-sends n r t (p ∷ ps) f =
     (extends_carried-leave n (t - 1) (r, p.0) (n.placed r p.0) f))
     (extends_carried-sends n r t ps (send n r t p f))
 
-extends_carried-handle_by : (n : Net) (w : Waiting) (row : Row) (f : Flight) → ExtendsCarried f (handle_by_row n w row f)
-extends_carried-handle_by n w (Exact incoming pairs) f = extends_carried-cond f (sends n w.router w.ttl pairs f)
+extends_carried-handle_by : (n : Net) (w : Waiting) (row : Row) (f : Flight)
+    → ExtendsCarried f (handle_by_row n w row f)
+extends_carried-handle_by n w (Exact incoming pairs) f = extends_carried-cond f
+    (sends n w.router w.ttl pairs f)
     (incoming == w.vif) (extends_carried-sends n w.router w.ttl pairs f)
 extends_carried-handle_by n w Open f = extends_carried-same f (handle_by_row n w Open f) refl
 extends_carried-handle_by n w NoRow f = extends_carried-same f f refl
@@ -60,17 +63,18 @@ extends_carried-step n i f = by (slice_get f.waiting i)
     by None = extends_carried-same f (without_waiting i f) refl
     by (Some w) = extends_carried-handle_by n w (n.row w.router) (without_waiting i f)
 
--- ---- the copies that were looked at
+-- ---- the first copies
 
--- the first k copies are in the vector of first copies, for so many LANs, and no two of them are of
--- one LAN
+-- the first k copies are in the vector of first copies, which has a place for each LAN, and no two of
+-- them are on the same LAN
 pub record FirstCopiesRecorded (firsts : List (Option Copy)) (lans k : ℕ) (cs : List Copy) : Type 0 where
   pub count : length firsts ≡ lans
   pub seen : k ≤ length cs
   pub filled : HoldsFirstOfEachKey (λ (c : Copy). c.lan) firsts (take k cs)
   pub once : first_double [] (take k cs) ≡ None
 
-pub first_copies_recorded-none : (firsts : List (Option Copy)) (lans : ℕ) (cs : List Copy) → length firsts ≡ lans
+pub first_copies_recorded-none : (firsts : List (Option Copy)) (lans : ℕ) (cs : List Copy)
+    → length firsts ≡ lans
     → HoldsFirstOfEachKey (λ (c : Copy). c.lan) firsts [] → FirstCopiesRecorded firsts lans 0 cs
 first_copies_recorded-none firsts lans cs count none = record {
   count = count;
@@ -87,9 +91,10 @@ double-none_without_finding n count f h = by (first_double [] f.carried) h
     by None e = refl
     by (Some c) e = absurd cc
 
--- after all copies of a flight that shows nothing, and one handling
+-- after all copies of a flight without a finding, and one handling
 pub first_copies_recorded-more : (n : Net) (lans k i : ℕ) (firsts : List (Option Copy)) (f g : Flight)
-    → length firsts ≡ lans → HoldsFirstOfEachKey (λ (c : Copy). c.lan) firsts f.carried → finding n lans f ≡ None
+    → length firsts ≡ lans → HoldsFirstOfEachKey (λ (c : Copy). c.lan) firsts f.carried
+    → finding n lans f ≡ None
     → k ≡ length f.carried → g ≡ step n i f → FirstCopiesRecorded firsts lans k g.carried
 first_copies_recorded-more n lans k i firsts f g count filled none seen next =
     let more = extends_carried-step n i f in
@@ -103,11 +108,10 @@ first_copies_recorded-more n lans k i firsts f g count filled none seen next =
       once = ap (first_double []) front ∙ double-none_without_finding n lans f none;
     }
 
--- ---- the way so far
+-- ---- the travel so far
 
--- From flight f0 on, by the choices c0, events es led to flight f, with the choices c left. What
--- goes on from there is what went on from f0, and each next event is one of those that there is
--- room for.
+-- From flight f0 on, by the choices c0, the events es led to flight f, with the choices c left. The
+-- rest of the travel from f0 is the travel from f, and there is room for each further event.
 pub record IsTravelSoFar (n : Net) (lans : ℕ) (c0 : Choices) (f0 : Flight) (c : Choices) (f : Flight)
     (es : List Event) : Type 0 where
   pub room : (is : List ℕ) → IsTravelUnfinished n lans c.numbers c.last is f
@@ -117,25 +121,29 @@ pub record IsTravelSoFar (n : Net) (lans : ℕ) (c0 : Choices) (f0 : Flight) (c 
 
 travel_so_far-none : (n : Net) (lans t : ℕ) (c : Choices) (f : Flight) (es : List Event) → f ≡ start n t
     → es ≡ [] → IsTravelSoFar n lans c (start n t) c f es
-travel_so_far-none n lans t c f es e q = subst (λ (xs : List Event). IsTravelSoFar n lans c (start n t) c f xs)
+travel_so_far-none n lans t c f es e q = subst (λ (xs : List Event). IsTravelSoFar n lans c
+    (start n t) c f xs)
     (sym q)
     (subst (λ (g : Flight). IsTravelSoFar n lans c (start n t) c g []) (sym e) (record {
-      room = λ is h. (let le = length_bounded-travel_so_far n lans t c.numbers c.last is h in omega (arith, le));
+      room = λ is h. (let le = length_bounded-travel_so_far n lans t c.numbers c.last is h in omega
+          (arith, le));
       travel = λ more g x h. h;
     }))
 
--- the same, from a flight that is started
+-- the same for a flight that has just started
 pub travel_so_far-from_start : (n : Net) (lans : ℕ) (c : Choices) (f : Flight) (es : List Event)
     → (t : ℕ) × (f ≡ start n t) → es ≡ [] → IsTravelSoFar n lans c f c f es
-travel_so_far-from_start n lans c f es is none = subst (λ (s : Flight). IsTravelSoFar n lans c s c f es) (sym is.1)
+travel_so_far-from_start n lans c f es is none = subst (λ (s : Flight). IsTravelSoFar n lans c s c f
+    es) (sym is.1)
     (travel_so_far-none n lans is.0 c f es is.1 none)
 
--- no more events than there is room for
+-- there are no more events than there is room for
 pub length-travel_so_far : (n : Net) (lans : ℕ) (c0 : Choices) (f0 : Flight) (c : Choices) (f : Flight)
     (es : List Event) → IsTravelSoFar n lans c0 f0 c f es → length es ≤ length (placed_interfaces n)
-length-travel_so_far n lans c0 f0 c f es travel_so_far = let le = travel_so_far.room [] tt in omega (arith, le)
+length-travel_so_far n lans c0 f0 c f es travel_so_far = let le = travel_so_far.room [] tt in omega
+    (arith, le)
 
--- what the flight shows ends the travel
+-- a finding of the flight ends the travel
 pub is_travel_to-travel_so_far : (n : Net) (lans : ℕ) (c0 : Choices) (f0 : Flight) (c : Choices) (f : Flight)
     (es : List Event) (x : Finding)
     → IsTravelSoFar n lans c0 f0 c f es → finding n lans f ≡ Some x → IsTravelTo n lans c0 f0 es f x
@@ -143,13 +151,13 @@ is_travel_to-travel_so_far n lans c0 f0 c f es x travel_so_far shows =
     subst (λ (xs : List Event). IsTravelTo n lans c0 f0 xs f x) (append-nil es)
     (travel_so_far.travel [] f x (record { picks = []; travel = shows; events = refl; ends = refl }))
 
--- what a picker picked among so many, where as many wait
+-- the pick among a number of copies, where that many wait
 pub choice-same_count : (c : Choices) (count waiting pick : ℕ) → pick ≡ choice count c.numbers c.last
     → count ≡ waiting → pick ≡ choice waiting c.numbers c.last
 choice-same_count c count waiting pick picked same =
     picked ∙ ap (λ (n : ℕ). choice n c.numbers c.last) same
 
--- there is room for one event more
+-- there is room for one more event
 pub length-travel_so_far_below : (n : Net) (lans : ℕ) (c0 : Choices) (f0 : Flight) (c : Choices) (f : Flight)
     (es : List Event) (pick : ℕ)
     → IsTravelSoFar n lans c0 f0 c f es → finding n lans f ≡ None
@@ -157,12 +165,12 @@ pub length-travel_so_far_below : (n : Net) (lans : ℕ) (c0 : Choices) (f0 : Fli
 length-travel_so_far_below n lans c0 f0 c f es pick travel_so_far none chosen = let le =
     travel_so_far.room (pick ∷ []) (none, chosen, tt) in omega (arith, le)
 
-seen_first-event : (n : Net) (o : Option Waiting) (e : Event) (es : List Event)
+prepend_event-handled : (n : Net) (o : Option Waiting) (e : Event) (es : List Event)
     → option_map (event_of n) o ≡ Some e → e ∷ es ≡ prepend_event n o es
-seen_first-event n None e es h = absurd cc
-seen_first-event n (Some w) e es h = let same : event_of n w ≡ e = cc in ap (λ x. x ∷ es) (sym same)
+prepend_event-handled n None e es h = absurd cc
+prepend_event-handled n (Some w) e es h = let same : event_of n w ≡ e = cc in ap (λ x. x ∷ es) (sym same)
 
--- the travel from a flight that shows nothing is its next event and the travel from then on
+-- the travel from a flight without a finding is its next event and the travel from then on
 is_travel_to-cons : (n : Net) (lans : ℕ) (c : Choices) (f : Flight) (pick : ℕ) (e : Event)
     (more : List Event) (g : Flight) (x : Finding)
     → finding n lans f ≡ None → pick ≡ choice (length f.waiting) c.numbers c.last
@@ -171,7 +179,7 @@ is_travel_to-cons : (n : Net) (lans : ℕ) (c : Choices) (f : Flight) (pick : �
 is_travel_to-cons n lans c f pick e more g x none chosen event goes = record {
   picks = pick ∷ goes.picks;
   travel = (none, chosen, goes.travel);
-  events = ap (λ xs. e ∷ xs) goes.events ∙ seen_first-event n (slice_get f.waiting pick) e _ event;
+  events = ap (λ xs. e ∷ xs) goes.events ∙ prepend_event-handled n (slice_get f.waiting pick) e _ event;
   ends = goes.ends;
 }
 
@@ -194,12 +202,12 @@ travel_so_far-more n lans c0 f0 c c' f g es es' pick e travel_so_far none chosen
           goes));
     })))
 
--- ---- the same over a domain
+-- ---- the same in a domain
 
 pub net_of-same_arguments : (a d : DomainValue) (v w : ℕ) → a ≡ d → v ≡ w → net_of a v ≡ net_of d w
 net_of-same_arguments a d v w e q = ap (λ (x : DomainValue). net_of x v) e ∙ ap (net_of d) q
 
--- what went on from a flight that is started
+-- the travel from a flight that has just started
 pub is_travel_to-from_start : (a d : DomainValue) (v w t : ℕ) (c : Choices) (f g : Flight) (es : List Event)
     (x : Finding) → a ≡ d → v ≡ w → f ≡ start (net_of d w) t
     → IsTravelTo (net_of a v) (length a.topology.lans) c f es g x
@@ -209,18 +217,18 @@ is_travel_to-from_start a d v w t c f g es x e q is goes =
     (subst (λ (u : ℕ). IsTravelTo (net_of d u) (length d.topology.lans) c f es g x) q
     (subst (λ (b : DomainValue). IsTravelTo (net_of b v) (length b.topology.lans) c f es g x) e goes))
 
--- what a flight is after a handling
-pub flown-step_in_domain : (d : DomainValue) (w i : ℕ) (j k : FlightInDomain) → j.domain ≡ d → j.flow ≡ w
+-- the flight after a handling
+pub flight-step_in_domain : (d : DomainValue) (w i : ℕ) (j k : FlightInDomain) → j.domain ≡ d → j.flow ≡ w
     → k ≡ with_flight j (step (net_of_flight_in_domain j) i j.flight)
     → (k.domain ≡ d) × (k.flow ≡ w) × (k.flight ≡ step (net_of d w) i j.flight)
-flown-step_in_domain d w i j k e q h = (
+flight-step_in_domain d w i j k e q h = (
   ap (λ (x : FlightInDomain). x.domain) h ∙ e,
   ap (λ (x : FlightInDomain). x.flow) h ∙ q,
   ap (λ (x : FlightInDomain). x.flight) h ∙ ap (λ (n : Net). step n i j.flight)
       (net_of-same_arguments j.domain d j.flow w e q),
 )
 
--- and what is seen of it
+-- and its event
 pub event_of-in_domain : (d : DomainValue) (w : ℕ) (j : FlightInDomain) (o : Option Waiting) (x : Event)
     → j.domain ≡ d → j.flow ≡ w → option_map (event_of (net_of_flight_in_domain j)) o ≡ Some x
     → option_map (event_of (net_of d w)) o ≡ Some x

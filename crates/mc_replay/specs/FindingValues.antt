@@ -1,4 +1,4 @@
--- The code's findings as those of the definitions.
+-- The code's findings as values of the theory.
 use Rattle.std.specs.Prelude.{Option, Some, None}
 use Rattle.mc_theory.specs.Findings.{Finding as FindingValue}
 use Rattle.mc_replay.specs.declared.finding.Finding.{Finding}
@@ -12,7 +12,7 @@ finding_value (Loop lan) = FindingValue.Loop lan
 finding_value (Stray router vif) = FindingValue.Stray router vif
 finding_value (Missed lan) = FindingValue.Missed lan
 
--- the finding that was made, if one was
+-- the finding, if there is one
 abbrev pub optional_finding_value : Option Finding → Option FindingValue
 optional_finding_value None = None
 optional_finding_value (Some finding) = Some (finding_value finding)

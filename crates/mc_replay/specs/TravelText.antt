@@ -1,4 +1,4 @@
--- How an event and a finding are written, by the names of a topology.
+-- The texts of an event and of a finding, with the names of a topology.
 use Rattle.std.specs.Prelude.{ℕ, List, ◌++◌, codes, decimal}
 use Rattle.mc_topology.specs.Topology.{TopologyValue, lan_name, router_name}
 use Rattle.mc_theory.specs.Events.{Event, Outcome}

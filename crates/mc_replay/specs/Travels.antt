@@ -1,4 +1,4 @@
--- What a travel says: the run of a picker's choices, up to the first flight that shows something.
+-- What a travel means: the run of a picker's choices, up to the first flight with a finding.
 use Rattle.std.specs.Prelude.{◌≡◌, ◌≢◌, ℕ, ◌≤◌, List, length}
 use Rattle.mc_theory.specs.Nets.{Net, placed_interfaces}
 use Rattle.mc_theory.specs.Flights.{Flight, run, start}
@@ -27,8 +27,8 @@ replay_of d flow ttl choices = record {
   choices = choices;
 }
 
--- From flight f on, these events are those of the run of the picker's choices, which ends with
--- flight g. That shows x, and no flight before it shows anything.
+-- From flight f on, these are the events of the run of the picker's choices, which ends with flight
+-- g. That has the finding x, and no flight before it has a finding.
 pub record IsTravelTo (n : Net) (lans : ℕ) (choices : Choices) (f : Flight) (es : List Event) (g : Flight)
     (x : Finding) : Type 0 where
   pub picks : List ℕ
@@ -36,8 +36,8 @@ pub record IsTravelTo (n : Net) (lans : ℕ) (choices : Choices) (f : Flight) (e
   pub events : es ≡ events n picks f
   pub ends : g ≡ run n (handles picks) f
 
--- The travel's events are those of the run of the picker's choices, up to flight g, which is the
--- first to show something: the travel's finding.
+-- The travel has the events of the run of the picker's choices up to flight g, which is the first
+-- flight with a finding, and that finding.
 abbrev pub IsRunTo : Replay → Travel → Flight → Type 0
 IsRunTo r t g = IsTravelTo r.net r.lans r.choices (start r.net r.ttl) t.events.items g
     (finding_value t.finding)
@@ -49,7 +49,7 @@ IsRunOfChoices r t = (g : Flight) × IsRunTo r t g
 abbrev pub EventsAtMostPlacedVifs : Replay → Travel → Type 0
 EventsAtMostPlacedVifs r t = length t.events.items ≤ length (placed_interfaces r.net)
 
--- the flight that the run ends with shows what the finding says
+-- the flight that the run ends with shows what the finding means
 abbrev pub EndShowsFinding : Replay → Travel → Type 0
 EndShowsFinding r t = (g : Flight) × IsRunTo r t g × Shows r.net g (finding_value t.finding)
 
@@ -57,6 +57,6 @@ EndShowsFinding r t = (g : Flight) × IsRunTo r t g × Shows r.net g (finding_va
 abbrev pub WalksEndAtSource : Replay → Travel → Type 0
 WalksEndAtSource r t = (g : Flight) × IsRunTo r t g × AllWalksEnd r.net g.carried
 
--- another finding than `Clean`, at a TTL from the flow's on, shows that the flow isn't right
+-- any other finding than `Clean`, at a TTL of at least the flow's, shows that the flow isn't right
 abbrev pub ShowsWrongFlow : Replay → Travel → Type 0
 ShowsWrongFlow r t = r.net.ttl ≤ r.ttl → finding_value t.finding ≢ Clean → ¬ IsRight r.net

@@ -1,4 +1,4 @@
-//! The first copy that each LAN carried.
+//! The first copy that each LAN carried, by its number.
 
 ghost use Rattle.std.specs.Prelude.{◌≡◌, ◌<◌, ◌≤◌, All, None, [], length, option_and_then, take};
 ghost use Rattle.mc_theory.specs.Findings.{first_double};
@@ -7,8 +7,8 @@ ghost use Rattle.mc_forward.specs.PerLan.{HoldsFirstOfEachKey, item_on_lan};
 use mc_forward::{CarriedCopy, PerLan};
 use mc_topology::{LanNo, RouterNo};
 
-/// Takes in the copies after the first `seen`, which were taken in before and of which no two are
-/// of one LAN, and tells the first copy that has an earlier one on its LAN.
+/// Stores the first copy of each LAN, and returns the first copy whose LAN carried an earlier one. The
+/// first `seen` copies are stored already, and no two of them are on the same LAN.
 pub(crate) fn record_first_copies(
     firsts: &mut PerLan<CarriedCopy>,
     copies: &[CarriedCopy],
@@ -16,7 +16,7 @@ pub(crate) fn record_first_copies(
 ) -> Option<CarriedCopy>
     requires seen { seen ≤ length copies.now }
     requires firsts { HoldsFirstOfEachKey (λ c. c.lan) firsts.old (take seen copies.now) }
-    requires once { first_double [] (take seen copies.now) ≡ None }
+    requires distinct { first_double [] (take seen copies.now) ≡ None }
     requires lans { All (λ c. c.lan < length firsts.old) copies.now }
     ensures second { result ≡ first_double [] copies.now }
     ensures firsts { HoldsFirstOfEachKey (λ c. c.lan) firsts.new copies.now }
@@ -31,7 +31,7 @@ pub(crate) fn record_first_copies(
     second
 }
 
-/// Who sent the first copy of a LAN, none for the source.
+/// The router and vif that sent the first copy on a LAN; none if the source did, or there is no copy.
 pub(crate) fn sender_on(firsts: &PerLan<CarriedCopy>, lan: LanNo) -> Option<(RouterNo, u8)>
     ensures { result ≡ option_and_then (λ c. c.sender) (item_on_lan firsts.now lan) }
 {

@@ -1,4 +1,4 @@
-//! What a flight shows, if it shows something.
+//! The finding of a flight, if it has one.
 
 ghost use Rattle.std.specs.Prelude.{◌≡◌, ◌<◌, All, IfSome, List, [], is_some, length};
 ghost use Rattle.mc_theory.specs.Lists.{below};
@@ -13,16 +13,16 @@ use crate::first_copies::sender_on;
 use mc_forward::{CarriedCopy, Flight, FlowView, PerLan};
 use mc_topology::LanNo;
 
-/// Whether the walk back from a copy, over the first copies of the LANs that each was taken from,
-/// comes by the copy's own LAN. The walk ends at the source's copy, before it has gone over as many
-/// LANs as there are copies.
+/// Whether the walk back from a copy to the source visits the copy's own LAN. Each step goes to the
+/// first copy on the LAN that the sender took its copy from. The walk reaches the source's copy in
+/// fewer steps than there are copies.
 fn walk_back_reaches_own_lan(
     view: &FlowView<'_>,
     copies: &[CarriedCopy],
     firsts: &PerLan<CarriedCopy>,
     copy: &CarriedCopy,
 ) -> bool
-    requires given { HoldsFirstOfEachKey (λ c. c.lan) firsts.now copies.now }
+    requires firsts { HoldsFirstOfEachKey (λ c. c.lan) firsts.now copies.now }
     ensures value { result ≡ walk_visits (net_in view.now) copies.now copy.now.lan (length copies.now)
         copy.now.sender }
 {
@@ -39,8 +39,8 @@ fn walk_back_reaches_own_lan(
     false
 }
 
-/// Whether some LAN wants the flow and carried no copy. All LANs are asked, without a branch for
-/// each, since a processor doesn't foresee which of them want a flow.
+/// Whether some LAN wants the flow and carried no copy. It tests every LAN without a branch, since a
+/// processor predicts badly which of them want a flow.
 fn misses_any_lan(view: &FlowView<'_>, firsts: &PerLan<CarriedCopy>) -> bool
     ensures { (copies : List Copy) → HoldsFirstOfEachKey (λ c. c.lan) firsts.now copies → result ≡
         is_some (missed (net_in view.now) copies
@@ -72,8 +72,8 @@ fn missed(view: &FlowView<'_>, firsts: &PerLan<CarriedCopy>) -> Option<LanNo>
     None
 }
 
-/// The finding of a flight whose copies' firsts are these, and whose first second copy is this;
-/// none if the flight goes on.
+/// The finding of a flight, by the first copy on each LAN and by the first second copy on a LAN; none
+/// if the flight goes on.
 pub(crate) fn finding_of(
     view: &FlowView<'_>,
     flight: &Flight<'_>,
@@ -82,7 +82,7 @@ pub(crate) fn finding_of(
 ) -> Option<Finding>
     requires firsts { HoldsFirstOfEachKey (λ c. c.lan) firsts.now flight.now.flight.carried }
     requires second { second ≡ first_double [] flight.now.flight.carried }
-    ensures meaning { optional_finding_value result ≡ finding (net_in view.now)
+    ensures finding { optional_finding_value result ≡ finding (net_in view.now)
         (length view.now.domain.topology.lans) flight.now.flight }
 {
     if let Some(copy) = second {

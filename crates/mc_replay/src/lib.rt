@@ -1,5 +1,5 @@
 //! The replayer: the travel of one packet through a domain, its copies handled in the order that a
-//! picker chooses, up to the first flight that shows something.
+//! picker chooses, up to the first flight with a finding.
 #![tactic(auto)]
 
 mod finding;

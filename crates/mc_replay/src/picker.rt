@@ -1,18 +1,18 @@
-//! Who picks the waiting copy that is handled next.
+//! Pickers, which choose the waiting copy that is handled next.
 
 ghost use Rattle.std.specs.Prelude.{◌≡◌, ◌<◌, [], true, false, drop};
 ghost use Rattle.mc_theory.specs.Findings.{Choices, after_choice, choice};
 
 use std::marker::Model;
 
-/// Picks the copy that is handled next, by numbers that it tells one after the other, and then
-/// always the first copy or always the last.
+/// Picks the waiting copy that is handled next: by a list of numbers, and after those always the first
+/// copy or always the last one.
 pub trait Picker {
-    // the numbers that are left, and whether it then takes the last
+    // the numbers that are left, and whether the last copy is picked after them
     ghost choices: { Self → Choices };
 
-    /// The index of one of so many waiting copies: the first of its numbers, modulo so many, or
-    /// after all numbers 0 or the greatest index.
+    /// The index of the copy to handle, below `waiting`: the next number modulo `waiting`, and after all
+    /// numbers always 0 or always `waiting - 1`.
     fn pick(&mut self, waiting: usize) -> usize
         requires positive { 0 < waiting }
         ensures value { result ≡
@@ -52,8 +52,8 @@ impl Picker for Last {
     }
 }
 
-/// Picks by a vector of numbers, and after those the first of the waiting copies. Contracts see the
-/// numbers that are left.
+/// Picks by a vector of numbers, and after those always the first of the waiting copies. The model is
+/// the list of the numbers that are left.
 #[derive(Debug, Drop)]
 pub struct Numbers {
     numbers: Vec<usize>,
@@ -71,7 +71,7 @@ impl Model for Numbers {
 }
 
 impl Numbers {
-    /// Picks by these numbers.
+    /// A picker by these numbers.
     pub fn new(numbers: Vec<usize>) -> Numbers
         ensures { result ≡ numbers.items }
     {

@@ -1,4 +1,4 @@
-//! An event and a finding as they are written, by the names of a topology.
+//! Prints an event and a finding with the names of a topology.
 
 ghost use Rattle.std.specs.Prelude.{◌≡◌, Some};
 ghost use Rattle.mc_replay.specs.TravelText.{event_text, finding_text, outcome_text};
@@ -8,7 +8,7 @@ use mc_forward::{Event, Outcome};
 use mc_topology::{Topology, WordAtLan, WordAtVif};
 use std::fmt;
 
-/// An outcome as it is written, as `sent 1 strayed 0`.
+/// An outcome that prints as `sent 1 strayed 0`.
 #[derive(Clone, Copy, Drop)]
 struct ShownOutcome {
     outcome: Outcome,
@@ -29,12 +29,12 @@ impl fmt::Display for ShownOutcome {
     }
 }
 
-/// An event, to be written by the names of a topology, as `r1 0 ttl 3 sent 1 strayed 0`.
+/// An event that prints with the names of a topology, as `r1 0 ttl 3 sent 1 strayed 0`.
 #[derive(Clone, Copy, Drop)]
 pub struct ShownEvent<'t> {
     /// The event.
     pub event: Event,
-    /// The topology that has the names.
+    /// The topology whose names are printed.
     pub topology: &'t Topology,
 }
 
@@ -51,7 +51,7 @@ impl<'t> fmt::Display for ShownEvent<'t> {
     }
 }
 
-/// An event by the names of a topology.
+/// An event, to be printed with the names of a topology.
 pub fn shown_event(event: Event, topology: &Topology) -> ShownEvent<'_>
     ensures event { result.event ≡ event }
     ensures topology { result.topology.now ≡ topology.now }
@@ -59,12 +59,12 @@ pub fn shown_event(event: Event, topology: &Topology) -> ShownEvent<'_>
     ShownEvent { event, topology }
 }
 
-/// A finding, to be written by the names of a topology, as `Missed l2`.
+/// A finding that prints with the names of a topology, as `Missed l2`.
 #[derive(Clone, Copy, Drop)]
 pub struct ShownFinding<'t> {
     /// The finding.
     pub finding: Finding,
-    /// The topology that has the names.
+    /// The topology whose names are printed.
     pub topology: &'t Topology,
 }
 
@@ -84,7 +84,7 @@ impl<'t> fmt::Display for ShownFinding<'t> {
 }
 
 impl Finding {
-    /// The finding by the names of a topology.
+    /// The finding, to be printed with the names of a topology.
     pub fn shown(self, topology: &Topology) -> ShownFinding<'_>
         ensures finding { result.finding ≡ self }
         ensures topology { result.topology.now ≡ topology.now }

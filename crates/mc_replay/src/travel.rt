@@ -1,9 +1,10 @@
-//! Travels of packets.
+//! Replays the travel of a packet.
 
 ghost use Rattle.std.specs.Prelude.{◌≡◌, ℕ, ◌<◌, ◌≤◌, IfOk, [], length};
 ghost use Rattle.mc_theory.specs.Flights.{start};
 ghost use Rattle.mc_theory.specs.Nets.{placed_interfaces};
 ghost use Rattle.mc_forward.specs.Domains.{net_of};
+ghost use Rattle.mc_forward.specs.FlightsInDomain.{net_in};
 ghost use Rattle.mc_forward.specs.PerLan.{HoldsFirstOfEachKey};
 ghost use Rattle.mc_replay.specs.FindingValues.{finding_value};
 ghost use Rattle.mc_replay.specs.Travels.{IsTravelTo, EventsAtMostPlacedVifs, IsRunOfChoices, IsRunTo};
@@ -18,17 +19,17 @@ use mc_forward::{CarriedCopy, Domain, Event, Flight, FlowView, PerLan};
 use mc_text::Memory;
 use std::alloc::Global;
 
-/// The travel of a packet: what its copies did, one handling after the other, up to the first
-/// flight that shows something, and what that shows.
+/// The travel of a packet: each handling of one of its copies, up to the first flight with a finding,
+/// and that finding.
 #[derive(Debug, Drop)]
 pub struct Travel {
     /// The handlings, in order.
     pub events: Vec<Event>,
-    /// What the flight after the last of them shows.
+    /// The finding of the flight after the last of them.
     pub finding: Finding,
 }
 
-/// A travel with the flight that it ends with.
+/// A travel, with the flight that it ends with.
 #[derive(Drop)]
 pub struct FinishedTravel<'d> {
     /// The travel.
@@ -37,9 +38,8 @@ pub struct FinishedTravel<'d> {
     pub flight: Flight<'d>,
 }
 
-/// Has the copies of a flight handled as the picker chooses, up to the first flight that shows
-/// something, and tells what that shows. The handlings go into `events`, and the first copy of each
-/// LAN into `firsts`.
+/// Handles the copies of a flight in the picker's order, up to the first flight with a finding, and
+/// returns the finding. The handlings go into `events`, and the first copy on each LAN into `firsts`.
 fn travel_to_finding<'d, P: Picker>(
     view: &FlowView<'d>,
     flight: &mut Flight<'d>,
@@ -57,8 +57,7 @@ fn travel_to_finding<'d, P: Picker>(
     ensures domain { IfOk result (λ _. flight.new.domain ≡ view.now.domain) }
     ensures flow { IfOk result (λ _. flight.new.flow ≡ view.now.flow) }
     ensures run { IfOk result (λ finding. IsTravelTo
-        (net_of view.now.domain view.now.flow)
-        (length view.now.domain.topology.lans) (P.choices picker.old) flight.old.flight
+        (net_in view.now) (length view.now.domain.topology.lans) (P.choices picker.old) flight.old.flight
         events.new.items flight.new.flight (finding_value finding)) }
     ensures short { IfOk result (λ _. length events.new.items
         ≤ length (placed_interfaces (net_of view.now.domain view.now.flow))) }
@@ -76,12 +75,12 @@ fn travel_to_finding<'d, P: Picker>(
     }
 }
 
-/// The travel of a packet of a flow with this time to live, 1 to 255, and the flight that it ends
-/// with. The picker may have been asked already where the answer is `Memory`.
+/// The travel of a packet of the flow with this number, counted from 0, sent with this time to live, 1
+/// to 255, and the flight that it ends with.
 ///
 /// # Errors
 ///
-/// `Memory` where a growth was refused.
+/// `Memory` if an allocation fails; the picker may have picked by then.
 pub fn replay_to_end<'d, P: Picker>(
     alloc: Global,
     domain: &'d Domain,
@@ -91,10 +90,10 @@ pub fn replay_to_end<'d, P: Picker>(
 ) -> Result<FinishedTravel<'d>, Memory>
     requires flow { flow < length domain.now.topology.flows }
     requires ttl { 0 < ttl }
-    // The flight is one of the domain's flow,
+    // The flight is one of the flow in the domain,
     ensures domain { IfOk result (λ ended. ended.flight.domain ≡ domain.now) }
     ensures flow { IfOk result (λ ended. ended.flight.flow ≡ flow) }
-    // and the travel is the run of the picker's choices, up to this flight.
+    // and the travel is the run of the picker's choices up to this flight.
     ensures run { IfOk result (λ ended. IsRunTo
         (replay_of domain.now flow ttl (P.choices picker.old)) ended.travel
         ended.flight.flight) }
@@ -111,13 +110,12 @@ pub fn replay_to_end<'d, P: Picker>(
     Ok(FinishedTravel { travel, flight })
 }
 
-/// The travel of a packet of a flow with this time to live, 1 to 255, whose copies are handled in
-/// the order that the picker chooses. The picker may have been asked already where the answer is
-/// `Memory`.
+/// The travel of a packet of the flow with this number, counted from 0, sent with this time to live, 1
+/// to 255, whose copies are handled in the order that the picker chooses.
 ///
 /// # Errors
 ///
-/// `Memory` where a growth was refused.
+/// `Memory` if an allocation fails; the picker may have picked by then.
 pub fn replay<P: Picker>(
     alloc: Global,
     domain: &Domain,
@@ -127,21 +125,21 @@ pub fn replay<P: Picker>(
 ) -> Result<Travel, Memory>
     requires flow { flow < length domain.now.topology.flows }
     requires ttl { 0 < ttl }
-    // The travel is the run of the picker's choices: its events are exactly that run's, its finding
-    // is that of the flight which they end with, and no flight before shows anything.
+    // The travel is the run of the picker's choices: it has exactly the events of that run, and the
+    // finding of the flight that they end with, the first flight with a finding.
     ensures run { IfOk result (IsRunOfChoices
         (replay_of domain.now flow ttl (P.choices picker.old))) }
     // It has at most as many events as there are placed interfaces.
     ensures short { IfOk result (EventsAtMostPlacedVifs
         (replay_of domain.now flow ttl (P.choices picker.old))) }
-    // That flight shows what the words of the finding say:
+    // That flight shows what the finding means,
     ensures shown { IfOk result (EndShowsFinding
         (replay_of domain.now flow ttl (P.choices picker.old))) }
-    // the walk back from each copy ends at the source's copy, so `Loop` and `Duplicate` are told
-    // apart.
+    // and in it the walk back from each copy ends at the source's copy, so that `Loop` and `Duplicate`
+    // exclude each other.
     ensures walks { IfOk result (WalksEndAtSource
         (replay_of domain.now flow ttl (P.choices picker.old))) }
-    // Another finding than `Clean` shows that the flow isn't right, if the TTL is at least the
+    // Any other finding than `Clean` shows that the flow isn't right, if the TTL is at least the
     // flow's.
     ensures wrong { IfOk result (ShowsWrongFlow
         (replay_of domain.now flow ttl (P.choices picker.old))) }

@@ -1,4 +1,4 @@
--- What is written of the flows of a domain, one after the other.
+-- The lines of a domain's flows, one flow after the other.
 use Rattle.std.proofs.Common.{◌≡◌, ℕ, zero, suc, ◌+◌, ◌≤◌, ◌<◌, ◌⊎◌, inl, inr, Bool, true, false}
 use Rattle.std.proofs.Common.{List, [], ◌∷◌, ◌++◌}
 use Rattle.std.proofs.Common.{Global, Vec, length, Option, Some, None, Result, Ok, Err, refl, sym, ap}
@@ -26,7 +26,9 @@ use Rattle.mc_cert.proofs.DistinctLemmas.{length-with_tree}
 use Rattle.mc_maker.specs.Examined.{IfFound, IsFirstPickTravel, is_certified}
 use Rattle.mc_maker.specs.ExaminedFlights.{HasExaminedFlights, without_flights}
 use Rattle.mc_maker.specs.declared.examined_flights.ExaminedFlights.{ExaminedFlights}
-use Rattle.mc_maker.specs.declared.examined_flights.ExaminedFlights.TheVariants.{Certified, FoundAtTtl255, FoundAtFlowTtl}
+use Rattle.mc_maker.specs.declared.examined_flights.ExaminedFlights.TheVariants.{Certified}
+use Rattle.mc_maker.specs.declared.examined_flights.ExaminedFlights.TheVariants.{FoundAtTtl255}
+use Rattle.mc_maker.specs.declared.examined_flights.ExaminedFlights.TheVariants.{FoundAtFlowTtl}
 use Rattle.mc_maker.specs.declared.examination.Examined.{Examined}
 use Rattle.mc_maker.specs.declared.examination.Examined.TheVariants as examined
 use Rattle.mc_replay.specs.declared.travel.FinishedTravel.{FinishedTravel}
@@ -50,7 +52,7 @@ use Rattle.mc_run.specs.declared.flow_status.FlowCounts.{FlowCounts}
 
 -- ---- one flow
 
--- the checker says nothing but yes to a list that is accepted, with the number of its entries
+-- the checker says yes to a list that is accepted, with the number of its entries
 pub verdict_yes-accepted_list : {X : Type 0} (n : Net) (es : List Entry) (answer : Result Verdict X)
     → IfOk answer (YesIffAccepted n es) → IfOk answer (YesCountsEntries n es) → IsAccepted n es
     → IfOk answer (λ verdict. verdict ≡ Yes (length es))
@@ -58,7 +60,7 @@ verdict_yes-accepted_list n es (Err e) exact copies accepted = tt
 verdict_yes-accepted_list n es (Ok (No reason)) exact copies accepted = absurd (false≢true (exact.1 accepted))
 verdict_yes-accepted_list n es (Ok (Yes count)) exact copies accepted = ap Yes copies
 
--- and the headline holds of it
+-- and the headline holds for it
 pub headline_holds-verdict_yes : {X Y A : Type 0} (n : Net) (es : List Entry) (answer : Result Verdict X)
     (r : Result A Y) → IfOk answer (YesKeepsHeadline n es)
     → OnOk r (IsOkAnd answer (λ verdict. verdict ≡ Yes (length es)))
@@ -68,14 +70,15 @@ headline_holds-verdict_yes n es (Err e) (Ok s) keeps is = absurd is
 headline_holds-verdict_yes n es (Ok v) (Ok s) keeps is =
     subst (λ (w : Verdict). YesKeepsHeadline n es w) is keeps
 
--- what is found is found by the travel that was flown
-pub is_first_pick_travel-of_examined : (d : DomainValue) (flow : ℕ) (x : ExaminedFlights) → HasExaminedFlights d flow x
+-- the finding is that of the travel whose flights are given
+pub is_first_pick_travel-of_examined : (d : DomainValue) (flow : ℕ) (x : ExaminedFlights)
+    → HasExaminedFlights d flow x
     → IfFound (IsFirstPickTravel d flow) (without_flights d flow x)
 is_first_pick_travel-of_examined d flow (Certified entries) is = tt
 is_first_pick_travel-of_examined d flow (FoundAtTtl255 ended) is = (ended.flight.flight, is.run)
 is_first_pick_travel-of_examined d flow (FoundAtFlowTtl greatest least) is = (least.flight.flight, is.2.run)
 
--- nothing is explained of a flow that is right
+-- a right flow has no explanation
 abbrev explanation-none : Explanation
 explanation-none = record { printed = []; search = None; also = [] }
 
@@ -84,22 +87,26 @@ is_explanation-certified true = refl
 is_explanation-certified false = refl
 
 -- the flow's list was accepted,
-pub is_flow_pushed-right : {X : Type 0} (v : AuditedValue) (o : AuditOptions) (flow : ℕ) (r : Result FlowStatus X)
+pub is_flow_pushed-right : {X : Type 0} (v : AuditedValue) (o : AuditOptions) (flow : ℕ)
+    (r : Result FlowStatus X)
     (x : ExaminedFlights) (entries : Vec Reached Global) (seen : Tree) (printed new_printed : List Tree)
     (old new : List ℕ) → flow < length v.domain.topology.flows → HasExaminedFlights v.domain flow x
     → IsExamined v.domain flow (without_flights v.domain flow x) → x ≡ Certified entries
     → seen ≡ entries.items
     → OnOk r (HeadlineHolds (net_of v.domain flow) (length seen))
     → IfOk r (λ s. s ≡ status_of_right (lans_wanting (facts v.domain) flow))
-    → OnOk r (new_printed ≡ with_shown_tree o.json (is_hidden o.faults (lans_wanting (facts v.domain) flow)) printed
+    → OnOk r (new_printed ≡ with_shown_tree o.json (is_hidden o.faults
+    (lans_wanting (facts v.domain) flow)) printed
     seen)
     → OnOk r ((f : Flow) → slice_get v.domain.topology.flows flow ≡ Some f
     → new ≡ old ++ right_flow_lines o (is_whole v) v.domain.topology printed flow f seen
     (lans_wanting (facts v.domain) flow))
     → IfOk r (λ s. IsFlowPushed v o flow s printed new_printed old new)
-is_flow_pushed-right v o flow (Err e) x entries seen printed new_printed old new lt flies is same list holds matches
+is_flow_pushed-right v o flow (Err e) x entries seen printed new_printed old new lt has_flights is
+    same list holds matches
     shown_trees puts = tt
-is_flow_pushed-right v o flow (Ok s) x entries seen printed new_printed old new lt flies is same list holds matches
+is_flow_pushed-right v o flow (Ok s) x entries seen printed new_printed old new lt has_flights is
+    same list holds matches
     shown_trees puts =
     let n = net_of v.domain flow in
     let wanted = lans_wanting (facts v.domain) flow in
@@ -111,10 +118,10 @@ is_flow_pushed-right v o flow (Ok s) x entries seen printed new_printed old new 
       answer = record { examined = certified; wanted = wanted; lines = lines };
       is = record {
         listed = f.0;
-        flown = x;
+        flights = x;
         explanation = explanation-none;
         matches = f.1;
-        flies = flies;
+        has_flights = has_flights;
         examined = sym so;
         checked = record {
           examined = subst (λ (y : Examined). IsExamined v.domain flow y) so is;
@@ -137,7 +144,7 @@ is_flow_pushed-right v o flow (Ok s) x entries seen printed new_printed old new 
           ++ right_flow_lines o (is_whole v) v.domain.topology printed flow f.0 es wanted) list;
     }
 
--- or something was found, by a travel that is explained so
+-- or a fault was found, by a travel with this explanation
 pub is_flow_pushed-wrong : (v : AuditedValue) (o : AuditOptions) (flow : ℕ) (x : ExaminedFlights) (ttl : ℕ)
     (travel : Travel) (e : Explanation) (old new : List ℕ)
     → flow < length v.domain.topology.flows → HasExaminedFlights v.domain flow x
@@ -148,7 +155,7 @@ pub is_flow_pushed-wrong : (v : AuditedValue) (o : AuditOptions) (flow : ℕ) (x
     → ((f : Flow) → slice_get v.domain.topology.flows flow ≡ Some f
     → new ≡ old ++ wrong_flow_lines o (facts v.domain) v.summary flow f ttl travel e)
     → (shown_trees : List Tree) → IsFlowPushed v o flow Wrong shown_trees shown_trees old new
-is_flow_pushed-wrong v o flow x ttl travel e old new lt flies is so explained puts shown_trees =
+is_flow_pushed-wrong v o flow x ttl travel e old new lt has_flights is so explained puts shown_trees =
     let f = slice_get-exists v.domain.topology.flows flow lt in
     let is_found : Examined = examined.Found ttl travel in
     let same : without_flights v.domain flow x ≡ is_found = so f.0 f.1 in
@@ -160,10 +167,10 @@ is_flow_pushed-wrong v o flow x ttl travel e old new lt flies is so explained pu
       };
       is = record {
         listed = f.0;
-        flown = x;
+        flights = x;
         explanation = e;
         matches = f.1;
-        flies = flies;
+        has_flights = has_flights;
         examined = sym same;
         checked = record {
           examined = subst (λ (y : Examined). IsExamined v.domain flow y) same is;
@@ -178,8 +185,9 @@ is_flow_pushed-wrong v o flow x ttl travel e old new lt flies is so explained pu
       spelled = puts f.0 f.1;
     }
 
--- what was written by lines that were seen is written by those that were told
-pub wrong_flow_lines-same_causes : (v : AuditedValue) (o : AuditOptions) (flow ttl : ℕ) (ended : FinishedTravel)
+-- lines that were written for printed trees in one form are written for them in the other
+pub wrong_flow_lines-same_causes : (v : AuditedValue) (o : AuditOptions) (flow ttl : ℕ)
+    (ended : FinishedTravel)
     (seen printed : List Cause) (found : Option LanSearch) (old new : List ℕ) → seen ≡ printed
     → ((f : Flow) → slice_get v.domain.topology.flows flow ≡ Some f
     → new ≡ old ++ wrong_flow_lines o (facts v.domain) v.summary flow f ttl ended.travel
@@ -191,8 +199,9 @@ wrong_flow_lines-same_causes v o flow ttl ended seen printed found old new same 
     puts f at ∙ ap (λ (ts : List Cause). old ++ wrong_flow_lines o (facts v.domain) v.summary flow f ttl
     ended.travel (explanation_in ended ts found)) same
 
--- whichever ways were told before
-pub is_flow_pushed-any_shown_trees : {X : Type 0} (v : AuditedValue) (o : AuditOptions) (flow : ℕ) (r : Result FlowStatus X)
+-- whichever trees were printed before
+pub is_flow_pushed-any_shown_trees : {X : Type 0} (v : AuditedValue) (o : AuditOptions) (flow : ℕ)
+    (r : Result FlowStatus X)
     (old new : List ℕ) (shown_trees : List Tree)
     → IfOk r (λ s. (printed : List Tree) → IsFlowPushed v o flow s printed printed old new)
     → IfOk r (λ s. IsFlowPushed v o flow s shown_trees shown_trees old new)
@@ -216,7 +225,7 @@ lines-push_answer (b ∷ answers) a =
     ap (λ xs. b.lines ++ xs) (lines-push_answer answers a)
     ∙ sym (append_assoc b.lines (flat_map (λ c. c.lines) answers) a.lines)
 
--- how many more there are with one item more
+-- the count with one more item
 abbrev one_if_true : Bool → ℕ
 one_if_true true = 1
 one_if_true false = 0
@@ -238,8 +247,9 @@ count-push p (x ∷ answers) a =
     length-cond_cons (p x) x (filter p (answers ++ a ∷ [])) (filter p answers) (one_if_true (p a))
     (count-push p answers a)
 
--- what stands in a list that has grown by one item stood there, or is that item
-slice_get-push_cases : {A : Type 0} (xs : List A) (x : A) (i : ℕ) (y : A) → slice_get (xs ++ x ∷ []) i ≡ Some y
+-- an item of a list that has grown by one is an old item, or the new one
+slice_get-push_cases : {A : Type 0} (xs : List A) (x : A) (i : ℕ) (y : A)
+    → slice_get (xs ++ x ∷ []) i ≡ Some y
     → (slice_get xs i ≡ Some y) ⊎ ((i ≡ length xs) × (x ≡ y))
 slice_get-push_cases [] x zero y at = inr (refl, cc)
 slice_get-push_cases [] x (suc i) y at = absurd cc
@@ -247,7 +257,7 @@ slice_get-push_cases (z ∷ xs) x zero y at = inl at
 slice_get-push_cases (z ∷ xs) x (suc i) y at =
     elim (slice_get-push_cases xs x i y at) [ inl h ↦ inl h | inr h ↦ inr (ap suc h.0, h.1) ]
 
--- the counts of a flow that stands so
+-- the counts with a flow of this status
 with_status-right : (x : Examined) (wanted lines : List ℕ) (s : FlowCounts)
     → (with_status s (status_of x wanted)).right
     ≡ s.right + one_if_true (is_right (record { examined = x; wanted = wanted; lines = lines }))
@@ -270,14 +280,14 @@ with_status-unwanted (examined.Certified entries) (lan ∷ wanted) lines s =
     rw (ne_eqb (length (lan ∷ wanted)) 0 (λ e. omega (arith, e))) (omega arith)
 with_status-unwanted (examined.Found ttl travel) wanted lines s = omega arith
 
--- the ways that were told, once one flow more was
+-- the printed trees, with one more flow
 trees_shown-push : (o : AuditOptions) (answers : List FlowAnswer) (a : FlowAnswer)
     → trees_shown o (answers ++ a ∷ []) ≡ shown_trees_with o (trees_shown o answers) a.examined a.wanted
 trees_shown-push o answers a =
     fold-append (λ (printed : List Tree) (b : FlowAnswer). shown_trees_with o printed b.examined b.wanted) []
     answers (a ∷ [])
 
--- what stands before a place stays there
+-- the items before a place stay the same
 take-before_push : {A : Type 0} (xs : List A) (x : A) (i : ℕ) (y : A) → slice_get xs i ≡ Some y
     → take i (xs ++ x ∷ []) ≡ take i xs
 take-before_push [] x i y at = absurd cc
@@ -288,7 +298,7 @@ take-push_before : {A : Type 0} (xs : List A) (x : A) → take (length xs) (xs +
 take-push_before [] x = refl
 take-push_before (z ∷ xs) x = ap (λ ys. z ∷ ys) (take-push_before xs x)
 
--- no more ways than flows
+-- there are no more trees than flows
 with_shown_tree-at_most_one_more : (o : AuditOptions) (printed : List Tree) (x : Examined) (wanted : List ℕ)
     → length (shown_trees_with o printed x wanted) ≤ length printed + 1
 with_shown_tree-at_most_one_more o printed (examined.Certified entries) wanted =
@@ -311,16 +321,19 @@ trees_shown-at_most_flows_from o printed (a ∷ answers) =
       with_shown_tree-at_most_one_more o printed a.examined a.wanted,
     )
 
-pub trees_shown-at_most_flows : (v : AuditedValue) (o : AuditOptions) (k : ℕ) (s : FlowCounts) (printed : List Tree)
+pub trees_shown-at_most_flows : (v : AuditedValue) (o : AuditOptions) (k : ℕ) (s : FlowCounts)
+    (printed : List Tree)
     (old new : List ℕ) → AreFlowsPushed v o k s printed old new → length printed ≤ k
 trees_shown-at_most_flows v o k s printed old new to =
     let few = trees_shown-at_most_flows_from o [] to.answers in
     let n = to.count_is in
-    let size : length printed ≡ length (trees_shown o to.answers) = ap (λ (ts : List Tree). length ts) to.shown_trees in
+    let size : length printed ≡ length (trees_shown o to.answers) =
+    ap (λ (ts : List Tree). length ts) to.shown_trees in
     omega (arith, few, n, size)
 
--- one flow more was written
-pub are_flows_pushed-more : (v : AuditedValue) (o : AuditOptions) (k : ℕ) (s : FlowCounts) (flow_status : FlowStatus)
+-- one more flow was written
+pub are_flows_pushed-more : (v : AuditedValue) (o : AuditOptions) (k : ℕ) (s : FlowCounts)
+    (flow_status : FlowStatus)
     (new_standings : FlowCounts) (printed new_printed : List Tree) (begun old new : List ℕ)
     → AreFlowsPushed v o k s printed begun old → IsFlowPushed v o k flow_status printed new_printed old new
     → new_standings ≡ with_status s flow_status
@@ -354,7 +367,8 @@ are_flows_pushed-more v o k s flow_status more printed new_printed begun old new
       unwanted = ap (λ (t : FlowCounts). t.unwanted) now ∙ with_status-unwanted a.examined a.wanted a.lines s
           ∙ ap (λ (n : ℕ). n + one_if_true (is_unwanted a)) to.unwanted
           ∙ sym (count-push is_unwanted answers a);
-      shown_trees = is.shown_trees ∙ ap (λ (ts : List Tree). shown_trees_with o ts a.examined a.wanted) to.shown_trees
+      shown_trees = is.shown_trees ∙ ap (λ (ts : List Tree). shown_trees_with o ts a.examined
+          a.wanted) to.shown_trees
           ∙ sym (trees_shown-push o answers a);
       spelled = is.spelled ∙ ap (λ xs. xs ++ a.lines) to.spelled
           ∙ append_assoc begun (flat_map (λ b. b.lines) answers) a.lines
@@ -373,7 +387,8 @@ count-at_most_length p [] = omega arith
 count-at_most_length p (x ∷ answers) =
     length-filter_step (p x) x (filter p answers) answers (count-at_most_length p answers)
 
-pub count_right-below_limit : (v : AuditedValue) (o : AuditOptions) (k : ℕ) (s : FlowCounts) (printed : List Tree)
+pub count_right-below_limit : (v : AuditedValue) (o : AuditOptions) (k : ℕ) (s : FlowCounts)
+    (printed : List Tree)
     (old new : List ℕ) → AreFlowsPushed v o k s printed old new → s.right ≤ k
 count_right-below_limit v o k s printed old new to =
     let h = count-at_most_length is_right to.answers in
@@ -381,7 +396,8 @@ count_right-below_limit v o k s printed old new to =
     let r = to.right in
     omega (arith, h, n, r)
 
-pub count_wrong-below_limit : (v : AuditedValue) (o : AuditOptions) (k : ℕ) (s : FlowCounts) (printed : List Tree)
+pub count_wrong-below_limit : (v : AuditedValue) (o : AuditOptions) (k : ℕ) (s : FlowCounts)
+    (printed : List Tree)
     (old new : List ℕ) → AreFlowsPushed v o k s printed old new → s.wrong ≤ k
 count_wrong-below_limit v o k s printed old new to =
     let h = count-at_most_length is_wrong to.answers in
@@ -389,7 +405,8 @@ count_wrong-below_limit v o k s printed old new to =
     let r = to.wrong in
     omega (arith, h, n, r)
 
-pub count_unwanted-below_limit : (v : AuditedValue) (o : AuditOptions) (k : ℕ) (s : FlowCounts) (printed : List Tree)
+pub count_unwanted-below_limit : (v : AuditedValue) (o : AuditOptions) (k : ℕ) (s : FlowCounts)
+    (printed : List Tree)
     (old new : List ℕ) → AreFlowsPushed v o k s printed old new → s.unwanted ≤ k
 count_unwanted-below_limit v o k s printed old new to =
     let h = count-at_most_length is_unwanted to.answers in

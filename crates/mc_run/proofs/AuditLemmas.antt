@@ -1,4 +1,4 @@
--- What a run of `mcaudit audit` shows of the domain that it read.
+-- What the text of `mcaudit audit` says of the domain that was read.
 use Rattle.std.proofs.Common.{◌≡◌, ℕ, zero, suc, inl, inr, Bool, true, false, List, [], ◌∷◌, ◌++◌}
 use Rattle.std.proofs.Common.{length}
 use Rattle.std.proofs.Common.{Option, Some, None, Result, Ok, Err, refl, sym, ap, subst, ◌∙◌, arith}
@@ -27,13 +27,15 @@ use Rattle.mc_json.specs.WhyData.{why_data}
 use Rattle.mc_run.specs.AuditEnd.{FlowAnswer, are_right, begin_lines, end_lines, verdict_line}
 use Rattle.mc_run.specs.AuditPieces.{output_of}
 use Rattle.mc_run.specs.Failures.{is_write}
-use Rattle.mc_run.specs.AuditRun.{AreFlowAnswers, FilesKeepHeadline, IsFlowAnswer, IsAudited, IsAuditText, IsChecked}
+use Rattle.mc_run.specs.AuditRun.{AreFlowAnswers, FilesKeepHeadline, IsFlowAnswer, IsAudited}
+use Rattle.mc_run.specs.AuditRun.{IsAuditText, IsChecked}
 use Rattle.mc_run.specs.AuditRun.{KeepsHeadlineByLists, MeansAudited, AuditedValue, SaysFlowRight, SaysOfEach}
 use Rattle.mc_run.specs.AuditRun.{SaysNoCertificate, SaysWhatIsFound, SaysWhichAreRight, SaysYesOf}
 use Rattle.mc_run.specs.AuditRun.{WritesOfEach, WritesWhichAreRight, is_whole, is_yes, excluded}
 use Rattle.mc_run.specs.AuditRun.{trees_shown}
 use Rattle.mc_run.specs.AuditText.{Explanation, events_if_shown, explanation_lines}
-use Rattle.mc_run.specs.AuditFlowText.{answer_lines, right_flow_lines, wrong_lines_or_object, wrong_flow_lines}
+use Rattle.mc_run.specs.AuditFlowText.{answer_lines, right_flow_lines, wrong_lines_or_object}
+use Rattle.mc_run.specs.AuditFlowText.{wrong_flow_lines}
 use Rattle.mc_run.specs.AuditReasons.{IsExplanation}
 use Rattle.mc_tables.specs.Summary.{SummaryValue}
 use Rattle.mc_maker.specs.ExaminedFlights.{HasExaminedFlights}
@@ -50,24 +52,26 @@ use Rattle.mc_run.specs.declared.run_output.RunOutput.{RunOutput}
 use Rattle.mc_run.proofs.MakeLemmas.{are_certified-are_right}
 use Rattle.mc_run.proofs.RunLemmas.{IsOutputOf, of_domain-implication, is_output_of-implication}
 
--- ---- what was said
+-- ---- the answers of flows
 
 -- the examinations of all flows
 abbrev examinations_of : List FlowAnswer → List Examined
 examinations_of answers = map (λ a. a.examined) answers
 
--- what stands in a mapped list is what an item of the list gives
+-- an item of a mapped list comes from an item of the list
 slice_get-map : {A B : Type 0} (f : A → B) (xs : List A) (k : ℕ) (y : B) → slice_get (map f xs) k ≡ Some y
     → (x : A) × (slice_get xs k ≡ Some x) × (f x ≡ y)
 slice_get-map f [] k y at = absurd cc
 slice_get-map f (x ∷ xs) zero y at = (x, refl, cc)
 slice_get-map f (x ∷ xs) (suc k) y at = slice_get-map f xs k y at
 
-are_right-examinations : (answers : List FlowAnswer) → are_certified (examinations_of answers) ≡ are_right answers
+are_right-examinations : (answers : List FlowAnswer) → are_certified (examinations_of answers)
+    ≡ are_right answers
 are_right-examinations [] = refl
 are_right-examinations (a ∷ answers) = ap (λ b. is_certified a.examined && b) (are_right-examinations answers)
 
-are_examined-answers : (v : AuditedValue) (o : AuditOptions) (answers : List FlowAnswer) → AreFlowAnswers v o answers
+are_examined-answers : (v : AuditedValue) (o : AuditOptions) (answers : List FlowAnswer)
+    → AreFlowAnswers v o answers
     → AreExamined v.domain (examinations_of answers)
 are_examined-answers v o answers are = record {
   count = length-map answers (λ (a : FlowAnswer). a.examined) ∙ are.count;
@@ -85,9 +89,10 @@ slice_get-listed_flow (Found ttl travel ∷ xs) k x all at P holds = absurd cc
 slice_get-listed_flow (Certified entries ∷ xs) zero x all at P holds =
     let same : x ≡ Certified entries = cc in
     subst (λ (y : Examined). IfCertified P y) same holds
-slice_get-listed_flow (Certified entries ∷ xs) (suc k) x all at P holds = slice_get-listed_flow xs k x all at P holds
+slice_get-listed_flow (Certified entries ∷ xs) (suc k) x all at P holds = slice_get-listed_flow xs k
+    x all at P holds
 
--- what both say each says
+-- if all of two parts are right, each part is
 is_whole-no_names : (a b : Bool) → (a && b) ≡ true → a ≡ true
 is_whole-no_names true b both = refl
 is_whole-no_names false b both = absurd (false≢true both)
@@ -96,7 +101,7 @@ are_right-of_examined : (a b : Bool) → (a && b) ≡ true → b ≡ true
 are_right-of_examined true b both = both
 are_right-of_examined false b both = absurd (false≢true both)
 
--- where all flows are certified, the headline holds of each
+-- if all flows are certified, the headline holds for each
 pub keeps_headline-all_certified : (v : AuditedValue) (o : AuditOptions) (all : Bool) (written : List ℕ)
     → IsAudited v o all written → all ≡ true → KeepsHeadlineByLists v.domain
 keeps_headline-all_certified v o all written a is =
@@ -126,7 +131,7 @@ flat_map-lines : (answers : List FlowAnswer)
 flat_map-lines [] = refl
 flat_map-lines (a ∷ answers) = ap (λ more. a.lines ++ more) (flat_map-lines answers)
 
--- what stands before the lines, they, what stands behind them, and last whether all is well
+-- the lines before the flows, those of the flows, those after them, and the verdict
 pub audit_text-split_at_lines : (v : AuditedValue) (o : AuditOptions) (all : Bool) (written : List ℕ)
     (a : IsAudited v o all written)
     → written ≡ begin_lines o (facts v.domain) (excluded v)
@@ -140,7 +145,7 @@ audit_text-split_at_lines v o all written a =
     ∙ ap (λ ls. begin ++ (ls ++ end (is_yes v a.answers))) (flat_map-lines a.answers)
     ∙ ap (λ b. begin ++ (flat_map (λ ls. ls) (map (λ c. c.lines) a.answers) ++ end b)) (sym a.answer)
 
--- what holds of each flow's answer holds of the lines at its place
+-- what holds of each flow's answer holds of the lines at the flow's place
 pub each_answer-each_lines : (P : ℕ → Flow → List ℕ → Type 0) (v : AuditedValue) (o : AuditOptions)
     (answers : List FlowAnswer) → AreFlowAnswers v o answers
     → ((printed : List Tree) (flow : ℕ) (a : FlowAnswer) (is : IsFlowAnswer v o printed flow a)
@@ -156,8 +161,9 @@ each_answer-each_lines P v o answers are holds flow f ls listed printed =
     (subst (λ (xs : List ℕ). P flow is.listed xs) here.2
     (holds (trees_shown o (take flow answers)) flow here.0 is))
 
--- what is said of a flow that isn't right begins so
-wrong_flow_lines-say_no_certificate : (o : AuditOptions) (d : DomainFacts) (summary : List SummaryValue) (flow : ℕ) (f : Flow)
+-- the lines of a flow that isn't right start so
+wrong_flow_lines-say_no_certificate : (o : AuditOptions) (d : DomainFacts)
+    (summary : List SummaryValue) (flow : ℕ) (f : Flow)
     (ttl : ℕ) (travel : Travel) (e : Explanation) (lines : List ℕ)
     → lines ≡ wrong_flow_lines o d summary flow f ttl travel e → SaysNoCertificate o.json flow f lines
 wrong_flow_lines-say_no_certificate o d summary flow f ttl travel e lines is = by o.json is
@@ -176,7 +182,8 @@ wrong_flow_lines-say_no_certificate o d summary flow f ttl travel e lines is = b
           (explanation_lines d summary flow f e ++ events_if_shown o.travels d.topology travel),
     )
 
-says_flow_right-answer_lines : (v : AuditedValue) (o : AuditOptions) (printed : List Tree) (flow : ℕ) (f : Flow)
+says_flow_right-answer_lines : (v : AuditedValue) (o : AuditOptions) (printed : List Tree)
+    (flow : ℕ) (f : Flow)
     (x : Examined) (e : Explanation) (wanted lines : List ℕ)
     → (IsTrue (is_certified x) ↔ IsRight (net_of v.domain flow))
     → wanted ≡ lans_wanting (facts v.domain) flow
@@ -196,7 +203,7 @@ says_flow_right-answer_lines v o printed flow f (Found ttl travel) e wanted line
   wrong = λ _. wrong_flow_lines-say_no_certificate o (facts v.domain) v.summary flow f ttl travel e lines is;
 }
 
--- each flow's lines say whether it is right, and the answer whether all are
+-- each flow's lines say whether it is right, and the answer whether all flows are
 pub writes_which_are_right-audited : (v : AuditedValue) (o : AuditOptions) (all : Bool) (written : List ℕ)
     → IsAudited v o all written → WritesWhichAreRight v o all written
 writes_which_are_right-audited v o all written a =
@@ -210,7 +217,8 @@ writes_which_are_right-audited v o all written a =
       right = are_right answers;
       count = length-map answers (λ (b : FlowAnswer). b.lines) ∙ are.count;
       each = each_answer-each_lines (λ flow f ls. SaysFlowRight v o flow f ls) v o answers are
-          (λ printed flow b is. says_flow_right-answer_lines v o printed flow is.listed b.examined is.explanation b.wanted
+          (λ printed flow b is. says_flow_right-answer_lines v o printed flow is.listed b.examined
+          is.explanation b.wanted
           b.lines is.checked.examined.right is.wanted is.spelled);
       spelled = audit_text-split_at_lines v o all written a;
       are_right = subst (AreRight d) (are_right-examinations answers)
@@ -236,30 +244,34 @@ says_yes_of-certified v o printed flow f entries e wanted lines checked wants is
       right_flow_lines o (is_whole v) v.domain.topology printed flow f entries.items w) wants;
 }
 
-says_yes_or_found-answer_lines : (v : AuditedValue) (o : AuditOptions) (printed : List Tree) (flow : ℕ) (f : Flow) (x : Examined)
-    (flown : ExaminedFlights) (e : Explanation) (wanted lines : List ℕ) → HasExaminedFlights v.domain flow flown
-    → IsChecked v.domain flow x → IsExplanation v.domain v.summary (excluded v) (is_whole v) flow flown e
+says_yes_or_found-answer_lines : (v : AuditedValue) (o : AuditOptions) (printed : List Tree)
+    (flow : ℕ) (f : Flow) (x : Examined)
+    (flights : ExaminedFlights) (e : Explanation) (wanted lines : List ℕ)
+    → HasExaminedFlights v.domain flow flights
+    → IsChecked v.domain flow x → IsExplanation v.domain v.summary (excluded v) (is_whole v) flow flights e
     → wanted ≡ lans_wanting (facts v.domain) flow
     → lines ≡ answer_lines o (is_whole v) (facts v.domain) v.summary printed flow f x e wanted
     → SaysYesOf v o flow f lines ⊎ SaysWhatIsFound v o flow f lines
-says_yes_or_found-answer_lines v o printed flow f (Certified entries) flown e wanted lines flies checked explained wants is =
+says_yes_or_found-answer_lines v o printed flow f (Certified entries) flights e wanted lines
+    has_flights checked explained wants is =
     inl (says_yes_of-certified v o printed flow f entries e wanted lines checked wants is)
-says_yes_or_found-answer_lines v o printed flow f (Found ttl travel) flown e wanted lines flies checked explained wants is =
+says_yes_or_found-answer_lines v o printed flow f (Found ttl travel) flights e wanted lines
+    has_flights checked explained wants is =
     inr (record {
       ttl = ttl;
       travel = travel;
-      flown = flown;
+      flights = flights;
       explanation = e;
       wrong = λ so. false≢true (checked.examined.right.1 so);
       runs = checked.examined.travel;
       fault = checked.examined.fault;
       ttl_shown = checked.examined.ttl;
-      flies = flies;
+      has_flights = has_flights;
       explained = explained;
       spelled = is;
     })
 
--- a yes for which the headline holds, or what a run of its net finds
+-- a yes for which the headline holds, or the finding of a run of its net
 pub writes_of_each-audited : (v : AuditedValue) (o : AuditOptions) (all : Bool) (written : List ℕ)
     → IsAudited v o all written → WritesOfEach v o all written
 writes_of_each-audited v o all written a =
@@ -270,19 +282,23 @@ writes_of_each-audited v o all written a =
       lines = map (λ b. b.lines) answers;
       end = end_lines o v.domain.topology v.summary (excluded v) all answers;
       count = length-map answers (λ (b : FlowAnswer). b.lines) ∙ are.count;
-      each = each_answer-each_lines (λ flow f ls. SaysYesOf v o flow f ls ⊎ SaysWhatIsFound v o flow f ls) v o answers
-          are (λ printed flow b is. says_yes_or_found-answer_lines v o printed flow is.listed b.examined is.flown is.explanation
-          b.wanted b.lines is.flies is.checked is.explained is.wanted is.spelled);
+      each = each_answer-each_lines (λ flow f ls. SaysYesOf v o flow f ls ⊎ SaysWhatIsFound v o flow
+          f ls) v o answers
+          are (λ printed flow b is. says_yes_or_found-answer_lines v o printed flow is.listed
+          b.examined is.flights is.explanation
+          b.wanted b.lines is.has_flights is.checked is.explained is.wanted is.spelled);
       spelled = audit_text-split_at_lines v o all written a;
     }
 
--- ---- so it is of what the run has to say
+-- ---- the same for the run's output
 
-pub is_output_of-which_are_right : (contents : Option (List FileText)) (o : AuditOptions) (names : List (List ℕ))
+pub is_output_of-which_are_right : (contents : Option (List FileText)) (o : AuditOptions)
+    (names : List (List ℕ))
     (s : Result RunOutput RunFault) → IsOutputOf contents (IsAuditText o names) s
     → IsOutputOf contents (SaysWhichAreRight o names) s
 is_output_of-which_are_right contents o names s =
-    is_output_of-implication contents (IsAuditText o names) (SaysWhichAreRight o names) s (λ files all written.
+    is_output_of-implication contents (IsAuditText o names) (SaysWhichAreRight o names) s
+    (λ files all written.
     of_domain-implication (MeansAudited o names) (λ v. IsAudited v o all written)
     (λ v. WritesWhichAreRight v o all written) (λ v. writes_which_are_right-audited v o all written) files)
 
@@ -291,11 +307,13 @@ pub is_output_of-each_flow : (contents : Option (List FileText)) (o : AuditOptio
     → IsOutputOf contents (SaysOfEach o names) s
 is_output_of-each_flow contents o names s =
     is_output_of-implication contents (IsAuditText o names) (SaysOfEach o names) s (λ files all written.
-    of_domain-implication (MeansAudited o names) (λ v. IsAudited v o all written) (λ v. WritesOfEach v o all written)
+    of_domain-implication (MeansAudited o names) (λ v. IsAudited v o all written)
+    (λ v. WritesOfEach v o all written)
     (λ v. writes_of_each-audited v o all written) files)
 
--- where nothing is left out, the files are as they are
-excluded_files-no_names : (files : List FileText) (names : List (List ℕ)) (d : DomainValue) → (length names == 0) ≡ true
+-- without excluded routers, the files are unchanged
+excluded_files-no_names : (files : List FileText) (names : List (List ℕ)) (d : DomainValue)
+    → (length names == 0) ≡ true
     → FilesMeanDomain (files_with_exclusions names files) d → FilesMeanDomain files d
 excluded_files-no_names files [] d none means = means
 excluded_files-no_names files (name ∷ names) d none means = absurd (not_none (length names) none)
@@ -303,7 +321,8 @@ excluded_files-no_names files (name ∷ names) d none means = absurd (not_none (
     not_none : (n : ℕ) → (suc n == 0) ≡ true → ⊥
     not_none n same = false≢true (sym (ne_eqb (suc n) 0 (λ e. omega (arith, e))) ∙ same)
 
-pub headline_of_files-audit_yes : (contents : Option (List FileText)) (o : AuditOptions) (names : List (List ℕ))
+pub headline_of_files-audit_yes : (contents : Option (List FileText)) (o : AuditOptions)
+    (names : List (List ℕ))
     (s : Result RunOutput RunFault) → IsOutputOf contents (IsAuditText o names) s
     → IfOk s (λ run_output. IsTrue run_output.yes → IfSome contents FilesKeepHeadline)
 headline_of_files-audit_yes contents o names (Err fault) says = tt
@@ -319,9 +338,9 @@ headline_of_files-audit_yes (Some files) o names (Ok run_output) says = λ yes.
       holds = keeps_headline-all_certified v o run_output.yes (string_bytes run_output.text) says.holds yes;
     }
 
--- ---- the text, and the number beside it
+-- ---- the text, and the number of unwanted flows
 
--- what is to be said is right of what was handed
+-- the output is right for the files
 pub is_output_of-audit : (contents : Option (List FileText)) (o : AuditOptions) (names : List (List ℕ))
     (r : Result AuditOutput RunFault)
     → IfOk r (λ audit. IfSome contents (λ files.
@@ -330,8 +349,9 @@ pub is_output_of-audit : (contents : Option (List FileText)) (o : AuditOptions) 
 is_output_of-audit contents o names (Ok audit) says = says
 is_output_of-audit contents o names (Err fault) says = tt
 
--- and is no fault of the output's
-pub is_write_fault-audit_output : (r : Result AuditOutput RunFault) → IfErr r (λ fault. is_write fault ≡ false)
+-- and a fault in its place is not the output's
+pub is_write_fault-audit_output : (r : Result AuditOutput RunFault)
+    → IfErr r (λ fault. is_write fault ≡ false)
     → IfErr (output_of r) (λ fault. is_write fault ≡ false)
 is_write_fault-audit_output (Ok audit) none = tt
 is_write_fault-audit_output (Err fault) none = none

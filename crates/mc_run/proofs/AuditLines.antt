@@ -1,4 +1,4 @@
--- The lines of an audit, as text and in JSON: none before the last one says yes.
+-- The lines of an audit, in text and in JSON: none before the last one says yes.
 use Rattle.std.proofs.Common.{◌≡◌, ℕ, suc, eqb, Bool, true, false, List, [], ◌∷◌, ◌++◌, inl, inr}
 use Rattle.std.proofs.Common.{length, Option, Some, None, refl, sym, ap, subst, ◌∙◌, append_assoc, arith}
 use Rattle.std.specs.Prelude.{◌==◌, ◌&&◌, not, codes, slice_index, slice_get, decimal, flat_map, is_some}
@@ -28,7 +28,8 @@ use Rattle.mc_explain.specs.UnlistedLines.{AreLines, IsUnlistedLine, with_line_f
 use Rattle.mc_explain.specs.UnlistedText.{unlisted_text}
 use Rattle.mc_explain.specs.WantedText.{also_missed_text, wanted_text}
 use Rattle.mc_explain.specs.declared.searching.LanSearch.{LanSearch}
-use Rattle.mc_explain.proofs.ExplanationLemmas.{are_indented-also_missed_text, are_indented-causes_text, are_indented-wanted_text}
+use Rattle.mc_explain.proofs.ExplanationLemmas.{are_indented-also_missed_text}
+use Rattle.mc_explain.proofs.ExplanationLemmas.{are_indented-causes_text, are_indented-wanted_text}
 use Rattle.mc_explain.proofs.ExcludedLemmas.{are_indented-excluded_text, are_without_lines-without_text}
 use Rattle.mc_explain.proofs.UnlistedLineLemmas.{are_unlisted_lines-unlisted_text}
 use Rattle.mc_explain.proofs.SearchLineLemmas.{are_indented-search_text}
@@ -39,14 +40,16 @@ use Rattle.mc_json.specs.ObjectLines.{AreObjectLines, BeginsObject, IsNotVerdict
 use Rattle.mc_json.specs.RowData.{line_of}
 use Rattle.mc_json.specs.CauseData.{lan_data}
 use Rattle.mc_json.specs.WhyData.{why_data}
-use Rattle.mc_json.proofs.EachLineLemmas.{are_object_lines-domain, are_object_lines-right, are_object_lines-summary, are_object_lines-tree}
-use Rattle.mc_json.proofs.EachLineLemmas.{are_object_lines-all_unlisted, are_object_lines-without, are_object_lines-wrong}
+use Rattle.mc_json.proofs.EachLineLemmas.{are_object_lines-domain, are_object_lines-right}
+use Rattle.mc_json.proofs.EachLineLemmas.{are_object_lines-summary, are_object_lines-tree}
+use Rattle.mc_json.proofs.EachLineLemmas.{are_object_lines-all_unlisted, are_object_lines-without}
+use Rattle.mc_json.proofs.EachLineLemmas.{are_object_lines-wrong}
 use Rattle.mc_run.specs.AuditEnd.{FlowAnswer, begin_lines, count, end_text_or_objects, end_lines, end_objects}
 use Rattle.mc_run.specs.AuditEnd.{end_text, is_right, is_unwanted, is_wrong, option_words, strict_lines}
 use Rattle.mc_run.specs.AuditEnd.{summary_line}
 use Rattle.mc_run.specs.AuditObjects.{tree_line}
 use Rattle.mc_run.specs.AuditRun.{AreFlowAnswers, IsFlowAnswer, AuditedValue, is_whole, is_yes, excluded}
-use Rattle.mc_run.specs.AuditRun.{trees_shown, yes_object}
+use Rattle.mc_run.specs.AuditRun.{AreYesWords, trees_shown, yes_object}
 use Rattle.mc_run.specs.AuditText.{Explanation, events_if_shown, explanation_lines, right_line}
 use Rattle.mc_run.specs.AuditText.{searched_lines}
 use Rattle.mc_run.specs.AuditFlowText.{answer_lines, is_hidden, right_lines_or_object, wrong_lines_or_object}
@@ -54,36 +57,44 @@ use Rattle.mc_run.specs.declared.audit_options.AuditOptions.{AuditOptions}
 use Rattle.mc_run.specs.MakeRun.{found_line, found_lines, no_certificate_line}
 use Rattle.mc_run.specs.ReplayRun.{event_line, event_lines}
 use Rattle.mc_run.specs.VerdictText.{flow_words}
-use Rattle.mc_explain.proofs.LineFeedLemmas.{no_feed-dotted, number, no_feed-from_list_all, no_feed-router_name, no_feed-append}
-use Rattle.mc_run.proofs.RunLemmas.{AreYesWords}
-use Rattle.mc_run.proofs.VerdictLines.{AreLinesWithoutYes, BeginsWithOtherByte, are_other-append, are_other-if, are_other-line}
-use Rattle.mc_run.proofs.VerdictLines.{lan_name-no_line_feed, router_and_vif-no_line_feed, are_other-no_lines, are_other-text_line, are_other-verdict_line}
+use Rattle.mc_explain.proofs.LineFeedLemmas.{no_feed-dotted, number, no_feed-from_list_all}
+use Rattle.mc_explain.proofs.LineFeedLemmas.{no_feed-router_name, no_feed-append}
+use Rattle.mc_run.proofs.VerdictLines.{AreLinesWithoutYes, BeginsWithOtherByte, no_yes_line-append}
+use Rattle.mc_run.proofs.VerdictLines.{no_yes_line-if, no_yes_line-line}
+use Rattle.mc_run.proofs.VerdictLines.{lan_name-no_line_feed, router_and_vif-no_line_feed}
+use Rattle.mc_run.proofs.VerdictLines.{no_yes_line-no_lines, no_yes_line-text_line}
+use Rattle.mc_run.proofs.VerdictLines.{no_yes_line-verdict_line}
 
 -- ---- lines of text
 
 flow_words-no_yes : (f : Flow) → HasNoByte 10 (flow_words f)
 flow_words-no_yes f =
-    let ttl = no_feed-append (codes " ttl ") (decimal f.ttl) (no_feed-from_list_all (codes " ttl ") refl) (number f.ttl) in
+    let ttl = no_feed-append (codes " ttl ") (decimal f.ttl)
+    (no_feed-from_list_all (codes " ttl ") refl) (number f.ttl) in
     let group = no_feed-append _ _ (no_feed-dotted f.group) ttl in
-    let source = no_feed-append _ _ (no_feed-dotted f.source) (no_feed-append (codes " ") _ (refl, tt) group) in
+    let source = no_feed-append _ _ (no_feed-dotted f.source)
+    (no_feed-append (codes " ") _ (refl, tt) group) in
     no_feed-append (codes "flow ") _ (no_feed-from_list_all (codes "flow ") refl) source
 
--- a flow's words and some more
-are_other-flow_words : (f : Flow) (more : List ℕ) → HasNoByte 10 more
+-- the words at a flow's line's start, and more
+no_yes_line-flow_words : (f : Flow) (more : List ℕ) → HasNoByte 10 more
     → AreLinesWithoutYes (flow_words f ++ (more ++ codes "\n"))
-are_other-flow_words f more none =
-    are_other-text_line (flow_words f ++ (more ++ codes "\n")) (flow_words f ++ more) (refl, refl)
-    (no_feed-append (flow_words f) more (flow_words-no_yes f) none) (sym (append_assoc (flow_words f) more (codes "\n")))
+no_yes_line-flow_words f more none =
+    no_yes_line-text_line (flow_words f ++ (more ++ codes "\n")) (flow_words f ++ more) (refl, refl)
+    (no_feed-append (flow_words f) more (flow_words-no_yes f) none)
+    (sym (append_assoc (flow_words f) more (codes "\n")))
 
-are_other-no_certificate_line : (f : Flow) → AreLinesWithoutYes (no_certificate_line f)
-are_other-no_certificate_line f = are_other-flow_words f (codes " no certificate") (no_feed-from_list_all (codes " no certificate") refl)
+no_yes_line-no_certificate_line : (f : Flow) → AreLinesWithoutYes (no_certificate_line f)
+no_yes_line-no_certificate_line f = no_yes_line-flow_words f (codes " no certificate")
+    (no_feed-from_list_all (codes " no certificate") refl)
 
-are_other-right_line : (whole : Bool) (t : TopologyValue) (f : Flow) (copies : ℕ) → IsValidTopology t
+no_yes_line-right_line : (whole : Bool) (t : TopologyValue) (f : Flow) (copies : ℕ) → IsValidTopology t
     → AreLinesWithoutYes (right_line whole t f copies)
-are_other-right_line true t f copies ok = are_other-verdict_line t f (Yes copies) ok
-are_other-right_line false t f copies ok =
-    are_other-flow_words f (codes " no fault known copies " ++ decimal copies)
-    (no_feed-append (codes " no fault known copies ") _ (no_feed-from_list_all (codes " no fault known copies ") refl)
+no_yes_line-right_line true t f copies ok = no_yes_line-verdict_line t f (Yes copies) ok
+no_yes_line-right_line false t f copies ok =
+    no_yes_line-flow_words f (codes " no fault known copies " ++ decimal copies)
+    (no_feed-append (codes " no fault known copies ") _
+    (no_feed-from_list_all (codes " no fault known copies ") refl)
     (number copies))
 
 finding_text-no_yes : (t : TopologyValue) (x : Finding) → IsValidTopology t → HasNoByte 10 (finding_text t x)
@@ -97,11 +108,11 @@ finding_text-no_yes t (Stray router vif) ok =
 finding_text-no_yes t (Missed lan) ok =
     lan_name-no_line_feed (codes "Missed ") t lan (no_feed-from_list_all (codes "Missed ") refl) ok
 
-are_other-found_lines : (t : TopologyValue) (ttl : ℕ) (x : Finding) → IsValidTopology t
+no_yes_line-found_lines : (t : TopologyValue) (ttl : ℕ) (x : Finding) → IsValidTopology t
     → AreLinesWithoutYes (found_line t ttl x)
-are_other-found_lines t ttl x ok =
+no_yes_line-found_lines t ttl x ok =
     let last = codes " " ++ finding_text t x in
-    are_other-text_line (found_line t ttl x) (codes "found ttl " ++ (decimal ttl ++ last)) (refl, refl)
+    no_yes_line-text_line (found_line t ttl x) (codes "found ttl " ++ (decimal ttl ++ last)) (refl, refl)
     (no_feed-append (codes "found ttl ") _ (no_feed-from_list_all (codes "found ttl ") refl)
     (no_feed-append (decimal ttl) last (number ttl)
     (no_feed-append (codes " ") (finding_text t x) (refl, tt) (finding_text-no_yes t x ok))))
@@ -114,8 +125,10 @@ outcome_text-no_yes OtherVif = no_feed-from_list_all (codes "other vif") refl
 outcome_text-no_yes (Sent copies strays) =
     let sent = codes "sent " ++ decimal copies in
     let begun =
-    no_feed-append (codes "sent ") (decimal copies) (no_feed-from_list_all (codes "sent ") refl) (number copies) in
-    let more = no_feed-append sent (codes " strayed ") begun (no_feed-from_list_all (codes " strayed ") refl) in
+    no_feed-append (codes "sent ") (decimal copies) (no_feed-from_list_all (codes "sent ") refl)
+    (number copies) in
+    let more = no_feed-append sent (codes " strayed ") begun
+    (no_feed-from_list_all (codes " strayed ") refl) in
     no_feed-append (sent ++ codes " strayed ") (decimal strays) more (number strays)
 
 event_text-no_yes : (t : TopologyValue) (e : Event) → IsValidTopology t → HasNoByte 10 (event_text t e)
@@ -131,50 +144,57 @@ event_text-no_yes t e ok =
     let more = no_feed-append living (codes " ") ttl (refl, tt) in
     no_feed-append (living ++ codes " ") (outcome_text e.outcome) more (outcome_text-no_yes e.outcome)
 
-are_other-event_line : (t : TopologyValue) (e : Event) → IsValidTopology t → AreLinesWithoutYes (event_line t e)
-are_other-event_line t e ok =
-    are_other-text_line (event_line t e) (codes "event " ++ event_text t e) (refl, refl)
-    (no_feed-append (codes "event ") (event_text t e) (no_feed-from_list_all (codes "event ") refl) (event_text-no_yes t e ok)) refl
+no_yes_line-event_line : (t : TopologyValue) (e : Event) → IsValidTopology t
+    → AreLinesWithoutYes (event_line t e)
+no_yes_line-event_line t e ok =
+    no_yes_line-text_line (event_line t e) (codes "event " ++ event_text t e) (refl, refl)
+    (no_feed-append (codes "event ") (event_text t e) (no_feed-from_list_all (codes "event ") refl)
+    (event_text-no_yes t e ok)) refl
 
-are_other-event_lines : (t : TopologyValue) (es : List Event) → IsValidTopology t → AreLinesWithoutYes (event_lines t es)
-are_other-event_lines t [] ok = are_other-no_lines
-are_other-event_lines t (e ∷ es) ok =
-    are_other-append (event_line t e) (event_lines t es) (are_other-event_line t e ok) (are_other-event_lines t es ok)
+no_yes_line-event_lines : (t : TopologyValue) (es : List Event) → IsValidTopology t
+    → AreLinesWithoutYes (event_lines t es)
+no_yes_line-event_lines t [] ok = no_yes_line-no_lines
+no_yes_line-event_lines t (e ∷ es) ok =
+    no_yes_line-append (event_line t e) (event_lines t es) (no_yes_line-event_line t e ok)
+    (no_yes_line-event_lines t es ok)
 
-are_other-events_if_shown : (travels : Bool) (t : TopologyValue) (travel : Travel) → IsValidTopology t
+no_yes_line-events_if_shown : (travels : Bool) (t : TopologyValue) (travel : Travel) → IsValidTopology t
     → AreLinesWithoutYes (events_if_shown travels t travel)
-are_other-events_if_shown true t travel ok = are_other-event_lines t travel.events.items ok
-are_other-events_if_shown false t travel ok = are_other-no_lines
+no_yes_line-events_if_shown true t travel ok = no_yes_line-event_lines t travel.events.items ok
+no_yes_line-events_if_shown false t travel ok = no_yes_line-no_lines
 
 -- lines that begin with two spaces
 indented_lines : (ls : List (List ℕ)) → ((l : List ℕ) → In l ls → HasNoLineFeed l)
     → AreLinesWithoutYes (flat_map indented ls)
-indented_lines [] feedless = are_other-no_lines
+indented_lines [] feedless = no_yes_line-no_lines
 indented_lines (l ∷ ls) feedless =
-    are_other-append (indented l) (flat_map indented ls)
-    (are_other-text_line (indented l) (codes "  " ++ l) (refl, refl)
-    (no_feed-append (codes "  ") l (no_feed-from_list_all (codes "  ") refl) (no_feed-from_list_all l (feedless l (inl refl)))) refl)
+    no_yes_line-append (indented l) (flat_map indented ls)
+    (no_yes_line-text_line (indented l) (codes "  " ++ l) (refl, refl)
+    (no_feed-append (codes "  ") l (no_feed-from_list_all (codes "  ") refl)
+    (no_feed-from_list_all l (feedless l (inl refl)))) refl)
     (indented_lines ls (λ m h. feedless m (inr h)))
 
-are_other-indented_lines : (text : List ℕ) → AreIndented text → AreLinesWithoutYes text
-are_other-indented_lines text is =
+no_yes_line-indented_lines : (text : List ℕ) → AreIndented text → AreLinesWithoutYes text
+no_yes_line-indented_lines text is =
     subst AreLinesWithoutYes (sym is.spelled) (indented_lines is.lines is.feedless)
 
--- lines that begin in some way, as those that tell of rows that are no flow's, or of routers that are
--- left out
+-- lines with a fixed start, as those on unlisted sources and groups, or on excluded
+-- routers
 lines_indented_by : (Begins : List ℕ → Type 0) (ls : List (List ℕ))
     → ((l : List ℕ) → Begins l → BeginsWithOtherByte l) → ((l : List ℕ) → In l ls → Begins l)
     → ((l : List ℕ) → In l ls → HasNoLineFeed l) → AreLinesWithoutYes (flat_map with_line_feed ls)
-lines_indented_by Begins [] other begins feedless = are_other-no_lines
+lines_indented_by Begins [] other begins feedless = no_yes_line-no_lines
 lines_indented_by Begins (l ∷ ls) other begins feedless =
-    are_other-append (with_line_feed l) (flat_map with_line_feed ls)
-    (are_other-text_line (with_line_feed l) l (other l (begins l (inl refl))) (no_feed-from_list_all l (feedless l (inl refl))) refl)
+    no_yes_line-append (with_line_feed l) (flat_map with_line_feed ls)
+    (no_yes_line-text_line (with_line_feed l) l (other l (begins l (inl refl)))
+    (no_feed-from_list_all l (feedless l (inl refl))) refl)
     (lines_indented_by Begins ls other (λ m h. begins m (inr h)) (λ m h. feedless m (inr h)))
 
-are_other-lines : (Begins : List ℕ → Type 0) (text : List ℕ)
+no_yes_line-lines : (Begins : List ℕ → Type 0) (text : List ℕ)
     → ((l : List ℕ) → Begins l → BeginsWithOtherByte l) → AreLines Begins text → AreLinesWithoutYes text
-are_other-lines Begins text other are =
-    subst AreLinesWithoutYes (sym are.spelled) (lines_indented_by Begins are.lines other are.begins are.feedless)
+no_yes_line-lines Begins text other are =
+    subst AreLinesWithoutYes (sym are.spelled) (lines_indented_by Begins are.lines other are.begins
+    are.feedless)
 
 begins-row_line : (l : List ℕ) → IsUnlistedLine l → BeginsWithOtherByte l
 begins-row_line l (rest, inl begins) = subst BeginsWithOtherByte (sym begins) (refl, refl)
@@ -185,7 +205,7 @@ begins-excluded_line l (rest, begins) = subst BeginsWithOtherByte (sym begins) (
 
 -- ---- lines that are objects
 
--- words without a line feed that begin a line begin what stands before its line feed
+-- words without a line feed that start a line start what is before its line feed
 begins_with : (xs tail begin rest : List ℕ) → HasNoByte 10 begin → xs ++ (10 ∷ tail) ≡ begin ++ rest
     → (more : List ℕ) × (xs ≡ begin ++ more)
 begins_with xs tail [] rest none same = (xs, refl)
@@ -210,94 +230,106 @@ first_byte-object xs begin tail rest begins other (inr is) same =
     (same ∙ ap (λ w. w ++ rest) is) in
     other (codes ":\"yes\"}" ++ b.0) b.1
 
-are_other-each_object : (lines : List (List ℕ)) → ((line : List ℕ) → In line lines → BeginsObject line)
+no_yes_line-each_object : (lines : List (List ℕ)) → ((line : List ℕ) → In line lines → BeginsObject line)
     → ((line : List ℕ) → In line lines → IsNotVerdict line)
-    → ((line : List ℕ) → In line lines → HasNoLineFeed line) → AreLinesWithoutYes (flat_map with_line_feed lines)
-are_other-each_object [] begins other feedless = are_other-no_lines
-are_other-each_object (l ∷ ls) begins other feedless =
-    are_other-append (with_line_feed l) (flat_map with_line_feed ls)
-    (are_other-line l (no_feed-from_list_all l (feedless l (inl refl)))
+    → ((line : List ℕ) → In line lines → HasNoLineFeed line)
+    → AreLinesWithoutYes (flat_map with_line_feed lines)
+no_yes_line-each_object [] begins other feedless = no_yes_line-no_lines
+no_yes_line-each_object (l ∷ ls) begins other feedless =
+    no_yes_line-append (with_line_feed l) (flat_map with_line_feed ls)
+    (no_yes_line-line l (no_feed-from_list_all l (feedless l (inl refl)))
     (λ begin tail rest are same. first_byte-object l begin tail rest (begins l (inl refl))
     (other l (inl refl)) are same))
-    (are_other-each_object ls (λ m h. begins m (inr h)) (λ m h. other m (inr h)) (λ m h. feedless m (inr h)))
+    (no_yes_line-each_object ls (λ m h. begins m (inr h)) (λ m h. other m (inr h))
+    (λ m h. feedless m (inr h)))
 
-are_other-objects : (text : List ℕ) → AreObjectLines text → AreLinesWithoutYes text
-are_other-objects text are =
-    subst AreLinesWithoutYes (sym are.spelled) (are_other-each_object are.lines are.begins are.other are.feedless)
+no_yes_line-objects : (text : List ℕ) → AreObjectLines text → AreLinesWithoutYes text
+no_yes_line-objects text are =
+    subst AreLinesWithoutYes (sym are.spelled) (no_yes_line-each_object are.lines are.begins
+    are.other are.feedless)
 
 -- ---- a flow
 
-are_other-tree_line : (t : TopologyValue) (printed : List Tree) (es : Tree) → AreLinesWithoutYes (tree_line t printed es)
-are_other-tree_line t printed es =
-    are_other-if (is_some (find_tree printed es)) [] (line_of (tree_data t es (length printed))) are_other-no_lines
-    (are_other-objects _ (are_object_lines-tree t es (length printed)))
+no_yes_line-tree_line : (t : TopologyValue) (printed : List Tree) (es : Tree)
+    → AreLinesWithoutYes (tree_line t printed es)
+no_yes_line-tree_line t printed es =
+    no_yes_line-if (is_some (find_tree printed es)) [] (line_of (tree_data t es (length printed)))
+    no_yes_line-no_lines
+    (no_yes_line-objects _ (are_object_lines-tree t es (length printed)))
 
-are_other-right_lines_or_object : (json whole : Bool) (t : TopologyValue) (printed : List Tree) (number : ℕ) (f : Flow)
+no_yes_line-right_lines_or_object : (json whole : Bool) (t : TopologyValue) (printed : List Tree)
+    (number : ℕ) (f : Flow)
     (es : Tree) (wanted : List ℕ) → IsValidTopology t
     → AreLinesWithoutYes (right_lines_or_object json whole t printed number f es wanted)
-are_other-right_lines_or_object true whole t printed number f es wanted ok =
-    are_other-append (tree_line t printed es) _ (are_other-tree_line t printed es)
-    (are_other-objects _ (are_object_lines-right whole number f (length es) (tree_number_of (with_tree printed es) es)
+no_yes_line-right_lines_or_object true whole t printed number f es wanted ok =
+    no_yes_line-append (tree_line t printed es) _ (no_yes_line-tree_line t printed es)
+    (no_yes_line-objects _ (are_object_lines-right whole number f (length es)
+    (tree_number_of (with_tree printed es) es)
     (map (lan_data t) wanted)))
-are_other-right_lines_or_object false whole t printed number f es wanted ok =
-    are_other-append (right_line whole t f (length es)) (wanted_text t wanted)
-    (are_other-right_line whole t f (length es) ok)
-    (are_other-indented_lines (wanted_text t wanted) (are_indented-wanted_text t wanted ok))
+no_yes_line-right_lines_or_object false whole t printed number f es wanted ok =
+    no_yes_line-append (right_line whole t f (length es)) (wanted_text t wanted)
+    (no_yes_line-right_line whole t f (length es) ok)
+    (no_yes_line-indented_lines (wanted_text t wanted) (are_indented-wanted_text t wanted ok))
 
-are_other-explanation_lines : (d : DomainFacts) (summary : List SummaryValue) (number : ℕ) (f : Flow)
-    (x : Explanation) → IsValidTopology d.topology → AreLinesWithoutYes (explanation_lines d summary number f x)
-are_other-explanation_lines d summary number f x ok =
-    are_other-append (causes_text d summary number f x.printed) _
-    (are_other-indented_lines _ (are_indented-causes_text d summary number f x.printed ok))
-    (are_other-append (searched_lines d summary number f x.search) (also_missed_text d.topology x.also)
-    (searched x.search) (are_other-indented_lines _ (are_indented-also_missed_text d.topology x.also ok)))
+no_yes_line-explanation_lines : (d : DomainFacts) (summary : List SummaryValue) (number : ℕ) (f : Flow)
+    (x : Explanation) → IsValidTopology d.topology → AreLinesWithoutYes
+    (explanation_lines d summary number f x)
+no_yes_line-explanation_lines d summary number f x ok =
+    no_yes_line-append (causes_text d summary number f x.printed) _
+    (no_yes_line-indented_lines _ (are_indented-causes_text d summary number f x.printed ok))
+    (no_yes_line-append (searched_lines d summary number f x.search) (also_missed_text d.topology x.also)
+    (searched x.search) (no_yes_line-indented_lines _ (are_indented-also_missed_text d.topology x.also ok)))
   where
     searched : (s : Option LanSearch) → AreLinesWithoutYes (searched_lines d summary number f s)
-    searched None = are_other-no_lines
-    searched (Some found) = are_other-indented_lines _ (are_indented-search_text d summary number f found.lines.items
+    searched None = no_yes_line-no_lines
+    searched (Some found) = no_yes_line-indented_lines _
+        (are_indented-search_text d summary number f found.lines.items
         found.reach.sent_on.items found.reach.took_none.items ok)
 
-are_other-wrong_lines_or_object : (json travels : Bool) (d : DomainFacts) (summary : List SummaryValue) (number : ℕ) (f : Flow)
+no_yes_line-wrong_lines_or_object : (json travels : Bool) (d : DomainFacts)
+    (summary : List SummaryValue) (number : ℕ) (f : Flow)
     (ttl : ℕ) (travel : Travel) (x : Explanation) → IsValidTopology d.topology
     → AreLinesWithoutYes (wrong_lines_or_object json travels d summary number f ttl travel x)
-are_other-wrong_lines_or_object true travels d summary number f ttl travel x ok =
-    are_other-objects _ (are_object_lines-wrong d number f ttl travel.finding travel.events.items x.also
+no_yes_line-wrong_lines_or_object true travels d summary number f ttl travel x ok =
+    no_yes_line-objects _ (are_object_lines-wrong d number f ttl travel.finding travel.events.items x.also
     (why_data d summary number f x.printed x.search) travels)
-are_other-wrong_lines_or_object false travels d summary number f ttl travel x ok =
+no_yes_line-wrong_lines_or_object false travels d summary number f ttl travel x ok =
     let t = d.topology in
-    are_other-append (found_lines t f ttl travel.finding) _
-    (are_other-append (no_certificate_line f) (found_line t ttl travel.finding) (are_other-no_certificate_line f)
-    (are_other-found_lines t ttl travel.finding ok))
-    (are_other-append (explanation_lines d summary number f x) (events_if_shown travels t travel)
-    (are_other-explanation_lines d summary number f x ok) (are_other-events_if_shown travels t travel ok))
+    no_yes_line-append (found_lines t f ttl travel.finding) _
+    (no_yes_line-append (no_certificate_line f) (found_line t ttl travel.finding)
+    (no_yes_line-no_certificate_line f)
+    (no_yes_line-found_lines t ttl travel.finding ok))
+    (no_yes_line-append (explanation_lines d summary number f x) (events_if_shown travels t travel)
+    (no_yes_line-explanation_lines d summary number f x ok) (no_yes_line-events_if_shown travels t travel ok))
 
-are_other-answer_lines : (o : AuditOptions) (whole : Bool) (d : DomainFacts) (summary : List SummaryValue)
+no_yes_line-answer_lines : (o : AuditOptions) (whole : Bool) (d : DomainFacts) (summary : List SummaryValue)
     (printed : List Tree) (number : ℕ) (f : Flow) (x : Examined) (e : Explanation) (wanted : List ℕ)
     → IsValidTopology d.topology
     → AreLinesWithoutYes (answer_lines o whole d summary printed number f x e wanted)
-are_other-answer_lines o whole d summary printed number f (Certified entries) e wanted ok =
-    are_other-if (is_hidden o.faults wanted) []
-    (right_lines_or_object o.json whole d.topology printed number f entries.items wanted) are_other-no_lines
-    (are_other-right_lines_or_object o.json whole d.topology printed number f entries.items wanted ok)
-are_other-answer_lines o whole d summary printed number f (Found ttl travel) e wanted ok =
-    are_other-wrong_lines_or_object o.json o.travels d summary number f ttl travel e ok
+no_yes_line-answer_lines o whole d summary printed number f (Certified entries) e wanted ok =
+    no_yes_line-if (is_hidden o.faults wanted) []
+    (right_lines_or_object o.json whole d.topology printed number f entries.items wanted) no_yes_line-no_lines
+    (no_yes_line-right_lines_or_object o.json whole d.topology printed number f entries.items wanted ok)
+no_yes_line-answer_lines o whole d summary printed number f (Found ttl travel) e wanted ok =
+    no_yes_line-wrong_lines_or_object o.json o.travels d summary number f ttl travel e ok
 
-are_other-all_answers : (v : AuditedValue) (o : AuditOptions) (answers : List FlowAnswer)
+no_yes_line-all_answers : (v : AuditedValue) (o : AuditOptions) (answers : List FlowAnswer)
     → ((flow : ℕ) (a : FlowAnswer) → slice_get answers flow ≡ Some a
     → (printed : List Tree) × (number : ℕ) × IsFlowAnswer v o printed number a)
     → IsValidTopology v.domain.topology → AreLinesWithoutYes (flat_map (λ a. a.lines) answers)
-are_other-all_answers v o [] each ok = are_other-no_lines
-are_other-all_answers v o (a ∷ answers) each ok =
+no_yes_line-all_answers v o [] each ok = no_yes_line-no_lines
+no_yes_line-all_answers v o (a ∷ answers) each ok =
     let first = each 0 a refl in
     let is = first.2 in
-    are_other-append a.lines (flat_map (λ b. b.lines) answers)
-    (subst AreLinesWithoutYes (sym is.spelled) (are_other-answer_lines o (is_whole v) (facts v.domain) v.summary first.0
+    no_yes_line-append a.lines (flat_map (λ b. b.lines) answers)
+    (subst AreLinesWithoutYes (sym is.spelled) (no_yes_line-answer_lines o (is_whole v)
+    (facts v.domain) v.summary first.0
     first.1 is.listed a.examined is.explanation a.wanted ok))
-    (are_other-all_answers v o answers (λ flow b at. each (suc flow) b at) ok)
+    (no_yes_line-all_answers v o answers (λ flow b at. each (suc flow) b at) ok)
 
--- ---- what stands behind the flows
+-- ---- after the flows
 
--- whatever is counted, what stands before the summary's line feed
+-- whatever the counts, the summary before its line feed
 summary_line-before_line_feed : (a b c d : List ℕ)
     → codes "summary flows " ++ (a ++ (codes " right " ++ (b ++ (codes " wrong " ++ (c
     ++ (codes " unwanted " ++ (d ++ codes "\n")))))))
@@ -305,71 +337,81 @@ summary_line-before_line_feed : (a b c d : List ℕ)
     ++ (codes " unwanted " ++ d))))))) ++ codes "\n"
 summary_line-before_line_feed a b c d = simp append_assoc
 
-are_other-summary_line : (flows right wrong unwanted : ℕ) → AreLinesWithoutYes (summary_line flows right wrong unwanted)
-are_other-summary_line flows right wrong unwanted =
-    let last = no_feed-append (codes " unwanted ") (decimal unwanted) (no_feed-from_list_all (codes " unwanted ") refl)
+no_yes_line-summary_line : (flows right wrong unwanted : ℕ)
+    → AreLinesWithoutYes (summary_line flows right wrong unwanted)
+no_yes_line-summary_line flows right wrong unwanted =
+    let last = no_feed-append (codes " unwanted ") (decimal unwanted)
+    (no_feed-from_list_all (codes " unwanted ") refl)
     (number unwanted) in
     let third = no_feed-append (decimal wrong) _ (number wrong) last in
     let second = no_feed-append (decimal right) _ (number right)
     (no_feed-append (codes " wrong ") _ (no_feed-from_list_all (codes " wrong ") refl) third) in
     let first = no_feed-append (decimal flows) _ (number flows)
     (no_feed-append (codes " right ") _ (no_feed-from_list_all (codes " right ") refl) second) in
-    are_other-text_line (summary_line flows right wrong unwanted)
+    no_yes_line-text_line (summary_line flows right wrong unwanted)
     (codes "summary flows " ++ (decimal flows ++ (codes " right " ++ (decimal right
     ++ (codes " wrong " ++ (decimal wrong ++ (codes " unwanted " ++ decimal unwanted)))))))
     (refl, refl)
     (no_feed-append (codes "summary flows ") _ (no_feed-from_list_all (codes "summary flows ") refl) first)
     (summary_line-before_line_feed (decimal flows) (decimal right) (decimal wrong) (decimal unwanted))
 
-are_other-strict_lines : (strict all : Bool) (unwanted : ℕ) → AreLinesWithoutYes (strict_lines strict all unwanted)
-are_other-strict_lines strict all unwanted =
+no_yes_line-strict_lines : (strict all : Bool) (unwanted : ℕ)
+    → AreLinesWithoutYes (strict_lines strict all unwanted)
+no_yes_line-strict_lines strict all unwanted =
     let last = codes " flows that nobody wants, status 1" in
-    are_other-if (strict && (all && not (unwanted == 0)))
+    no_yes_line-if (strict && (all && not (unwanted == 0)))
     (codes "  strict: " ++ (decimal unwanted ++ codes " flows that nobody wants, status 1\n")) []
-    (are_other-text_line _ (codes "  strict: " ++ (decimal unwanted ++ last)) (refl, refl)
+    (no_yes_line-text_line _ (codes "  strict: " ++ (decimal unwanted ++ last)) (refl, refl)
     (no_feed-append (codes "  strict: ") _ (no_feed-from_list_all (codes "  strict: ") refl)
     (no_feed-append (decimal unwanted) last (number unwanted) (no_feed-from_list_all last refl)))
     (ap (λ xs. codes "  strict: " ++ xs) (sym (append_assoc (decimal unwanted) last (codes "\n")))))
-    are_other-no_lines
+    no_yes_line-no_lines
 
-are_other-end_text : (o : AuditOptions) (t : TopologyValue) (summary : List SummaryValue) (marks : List Bool)
+no_yes_line-end_text : (o : AuditOptions) (t : TopologyValue) (summary : List SummaryValue)
+    (marks : List Bool)
     (all : Bool) (flows right wrong unwanted : ℕ) → IsValidTopology t
     → AreLinesWithoutYes (end_text o t summary marks all flows right wrong unwanted)
-are_other-end_text o t summary marks all flows right wrong unwanted ok =
-    are_other-append (unlisted_text o.unlisted t summary) _
-    (are_other-lines IsUnlistedLine _ begins-row_line (are_unlisted_lines-unlisted_text o.unlisted t summary ok))
-    (are_other-append (without_text t marks) _
-    (are_other-lines IsWithoutLine _ begins-excluded_line (are_without_lines-without_text t marks ok))
-    (are_other-append (summary_line flows right wrong unwanted) _ (are_other-summary_line flows right wrong unwanted)
-    (are_other-append (excluded_text t marks) (strict_lines o.strict all unwanted)
-    (are_other-indented_lines _ (are_indented-excluded_text t marks ok)) (are_other-strict_lines o.strict all unwanted))))
+no_yes_line-end_text o t summary marks all flows right wrong unwanted ok =
+    no_yes_line-append (unlisted_text o.unlisted t summary) _
+    (no_yes_line-lines IsUnlistedLine _ begins-row_line
+    (are_unlisted_lines-unlisted_text o.unlisted t summary ok))
+    (no_yes_line-append (without_text t marks) _
+    (no_yes_line-lines IsWithoutLine _ begins-excluded_line (are_without_lines-without_text t marks ok))
+    (no_yes_line-append (summary_line flows right wrong unwanted) _
+    (no_yes_line-summary_line flows right wrong unwanted)
+    (no_yes_line-append (excluded_text t marks) (strict_lines o.strict all unwanted)
+    (no_yes_line-indented_lines _ (are_indented-excluded_text t marks ok))
+    (no_yes_line-strict_lines o.strict all unwanted))))
 
-are_other-end_objects : (o : AuditOptions) (t : TopologyValue) (summary : List SummaryValue)
+no_yes_line-end_objects : (o : AuditOptions) (t : TopologyValue) (summary : List SummaryValue)
     (marks : List Bool) (right wrong unwanted : ℕ)
     → AreLinesWithoutYes (end_objects o t summary marks right wrong unwanted)
-are_other-end_objects o t summary marks right wrong unwanted =
-    are_other-append (unlisted_lines o.unlisted t summary) _
-    (are_other-objects _ (are_object_lines-all_unlisted o.unlisted t summary))
-    (are_other-append (without_line t marks) (line_of (summary_data right unwanted wrong))
-    (are_other-objects _ (are_object_lines-without t marks)) (are_other-objects _ (are_object_lines-summary right unwanted wrong)))
+no_yes_line-end_objects o t summary marks right wrong unwanted =
+    no_yes_line-append (unlisted_lines o.unlisted t summary) _
+    (no_yes_line-objects _ (are_object_lines-all_unlisted o.unlisted t summary))
+    (no_yes_line-append (without_line t marks) (line_of (summary_data right unwanted wrong))
+    (no_yes_line-objects _ (are_object_lines-without t marks))
+    (no_yes_line-objects _ (are_object_lines-summary right unwanted wrong)))
 
-are_other-end_lines : (o : AuditOptions) (t : TopologyValue) (summary : List SummaryValue) (marks : List Bool)
+no_yes_line-end_lines : (o : AuditOptions) (t : TopologyValue) (summary : List SummaryValue)
+    (marks : List Bool)
     (all : Bool) (flows right wrong unwanted : ℕ) → IsValidTopology t
     → AreLinesWithoutYes (end_text_or_objects o t summary marks all flows right wrong unwanted)
-are_other-end_lines o t summary marks all flows right wrong unwanted ok =
-    are_other-if o.json (end_objects o t summary marks right wrong unwanted)
+no_yes_line-end_lines o t summary marks all flows right wrong unwanted ok =
+    no_yes_line-if o.json (end_objects o t summary marks right wrong unwanted)
     (end_text o t summary marks all flows right wrong unwanted)
-    (are_other-end_objects o t summary marks right wrong unwanted)
-    (are_other-end_text o t summary marks all flows right wrong unwanted ok)
+    (no_yes_line-end_objects o t summary marks right wrong unwanted)
+    (no_yes_line-end_text o t summary marks all flows right wrong unwanted ok)
 
 -- ---- all lines but the last
 
-are_other-begin_lines : (o : AuditOptions) (d : DomainFacts) (marks : List Bool)
+no_yes_line-begin_lines : (o : AuditOptions) (d : DomainFacts) (marks : List Bool)
     → AreLinesWithoutYes (begin_lines o d marks)
-are_other-begin_lines o d marks =
+no_yes_line-begin_lines o d marks =
     let asked = option_words o d.topology marks in
-    are_other-if o.json (line_of (domain_data d asked)) [] (are_other-objects _ (are_object_lines-domain d asked))
-    are_other-no_lines
+    no_yes_line-if o.json (line_of (domain_data d asked)) []
+    (no_yes_line-objects _ (are_object_lines-domain d asked))
+    no_yes_line-no_lines
 
 -- what is written before the last line
 abbrev pub text_before_verdict : AuditedValue → AuditOptions → List FlowAnswer → List ℕ
@@ -378,13 +420,19 @@ text_before_verdict v o answers =
     ++ (flat_map (λ a. a.lines) answers
     ++ end_lines o v.domain.topology v.summary (excluded v) (is_yes v answers) answers)
 
-pub are_other-text_before_verdict : (v : AuditedValue) (o : AuditOptions) (answers : List FlowAnswer)
-    → AreFlowAnswers v o answers → IsValidTopology v.domain.topology → AreLinesWithoutYes (text_before_verdict v o answers)
-are_other-text_before_verdict v o answers are ok =
+pub no_yes_line-text_before_verdict : (v : AuditedValue) (o : AuditOptions) (answers : List FlowAnswer)
+    → AreFlowAnswers v o answers → IsValidTopology v.domain.topology
+    → AreLinesWithoutYes (text_before_verdict v o answers)
+no_yes_line-text_before_verdict v o answers are ok =
     let marks = excluded v in
-    are_other-append (begin_lines o (facts v.domain) marks) _ (are_other-begin_lines o (facts v.domain) marks)
-    (are_other-append (flat_map (λ a. a.lines) answers) _
-    (are_other-all_answers v o answers (λ flow a at. (trees_shown o (take flow answers), flow, are.each flow a at))
+    no_yes_line-append (begin_lines o (facts v.domain) marks) _
+    (no_yes_line-begin_lines o (facts v.domain) marks)
+    (no_yes_line-append (flat_map (λ a. a.lines) answers) _
+    (no_yes_line-all_answers v o answers (λ flow a at. (
+      trees_shown o (take flow answers),
+      flow,
+      are.each flow a at,
+    ))
     ok)
-    (are_other-end_lines o v.domain.topology v.summary marks (is_yes v answers) (length answers)
+    (no_yes_line-end_lines o v.domain.topology v.summary marks (is_yes v answers) (length answers)
     (count is_right answers) (count is_wrong answers) (count is_unwanted answers) ok))

@@ -43,7 +43,8 @@ use Rattle.mc_run.specs.InputMeaning.{MeansCertified}
 use Rattle.mc_run.specs.CheckRun.{IsVerdictText}
 use Rattle.mc_run.specs.MakeRun.{AreExamined, IsMadeText, are_certified, certified_lists}
 use Rattle.mc_run.specs.VerdictText.{AreVerdicts, IsVerdict, are_yes, check_text}
-use Rattle.mc_run.proofs.MakeLemmas.{certified_lists-each, certified_lists-belong, certified_lists-keep_headline}
+use Rattle.mc_run.proofs.MakeLemmas.{certified_lists-each, certified_lists-belong}
+use Rattle.mc_run.proofs.MakeLemmas.{certified_lists-keep_headline}
 
 -- ---- the numbers of an accepted list are bytes
 
@@ -99,7 +100,7 @@ certified_lists-bytes d xs are =
 
 -- ---- the certificate's text
 
--- a line feed behind a certificate's text changes nothing
+-- a line feed after a certificate's text changes nothing
 denotes_certificate-line_feed : (t : TopologyValue) (text : List ℕ) (lists : List Tree)
     → length (text ++ 10 ∷ []) ≤ 16777216
     → DenotesCertificate t text lists → DenotesCertificate t (text ++ 10 ∷ []) lists
@@ -129,13 +130,20 @@ denotes_certificate-made_text text written m few =
     (certified_lists-keep_headline d m.holds.examined m.holds.are_examined)
     (certified_lists-bytes d m.holds.examined m.holds.are_examined) (omega (arith, size, few)) in
     subst (λ (bytes : List ℕ). DenotesCertificate t bytes lists) (sym m.holds.spelled)
-    (denotes_certificate-line_feed t body lists (omega (arith, size, few, length-append body (10 ∷ []))) denotes)
+    (denotes_certificate-line_feed t body lists (omega (
+      arith,
+      size,
+      few,
+      length-append body
+          (10 ∷ []),
+    )) denotes)
 
 pub reading_of-made_text : (text written : List ℕ) (m : IsMadeText text true written)
     → length written ≤ 16777216
     → parse_certificate m.domain.topology written ≡ Ok (certified_lists m.holds.examined)
 reading_of-made_text text written m few =
-    parse_certificate-from_denotes m.domain.topology written (certified_lists m.holds.examined) (denotes_certificate-made_text text written m few)
+    parse_certificate-from_denotes m.domain.topology written (certified_lists m.holds.examined)
+    (denotes_certificate-made_text text written m few)
 
 -- ---- each list is accepted
 
@@ -179,7 +187,8 @@ are_yes-yes_of_all_lists d lists count each = record {
       (each flow es listed, refl);
 }
 
-last_part-is_certificate : {A : Type 0} (P : A → Type 0) (xs : List A) (x : A) → AllByRecursion P (xs ++ x ∷ [])
+last_part-is_certificate : {A : Type 0} (P : A → Type 0) (xs : List A) (x : A)
+    → AllByRecursion P (xs ++ x ∷ [])
     → P x
 last_part-is_certificate P [] x all = all.0
 last_part-is_certificate P (y ∷ xs) x all = last_part-is_certificate P xs x all.1
@@ -189,7 +198,8 @@ length-certificate_part : (bundle : List ℕ) (parts : List PartText) (text : Li
 length-certificate_part bundle parts text is =
     last_part-is_certificate (λ (part : PartText). length part.bytes ≤ max_part) parts _ is.limits.sizes
 
-pub is_verdict_text-made_bundle : (text written bundle : List ℕ) (parts : List PartText) → IsMadeText text true written
+pub is_verdict_text-made_bundle : (text written bundle : List ℕ) (parts : List PartText)
+    → IsMadeText text true written
     → IsBundle text parts → IsBundle bundle (with_certificate parts written)
     → (printed : List ℕ) × IsVerdictText bundle true printed
 is_verdict_text-made_bundle text written bundle parts m is more =
@@ -237,15 +247,18 @@ is_verdict-says_yes : (d : DomainValue) (flow : ℕ) (es : Tree) (v : Verdict) �
     → is_yes v ≡ true
 is_verdict-says_yes d flow es (Yes copies) ok accepted is = refl
 is_verdict-says_yes d flow es (No reason) ok accepted is =
-    let none = (first_reason-none_iff_accepted (net_of d flow) (length d.topology.lans) es (is_net-net_of d flow ok)
+    let none = (first_reason-none_iff_accepted (net_of d flow) (length d.topology.lans) es
+    (is_net-net_of d flow ok)
     (λ l w. wants-below_lan_count d flow l ok w)).1 accepted in
     let never : None ≡ Some (reason_value reason) = sym none ∙ is in
     absurd cc
 
-are_verdicts-each_yes : (vs : List Verdict) → ((k : ℕ) (v : Verdict) → slice_get vs k ≡ Some v → is_yes v ≡ true)
+are_verdicts-each_yes : (vs : List Verdict) → ((k : ℕ) (v : Verdict) → slice_get vs k ≡ Some v
+    → is_yes v ≡ true)
     → are_yes vs ≡ true
 are_verdicts-each_yes [] each = refl
-are_verdicts-each_yes (v ∷ vs) each = rw (each 0 v refl) (are_verdicts-each_yes vs (λ k w at. each (suc k) w at))
+are_verdicts-each_yes (v ∷ vs) each = rw (each 0 v refl)
+    (are_verdicts-each_yes vs (λ k w at. each (suc k) w at))
 
 are_yes-accepted_lists : (d : DomainValue) (lists : List Tree) (vs : List Verdict) → IsDomain d
     → length lists ≡ length d.topology.flows → AreVerdicts d lists vs
@@ -259,10 +272,11 @@ are_yes-accepted_lists d lists vs ok count are each = are_verdicts-each_yes vs (
 
 record AreVerdictsOfLists (d : DomainValue) (certificate : List ℕ) (lists : List Tree)
     (vs : List Verdict) : Type 0 where
-  pub stand : DenotesCertificate d.topology certificate lists
+  pub denoted : DenotesCertificate d.topology certificate lists
   pub are : AreVerdicts d lists vs
 
-pub is_verdict_text-only_yes : (text written bundle : List ℕ) (parts : List PartText) (all : Bool) (printed : List ℕ)
+pub is_verdict_text-only_yes : (text written bundle : List ℕ) (parts : List PartText) (all : Bool)
+    (printed : List ℕ)
     → IsMadeText text true written → IsBundle text parts
     → IsBundle bundle (with_certificate parts written) → IsVerdictText bundle all printed → all ≡ true
 is_verdict_text-only_yes text written bundle parts all printed m is more v =
@@ -273,13 +287,15 @@ is_verdict_text-only_yes text written bundle parts all printed m is more v =
     let same = MeansDomain-unique bundle (Some v.means.certificate) (Some written) v.domain.domain d refl
     v.means.domain mine in
     let theirs : AreVerdictsOfLists v.domain.domain v.means.certificate v.domain.lists v.holds.verdicts =
-    record { stand = v.means.lists_denoted; are = v.holds.are_verdicts } in
+    record { denoted = v.means.lists_denoted; are = v.holds.are_verdicts } in
     let here : AreVerdictsOfLists d written v.domain.lists v.holds.verdicts =
     subst (λ (c : List ℕ). AreVerdictsOfLists d c v.domain.lists v.holds.verdicts) (some_is same.1)
-    (subst (λ (e : DomainValue). AreVerdictsOfLists e v.means.certificate v.domain.lists v.holds.verdicts) same.0
+    (subst (λ (e : DomainValue). AreVerdictsOfLists e v.means.certificate v.domain.lists
+    v.holds.verdicts) same.0
     theirs) in
     let one : v.domain.lists ≡ lists =
-    DenotesCertificate-unique d.topology written v.domain.lists lists here.stand (denotes_certificate-made_text text written m few) in
+    DenotesCertificate-unique d.topology written v.domain.lists lists here.denoted
+    (denotes_certificate-made_text text written m few) in
     let belong = certified_lists-belong d m.holds.examined m.holds.are_examined (sym m.holds.answer) in
     v.holds.answer ∙ are_yes-accepted_lists d lists v.holds.verdicts m.means.rules belong.count
     (subst (λ (ls : List Tree). AreVerdicts d ls v.holds.verdicts) one here.are)

@@ -1,4 +1,4 @@
--- What a run of `mcaudit check` shows of the text that it read.
+-- What the text of `mcaudit check` says of the bundle that was read.
 use Rattle.std.proofs.Common.{◌≡◌, ◌≢◌, ℕ, zero, suc, ◌<◌, Bool, true, List, [], ◌∷◌, length, All}
 use Rattle.std.proofs.Common.{Option, Some, Err, refl, sym, ap, subst, ◌∙◌, arith}
 use Rattle.std.specs.Prelude.{unwrap_or, slice_get}
@@ -16,7 +16,8 @@ use Rattle.mc_cert.specs.Denotation.{DenotesCertificate}
 use Rattle.mc_cert.specs.declared.fault.CertFault.{CertFault}
 use Rattle.mc_cert.specs.declared.fault.CertFaultKind.{CertFaultKind}
 use Rattle.mc_cert.specs.declared.fault.CertFaultKind.TheVariants as kinds
-use Rattle.mc_check.specs.Verdicts.{is_yes, HoldsForEachFlow, YesIffAccepted, YesCountsEntries, NoGivesFirstReason}
+use Rattle.mc_check.specs.Verdicts.{is_yes, HoldsForEachFlow, YesIffAccepted, YesCountsEntries}
+use Rattle.mc_check.specs.Verdicts.{NoGivesFirstReason}
 use Rattle.mc_check.specs.Verdicts.{YesKeepsHeadline}
 use Rattle.mc_check.specs.declared.verdict.Verdict.{Verdict}
 use Rattle.mc_check.specs.declared.verdict.Verdict.TheVariants.{Yes, No}
@@ -42,7 +43,7 @@ is_refused_for-cert_fault_kind text f kinds.WrongFlows is bad = (refl, bad (λ e
 is_refused_for-cert_fault_kind text f kinds.TooMany is bad = (refl, bad (λ e. absurd (cc)))
 is_refused_for-cert_fault_kind text f kinds.Memory is bad = tt
 
--- a certificate that is refused, or for which there is no memory
+-- a certificate that is refused, or for which memory ran out
 pub is_refused_for-cert_fault : (text read : List ℕ) (o : Option (List ℕ)) (d : DomainValue)
     (t : TopologyValue) (f : CertFault) → MeansDomainAsListed text o d → o ≡ Some read → t ≡ d.topology
     → (f ≢ out_of_memory → parse_certificate t read ≡ Err f) → IsRefusedFor true text (from_cert_fault f)
@@ -75,7 +76,8 @@ means_listed_with-denoted_lists text read o d t lists means there same denotes =
 -- the LANs of a certificate's entries are the topology's
 pub certificate_lans-of_topology : (t : TopologyValue) (lists : List Tree) → BelongsTo t lists
     → All (All (λ e. e.lan < length t.lans)) lists
-certificate_lans-of_topology t lists belongs = λ k d within j e inside. (belongs.entries k d within j e inside).lan
+certificate_lans-of_topology t lists belongs = λ k d within j e inside.
+    (belongs.entries k d within j e inside).lan
 
 -- ---- the verdicts
 
@@ -92,7 +94,8 @@ pub are_verdicts : (d : DomainValue) (lists : List Tree) (vs : List Verdict)
 are_verdicts d lists vs count belongs exact copies first = record {
   count = count ∙ belongs.count;
   each = λ flow es v listed verdict_at. is_verdict (length d.topology.lans) d flow es v
-      (exact flow es v listed verdict_at) (copies flow es v listed verdict_at) (first flow es v listed verdict_at);
+      (exact flow es v listed verdict_at) (copies flow es v listed verdict_at)
+      (first flow es v listed verdict_at);
 }
 
 is_yes-at_flow : (vs : List Verdict) (k : ℕ) (v : Verdict) → list_all is_yes vs ≡ true
@@ -117,7 +120,7 @@ headline_holds-flow_is_yes d lists flow es there keeps =
     subst (λ (o : Option Tree). HeadlineHolds (net_of d flow) (length (unwrap_or o [])))
     (sym there) keeps
 
--- where every verdict is yes, the headline is kept for each flow
+-- if every verdict is yes, the headline holds for each flow
 pub keeps_headline : (d : DomainValue) (lists : List Tree) (vs : List Verdict)
     → length vs ≡ length lists → BelongsTo d.topology lists → HoldsForEachFlow d lists vs YesCountsEntries
     → HoldsForEachFlow d lists vs YesKeepsHeadline → are_yes vs ≡ true → KeepsHeadline d lists
@@ -125,7 +128,8 @@ keeps_headline d lists vs count belongs copies keeps all = λ flow listed.
     let few = belongs.count in
     let e = slice_get-exists lists flow (omega (arith, listed, few)) in
     let v = slice_get-exists vs flow (omega (arith, listed, count, few)) in
-    headline_holds-flow_is_yes d lists flow e.0 e.1 (headline_holds-is_yes d flow e.0 v.0 (is_yes-at_flow vs flow v.0 all v.1)
+    headline_holds-flow_is_yes d lists flow e.0 e.1 (headline_holds-is_yes d flow e.0 v.0
+    (is_yes-at_flow vs flow v.0 all v.1)
     (copies flow e.0 v.0 e.1 v.1) (keeps flow e.0 v.0 e.1 v.1))
 
 -- the text of the verdicts on a domain
@@ -134,10 +138,11 @@ pub is_text_of_verdicts-check_text : (d : DomainValue) (lists : List Tree)
     → AreVerdicts d lists vs → seen ≡ vs → again ≡ vs
     → t ≡ d.topology → all ≡ are_yes again → written ≡ check_text t seen
     → IsTextOfVerdicts d lists all written
-is_text_of_verdicts-check_text d lists vs seen again t all written are same other topology answer spelled = record {
-  verdicts = vs;
-  are_verdicts = are;
-  answer = answer ∙ ap are_yes other;
-  spelled = spelled ∙ ap (λ t. check_text t seen) topology
-      ∙ ap (check_text d.topology) same;
-}
+is_text_of_verdicts-check_text d lists vs seen again t all written are same other topology answer
+    spelled = record {
+      verdicts = vs;
+      are_verdicts = are;
+      answer = answer ∙ ap are_yes other;
+      spelled = spelled ∙ ap (λ t. check_text t seen) topology
+          ∙ ap (check_text d.topology) same;
+    }

@@ -1,5 +1,6 @@
--- Which faults of what a run calls become its own.
-use Rattle.std.proofs.Common.{◌≡◌, ◌⊎◌, ℕ, Bool, true, List, inl, inr, Option, Result, Ok, Err, refl, sym, subst}
+-- The faults that a run returns, by the faults of what it calls.
+use Rattle.std.proofs.Common.{◌≡◌, ◌⊎◌, ℕ, Bool, true, List, inl, inr, Option, Result, Ok, Err}
+use Rattle.std.proofs.Common.{refl, sym, subst}
 use Rattle.std.specs.Prelude.{IfErr}
 use Rattle.std.proofs.lemmas.Bool.{false≢true}
 use Rattle.mc_text.specs.declared.bundle.bundle_fault.BundleFault.TheVariants as bundle
@@ -20,7 +21,8 @@ use Rattle.mc_run.specs.AuditPieces.{output_of, yes_of}
 use Rattle.mc_run.specs.Faults.{IsFaultOfAudit, IsFaultOfCheck, IsFaultOfMake, IsFaultOfReplay}
 use Rattle.mc_run.specs.Faults.{IsFaultOfWants}
 use Rattle.mc_run.specs.ReplayRun.{HasNoTravel}
-use Rattle.mc_run.specs.RunFault.{of_certificate_kind, from_list_fault_kind, from_source_fault, from_without_fault}
+use Rattle.mc_run.specs.RunFault.{of_certificate_kind, from_list_fault_kind, from_source_fault}
+use Rattle.mc_run.specs.RunFault.{from_without_fault}
 use Rattle.mc_run.specs.RunOutput.{IsOutputWritten}
 use Rattle.mc_run.specs.declared.audit_output.AuditAnswer.{AuditAnswer}
 use Rattle.mc_run.specs.declared.audit_output.AuditOutput.{AuditOutput}
@@ -39,7 +41,7 @@ is_fault_of_make-source_fault (source.Input (input.Cache part fault)) = tt
 is_fault_of_make-source_fault (source.Input (input.Reports part fault)) = tt
 is_fault_of_make-source_fault (source.Input input.Memory) = tt
 
--- a run with a certificate, and one of a flow, answer these too
+-- a run with a certificate, and one with a flow's number, can return these too
 pub is_fault_of_check-make : (fault : RunFault) → IsFaultOfMake fault → IsFaultOfCheck fault
 is_fault_of_check-make (Certificate fault) is = tt
 is_fault_of_check-make fault is = is
@@ -58,8 +60,9 @@ pub is_fault_of_wants-list_fault : (fault : ListFault) (kind : ListFaultKind)
 is_fault_of_wants-list_fault fault list.Memory = tt
 is_fault_of_wants-list_fault fault kind = tt
 
--- what a list's input answers
-pub is_fault_of_wants-read_or_memory : (fault : RunFault) → (fault ≡ Read) ⊎ (fault ≡ Memory) → IsFaultOfWants fault
+-- the faults of reading a list
+pub is_fault_of_wants-read_or_memory : (fault : RunFault) → (fault ≡ Read) ⊎ (fault ≡ Memory)
+    → IsFaultOfWants fault
 is_fault_of_wants-read_or_memory fault (inl is) = subst IsFaultOfWants (sym is) tt
 is_fault_of_wants-read_or_memory fault (inr is) = subst IsFaultOfWants (sym is) tt
 
@@ -76,8 +79,10 @@ pub is_fault_of_audit-without_fault : (fault : WithoutFault) → is_possible_for
 is_fault_of_audit-without_fault (without.NoSuchRouter place) is = tt
 is_fault_of_audit-without_fault (without.Source source.Read) is = tt
 is_fault_of_audit-without_fault (without.Source (source.Input (input.Bundle bundle.TooLarge))) is = tt
-is_fault_of_audit-without_fault (without.Source (source.Input (input.Bundle fault))) is = absurd (false≢true is)
-is_fault_of_audit-without_fault (without.Source (source.Input (input.Parts place))) is = absurd (false≢true is)
+is_fault_of_audit-without_fault (without.Source (source.Input (input.Bundle fault))) is = absurd
+    (false≢true is)
+is_fault_of_audit-without_fault (without.Source (source.Input (input.Parts place))) is = absurd
+    (false≢true is)
 is_fault_of_audit-without_fault (without.Source (source.Input (input.Topology fault))) is = tt
 is_fault_of_audit-without_fault (without.Source (source.Input (input.Vif part fault))) is = tt
 is_fault_of_audit-without_fault (without.Source (source.Input (input.Cache part fault))) is = tt
@@ -94,12 +99,13 @@ fault-of_answer : (P : RunFault → Type 0) (r : Result AuditAnswer RunFault) �
 fault-of_answer P (Ok answer) own = tt
 fault-of_answer P (Err fault) own = own
 
--- the same with the number beside the answer
+-- the same with the number of unwanted flows beside the answer
 pub fault-of_audit_answer : (P : RunFault → Type 0) (a : Result AuditOutput RunFault)
     (p : Result RunOutput RunFault) (s : Result Bool RunFault) (r : Result AuditAnswer RunFault)
     (old new : Option (List ℕ)) → P Write → IfErr a P → p ≡ output_of a → IsOutputWritten p s old new
     → yes_of r ≡ s → IfErr r P
 fault-of_audit_answer P a p s r old new write own parts is same =
     fault-of_answer P r (subst (λ (t : Result Bool RunFault). IfErr t P) (sym same)
-    (fault-of_output_or_write P p s old new write (subst (λ (t : Result RunOutput RunFault). IfErr t P) (sym parts)
+    (fault-of_output_or_write P p s old new write (subst
+    (λ (t : Result RunOutput RunFault). IfErr t P) (sym parts)
     (fault-of_output P a own)) is))

@@ -1,26 +1,26 @@
-pub mod AuditAll
+pub mod AuditTextLemmas
 pub mod AuditFlows
 pub mod AuditLemmas
 pub mod AuditLines
-mod AuditOutput
+mod AuditOutputLemmas
 pub mod CertifiedLemmas
 pub mod CheckLemmas
-pub mod EndsLemmas
+pub mod AuditEndLemmas
 mod FaultLemmas
 mod LineFrontLemmas
-mod LookLemmas
+mod WantsReadingLemmas
 pub mod MakeLemmas
 pub mod MissedLemmas
-mod OneAudit
-mod OneFlown
+mod UniqueAudit
+mod UniqueExamination
 pub mod PackingLemmas
-pub mod ReasonLemmas
+pub mod ExplanationLemmas
 mod RefusalTextLemmas
 pub mod ReplayLemmas
 pub mod RunLemmas
-pub mod SameLemmas
-pub mod TextLemmas
+pub mod SameFactsLemmas
+pub mod CheckTextLemmas
 pub mod VerdictLines
 pub mod WantsLemmas
-mod WholeLemmas
+mod WholeDomainLemmas
 pub mod YesLines

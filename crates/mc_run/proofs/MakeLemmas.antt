@@ -1,4 +1,4 @@
--- What a run of `mcaudit make` shows of the text that it read.
+-- What the text of `mcaudit make` says of the bundle that was read.
 use Rattle.std.proofs.Common.{◌≡◌, ◌≢◌, ℕ, zero, suc, ◌+◌, ◌<◌, ◌≤◌, ◌⊎◌, inl, inr, All, Bool, true}
 use Rattle.std.proofs.Common.{false, List, [], ◌∷◌, ◌++◌}
 use Rattle.std.proofs.Common.{Global, Vec, length, map, Some, refl}
@@ -17,7 +17,8 @@ use Rattle.mc_cert.specs.declared.reached.Reached.{Reached}
 use Rattle.mc_cert.specs.Certificate.{Tree, BelongsTo, IsEntryOf, IsWritableTree}
 use Rattle.mc_cert.specs.CertificateText.{certificate_text}
 use Rattle.mc_replay.specs.declared.travel.Travel.{Travel}
-use Rattle.mc_maker.specs.Examined.{FindsFault, IfCertified, IfFound, AreEntriesOfCleanTravel, IsFirstPickTravel}
+use Rattle.mc_maker.specs.Examined.{FindsFault, IfCertified, IfFound, AreEntriesOfCleanTravel}
+use Rattle.mc_maker.specs.Examined.{IsFirstPickTravel}
 use Rattle.mc_maker.specs.Examined.{IsTtlOfFault, is_certified}
 use Rattle.mc_maker.specs.declared.examination.Examined.{Examined}
 use Rattle.mc_maker.specs.declared.examination.Examined.TheVariants.{Certified, Found}
@@ -27,7 +28,7 @@ use Rattle.mc_run.specs.MakeRun.{found_lines_if_any, certified_lists}
 
 -- ---- flow by flow
 
--- what an examination says, fact by fact, as one
+-- the facts of an examination's result, as one record
 pub is_examined-of_examination : {d : DomainValue} {flow : ℕ} {x : Examined}
     → IfCertified (IsAccepted (net_of d flow)) x
     → IfCertified (λ es. IsStrictlyIncreasing (map (λ e. e.lan) es)) x
@@ -35,11 +36,11 @@ pub is_examined-of_examination : {d : DomainValue} {flow : ℕ} {x : Examined}
     → IfCertified (AreEntriesOfCleanTravel d flow) x → IfFound (IsFirstPickTravel d flow) x
     → IfFound (λ ttl travel. FindsFault travel) x → IfFound (λ ttl travel. IsTtlOfFault d flow ttl) x
     → (IsTrue (is_certified x) ↔ IsRight (net_of d flow)) → IsExamined d flow x
-is_examined-of_examination accepted ascending listed list made travel fault ttl right = record {
+is_examined-of_examination accepted ascending listed writable made travel fault ttl right = record {
   accepted = accepted;
   ascending = ascending;
   listed = listed;
-  list = list;
+  writable = writable;
   made = made;
   travel = travel;
   fault = fault;
@@ -71,23 +72,27 @@ are_made_so_far-none d = record {
 certified_lists-push : (xs : List Examined) (x : Examined)
     → certified_lists (xs ++ x ∷ []) ≡ certified_lists xs ++ certified_lists (x ∷ [])
 certified_lists-push [] x = refl
-certified_lists-push (Certified entries ∷ xs) x = ap (λ lists. entries.items ∷ lists) (certified_lists-push xs x)
+certified_lists-push (Certified entries ∷ xs) x = ap (λ lists. entries.items ∷ lists)
+    (certified_lists-push xs x)
 certified_lists-push (Found ttl travel ∷ xs) x = certified_lists-push xs x
 
-found_lines_of_flows-push : (t : TopologyValue) (fs : List Flow) (xs : List Examined) (f : Flow) (x : Examined)
+found_lines_of_flows-push : (t : TopologyValue) (fs : List Flow) (xs : List Examined) (f : Flow)
+    (x : Examined)
     → slice_get fs (length xs) ≡ Some f
     → found_lines_of_flows t fs (xs ++ x ∷ []) ≡ found_lines_of_flows t fs xs ++ found_lines_if_any t f x
 found_lines_of_flows-push t [] xs f x at = absurd cc
 found_lines_of_flows-push t (g ∷ fs) [] f x at =
     let same : g ≡ f = cc in
-    ap (λ more. found_lines_if_any t g x ++ more) (found_lines_of_flows-none t fs) ∙ append-nil (found_lines_if_any t g x)
+    ap (λ more. found_lines_if_any t g x ++ more) (found_lines_of_flows-none t fs)
+    ∙ append-nil (found_lines_if_any t g x)
     ∙ ap (λ (h : Flow). found_lines_if_any t h x) same
 found_lines_of_flows-push t (g ∷ fs) (y ∷ xs) f x at =
     ap (λ more. found_lines_if_any t g y ++ more) (found_lines_of_flows-push t fs xs f x at)
     ∙ sym (append_assoc (found_lines_if_any t g y) (found_lines_of_flows t fs xs) (found_lines_if_any t f x))
 
--- what stands in a list that has grown by one item stood there, or is that item
-slice_get-push_cases : {A : Type 0} (xs : List A) (x : A) (i : ℕ) (y : A) → slice_get (xs ++ x ∷ []) i ≡ Some y
+-- an item of a list that has grown by one is an old item, or the new one
+slice_get-push_cases : {A : Type 0} (xs : List A) (x : A) (i : ℕ) (y : A)
+    → slice_get (xs ++ x ∷ []) i ≡ Some y
     → (slice_get xs i ≡ Some y) ⊎ ((i ≡ length xs) × (x ≡ y))
 slice_get-push_cases [] x zero y at = inr (refl, cc)
 slice_get-push_cases [] x (suc i) y at = absurd cc
@@ -95,8 +100,9 @@ slice_get-push_cases (z ∷ xs) x zero y at = inl at
 slice_get-push_cases (z ∷ xs) x (suc i) y at =
     elim (slice_get-push_cases xs x i y at) [ inl h ↦ inl h | inr h ↦ inr (ap suc h.0, h.1) ]
 
--- one flow more was examined
-are_made_so_far-more : (d : DomainValue) (k : ℕ) (lists : List Tree) (lines : List ℕ) (f : Flow) (x : Examined)
+-- one more flow was examined
+are_made_so_far-more : (d : DomainValue) (k : ℕ) (lists : List Tree) (lines : List ℕ) (f : Flow)
+    (x : Examined)
     → AreMadeSoFar d k lists lines → slice_get d.topology.flows k ≡ Some f → IsExamined d k x
     → AreMadeSoFar d (k + 1) (lists ++ certified_lists (x ∷ [])) (lines ++ found_lines_if_any d.topology f x)
 are_made_so_far-more d k lists lines f x made at is =
@@ -115,7 +121,7 @@ are_made_so_far-more d k lists lines f x made at is =
           ∙ sym (found_lines_of_flows-push d.topology d.topology.flows made.examined f x flow);
     }
 
--- it is certified, and its list was taken
+-- it is certified, and its list was added
 pub are_made_so_far-certified : (d : DomainValue) (k : ℕ) (old : List Tree) (lists : List Tree)
     (lines : List ℕ) (x : Examined) (entries : Vec Reached Global) → AreMadeSoFar d k old lines
     → k < length d.topology.flows → IsExamined d k x → x ≡ Certified entries
@@ -129,7 +135,7 @@ are_made_so_far-certified d k old lists lines x entries made lt is same grown =
     (subst (λ (ls : List ℕ). AreMadeSoFar d (k + 1) (old ++ entries.items ∷ []) ls)
     (append-nil lines) here)
 
--- something was found, and its lines were written
+-- a fault was found, and its lines were written
 pub are_made_so_far-found : (d : DomainValue) (k : ℕ) (lists : List Tree) (old lines : List ℕ) (f : Flow)
     (x : Examined) (ttl : ℕ) (travel : Travel) → AreMadeSoFar d k lists old
     → slice_get d.topology.flows k ≡ Some f → IsExamined d k x → x ≡ Found ttl travel
@@ -158,8 +164,9 @@ made_lists-at_most_flows d k lists lines made =
 
 -- ---- of all flows
 
--- where every flow is certified, there is a list for each
-certified_lists-one_per_flow : (xs : List Examined) → are_certified xs ≡ true → length (certified_lists xs) ≡ length xs
+-- if every flow is certified, there is a list for each
+certified_lists-one_per_flow : (xs : List Examined) → are_certified xs ≡ true
+    → length (certified_lists xs) ≡ length xs
 certified_lists-one_per_flow [] all = refl
 certified_lists-one_per_flow (Certified entries ∷ xs) all = ap suc (certified_lists-one_per_flow xs all)
 certified_lists-one_per_flow (Found ttl travel ∷ xs) all = absurd cc
@@ -186,10 +193,12 @@ certified_lists-belong d xs are all = record {
 
 pub certified_lists-keep_headline : (d : DomainValue) (xs : List Examined) → AreExamined d xs
     → All IsWritableTree (certified_lists xs)
-certified_lists-keep_headline d xs are = certified_lists-each IsWritableTree xs (λ k x at. (are.each k x at).list)
+certified_lists-keep_headline d xs are = certified_lists-each IsWritableTree xs
+    (λ k x at. (are.each k x at).writable)
 
--- no line is written exactly where every flow is certified
-pub found_lines-none_if_certified : (t : TopologyValue) (fs : List Flow) (xs : List Examined) → length xs ≡ length fs
+-- no line is written exactly if every flow is certified
+pub found_lines-none_if_certified : (t : TopologyValue) (fs : List Flow) (xs : List Examined)
+    → length xs ≡ length fs
     → length (found_lines_of_flows t fs xs) ≡ 0 → are_certified xs ≡ true
 found_lines-none_if_certified t fs [] count none = refl
 found_lines-none_if_certified t [] (x ∷ xs) count none = absurd (omega (arith, count))
@@ -197,9 +206,11 @@ found_lines-none_if_certified t (f ∷ fs) (Certified entries ∷ xs) count none
     found_lines-none_if_certified t fs xs (omega (arith, count)) none
 found_lines-none_if_certified t (f ∷ fs) (Found ttl travel ∷ xs) count none = absurd cc
 
-pub found_lines-some_if_found : (t : TopologyValue) (fs : List Flow) (xs : List Examined) → length xs ≡ length fs
+pub found_lines-some_if_found : (t : TopologyValue) (fs : List Flow) (xs : List Examined)
+    → length xs ≡ length fs
     → length (found_lines_of_flows t fs xs) ≢ 0 → are_certified xs ≡ false
-found_lines-some_if_found t fs [] count some = absurd (some (ap (λ (ls : List ℕ). length ls) (found_lines_of_flows-none t fs)))
+found_lines-some_if_found t fs [] count some = absurd (some
+    (ap (λ (ls : List ℕ). length ls) (found_lines_of_flows-none t fs)))
 found_lines-some_if_found t [] (x ∷ xs) count some = absurd (omega (arith, count))
 found_lines-some_if_found t (f ∷ fs) (Certified entries ∷ xs) count some =
     found_lines-some_if_found t fs xs (omega (arith, count)) some
@@ -222,7 +233,7 @@ are_certified-each [] each = refl
 are_certified-each (x ∷ xs) each =
     rw (each 0 x refl) (are_certified-each xs (λ k y at. each (suc k) y at))
 
--- every flow is certified exactly where every flow is right
+-- every flow is certified exactly if every flow is right
 pub are_certified-are_right : (d : DomainValue) (xs : List Examined) → AreExamined d xs
     → IsTrue (are_certified xs)
     ↔ ((flow : ℕ) → flow < length d.topology.flows → IsRight (net_of d flow))
@@ -246,14 +257,16 @@ found_lines-not_empty size empty is there = λ none. false≢true (sym there ∙
 pub found_lines-empty : (size : ℕ) (empty : Bool) → empty ≡ (size == 0) → empty ≡ true → size ≡ 0
 found_lines-empty size empty is gone = eqb-true size 0 (sym is ∙ gone)
 
--- every flow is certified where there are none
-pub are_certified-no_lines : (d : DomainValue) (lists : List Tree) (lines : List ℕ) (made : AreMadeListsAndLines d lists lines)
+-- every flow is certified if there are no lines
+pub are_certified-no_lines : (d : DomainValue) (lists : List Tree) (lines : List ℕ)
+    (made : AreMadeListsAndLines d lists lines)
     → length lines ≡ 0 → are_certified made.examined ≡ true
 are_certified-no_lines d lists lines made none =
     found_lines-none_if_certified d.topology d.topology.flows made.examined made.are_examined.count
     (ap (λ (ls : List ℕ). length ls) (sym made.lines_are) ∙ none)
 
-are_certified-some_lines : (d : DomainValue) (lists : List Tree) (lines : List ℕ) (made : AreMadeListsAndLines d lists lines)
+are_certified-some_lines : (d : DomainValue) (lists : List Tree) (lines : List ℕ)
+    (made : AreMadeListsAndLines d lists lines)
     → length lines ≢ 0 → are_certified made.examined ≡ false
 are_certified-some_lines d lists lines made some =
     found_lines-some_if_found d.topology d.topology.flows made.examined made.are_examined.count
@@ -268,7 +281,8 @@ belongs_to-made_lists d t lists lines made same none =
     (subst (λ (ls : List Tree). BelongsTo d.topology ls) (sym made.lists_are) belong)
 
 -- the lines of a domain
-pub is_make_output-lines : (d : DomainValue) (lists : List Tree) (lines : List ℕ) → AreMadeListsAndLines d lists lines
+pub is_make_output-lines : (d : DomainValue) (lists : List Tree) (lines : List ℕ)
+    → AreMadeListsAndLines d lists lines
     → length lines ≢ 0 → IsMakeOutput d false lines
 is_make_output-lines d lists lines made some = record {
   examined = made.examined;
@@ -289,7 +303,7 @@ is_make_output-certificate d t lists lines written made same none spelled = reco
       ∙ ap (λ ls. certificate_text d.topology ls ++ codes "\n") made.lists_are;
 }
 
--- and what that says of its flows
+-- and what the answer says of the flows
 pub says_all_right-make_output : (text : List ℕ) (certified : Bool) (written : List ℕ)
     → IsMadeText text certified written → SaysAllRight text certified
 says_all_right-make_output text certified written m = record {

@@ -5,7 +5,8 @@ use Rattle.std.specs.Prelude.{is_some}
 use Rattle.mc_theory.specs.Lists.{In, below}
 use Rattle.mc_theory.specs.Nets.{Net, Interface}
 use Rattle.mc_theory.specs.Flights.{Copy, Flight, Waiting, step}
-use Rattle.mc_theory.specs.Findings.{Finding, IsTravel, first_copy_on, first_double, double_finding, end_finding}
+use Rattle.mc_theory.specs.Findings.{Finding, IsTravel, first_copy_on, first_double, double_finding}
+use Rattle.mc_theory.specs.Findings.{end_finding}
 use Rattle.mc_theory.specs.Findings.{walk_visits, missed, missed_finding, numbers_left, stray_finding}
 use Rattle.mc_theory.specs.Findings.Finding.{Duplicate, Loop, Missed}
 use Rattle.mc_theory.proofs.ListLemmas.{in-below_cases}
@@ -22,7 +23,7 @@ missed-in_lans n cs [] l h = absurd cc
 missed-in_lans n cs (x ∷ ls) l h =
     missed-cons n cs x l ls (n.wants x) (is_some (first_copy_on cs x)) h (missed-in_lans n cs ls l)
 
--- what a flight shows that misses a LAN
+-- a flight with the finding `Missed`
 finding-missed_lan : (o : Option ℕ) (l : ℕ) → Some (missed_finding o) ≡ Some (Missed l) → o ≡ Some l
 finding-missed_lan None l h = absurd cc
 finding-missed_lan (Some m) l h = cc
@@ -33,7 +34,8 @@ finding-at_end_missed n count cs [] l h =
     in-below_cases l count (missed-in_lans n cs (below count) l (finding-missed_lan _ l h))
 finding-at_end_missed n count cs (w ∷ ws) l h = absurd cc
 
-finding-no_strays_missed : (n : Net) (count : ℕ) (cs : List Copy) (ws : List Waiting) (is : List Interface) (l : ℕ)
+finding-no_strays_missed : (n : Net) (count : ℕ) (cs : List Copy) (ws : List Waiting)
+    (is : List Interface) (l : ℕ)
     → stray_finding n count cs ws is ≡ Some (Missed l) → l < count
 finding-no_strays_missed n count cs ws [] l h = finding-at_end_missed n count cs ws l h
 finding-no_strays_missed n count cs ws (i ∷ is) l h = absurd cc
@@ -45,13 +47,15 @@ finding-other_than_missed false m l h = absurd cc
 
 finding-no_double_missed : (n : Net) (count : ℕ) (f : Flight) (o : Option Copy) (l : ℕ)
     → double_finding n count f o ≡ Some (Missed l) → l < count
-finding-no_double_missed n count f None l h = finding-no_strays_missed n count f.carried f.waiting f.strays l h
+finding-no_double_missed n count f None l h = finding-no_strays_missed n count f.carried f.waiting
+    f.strays l h
 finding-no_double_missed n count f (Some c) l h =
     absurd (finding-other_than_missed (walk_visits n f.carried c.lan (length f.carried) c.sender) c.lan l h)
 
--- so one that a travel misses
+-- so is a LAN that a travel misses
 pub missed_lan-below_count : (n : Net) (count : ℕ) (numbers : List ℕ) (last : Bool) (picks : List ℕ)
     (f : Flight) (l : ℕ) → IsTravel n count numbers last picks f (Missed l) → l < count
-missed_lan-below_count n count numbers last [] f l is = finding-no_double_missed n count f (first_double [] f.carried) l is
+missed_lan-below_count n count numbers last [] f l is = finding-no_double_missed n count f
+    (first_double [] f.carried) l is
 missed_lan-below_count n count numbers last (i ∷ picks) f l is =
     missed_lan-below_count n count (numbers_left numbers) last picks (step n i f) l is.2

@@ -1,4 +1,4 @@
--- What packing shows, told with the run's faults.
+-- The result of packing, with the run's faults.
 use Rattle.std.proofs.Common.{◌≡◌, ℕ, Bool, List, Option, Some, None, Result, Ok, Err, refl, ap, ◌∙◌}
 use Rattle.std.specs.Prelude.{◌≢◌, IfErr, IfSome, IsErrAnd}
 use Rattle.mc_files.specs.Files.{FileText}
@@ -13,15 +13,16 @@ use Rattle.mc_run.specs.Failures.{is_read, is_write}
 use Rattle.mc_run.specs.Faults.{IsFaultOfPack}
 use Rattle.mc_run.specs.PackingRun.{IsPackRunAnswer, IsDeviceOrMemoryFault, from_pack_fault}
 
--- what a run answers that gives this fault of packing
+-- the answer of a run by this fault of packing
 abbrev FaultResult : PackFault → Result (Unit {0}) RunFault
 FaultResult f = Err (from_pack_fault f)
 
--- it does
+-- the fault is right for the run
 abbrev pub IsResultOfFault : PackFault → Result (Unit {0}) RunFault → Type 0
 IsResultOfFault f r = IsErrAnd r (λ fault. fault ≡ from_pack_fault f)
 
-result-of_pack_fault : (f : PackFault) (r : Result (Unit {0}) RunFault) → IsResultOfFault f r → r ≡ FaultResult f
+result-of_pack_fault : (f : PackFault) (r : Result (Unit {0}) RunFault) → IsResultOfFault f r → r
+    ≡ FaultResult f
 result-of_pack_fault f (Ok done) e = absurd e
 result-of_pack_fault f (Err fault) e = rw e refl
 
@@ -52,18 +53,21 @@ pub is_fault_of_pack-of_result : (f : PackFault) (r : Result (Unit {0}) RunFault
     → IfErr r IsFaultOfPack
 is_fault_of_pack-of_result f r e = rw (result-of_pack_fault f r e) (is_fault_of_pack-pack_fault f)
 
-is_device_or_memory_fault-silent : (f : PackFault) → IsIoOrMemory f → IsDeviceOrMemoryFault (from_pack_fault f)
+is_device_or_memory_fault-silent : (f : PackFault) → IsIoOrMemory f
+    → IsDeviceOrMemoryFault (from_pack_fault f)
 is_device_or_memory_fault-silent (packing.Topology f) none = absurd none
 is_device_or_memory_fault-silent packing.TooLarge none = absurd none
 is_device_or_memory_fault-silent packing.Read none = tt
 is_device_or_memory_fault-silent packing.Write none = tt
 is_device_or_memory_fault-silent packing.Memory none = tt
 
-pub is_device_or_memory_fault-of_result : (f : PackFault) (r : Result (Unit {0}) RunFault) → IsResultOfFault f r → IsIoOrMemory f
+pub is_device_or_memory_fault-of_result : (f : PackFault) (r : Result (Unit {0}) RunFault)
+    → IsResultOfFault f r → IsIoOrMemory f
     → IfErr r IsDeviceOrMemoryFault
-is_device_or_memory_fault-of_result f r e none = rw (result-of_pack_fault f r e) (is_device_or_memory_fault-silent f none)
+is_device_or_memory_fault-of_result f r e none = rw (result-of_pack_fault f r e)
+    (is_device_or_memory_fault-silent f none)
 
--- a fault that is told as Write is packing's Write
+-- the run's `Write` is packing's `Write`
 from_pack_fault-write : (f : PackFault) → from_pack_fault f ≡ Write → f ≡ packing.Write
 from_pack_fault-write (packing.Topology f) e = absurd cc
 from_pack_fault-write packing.TooLarge e = absurd cc
@@ -74,19 +78,22 @@ from_pack_fault-write packing.Memory e = absurd cc
 abbrev PackFaultResult : PackFault → Result (Unit {0}) PackFault
 PackFaultResult f = Err f
 
-pub write_fault-of_result : (f : PackFault) (r : Result (Unit {0}) RunFault) (P : Type 0) → IsResultOfFault f r
+pub write_fault-of_result : (f : PackFault) (r : Result (Unit {0}) RunFault) (P : Type 0)
+    → IsResultOfFault f r
     → (PackFaultResult f ≡ PackFaultResult packing.Write → P) → r ≡ Err Write → P
 write_fault-of_result f r P e packed write =
     let is = result-of_pack_fault f r e in
     let same : from_pack_fault f ≡ Write = cc in
     packed (ap PackFaultResult (from_pack_fault-write f same))
 
-pub no_write_fault-of_result : (f : PackFault) (r : Result (Unit {0}) RunFault) (P : Type 0) → IsResultOfFault f r
+pub no_write_fault-of_result : (f : PackFault) (r : Result (Unit {0}) RunFault) (P : Type 0)
+    → IsResultOfFault f r
     → (f ≢ packing.Write → P) → IfErr r (λ fault. fault ≢ Write → P)
 no_write_fault-of_result f r P e packed =
     rw (result-of_pack_fault f r e) (λ other. packed (λ is. other (ap from_pack_fault is)))
 
-counted_reads-pack_fault : (f : PackFault) (before : ℕ) → failures_after {X = Unit {0}} is_file_read (Err f) before
+counted_reads-pack_fault : (f : PackFault) (before : ℕ)
+    → failures_after {X = Unit {0}} is_file_read (Err f) before
     ≡ failures_after is_read (FaultResult f) before
 counted_reads-pack_fault (packing.Topology f) before = refl
 counted_reads-pack_fault packing.TooLarge before = refl
@@ -94,7 +101,8 @@ counted_reads-pack_fault packing.Read before = refl
 counted_reads-pack_fault packing.Write before = refl
 counted_reads-pack_fault packing.Memory before = refl
 
-counted_writes-pack_fault : (f : PackFault) (before : ℕ) → failures_after {X = Unit {0}} is_bundle_write (Err f) before
+counted_writes-pack_fault : (f : PackFault) (before : ℕ)
+    → failures_after {X = Unit {0}} is_bundle_write (Err f) before
     ≡ failures_after is_write (FaultResult f) before
 counted_writes-pack_fault (packing.Topology f) before = refl
 counted_writes-pack_fault packing.TooLarge before = refl
@@ -102,10 +110,16 @@ counted_writes-pack_fault packing.Read before = refl
 counted_writes-pack_fault packing.Write before = refl
 counted_writes-pack_fault packing.Memory before = refl
 
-pub counted_reads-of_result : (f : PackFault) (r : Result (Unit {0}) RunFault) (before after : ℕ) → IsResultOfFault f r
-    → after ≡ failures_after {X = Unit {0}} is_file_read (Err f) before → after ≡ failures_after is_read r before
-counted_reads-of_result f r before after e is = rw (result-of_pack_fault f r e) (is ∙ counted_reads-pack_fault f before)
+pub counted_reads-of_result : (f : PackFault) (r : Result (Unit {0}) RunFault) (before after : ℕ)
+    → IsResultOfFault f r
+    → after ≡ failures_after {X = Unit {0}} is_file_read (Err f) before → after
+    ≡ failures_after is_read r before
+counted_reads-of_result f r before after e is = rw (result-of_pack_fault f r e)
+    (is ∙ counted_reads-pack_fault f before)
 
-pub counted_writes-of_result : (f : PackFault) (r : Result (Unit {0}) RunFault) (before after : ℕ) → IsResultOfFault f r
-    → after ≡ failures_after {X = Unit {0}} is_bundle_write (Err f) before → after ≡ failures_after is_write r before
-counted_writes-of_result f r before after e is = rw (result-of_pack_fault f r e) (is ∙ counted_writes-pack_fault f before)
+pub counted_writes-of_result : (f : PackFault) (r : Result (Unit {0}) RunFault) (before after : ℕ)
+    → IsResultOfFault f r
+    → after ≡ failures_after {X = Unit {0}} is_bundle_write (Err f) before → after
+    ≡ failures_after is_write r before
+counted_writes-of_result f r before after e is = rw (result-of_pack_fault f r e)
+    (is ∙ counted_writes-pack_fault f before)

@@ -1,28 +1,31 @@
--- Texts that are put behind one another, while a source's calls fail.
+-- Texts that are appended one after the other, while some of a source's calls fail.
 use Rattle.std.proofs.Common.{◌≡◌, ℕ, ◌+◌, ◌<◌, List, [], ◌∷◌, ◌++◌, Option, ap, ◌∙◌, refl, sym, subst, arith}
 use Rattle.std.proofs.Common.{◌-◌, Some, Result, IfSome, OnOk, append_assoc, get_or, length, map, min, take}
 use Rattle.std.proofs.lemmas.List.{append-nil, take_min, take_more}
 use Rattle.mc_text.proofs.StepLemmas.{on_ok_map}
 use Rattle.mc_files.specs.Files.{FileText}
-use Rattle.mc_files.specs.UnreadText.{unread_text}
+use Rattle.mc_files.specs.FilePart.{unread_text}
 use Rattle.mc_files.specs.declared.unread.Unread.{Unread}
-use Rattle.mc_input.specs.RefusedFiles.{AreUnreadFilesMissing, AreRefusedFiles, saturating_failures, refused_files_of, as_judged_file, unread_count}
+use Rattle.mc_input.specs.RefusedFiles.{AreUnreadFilesMissing, AreRefusedFiles, saturating_failures}
+use Rattle.mc_input.specs.RefusedFiles.{refused_files_of, as_judged_file, unread_count}
 use Rattle.mc_input.specs.declared.each_file.Refusal.{Refusal}
 use Rattle.mc_input.specs.declared.each_file.Refusal.TheVariants as refusal
 use Rattle.mc_input.specs.declared.each_file.RefusedFile.{RefusedFile}
-use Rattle.mc_run.specs.RefusalText.{AppendsWithFailures, AreFirst50Lines, AreRefusedFileLines, IsRefusalReason, IsRefusedFileLine, IsRefusalText, more_line}
+use Rattle.mc_run.specs.RefusalText.{AppendsWithFailures, AreFirst50Lines, AreRefusedFileLines}
+use Rattle.mc_run.specs.RefusalText.{IsRefusalReason, IsRefusedFileLine, IsRefusalText, more_line}
 
 -- no call failed
 failures_with-none : (before : ℕ) → before ≡ saturating_failures 0 before
 failures_with-none before = omega arith
 
--- calls that failed, and some more
+-- some calls failed, and then some more
 failures_with-more : (one more before : ℕ)
     → saturating_failures more (saturating_failures one before) ≡ saturating_failures (one + more) before
 failures_with-more one more before = omega arith
 
--- a text was put there, and no call failed
-appends_with_failures-text : (IsRight : (lost : ℕ) → (added : List ℕ) → Type 0) (old new text : List ℕ) (before : ℕ)
+-- a text was appended, and no call failed
+appends_with_failures-text : (IsRight : (lost : ℕ) → (added : List ℕ) → Type 0)
+    (old new text : List ℕ) (before : ℕ)
     → IsRight 0 text → new ≡ old ++ text → AppendsWithFailures IsRight old new before before
 appends_with_failures-text IsRight old new text before right whole = record {
   lost = 0;
@@ -32,66 +35,91 @@ appends_with_failures-text IsRight old new text before right whole = record {
   failures = failures_with-none before;
 }
 
--- one text was put there, and behind it another
-appends_with_failures-append : (IsOne IsMore IsBoth : (lost : ℕ) → (added : List ℕ) → Type 0) (old between new : List ℕ)
+-- one text was appended, and then another
+appends_with_failures-append : (IsOne IsMore IsBoth : (lost : ℕ) → (added : List ℕ) → Type 0)
+    (old between new : List ℕ)
     (before middle after : ℕ)
-    → ((one more : ℕ) (text rest : List ℕ) → IsOne one text → IsMore more rest → IsBoth (one + more) (text ++ rest))
-    → AppendsWithFailures IsOne old between before middle → AppendsWithFailures IsMore between new middle after
+    → ((one more : ℕ) (text rest : List ℕ) → IsOne one text → IsMore more rest
+    → IsBoth (one + more) (text ++ rest))
+    → AppendsWithFailures IsOne old between before middle
+    → AppendsWithFailures IsMore between new middle after
     → AppendsWithFailures IsBoth old new before after
 appends_with_failures-append IsOne IsMore IsBoth old between new before middle after both one more = record {
   lost = one.lost + more.lost;
   added = one.added ++ more.added;
   right = both one.lost more.lost one.added more.added one.right more.right;
   whole = more.whole ∙ ap (λ text. text ++ more.added) one.whole ∙ append_assoc old one.added more.added;
-  failures = more.failures ∙ ap (saturating_failures more.lost) one.failures ∙ failures_with-more one.lost more.lost before;
+  failures = more.failures ∙ ap (saturating_failures more.lost) one.failures
+      ∙ failures_with-more one.lost more.lost before;
 }
 
 -- ---- the lines of files
 
--- the line of one more file
-refused_file_lines-push : (contents : Option (List FileText)) (files : List RefusedFile) (file : RefusedFile) (one more : ℕ)
-    (text line : List ℕ) → AreRefusedFileLines contents files one text → IsRefusedFileLine contents file more line
+-- one more file's line
+refused_file_lines-push : (contents : Option (List FileText)) (files : List RefusedFile)
+    (file : RefusedFile) (one more : ℕ)
+    (text line : List ℕ) → AreRefusedFileLines contents files one text
+    → IsRefusedFileLine contents file more line
     → AreRefusedFileLines contents (files ++ file ∷ []) (one + more) (text ++ line)
-refused_file_lines-push contents [] file one more text line are is =
-    (more, 0, line, [], is, (refl, refl), omega (arith, are.0), ap (λ t. t ++ line) are.1 ∙ sym (append-nil line))
-refused_file_lines-push contents (first ∷ files) file one more text line (a, b, front, rest, is_first, are, count, whole) is = (
-  a,
-  b + more,
-  front,
-  rest ++ line,
-  is_first,
-  refused_file_lines-push contents files file b more rest line are is,
-  omega (arith, count),
-  ap (λ t. t ++ line) whole ∙ append_assoc front rest line,
+refused_file_lines-push contents [] file one more text line are is = (
+  more,
+  0,
+  line,
+  [],
+  is,
+  (refl, refl),
+  omega (arith, are.0),
+  ap (λ t. t ++ line) are.1
+      ∙ sym (append-nil line),
 )
+refused_file_lines-push contents (first ∷ files) file one more text line
+    (a, b, front, rest, is_first, are, count, whole) is = (
+      a,
+      b + more,
+      front,
+      rest ++ line,
+      is_first,
+      refused_file_lines-push contents files file b more rest line are is,
+      omega (arith, count),
+      ap (λ t. t ++ line) whole ∙ append_assoc front rest line,
+    )
 
--- the same of the files before an index of a list, and of the one there, by a source that tells the same
-pub refused_file_lines-more : (contents other : Option (List FileText)) (files : List RefusedFile) (i : ℕ) (file : RefusedFile)
+-- the same for the files before an index of a list and the one there, with unchanged contents of the source
+pub refused_file_lines-more : (contents other : Option (List FileText)) (files : List RefusedFile)
+    (i : ℕ) (file : RefusedFile)
     (old between new : List ℕ) (before middle after : ℕ) → other ≡ contents → i < length files
-    → file ≡ get_or files i file → AppendsWithFailures (AreRefusedFileLines contents (take i files)) old between before middle
+    → file ≡ get_or files i file → AppendsWithFailures (AreRefusedFileLines contents (take i files))
+    old between before middle
     → AppendsWithFailures (IsRefusedFileLine other file) between new middle after
     → AppendsWithFailures (AreRefusedFileLines contents (take (i + 1) files)) old new before after
-refused_file_lines-more contents other files i file old between new before middle after same inside at one more =
-    appends_with_failures-append (AreRefusedFileLines contents (take i files)) (IsRefusedFileLine contents file) (AreRefusedFileLines contents (take (i + 1) files))
+refused_file_lines-more contents other files i file old between new before middle after same inside
+    at one more =
+    appends_with_failures-append (AreRefusedFileLines contents (take i files))
+    (IsRefusedFileLine contents file) (AreRefusedFileLines contents (take (i + 1) files))
     old between new before middle after
-    (λ lost count text line are is. subst (λ (fs : List RefusedFile). AreRefusedFileLines contents fs (lost + count) (text ++ line))
+    (λ lost count text line are is. subst (λ (fs : List RefusedFile). AreRefusedFileLines contents
+    fs (lost + count) (text ++ line))
     (sym (take_more files i file inside ∙ ap (λ f. take i files ++ f ∷ []) (sym at)))
     (refused_file_lines-push contents (take i files) file lost count text line are is)) one
-    (subst (λ (t : Option (List FileText)). AppendsWithFailures (IsRefusedFileLine t file) between new middle after) same more)
+    (subst (λ (t : Option (List FileText)). AppendsWithFailures (IsRefusedFileLine t file) between
+    new middle after) same more)
 
 -- ---- a file that can't be read, and all files
 
--- why it can't
-pub appends_with_failures-unread : {E : Type 0} (contents : Option (List FileText)) (name : List ℕ) (unread : Unread) (why : Refusal)
+-- why it can't be read
+pub appends_with_failures-unread : {E : Type 0} (contents : Option (List FileText)) (name : List ℕ)
+    (unread : Unread) (why : Refusal)
     (r : Result (Unit {0}) E) (old new : List ℕ) (before : ℕ) → why ≡ refusal.Unread unread
     → OnOk r ((words : List ℕ) × IfSome (unread_text unread) (λ known. words ≡ known) × (new ≡ old ++ words))
     → OnOk r (AppendsWithFailures (IsRefusalReason contents name why) old new before before)
 appends_with_failures-unread contents name unread why r old new before is there =
-    on_ok_map r there (λ put. appends_with_failures-text (IsRefusalReason contents name why) old new put.0 before
+    on_ok_map r there (λ put. appends_with_failures-text (IsRefusalReason contents name why) old new
+    put.0 before
     (subst (λ (w : Refusal). IsRefusalReason contents name w 0 put.0) (sym is) (refl, put.1)) put.2)
 
--- the first files, and how many more there are
-pub appends_with_failures-first_50 : {E : Type 0} (contents : Option (List FileText)) (files : List RefusedFile) (first : ℕ)
+-- the first files, and the number of further ones
+pub appends_with_failures-first_50 : {E : Type 0} (contents : Option (List FileText))
+    (files : List RefusedFile) (first : ℕ)
     (r : Result (Unit {0}) E) (old between new : List ℕ) (before after : ℕ) → first ≡ min (length files) 50
     → AppendsWithFailures (AreRefusedFileLines contents (take first files)) old between before after
     → OnOk r (new ≡ between ++ more_line (length files - first))
@@ -102,7 +130,8 @@ appends_with_failures-first_50 contents files first r old between new before aft
       added = adds.added ++ more_line (length files - 50);
       right = (
         adds.added,
-        subst (λ (fs : List RefusedFile). AreRefusedFileLines contents fs adds.lost adds.added) fifty adds.right,
+        subst (λ (fs : List RefusedFile). AreRefusedFileLines contents fs adds.lost adds.added)
+            fifty adds.right,
         refl,
       );
       whole = more ∙ ap (λ n. between ++ more_line n) rest
@@ -119,21 +148,27 @@ appends_with_failures-first_50 contents files first r old between new before aft
     rest = omega arith
 
 -- the text of the files that are listed as refused
-pub refusal_text : (names : List (List ℕ)) (contents other : Option (List FileText)) (refused : List RefusedFile)
+pub refusal_text : (names : List (List ℕ)) (contents other : Option (List FileText))
+    (refused : List RefusedFile)
     (before middle after : ℕ) (old text : List ℕ) → other ≡ contents → old ≡ []
-    → ((files : List FileText) → contents ≡ Some files → AreRefusedFiles names files (map as_judged_file refused))
-    → ((files : List FileText) → contents ≡ Some files → AreUnreadFilesMissing files (map as_judged_file refused)
+    → ((files : List FileText) → contents ≡ Some files → AreRefusedFiles names files
+    (map as_judged_file refused))
+    → ((files : List FileText) → contents ≡ Some files → AreUnreadFilesMissing files
+    (map as_judged_file refused)
     → map as_judged_file refused ≡ refused_files_of names files)
     → middle ≡ saturating_failures (unread_count (map as_judged_file refused)) before
-    → AppendsWithFailures (AreFirst50Lines other refused) old text middle after → IsRefusalText names contents before after text
-refusal_text names contents other refused before middle after old text same none listed exact unread adds = record {
-  refused = refused;
-  listed = listed;
-  exact = exact;
-  lost = adds.lost;
-  lines = subst (λ (t : Option (List FileText)). AreFirst50Lines t refused adds.lost text) same
-      (subst (AreFirst50Lines other refused adds.lost) (sym (adds.whole ∙ ap (λ front. front ++ adds.added) none))
-      adds.right);
-  failures = adds.failures ∙ ap (saturating_failures adds.lost) unread
-      ∙ failures_with-more (unread_count (map as_judged_file refused)) adds.lost before;
-}
+    → AppendsWithFailures (AreFirst50Lines other refused) old text middle after
+    → IsRefusalText names contents before after text
+refusal_text names contents other refused before middle after old text same none listed exact unread
+    adds = record {
+      refused = refused;
+      listed = listed;
+      exact = exact;
+      lost = adds.lost;
+      lines = subst (λ (t : Option (List FileText)). AreFirst50Lines t refused adds.lost text) same
+          (subst (AreFirst50Lines other refused adds.lost) (sym
+          (adds.whole ∙ ap (λ front. front ++ adds.added) none))
+          adds.right);
+      failures = adds.failures ∙ ap (saturating_failures adds.lost) unread
+          ∙ failures_with-more (unread_count (map as_judged_file refused)) adds.lost before;
+    }

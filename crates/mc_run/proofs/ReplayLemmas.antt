@@ -1,4 +1,4 @@
--- What a run of `mcaudit replay` shows of the text that it read.
+-- What the text of `mcaudit replay` says of the bundle that was read.
 use Rattle.std.proofs.Common.{◌≡◌, ℕ, ◌+◌, inl, inr, Bool, List, Option, Some, None, Result}
 use Rattle.std.proofs.Common.{Ok, Err, refl, ap, subst, ◌∙◌}
 use Rattle.std.specs.Prelude.{IfErr, IfSome, slice_get}
@@ -14,7 +14,7 @@ use Rattle.mc_input.specs.Meaning.{MeansDomainAsListed}
 use Rattle.mc_run.specs.Failures.{IsNoDeviceFault}
 use Rattle.mc_run.specs.ReplayRun.{HasNoTravel, IsReplayRefused, IsTextOfTravel, is_clean}
 use Rattle.mc_run.specs.ReplayRun.{replay_text}
-use Rattle.mc_run.proofs.SameLemmas.{has_no_flow-same_domain}
+use Rattle.mc_run.proofs.SameFactsLemmas.{has_no_flow-same_domain}
 
 -- the text of a travel through a domain
 pub is_text_of_travel-replayed : (d : DomainValue) (flow ttl : ℕ) (choices : Choices) (place : ℕ)
@@ -35,7 +35,7 @@ is_text_of_travel-replayed d flow ttl choices place t f travel clean written cou
       spelled = spelled ∙ ap (λ x. replay_text x f ttl travel) same;
     }
 
--- the domain lists no such flow, or memory ran out
+-- the domain's topology lists no such flow, or memory ran out
 pub is_replay_refused-no_travel : (contents : Option (List ℕ)) (flow : ℕ) (d : DomainValue)
     (r : Result RunOutput RunFault) → IfSome contents (λ text. MeansDomainAsListed text None d)
     → IfErr r (HasNoTravel d flow) → IfErr r (λ f. IfSome contents (λ text. IsReplayRefused flow text f))

@@ -1,6 +1,6 @@
--- What a run shows of what it was handed, of its devices, and of what it says.
+-- What holds of a run: of its input, of its devices, and of its output.
 use Rattle.std.proofs.Common.{◌≡◌, ℕ, Bool, true, false, List, [], ◌∷◌, ◌++◌, length, take, drop}
-use Rattle.std.proofs.Common.{◌⊎◌, inl, inr, Option, Some, None, Result, Ok, Err}
+use Rattle.std.proofs.Common.{inl, inr, Option, Some, None, Result, Ok, Err}
 use Rattle.std.proofs.Common.{refl, sym, ap, subst, ◌∙◌, arith, append_assoc}
 use Rattle.std.specs.Prelude.{◌+◌, ◌<◌, cond, IfErr, IfOk, IfSome, IsTrue, Vec, codes, is_some}
 use Rattle.std.specs.declared.alloc.Global.{Global}
@@ -26,7 +26,7 @@ use Rattle.mc_input.specs.SourceFault.{IsReadOrMemory}
 use Rattle.mc_input.specs.declared.source_fault.SourceFault.{SourceFault}
 use Rattle.mc_input.specs.declared.source_fault.SourceFault.TheVariants as source
 use Rattle.mc_run.specs.InputMeaning.{IsRefusedFor, MeansListedWith, MeansWithLists}
-use Rattle.mc_run.specs.AuditRun.{AuditSaysYes, yes_object}
+use Rattle.mc_run.specs.AuditRun.{AreYesWords, AuditSaysYes, yes_object}
 use Rattle.mc_run.specs.CheckRun.{IsLineStart, SaysYes, WroteAtStart}
 use Rattle.mc_text.specs.Device.{failures_after}
 use Rattle.mc_run.specs.Failures.{IsNoDeviceFault, is_read, is_write}
@@ -48,37 +48,45 @@ pub is_refused_for-source_fault : (with : Bool) (text : List ℕ) (f : SourceFau
     → IsRefusedFor with text (from_source_fault f)
 is_refused_for-source_fault with text source.Read is = tt
 is_refused_for-source_fault with text (source.Input (input.Bundle f)) is =
-    is_refused_for-input_fault with text _ _ (is (λ silent. elim silent [ inl e ↦ absurd cc | inr e ↦ absurd cc ]))
+    is_refused_for-input_fault with text _ _ (is (λ silent. elim silent
+    [ inl e ↦ absurd cc | inr e ↦ absurd cc ]))
     refl
 is_refused_for-source_fault with text (source.Input (input.Parts place)) is =
-    is_refused_for-input_fault with text _ _ (is (λ silent. elim silent [ inl e ↦ absurd cc | inr e ↦ absurd cc ]))
+    is_refused_for-input_fault with text _ _ (is (λ silent. elim silent
+    [ inl e ↦ absurd cc | inr e ↦ absurd cc ]))
     refl
 is_refused_for-source_fault with text (source.Input (input.Topology f)) is =
-    is_refused_for-input_fault with text _ _ (is (λ silent. elim silent [ inl e ↦ absurd cc | inr e ↦ absurd cc ]))
+    is_refused_for-input_fault with text _ _ (is (λ silent. elim silent
+    [ inl e ↦ absurd cc | inr e ↦ absurd cc ]))
     refl
 is_refused_for-source_fault with text (source.Input (input.Vif part f)) is =
-    is_refused_for-input_fault with text _ _ (is (λ silent. elim silent [ inl e ↦ absurd cc | inr e ↦ absurd cc ]))
+    is_refused_for-input_fault with text _ _ (is (λ silent. elim silent
+    [ inl e ↦ absurd cc | inr e ↦ absurd cc ]))
     refl
 is_refused_for-source_fault with text (source.Input (input.Cache part f)) is =
-    is_refused_for-input_fault with text _ _ (is (λ silent. elim silent [ inl e ↦ absurd cc | inr e ↦ absurd cc ]))
+    is_refused_for-input_fault with text _ _ (is (λ silent. elim silent
+    [ inl e ↦ absurd cc | inr e ↦ absurd cc ]))
     refl
 is_refused_for-source_fault with text (source.Input (input.Reports part f)) is =
-    is_refused_for-input_fault with text _ _ (is (λ silent. elim silent [ inl e ↦ absurd cc | inr e ↦ absurd cc ]))
+    is_refused_for-input_fault with text _ _ (is (λ silent. elim silent
+    [ inl e ↦ absurd cc | inr e ↦ absurd cc ]))
     refl
 is_refused_for-source_fault with text (source.Input input.Memory) is = tt
 
--- and of all that an input tells
+-- and the same for the contents of an input
 pub is_refused_for-source_of_contents : (contents : Option (List ℕ)) (with : Bool) (f : SourceFault)
     → ((text : List ℕ) → contents ≡ Some text → ¬ IsReadOrMemory f
     → map_fault source.Input (input_of_bundle with text) ≡ Err f)
     → IfSome contents (λ text. IsRefusedFor with text (from_source_fault f))
 is_refused_for-source_of_contents None with f is = tt
-is_refused_for-source_of_contents (Some text) with f is = is_refused_for-source_fault with text f (is text refl)
+is_refused_for-source_of_contents (Some text) with f is = is_refused_for-source_fault with text f
+    (is text refl)
 
--- ---- what is meant
+-- ---- the meaning of an input
 
--- no certificate was asked for, and none was read
-pub means_listed-no_certificate : (contents : Option (List ℕ)) (certificate : Option (Vec ℕ Global)) (d : DomainValue)
+-- without a certificate asked for, none was read
+pub means_listed-no_certificate : (contents : Option (List ℕ)) (certificate : Option (Vec ℕ Global))
+    (d : DomainValue)
     → is_some certificate ≡ false
     → IfSome contents (λ text. MeansDomainAsListed text (certificate_text certificate) d)
     → IfSome contents (λ text. MeansDomainAsListed text None d)
@@ -86,11 +94,12 @@ means_listed-no_certificate None certificate d none means = tt
 means_listed-no_certificate (Some text) None d none means = means
 means_listed-no_certificate (Some text) (Some bytes) d none means = absurd cc
 
--- what holds of a domain holds of what is meant, where that says the same of each flow
+-- what holds of a domain holds of the meant one, if that has the same facts of each flow
 pub of_domain-means_same : {X : Type 0} (Means : X → DomainValue → Type 0) (Holds : DomainValue → Type 0)
     (contents : Option X) (d : DomainValue)
     → ((whole : DomainValue) → HaveSameFacts whole d → Holds d → Holds whole)
-    → IfSome contents (λ x. MeansSamePerFlow Means x d) → Holds d → IfSome contents (MeansDomainWhere Means Holds)
+    → IfSome contents (λ x. MeansSamePerFlow Means x d) → Holds d
+    → IfSome contents (MeansDomainWhere Means Holds)
 of_domain-means_same Means Holds None d moves means holds = tt
 of_domain-means_same Means Holds (Some x) d moves means holds = record {
   domain = means.whole;
@@ -98,8 +107,9 @@ of_domain-means_same Means Holds (Some x) d moves means holds = record {
   holds = moves means.whole means.same holds;
 }
 
--- the same of what a call answers
-pub of_domain-ok_result : {X A F : Type 0} (Means : X → DomainValue → Type 0) (Holds : A → DomainValue → Type 0)
+-- the same for the result of a call
+pub of_domain-ok_result : {X A F : Type 0} (Means : X → DomainValue → Type 0)
+    (Holds : A → DomainValue → Type 0)
     (contents : Option X) (d : DomainValue) (r : Result A F)
     → ((a : A) (whole : DomainValue) → HaveSameFacts whole d → Holds a d → Holds a whole)
     → IfSome contents (λ x. MeansSamePerFlow Means x d)
@@ -108,7 +118,7 @@ of_domain-ok_result Means Holds contents d (Ok a) moves means holds =
     of_domain-means_same Means (Holds a) contents d (moves a) means holds
 of_domain-ok_result Means Holds contents d (Err f) moves means holds = tt
 
--- the same with the lists of a certificate
+-- the same with a certificate's lists
 pub of_domain-listed_with : (Holds : DomainValue → List Tree → Type 0) (contents : Option (List ℕ))
     (d : DomainValue) (lists : List Tree)
     → ((whole : DomainValue) → HaveSameFacts whole d → Holds d lists → Holds whole lists)
@@ -121,7 +131,7 @@ of_domain-listed_with Holds (Some text) d lists moves means holds = record {
   holds = moves means.0 means.2 holds;
 }
 
--- what is so of whatever an input tells is so of what it told
+-- what holds of all possible contents of an input holds of its contents
 pub means-known_contents : {X A F : Type 0} (Means : X → Type 0) (So : A → X → Type 0) (contents : Option X)
     (r : Result A F) → ((x : X) → Means x → IfOk r (λ a. So a x)) → IfSome contents Means
     → IfOk r (λ a. IfSome contents (So a))
@@ -129,7 +139,7 @@ means-known_contents Means So contents (Err f) follows means = tt
 means-known_contents Means So None (Ok a) follows means = tt
 means-known_contents Means So (Some x) (Ok a) follows means = follows x means
 
--- what follows of a domain follows of what is meant
+-- what follows for a domain follows for the meant one
 pub of_domain-implication : {X D : Type 0} (Means : X → D → Type 0) (Holds More : D → Type 0)
     → ((d : D) → Holds d → More d) → (x : X) → MeansDomainWhere Means Holds x → MeansDomainWhere Means More x
 of_domain-implication Means Holds More follows x is =
@@ -137,22 +147,23 @@ of_domain-implication Means Holds More follows x is =
 
 -- ---- devices
 
--- a fault that is no device's leaves the count of the input's failures
-pub counted_reads-no_device_fault : {A : Type 0} (r : Result A RunFault) (before : ℕ) → IfErr r IsNoDeviceFault
+-- a fault that is no device's leaves the count of the input's failures as it is
+pub counted_reads-no_device_fault : {A : Type 0} (r : Result A RunFault) (before : ℕ)
+    → IfErr r IsNoDeviceFault
     → before ≡ failures_after is_read r before
 counted_reads-no_device_fault (Ok a) before none = refl
 counted_reads-no_device_fault (Err f) before none =
     subst (λ (b : Bool). before ≡ cond b (before + 1) before) (sym none.0) refl
 
--- and isn't the output's
+-- and it isn't the output's
 pub is_write_fault-other_fault : {A : Type 0} (r : Result A RunFault) → IfErr r IsNoDeviceFault
     → IfErr r (λ fault. is_write fault ≡ false)
 is_write_fault-other_fault (Ok a) none = tt
 is_write_fault-other_fault (Err f) none = none.1
 
--- ---- what is said
+-- ---- the output of a run
 
--- what a run is to say is right of what it was handed
+-- the output of a run is right for its input
 abbrev pub IsOutputOf : {X : Type 0} → Option X → (X → Bool → List ℕ → Type 0)
     → Result RunOutput RunFault → Type 0
 IsOutputOf contents Says s =
@@ -171,24 +182,27 @@ answers-output_written (Some x) Says Refuses (Ok run_output) (Ok answer) old new
 )
 answers-output_written (Some x) Says Refuses (Ok run_output) (Err fault) old new silent says refused is =
     subst (Refuses x) (sym is.0) (silent x)
-answers-output_written (Some x) Says Refuses (Err cause) (Ok answer) old new silent says refused is = absurd is
+answers-output_written (Some x) Says Refuses (Err cause) (Ok answer) old new silent says refused is
+    = absurd is
 answers-output_written (Some x) Says Refuses (Err cause) (Err fault) old new silent says refused is =
     subst (Refuses x) (sym is.0) refused
 
--- its fault is that of what was to be said, or the output's,
-pub fault-of_output_or_write : (P : RunFault → Type 0) (s : Result RunOutput RunFault) (r : Result Bool RunFault)
+-- its fault is the one in place of the output, or the output device's,
+pub fault-of_output_or_write : (P : RunFault → Type 0) (s : Result RunOutput RunFault)
+    (r : Result Bool RunFault)
     (old new : Option (List ℕ)) → P Write → IfErr s P → IsOutputWritten s r old new → IfErr r P
 fault-of_output_or_write P (Ok run_output) (Ok answer) old new write own is = tt
 fault-of_output_or_write P (Ok run_output) (Err fault) old new write own is = subst P (sym is.0) write
 fault-of_output_or_write P (Err cause) (Ok answer) old new write own is = absurd is
 fault-of_output_or_write P (Err cause) (Err fault) old new write own is = subst P (sym is.0) own
 
--- and what follows of the answer,
+-- so is what follows from the answer,
 pub answer-gives : {X : Type 0} (contents : Option X) (Says : X → Bool → List ℕ → Type 0)
     (So : X → Bool → Type 0) (s : Result RunOutput RunFault) (r : Result Bool RunFault)
     (old new : Option (List ℕ))
     → ((x : X) (answer : Bool) (written : List ℕ) → Says x answer written → So x answer)
-    → IsOutputOf contents Says s → IsOutputWritten s r old new → IfOk r (λ answer. IfSome contents (λ x. So x answer))
+    → IsOutputOf contents Says s → IsOutputWritten s r old new
+    → IfOk r (λ answer. IfSome contents (λ x. So x answer))
 answer-gives contents Says So s (Err fault) old new follows says is = tt
 answer-gives None Says So s (Ok answer) old new follows says is = tt
 answer-gives (Some x) Says So (Ok run_output) (Ok answer) old new follows says is =
@@ -209,21 +223,22 @@ writes-output_written (Some x) Says (Ok run_output) (Ok answer) old new says is 
 )
 writes-output_written (Some x) Says (Err cause) (Ok answer) old new says is = absurd is
 
--- and the part where the output fails
+-- and the part that is written if the output fails
 pub writes_part-output_written : {X : Type 0} (contents : Option X) (Says : X → Bool → List ℕ → Type 0)
     (s : Result RunOutput RunFault) (r : Result Bool RunFault) (old new : Option (List ℕ))
     → IfErr s (λ fault. is_write fault ≡ false) → IsOutputOf contents Says s → IsOutputWritten s r old new
     → r ≡ Err Write → IfSome contents (λ x. WritesPart Says x old new)
-writes_part-output_written None Says s r old new unsaid says is write = tt
-writes_part-output_written (Some x) Says (Ok run_output) (Ok answer) old new unsaid says is write = absurd cc
-writes_part-output_written (Some x) Says (Ok run_output) (Err fault) old new unsaid says is write =
+writes_part-output_written None Says s r old new no_write says is write = tt
+writes_part-output_written (Some x) Says (Ok run_output) (Ok answer) old new no_write says is write
+    = absurd cc
+writes_part-output_written (Some x) Says (Ok run_output) (Err fault) old new no_write says is write =
     (run_output.yes, string_bytes run_output.text, says, is.1)
-writes_part-output_written (Some x) Says (Err cause) (Ok answer) old new unsaid says is write = absurd is
-writes_part-output_written (Some x) Says (Err cause) (Err fault) old new unsaid says is write =
+writes_part-output_written (Some x) Says (Err cause) (Ok answer) old new no_write says is write = absurd is
+writes_part-output_written (Some x) Says (Err cause) (Err fault) old new no_write says is write =
     let same : fault ≡ Write = cc in
-    absurd (false≢true (sym unsaid ∙ ap is_write (sym is.0 ∙ same)))
+    absurd (false≢true (sym no_write ∙ ap is_write (sym is.0 ∙ same)))
 
--- what follows of what is said
+-- what follows from the output
 pub is_output_of-implication : {X : Type 0} (contents : Option X) (Says More : X → Bool → List ℕ → Type 0)
     (s : Result RunOutput RunFault)
     → ((x : X) (answer : Bool) (written : List ℕ) → Says x answer written → More x answer written)
@@ -235,16 +250,12 @@ is_output_of-implication (Some x) Says More (Ok run_output) follows says =
 
 -- ---- yes
 
--- what stands behind the same front is the same
+-- what follows the same front is the same
 pub append-cancel_front : (xs ys zs : List ℕ) → xs ++ ys ≡ xs ++ zs → ys ≡ zs
 append-cancel_front [] ys zs same = same
 append-cancel_front (x ∷ xs) ys zs same = append-cancel_front xs ys zs cc
 
--- with these words a line says yes: those of text, or an object
-abbrev pub AreYesWords : (words : List ℕ) → Type 0
-AreYesWords words = (words ≡ codes "verdict yes") ⊎ (words ≡ yes_object)
-
--- these words stand in a text, at a line's start
+-- these words are in a text, at the start of a line
 abbrev pub HasLineWith : (words text : List ℕ) → Type 0
 HasLineWith words text =
     (front rest : List ℕ) × IsLineStart front × (text ≡ front ++ (words ++ rest))
@@ -253,8 +264,9 @@ yes_words-not_empty : (words : List ℕ) → AreYesWords words → 0 < length wo
 yes_words-not_empty words (inl is) = omega (arith, ap (λ (w : List ℕ). length w) is)
 yes_words-not_empty words (inr is) = omega (arith, ap (λ (w : List ℕ). length w) is)
 
--- nothing was written where the output is as it was
-wrote_at_start-nothing_written : (words : List ℕ) (old : Option (List ℕ)) → AreYesWords words → WroteAtStart words old old → ⊥
+-- nothing was written if the output is unchanged
+wrote_at_start-nothing_written : (words : List ℕ) (old : Option (List ℕ)) → AreYesWords words
+    → WroteAtStart words old old → ⊥
 wrote_at_start-nothing_written words None are wrote = wrote
 wrote_at_start-nothing_written words (Some xs) are (front, rest, starts, same) =
     let size = ap (λ (bytes : List ℕ). length bytes) same in
@@ -267,8 +279,9 @@ wrote_at_start-nothing_written words (Some xs) are (front, rest, starts, same) =
       length-append words rest,
     ))
 
--- where they were written, with a text or a part of it, they stand in the text
-has_line_with-wrote_at_start : (words text : List ℕ) (k : ℕ) (old new : Option (List ℕ)) → Appends old new (take k text)
+-- if they were written, with a text or a part of it, they are in the text
+has_line_with-wrote_at_start : (words text : List ℕ) (k : ℕ) (old new : Option (List ℕ))
+    → Appends old new (take k text)
     → WroteAtStart words old new → HasLineWith words text
 has_line_with-wrote_at_start words text k None new puts wrote = absurd wrote
 has_line_with-wrote_at_start words text k (Some xs) None puts wrote = absurd wrote
@@ -281,36 +294,44 @@ has_line_with-wrote_at_start words text k (Some xs) (Some ys) puts (front, rest,
     ∙ ap (λ zs. front ++ zs) (append_assoc words rest (drop k text)) in
     (front, rest ++ drop k text, starts, whole)
 
--- Where what is said says yes with a line of these words, and yes has its headline,
+-- If a line with these words means yes, and the headline holds after a yes,
 abbrev pub SaysYesByLine : {X : Type 0} → (words : List ℕ) → (X → Bool → List ℕ → Type 0) → Type 0
 SaysYesByLine {X} words Says =
     (x : X) (answer : Bool) (written : List ℕ) → Says x answer written → HasLineWith words written
     → answer ≡ true
 
--- so has a run that wrote them,
-headline-wrote_yes_line : {X : Type 0} (words : List ℕ) (contents : Option X) (Says : X → Bool → List ℕ → Type 0)
+-- the headline holds after a run that wrote them,
+headline-wrote_yes_line : {X : Type 0} (words : List ℕ) (contents : Option X)
+    (Says : X → Bool → List ℕ → Type 0)
     (Headline : X → Type 0) (s : Result RunOutput RunFault) (r : Result Bool RunFault)
     (old new : Option (List ℕ)) → AreYesWords words → SaysYesByLine words Says → IsOutputOf contents Says s
     → IfOk s (λ run_output. IsTrue run_output.yes → IfSome contents Headline) → IsOutputWritten s r old new
     → WroteAtStart words old new → IfSome contents Headline
 headline-wrote_yes_line words None Says Headline s r old new are last says keeps is wrote = tt
-headline-wrote_yes_line words (Some x) Says Headline (Ok run_output) (Ok answer) old new are last says keeps is wrote =
+headline-wrote_yes_line words (Some x) Says Headline (Ok run_output) (Ok answer) old new are last
+    says keeps is wrote =
     let text = string_bytes run_output.text in
     let whole = subst (λ (b : List ℕ). Appends old new b)
     (sym (take_all (length text) text (omega arith))) is.1 in
-    keeps (last x run_output.yes text says (has_line_with-wrote_at_start words text (length text) old new whole wrote))
-headline-wrote_yes_line words (Some x) Says Headline (Ok run_output) (Err fault) old new are last says keeps is wrote =
+    keeps (last x run_output.yes text says (has_line_with-wrote_at_start words text (length text)
+    old new whole wrote))
+headline-wrote_yes_line words (Some x) Says Headline (Ok run_output) (Err fault) old new are last
+    says keeps is wrote =
     let text = string_bytes run_output.text in
-    keeps (last x run_output.yes text says (has_line_with-wrote_at_start words text is.1.0 old new is.1.2 wrote))
-headline-wrote_yes_line words (Some x) Says Headline (Err cause) (Ok answer) old new are last says keeps is wrote =
+    keeps (last x run_output.yes text says (has_line_with-wrote_at_start words text is.1.0 old new
+    is.1.2 wrote))
+headline-wrote_yes_line words (Some x) Says Headline (Err cause) (Ok answer) old new are last says
+    keeps is wrote =
     absurd is
-headline-wrote_yes_line words (Some x) Says Headline (Err cause) (Err fault) old new are last says keeps is wrote =
+headline-wrote_yes_line words (Some x) Says Headline (Err cause) (Err fault) old new are last says
+    keeps is wrote =
     absurd (wrote_at_start-nothing_written words old are
     (subst (λ (o : Option (List ℕ)). WroteAtStart words old o) is.1 wrote))
 
--- and one that answers true.
+-- and after one that returns true.
 headline-answered_true : (Keeps : Type 0) (s : Result RunOutput RunFault) (r : Result Bool RunFault)
-    (old new : Option (List ℕ)) → IfOk s (λ run_output. IsTrue run_output.yes → Keeps) → IsOutputWritten s r old new
+    (old new : Option (List ℕ)) → IfOk s (λ run_output. IsTrue run_output.yes → Keeps)
+    → IsOutputWritten s r old new
     → r ≡ Ok true → Keeps
 headline-answered_true Keeps (Ok run_output) (Ok answer) old new keeps is ok =
     let true_is : answer ≡ true = cc in
@@ -319,7 +340,7 @@ headline-answered_true Keeps (Ok run_output) (Err fault) old new keeps is ok = a
 headline-answered_true Keeps (Err cause) (Ok answer) old new keeps is ok = absurd is
 headline-answered_true Keeps (Err cause) (Err fault) old new keeps is ok = absurd cc
 
--- So has a check that says yes,
+-- So it holds after a check that says yes,
 pub headline-check_says_yes : {X : Type 0} (contents : Option X) (Says : X → Bool → List ℕ → Type 0)
     (Headline : X → Type 0) (s : Result RunOutput RunFault) (r : Result Bool RunFault)
     (old new : Option (List ℕ)) → SaysYesByLine (codes "verdict yes") Says → IsOutputOf contents Says s
@@ -328,9 +349,10 @@ pub headline-check_says_yes : {X : Type 0} (contents : Option X) (Says : X → B
 headline-check_says_yes contents Says Headline s r old new last says keeps is (inl ok) =
     headline-answered_true (IfSome contents Headline) s r old new keeps is ok
 headline-check_says_yes contents Says Headline s r old new last says keeps is (inr wrote) =
-    headline-wrote_yes_line (codes "verdict yes") contents Says Headline s r old new (inl refl) last says keeps is wrote
+    headline-wrote_yes_line (codes "verdict yes") contents Says Headline s r old new (inl refl) last
+    says keeps is wrote
 
--- and an audit, which says it with a line of the one words or the other.
+-- and after an audit, which says it in text or in JSON.
 pub headline-audit_says_yes : {X : Type 0} (contents : Option X) (Says : X → Bool → List ℕ → Type 0)
     (Headline : X → Type 0) (s : Result RunOutput RunFault) (r : Result Bool RunFault)
     (old new : Option (List ℕ)) → SaysYesByLine (codes "verdict yes") Says → SaysYesByLine yes_object Says
@@ -339,6 +361,8 @@ pub headline-audit_says_yes : {X : Type 0} (contents : Option X) (Says : X → B
 headline-audit_says_yes contents Says Headline s r old new last object says keeps is (inl ok) =
     headline-answered_true (IfSome contents Headline) s r old new keeps is ok
 headline-audit_says_yes contents Says Headline s r old new last object says keeps is (inr (inl wrote)) =
-    headline-wrote_yes_line (codes "verdict yes") contents Says Headline s r old new (inl refl) last says keeps is wrote
+    headline-wrote_yes_line (codes "verdict yes") contents Says Headline s r old new (inl refl) last
+    says keeps is wrote
 headline-audit_says_yes contents Says Headline s r old new last object says keeps is (inr (inr wrote)) =
-    headline-wrote_yes_line yes_object contents Says Headline s r old new (inr refl) object says keeps is wrote
+    headline-wrote_yes_line yes_object contents Says Headline s r old new (inr refl) object says
+    keeps is wrote

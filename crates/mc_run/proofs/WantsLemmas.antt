@@ -1,4 +1,4 @@
--- What a list's fault says of a run's answer.
+-- The answer of a run by a list's fault.
 use Rattle.std.proofs.Common.{◌≡◌, ℕ, List, ◌⊎◌, inl}
 use Rattle.std.proofs.Common.{inr}
 use Rattle.std.proofs.Common.{Err, sym, subst}
@@ -10,7 +10,7 @@ use Rattle.mc_igmp.specs.ReadingList.{read_list}
 use Rattle.mc_run.specs.RunFault.{from_list_fault, from_list_fault_kind}
 use Rattle.mc_run.specs.WantsRun.{AnswersWants}
 
--- a list's fault of each kind gives the run's answer
+-- the answer by each kind of a list's fault
 answers_wants-list_fault_kind : (text : List ℕ) (group source : ℕ) (f : ListFault) → read_list text ≡ Err f
     → (k : ListFaultKind) → AnswersWants text group source (Err (from_list_fault_kind f k))
 answers_wants-list_fault_kind text group source f read list.BadHex = read
@@ -22,9 +22,10 @@ answers_wants-list_fault_kind text group source f read list.TooLarge = read
 answers_wants-list_fault_kind text group source f read list.Unended = read
 answers_wants-list_fault_kind text group source f read list.Memory = tt
 
--- a list that is refused, or for which there is no memory, gives the run's answer
+-- the answer for a list that is refused, or for which memory ran out
 pub answers_wants-list_fault : (text : List ℕ) (group source : ℕ) (f : ListFault)
     → (read_list text ≡ Err f) ⊎ (f ≡ oom_fault) → AnswersWants text group source (Err (from_list_fault f))
-answers_wants-list_fault text group source f (inl read) = answers_wants-list_fault_kind text group source f read f.kind
+answers_wants-list_fault text group source f (inl read) = answers_wants-list_fault_kind text group
+    source f read f.kind
 answers_wants-list_fault text group source f (inr none) =
     subst (λ (x : ListFault). AnswersWants text group source (Err (from_list_fault x))) (sym none) tt

@@ -1,6 +1,6 @@
--- A line that says yes stands in what is written exactly where all is well: last, at a line's start.
+-- A text has a line that says yes exactly if the verdict is yes, and it is the last line.
 use Rattle.std.proofs.Common.{◌≡◌, ℕ, Bool, true, false, List, [], ◌∷◌, ◌++◌, inl, inr, Some, refl}
-use Rattle.std.proofs.Common.{cond, sym, ap, ◌∙◌, append_assoc, arith, Option, Result}
+use Rattle.std.proofs.Common.{sym, ap, ◌∙◌, append_assoc, arith, Option, Result}
 use Rattle.std.specs.Prelude.{◌==◌, codes, drop, flat_map, length, slice_index, IfOk, IfSome, IsTrue}
 use Rattle.std.proofs.lemmas.Bool.{and_parts, false≢true, ne_eqb}
 use Rattle.json.specs.Print.{escape_byte}
@@ -9,7 +9,7 @@ use Rattle.mc_explain.proofs.LineFeedLemmas.{no_feed-from_list_all}
 use Rattle.mc_files.specs.Files.{FileText}
 use Rattle.mc_forward.specs.ListedTables.{facts}
 use Rattle.mc_run.specs.AuditEnd.{begin_lines, end_lines, verdict_line}
-use Rattle.mc_run.specs.AuditRun.{IsAuditText, is_yes, excluded, yes_object}
+use Rattle.mc_run.specs.AuditRun.{AreYesWords, IsAuditText, is_yes, excluded, yes_object, yes_words}
 use Rattle.mc_run.specs.CheckRun.{BundleKeepsHeadline, IsLineStart, IsVerdictText, SaysYes, WroteAtStart}
 use Rattle.mc_run.specs.CheckRun.{WroteYes}
 use Rattle.mc_run.specs.RunOutput.{IsOutputWritten}
@@ -17,23 +17,20 @@ use Rattle.mc_run.specs.VerdictText.{are_yes, flow_lines}
 use Rattle.mc_run.specs.declared.audit_options.AuditOptions.{AuditOptions}
 use Rattle.mc_run.specs.declared.fault.RunFault.{RunFault}
 use Rattle.mc_run.specs.declared.run_output.RunOutput.{RunOutput}
-use Rattle.mc_run.proofs.AuditLines.{are_other-text_before_verdict, text_before_verdict}
-use Rattle.mc_run.proofs.RunLemmas.{IsOutputOf, AreYesWords, SaysYesByLine, headline-check_says_yes}
-use Rattle.mc_run.proofs.VerdictLines.{AreLinesWithoutYes, is_left-inside_line, are_other-flow_lines}
+use Rattle.mc_run.proofs.AuditLines.{no_yes_line-text_before_verdict, text_before_verdict}
+use Rattle.mc_run.proofs.RunLemmas.{IsOutputOf, SaysYesByLine, headline-check_says_yes}
+use Rattle.mc_run.proofs.VerdictLines.{AreLinesWithoutYes, is_left-inside_line, no_yes_line-flow_lines}
 
 -- ---- the last line
 
--- with these words it says yes,
-abbrev pub is_verdict_yes_words : (json : Bool) → List ℕ
-is_verdict_yes_words json = cond json yes_object (codes "verdict yes")
-
--- and these are its words
+-- the words of the last line
 abbrev last_words_of_verdict : (json all : Bool) → List ℕ
-last_words_of_verdict json true = is_verdict_yes_words json
+last_words_of_verdict json true = yes_words json
 last_words_of_verdict true false = codes "{\"verdict\":\"no\"}"
 last_words_of_verdict false false = codes "verdict no"
 
-last_words-verdict_line : (json all : Bool) → verdict_line json all ≡ last_words_of_verdict json all ++ codes "\n"
+last_words-verdict_line : (json all : Bool) → verdict_line json all ≡ last_words_of_verdict json all
+    ++ codes "\n"
 unfolding escape_byte
 last_words-verdict_line true true = refl
 last_words-verdict_line true false = refl
@@ -46,13 +43,13 @@ last_words-no_line_feed true false = no_feed-from_list_all (last_words_of_verdic
 last_words-no_line_feed false true = no_feed-from_list_all (last_words_of_verdict false true) refl
 last_words-no_line_feed false false = no_feed-from_list_all (last_words_of_verdict false false) refl
 
--- Words that say yes stand here, and so all are, and this is the last line.
+-- The words of a yes are here: the verdict is yes, and this is the last line.
 pub record IsLastLineYes (json all : Bool) (words rest : List ℕ) : Type 0 where
   pub all_are : all ≡ true
-  pub these : words ≡ is_verdict_yes_words json
+  pub these : words ≡ yes_words json
   pub last : rest ≡ codes "\n"
 
--- what stands in a line that words begin stands in them
+-- a byte of a line that starts with words is theirs
 words-byte_in_line : (place : ℕ) (line words rest other : List ℕ) → words ≡ other → line ≡ words ++ rest
     → slice_index line place ≡ slice_index (other ++ rest) place
 words-byte_in_line place line words rest other is same =
@@ -93,26 +90,32 @@ yes_words-not_at_start : (b : ℕ) (xs : List ℕ) → [] ≡ b ∷ xs → ⊥
 yes_words-not_at_start b xs same = absurd cc
 
 yes_words-not_inside : (front words rest : List ℕ) → AreYesWords words → [] ≡ front ++ (words ++ rest) → ⊥
-yes_words-not_inside [] words rest (inl is) same = yes_words-not_at_start _ _ (same ∙ ap (λ xs. xs ++ rest) is)
-yes_words-not_inside [] words rest (inr is) same = yes_words-not_at_start _ _ (same ∙ ap (λ xs. xs ++ rest) is)
-yes_words-not_inside (b ∷ front) words rest are same = yes_words-not_at_start b (front ++ (words ++ rest)) same
+yes_words-not_inside [] words rest (inl is) same = yes_words-not_at_start _ _
+    (same ∙ ap (λ xs. xs ++ rest) is)
+yes_words-not_inside [] words rest (inr is) same = yes_words-not_at_start _ _
+    (same ∙ ap (λ xs. xs ++ rest) is)
+yes_words-not_inside (b ∷ front) words rest are same = yes_words-not_at_start b
+    (front ++ (words ++ rest)) same
 
--- ---- lines, and the last one behind them
+-- ---- lines, and the last one after them
 
-has_line-last_words : (lines words front rest : List ℕ) (json all : Bool) → AreLinesWithoutYes lines → AreYesWords words
+has_line-last_words : (lines words front rest : List ℕ) (json all : Bool) → AreLinesWithoutYes lines
+    → AreYesWords words
     → IsLineStart front → lines ++ verdict_line json all ≡ front ++ (words ++ rest)
     → IsLastLineYes json all words rest
 has_line-last_words lines words front rest json all other are starts same =
     let split_text = ap (λ xs. lines ++ xs) (sym (last_words-verdict_line json all)) ∙ same in
-    let l = other.left words front rest (last_words_of_verdict json all ++ codes "\n") are starts split_text in
-    elim (is_left-inside_line words (last_words_of_verdict json all) [] l.front rest (last_words-no_line_feed json all) l.starts l.is) [
+    let l = other.left words front rest (last_words_of_verdict json all ++ codes "\n") are starts
+    split_text in
+    elim (is_left-inside_line words (last_words_of_verdict json all) [] l.front rest
+    (last_words-no_line_feed json all) l.starts l.is) [
       | inl begins ↦ yes_words-begin_last_line json all words rest are begins
       | inr left ↦ absurd (yes_words-not_inside left.front words rest are left.is)
     ]
 
 is_last_line_yes-wrote : (lines written old : List ℕ) (json : Bool) → AreLinesWithoutYes lines
     → written ≡ lines ++ verdict_line json true
-    → WroteAtStart (is_verdict_yes_words json) (Some old) (Some (old ++ written))
+    → WroteAtStart (yes_words json) (Some old) (Some (old ++ written))
 is_last_line_yes-wrote lines written old json other is = (
   lines,
   codes "\n",
@@ -128,18 +131,20 @@ has_line-check_text text written old v =
     let t = v.domain.domain.topology in
     let verdicts = v.holds.verdicts in
     is_last_line_yes-wrote (flow_lines t t.flows verdicts) written old false
-    (are_other-flow_lines t t.flows verdicts v.means.domain.rules.topology)
+    (no_yes_line-flow_lines t t.flows verdicts v.means.domain.rules.topology)
     (v.holds.spelled
     ∙ ap (λ all. flow_lines t t.flows verdicts ++ verdict_line false all) (sym v.holds.answer))
 
-pub is_last_line_yes-check_text : (text written front rest : List ℕ) (all : Bool) → IsVerdictText text all written
+pub is_last_line_yes-check_text : (text written front rest : List ℕ) (all : Bool)
+    → IsVerdictText text all written
     → IsLineStart front → written ≡ front ++ (codes "verdict yes" ++ rest)
     → (all ≡ true) × (rest ≡ codes "\n")
 is_last_line_yes-check_text text written front rest all v starts is =
     let t = v.domain.domain.topology in
     let verdicts = v.holds.verdicts in
-    let run_output = has_line-last_words (flow_lines t t.flows verdicts) (codes "verdict yes") front rest false
-    (are_yes verdicts) (are_other-flow_lines t t.flows verdicts v.means.domain.rules.topology) (inl refl)
+    let run_output = has_line-last_words (flow_lines t t.flows verdicts) (codes "verdict yes") front
+    rest false
+    (are_yes verdicts) (no_yes_line-flow_lines t t.flows verdicts v.means.domain.rules.topology) (inl refl)
     starts (sym v.holds.spelled ∙ is) in
     (v.holds.answer ∙ run_output.all_are, run_output.last)
 
@@ -148,20 +153,23 @@ pub says_yes_by_line-verdict_text : SaysYesByLine (codes "verdict yes") IsVerdic
 says_yes_by_line-verdict_text text all written v (front, rest, starts, is) =
     (is_last_line_yes-check_text text written front rest all v starts is).0
 
--- and so a check that says yes has the headline
-pub headline_of_bundle-check_yes : (contents : Option (List ℕ)) (s : Result RunOutput RunFault) (r : Result Bool RunFault)
+-- and the headline holds after a check that says yes
+pub headline_of_bundle-check_yes : (contents : Option (List ℕ)) (s : Result RunOutput RunFault)
+    (r : Result Bool RunFault)
     (old new : Option (List ℕ)) → IsOutputOf contents IsVerdictText s
-    → IfOk s (λ run_output. IsTrue run_output.yes → IfSome contents BundleKeepsHeadline) → IsOutputWritten s r old new
+    → IfOk s (λ run_output. IsTrue run_output.yes → IfSome contents BundleKeepsHeadline)
+    → IsOutputWritten s r old new
     → SaysYes r old new → IfSome contents BundleKeepsHeadline
 headline_of_bundle-check_yes contents s r old new says keeps is yes_holds =
-    headline-check_says_yes contents IsVerdictText BundleKeepsHeadline s r old new says_yes_by_line-verdict_text says keeps is yes_holds
+    headline-check_says_yes contents IsVerdictText BundleKeepsHeadline s r old new
+    says_yes_by_line-verdict_text says keeps is yes_holds
 
 -- ---- the text of an audit
 
 append-assoc_four : (a b c d : List ℕ) → a ++ (b ++ (c ++ d)) ≡ (a ++ (b ++ c)) ++ d
 append-assoc_four a b c d = simp append_assoc
 
--- its lines, and the last one behind them
+-- its lines, and the last one after them
 audit_text-lines_and_verdict : (names : List (List ℕ)) (files : List FileText) (o : AuditOptions) (all : Bool)
     (written : List ℕ) (a : IsAuditText o names files all written)
     → written ≡ text_before_verdict a.domain o a.holds.answers ++ verdict_line o.json all
@@ -174,31 +182,34 @@ audit_text-lines_and_verdict names files o all written a =
     (verdict_line o.json (is_yes v answers))
     ∙ ap (λ every. text_before_verdict v o answers ++ verdict_line o.json every) (sym a.holds.answer)
 
-are_other-before_verdict : (names : List (List ℕ)) (files : List FileText) (o : AuditOptions) (all : Bool)
+no_yes_line-before_verdict : (names : List (List ℕ)) (files : List FileText) (o : AuditOptions) (all : Bool)
     (written : List ℕ) (a : IsAuditText o names files all written)
     → AreLinesWithoutYes (text_before_verdict a.domain o a.holds.answers)
-are_other-before_verdict names files o all written a =
-    are_other-text_before_verdict a.domain o a.holds.answers a.holds.are_answers a.means.means.rules.topology
+no_yes_line-before_verdict names files o all written a =
+    no_yes_line-text_before_verdict a.domain o a.holds.answers a.holds.are_answers
+    a.means.means.rules.topology
 
 pub has_line-audit_text : (names : List (List ℕ)) (files : List FileText) (o : AuditOptions)
     (written old : List ℕ) → IsAuditText o names files true written
-    → WroteAtStart (is_verdict_yes_words o.json) (Some old) (Some (old ++ written))
+    → WroteAtStart (yes_words o.json) (Some old) (Some (old ++ written))
 has_line-audit_text names files o written old a =
     is_last_line_yes-wrote (text_before_verdict a.domain o a.holds.answers) written old o.json
-    (are_other-before_verdict names files o true written a) (audit_text-lines_and_verdict names files o true written a)
+    (no_yes_line-before_verdict names files o true written a)
+    (audit_text-lines_and_verdict names files o true written a)
 
 is_last_line_yes-audit_line : (names : List (List ℕ)) (files : List FileText) (o : AuditOptions) (all : Bool)
     (words written front rest : List ℕ) → IsAuditText o names files all written → IsLineStart front
     → AreYesWords words → written ≡ front ++ (words ++ rest) → IsLastLineYes o.json all words rest
 is_last_line_yes-audit_line names files o all words written front rest a starts are is =
     has_line-last_words (text_before_verdict a.domain o a.holds.answers) words front rest o.json all
-    (are_other-before_verdict names files o all written a) are starts
+    (no_yes_line-before_verdict names files o all written a) are starts
     (sym (audit_text-lines_and_verdict names files o all written a) ∙ is)
 
-pub is_last_line_yes-audit_text : (names : List (List ℕ)) (files : List FileText) (o : AuditOptions) (all : Bool)
+pub is_last_line_yes-audit_text : (names : List (List ℕ)) (files : List FileText) (o : AuditOptions)
+    (all : Bool)
     (words written front rest : List ℕ) → IsAuditText o names files all written → IsLineStart front
     → AreYesWords words → written ≡ front ++ (words ++ rest)
-    → (all ≡ true) × (words ≡ is_verdict_yes_words o.json) × (rest ≡ codes "\n")
+    → (all ≡ true) × (words ≡ yes_words o.json) × (rest ≡ codes "\n")
 is_last_line_yes-audit_text names files o all words written front rest a starts are is =
     let line = is_last_line_yes-audit_line names files o all words written front rest a starts are is in
     (line.all_are, line.these, line.last)
@@ -217,7 +228,7 @@ pub says_yes_by_line-yes_object : (o : AuditOptions) (names : List (List ℕ))
     → SaysYesByLine yes_object (IsAuditText o names)
 says_yes_by_line-yes_object o names = says_yes_by_line-audit_text o names yes_object (inr refl)
 
--- ---- which audits say it
+-- ---- the audits that say yes
 
 names-empty : (names : List (List ℕ)) → (length names == 0) ≡ true → names ≡ []
 names-empty [] none = refl

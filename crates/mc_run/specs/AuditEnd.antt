@@ -1,6 +1,6 @@
--- What stands before and behind the lines of all flows: in JSON the domain and the words of the call;
--- which sources and groups stand in the caches and aren't listed, which routers were left out, and how
--- many flows are right.
+-- The lines before and after those of the flows: in JSON the domain and the words of the call; the
+-- unlisted sources and groups of the caches, the excluded routers, and the numbers of right and wrong
+-- flows.
 use Rattle.std.specs.Prelude.{ℕ, ◌==◌, ◌+◌, ◌&&◌, not, Bool, List, [], ◌∷◌, ◌++◌, codes, decimal, filter}
 use Rattle.std.specs.Prelude.{flat_map, length, map, if◌then◌else◌}
 use Rattle.std.specs.List.{list_all, list_any}
@@ -22,7 +22,7 @@ use Rattle.mc_run.specs.declared.flow_status.FlowStatus.{FlowStatus}
 use Rattle.mc_run.specs.declared.flow_status.FlowStatus.TheVariants.{Wanted, Unwanted, Wrong}
 use Rattle.mc_run.specs.declared.flow_status.FlowCounts.{FlowCounts}
 
--- what is told of a flow: what its examination says, the LANs that want it, and its lines
+-- what is printed of a flow: the result of its examination, the LANs that want it, and its lines
 pub record FlowAnswer : Type 0 where
   pub examined : Examined
   pub wanted : List ℕ
@@ -32,9 +32,9 @@ pub record FlowAnswer : Type 0 where
 abbrev pub are_right : List FlowAnswer → Bool
 are_right answers = list_all (λ a. is_certified a.examined) answers
 
--- ---- how many are
+-- ---- the counts of flows
 
--- one flow more that stands so
+-- the counts with one more flow of this status
 abbrev pub with_status : FlowCounts → FlowStatus → FlowCounts
 with_status s Wanted = record { right = s.right + 1; wrong = s.wrong; unwanted = s.unwanted }
 with_status s Unwanted =
@@ -61,14 +61,14 @@ summary_line flows right wrong unwanted =
     ++ (codes " wrong " ++ (decimal wrong
     ++ (codes " unwanted " ++ (decimal unwanted ++ codes "\n")))))))
 
--- where a yes isn't enough if a flow is wanted by nobody
+-- with the option strict: a yes isn't enough if some right flow is wanted by nobody
 abbrev pub strict_lines : (strict all : Bool) → (unwanted : ℕ) → List ℕ
 strict_lines strict all unwanted =
     if strict && (all && not (unwanted == 0))
     then codes "  strict: " ++ (decimal unwanted ++ codes " flows that nobody wants, status 1\n")
     else []
 
--- ---- routers that are left out
+-- ---- excluded routers
 
 abbrev pub is_among : (names : List (List ℕ)) → (name : List ℕ) → Bool
 is_among names name = list_any (λ other. bytes_eq other name) names
@@ -77,7 +77,7 @@ is_among names name = list_any (λ other. bytes_eq other name) names
 abbrev pub excluded_marks : TopologyValue → (names : List (List ℕ)) → List Bool
 excluded_marks t names = map (λ r. is_among names (router_name t r)) (below (length t.routers))
 
--- ---- what stands before the lines of flows
+-- ---- before the lines of the flows
 
 abbrev pub word_if_asked : Bool → (word : List ℕ) → List (List ℕ)
 word_if_asked asked word = if asked then word ∷ [] else []
@@ -85,7 +85,7 @@ word_if_asked asked word = if asked then word ∷ [] else []
 abbrev pub without_words : TopologyValue → (router : ℕ) → List (List ℕ)
 without_words t router = codes "--without" ∷ router_name t router ∷ []
 
--- the words that ask for these options, and leave the marked routers out
+-- the words of a call with these options that excludes the marked routers
 abbrev pub option_words : AuditOptions → TopologyValue → (excluded : List Bool) → List (List ℕ)
 option_words o t excluded =
     word_if_asked o.travels (codes "--travel")
@@ -95,14 +95,14 @@ option_words o t excluded =
     ++ (word_if_asked o.json (codes "--json")
     ++ flat_map (without_words t) (excluded_routers t excluded)))))
 
--- in JSON the domain and these words, and nothing in text
+-- in JSON a line with the domain and these words; in text nothing
 abbrev pub begin_lines : AuditOptions → DomainFacts → (excluded : List Bool) → List ℕ
 begin_lines o d excluded =
     if o.json then line_of (domain_data d (option_words o d.topology excluded)) else []
 
--- ---- what stands behind them, before the last line
+-- ---- after the lines of the flows, before the last line
 
--- of so many flows, of which so many stand how, where all is right and nothing left out, or not
+-- as text, by the counts of flows, where all flows are right and no router is excluded, or not
 abbrev pub end_text : AuditOptions → TopologyValue → List SummaryValue → (excluded : List Bool)
     → (all : Bool) → (flows right wrong unwanted : ℕ) → List ℕ
 end_text o t summary excluded all flows right wrong unwanted =
@@ -123,11 +123,12 @@ end_text_or_objects o t summary excluded all flows right wrong unwanted =
     if o.json then end_objects o t summary excluded right wrong unwanted
     else end_text o t summary excluded all flows right wrong unwanted
 
--- as the flows stand
+-- by the flows themselves
 abbrev pub end_lines : AuditOptions → TopologyValue → List SummaryValue → (excluded : List Bool)
     → (all : Bool) → List FlowAnswer → List ℕ
 end_lines o t summary excluded all answers =
-    end_text_or_objects o t summary excluded all (length answers) (count is_right answers) (count is_wrong answers)
+    end_text_or_objects o t summary excluded all (length answers) (count is_right answers)
+    (count is_wrong answers)
     (count is_unwanted answers)
 
 -- the last line

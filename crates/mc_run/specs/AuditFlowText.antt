@@ -1,4 +1,4 @@
--- What an audit tells of a flow, as lines of text or in JSON, and which ways were told before.
+-- The lines of one flow in an audit, as text or in JSON, after those of flows whose trees were printed.
 use Rattle.std.specs.Prelude.{ℕ, ◌==◌, ◌&&◌, not, Bool, true, false, List, [], ◌∷◌, length}
 use Rattle.std.specs.Prelude.{if◌then◌else◌}
 use Rattle.mc_tables.specs.Summary.{SummaryValue}
@@ -18,19 +18,21 @@ use Rattle.mc_run.specs.declared.flow_status.FlowStatus.TheVariants.{Wanted, Unw
 
 -- ---- a flow that is right
 
--- where faults alone are asked for, a flow that is wanted is left out
+-- with the option faults, a right flow that is wanted is hidden
 abbrev pub is_hidden : (faults : Bool) → (wanted : List ℕ) → Bool
 is_hidden faults wanted = faults && not (length wanted == 0)
 
 abbrev pub unless_hidden : (faults : Bool) → (wanted : List ℕ) → (lines : List ℕ) → List ℕ
 unless_hidden faults wanted lines = if is_hidden faults wanted then [] else lines
 
-abbrev pub right_lines_or_object : (json whole : Bool) → TopologyValue → (printed : List Tree) → (number : ℕ) → Flow
+abbrev pub right_lines_or_object : (json whole : Bool) → TopologyValue → (printed : List Tree)
+    → (number : ℕ) → Flow
     → Tree → (wanted : List ℕ) → List ℕ
-right_lines_or_object true whole t printed number f es wanted = right_objects whole t printed number f es wanted
+right_lines_or_object true whole t printed number f es wanted = right_objects whole t printed number
+    f es wanted
 right_lines_or_object false whole t printed number f es wanted = right_lines whole t f (length es) wanted
 
--- what is told of a flow that goes this way, where the whole domain is known, or not
+-- the lines of a right flow with this tree, where the whole domain is known, or not
 abbrev pub right_flow_lines : AuditOptions → (whole : Bool) → TopologyValue → (printed : List Tree)
     → (number : ℕ) → Flow → Tree → (wanted : List ℕ) → List ℕ
 right_flow_lines o whole t printed number f es wanted =
@@ -38,7 +40,8 @@ right_flow_lines o whole t printed number f es wanted =
 
 -- ---- a flow that isn't
 
-abbrev pub wrong_lines_or_object : (json travels : Bool) → DomainFacts → List SummaryValue → (number : ℕ) → Flow
+abbrev pub wrong_lines_or_object : (json travels : Bool) → DomainFacts → List SummaryValue
+    → (number : ℕ) → Flow
     → (ttl : ℕ) → Travel → Explanation → List ℕ
 wrong_lines_or_object true travels d summary number f ttl travel x =
     wrong_object travels d summary number f ttl travel x
@@ -47,12 +50,13 @@ wrong_lines_or_object false travels d summary number f ttl travel x =
 
 abbrev pub wrong_flow_lines : AuditOptions → DomainFacts → List SummaryValue → (number : ℕ) → Flow
     → (ttl : ℕ) → Travel → Explanation → List ℕ
-wrong_flow_lines o d summary number f ttl travel x = wrong_lines_or_object o.json o.travels d summary number f ttl travel x
+wrong_flow_lines o d summary number f ttl travel x = wrong_lines_or_object o.json o.travels d
+    summary number f ttl travel x
 
 -- ---- a flow
 
--- what is told of the flow with this number, by what its examination says, what explains that, and
--- which LANs want it
+-- the lines of the flow with this number, by the result of its examination, what explains it, and the
+-- LANs that want the flow
 abbrev pub answer_lines : AuditOptions → (whole : Bool) → DomainFacts → List SummaryValue
     → (printed : List Tree) → (number : ℕ) → Flow → Examined → Explanation → (wanted : List ℕ) → List ℕ
 answer_lines o whole d summary printed number f (Certified entries) x wanted =
@@ -60,7 +64,7 @@ answer_lines o whole d summary printed number f (Certified entries) x wanted =
 answer_lines o whole d summary printed number f (Found ttl travel) x wanted =
     wrong_flow_lines o d summary number f ttl travel x
 
--- the ways that were told once it was: text tells none
+-- the printed trees after those of this flow; text prints none
 abbrev pub with_shown_tree : (json hidden : Bool) → List Tree → Tree → List Tree
 with_shown_tree true false printed es = with_tree printed es
 with_shown_tree _ _ printed es = printed
@@ -70,7 +74,7 @@ shown_trees_with o printed (Certified entries) wanted =
     with_shown_tree o.json (is_hidden o.faults wanted) printed entries.items
 shown_trees_with o printed (Found ttl travel) wanted = printed
 
--- how a flow stands that is right, and any one
+-- the status of a right flow, and of any flow
 abbrev pub status_of_right : (wanted : List ℕ) → FlowStatus
 status_of_right [] = Unwanted
 status_of_right (lan ∷ wanted) = Wanted

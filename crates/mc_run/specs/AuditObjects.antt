@@ -1,4 +1,4 @@
--- What `mcaudit audit` writes of a flow in JSON: an object a line, with the facts that the text tells.
+-- The objects of a flow in the JSON of `mcaudit audit`, one a line, with the same facts as its text.
 use Rattle.std.specs.Prelude.{ℕ, Bool, List, [], ◌++◌, map, length, is_some, if◌then◌else◌}
 use Rattle.mc_tables.specs.Summary.{SummaryValue}
 use Rattle.mc_topology.specs.declared.flow.Flow.{Flow}
@@ -15,12 +15,12 @@ use Rattle.mc_run.specs.AuditText.{Explanation}
 
 -- ---- a flow that is right
 
--- the way of a flow, if it is none of those that were told before
+-- the tree of a flow, unless it was printed before
 abbrev pub tree_line : TopologyValue → (printed : List Tree) → Tree → List ℕ
 tree_line t printed es =
     if is_some (find_tree printed es) then [] else line_of (tree_data t es (length printed))
 
--- and behind it the flow, by the number of its way, with the LANs that want it
+-- and after it the flow, with the number of its tree and the LANs that want it
 abbrev pub right_objects : (whole : Bool) → TopologyValue → (printed : List Tree) → (number : ℕ) → Flow
     → Tree → (wanted : List ℕ) → List ℕ
 right_objects whole t printed number f es wanted =
@@ -30,7 +30,7 @@ right_objects whole t printed number f es wanted =
 
 -- ---- a flow that isn't
 
--- what is found, why, the LANs that were missed besides, and where that is asked for the travel
+-- the finding, why, the other missed LANs, and with the option the travel
 abbrev pub wrong_object : (travels : Bool) → DomainFacts → List SummaryValue → (number : ℕ) → Flow
     → (ttl : ℕ) → Travel → Explanation → List ℕ
 wrong_object travels d summary number f ttl travel x =

@@ -1,17 +1,23 @@
--- What is written piece by piece of a domain that is audited.
+-- The text of an audited domain, part by part, as its functions append it.
 use Rattle.std.specs.Prelude.{◌≡◌, ℕ, Bool, List, ◌++◌, flat_map, length, map, slice_get, Some, take}
 use Rattle.std.specs.Prelude.{Option, Result, Ok, Err}
+use Rattle.mc_topology.specs.declared.flow.Flow.{Flow}
 use Rattle.mc_forward.specs.ListedTables.{facts}
 use Rattle.mc_cert.specs.Certificate.{Tree}
 use Rattle.mc_replay.specs.declared.travel.FinishedTravel.{FinishedTravel}
 use Rattle.mc_explain.specs.TopologyLans.{interfaces_on_lans}
-use Rattle.mc_explain.specs.WantedText.{missed_besides}
+use Rattle.mc_explain.specs.SearchLine.{Search}
+use Rattle.mc_explain.specs.WantedText.{also_missed_text, lans_wanting, missed_besides}
 use Rattle.mc_explain.specs.declared.searching.LanSearch.{LanSearch}
 use Rattle.mc_explain.specs.declared.causes.Cause.{Cause}
-use Rattle.mc_run.specs.AuditEnd.{FlowAnswer, count, is_right, is_unwanted, is_wrong}
-use Rattle.mc_run.specs.AuditRun.{IsFlowAnswer, AuditedValue, excluded, trees_shown}
-use Rattle.mc_run.specs.AuditText.{Explanation}
-use Rattle.mc_run.specs.AuditFlowText.{status_of, shown_trees_with}
+use Rattle.mc_input.specs.declared.domain.FolderDomain.{FolderDomain}
+use Rattle.mc_run.specs.AuditEnd.{FlowAnswer, count, end_objects, end_text, end_text_or_objects}
+use Rattle.mc_run.specs.AuditEnd.{is_right, is_unwanted, is_wrong}
+use Rattle.mc_run.specs.AuditObjects.{right_objects, wrong_object}
+use Rattle.mc_run.specs.AuditReasons.{search_context}
+use Rattle.mc_run.specs.AuditRun.{IsFlowAnswer, AuditedValue, excluded, is_whole, trees_shown}
+use Rattle.mc_run.specs.AuditText.{Explanation, explanation_lines, right_lines, searched_lines, wrong_lines}
+use Rattle.mc_run.specs.AuditFlowText.{right_flow_lines, shown_trees_with, status_of, wrong_flow_lines}
 use Rattle.mc_run.specs.declared.audit_options.AuditOptions.{AuditOptions}
 use Rattle.mc_run.specs.declared.audited_domain.AuditedDomain.{AuditedDomain}
 use Rattle.mc_run.specs.declared.audit_output.AuditAnswer.{AuditAnswer}
@@ -21,7 +27,7 @@ use Rattle.mc_run.specs.declared.run_output.RunOutput.{RunOutput}
 use Rattle.mc_run.specs.declared.flow_status.FlowStatus.{FlowStatus}
 use Rattle.mc_run.specs.declared.flow_status.FlowCounts.{FlowCounts}
 
--- what is audited, as a value
+-- an audited domain as a value
 abbrev pub audited_value : AuditedDomain → AuditedValue
 audited_value a = record {
   domain = a.domain.now;
@@ -29,12 +35,16 @@ audited_value a = record {
   without = map (λ name. name.now) a.without.now;
 }
 
--- the interfaces are those of its LANs, and the marks those of its routers
+-- what is audited of a folder's domain without the routers of these names
+abbrev pub audited_without : (names : List (List ℕ)) → FolderDomain → AuditedValue
+audited_without names read = record { domain = read.domain; summary = read.summary.items; without = names }
+
+-- the interfaces are those of its LANs, and the marks are those of its excluded routers
 pub record HasItsMarksAndInterfaces (a : AuditedDomain) : Type 0 where
   pub interfaces : a.interfaces.now ≡ interfaces_on_lans (facts a.domain.now)
   pub excluded : a.excluded.now ≡ excluded (audited_value a)
 
--- what explains the finding of a travel that ended so, beside these lines and this search
+-- the explanation of a finished travel's finding, with these causes and this search
 abbrev pub explanation_in : FinishedTravel → List Cause → Option LanSearch → Explanation
 explanation_in ended printed search = record {
   printed = printed;
@@ -43,8 +53,8 @@ explanation_in ended printed search = record {
       ended.travel.finding;
 }
 
--- The lines of a flow were written behind what was written before, where these ways had been told, and
--- it stands so.
+-- The lines of a flow were appended, after those of flows whose trees were printed, and this is its
+-- status.
 pub record IsFlowPushed (v : AuditedValue) (o : AuditOptions) (flow : ℕ) (flow_status : FlowStatus)
     (printed new_printed : List Tree) (old new : List ℕ) : Type 0 where
   pub answer : FlowAnswer
@@ -53,7 +63,7 @@ pub record IsFlowPushed (v : AuditedValue) (o : AuditOptions) (flow : ℕ) (flow
   pub shown_trees : new_printed ≡ shown_trees_with o printed answer.examined answer.wanted
   pub spelled : new ≡ old ++ answer.lines
 
--- The lines of the first flows were, and so many of them stand how.
+-- The lines of the first k flows were appended, and these are their counts and their trees.
 pub record AreFlowsPushed (v : AuditedValue) (o : AuditOptions) (k : ℕ) (s : FlowCounts)
     (printed : List Tree) (old new : List ℕ) : Type 0 where
   pub answers : List FlowAnswer
@@ -66,14 +76,112 @@ pub record AreFlowsPushed (v : AuditedValue) (o : AuditOptions) (k : ℕ) (s : F
   pub shown_trees : printed ≡ trees_shown o answers
   pub spelled : new ≡ old ++ flat_map (λ a. a.lines) answers
 
--- ---- what an audit has to say
+-- The lines of all flows were appended, and these are their counts.
+abbrev pub AreAllFlowsPushed : AuditedDomain → AuditOptions → FlowCounts → (old new : List ℕ) → Type 0
+AreAllFlowsPushed a o flow_counts old new = (printed : List Tree)
+    × AreFlowsPushed (audited_value a) o (length (audited_value a).domain.topology.flows)
+    flow_counts printed old new
 
--- the text and whether all are right, or the fault
+-- ---- the lines of one flow, as they are appended
+
+-- for the flow with this number, as the topology lists it, these lines were appended
+abbrev pub AppendsLinesOfFlow : AuditedDomain → (flow : ℕ) → (lines_of : (flow : ℕ) → Flow → List ℕ)
+    → (old new : List ℕ) → Type 0
+AppendsLinesOfFlow a flow lines_of old new = (listed : Flow)
+    → slice_get (audited_value a).domain.topology.flows flow ≡ Some listed → new ≡ old ++ lines_of flow listed
+
+-- the LANs that want the flow with this number
+abbrev pub lans_wanting_flow : AuditedDomain → (flow : ℕ) → List ℕ
+lans_wanting_flow a flow = lans_wanting (facts (audited_value a).domain) flow
+
+-- a right flow, as text with its number of copies,
+abbrev pub right_lines_of : AuditedDomain → (copies : ℕ) → (flow : ℕ) → Flow → List ℕ
+right_lines_of a copies flow f = right_lines (is_whole (audited_value a))
+    (audited_value a).domain.topology f copies
+    (lans_wanting_flow a flow)
+
+-- in JSON, after the printed trees,
+abbrev pub right_objects_of : AuditedDomain → (printed : List Tree) → Tree → (flow : ℕ) → Flow → List ℕ
+right_objects_of a printed es flow f = right_objects (is_whole (audited_value a))
+    (audited_value a).domain.topology
+    printed flow f es (lans_wanting_flow a flow)
+
+-- and as the options ask
+abbrev pub right_flow_lines_of : AuditedDomain → AuditOptions → (printed : List Tree) → Tree
+    → (flow : ℕ) → Flow
+    → List ℕ
+right_flow_lines_of a o printed es flow f = right_flow_lines o (is_whole (audited_value a))
+    (audited_value a).domain.topology printed flow f es (lans_wanting_flow a flow)
+
+-- the context of the search for a LAN that the packet of a finished travel missed
+abbrev pub search_context_of : AuditedDomain → (flow : ℕ) → FinishedTravel → Search
+search_context_of a flow ended = search_context (facts (audited_value a).domain) (audited_value a).summary
+    (excluded (audited_value a)) flow ended.flight.flight.carried
+
+-- the lines of a search, if there was one
+abbrev pub searched_lines_of : AuditedDomain → Option LanSearch → (flow : ℕ) → Flow → List ℕ
+searched_lines_of a search flow f =
+    searched_lines (facts (audited_value a).domain) (audited_value a).summary flow f search
+
+-- which other LANs the packet of a finished travel missed, if it missed one
+abbrev pub also_missed_lines : FinishedTravel → List ℕ
+also_missed_lines ended = also_missed_text ended.flight.domain.topology
+    (missed_besides (facts ended.flight.domain)
+    ended.flight.flow ended.flight.flight.carried ended.travel.finding)
+
+-- the lines that explain the finding of a finished travel
+abbrev pub explanation_lines_of : AuditedDomain → FinishedTravel → List Cause → Option LanSearch → (flow : ℕ)
+    → Flow → List ℕ
+explanation_lines_of a ended causes search flow f = explanation_lines (facts (audited_value a).domain)
+    (audited_value a).summary flow f (explanation_in ended causes search)
+
+-- a wrong flow, by the finished travel of a packet with this TTL: as text,
+abbrev pub wrong_lines_of : AuditedDomain → (travels : Bool) → (ttl : ℕ) → FinishedTravel → List Cause
+    → Option LanSearch → (flow : ℕ) → Flow → List ℕ
+wrong_lines_of a travels ttl ended causes search flow f = wrong_lines travels (facts (audited_value a).domain)
+    (audited_value a).summary flow f ttl ended.travel (explanation_in ended causes search)
+
+-- in JSON,
+abbrev pub wrong_object_of : AuditedDomain → (travels : Bool) → (ttl : ℕ) → FinishedTravel → List Cause
+    → Option LanSearch → (flow : ℕ) → Flow → List ℕ
+wrong_object_of a travels ttl ended causes search flow f = wrong_object travels
+    (facts (audited_value a).domain)
+    (audited_value a).summary flow f ttl ended.travel (explanation_in ended causes search)
+
+-- and as the options ask
+abbrev pub wrong_flow_lines_of : AuditedDomain → AuditOptions → (ttl : ℕ) → FinishedTravel → List Cause
+    → Option LanSearch → (flow : ℕ) → Flow → List ℕ
+wrong_flow_lines_of a o ttl ended causes search flow f = wrong_flow_lines o (facts (audited_value a).domain)
+    (audited_value a).summary flow f ttl ended.travel (explanation_in ended causes search)
+
+-- ---- the lines after the flows, with these counts
+
+-- as text, where the verdict is yes or not,
+abbrev pub end_text_of : AuditedDomain → AuditOptions → FlowCounts → (all : Bool) → List ℕ
+end_text_of a o s all = end_text o (audited_value a).domain.topology (audited_value a).summary
+    a.excluded.now all
+    (length (audited_value a).domain.topology.flows) s.right s.wrong s.unwanted
+
+-- in JSON,
+abbrev pub end_objects_of : AuditedDomain → AuditOptions → FlowCounts → List ℕ
+end_objects_of a o s = end_objects o (audited_value a).domain.topology (audited_value a).summary
+    a.excluded.now
+    s.right s.wrong s.unwanted
+
+-- and as the options ask
+abbrev pub end_text_or_objects_of : AuditedDomain → AuditOptions → FlowCounts → (all : Bool) → List ℕ
+end_text_or_objects_of a o s all = end_text_or_objects o (audited_value a).domain.topology
+    (audited_value a).summary
+    a.excluded.now all (length (audited_value a).domain.topology.flows) s.right s.wrong s.unwanted
+
+-- ---- the output of an audit
+
+-- the output of the run, or the fault
 abbrev pub output_of : Result AuditOutput RunFault → Result RunOutput RunFault
 output_of (Ok audit) = Ok audit.run_output
 output_of (Err fault) = Err fault
 
--- whether it says yes
+-- whether the answer is yes, or the fault
 abbrev pub yes_of : Result AuditAnswer RunFault → Result Bool RunFault
 yes_of (Ok answer) = Ok answer.yes
 yes_of (Err fault) = Err fault

@@ -1,6 +1,7 @@
--- What `mcaudit audit` answers and writes, and what its yes is worth.
+-- The answer and the text of `mcaudit audit`, and what its yes promises.
 use Rattle.std.specs.Prelude.{◌≡◌, ◌≤◌, ◌==◌, ◌&&◌, ◌⊎◌, ℕ, Bool, true, false, List, [], ◌++◌, codes}
-use Rattle.std.specs.Prelude.{flat_map, fold, length, slice_get, take, Option, Some, Result, Ok}
+use Rattle.std.specs.Prelude.{flat_map, fold, if◌then◌else◌, length, slice_get, take, Option, Some}
+use Rattle.std.specs.Prelude.{Result, Ok}
 use Rattle.mc_files.specs.Files.{FileText}
 use Rattle.mc_tables.specs.Summary.{SummaryValue}
 use Rattle.mc_topology.specs.declared.flow.Flow.{Flow}
@@ -27,66 +28,67 @@ use Rattle.mc_run.specs.AuditEnd.{excluded_marks, verdict_line}
 use Rattle.mc_run.specs.AuditReasons.{IsExplanation}
 use Rattle.mc_run.specs.AuditText.{Explanation}
 use Rattle.mc_run.specs.AuditFlowText.{answer_lines, right_flow_lines, shown_trees_with, wrong_flow_lines}
-use Rattle.mc_run.specs.CheckRun.{KeepsHeadline, WroteAtStart, WroteYes}
+use Rattle.mc_run.specs.CheckRun.{IsLineStart, KeepsHeadline, WroteAtStart, WroteYes}
 use Rattle.mc_run.specs.MakeRun.{AreExamined, AreRight, IsExamined, certified_lists, no_certificate_line}
 use Rattle.mc_run.specs.declared.audit_options.AuditOptions.{AuditOptions}
 use Rattle.mc_run.specs.declared.fault.RunFault.{RunFault}
 
--- ---- what is said of a domain
+-- ---- the text of a domain
 
--- a domain, what is noted of each router's cache, and the names of the routers that are left out
+-- a domain, a summary of each router's cache, and the names of the excluded routers
 pub record AuditedValue : Type 0 where
   pub domain : DomainValue
   pub summary : List SummaryValue
   pub without : List (List ℕ)
 
--- a mark for each router: whether it is left out
+-- a mark for each router: whether it is excluded
 abbrev pub excluded : AuditedValue → List Bool
 excluded v = excluded_marks v.domain.topology v.without
 
--- none is
+-- no router is excluded
 abbrev pub is_whole : AuditedValue → Bool
 is_whole v = length v.without == 0
 
--- What is said of a flow: it is examined, and where it is certified, the checker accepts its list,
--- so that the headline holds of it, with no more copies than the list has entries.
+-- The flow is examined with this result, and if it is certified, the headline holds for it, with at most
+-- as many copies as its list has entries.
 pub record IsChecked (d : DomainValue) (flow : ℕ) (x : Examined) : Type 0 where
   pub examined : IsExamined d flow x
   pub headline : IfCertified (λ es. HeadlineHolds (net_of d flow) (length es)) x
 
--- What is told of the flow with this number, behind others that told these ways: what its
--- examination says, by the flights of its packets, what explains that, and which LANs want it; and
--- these are its lines.
-pub record IsFlowAnswer (v : AuditedValue) (o : AuditOptions) (printed : List Tree) (flow : ℕ) (a : FlowAnswer)
+-- What is printed of the flow with this number, after flows whose trees were printed: the result of its
+-- examination, by the flights of its packets, what explains it, and the LANs that want the flow; and
+-- the lines of all this.
+pub record IsFlowAnswer (v : AuditedValue) (o : AuditOptions) (printed : List Tree) (flow : ℕ)
+    (a : FlowAnswer)
     : Type 0 where
   pub listed : Flow
-  pub flown : ExaminedFlights
+  pub flights : ExaminedFlights
   pub explanation : Explanation
   pub matches : slice_get v.domain.topology.flows flow ≡ Some listed
-  pub flies : HasExaminedFlights v.domain flow flown
-  pub examined : a.examined ≡ without_flights v.domain flow flown
+  pub has_flights : HasExaminedFlights v.domain flow flights
+  pub examined : a.examined ≡ without_flights v.domain flow flights
   pub checked : IsChecked v.domain flow a.examined
-  pub explained : IsExplanation v.domain v.summary (excluded v) (is_whole v) flow flown
+  pub explained : IsExplanation v.domain v.summary (excluded v) (is_whole v) flow flights
       explanation
   pub wanted : a.wanted ≡ lans_wanting (facts v.domain) flow
   pub spelled : a.lines ≡ answer_lines o (is_whole v) (facts v.domain) v.summary printed flow listed
       a.examined explanation a.wanted
 
--- the ways that the lines of these flows tell, each once, in the order of first use
+-- the trees that the lines of these flows print, each once, in the order of first use
 abbrev pub trees_shown : AuditOptions → List FlowAnswer → List Tree
 trees_shown o = fold (λ printed a. shown_trees_with o printed a.examined a.wanted) []
 
--- one for each flow of the domain's topology, in order
+-- an answer for each flow of the domain's topology, in order
 pub record AreFlowAnswers (v : AuditedValue) (o : AuditOptions) (answers : List FlowAnswer) : Type 0 where
   pub count : length answers ≡ length v.domain.topology.flows
   pub each : (flow : ℕ) (a : FlowAnswer) → slice_get answers flow ≡ Some a
       → IsFlowAnswer v o (trees_shown o (take flow answers)) flow a
 
--- whether all flows are right, and nothing is left out
+-- whether all flows are right, and no router is excluded
 abbrev pub is_yes : AuditedValue → List FlowAnswer → Bool
 is_yes v answers = is_whole v && are_right answers
 
--- what is written of all flows, before and behind that
+-- the whole text: the lines before the flows, those of the flows, those after them, and the verdict
 abbrev pub audit_text : AuditedValue → AuditOptions → List FlowAnswer → List ℕ
 audit_text v o answers =
     begin_lines o (facts v.domain) (excluded v)
@@ -94,7 +96,7 @@ audit_text v o answers =
     ++ (end_lines o v.domain.topology v.summary (excluded v) (is_yes v answers) answers
     ++ verdict_line o.json (is_yes v answers)))
 
--- This is written, and whether all flows are right and nothing is left out.
+-- The text of the domain's audit, and whether all flows are right and no router is excluded.
 pub record IsAudited (v : AuditedValue) (o : AuditOptions) (all : Bool) (written : List ℕ)
     : Type 0 where
   pub answers : List FlowAnswer
@@ -102,8 +104,8 @@ pub record IsAudited (v : AuditedValue) (o : AuditOptions) (all : Bool) (written
   pub answer : all ≡ is_yes v answers
   pub spelled : written ≡ audit_text v o answers
 
--- The files mean a domain with these notes, where the routers of these names are left out, which are
--- all the domain's.
+-- The files mean a domain with these summaries, without the routers of these names, which the domain's
+-- topology has.
 pub record MeansAudited (o : AuditOptions) (names : List (List ℕ)) (files : List FileText)
     (v : AuditedValue) : Type 0 where
   pub means : FilesMeanDomain (files_with_exclusions names files) v.domain
@@ -111,27 +113,27 @@ pub record MeansAudited (o : AuditOptions) (names : List (List ℕ)) (files : Li
   pub summary : AreSummariesOf o.unlisted (files_with_exclusions names files) v.domain.topology v.summary
   pub without : v.without ≡ names
 
--- and this is written of it
+-- and this is the text of its audit
 abbrev pub IsAuditText : AuditOptions → (names : List (List ℕ)) → List FileText → Bool → List ℕ
     → Type 0
 IsAuditText o names files all written =
     MeansDomainWhere (MeansAudited o names) (λ v. IsAudited v o all written) files
 
--- of the domain's flows so many are right and wanted by no LAN
+-- the number of the domain's flows that are right and wanted by no LAN
 pub record HasUnwanted (v : AuditedValue) (o : AuditOptions) (unwanted : ℕ) : Type 0 where
   pub answers : List FlowAnswer
   pub are_answers : AreFlowAnswers v o answers
   pub counted : unwanted ≡ count is_unwanted answers
 
--- ---- what that says of the flows
+-- ---- what the text says of the flows
 
--- this begins what is said of a flow that isn't right, with whatever was found
+-- the lines of a flow that isn't right start with this, whatever the finding
 abbrev pub SaysNoCertificate : (json : Bool) → (flow : ℕ) → Flow → (lines : List ℕ) → Type 0
 SaysNoCertificate true flow f lines = (w : WrongFlow) × (lines ≡ line_of (wrong_data flow f w))
 SaysNoCertificate false flow f lines = (more : List ℕ) × (lines ≡ no_certificate_line f ++ more)
 
--- The lines say of a flow that it has a certificate, and which LANs want it, where it is right (where
--- faults alone are asked for nothing, if it is wanted), and else that it has none.
+-- The lines of a flow say that it has a certificate, and which LANs want it, if it is right (nothing, if
+-- it is wanted and only faults are asked for), and otherwise that it has none.
 pub record SaysFlowRight (v : AuditedValue) (o : AuditOptions) (flow : ℕ) (f : Flow) (lines : List ℕ)
     : Type 0 where
   pub right : IsRight (net_of v.domain flow) → (printed : List Tree) × (es : Tree)
@@ -139,8 +141,8 @@ pub record SaysFlowRight (v : AuditedValue) (o : AuditOptions) (flow : ℕ) (f :
       (lans_wanting (facts v.domain) flow))
   pub wrong : ¬ IsRight (net_of v.domain flow) → SaysNoCertificate o.json flow f lines
 
--- This was written of the domain: for each flow lines that say whether it is right, and last
--- whether all are, and nothing is left out.
+-- The text has for each flow lines that say whether it is right, and last whether all flows are right
+-- and no router is excluded.
 pub record WritesWhichAreRight (v : AuditedValue) (o : AuditOptions) (all : Bool) (written : List ℕ)
     : Type 0 where
   pub begin : List ℕ
@@ -154,15 +156,15 @@ pub record WritesWhichAreRight (v : AuditedValue) (o : AuditOptions) (all : Bool
   pub are_right : AreRight v.domain right
   pub answer : all ≡ (is_whole v && right)
 
--- the files mean a domain of which that was written
+-- the files mean a domain with such a text
 abbrev pub SaysWhichAreRight : AuditOptions → (names : List (List ℕ)) → List FileText → Bool
     → List ℕ → Type 0
 SaysWhichAreRight o names files all written =
     MeansDomainWhere (MeansAudited o names) (λ v. WritesWhichAreRight v o all written) files
 
--- The lines say yes to the flow with so many copies, or that no fault is known where routers are left
--- out, and so it is of the tables that were read: the flow is right, the checker accepts a list of so
--- many entries, and the headline holds with so many named.
+-- The lines say yes to the flow with a number of copies, or that no fault is known where routers are
+-- excluded. By the tables that were read this is true: the flow is right, the checker accepts a list
+-- with that number of entries, and the headline holds with that number of copies.
 pub record SaysYesOf (v : AuditedValue) (o : AuditOptions) (flow : ℕ) (f : Flow) (lines : List ℕ)
     : Type 0 where
   pub list : Tree
@@ -173,26 +175,26 @@ pub record SaysYesOf (v : AuditedValue) (o : AuditOptions) (flow : ℕ) (f : Flo
   pub spelled : lines ≡ right_flow_lines o (is_whole v) v.domain.topology printed flow f list
       (lans_wanting (facts v.domain) flow)
 
--- The lines say that the flow has no certificate, and what is found, and so it is: the flow isn't
--- right, and that is found by a run of its net: the travel of a packet with the told TTL. What
--- explains it is told of the flights that were made.
+-- The lines say that the flow has no certificate, and the finding, and this is true: the flow isn't
+-- right, and the finding is that of a run of its net, the travel of a packet with the printed TTL. The
+-- explanation is by the flights of the examination.
 pub record SaysWhatIsFound (v : AuditedValue) (o : AuditOptions) (flow : ℕ) (f : Flow)
     (lines : List ℕ) : Type 0 where
   pub ttl : ℕ
   pub travel : Travel
-  pub flown : ExaminedFlights
+  pub flights : ExaminedFlights
   pub explanation : Explanation
   pub wrong : ¬ IsRight (net_of v.domain flow)
   pub runs : IsFirstPickTravel v.domain flow ttl travel
   pub fault : FindsFault travel
   pub ttl_shown : IsTtlOfFault v.domain flow ttl
-  pub flies : HasExaminedFlights v.domain flow flown
-  pub explained : IsExplanation v.domain v.summary (excluded v) (is_whole v) flow flown
+  pub has_flights : HasExaminedFlights v.domain flow flights
+  pub explained : IsExplanation v.domain v.summary (excluded v) (is_whole v) flow flights
       explanation
   pub spelled : lines ≡ wrong_flow_lines o (facts v.domain) v.summary flow f ttl travel explanation
 
--- This is written of the domain: for each flow in order lines that say the one or the other of it,
--- and the line that says whether all are certified.
+-- The text has for each flow, in order, lines that truly say the one or the other, and last the line
+-- with the verdict.
 pub record WritesOfEach (v : AuditedValue) (o : AuditOptions) (all : Bool) (written : List ℕ)
     : Type 0 where
   pub begin : List ℕ
@@ -204,17 +206,17 @@ pub record WritesOfEach (v : AuditedValue) (o : AuditOptions) (all : Bool) (writ
       → SaysYesOf v o flow f ls ⊎ SaysWhatIsFound v o flow f ls
   pub spelled : written ≡ begin ++ (flat_map (λ ls. ls) lines ++ (end ++ verdict_line o.json all))
 
--- the files mean a domain of which that is written
+-- the files mean a domain with such a text
 abbrev pub SaysOfEach : AuditOptions → (names : List (List ℕ)) → List FileText → Bool → List ℕ
     → Type 0
 SaysOfEach o names files all written =
     MeansDomainWhere (MeansAudited o names) (λ v. WritesOfEach v o all written) files
 
--- ---- what is found with routers left out
+-- ---- what is found with routers excluded
 
--- The lines say what is found of the flow at a TTL from its own to 255. Where that is a second copy on
--- a LAN, or one that leaves, the flow isn't right either in the domain that these files mean with no
--- router left out, if they mean one.
+-- The lines give the finding of the flow at a TTL from its own to 255. If that is a second copy on a LAN,
+-- or a copy that leaves the domain, the flow isn't right either in the domain that the files mean without
+-- any exclusion, if they mean one.
 pub record IsFoundInWhole (v : AuditedValue) (o : AuditOptions) (files : List FileText) (flow : ℕ)
     (f : Flow) (lines : List ℕ) : Type 0 where
   pub ttl : ℕ
@@ -227,7 +229,7 @@ pub record IsFoundInWhole (v : AuditedValue) (o : AuditOptions) (files : List Fi
   pub wrong : IsSecondCopyOrStray (finding_value travel.finding) → (whole : DomainValue)
       → FilesMeanDomain files whole → ¬ IsRight (net_of whole flow)
 
--- This is written of the domain: for each flow in order lines that say yes to it, or that.
+-- The text has for each flow, in order, lines that say yes to it, or such a finding.
 pub record WritesOfEachInWhole (v : AuditedValue) (o : AuditOptions) (files : List FileText) (all : Bool)
     (written : List ℕ) : Type 0 where
   pub begin : List ℕ
@@ -239,7 +241,7 @@ pub record WritesOfEachInWhole (v : AuditedValue) (o : AuditOptions) (files : Li
       → SaysYesOf v o flow f ls ⊎ IsFoundInWhole v o files flow f ls
   pub spelled : written ≡ begin ++ (flat_map (λ ls. ls) lines ++ (end ++ verdict_line o.json all))
 
--- the files mean a domain, without these routers, of which that is written
+-- the files mean a domain, without these routers, with such a text
 abbrev pub AreFoundInWhole : AuditOptions → (names : List (List ℕ)) → List FileText → Bool
     → List ℕ → Type 0
 AreFoundInWhole o names files all written =
@@ -247,13 +249,13 @@ AreFoundInWhole o names files all written =
 
 -- ---- the headline
 
--- Each of the domain's flows has a list for which the headline holds.
+-- Each of the domain's flows has a list of entries for which the headline holds.
 pub record KeepsHeadlineByLists (d : DomainValue) : Type 0 where
   pub examined : List Examined
   pub are_examined : AreExamined d examined
   pub keeps : KeepsHeadline d (certified_lists examined)
 
--- the files mean a domain of which that holds
+-- the files mean a domain of which this holds
 abbrev pub FilesKeepHeadline : List FileText → Type 0
 FilesKeepHeadline = MeansDomainWhere FilesMeanDomain KeepsHeadlineByLists
 
@@ -263,7 +265,21 @@ FilesKeepHeadline = MeansDomainWhere FilesMeanDomain KeepsHeadlineByLists
 abbrev pub yes_object : List ℕ
 yes_object = codes "{\"verdict\":\"yes\"}"
 
--- one of both was written at a line's start
+-- the words that begin the line of a yes: those of text, or the object of JSON
+abbrev pub AreYesWords : (words : List ℕ) → Type 0
+AreYesWords words = (words ≡ codes "verdict yes") ⊎ (words ≡ yes_object)
+
+abbrev pub yes_words : (json : Bool) → List ℕ
+yes_words json = if json then yes_object else codes "verdict yes"
+
+-- Where the words of a yes start a line of the text, the answer is yes, the words are those of this form,
+-- and the line is the last one.
+abbrev pub IsYesLineLast : (json all : Bool) → (written : List ℕ) → Type 0
+IsYesLineLast json all written = (words front rest : List ℕ) → IsLineStart front
+    → AreYesWords words → written ≡ front ++ (words ++ rest)
+    → (all ≡ true) × (words ≡ yes_words json) × (rest ≡ codes "\n")
+
+-- the words of a yes, in text or in JSON, were written at the start of a line
 abbrev pub WroteYesLine : Option (List ℕ) → Option (List ℕ) → Type 0
 WroteYesLine old new = WroteYes old new ⊎ WroteAtStart yes_object old new
 

@@ -1,5 +1,5 @@
--- What `mcaudit audit` writes of a flow as text: that it is right and which LANs want it, or what is
--- found, what explains that, and where that is asked for the travel that shows it.
+-- The lines of a flow in the text of `mcaudit audit`: that it is right and which LANs want it, or the
+-- finding, what explains it, and with the option the travel that shows it.
 use Rattle.std.specs.Prelude.{ℕ, Bool, true, false, List, [], ◌++◌, Option, Some, None, codes, decimal}
 use Rattle.mc_tables.specs.Summary.{SummaryValue}
 use Rattle.mc_topology.specs.declared.flow.Flow.{Flow}
@@ -18,7 +18,7 @@ use Rattle.mc_run.specs.VerdictText.{flow_line, flow_words}
 
 -- ---- a flow that is right
 
--- the checker's yes with so many copies, where the whole domain is known, or else that no fault is known
+-- the checker's yes with the number of copies; without the whole domain, that no fault is known
 abbrev pub right_line : (whole : Bool) → TopologyValue → Flow → (copies : ℕ) → List ℕ
 right_line true t f copies = flow_line t f (Yes copies)
 right_line false t f copies =
@@ -31,8 +31,8 @@ right_lines whole t f copies wanted = right_line whole t f copies ++ wanted_text
 
 -- ---- a flow that isn't
 
--- What explains a finding: the lines on it, the search where a LAN is missed at TTL 255, and which
--- LANs are missed besides.
+-- The explanation of a finding: its causes, the search if a LAN is missed at TTL 255, and the other
+-- missed LANs.
 pub record Explanation : Type 0 where
   pub printed : List Cause
   pub search : Option LanSearch
@@ -51,12 +51,12 @@ explanation_lines d summary number f x =
     causes_text d summary number f x.printed
     ++ (searched_lines d summary number f x.search ++ also_missed_text d.topology x.also)
 
--- the events of a travel, where travels are to be shown
+-- the events of a travel, if travels are to be printed
 abbrev pub events_if_shown : (travels : Bool) → TopologyValue → Travel → List ℕ
 events_if_shown true t travel = event_lines t travel.events.items
 events_if_shown false t travel = []
 
--- what is found, what explains that, and the travel that shows it
+-- the finding, what explains it, and with the option the travel that shows it
 abbrev pub wrong_lines : (travels : Bool) → DomainFacts → List SummaryValue → (number : ℕ) → Flow
     → (ttl : ℕ) → Travel → Explanation → List ℕ
 wrong_lines travels d summary number f ttl travel x =

@@ -1,5 +1,4 @@
--- Why a file is refused for what stands in it, in words: where its first fault is, and what is wrong
--- there.
+-- The text of a file's first fault: its place in the file, and what is wrong there.
 use Rattle.std.specs.Prelude.{ℕ, ◌==◌, List, ◌++◌, Option, Some, None, if◌then◌else◌, codes, decimal}
 use Rattle.mc_igmp.specs.declared.fault.ListFault.{ListFault}
 use Rattle.mc_igmp.specs.declared.fault.ListFaultKind.{ListFaultKind}
@@ -82,11 +81,11 @@ topology_fault_text fault =
     section_text fault.section
     ++ (codes " " ++ (decimal fault.number ++ (codes ": " ++ topology_word fault.kind)))
 
--- the most bytes of a file are those of a bundle's part
+-- the greatest size of a file is that of a bundle's part
 abbrev pub too_large_text : List ℕ
 too_large_text = codes "larger than " ++ (decimal 16777216 ++ codes " bytes")
 
--- A file's first fault. Of a bundle's faults a file has one alone, that it is too large for a part.
+-- A file's first fault. Of a bundle's faults, a file can only have one: that it is too large for a part.
 abbrev pub fault_text : InputFault → List ℕ
 fault_text (Topology fault) = topology_fault_text fault
 fault_text (Vif name fault) = table_fault_text fault
@@ -96,7 +95,7 @@ fault_text (Bundle fault) = too_large_text
 fault_text (Parts place) = too_large_text
 fault_text Memory = too_large_text
 
--- ---- the line that it stands in
+-- ---- the line of a fault
 
 -- a line by its number, counted from 1; 0 means none
 abbrev pub line_or_none : ℕ → Option ℕ

@@ -1,4 +1,4 @@
--- Which faults each run answers, whatever its devices give or take.
+-- The faults that each run can return, whatever its devices do.
 use Rattle.std.specs.Prelude.{◌≡◌, ℕ, ⊤}
 use Rattle.mc_text.specs.declared.bundle.bundle_fault.BundleFault.TheVariants as bundle
 use Rattle.mc_run.specs.declared.fault.RunFault.{RunFault}
@@ -7,7 +7,7 @@ use Rattle.mc_run.specs.declared.fault.RunFault.TheVariants.{PartReports, Report
 use Rattle.mc_run.specs.declared.fault.RunFault.TheVariants.{NoSuchFlow, NoSuchRouter, Read, Write}
 use Rattle.mc_run.specs.declared.fault.RunFault.TheVariants.{Memory}
 
--- `wants`, of one report list
+-- `wants`, for one report list
 abbrev pub IsFaultOfWants : RunFault → Type 0
 IsFaultOfWants (Reports fault) = ⊤
 IsFaultOfWants Read = ⊤
@@ -15,7 +15,7 @@ IsFaultOfWants Write = ⊤
 IsFaultOfWants Memory = ⊤
 IsFaultOfWants _ = ⊥
 
--- `make`, of a bundle without a certificate
+-- `make`, for a bundle without a certificate
 abbrev pub IsFaultOfMake : RunFault → Type 0
 IsFaultOfMake (Bundle fault) = ⊤
 IsFaultOfMake (Parts place) = ⊤
@@ -28,18 +28,18 @@ IsFaultOfMake Write = ⊤
 IsFaultOfMake Memory = ⊤
 IsFaultOfMake _ = ⊥
 
--- `check`, of a bundle with one
+-- `check`, for a bundle with a certificate
 abbrev pub IsFaultOfCheck : RunFault → Type 0
 IsFaultOfCheck (Certificate fault) = ⊤
 IsFaultOfCheck fault = IsFaultOfMake fault
 
--- `replay`, of a bundle without one, and of this flow
+-- `replay`, for a bundle without a certificate, and for this flow
 abbrev pub IsFaultOfReplay : (flow : ℕ) → RunFault → Type 0
 IsFaultOfReplay flow (NoSuchFlow number) = number ≡ flow
 IsFaultOfReplay flow fault = IsFaultOfMake fault
 
--- `pack`, of files of which the topology alone is judged. One that is too large for a part, or all
--- that are too large for a bundle, are told of the bundle.
+-- `pack`, for files of which only the topology is checked. A file that is too large for a part, and
+-- files that are too large for a bundle, are a fault of the bundle.
 abbrev pub IsFaultOfPack : RunFault → Type 0
 IsFaultOfPack (Bundle bundle.TooLarge) = ⊤
 IsFaultOfPack (Topology fault) = ⊤
@@ -48,8 +48,8 @@ IsFaultOfPack Write = ⊤
 IsFaultOfPack Memory = ⊤
 IsFaultOfPack _ = ⊥
 
--- `audit`, of files that are each judged, and of routers to be left out. One that is too large is told
--- of the bundle that it would be a part of.
+-- `audit`, for files that are all checked, and for the names of excluded routers. A file that is too
+-- large is a fault of the bundle that it would be a part of.
 abbrev pub IsFaultOfAudit : RunFault → Type 0
 IsFaultOfAudit (Bundle bundle.TooLarge) = ⊤
 IsFaultOfAudit (Topology fault) = ⊤

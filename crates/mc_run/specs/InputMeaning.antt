@@ -1,5 +1,5 @@
--- What a run's input means beside a domain, the lists of a certificate for its flows; and why a
--- bundle, or a folder's files, are refused.
+-- What a bundle with a certificate means: a domain, and a list of entries for each of its flows. And why
+-- a bundle, or a folder's files, are refused.
 use Rattle.std.specs.Prelude.{◌≡◌, ℕ, Bool, IsTrue, List, Some, Err, ⊤}
 use Rattle.mc_forward.specs.Domains.{DomainValue}
 use Rattle.mc_forward.specs.ListedTables.{HaveSameFacts}
@@ -22,8 +22,8 @@ use Rattle.mc_run.specs.RunFault.{from_without_fault}
 
 -- ---- what it means
 
--- The bundle's parts tell the domain, and its certificate a list of entries for each of the
--- domain's flows.
+-- The bundle means the domain, and its certificate denotes a list of entries for each of the domain's
+-- flows.
 pub record MeansCertified (text : List ℕ) (d : DomainValue) (lists : List Tree) : Type 0 where
   pub certificate : List ℕ
   pub domain : MeansDomain text (Some certificate) d
@@ -34,26 +34,26 @@ pub record CertifiedDomain : Type 0 where
   pub domain : DomainValue
   pub lists : List Tree
 
--- and that a bundle means them
+-- and a bundle that means them
 abbrev pub MeansWithLists : List ℕ → CertifiedDomain → Type 0
 MeansWithLists text c = MeansCertified text c.domain c.lists
 
--- It means a domain with these lists that says of each flow what this one says.
+-- The text means a domain with these lists, and this domain has the same facts of each flow.
 abbrev pub MeansListedWith : List ℕ → DomainValue → List Tree → Type 0
 MeansListedWith text d lists =
     (whole : DomainValue) × MeansCertified text whole lists × HaveSameFacts whole d
 
--- ---- why it is refused
+-- ---- why an input is refused
 
--- All other parts are well, and this is the first fault of the certificate.
+-- All other parts are valid, and this is the first fault of the certificate.
 abbrev pub HasBadCertificate : List ℕ → CertFault → Type 0
 HasBadCertificate text fault =
     (certificate : List ℕ) × (d : DomainValue) × MeansDomain text (Some certificate) d
     × (parse_certificate d.topology certificate ≡ Err fault)
 
--- A run that reads a bundle, with a certificate or without, answers this of the text: the bundle's
--- first fault, the parts in the order in which they are judged, and the certificate last. What
--- devices do and lack of memory say nothing of a text.
+-- The fault of a run that reads a bundle, with or without a certificate, is the bundle's first one: the
+-- parts are checked in their order, and the certificate last. A device's fault and lack of memory say
+-- nothing about the text.
 abbrev pub IsRefusedFor : (certified : Bool) → List ℕ → RunFault → Type 0
 IsRefusedFor certified text (Bundle fault) = input_of_bundle certified text ≡ Err (input.Bundle fault)
 IsRefusedFor certified text (Parts place) = input_of_bundle certified text ≡ Err (input.Parts place)
@@ -64,7 +64,7 @@ IsRefusedFor certified text (Cache part fault) = input_of_bundle certified text
 IsRefusedFor certified text (PartReports part fault) =
     input_of_bundle certified text ≡ Err (input.Reports part fault)
 IsRefusedFor certified text (Certificate fault) = IsTrue certified × HasBadCertificate text fault
--- no report list stands alone here, no flow is asked for, and no router is left out
+-- these runs read no single report list, ask for no flow and exclude no router
 IsRefusedFor certified text (Reports fault) = ⊥
 IsRefusedFor certified text (NoSuchFlow number) = ⊥
 IsRefusedFor certified text (NoSuchRouter place) = ⊥
@@ -72,12 +72,13 @@ IsRefusedFor certified text Read = ⊤
 IsRefusedFor certified text Write = ⊤
 IsRefusedFor certified text Memory = ⊤
 
--- A run on the files without the routers of these names answers this of them: the topology's fault, the
--- first name that no router has, or the first fault of the rest, in the order in which they are read.
--- What devices do and lack of memory say nothing of the files.
+-- The fault of a run on the files without the routers of these names is the topology's, the first name
+-- that no router has, or the first fault of the other files, in the order in which they are read. A
+-- device's fault and lack of memory say nothing about the files.
 abbrev pub AreRefusedWithout : (names : List (List ℕ)) → List FileText → RunFault → Type 0
 AreRefusedWithout names files Read = ⊤
 AreRefusedWithout names files Write = ⊤
 AreRefusedWithout names files Memory = ⊤
 AreRefusedWithout names files fault =
-    (cause : WithoutFault) × (input_of_files_without names files ≡ Err cause) × (fault ≡ from_without_fault cause)
+    (cause : WithoutFault) × (input_of_files_without names files ≡ Err cause)
+    × (fault ≡ from_without_fault cause)

@@ -39,7 +39,7 @@ pub use Rattle.mc_files.specs.Files
 pub use Rattle.mc_files.specs.Packing
 pub use Rattle.mc_files.specs.PackReading
 pub use Rattle.mc_files.specs.PackRun
-pub use Rattle.mc_files.specs.UnreadText
+pub use Rattle.mc_files.specs.FilePart
 pub use Rattle.mc_forward.specs.Domains
 pub use Rattle.mc_forward.specs.Assembling
 pub use Rattle.mc_cert.specs.Certificate

@@ -1,5 +1,5 @@
--- The front of a line of a text, as much of it as is shown, and what is found of it in a text that
--- comes in pieces.
+-- The front of a line of a text, as much of it as is printed, and how it is read from a text that comes
+-- in pieces.
 use Rattle.std.specs.Prelude.{◌≡◌, ℕ, ◌-◌, ◌==◌, Bool, List, [], ◌++◌, take, if◌then◌else◌}
 use Rattle.std.specs.Prelude.{slice_index_or}
 use Rattle.std.specs.List.{slice_split}
@@ -7,12 +7,12 @@ use Rattle.mc_run.specs.declared.line_front.LineFront.{LineFront}
 
 -- ---- the front
 
--- the bytes of the line behind so many line feeds, without the one that ends it; none where there is
--- no such line
+-- the bytes of the line after this number of line feeds, without the line feed that ends it; none if
+-- there is no such line
 abbrev pub line_after_feeds : (feeds : ℕ) → List ℕ → List ℕ
 line_after_feeds feeds text = slice_index_or (slice_split (λ b. b == 10) text) feeds []
 
--- at most 100 bytes are shown
+-- at most 100 bytes are printed
 abbrev pub first_100_bytes : List ℕ → List ℕ
 first_100_bytes bytes = take 100 bytes
 
@@ -20,14 +20,15 @@ first_100_bytes bytes = take 100 bytes
 abbrev pub line_front : (line : ℕ) → List ℕ → List ℕ
 line_front line text = first_100_bytes (line_after_feeds (line - 1) text)
 
--- ---- as it is looked for
+-- ---- reading it in pieces
 
--- what is found in the end if these bytes come
+-- the front in the end, if these bytes come
 abbrev pub front_after_more : LineFront → (more : List ℕ) → List ℕ
 front_after_more s more = first_100_bytes (s.front.items ++ line_after_feeds s.before more)
 
--- A piece of the text came: the front is found, whatever comes now, or what comes now decides as it
--- would have with the piece before it.
+-- A piece of the text came. The front is complete, whatever comes next, or it will be what the rest
+-- makes of the new state.
 abbrev pub TakesPiece : (old new : LineFront) → (piece : List ℕ) → (found : Bool) → Type 0
 TakesPiece old new piece found =
-    (more : List ℕ) → front_after_more old (piece ++ more) ≡ (if found then new.front.items else front_after_more new more)
+    (more : List ℕ) → front_after_more old (piece ++ more)
+    ≡ (if found then new.front.items else front_after_more new more)

@@ -1,19 +1,22 @@
--- What `mcaudit make` answers and writes.
+-- The answer and the text of `mcaudit make`.
 use Rattle.std.specs.Prelude.{◌≡◌, ◌↔◌, ℕ, ◌<◌, Bool, true, false, All, IsTrue, List, [], ◌∷◌, ◌++◌}
 use Rattle.std.specs.Prelude.{codes, decimal}
 use Rattle.std.specs.Prelude.{length, map, slice_get, Some}
 use Rattle.std.specs.List.{list_all}
 use Rattle.std.specs.List.Sorted.{IsStrictlyIncreasing}
+use Rattle.mc_text.specs.Bundle.{IsBundle, PartText}
 use Rattle.mc_topology.specs.declared.flow.Flow.{Flow}
 use Rattle.mc_topology.specs.Topology.{TopologyValue}
 use Rattle.mc_theory.specs.Certificates.{IsAccepted, IsRight}
 use Rattle.mc_forward.specs.Domains.{DomainValue, net_of}
+use Rattle.mc_input.specs.Input.{with_certificate}
 use Rattle.mc_input.specs.Meaning.{MeansUncertifiedDomain, MeansDomainWhere}
 use Rattle.mc_cert.specs.Certificate.{Tree, IsEntryOf, IsWritableTree}
 use Rattle.mc_cert.specs.CertificateText.{certificate_text}
 use Rattle.mc_replay.specs.TravelText.{finding_text}
 use Rattle.mc_replay.specs.declared.finding.Finding.{Finding}
-use Rattle.mc_maker.specs.Examined.{FindsFault, IfCertified, IfFound, AreEntriesOfCleanTravel, IsFirstPickTravel}
+use Rattle.mc_maker.specs.Examined.{FindsFault, IfCertified, IfFound, AreEntriesOfCleanTravel}
+use Rattle.mc_maker.specs.Examined.{IsFirstPickTravel}
 use Rattle.mc_maker.specs.Examined.{IsTtlOfFault, is_certified}
 use Rattle.mc_maker.specs.declared.examination.Examined.{Examined}
 use Rattle.mc_maker.specs.declared.examination.Examined.TheVariants.{Certified, Found}
@@ -21,24 +24,24 @@ use Rattle.mc_run.specs.VerdictText.{flow_words}
 
 -- ---- examinations
 
--- What an examination says of a flow. Where it certifies the flow: its entries are accepted, by
--- ascending numbers of their LANs, of the topology, such as a certificate can hold, and those of
--- the copies that the travel at TTL 255 carried.
+-- What the result of examining a flow means. If the flow is certified, its entries are accepted, by
+-- ascending numbers of their LANs, of the topology, which a certificate can hold, and those of the
+-- copies that the travel at TTL 255 carried.
 pub record IsExamined (d : DomainValue) (flow : ℕ) (x : Examined) : Type 0 where
   pub accepted : IfCertified (IsAccepted (net_of d flow)) x
   pub ascending : IfCertified (λ es. IsStrictlyIncreasing (map (λ e. e.lan) es)) x
   pub listed : IfCertified (All (IsEntryOf d.topology)) x
-  pub list : IfCertified IsWritableTree x
+  pub writable : IfCertified IsWritableTree x
   pub made : IfCertified (AreEntriesOfCleanTravel d flow) x
-  -- Else: the travel at its TTL in which the first waiting copy is handled each time, which finds a
-  -- fault; the TTL is 255 if a fault is found there, and else the flow's.
+  -- Otherwise the travel is the one at its TTL in which the first waiting copy is handled each time, and
+  -- it finds a fault; the TTL is 255 if a fault is found there, and otherwise the flow's.
   pub travel : IfFound (IsFirstPickTravel d flow) x
   pub fault : IfFound (λ ttl travel. FindsFault travel) x
   pub ttl : IfFound (λ ttl travel. IsTtlOfFault d flow ttl) x
   -- The flow is certified exactly if it is right.
   pub right : IsTrue (is_certified x) ↔ IsRight (net_of d flow)
 
--- one for each flow of the domain's topology, in order
+-- a result for each flow of the domain's topology, in order
 pub record AreExamined (d : DomainValue) (xs : List Examined) : Type 0 where
   pub count : length xs ≡ length d.topology.flows
   pub each : (flow : ℕ) (x : Examined) → slice_get xs flow ≡ Some x → IsExamined d flow x
@@ -51,7 +54,7 @@ certified_lists [] = []
 certified_lists (Certified entries ∷ xs) = entries.items ∷ certified_lists xs
 certified_lists (Found ttl travel ∷ xs) = certified_lists xs
 
--- the two lines of a flow for which something is found
+-- the two lines of a flow for which a fault is found
 abbrev pub no_certificate_line : Flow → List ℕ
 no_certificate_line f = flow_words f ++ codes " no certificate\n"
 
@@ -76,7 +79,7 @@ found_lines_of_flows t _ _ = []
 abbrev pub are_certified : List Examined → Bool
 are_certified xs = list_all is_certified xs
 
--- the certificate with a line feed where every flow is certified, and else the lines
+-- the certificate with a line feed if every flow is certified, and otherwise the lines
 abbrev pub made_text : (certified : Bool) → TopologyValue → List Examined → List ℕ
 made_text true t xs = certificate_text t (certified_lists xs) ++ codes "\n"
 made_text false t xs = found_lines_of_flows t t.flows xs
@@ -90,24 +93,29 @@ pub record AreMadeListsAndLines (d : DomainValue) (lists : List Tree) (lines : L
 
 -- ---- answers
 
--- What is written of the examinations of a domain's flows, and whether that is a certificate.
+-- The text for a domain, by the examinations of its flows, and whether the text is a certificate.
 pub record IsMakeOutput (d : DomainValue) (certified : Bool) (written : List ℕ) : Type 0 where
   pub examined : List Examined
   pub are_examined : AreExamined d examined
   pub answer : certified ≡ are_certified examined
   pub spelled : written ≡ made_text certified d.topology examined
 
--- The text means a domain, and this is what is written of its flows' examinations, and whether that
--- is a certificate.
+-- The text means a domain, for which this is written; and whether that is a certificate.
 abbrev pub IsMadeText : List ℕ → Bool → List ℕ → Type 0
 IsMadeText text certified written =
     MeansDomainWhere MeansUncertifiedDomain (λ d. IsMakeOutput d certified written) text
 
--- this says whether every flow that the domain's topology lists is right
+-- the fact holds for each bundle that has, as one more part, the certificate that is made of the others
+abbrev pub ForEachBundleWithMadeCertificate : ((bundle : List ℕ) → Type 0) → Type 0
+ForEachBundleWithMadeCertificate P = (text written bundle : List ℕ) (parts : List PartText)
+    → IsMadeText text true written → IsBundle text parts → IsBundle bundle (with_certificate parts written)
+    → P bundle
+
+-- the answer is whether every flow that the domain's topology lists is right
 abbrev pub AreRight : DomainValue → Bool → Type 0
 AreRight d all =
     IsTrue all ↔ ((flow : ℕ) → flow < length d.topology.flows → IsRight (net_of d flow))
 
--- the text means a domain of which this says so
+-- the text means a domain for which that is the answer
 abbrev pub SaysAllRight : List ℕ → Bool → Type 0
 SaysAllRight text all = MeansDomainWhere MeansUncertifiedDomain (λ d. AreRight d all) text

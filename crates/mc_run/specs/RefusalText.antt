@@ -1,5 +1,5 @@
--- What is printed of the files of a folder that are refused: a line for each, with its first fault and
--- the front of the line that the fault stands in.
+-- What is printed of the refused files of a folder: a line for each, with its first fault and the front
+-- of the line that has the fault.
 use Rattle.std.specs.Prelude.{◌≡◌, ℕ, zero, suc, ◌+◌, ◌-◌, ◌/◌, ◌%◌, ◌==◌, ◌≤◌, ◌&&◌, not, nat_le, Bool}
 use Rattle.std.specs.Prelude.{List, [], ◌∷◌, ◌++◌, length, take, flat_map, map, codes, decimal}
 use Rattle.std.specs.Prelude.{Option, Some, None, IfSome, unwrap_or, Result, Ok, Err}
@@ -7,8 +7,9 @@ use Rattle.std.specs.Prelude.{if◌then◌else◌, string_bytes}
 use Rattle.std.specs.Io.KnownBytes.{Appends}
 use Rattle.mc_text.specs.Device.{AppendsProperPrefix}
 use Rattle.mc_files.specs.Files.{FileText, file_named}
-use Rattle.mc_files.specs.UnreadText.{unread_text}
-use Rattle.mc_input.specs.RefusedFiles.{AreUnreadFilesMissing, AreRefusedFiles, saturating_failures, refused_files_of, as_judged_file}
+use Rattle.mc_files.specs.FilePart.{unread_text}
+use Rattle.mc_input.specs.RefusedFiles.{AreUnreadFilesMissing, AreRefusedFiles, saturating_failures}
+use Rattle.mc_input.specs.RefusedFiles.{refused_files_of, as_judged_file}
 use Rattle.mc_input.specs.RefusedFiles.{unread_count}
 use Rattle.mc_input.specs.declared.each_file.RefusedFile.{RefusedFile}
 use Rattle.mc_input.specs.declared.each_file.Refusal.{Refusal}
@@ -21,11 +22,11 @@ use Rattle.mc_run.specs.declared.fault.RunFault.TheVariants.{Memory, Write}
 
 -- ---- the front of a line
 
--- a byte that stands between quotes as it is: from 0x20 to 0x7e, but for the quote and the backslash
+-- a byte that is printed between quotes unescaped: 0x20 to 0x7e, except the quote and the backslash
 abbrev pub is_unescaped : ℕ → Bool
 is_unescaped b = ((nat_le 0x20 b && nat_le b 0x7e) && not (b == 0x22)) && not (b == 0x5c)
 
--- any other is written `\xhh`
+-- a byte between quotes; one that is escaped prints as `\xhh`
 abbrev pub quoted_byte : ℕ → List ℕ
 quoted_byte b =
     if is_unescaped b
@@ -35,21 +36,22 @@ quoted_byte b =
 abbrev pub quoted : List ℕ → List ℕ
 quoted bytes = flat_map quoted_byte bytes
 
--- This is the front of the line in the file that a source has by this name, as far as a part of a
--- bundle may go. Of a source that doesn't tell its files only how much is shown is known.
+-- The front of the line in the source's file with this name, within the greatest size of a bundle's
+-- part. Of a source with unknown contents, only its greatest length is known.
 pub record IsFrontInFile (contents : Option (List FileText)) (name : List ℕ) (line : ℕ) (front : List ℕ)
     : Type 0 where
   pub few : length front ≤ 100
   pub known : (files : List FileText) → contents ≡ Some files →
-      (bytes : List ℕ) × (file_named files name ≡ Some bytes) × (front ≡ line_front line (take 16777216 bytes))
+      (bytes : List ℕ) × (file_named files name ≡ Some bytes)
+      × (front ≡ line_front line (take 16777216 bytes))
 
--- how many calls of a source fail where it gives this front, or none
+-- how many calls of a source fail where it gives this front, or gives none
 abbrev pub lost_calls : Option (List ℕ) → ℕ
 lost_calls (Some front) = 0
 lost_calls None = 1
 
--- What stands behind a fault's words: nothing where the fault is in no line, else the quoted front of
--- that line, which is empty where the source fails to give the file once more.
+-- What follows a fault's words: nothing if the fault is in no line, else the quoted front of the line,
+-- which is empty if the source fails to give the file again.
 abbrev pub IsFrontText : Option (List FileText) → (name : List ℕ) → (line : Option ℕ) → (lost : ℕ)
     → (text : List ℕ) → Type 0
 IsFrontText contents name None lost text = (lost ≡ 0) × (text ≡ [])
@@ -59,8 +61,7 @@ IsFrontText contents name (Some line) lost text =
 
 -- ---- the lines
 
--- Why a file is refused, in words. What the system says of a file that it doesn't open is said in its
--- own words.
+-- Why a file is refused, in words. For a file that isn't opened, these are the system's own words.
 abbrev pub IsRefusalReason : Option (List FileText) → (name : List ℕ) → Refusal → (lost : ℕ)
     → (words : List ℕ) → Type 0
 IsRefusalReason contents name (Unread unread) lost words =
@@ -69,47 +70,57 @@ IsRefusalReason contents name (Fault fault) lost words =
     (front : List ℕ) × IsFrontText contents name (line_of_fault fault) lost front
     × (words ≡ fault_text fault ++ front)
 
--- the line of a file that is refused, with how many calls of the source failed meanwhile
+-- why this file is refused
+abbrev pub IsReasonOfFile : Option (List FileText) → RefusedFile → (lost : ℕ) → (words : List ℕ) → Type 0
+IsReasonOfFile contents file lost words =
+    IsRefusalReason contents (string_bytes file.name) file.refusal lost words
+
+-- the line of a refused file, with the number of the source's calls that failed for it
 abbrev pub IsRefusedFileLine : Option (List FileText) → RefusedFile → (lost : ℕ) → (line : List ℕ) → Type 0
 IsRefusedFileLine contents file lost line =
-    (words : List ℕ) × IsRefusalReason contents (string_bytes file.name) file.refusal lost words
+    (words : List ℕ) × IsReasonOfFile contents file lost words
     × (line ≡ codes "  " ++ (string_bytes file.name ++ (codes ": " ++ (words ++ codes "\n"))))
 
 -- the lines of files, in order
-abbrev pub AreRefusedFileLines : Option (List FileText) → List RefusedFile → (lost : ℕ) → (text : List ℕ) → Type 0
+abbrev pub AreRefusedFileLines : Option (List FileText) → List RefusedFile → (lost : ℕ)
+    → (text : List ℕ) → Type 0
 AreRefusedFileLines contents [] lost text = (lost ≡ 0) × (text ≡ [])
 AreRefusedFileLines contents (file ∷ files) lost text =
-    (one more : ℕ) × (line rest : List ℕ) × IsRefusedFileLine contents file one line × AreRefusedFileLines contents files more rest
+    (one more : ℕ) × (line rest : List ℕ) × IsRefusedFileLine contents file one line
+    × AreRefusedFileLines contents files more rest
     × (lost ≡ one + more) × (text ≡ line ++ rest)
 
--- how many files more are refused
+-- the line with the number of further refused files, if there are any
 abbrev pub more_line : ℕ → List ℕ
 more_line zero = []
 more_line (suc more) = codes "  and " ++ (decimal (suc more) ++ codes " more\n")
 
--- the lines of the first 50 files, and how many more there are
+-- the lines of the first 50 files, and the line with the number of further ones
 abbrev pub AreFirst50Lines : Option (List FileText) → List RefusedFile → (lost : ℕ) → (text : List ℕ)
     → Type 0
 AreFirst50Lines contents files lost text =
     (lines : List ℕ) × AreRefusedFileLines contents (take 50 files) lost lines
     × (text ≡ lines ++ more_line (length files - 50))
 
--- The text: the lines of the files that are refused, as the source gives the files. The source failed
--- at each that can't be read, and wherever it didn't give the front of a line.
+-- The text of the refused files: their lines, by the files that the source gives. The source's failures
+-- are one for each file that can't be read, and one for each front of a line that it didn't give.
 pub record IsRefusalText (names : List (List ℕ)) (contents : Option (List FileText)) (before after : ℕ)
     (text : List ℕ) : Type 0 where
   pub refused : List RefusedFile
-  pub listed : (files : List FileText) → contents ≡ Some files → AreRefusedFiles names files (map as_judged_file refused)
-  pub exact : (files : List FileText) → contents ≡ Some files → AreUnreadFilesMissing files (map as_judged_file refused)
+  pub listed : (files : List FileText) → contents ≡ Some files
+      → AreRefusedFiles names files (map as_judged_file refused)
+  pub exact : (files : List FileText) → contents ≡ Some files
+      → AreUnreadFilesMissing files (map as_judged_file refused)
       → map as_judged_file refused ≡ refused_files_of names files
   pub lost : ℕ
   pub lines : AreFirst50Lines contents refused lost text
   pub failures : after ≡ saturating_failures (unread_count (map as_judged_file refused) + lost) before
 
--- ---- as it is written
+-- ---- writing the text
 
--- What was put behind a text is right for so many failures of a source's calls as came meanwhile.
-pub record AppendsWithFailures (IsRight : (lost : ℕ) → (added : List ℕ) → Type 0) (old new : List ℕ) (before after : ℕ)
+-- The text that was appended is right for the number of the source's calls that failed meanwhile.
+pub record AppendsWithFailures (IsRight : (lost : ℕ) → (added : List ℕ) → Type 0) (old new : List ℕ)
+    (before after : ℕ)
     : Type 0 where
   pub lost : ℕ
   pub added : List ℕ
@@ -117,8 +128,8 @@ pub record AppendsWithFailures (IsRight : (lost : ℕ) → (added : List ℕ) �
   pub whole : new ≡ old ++ added
   pub failures : after ≡ saturating_failures lost before
 
--- What becomes of the text: it is written whole, or a part of it where the output fails. Where memory
--- runs out nothing is written.
+-- What becomes of the text: it is written whole, or a part of it if the output fails, or nothing if
+-- memory runs out.
 abbrev pub IsTextWritten : (IsText : List ℕ → Type 0) → Result (Unit {0}) RunFault → Option (List ℕ)
     → Option (List ℕ) → Type 0
 IsTextWritten IsText (Ok done) old new = (text : List ℕ) × IsText text × Appends old new text

@@ -1,4 +1,4 @@
--- What `mcaudit replay` answers and writes.
+-- The answer and the text of `mcaudit replay`.
 use Rattle.std.specs.Prelude.{◌≡◌, ℕ, ◌+◌, ◌<◌, ◌⊎◌, Bool, true, false, List, [], ◌∷◌, ◌++◌, codes}
 use Rattle.std.specs.Prelude.{decimal, length}
 use Rattle.std.specs.Prelude.{Some, slice_get}
@@ -52,9 +52,9 @@ is_clean (Missed lan) = false
 
 -- ---- answers
 
--- The domain's topology lists the flow with this number, counted from 1; and this is the text of
--- the travel of a packet of that flow with this TTL, by the picker's choices, and whether it is
--- clean.
+-- The domain's topology lists the flow with this number, counted from 1, and this is the text of the
+-- travel of a packet of that flow with this TTL, by the picker's choices; and whether its finding is
+-- `Clean`.
 pub record IsTextOfTravel (d : DomainValue) (flow ttl : ℕ) (choices : Choices) (clean : Bool)
     (written : List ℕ) : Type 0 where
   pub place : ℕ
@@ -72,7 +72,7 @@ HasNoTravel d flow fault =
     ((fault ≡ NoSuchFlow flow) × ((flow ≡ 0) ⊎ (length d.topology.flows < flow)))
     ⊎ (fault ≡ Memory)
 
--- The text means a domain, of which this is the text of that travel, and whether it is clean.
+-- The text means a domain, in which that travel has this text; and whether its finding is `Clean`.
 abbrev pub IsTravelText : (flow ttl : ℕ) → Choices → List ℕ → Bool → List ℕ → Type 0
 IsTravelText flow ttl choices text clean written =
     MeansDomainWhere MeansUncertifiedDomain (λ d. IsTextOfTravel d flow ttl choices clean written) text
@@ -82,7 +82,7 @@ abbrev pub HasNoFlow : (flow : ℕ) → List ℕ → Type 0
 HasNoFlow flow =
     MeansDomainWhere MeansUncertifiedDomain (λ d. (flow ≡ 0) ⊎ (length d.topology.flows < flow))
 
--- the text's first fault, or that its topology lists no such flow
+-- the fault is the text's first one, or that its topology lists no such flow
 abbrev pub IsReplayRefused : (flow : ℕ) → List ℕ → RunFault → Type 0
 IsReplayRefused flow text (NoSuchFlow number) = (number ≡ flow) × HasNoFlow flow text
 IsReplayRefused flow text fault = IsRefusedFor false text fault

@@ -1,4 +1,4 @@
--- The faults of what a run calls, as its own.
+-- The faults of other crates as a run's own faults.
 use Rattle.mc_text.specs.declared.io.input_bytes.ReadFault.{ReadFault}
 use Rattle.mc_text.specs.declared.io.input_bytes.ReadFault.TheVariants as reading
 use Rattle.mc_igmp.specs.declared.fault.ListFault.{ListFault}
@@ -22,7 +22,7 @@ abbrev pub from_read_fault : ReadFault → RunFault
 from_read_fault reading.Read = Read
 from_read_fault reading.Memory = Memory
 
--- lack of memory is the run's own, and every other fault is the list's
+-- lack of memory is the run's fault, and every other fault is the list's
 abbrev pub from_list_fault_kind : ListFault → ListFaultKind → RunFault
 from_list_fault_kind fault list.Memory = Memory
 from_list_fault_kind fault _ = Reports fault
@@ -30,7 +30,7 @@ from_list_fault_kind fault _ = Reports fault
 abbrev pub from_list_fault : ListFault → RunFault
 from_list_fault fault = from_list_fault_kind fault fault.kind
 
--- and so with a bundle's faults,
+-- the same for a bundle's faults,
 abbrev pub from_input_fault : InputFault → RunFault
 from_input_fault (input.Bundle fault) = Bundle fault
 from_input_fault (input.Parts place) = Parts place
@@ -40,17 +40,17 @@ from_input_fault (input.Cache part fault) = Cache part fault
 from_input_fault (input.Reports part fault) = PartReports part fault
 from_input_fault input.Memory = Memory
 
--- with those of what a domain is read of,
+-- for those of a bundle or of a folder's files,
 abbrev pub from_source_fault : SourceFault → RunFault
 from_source_fault (source.Input fault) = from_input_fault fault
 from_source_fault source.Read = Read
 
--- of a folder's files without some routers,
+-- for those of a folder's files without the excluded routers,
 abbrev pub from_without_fault : WithoutFault → RunFault
 from_without_fault (without.Source fault) = from_source_fault fault
 from_without_fault (without.NoSuchRouter place) = NoSuchRouter place
 
--- and with those of a certificate
+-- and for those of a certificate
 abbrev pub of_certificate_kind : CertFault → CertFaultKind → RunFault
 of_certificate_kind fault certificate.Memory = Memory
 of_certificate_kind fault _ = Certificate fault

@@ -1,4 +1,4 @@
--- Which task it is, and what it reads.
+-- The kinds of tasks, and what each reads.
 use Rattle.std.specs.Prelude.{ℕ, Bool, true, false, List, [], ⊤}
 use Rattle.std.specs.String.{string_bytes}
 use Rattle.mc_cli.specs.declared.audit_words.AuditWords.{AuditWords}
@@ -6,7 +6,7 @@ use Rattle.mc_cli.specs.declared.task.Task.{Task}
 use Rattle.mc_cli.specs.declared.task.Task.TheVariants.{Wants, Check, Make, Replay, Pack, Audit}
 use Rattle.mc_cli.specs.declared.task.Task.TheVariants.{Help, Version}
 
--- ---- the fact holds of the arguments of a task of this kind
+-- ---- a fact of the arguments of a task, if it is of this kind
 
 abbrev pub IfWants : Task → ((group source : ℕ) → Type 0) → Type 0
 IfWants (Wants group source) P = P group source
@@ -56,7 +56,7 @@ reads_files (Pack folder certificate) = true
 reads_files (Audit words) = true
 reads_files _ = false
 
--- the path of the folder that it reads them of, empty where it reads none
+-- the path of the folder whose files it reads, empty if it reads none
 abbrev pub folder_of : Task → List ℕ
 folder_of (Pack folder certificate) = folder.now
 folder_of (Audit words) = words.folder.now

@@ -1,4 +1,4 @@
--- What the run of each task answers and writes, with the task's own arguments.
+-- The answer and the text of each task's run, with the task's own arguments.
 use Rattle.std.specs.Prelude.{◌≡◌, ◌==◌, ◌+◌, ◌&&◌, ◌||◌, not, ℕ, Bool, true, false, List, [], map}
 use Rattle.std.specs.Prelude.{Option, Some, Result, Ok, Err, IfErr, IfOk, IfSome, OnErr, OnOk}
 use Rattle.std.specs.Io.KnownBytes.{Appends}
@@ -21,7 +21,7 @@ use Rattle.mc_run.specs.InputMeaning.{AreRefusedWithout, IsRefusedFor}
 use Rattle.mc_run.specs.MakeRun.{IsMadeText, SaysAllRight}
 use Rattle.mc_run.specs.PackingRun.{IsPackRunAnswer, IsDeviceOrMemoryFault}
 use Rattle.mc_run.specs.ReplayRun.{IsReplayRefused, IsTravelText}
-use Rattle.mc_run.specs.RunOutput.{Answers, Writes, WritesPart}
+use Rattle.mc_run.specs.RunOutput.{Answers, IsWrittenWhole, WritesPart}
 use Rattle.mc_run.specs.WantsRun.{answer_line, AnswersWants}
 use Rattle.mc_run.specs.WantsRun.{WritesPartOfLine}
 use Rattle.mc_run.specs.declared.audit_options.AuditOptions.{AuditOptions}
@@ -29,16 +29,15 @@ use Rattle.mc_run.specs.declared.audit_output.AuditAnswer.{AuditAnswer}
 use Rattle.mc_run.specs.declared.fault.RunFault.{RunFault}
 use Rattle.mc_run.specs.declared.fault.RunFault.TheVariants.{Write}
 
--- Of what the run was given, where a contract can see it: the answer is right, with some text, or
--- this is why there is none; and the text that goes with it was written whole, or a part of it where
--- the output failed.
+-- For the run's input, where its contents are known: the answer is right, with some text, or the fault
+-- is right; and the text of the answer was written whole, or a part of it where the output failed.
 pub record IsRunResult {X : Type 0} (Says : X → Bool → List ℕ → Type 0) (Refuses : X → RunFault → Type 0)
     (given : Option X) (result : Result Bool RunFault) (old new : Option (List ℕ)) : Type 0 where
   pub answer : IfSome given (λ x. Answers Says Refuses x result)
-  pub written : IfOk result (λ yes. IfSome given (λ x. Writes Says x yes old new))
+  pub written : IsWrittenWhole Says given result old new
   pub part : result ≡ Err Write → IfSome given (λ x. WritesPart Says x old new)
 
--- ---- over an input
+-- ---- tasks that read the input
 
 -- `wants`: whether the input's list wants what the source sends to the group
 pub record IsWantsRun (group source : ℕ) (remaining left : Option (List ℕ))
@@ -48,14 +47,14 @@ pub record IsWantsRun (group source : ℕ) (remaining left : Option (List ℕ))
   pub part : result ≡ Err Write → WritesPartOfLine remaining group source old new
   pub consumed : ConsumesUpTo (max_text + 1) remaining left
 
--- `check`: the verdicts, by the bundle's certificate; where it says yes, the headline holds
+-- `check`: the verdicts by the bundle's certificate; after a yes the headline holds
 pub record IsCheckRun (remaining left : Option (List ℕ)) (result : Result Bool RunFault)
     (old new : Option (List ℕ)) : Type 0 where
   pub run : IsRunResult IsVerdictText (IsRefusedFor true) remaining result old new
   pub consumed : ConsumesUpTo max_input remaining left
   pub headline : SaysYes result old new → IfSome remaining BundleKeepsHeadline
 
--- `make`: the certificate, or what is found; it is made exactly where every flow is right
+-- `make`: the certificate, which is made exactly if every flow is right, or the findings
 pub record IsMakeRun (remaining left : Option (List ℕ)) (result : Result Bool RunFault)
     (old new : Option (List ℕ)) : Type 0 where
   pub run : IsRunResult IsMadeText (IsRefusedFor false) remaining result old new
@@ -74,9 +73,9 @@ pub record IsReplayRun (flow ttl : ℕ) (last : Bool) (remaining left : Option (
       result old new
   pub consumed : ConsumesUpTo max_input remaining left
 
--- ---- over the files of a folder
+-- ---- tasks that read the files of a folder
 
--- that a bundle is written, without the yes
+-- the result of packing, without the answer
 abbrev pub packed_without_yes : Result Bool RunFault → Result (Unit {0}) RunFault
 packed_without_yes (Ok done) = Ok tt
 packed_without_yes (Err fault) = Err fault
@@ -92,8 +91,7 @@ pub record IsPackRun (certificate : Bool) (contents : Option (List FileText))
   pub part : result ≡ Err Write
       → IfSome contents (λ files. WritesPackedPrefix certificate files old new)
 
--- The answer of an audit is enough: it is yes and, where it has to be strict, no flow is wanted by
--- nobody.
+-- The answer of an audit is enough: it is yes and, with `strict`, no right flow is wanted by nobody.
 abbrev pub is_enough : (strict : Bool) → AuditAnswer → Bool
 is_enough strict answer = answer.yes && ((answer.unwanted == 0) || not strict)
 
@@ -101,7 +99,7 @@ abbrev pub enough_of : (strict : Bool) → Result AuditAnswer RunFault → Resul
 enough_of strict (Ok answer) = Ok (is_enough strict answer)
 enough_of strict (Err fault) = Err fault
 
--- what the words ask an audit to judge and to show
+-- the options of an audit, as the command line gives them
 abbrev pub options_of : WordsOptions → AuditOptions
 options_of words = record {
   travels = words.travels;
@@ -111,39 +109,36 @@ options_of words = record {
   json = words.json;
 }
 
--- the names of the routers that the words leave out
+-- the names of the excluded routers
 abbrev pub excluded_names : AuditWords → List (List ℕ)
 excluded_names words = map (λ name. name.now) words.without.items
 
--- What an audit answers and writes of the files, with these options and without the routers of
--- these names.
+-- The answer and the text of an audit of the files, with these options and without the routers of these
+-- names.
 pub record IsAuditResult (o : AuditOptions) (names : List (List ℕ)) (contents : Option (List FileText))
     (audited : Result AuditAnswer RunFault) (old new : Option (List ℕ)) : Type 0 where
   pub answer : IfSome contents
       (λ files. Answers (IsAuditText o names) (AreRefusedWithout names) files (yes_of audited))
-  pub written : IfOk (yes_of audited)
-      (λ all. IfSome contents (λ files. Writes (IsAuditText o names) files all old new))
+  pub written : IsWrittenWhole (IsAuditText o names) contents (yes_of audited) old new
   pub part : audited ≡ Err Write
       → IfSome contents (λ files. WritesPart (IsAuditText o names) files old new)
-  pub right : IfOk (yes_of audited)
-      (λ all. IfSome contents (λ files. Writes (SaysWhichAreRight o names) files all old new))
+  pub right : IsWrittenWhole (SaysWhichAreRight o names) contents (yes_of audited) old new
   pub unwanted : IfOk audited (λ answer. IfSome contents
       (MeansDomainWhere (MeansAudited o names) (λ v. HasUnwanted v o answer.unwanted)))
-  pub each : IfOk (yes_of audited)
-      (λ all. IfSome contents (λ files. Writes (SaysOfEach o names) files all old new))
+  pub each : IsWrittenWhole (SaysOfEach o names) contents (yes_of audited) old new
   pub each_in_part : audited ≡ Err Write
       → IfSome contents (λ files. WritesPart (SaysOfEach o names) files old new)
   pub headline : AuditSaysYes (yes_of audited) old new → IfSome contents FilesKeepHeadline
 
--- `audit`: whether the answer is enough that the audit gives with the options of the words, and
--- without the routers that they name
+-- `audit`: whether the answer of the audit is enough, with the options of the command line and without
+-- the routers that it names
 pub record IsAuditRun (words : AuditWords) (contents : Option (List FileText))
     (result : Result Bool RunFault) (old new : Option (List ℕ)) : Type 0 where
   pub audited : Result AuditAnswer RunFault
   pub answered : IsAuditResult (options_of words.options) (excluded_names words) contents audited old new
   pub enough : result ≡ enough_of words.options.strict audited
 
--- ---- over nothing
+-- ---- tasks that read nothing
 
 -- `--version` and `help`: the text, and then yes
 pub record IsTextRun (text : List ℕ) (result : Result Bool RunFault) (old new : Option (List ℕ))

@@ -1,4 +1,4 @@
--- What `mcaudit check` writes: a line for each flow, and the verdict on all.
+-- The text of `mcaudit check`: a line for each flow, and the verdict on all flows.
 use Rattle.std.specs.Prelude.{◌≡◌, ℕ, Bool, true, false, List, [], ◌∷◌, ◌++◌, codes, length}
 use Rattle.std.specs.Prelude.{decimal, slice_get, Some}
 use Rattle.std.specs.List.{list_all}
@@ -18,12 +18,12 @@ use Rattle.mc_check.specs.declared.verdict.Verdict.TheVariants.{Yes, No}
 
 -- ---- the verdicts
 
--- Yes with the number of entries where the list is accepted, and else no with the first reason.
+-- Yes with the number of entries if the list is accepted, and otherwise no with the first reason.
 abbrev pub IsVerdict : (lans : ℕ) → Net → List Entry → Verdict → Type 0
 IsVerdict lans n es (Yes copies) = IsAccepted n es × (copies ≡ length es)
 IsVerdict lans n es (No reason) = first_reason n lans es ≡ Some (reason_value reason)
 
--- one for each flow of the domain's topology, in order
+-- a verdict for each flow of the domain's topology, in order
 pub record AreVerdicts (d : DomainValue) (lists : List Tree) (verdicts : List Verdict)
     : Type 0 where
   pub count : length verdicts ≡ length d.topology.flows
@@ -33,7 +33,7 @@ pub record AreVerdicts (d : DomainValue) (lists : List Tree) (verdicts : List Ve
 
 -- ---- the text
 
--- the words that begin a flow's line
+-- the words at the start of a flow's line
 abbrev pub flow_words : Flow → List ℕ
 flow_words f =
     codes "flow "
@@ -42,7 +42,7 @@ flow_words f =
 abbrev pub flow_line : TopologyValue → Flow → Verdict → List ℕ
 flow_line t f v = flow_words f ++ (codes " " ++ (verdict_text t v ++ codes "\n"))
 
--- the lines of flows and of their verdicts
+-- the lines of flows and their verdicts
 abbrev pub flow_lines : TopologyValue → List Flow → List Verdict → List ℕ
 flow_lines t (f ∷ fs) (v ∷ vs) = flow_line t f v ++ flow_lines t fs vs
 flow_lines t _ _ = []

@@ -1,4 +1,4 @@
--- A report list that is looked at as it comes. Only the contracts of private functions speak of it.
+-- A report list that is read piece by piece. Only contracts of private functions use these definitions.
 use Rattle.std.specs.Prelude.{◌≡◌, ◌↔◌, ℕ, Bool, IsTrue, List, ◌++◌, Option, Result, Ok}
 use Rattle.std.specs.Io.KnownBytes.{Consumes}
 use Rattle.mc_text.specs.Steps.{◌>>=◌}
@@ -7,11 +7,11 @@ use Rattle.mc_igmp.specs.declared.fault.ListFault.{ListFault}
 use Rattle.mc_igmp.specs.ListSoFar.{ListSoFar, list_if}
 use Rattle.mc_igmp.specs.Wants.{Wants}
 
--- the records that were looked at stand before those that reading ends with
+-- the records that were seen, before those with which reading ends
 abbrev pub prepend_records : List Record → Result (List Record) ListFault → Result (List Record) ListFault
 prepend_records seen read = read >>= λ rest. Ok (seen ++ rest)
 
--- These bytes came. Records of theirs were looked at and forgotten, and this says whether one of
+-- These bytes were read. Their complete records were seen and dropped, and `wanted` is whether one of
 -- them wants what the source sends to the group.
 pub record ReadsPiece (old new : ListSoFar) (bytes : List ℕ) (group source : ℕ) (wanted : Bool)
     : Type 0 where
@@ -19,7 +19,7 @@ pub record ReadsPiece (old new : ListSoFar) (bytes : List ℕ) (group source : �
   pub goes_on : (more : List ℕ) → list_if old (bytes ++ more) ≡ prepend_records seen (list_if new more)
   pub wants : IsTrue wanted ↔ Wants seen group source
 
--- the same of the bytes that an input gave
+-- the same for the bytes that an input gave
 abbrev pub ReadsPieces : Option (List ℕ) → Option (List ℕ) → ListSoFar → ListSoFar → ℕ → ℕ → Bool
     → Type 0
 ReadsPieces contents left old new group source wanted =

@@ -1,11 +1,11 @@
-//! `mcaudit audit`: which flows of the domain of a folder's files are forwarded as they should be,
-//! and what a packet of each other one meets and why.
+//! `mcaudit audit`: which flows of a folder's domain are forwarded as they should be, and for each
+//! other flow what a packet of it meets, and why.
 
 ghost use Rattle.std.specs.Prelude.{◌≡◌, ◌≢◌, ◌<◌, ◌==◌, ◌&&◌, IfErr, IfOk, IfSome, Err, List, false};
 ghost use Rattle.std.specs.Prelude.{length, map};
 ghost use Rattle.std.specs.String.{string_bytes};
-ghost use Rattle.mc_cert.specs.Certificate.{Tree};
-ghost use Rattle.mc_run.specs.AuditPieces.{AreFlowsPushed, HasItsMarksAndInterfaces, audited_value, output_of, yes_of};
+ghost use Rattle.mc_run.specs.AuditPieces.{AreAllFlowsPushed, HasItsMarksAndInterfaces, audited_value};
+ghost use Rattle.mc_run.specs.AuditPieces.{audited_without, output_of, yes_of};
 ghost use Rattle.mc_run.specs.AuditRun.{AreFoundInWhole, AuditSaysYes, HasUnwanted, FilesKeepHeadline};
 ghost use Rattle.mc_run.specs.AuditRun.{IsAudited, IsAuditText};
 ghost use Rattle.mc_run.specs.AuditRun.{MeansAudited, SaysOfEach, SaysWhichAreRight};
@@ -14,7 +14,7 @@ ghost use Rattle.mc_text.specs.Device.{failures_after};
 ghost use Rattle.mc_run.specs.Failures.{is_read, is_write};
 ghost use Rattle.mc_run.specs.Faults.{IsFaultOfAudit};
 ghost use Rattle.mc_run.specs.InputMeaning.{AreRefusedWithout};
-ghost use Rattle.mc_run.specs.RunOutput.{Answers, Writes, WritesPart};
+ghost use Rattle.mc_run.specs.RunOutput.{Answers, IsWrittenWhole, WritesPart};
 
 use crate::audit_end::{begin_lines, push_end};
 use crate::audit_flow::push_flow;
@@ -32,8 +32,7 @@ use mc_input::{FolderDomain, read_folder_domain};
 use mc_text::{Memory as NoMemory, Output};
 use std::alloc::Global;
 
-/// What is written of each flow of a domain, in order, behind the text. It answers how many of the
-/// flows stand how.
+/// Appends the lines of each flow of a domain, in order, and counts the flows by their status.
 fn push_flows(
     alloc: Global,
     audited: &AuditedDomain<'_>,
@@ -41,9 +40,8 @@ fn push_flows(
     text: &mut String,
 ) -> Result<FlowCounts, NoMemory>
     requires valid { HasItsMarksAndInterfaces audited.now }
-    ensures ok { IfOk result (λ flow_counts. (printed : List Tree) × AreFlowsPushed (audited_value audited.now) options
-        (length (audited_value audited.now).domain.topology.flows) flow_counts printed (string_bytes text.old)
-        (string_bytes text.new)) }
+    ensures appended { IfOk result (λ flow_counts. AreAllFlowsPushed audited.now options flow_counts
+        (string_bytes text.old) (string_bytes text.new)) }
 {
     let mut shown_trees = DistinctTrees::new(alloc);
     let mut flow_counts = FlowCounts::none();
@@ -55,15 +53,15 @@ fn push_flows(
     Ok(flow_counts)
 }
 
-/// Whether all flows of a domain are right, of which so many stand how, and no router is left out.
+/// Whether all flows of a domain are right, by their counts, and no router is excluded.
 fn is_yes(audited: &AuditedDomain<'_>, flow_counts: FlowCounts) -> bool
     ensures { result ≡ ((length audited.now.without.now == 0) && (flow_counts.wrong == 0)) }
 {
     audited.without.is_empty() && flow_counts.are_right()
 }
 
-/// What is written of a domain: its flows, what stands in the caches besides, and the verdict, which is
-/// no where routers were left out.
+/// The text of a domain's audit: its flows, the unlisted sources and groups of the caches, and the
+/// verdict, which is no where routers are excluded.
 fn audit_all(
     alloc: Global,
     audited: &AuditedDomain<'_>,
@@ -84,23 +82,18 @@ fn audit_all(
     })
 }
 
-/// What is written of a domain that was read, of whose routers these are left out.
+/// The audit of a domain that was read without the routers of these names.
 fn audit_domain(
     alloc: Global,
     read: &FolderDomain,
     options: AuditOptions,
     without: &[&str],
 ) -> Result<AuditOutput, NoMemory>
-    ensures text { IfOk result (λ audit. IsAudited (record {
-      domain = read.now.domain;
-      summary = read.now.summary.items;
-      without = map (λ name. name.now) without.now;
-    }) options audit.run_output.yes (string_bytes audit.run_output.text)) }
-    ensures unwanted { IfOk result (λ audit. HasUnwanted (record {
-      domain = read.now.domain;
-      summary = read.now.summary.items;
-      without = map (λ name. name.now) without.now;
-    }) options audit.unwanted) }
+    ensures text { IfOk result (λ audit.
+        IsAudited (audited_without (map (λ name. name.now) without.now) read.now) options
+        audit.run_output.yes (string_bytes audit.run_output.text)) }
+    ensures unwanted { IfOk result (λ audit. HasUnwanted
+        (audited_without (map (λ name. name.now) without.now) read.now) options audit.unwanted) }
 {
     let interfaces = InterfacesOfLans::new(alloc, &read.domain)?;
     let excluded = excluded_marks(alloc, read.domain.topology(), without)?;
@@ -114,7 +107,7 @@ fn audit_domain(
     audit_all(alloc, &audited, options)
 }
 
-/// What is written of the domain that a folder's files tell, without these routers.
+/// The audit of the domain of a folder's files, without the routers of these names.
 fn audit_files<F: PieceSource>(
     alloc: Global,
     files: &mut F,
@@ -144,18 +137,29 @@ fn audit_files<F: PieceSource>(
     }
 }
 
-/// Reads the files of a domain, each at most 16,777,216 bytes, and judges each before it asks for
-/// the next one. Tables are read as they come, and of a cache the rows of listed flows are kept, and
-/// what explains how their packets are forwarded. Then it examines each flow of the topology, and
-/// checks each list that is made. It writes for each flow, in order, the checker's yes with the
-/// number of copies and the LANs that want it, or that it has no certificate, what a packet of it
-/// meets and why; behind them which sources and groups stand in the caches and aren't listed, and
-/// how many flows are right; and last `verdict yes` or `verdict no`. The options say what more is
-/// written, or what less, and whether as text or in JSON, an object a line. The routers of the names
-/// `without` are left out: their files aren't asked for, their tables aren't known, and the verdict
-/// is no, since a yes is said of whole domains only. It answers whether all flows are right and
-/// nothing is left out, and how many flows are right and nobody wants. Files that are refused, and
-/// names that no router of the topology has, write nothing.
+/// Audits the domain of a folder's files and writes a text on each of its flows.
+///
+/// It reads the files, each at most 16,777,216 bytes, and checks each before it opens the next one.
+/// Tables are read piece by piece; of a cache it keeps the rows of listed flows, and a summary that
+/// explains how their packets are forwarded. Then it examines each flow of the topology, and checks
+/// each certificate list that results.
+///
+/// For each flow, in order, it writes the checker's yes with the number of copies and the LANs that
+/// want the flow, or that the flow has no certificate, what a packet of it meets, and why. After the
+/// flows come the unlisted sources and groups of the caches and the numbers of right and wrong flows,
+/// and last `verdict yes` or `verdict no`. The options add lines, leave some away, or choose JSON, one
+/// object a line.
+///
+/// The routers of the names `without` are excluded: their files aren't opened, their tables aren't
+/// known, and the verdict is no, since a yes is only given for a whole domain.
+///
+/// It returns whether all flows are right and no router is excluded, and how many flows are right but
+/// wanted by no LAN.
+///
+/// # Errors
+///
+/// The first fault of the files or of the names `without`; `Read` or `Write` if a device fails, and
+/// `Memory` if an allocation fails. Only `Write` may leave a part of the text written.
 pub fn run_audit<F: PieceSource, W: Output>(
     alloc: Global,
     files: &mut F,
@@ -167,47 +171,44 @@ pub fn run_audit<F: PieceSource, W: Output>(
     requires writes { W.failed output.old < u64.MAX }
     ensures files_same { F.borrows files.new ≡ F.borrows files.old }
     ensures output_same { W.borrows output.new ≡ W.borrows output.old }
-    // The answer is that of the definition, or the first fault of the files.
+    // The answer is right, with some text, or is the first fault of the files.
     ensures answer { IfSome (F.contents files.old) (λ contents.
         Answers (IsAuditText options (map (λ name. name.now) without.now))
         (AreRefusedWithout (map (λ name. name.now) without.now)) contents (yes_of result)) }
-    // The text is written whole, or a part of it where the output failed, or else nothing.
-    ensures written { IfOk (yes_of result) (λ all. IfSome (F.contents files.old) (λ contents.
-        Writes (IsAuditText options (map (λ name. name.now) without.now)) contents all
-        (W.written output.old) (W.written output.new))) }
-    // Its lines say of a flow that it has no certificate exactly where the flow isn't right, and it
-    // ends with yes exactly where every listed flow is right and no router is left out.
-    ensures right { IfOk (yes_of result) (λ all. IfSome (F.contents files.old) (λ contents.
-        Writes (SaysWhichAreRight options (map (λ name. name.now) without.now)) contents all
-        (W.written output.old) (W.written output.new))) }
-    // So many flows are right, and wanted by no LAN.
+    // After an answer, its text is written whole.
+    ensures written { IsWrittenWhole (IsAuditText options (map (λ name. name.now) without.now))
+        (F.contents files.old) (yes_of result) (W.written output.old) (W.written output.new) }
+    // The text says of a flow that it has no certificate exactly where the flow isn't right, and ends
+    // with yes exactly where every listed flow is right and no router is excluded.
+    ensures right { IsWrittenWhole (SaysWhichAreRight options (map (λ name. name.now) without.now))
+        (F.contents files.old) (yes_of result) (W.written output.old) (W.written output.new) }
+    // The answer has the number of flows that are right but wanted by no LAN.
     ensures unwanted { IfOk result (λ answer. IfSome (F.contents files.old)
         (MeansDomainWhere (MeansAudited options (map (λ name. name.now) without.now))
         (λ v. HasUnwanted v options answer.unwanted))) }
+    // After a `Write` fault, a proper part of a right text was written, from its front.
     ensures part { result ≡ Err RunFault.Write → IfSome (F.contents files.old) (λ contents.
         WritesPart (IsAuditText options (map (λ name. name.now) without.now)) contents
         (W.written output.old) (W.written output.new)) }
-    // Of each flow whose lines were written, in the whole or in the part, they are so: a yes of the
-    // checker, for which the headline holds, or what a run of its net finds, and what explains it.
-    ensures each { IfOk (yes_of result) (λ all. IfSome (F.contents files.old) (λ contents.
-        Writes (SaysOfEach options (map (λ name. name.now) without.now)) contents all
-        (W.written output.old) (W.written output.new))) }
+    // The lines of each flow, in a whole text or in a part, are true: a yes of the checker, for which
+    // the headline holds, or the finding of a run of the flow's net, and what explains it.
+    ensures each { IsWrittenWhole (SaysOfEach options (map (λ name. name.now) without.now))
+        (F.contents files.old) (yes_of result) (W.written output.old) (W.written output.new) }
     ensures each_in_part { result ≡ Err RunFault.Write → IfSome (F.contents files.old) (λ contents.
         WritesPart (SaysOfEach options (map (λ name. name.now) without.now)) contents
         (W.written output.old) (W.written output.new)) }
-    // What is found of a flow with routers left out, if it is a second copy on a LAN or a copy that
-    // leaves, is so whatever these have: it isn't right in the domain that the files mean with them.
-    ensures excluded { IfOk (yes_of result) (λ all. IfSome (F.contents files.old) (λ contents.
-        Writes (AreFoundInWhole options (map (λ name. name.now) without.now)) contents all
-        (W.written output.old) (W.written output.new))) }
+    // A second copy on a LAN, or a copy that leaves the domain, that is found with routers excluded is a
+    // fault whatever these routers have: the flow isn't right either in the domain with them.
+    ensures excluded { IsWrittenWhole (AreFoundInWhole options (map (λ name. name.now) without.now))
+        (F.contents files.old) (yes_of result) (W.written output.old) (W.written output.new) }
+    // After any other fault, nothing was written.
     ensures unwritten { IfErr result (λ fault. fault ≢ RunFault.Write → output.new ≡ output.old) }
-    // No other fault is answered than one of a folder's files or of the names to be left out, or that
-    // a device failed or memory ran out.
+    // A fault is one of a folder's files or of the excluded names, a device's, or `Memory`.
     ensures faults { IfErr result IsFaultOfAudit }
-    // Read and Write come only where the device's failures rose in the call.
+    // `Read` and `Write` come only where a call of that device failed.
     ensures read_failures { F.failed files.new ≡ failures_after is_read result (F.failed files.old) }
     ensures write_failures { W.failed output.new ≡ failures_after is_write result (W.failed output.old) }
-    // Where the run says yes, the headline holds of what it read.
+    // After a yes, the headline holds for what was read.
     ensures headline { AuditSaysYes (yes_of result) (W.written output.old) (W.written output.new)
         → IfSome (F.contents files.old) FilesKeepHeadline }
 {

@@ -1,11 +1,12 @@
-//! What is written before and behind the lines of all flows that are audited.
+//! Writes the lines before and after those of the flows in an audit's text.
 
-ghost use Rattle.std.specs.Prelude.{◌≡◌, ◌++◌, IfOk, OnOk, flat_map, length, map};
+ghost use Rattle.std.specs.Prelude.{◌≡◌, ◌++◌, IfOk, OnOk, flat_map, map};
 ghost use Rattle.std.specs.String.{string_bytes};
 ghost use Rattle.mc_forward.specs.ListedTables.{facts};
-ghost use Rattle.mc_run.specs.AuditEnd.{begin_lines, end_text_or_objects, end_objects, end_text, option_words};
-ghost use Rattle.mc_run.specs.AuditEnd.{strict_lines, summary_line, verdict_line, word_if_asked, without_words};
-ghost use Rattle.mc_run.specs.AuditPieces.{audited_value};
+ghost use Rattle.mc_run.specs.AuditEnd.{begin_lines, option_words};
+ghost use Rattle.mc_run.specs.AuditEnd.{strict_lines, summary_line, verdict_line, word_if_asked};
+ghost use Rattle.mc_run.specs.AuditEnd.{without_words};
+ghost use Rattle.mc_run.specs.AuditPieces.{end_objects_of, end_text_of, end_text_or_objects_of};
 
 use crate::audit_options::AuditOptions;
 use crate::audited_domain::AuditedDomain;
@@ -21,9 +22,9 @@ use mc_text::Memory as NoMemory;
 use mc_topology::{RouterNo, Topology};
 use std::alloc::Global;
 
-// ---- before
+// ---- before the flows
 
-/// Adds a word, if it is asked for.
+/// Adds the word of an option, if the option is set.
 fn push_option_word(
     alloc: Global,
     words: &mut Vec<String>,
@@ -39,7 +40,7 @@ fn push_option_word(
     Ok(())
 }
 
-/// Adds the words that leave a router out.
+/// Adds the two words that exclude a router.
 fn push_without_words(
     alloc: Global,
     words: &mut Vec<String>,
@@ -55,7 +56,7 @@ fn push_without_words(
     Ok(())
 }
 
-/// Adds those that leave these routers out.
+/// Adds the words that exclude these routers.
 fn push_all_without_words(
     alloc: Global,
     words: &mut Vec<String>,
@@ -71,7 +72,7 @@ fn push_all_without_words(
     Ok(())
 }
 
-/// The words that ask for these options and leave the marked routers out.
+/// The words of a call with these options that excludes the marked routers.
 fn option_words(
     alloc: Global,
     topology: &Topology,
@@ -92,7 +93,7 @@ fn option_words(
     Ok(words)
 }
 
-/// What begins the text: in JSON the domain and the words of the call.
+/// The begin of the text: in JSON a line with the domain and the words of the call, else nothing.
 pub(crate) fn begin_lines(
     alloc: Global,
     domain: &Domain,
@@ -110,9 +111,9 @@ pub(crate) fn begin_lines(
     Ok(text)
 }
 
-// ---- behind, as text
+// ---- after the flows, as text
 
-/// Writes how many flows there are, and how many of them stand how.
+/// Writes how many flows there are, and how many have each status.
 fn push_summary(text: &mut String, flows: u32, flow_counts: FlowCounts) -> Result<(), NoMemory>
     ensures { OnOk result (string_bytes text.new ≡ string_bytes text.old
         ++ summary_line flows flow_counts.right flow_counts.wrong flow_counts.unwanted) }
@@ -129,7 +130,7 @@ fn push_summary(text: &mut String, flows: u32, flow_counts: FlowCounts) -> Resul
     .map_err(|_| NoMemory)
 }
 
-/// Writes that a yes isn't enough where flows are wanted by nobody, if that is asked for.
+/// Writes, if the option strict is set, that a yes isn't enough since some flows are wanted by nobody.
 fn push_strict(text: &mut String, strict: bool, all: bool, unwanted: u32) -> Result<(), NoMemory>
     ensures { OnOk result (string_bytes text.new ≡ string_bytes text.old
         ++ strict_lines strict all unwanted) }
@@ -144,7 +145,7 @@ fn push_strict(text: &mut String, strict: bool, all: bool, unwanted: u32) -> Res
     Ok(())
 }
 
-/// Writes what stands behind the flows as text, where all is well or not.
+/// Writes the lines after the flows as text. `all` says whether the verdict is yes.
 fn push_end_text(
     alloc: Global,
     text: &mut String,
@@ -154,9 +155,7 @@ fn push_end_text(
     all: bool,
 ) -> Result<(), NoMemory>
     ensures { OnOk result (string_bytes text.new ≡ string_bytes text.old
-        ++ end_text options (audited_value audited.now).domain.topology (audited_value audited.now).summary
-        audited.now.excluded.now all (length (audited_value audited.now).domain.topology.flows)
-        flow_counts.right flow_counts.wrong flow_counts.unwanted) }
+        ++ end_text_of audited.now options flow_counts all) }
 {
     let topology = audited.domain.topology();
     push_unlisted(alloc, text, topology, audited.summary, options.unlisted)?;
@@ -166,9 +165,9 @@ fn push_end_text(
     push_strict(text, options.strict, all, flow_counts.unwanted)
 }
 
-// ---- in JSON
+// ---- after the flows, in JSON
 
-/// The same in JSON.
+/// Writes the lines after the flows in JSON.
 fn push_end_objects(
     alloc: Global,
     text: &mut String,
@@ -177,8 +176,7 @@ fn push_end_objects(
     flow_counts: FlowCounts,
 ) -> Result<(), NoMemory>
     ensures { OnOk result (string_bytes text.new ≡ string_bytes text.old
-        ++ end_objects options (audited_value audited.now).domain.topology (audited_value audited.now).summary
-        audited.now.excluded.now flow_counts.right flow_counts.wrong flow_counts.unwanted) }
+        ++ end_objects_of audited.now options flow_counts) }
 {
     let topology = audited.domain.topology();
     let FlowCounts {
@@ -193,7 +191,7 @@ fn push_end_objects(
 
 // ---- both
 
-/// Writes what stands behind the flows, of which so many stand how, and the verdict.
+/// Writes the lines after the flows, with the counts of flows, and the verdict.
 pub(crate) fn push_end(
     alloc: Global,
     text: &mut String,
@@ -203,9 +201,7 @@ pub(crate) fn push_end(
     all: bool,
 ) -> Result<(), NoMemory>
     ensures { OnOk result (string_bytes text.new ≡ string_bytes text.old
-        ++ (end_text_or_objects options (audited_value audited.now).domain.topology (audited_value audited.now).summary
-        audited.now.excluded.now all (length (audited_value audited.now).domain.topology.flows)
-        flow_counts.right flow_counts.wrong flow_counts.unwanted ++ verdict_line options.json all)) }
+        ++ (end_text_or_objects_of audited.now options flow_counts all ++ verdict_line options.json all)) }
 {
     if options.json {
         push_end_objects(alloc, text, audited, options, flow_counts)?;

@@ -1,17 +1,16 @@
-//! What an audit is asked to tell.
+//! The options of an audit.
 
-/// What an audit is asked to tell beside its verdict, and how.
+/// What an audit prints beside its verdict, and how.
 #[derive(Clone, Copy, Debug, PartialEq, Eq)]
 pub struct AuditOptions {
-    /// Whether the travel of each packet that shows a fault is told, event by event.
+    /// Whether the travel of each packet that shows a fault is printed, event by event.
     pub travels: bool,
-    /// Whether flows that are right and wanted are left out.
+    /// Whether flows that are right and wanted are hidden.
     pub faults: bool,
-    /// Whether all sources and groups that stand in the caches and aren't listed are told, and not the
-    /// 20 lowest alone.
+    /// Whether all unlisted sources and groups of the caches are printed, and not only the 20 lowest.
     pub unlisted: bool,
-    /// Whether it is told where a yes isn't enough, since a flow is wanted by nobody.
+    /// Whether a line says that a yes isn't enough, where flows are wanted by nobody.
     pub strict: bool,
-    /// Whether all is told in JSON, an object a line.
+    /// Whether everything is printed in JSON, one object a line.
     pub json: bool,
 }

@@ -1,4 +1,4 @@
-//! What an audit has to say, and what it answers.
+//! The text of an audit, and its answer.
 
 ghost use Rattle.std.specs.Prelude.{◌≡◌, IfOk, Ok};
 ghost use Rattle.mc_run.specs.AuditPieces.{output_of, yes_of};
@@ -7,29 +7,30 @@ ghost use Rattle.mc_run.specs.declared.audit_output.AuditOutput.{AuditOutput as 
 use crate::fault::RunFault;
 use crate::run_output::RunOutput;
 
-/// What an audit answers.
+/// The answer of an audit.
 #[derive(Clone, Copy, Debug, PartialEq, Eq)]
 pub struct AuditAnswer {
-    /// Whether every listed flow is right, and no router is left out.
+    /// Whether every listed flow is right, and no router is excluded.
     pub yes: bool,
     /// How many flows are right and wanted by no LAN.
     pub unwanted: u32,
 }
 
-/// What an audit has to say.
+/// The text of an audit, with its answer.
 #[derive(Drop)]
 pub(crate) struct AuditOutput {
-    /// The text, and whether every listed flow is right and no router is left out.
+    /// The text, and whether every listed flow is right and no router is excluded.
     pub(crate) run_output: RunOutput,
     /// How many flows are right and wanted by no LAN.
     pub(crate) unwanted: u32,
 }
 
 impl AuditOutput {
-    /// What is to be said, and how many flows are unwanted, none where there is a fault.
+    /// The output of the run, and the number of unwanted flows, 0 for a fault.
     pub(crate) fn parts(audit: Result<AuditOutput, RunFault>) -> (Result<RunOutput, RunFault>, u32)
         ensures run_output { result.0 ≡ output_of audit }
-        ensures unwanted { (run_output : AuditOutputValue) → audit ≡ Ok run_output → result.1 ≡ run_output.unwanted }
+        ensures unwanted { (run_output : AuditOutputValue) → audit ≡ Ok run_output → result.1
+            ≡ run_output.unwanted }
     {
         match audit {
             Ok(
@@ -43,7 +44,7 @@ impl AuditOutput {
     }
 }
 
-/// The answer, with so many flows that are unwanted.
+/// The answer, with the number of unwanted flows.
 pub(crate) fn with_unwanted(
     yes: Result<bool, RunFault>,
     unwanted: u32,

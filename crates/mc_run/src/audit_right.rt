@@ -1,21 +1,21 @@
-//! What is written of a flow that is right.
+//! Writes the lines of a flow that is right.
 
-ghost use Rattle.std.specs.Prelude.{◌≡◌, ◌<◌, ◌++◌, All, IfOk, OnOk, Some, length, slice_get};
+ghost use Rattle.std.specs.Prelude.{◌≡◌, ◌<◌, ◌++◌, All, IfOk, OnOk, length};
 ghost use Rattle.std.specs.Result.{IsOkAnd};
 ghost use Rattle.std.specs.String.{string_bytes};
 ghost use Rattle.mc_theory.specs.Certificates.{IsAccepted};
 ghost use Rattle.mc_theory.specs.Headline.{HeadlineHolds};
-ghost use Rattle.mc_topology.specs.declared.flow.Flow.{Flow as FlowValue};
 ghost use Rattle.mc_forward.specs.Domains.{net_of};
 ghost use Rattle.mc_forward.specs.ListedTables.{facts};
 ghost use Rattle.mc_cert.specs.Distinct.{tree_number_of, with_tree};
 ghost use Rattle.mc_check.specs.declared.verdict.Verdict.TheVariants.{Yes as is_yes};
 ghost use Rattle.mc_explain.specs.WantedText.{lans_wanting};
-ghost use Rattle.mc_run.specs.AuditObjects.{right_objects, tree_line};
-ghost use Rattle.mc_run.specs.AuditPieces.{audited_value};
-ghost use Rattle.mc_run.specs.AuditRun.{is_whole};
-ghost use Rattle.mc_run.specs.AuditText.{right_line, right_lines};
-ghost use Rattle.mc_run.specs.AuditFlowText.{is_hidden, right_flow_lines, status_of_right, with_shown_tree};
+ghost use Rattle.mc_run.specs.AuditObjects.{tree_line};
+ghost use Rattle.mc_run.specs.AuditPieces.{AppendsLinesOfFlow, audited_value, lans_wanting_flow};
+ghost use Rattle.mc_run.specs.AuditPieces.{right_flow_lines_of};
+ghost use Rattle.mc_run.specs.AuditPieces.{right_lines_of, right_objects_of};
+ghost use Rattle.mc_run.specs.AuditText.{right_line};
+ghost use Rattle.mc_run.specs.AuditFlowText.{is_hidden, status_of_right, with_shown_tree};
 
 use crate::audit_options::AuditOptions;
 use crate::audited_domain::AuditedDomain;
@@ -32,7 +32,7 @@ use std::alloc::Global;
 
 // ---- as text
 
-/// Writes the checker's yes with so many copies, or where the whole domain isn't known that no fault is.
+/// Writes the checker's yes with the number of copies; without the whole domain, that no fault is known.
 fn push_certified_line(
     text: &mut String,
     topology: &Topology,
@@ -50,7 +50,7 @@ fn push_certified_line(
     writeln!(text, "{words} no fault known copies {copies}").map_err(|_| NoMemory)
 }
 
-/// Writes this, and which LANs want the flow. It answers how the flow stands.
+/// Writes the line of a flow that is right and the LANs that want it. Returns the flow's status.
 fn push_right_lines(
     text: &mut String,
     audited: &AuditedDomain<'_>,
@@ -59,12 +59,9 @@ fn push_right_lines(
 ) -> Result<FlowStatus, NoMemory>
     requires known { flow < length (audited_value audited.now).domain.topology.flows }
     ensures flow_status { IfOk result (λ flow_status.
-        flow_status ≡ status_of_right (lans_wanting (facts (audited_value audited.now).domain) flow)) }
-    ensures lines { OnOk result ((listed : FlowValue) →
-        slice_get (audited_value audited.now).domain.topology.flows flow ≡ Some listed →
-        string_bytes text.new ≡ string_bytes text.old ++ right_lines (is_whole (audited_value audited.now))
-        (audited_value audited.now).domain.topology listed copies
-        (lans_wanting (facts (audited_value audited.now).domain) flow)) }
+        flow_status ≡ status_of_right (lans_wanting_flow audited.now flow)) }
+    ensures lines { OnOk result (AppendsLinesOfFlow audited.now flow (right_lines_of audited.now copies)
+        (string_bytes text.old) (string_bytes text.new)) }
 {
     let topology = audited.domain.topology();
     let whole = audited.without.is_empty();
@@ -78,7 +75,7 @@ fn push_right_lines(
 
 // ---- in JSON
 
-/// Writes the way of a flow, if it is none of those that were told before, and answers its number.
+/// Writes the tree of a flow unless it was printed before, and returns the tree's number.
 fn push_tree_once(
     alloc: Global,
     text: &mut String,
@@ -100,7 +97,7 @@ fn push_tree_once(
     Ok(number)
 }
 
-/// How a flow that is right stands.
+/// The status of a flow that is right.
 fn status_of(domain: &Domain, flow: u32) -> FlowStatus
     requires known { flow < length domain.now.topology.flows }
     ensures value { result ≡ status_of_right (lans_wanting (facts domain.now) flow) }
@@ -112,8 +109,8 @@ fn status_of(domain: &Domain, flow: u32) -> FlowStatus
     }
 }
 
-/// Writes the way of a flow, if it is a new one, and the flow with so many copies. It answers how the
-/// flow stands.
+/// Writes the tree of a flow, unless it was printed before, and the flow with its number of copies.
+/// Returns the flow's status.
 fn push_right_objects(
     alloc: Global,
     text: &mut String,
@@ -127,13 +124,11 @@ fn push_right_objects(
     requires copies { copies ≡ length entries.now }
     requires few { length shown_trees.old < 4096 }
     ensures flow_status { IfOk result (λ flow_status.
-        flow_status ≡ status_of_right (lans_wanting (facts (audited_value audited.now).domain) flow)) }
+        flow_status ≡ status_of_right (lans_wanting_flow audited.now flow)) }
     ensures shown_trees { OnOk result (shown_trees.new ≡ with_tree shown_trees.old entries.now) }
-    ensures lines { OnOk result ((listed : FlowValue) →
-        slice_get (audited_value audited.now).domain.topology.flows flow ≡ Some listed →
-        string_bytes text.new ≡ string_bytes text.old ++ right_objects (is_whole (audited_value audited.now))
-        (audited_value audited.now).domain.topology shown_trees.old flow listed entries.now
-        (lans_wanting (facts (audited_value audited.now).domain) flow)) }
+    ensures lines { OnOk result (AppendsLinesOfFlow audited.now flow
+        (right_objects_of audited.now shown_trees.old entries.now)
+        (string_bytes text.old) (string_bytes text.new)) }
 {
     let domain = audited.domain;
     let whole = audited.without.is_empty();
@@ -144,8 +139,8 @@ fn push_right_objects(
 
 // ---- both
 
-/// Writes what is told of a flow that goes by these entries, so many copies: as text or in JSON, or
-/// nothing where faults alone are asked for and it is wanted. It answers how the flow stands.
+/// Writes the lines of a right flow with these entries, as text or in JSON; nothing where only faults
+/// are asked for and the flow is wanted. Returns the flow's status.
 fn push_right(
     alloc: Global,
     audited: &AuditedDomain<'_>,
@@ -160,15 +155,12 @@ fn push_right(
     requires copies { copies ≡ length entries.now }
     requires few { length shown_trees.old < 4096 }
     ensures flow_status { IfOk result (λ flow_status.
-        flow_status ≡ status_of_right (lans_wanting (facts (audited_value audited.now).domain) flow)) }
+        flow_status ≡ status_of_right (lans_wanting_flow audited.now flow)) }
     ensures shown_trees { OnOk result (shown_trees.new ≡ with_shown_tree options.json
-        (is_hidden options.faults (lans_wanting (facts (audited_value audited.now).domain) flow)) shown_trees.old
-        entries.now) }
-    ensures lines { OnOk result ((listed : FlowValue) →
-        slice_get (audited_value audited.now).domain.topology.flows flow ≡ Some listed →
-        string_bytes text.new ≡ string_bytes text.old ++ right_flow_lines options
-        (is_whole (audited_value audited.now)) (audited_value audited.now).domain.topology shown_trees.old flow listed
-        entries.now (lans_wanting (facts (audited_value audited.now).domain) flow)) }
+        (is_hidden options.faults (lans_wanting_flow audited.now flow)) shown_trees.old entries.now) }
+    ensures lines { OnOk result (AppendsLinesOfFlow audited.now flow
+        (right_flow_lines_of audited.now options shown_trees.old entries.now)
+        (string_bytes text.old) (string_bytes text.new)) }
 {
     if options.faults && count_wanted(audited.domain, flow) != 0 {
         return Ok(FlowStatus::Wanted);
@@ -180,7 +172,7 @@ fn push_right(
     }
 }
 
-/// Writes this with the checker's yes. It says none but that to a list that is accepted.
+/// Writes the lines of a right flow, by the checker's verdict, which is yes for an accepted list.
 fn push_with_verdict(
     alloc: Global,
     audited: &AuditedDomain<'_>,
@@ -196,15 +188,12 @@ fn push_with_verdict(
     requires accepted { IfOk answer (λ verdict. verdict ≡ is_yes (length entries.now)) }
     ensures answered { OnOk result (IsOkAnd answer (λ verdict. verdict ≡ is_yes (length entries.now))) }
     ensures flow_status { IfOk result (λ flow_status.
-        flow_status ≡ status_of_right (lans_wanting (facts (audited_value audited.now).domain) flow)) }
+        flow_status ≡ status_of_right (lans_wanting_flow audited.now flow)) }
     ensures shown_trees { OnOk result (shown_trees.new ≡ with_shown_tree options.json
-        (is_hidden options.faults (lans_wanting (facts (audited_value audited.now).domain) flow)) shown_trees.old
-        entries.now) }
-    ensures lines { OnOk result ((listed : FlowValue) →
-        slice_get (audited_value audited.now).domain.topology.flows flow ≡ Some listed →
-        string_bytes text.new ≡ string_bytes text.old ++ right_flow_lines options
-        (is_whole (audited_value audited.now)) (audited_value audited.now).domain.topology shown_trees.old flow listed
-        entries.now (lans_wanting (facts (audited_value audited.now).domain) flow)) }
+        (is_hidden options.faults (lans_wanting_flow audited.now flow)) shown_trees.old entries.now) }
+    ensures lines { OnOk result (AppendsLinesOfFlow audited.now flow
+        (right_flow_lines_of audited.now options shown_trees.old entries.now)
+        (string_bytes text.old) (string_bytes text.new)) }
 {
     match answer {
         Ok(Verdict::Yes { copies }) => {
@@ -224,8 +213,7 @@ fn push_with_verdict(
     }
 }
 
-/// Checks the list of a flow that is right, and writes what is told of the flow. It answers how the
-/// flow stands.
+/// Checks the list of a right flow, and writes the flow's lines. Returns the flow's status.
 pub(crate) fn push_checked(
     alloc: Global,
     audited: &AuditedDomain<'_>,
@@ -242,15 +230,12 @@ pub(crate) fn push_checked(
     ensures headline { OnOk result
         (HeadlineHolds (net_of (audited_value audited.now).domain flow) (length entries.now)) }
     ensures flow_status { IfOk result (λ flow_status.
-        flow_status ≡ status_of_right (lans_wanting (facts (audited_value audited.now).domain) flow)) }
+        flow_status ≡ status_of_right (lans_wanting_flow audited.now flow)) }
     ensures shown_trees { OnOk result (shown_trees.new ≡ with_shown_tree options.json
-        (is_hidden options.faults (lans_wanting (facts (audited_value audited.now).domain) flow)) shown_trees.old
-        entries.now) }
-    ensures lines { OnOk result ((listed : FlowValue) →
-        slice_get (audited_value audited.now).domain.topology.flows flow ≡ Some listed →
-        string_bytes text.new ≡ string_bytes text.old ++ right_flow_lines options
-        (is_whole (audited_value audited.now)) (audited_value audited.now).domain.topology shown_trees.old flow listed
-        entries.now (lans_wanting (facts (audited_value audited.now).domain) flow)) }
+        (is_hidden options.faults (lans_wanting_flow audited.now flow)) shown_trees.old entries.now) }
+    ensures lines { OnOk result (AppendsLinesOfFlow audited.now flow
+        (right_flow_lines_of audited.now options shown_trees.old entries.now)
+        (string_bytes text.old) (string_bytes text.new)) }
 {
     let answer = check_flow(alloc, audited.domain, flow, entries);
     push_with_verdict(

@@ -1,17 +1,14 @@
-//! What is written of a flow that isn't right: what is found, and why.
+//! Writes the lines of a flow that isn't right: the finding, and why.
 
-ghost use Rattle.std.specs.Prelude.{◌≡◌, ◌<◌, ◌++◌, IfOk, OnOk, Some, length, slice_get};
+ghost use Rattle.std.specs.Prelude.{◌≡◌, ◌<◌, ◌++◌, IfOk, OnOk, length};
 ghost use Rattle.std.specs.String.{string_bytes};
-ghost use Rattle.mc_topology.specs.declared.flow.Flow.{Flow as FlowValue};
-ghost use Rattle.mc_forward.specs.ListedTables.{facts};
 ghost use Rattle.mc_maker.specs.ExaminedFlights.{IsFinishedTravelOf};
-ghost use Rattle.mc_explain.specs.WantedText.{missed_besides, also_missed_text};
-ghost use Rattle.mc_run.specs.AuditPieces.{HasItsMarksAndInterfaces, explanation_in, audited_value};
-ghost use Rattle.mc_run.specs.AuditReasons.{IsSearchIfMissed, search_context};
-ghost use Rattle.mc_run.specs.AuditRun.{excluded};
-ghost use Rattle.mc_run.specs.AuditObjects.{wrong_object};
-ghost use Rattle.mc_run.specs.AuditText.{events_if_shown, explanation_lines, searched_lines, wrong_lines};
-ghost use Rattle.mc_run.specs.AuditFlowText.{wrong_flow_lines};
+ghost use Rattle.mc_run.specs.AuditPieces.{AppendsLinesOfFlow, HasItsMarksAndInterfaces, also_missed_lines};
+ghost use Rattle.mc_run.specs.AuditPieces.{audited_value, explanation_lines_of, search_context_of};
+ghost use Rattle.mc_run.specs.AuditPieces.{searched_lines_of, wrong_flow_lines_of, wrong_lines_of};
+ghost use Rattle.mc_run.specs.AuditPieces.{wrong_object_of};
+ghost use Rattle.mc_run.specs.AuditReasons.{IsSearchIfMissed};
+ghost use Rattle.mc_run.specs.AuditText.{events_if_shown};
 
 use crate::audit_options::AuditOptions;
 use crate::audited_domain::AuditedDomain;
@@ -24,7 +21,7 @@ use mc_text::Memory as NoMemory;
 use mc_topology::Topology;
 use std::alloc::Global;
 
-/// Searches for the LAN that a packet of TTL 255 missed, if it missed one.
+/// Searches why a packet with TTL 255 missed a LAN, if it missed one.
 pub(crate) fn search_if_missed(
     alloc: Global,
     audited: &AuditedDomain<'_>,
@@ -34,8 +31,7 @@ pub(crate) fn search_if_missed(
     requires flow { flow < length (audited_value audited.now).domain.topology.flows }
     requires ready { HasItsMarksAndInterfaces audited.now }
     requires ended { IsFinishedTravelOf (audited_value audited.now).domain flow 255 ended.now }
-    ensures ok { IfOk result (IsSearchIfMissed (search_context (facts (audited_value audited.now).domain)
-        (audited_value audited.now).summary (excluded (audited_value audited.now)) flow ended.now.flight.flight.carried)
+    ensures search { IfOk result (IsSearchIfMissed (search_context_of audited.now flow ended.now)
         ended.now.travel.events.items ended.now.travel.finding) }
 {
     let Finding::Missed(lan) = ended.travel.finding else {
@@ -57,7 +53,7 @@ pub(crate) fn search_if_missed(
 
 // ---- as text
 
-/// Writes a search, if there was one.
+/// Writes the lines of a search, if there was one.
 fn push_search_if_any(
     text: &mut String,
     audited: &AuditedDomain<'_>,
@@ -65,11 +61,9 @@ fn push_search_if_any(
     found: &Option<LanSearch>,
 ) -> Result<(), NoMemory>
     requires known { flow < length (audited_value audited.now).domain.topology.flows }
-    ensures added { OnOk result ((listed : FlowValue) →
-        slice_get (audited_value audited.now).domain.topology.flows flow ≡ Some listed →
-        string_bytes text.new ≡ string_bytes text.old
-        ++ searched_lines (facts (audited_value audited.now).domain) (audited_value audited.now).summary flow listed
-        found.now) }
+    ensures added { OnOk result (AppendsLinesOfFlow audited.now flow
+        (searched_lines_of audited.now found.now)
+        (string_bytes text.old) (string_bytes text.new)) }
 {
     match found {
         Some(found) => push_search(text, audited.domain, audited.summary, flow, found),
@@ -77,12 +71,10 @@ fn push_search_if_any(
     }
 }
 
-/// Writes which LANs a packet missed besides the one that was found, if it missed one.
+/// Writes which other LANs a packet missed, if it missed one.
 fn push_other_missed_lans(text: &mut String, ended: &FinishedTravel<'_>) -> Result<(), NoMemory>
-    ensures { OnOk result (string_bytes text.new ≡ string_bytes text.old
-        ++ also_missed_text ended.now.flight.domain.topology
-        (missed_besides (facts ended.now.flight.domain) ended.now.flight.flow
-        ended.now.flight.flight.carried ended.now.travel.finding)) }
+    ensures { OnOk result (string_bytes text.new
+        ≡ string_bytes text.old ++ also_missed_lines ended.now) }
 {
     match ended.travel.finding {
         Finding::Missed(lan) => push_also_missed(text, &ended.flight, lan),
@@ -90,7 +82,7 @@ fn push_other_missed_lans(text: &mut String, ended: &FinishedTravel<'_>) -> Resu
     }
 }
 
-/// Writes what explains a finding: what is told of it, and a search, if there was one.
+/// Writes what explains a finding: its causes, a search if there was one, and the other missed LANs.
 fn push_explanation(
     text: &mut String,
     audited: &AuditedDomain<'_>,
@@ -101,18 +93,16 @@ fn push_explanation(
 ) -> Result<(), NoMemory>
     requires flow { flow < length (audited_value audited.now).domain.topology.flows }
     requires domain { ended.now.flight.domain ≡ (audited_value audited.now).domain }
-    ensures added { OnOk result ((listed : FlowValue) →
-        slice_get (audited_value audited.now).domain.topology.flows flow ≡ Some listed →
-        string_bytes text.new ≡ string_bytes text.old
-        ++ explanation_lines (facts (audited_value audited.now).domain) (audited_value audited.now).summary flow listed
-        (explanation_in ended.now causes.now found.now)) }
+    ensures added { OnOk result (AppendsLinesOfFlow audited.now flow
+        (explanation_lines_of audited.now ended.now causes.now found.now)
+        (string_bytes text.old) (string_bytes text.new)) }
 {
     push_causes(text, audited.domain, audited.summary, flow, causes)?;
     push_search_if_any(text, audited, flow, found)?;
     push_other_missed_lans(text, ended)
 }
 
-/// Writes the events of a travel, where travels are to be shown.
+/// Writes the events of a travel, if travels are to be printed.
 fn push_travel(
     text: &mut String,
     topology: &Topology,
@@ -128,8 +118,8 @@ fn push_travel(
     Ok(())
 }
 
-/// Writes that a flow has no certificate, what a packet with this TTL meets, why, and its travel where
-/// travels are to be shown.
+/// Writes that a flow has no certificate, what a packet with this TTL meets, why, and the packet's
+/// travel, if travels are to be printed.
 fn push_wrong_lines(
     text: &mut String,
     audited: &AuditedDomain<'_>,
@@ -142,11 +132,9 @@ fn push_wrong_lines(
 ) -> Result<(), NoMemory>
     requires flow { flow < length (audited_value audited.now).domain.topology.flows }
     requires domain { ended.now.flight.domain ≡ (audited_value audited.now).domain }
-    ensures added { OnOk result ((listed : FlowValue) →
-        slice_get (audited_value audited.now).domain.topology.flows flow ≡ Some listed →
-        string_bytes text.new ≡ string_bytes text.old
-        ++ wrong_lines travels (facts (audited_value audited.now).domain) (audited_value audited.now).summary flow listed
-        ttl ended.now.travel (explanation_in ended.now causes.now found.now)) }
+    ensures added { OnOk result (AppendsLinesOfFlow audited.now flow
+        (wrong_lines_of audited.now travels ttl ended.now causes.now found.now)
+        (string_bytes text.old) (string_bytes text.new)) }
 {
     let topology = audited.domain.topology();
     push_found_lines(
@@ -162,7 +150,7 @@ fn push_wrong_lines(
 
 // ---- in JSON
 
-/// Writes the same as an object.
+/// Writes the object of a flow that isn't right.
 fn push_wrong_object(
     alloc: Global,
     text: &mut String,
@@ -176,11 +164,9 @@ fn push_wrong_object(
 ) -> Result<(), NoMemory>
     requires flow { flow < length (audited_value audited.now).domain.topology.flows }
     requires domain { ended.now.flight.domain ≡ (audited_value audited.now).domain }
-    ensures added { OnOk result ((listed : FlowValue) →
-        slice_get (audited_value audited.now).domain.topology.flows flow ≡ Some listed →
-        string_bytes text.new ≡ string_bytes text.old
-        ++ wrong_object travels (facts (audited_value audited.now).domain) (audited_value audited.now).summary flow
-        listed ttl ended.now.travel (explanation_in ended.now causes.now found.now)) }
+    ensures added { OnOk result (AppendsLinesOfFlow audited.now flow
+        (wrong_object_of audited.now travels ttl ended.now causes.now found.now)
+        (string_bytes text.old) (string_bytes text.new)) }
 {
     let AuditedDomain {
         domain,
@@ -199,7 +185,7 @@ fn push_wrong_object(
 
 // ---- both
 
-/// Writes it as text or in JSON.
+/// Writes the lines of a flow that isn't right, as text or in JSON.
 pub(crate) fn push_wrong(
     alloc: Global,
     audited: &AuditedDomain<'_>,
@@ -213,11 +199,9 @@ pub(crate) fn push_wrong(
 ) -> Result<(), NoMemory>
     requires flow { flow < length (audited_value audited.now).domain.topology.flows }
     requires domain { ended.now.flight.domain ≡ (audited_value audited.now).domain }
-    ensures added { OnOk result ((listed : FlowValue) →
-        slice_get (audited_value audited.now).domain.topology.flows flow ≡ Some listed →
-        string_bytes text.new ≡ string_bytes text.old
-        ++ wrong_flow_lines options (facts (audited_value audited.now).domain) (audited_value audited.now).summary flow listed
-        ttl ended.now.travel (explanation_in ended.now causes.now found.now)) }
+    ensures added { OnOk result (AppendsLinesOfFlow audited.now flow
+        (wrong_flow_lines_of audited.now options ttl ended.now causes.now found.now)
+        (string_bytes text.old) (string_bytes text.new)) }
 {
     let travels = options.travels;
     if options.json {

@@ -1,18 +1,18 @@
-//! What an audit is of.
+//! The domain that is audited.
 
 use mc_explain::InterfacesOfLans;
 use mc_forward::Domain;
 use mc_tables::CacheSummary;
 
-/// A domain, what is noted of each router's cache, the first router's first, and the interfaces that
-/// the topology has on each LAN. Some routers may be left out: their tables aren't known.
+/// A domain, a summary of each router's cache, in the order of the routers, and the interfaces that the
+/// topology has on each LAN. Some routers may be excluded: their tables aren't known.
 #[derive(Drop)]
 pub(crate) struct AuditedDomain<'d> {
     pub(crate) domain: &'d Domain,
     pub(crate) summary: &'d [CacheSummary],
     pub(crate) interfaces: &'d InterfacesOfLans,
-    /// The names of the routers that are left out.
+    /// The names of the excluded routers.
     pub(crate) without: &'d [&'d str],
-    /// A mark for each router: whether it is left out.
+    /// A mark for each router: whether it is excluded.
     pub(crate) excluded: &'d [bool],
 }

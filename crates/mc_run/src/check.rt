@@ -16,7 +16,7 @@ ghost use Rattle.mc_run.specs.CheckRun.{KeepsHeadline, SaysYes};
 ghost use Rattle.mc_text.specs.Device.{failures_after};
 ghost use Rattle.mc_run.specs.Failures.{IsNoDeviceFault, is_read, is_write};
 ghost use Rattle.mc_run.specs.Faults.{IsFaultOfCheck};
-ghost use Rattle.mc_run.specs.RunOutput.{Answers, Writes, WritesPart};
+ghost use Rattle.mc_run.specs.RunOutput.{Answers, IsWrittenWhole, WritesPart};
 
 use crate::fault::RunFault;
 use crate::run_output::{RunOutput, write_output};
@@ -35,7 +35,7 @@ struct Certified {
     certificate: Certificate,
 }
 
-/// A domain that was read, with its certificate.
+/// A domain that was read with a certificate's text, and the certificate, which is read here.
 fn with_certificate(alloc: Global, read: BundleDomain) -> Result<Certified, RunFault>
     requires rules { IsDomain read.domain }
     requires certified { is_some read.certificate ≡ true }
@@ -63,8 +63,8 @@ fn with_certificate(alloc: Global, read: BundleDomain) -> Result<Certified, RunF
     })
 }
 
-/// The domain and the certificate that an input's bundle tells: it says of each flow what the
-/// bundle says.
+/// Reads the domain and the certificate of an input's bundle. The domain has the facts of each flow that
+/// the bundle has.
 fn read_certified<R: Input>(alloc: Global, input: &mut R) -> Result<Certified, RunFault>
     requires failures { R.failed input.old < u64.MAX }
     ensures same { R.borrows input.new ≡ R.borrows input.old }
@@ -82,7 +82,7 @@ fn read_certified<R: Input>(alloc: Global, input: &mut R) -> Result<Certified, R
     with_certificate(alloc, read)
 }
 
-/// The text of the verdicts on the flows of a domain, by its certificate, and whether all are yes.
+/// The text of the verdicts on a domain's flows, by its certificate, and whether all verdicts are yes.
 fn verdicts_of_domain(alloc: Global, read: &Certified) -> Result<RunOutput, NoMemory>
     requires valid { BelongsTo read.now.domain.topology read.now.certificate }
     ensures text { IfOk result (λ run_output. IsTextOfVerdicts read.now.domain read.now.certificate
@@ -96,7 +96,7 @@ fn verdicts_of_domain(alloc: Global, read: &Certified) -> Result<RunOutput, NoMe
     Ok(RunOutput { text, yes })
 }
 
-/// The verdicts on the flows of the domain that an input's bundle tells, by its certificate.
+/// The text of the verdicts on the flows of an input's bundle, by its certificate.
 fn verdicts_of_input<R: Input>(alloc: Global, input: &mut R) -> Result<RunOutput, RunFault>
     requires failures { R.failed input.old < u64.MAX }
     ensures same { R.borrows input.new ≡ R.borrows input.old }
@@ -121,8 +121,13 @@ fn verdicts_of_input<R: Input>(alloc: Global, input: &mut R) -> Result<RunOutput
 }
 
 /// Reads a bundle with a certificate from the input, at most 268,435,552 bytes, and writes for each
-/// flow of its topology, in order, the verdict on it, and last `verdict yes` or `verdict no`. It
-/// answers whether all are yes. A refused bundle writes nothing.
+/// flow of its topology, in order, the verdict on it, and last `verdict yes` or `verdict no`. Returns
+/// whether all verdicts are yes.
+///
+/// # Errors
+///
+/// The first fault of the bundle; `Read` or `Write` if a device fails, and `Memory` if an allocation
+/// fails. Only `Write` may leave a part of the text written.
 pub fn run_check<R: Input, W: Output>(
     alloc: Global,
     input: &mut R,
@@ -132,24 +137,25 @@ pub fn run_check<R: Input, W: Output>(
     requires writes { W.failed output.old < u64.MAX }
     ensures input_same { R.borrows input.new ≡ R.borrows input.old }
     ensures output_same { W.borrows output.new ≡ W.borrows output.old }
-    // The answer is that of the definition, or the bundle's first fault.
+    // The answer is right, with some text, or is the first fault of the bundle.
     ensures answer { IfSome (R.remaining input.old) (λ text.
         Answers IsVerdictText (IsRefusedFor true) text result) }
-    // No more is read than the greatest bundle and a line, whatever the answer.
+    // At most the size of the greatest bundle and one line is read, whatever the answer.
     ensures consumed { ConsumesUpTo max_input (R.remaining input.old) (R.remaining input.new) }
-    // The verdict text is written whole, or a part of it where the output failed, or else nothing.
-    ensures written { IfOk result (λ all. IfSome (R.remaining input.old) (λ text.
-        Writes IsVerdictText text all (W.written output.old) (W.written output.new))) }
+    // After an answer, its text is written whole.
+    ensures written { IsWrittenWhole IsVerdictText (R.remaining input.old) result
+        (W.written output.old) (W.written output.new) }
+    // After a `Write` fault, a proper part of a right text was written, from its front.
     ensures part { result ≡ Err RunFault.Write → IfSome (R.remaining input.old) (λ text.
         WritesPart IsVerdictText text (W.written output.old) (W.written output.new)) }
+    // After any other fault, nothing was written.
     ensures unwritten { IfErr result (λ fault. fault ≢ RunFault.Write → output.new ≡ output.old) }
-    // No other fault is answered than one of a bundle with a certificate, or that a device failed or
-    // memory ran out.
+    // A fault is one of a bundle with a certificate, a device's, or `Memory`.
     ensures faults { IfErr result IsFaultOfCheck }
-    // Read and Write come only where the device's failures rose in the call.
+    // `Read` and `Write` come only where a call of that device failed.
     ensures read_failures { R.failed input.new ≡ failures_after is_read result (R.failed input.old) }
     ensures write_failures { W.failed output.new ≡ failures_after is_write result (W.failed output.old) }
-    // Where the run says yes, the headline holds of what it read.
+    // After a yes, the headline holds for what was read.
     ensures headline { SaysYes result (W.written output.old) (W.written output.new)
         → IfSome (R.remaining input.old) BundleKeepsHeadline }
 {

@@ -1,4 +1,4 @@
-//! The domain that a run on a bundle reads of its input.
+//! Reads a domain from the bundle of a run's input.
 
 ghost use Rattle.std.specs.Prelude.{◌≡◌, ◌<◌, IfErr, IfOk, IfSome, None, false};
 ghost use Rattle.mc_text.specs.ReadFault.{ConsumesUpTo};
@@ -15,8 +15,8 @@ use mc_input::read_bundle_domain;
 use mc_text::Input;
 use std::alloc::Global;
 
-/// The domain that an input's bundle tells, which has no certificate: it says of each flow what the
-/// bundle says.
+/// Reads the domain of an input's bundle, which has no certificate. The domain has the facts of each
+/// flow that the bundle has.
 pub(crate) fn read_domain<R: Input>(alloc: Global, input: &mut R) -> Result<Domain, RunFault>
     requires failures { R.failed input.old < u64.MAX }
     ensures same { R.borrows input.new ≡ R.borrows input.old }

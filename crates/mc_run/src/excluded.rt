@@ -1,4 +1,4 @@
-//! Which routers are left out by their names.
+//! Marks the routers that are excluded by their names.
 
 ghost use Rattle.std.specs.Prelude.{◌≡◌, ◌<◌, IfOk, length, map};
 ghost use Rattle.mc_topology.specs.Topology.{router_name};

@@ -1,9 +1,10 @@
-//! Why a run gives no answer.
+//! The fault of a run that gives no answer.
 
 ghost use Rattle.std.specs.Prelude.{◌≡◌};
 ghost use Rattle.mc_run.specs.declared.fault.RunFault.TheVariants.{Memory};
 ghost use Rattle.mc_run.specs.PackingRun.{from_pack_fault};
-ghost use Rattle.mc_run.specs.RunFault.{from_cert_fault, from_source_fault, from_input_fault, from_list_fault, from_read_fault};
+ghost use Rattle.mc_run.specs.RunFault.{from_cert_fault, from_source_fault, from_input_fault};
+ghost use Rattle.mc_run.specs.RunFault.{from_list_fault, from_read_fault};
 ghost use Rattle.mc_run.specs.RunFault.{from_without_fault};
 
 use mc_cert::{CertFault, CertFaultKind};
@@ -49,19 +50,19 @@ pub enum RunFault {
     /// (9) The input failed.
     #[error("failed: read")]
     Read,
-    /// (10) The output failed, or took no byte of a text that has one.
+    /// (10) The output failed, or took no byte of a nonempty text.
     #[error("failed: write")]
     Write,
     /// (11) Memory ran out.
     #[error("no memory")]
     Memory,
-    /// (12) No router of the topology has the name at this place, counted from 1, among those of the
-    /// routers to be left out.
+    /// (12) No router of the topology has the name at this place, counted from 1, in the list of the
+    /// excluded routers.
     #[error("refused: without: {0}")]
     NoSuchRouter(u32),
 }
 
-/// A bundle is refused. Want of memory is the run's own.
+/// A refused bundle. `Memory` becomes the run's `Memory`.
 impl From<InputFault> for RunFault {
     ghost from_gives = { λ input fault. fault ≡ from_input_fault input };
 
@@ -78,7 +79,7 @@ impl From<InputFault> for RunFault {
     }
 }
 
-/// A bundle, or a folder's files, are refused.
+/// A refused bundle, or a folder's refused files.
 impl From<SourceFault> for RunFault {
     ghost from_gives = { λ files fault. fault ≡ from_source_fault files };
 
@@ -90,7 +91,7 @@ impl From<SourceFault> for RunFault {
     }
 }
 
-/// A folder's files without some routers are refused.
+/// A folder's refused files, without the excluded routers.
 impl From<WithoutFault> for RunFault {
     ghost from_gives = { λ files fault. fault ≡ from_without_fault files };
 
@@ -102,7 +103,7 @@ impl From<WithoutFault> for RunFault {
     }
 }
 
-/// Nothing is packed. What is too large for a bundle is told of the bundle.
+/// Files that can't be packed. Whatever is too large becomes a fault of the bundle.
 impl From<PackFault> for RunFault {
     ghost from_gives = { λ packing fault. fault ≡ from_pack_fault packing };
 
@@ -117,7 +118,7 @@ impl From<PackFault> for RunFault {
     }
 }
 
-/// A certificate is refused. Want of memory is the run's own.
+/// A refused certificate. `Memory` becomes the run's `Memory`.
 impl From<CertFault> for RunFault {
     ghost from_gives = { λ certificate fault. fault ≡ from_cert_fault certificate };
 
@@ -129,7 +130,7 @@ impl From<CertFault> for RunFault {
     }
 }
 
-/// A report list is refused. Want of memory is the run's own.
+/// A refused report list. `Memory` becomes the run's `Memory`.
 impl From<ListFault> for RunFault {
     ghost from_gives = { λ list fault. fault ≡ from_list_fault list };
 

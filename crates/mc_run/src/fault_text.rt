@@ -1,4 +1,4 @@
-//! Why a file is refused for what stands in it, in words.
+//! Prints the fault of a file's contents, with its place in the file.
 
 ghost use Rattle.std.specs.Prelude.{◌≡◌, Some};
 ghost use Rattle.mc_run.specs.FaultText.{fault_text, line_or_none, line_of_fault, list_fault_text};
@@ -13,7 +13,7 @@ use mc_text::MAX_PART;
 use mc_topology::{TopologyFault, TopologyFaultKind};
 use std::fmt;
 
-/// What is wrong with a kernel's table.
+/// The word for a fault of a kernel's table.
 fn table_word(kind: TableFaultKind) -> &'static str
     ensures { result.now ≡ word_of_table kind }
 {
@@ -38,7 +38,7 @@ fn table_word(kind: TableFaultKind) -> &'static str
     }
 }
 
-/// What is wrong with a report list.
+/// The word for a fault of a report list.
 fn list_word(kind: ListFaultKind) -> &'static str
     ensures { result.now ≡ word_of_list kind }
 {
@@ -54,7 +54,7 @@ fn list_word(kind: ListFaultKind) -> &'static str
     }
 }
 
-/// What is wrong with a topology.
+/// The word for a fault of a topology.
 fn topology_word(kind: TopologyFaultKind) -> &'static str
     ensures { result.now ≡ word_of_topology kind }
 {
@@ -156,7 +156,7 @@ fn line_or_none(line: u32) -> Option<u32>
     if line == 0 { None } else { Some(line) }
 }
 
-/// The line of a file that a fault stands in, where it stands in one.
+/// The line of a fault in its file, counted from 1, if the fault is in a line.
 pub(crate) fn line_of_fault(fault: &InputFault) -> Option<u32>
     ensures { result ≡ line_of_fault fault.now }
 {

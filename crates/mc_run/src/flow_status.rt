@@ -1,32 +1,32 @@
-//! How flows stand, and how many stand so.
+//! The status of a flow, and counts of flows by status.
 
 ghost use Rattle.std.specs.Prelude.{◌≡◌, ◌<◌, ◌==◌};
 ghost use Rattle.mc_run.specs.AuditEnd.{with_status};
 
-/// How a flow stands.
+/// The status of a flow.
 #[derive(Clone, Copy, PartialEq, Eq)]
 pub(crate) enum FlowStatus {
-    /// It is right, and wanted by a LAN.
+    /// Right, and wanted by at least one LAN.
     Wanted,
-    /// It is right, and wanted by none.
+    /// Right, and wanted by no LAN.
     Unwanted,
-    /// It isn't right.
+    /// Not right.
     Wrong,
 }
 
-/// How many flows stand how.
+/// How many flows have each status.
 #[derive(Clone, Copy)]
 pub(crate) struct FlowCounts {
-    /// How many are right.
+    /// The number of right flows.
     pub(crate) right: u32,
-    /// How many aren't.
+    /// The number of wrong flows.
     pub(crate) wrong: u32,
-    /// How many are right and wanted by no LAN.
+    /// The number of right flows that no LAN wants.
     pub(crate) unwanted: u32,
 }
 
 impl FlowCounts {
-    /// None.
+    /// No flows.
     pub(crate) fn none() -> FlowCounts
         ensures right { result.right ≡ 0 }
         ensures wrong { result.wrong ≡ 0 }
@@ -39,7 +39,7 @@ impl FlowCounts {
         }
     }
 
-    /// These, and a flow that stands so.
+    /// These counts, with one more flow of this status.
     pub(crate) fn with(self, flow_status: FlowStatus) -> FlowCounts
         requires right { self.right < 4096 }
         requires wrong { self.wrong < 4096 }

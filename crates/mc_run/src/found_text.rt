@@ -1,4 +1,4 @@
-//! What is written of a flow that has no certificate.
+//! Writes the lines of a flow that has no certificate.
 
 ghost use Rattle.std.specs.Prelude.{◌≡◌, ◌++◌, OnOk};
 ghost use Rattle.std.specs.String.{string_bytes};
@@ -9,7 +9,7 @@ use mc_replay::Finding;
 use mc_text::Memory as NoMemory;
 use mc_topology::{Flow, Topology};
 
-/// Writes the line that says that a flow has none.
+/// Writes the line that says that a flow has no certificate.
 fn push_no_certificate(text: &mut String, flow: &Flow) -> Result<(), NoMemory>
     ensures { OnOk result (string_bytes text.new ≡
         string_bytes text.old ++ no_certificate_line flow.now) }
@@ -18,7 +18,7 @@ fn push_no_certificate(text: &mut String, flow: &Flow) -> Result<(), NoMemory>
     writeln!(text, "{words} no certificate").map_err(|_| NoMemory)
 }
 
-/// Writes the line of what a packet with this time to live meets.
+/// Writes the line with the finding of a packet with this time to live.
 fn push_finding(
     text: &mut String,
     topology: &Topology,
@@ -32,8 +32,8 @@ fn push_finding(
     writeln!(text, "found ttl {ttl} {finding}").map_err(|_| NoMemory)
 }
 
-/// Writes the two lines of a flow without a certificate, of which a packet with this time to live
-/// meets this.
+/// Writes the two lines of a flow without a certificate: that it has none, and the finding of a packet
+/// with this time to live.
 pub(crate) fn push_found_lines(
     text: &mut String,
     topology: &Topology,

@@ -1,4 +1,4 @@
-//! The front of a line of a file, looked for in the file's bytes as they come in pieces.
+//! Reads the front of one line of a file, whose bytes come in pieces.
 
 ghost use Rattle.std.specs.Prelude.{◌≡◌, ◌≢◌, ◌<◌, ◌≤◌, ◌∷◌, ℕ, List, [], Some, IfErr, IfOk, IfSome};
 ghost use Rattle.std.specs.Prelude.{OnOk, length, option_map, take, vec_len};
@@ -12,20 +12,20 @@ use mc_files::{FileFault, PieceSource};
 use mc_text::{MAX_PART, Memory as NoMemory};
 use std::alloc::Global;
 
-/// How many bytes of a line are shown at most.
+/// The most bytes of a line that are printed.
 const MAX_SHOWN: usize = 100;
 
-/// The front of a line, as far as it is found.
+/// The front of a line, as far as its bytes came.
 #[derive(Drop)]
 pub(crate) struct LineFront {
-    /// How many line feeds come before the line still.
+    /// The number of line feeds that still come before the line.
     before: u32,
-    /// What is found of the line.
+    /// The bytes of the line so far.
     front: Vec<u8>,
 }
 
 impl LineFront {
-    /// That of the line with this number, counted from 1, of which nothing is found yet.
+    /// The empty front of the line with this number, counted from 1; 0 means the first line too.
     fn new(alloc: Global, line: u32) -> LineFront
         ensures few { vec_len result.front ≤ MAX_SHOWN }
         ensures front { (text : List ℕ) → front_after_more result text ≡ line_front line text }
@@ -36,7 +36,7 @@ impl LineFront {
         }
     }
 
-    /// Takes the next byte of the line itself, and answers whether the front is found.
+    /// Takes the next byte of the line itself, and returns whether the front is complete.
     fn take_shown(&mut self, byte: u8) -> Result<bool, NoMemory>
         requires here { self.old.before ≡ 0 }
         requires few { vec_len self.old.front ≤ MAX_SHOWN }
@@ -53,7 +53,7 @@ impl LineFront {
         Ok(false)
     }
 
-    /// Takes the next byte of the text, and answers whether the front is found.
+    /// Takes the next byte of the text, and returns whether the front is complete.
     fn take_byte(&mut self, byte: u8) -> Result<bool, NoMemory>
         requires few { vec_len self.old.front ≤ MAX_SHOWN }
         ensures few { vec_len self.new.front ≤ MAX_SHOWN }
@@ -68,7 +68,7 @@ impl LineFront {
         Ok(false)
     }
 
-    /// Takes the next piece of the text, and answers whether the front is found.
+    /// Takes the next piece of the text, and returns whether the front is complete.
     fn take(&mut self, piece: &[u8]) -> Result<bool, NoMemory>
         requires few { vec_len self.old.front ≤ MAX_SHOWN }
         ensures few { vec_len self.new.front ≤ MAX_SHOWN }
@@ -82,7 +82,7 @@ impl LineFront {
         Ok(false)
     }
 
-    /// What is found.
+    /// The bytes of the front.
     fn into_front(self) -> Vec<u8>
         ensures { result.items ≡ self.front.items }
     {
@@ -91,7 +91,7 @@ impl LineFront {
     }
 }
 
-/// Looks for the front in the open file, as far as a part of a bundle may go.
+/// Reads the front from the open file, of which it reads at most the size of a bundle's part.
 fn seek_front<F: PieceSource>(
     files: &mut F,
     buffer: &mut [u8],
@@ -127,7 +127,7 @@ fn seek_front<F: PieceSource>(
     Ok(())
 }
 
-/// The front of a line of the open file, which is closed then; none where the source fails to give it.
+/// The front of a line of the open file, which it closes; none if the source fails to give it.
 fn front_in_open_file<F: PieceSource>(
     alloc: Global,
     files: &mut F,
@@ -154,12 +154,12 @@ fn front_in_open_file<F: PieceSource>(
     }
 }
 
-/// The front of the line with this number, counted from 1, of the file with the name; none where the
-/// source fails to give the file.
+/// The front of the line with this number, counted from 1, of the file with this name: at most 100
+/// bytes; none if the source fails to give the file.
 ///
 /// # Errors
 ///
-/// `Memory` where a growth was refused.
+/// `Memory` if an allocation fails.
 pub(crate) fn front_of_line<F: PieceSource>(
     alloc: Global,
     files: &mut F,

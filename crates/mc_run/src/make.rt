@@ -1,5 +1,4 @@
-//! `mcaudit make`: the certificate of a domain, or for each flow that has none what a packet of it
-//! meets.
+//! `mcaudit make`: the certificate of a domain, or for each flow that has none the finding of a packet.
 
 ghost use Rattle.std.specs.Prelude.{◌≡◌, ◌≢◌, ◌++◌, ◌<◌, IfErr, IfOk, IfSome, Err, codes, false};
 ghost use Rattle.std.specs.String.{string_bytes};
@@ -12,7 +11,7 @@ ghost use Rattle.mc_text.specs.Device.{failures_after};
 ghost use Rattle.mc_run.specs.Failures.{is_read, is_write};
 ghost use Rattle.mc_run.specs.Faults.{IsFaultOfMake};
 ghost use Rattle.mc_run.specs.MakeRun.{AreMadeListsAndLines, IsMadeText, IsMakeOutput, SaysAllRight};
-ghost use Rattle.mc_run.specs.RunOutput.{Answers, Writes, WritesPart};
+ghost use Rattle.mc_run.specs.RunOutput.{Answers, IsWrittenWhole, WritesPart};
 
 use crate::domain_input::read_domain;
 use crate::fault::RunFault;
@@ -25,7 +24,7 @@ use mc_text::{Input, Memory as NoMemory, Output};
 use mc_topology::Topology;
 use std::alloc::Global;
 
-/// The lists of the flows that have one, and the lines of those that have none.
+/// The lists of the flows that are certified, and the lines of those that aren't.
 #[derive(Drop)]
 struct MadeLists {
     lists: Trees,
@@ -56,7 +55,7 @@ fn examine_all(alloc: Global, domain: &Domain) -> Result<MadeLists, NoMemory>
     Ok(MadeLists { lists, lines })
 }
 
-/// The text of the certificate of these lists, one for each flow of the topology, and a line feed.
+/// The text of the certificate with these lists, one for each flow of the topology, and a line feed.
 fn certificate_text(alloc: Global, topology: &Topology, lists: Trees) -> Result<String, NoMemory>
     requires valid { BelongsTo topology.now lists }
     ensures ok { IfOk result (λ text. string_bytes text ≡
@@ -67,9 +66,10 @@ fn certificate_text(alloc: Global, topology: &Topology, lists: Trees) -> Result<
     Ok(text)
 }
 
-/// What is written of a domain, and whether it is a certificate.
+/// The text for a domain, and whether it is a certificate.
 fn make_for_domain(alloc: Global, domain: &Domain) -> Result<RunOutput, NoMemory>
-    ensures { IfOk result (λ run_output. IsMakeOutput domain.now run_output.yes (string_bytes run_output.text)) }
+    ensures { IfOk result (λ run_output. IsMakeOutput domain.now run_output.yes
+        (string_bytes run_output.text)) }
 {
     let made = examine_all(alloc, domain)?;
     if !made.lines.is_empty() {
@@ -82,7 +82,7 @@ fn make_for_domain(alloc: Global, domain: &Domain) -> Result<RunOutput, NoMemory
     Ok(RunOutput { text, yes: true })
 }
 
-/// What is written of the domain that an input's bundle tells.
+/// The text for the domain of an input's bundle.
 fn make_for_input<R: Input>(alloc: Global, input: &mut R) -> Result<RunOutput, RunFault>
     requires failures { R.failed input.old < u64.MAX }
     ensures same { R.borrows input.new ≡ R.borrows input.old }
@@ -105,10 +105,14 @@ fn make_for_input<R: Input>(alloc: Global, input: &mut R) -> Result<RunOutput, R
 }
 
 /// Reads a bundle without a certificate from the input, at most 268,435,552 bytes, and examines
-/// each flow of its topology. Where all are right, it writes their certificate, as JSON of version
-/// 2 with a line feed. Else it writes for each flow that isn't, in order, that it has no
-/// certificate, and what a packet of it meets. It answers whether a certificate is written. A
-/// refused bundle writes nothing.
+/// each flow of its topology. If all flows are right, it writes their certificate, as JSON of version
+/// 2 with a line feed. Otherwise it writes for each flow that isn't right, in order, that it has no
+/// certificate, and the finding of a packet. Returns whether a certificate is written.
+///
+/// # Errors
+///
+/// The first fault of the bundle; `Read` or `Write` if a device fails, and `Memory` if an allocation
+/// fails. Only `Write` may leave a part of the text written.
 pub fn run_make<R: Input, W: Output>(
     alloc: Global,
     input: &mut R,
@@ -118,25 +122,25 @@ pub fn run_make<R: Input, W: Output>(
     requires writes { W.failed output.old < u64.MAX }
     ensures input_same { R.borrows input.new ≡ R.borrows input.old }
     ensures output_same { W.borrows output.new ≡ W.borrows output.old }
-    // The answer is that of the definition, or the bundle's first fault.
+    // The answer is right, with some text, or is the first fault of the bundle.
     ensures answer { IfSome (R.remaining input.old) (λ text.
         Answers IsMadeText (IsRefusedFor false) text result) }
-    // It is true exactly where every listed flow is right.
+    // It is true exactly if every listed flow is right.
     ensures right { IfOk result (λ certified.
         IfSome (R.remaining input.old) (λ text. SaysAllRight text certified)) }
-    // No more is read than the greatest bundle and a line, whatever the answer.
+    // At most the size of the greatest bundle and one line is read, whatever the answer.
     ensures consumed { ConsumesUpTo max_input (R.remaining input.old) (R.remaining input.new) }
-    // The certificate or the lines are written whole, or a part where the output failed, or else
-    // nothing.
-    ensures written { IfOk result (λ certified. IfSome (R.remaining input.old) (λ text.
-        Writes IsMadeText text certified (W.written output.old) (W.written output.new))) }
+    // After an answer, its text is written whole.
+    ensures written { IsWrittenWhole IsMadeText (R.remaining input.old) result
+        (W.written output.old) (W.written output.new) }
+    // After a `Write` fault, a proper part of a right text was written, from its front.
     ensures part { result ≡ Err RunFault.Write → IfSome (R.remaining input.old) (λ text.
         WritesPart IsMadeText text (W.written output.old) (W.written output.new)) }
+    // After any other fault, nothing was written.
     ensures unwritten { IfErr result (λ fault. fault ≢ RunFault.Write → output.new ≡ output.old) }
-    // No other fault is answered than one of a bundle without a certificate, or that a device failed
-    // or memory ran out.
+    // A fault is one of a bundle without a certificate, a device's, or `Memory`.
     ensures faults { IfErr result IsFaultOfMake }
-    // Read and Write come only where the device's failures rose in the call.
+    // `Read` and `Write` come only where a call of that device failed.
     ensures read_failures { R.failed input.new ≡ failures_after is_read result (R.failed input.old) }
     ensures write_failures { W.failed output.new ≡ failures_after is_write result (W.failed output.old) }
 {

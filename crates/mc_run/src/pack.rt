@@ -15,9 +15,14 @@ use mc_files::FileSource;
 use mc_text::Output;
 use std::alloc::Global;
 
-/// Reads the files of a domain, the certificate among them where one is asked for, each at most
-/// 16,777,216 bytes, and writes the bundle that is packed of them. It judges the topology, before
-/// it asks for the next file, and no other file. Files that make no bundle write nothing.
+/// Reads the files of a domain, each at most 16,777,216 bytes, and writes the bundle of them. With
+/// `certificate`, the certificate is one of the files. The topology is checked before the next file is
+/// opened; no other file is checked.
+///
+/// # Errors
+///
+/// The topology's fault, or that the files are too large for a bundle; `Read` or `Write` if a device
+/// fails, and `Memory` if an allocation fails. Only `Write` may leave a part of the bundle written.
 pub fn run_pack<F: FileSource, W: Output>(
     alloc: Global,
     files: &mut F,
@@ -29,21 +34,22 @@ pub fn run_pack<F: FileSource, W: Output>(
     ensures files_same { F.borrows files.new ≡ F.borrows files.old }
     ensures output_same { W.borrows output.new ≡ W.borrows output.old }
     ensures kept { F.contents files.new ≡ F.contents files.old }
-    // There is a bundle of the files, or the answer is the first reason why there is none.
+    // The files have a bundle, or the answer is the first reason why they have none.
     ensures answer { IfSome (F.contents files.old) (λ contents. IsPackRunAnswer certificate contents result) }
-    // Where there is one, only a device or lack of memory keeps it from being written.
+    // If they have one, only a device's fault or `Memory` keeps it from being written.
     ensures only { (contents : List FileText) (parts : List PartText) → F.contents files.old ≡ Some contents
         → IsPacked contents certificate parts → IfErr result IsDeviceOrMemoryFault }
-    // The bundle is written whole, or a part of it where the output failed, or else nothing.
+    // After success, the bundle is written whole.
     ensures written { IfOk result (λ _. IfSome (F.contents files.old) (λ contents.
         WritesPackedBundle certificate contents (W.written output.old) (W.written output.new))) }
+    // After a `Write` fault, a proper part of the bundle was written, from its front.
     ensures part { result ≡ Err RunFault.Write → IfSome (F.contents files.old) (λ contents.
         WritesPackedPrefix certificate contents (W.written output.old) (W.written output.new)) }
+    // After any other fault, nothing was written.
     ensures unwritten { IfErr result (λ fault. fault ≢ RunFault.Write → output.new ≡ output.old) }
-    // No other fault is answered than the topology's, that something is too large for a bundle, or
-    // that a device failed or memory ran out.
+    // A fault is the topology's, that something is too large for a bundle, a device's, or `Memory`.
     ensures faults { IfErr result IsFaultOfPack }
-    // Read and Write come only where the device's failures rose in the call.
+    // `Read` and `Write` come only where a call of that device failed.
     ensures read_failures { F.failed files.new ≡ failures_after is_read result (F.failed files.old) }
     ensures write_failures { W.failed output.new ≡ failures_after is_write result (W.failed output.old) }
 {

@@ -1,18 +1,18 @@
-//! Bytes as they are written between quotes.
+//! Prints bytes between quotes.
 
 ghost use Rattle.std.specs.Prelude.{◌≡◌, Some};
 ghost use Rattle.mc_run.specs.RefusalText.{is_unescaped as unescaped, quoted, quoted_byte};
 
 use std::fmt;
 
-/// Whether a byte stands between quotes as it is.
+/// Whether a byte is printed unescaped between quotes.
 fn is_unescaped(byte: u8) -> bool
     ensures { result ≡ unescaped byte }
 {
     matches!(byte, 0x20..=0x7e) && byte != b'"' && byte != b'\\'
 }
 
-/// A byte between quotes, as `e` or `\x22`.
+/// A byte that prints between quotes, as `e` or `\x22`.
 #[derive(Clone, Copy, Drop)]
 struct QuotedByte {
     byte: u8,
@@ -32,7 +32,7 @@ impl fmt::Display for QuotedByte {
     }
 }
 
-/// Bytes between quotes: those outside 0x20 to 0x7e, the quote and the backslash as `\xhh`.
+/// Bytes that print between quotes: a quote, a backslash and bytes outside 0x20 to 0x7e as `\xhh`.
 #[derive(Clone, Copy, Drop)]
 pub(crate) struct Quoted<'b> {
     /// The bytes.

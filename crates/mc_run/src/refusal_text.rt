@@ -1,15 +1,15 @@
-//! What is told of all files of a folder that are refused, file by file, with the line that a fault
-//! stands in.
+//! Prints all refused files of a folder, with the fault of each and the front of the line that has it.
 
 ghost use Rattle.std.specs.Prelude.{◌≡◌, ◌≢◌, ◌<◌, ◌++◌, ℕ, List, [], IfErr, IfOk, IfSome, OnOk};
 ghost use Rattle.std.specs.Prelude.{codes, length, map, option_map, unwrap_or};
 ghost use Rattle.std.specs.String.{string_bytes};
 ghost use Rattle.mc_text.specs.Device.{failures_after};
-ghost use Rattle.mc_files.specs.UnreadText.{unread_text};
+ghost use Rattle.mc_files.specs.FilePart.{unread_text};
 ghost use Rattle.mc_input.specs.declared.each_file.Refusal.TheVariants.{Fault};
 ghost use Rattle.mc_run.specs.Failures.{is_write};
-ghost use Rattle.mc_run.specs.RefusalText.{AppendsWithFailures, AreFirst50Lines, AreRefusedFileLines, IsRefusalReason};
-ghost use Rattle.mc_run.specs.RefusalText.{IsFrontText, IsRefusedFileLine, IsRefusalText, IsTextWritten};
+ghost use Rattle.mc_run.specs.RefusalText.{AppendsWithFailures, AreFirst50Lines, AreRefusedFileLines};
+ghost use Rattle.mc_run.specs.RefusalText.{IsFrontText, IsReasonOfFile, IsRefusalReason, IsRefusedFileLine};
+ghost use Rattle.mc_run.specs.RefusalText.{IsRefusalText, IsTextWritten};
 ghost use Rattle.mc_run.specs.RefusalText.{more_line, quoted};
 
 use crate::fault::RunFault;
@@ -21,10 +21,10 @@ use mc_input::{InputFault, PIECE, Refusal, RefusedFile, refused_files};
 use mc_text::{Memory as NoMemory, Output, write_all};
 use std::alloc::Global;
 
-/// How many files are told of at most.
+/// The most files that are printed.
 const MAX_SHOWN_FILES: usize = 50;
 
-/// Writes the front of a line in quotes, an empty one where there is none.
+/// Writes the front of a line in quotes; none is written as an empty one.
 fn push_quoted(text: &mut String, front: &Option<Vec<u8>>) -> Result<(), NoMemory>
     ensures { OnOk result (string_bytes text.new ≡ string_bytes text.old ++ (codes ": \""
         ++ (quoted (unwrap_or (option_map (λ front. front.items) front.now) []) ++ codes "\""))) }
@@ -38,7 +38,7 @@ fn push_quoted(text: &mut String, front: &Option<Vec<u8>>) -> Result<(), NoMemor
     }
 }
 
-/// Writes the front of the line that a fault of a file stands in, where it stands in one.
+/// Writes the front of the line of a file's fault, if the fault is in a line.
 fn push_line_front<F: PieceSource>(
     alloc: Global,
     files: &mut F,
@@ -60,7 +60,7 @@ fn push_line_front<F: PieceSource>(
     push_quoted(text, &front)
 }
 
-/// Writes why a file is refused for what stands in it.
+/// Writes the fault of a file's contents, and the front of its line.
 fn push_fault<F: PieceSource>(
     alloc: Global,
     files: &mut F,
@@ -72,7 +72,8 @@ fn push_fault<F: PieceSource>(
     requires room { 0 < length buffer.old }
     ensures same { F.borrows files.new ≡ F.borrows files.old }
     ensures kept { F.contents files.new ≡ F.contents files.old }
-    ensures adds { OnOk result (AppendsWithFailures (IsRefusalReason (F.contents files.old) name.now (Fault fault.now))
+    ensures adds { OnOk result (AppendsWithFailures (IsRefusalReason (F.contents files.old) name.now
+        (Fault fault.now))
         (string_bytes text.old) (string_bytes text.new) (F.failed files.old) (F.failed files.new)) }
 {
     let shown = ShownFault { fault };
@@ -80,7 +81,7 @@ fn push_fault<F: PieceSource>(
     push_line_front(alloc, files, buffer, name, line_of_fault(fault), text)
 }
 
-/// Writes why a file can't be read.
+/// Writes why a file couldn't be read.
 fn push_unread(alloc: Global, text: &mut String, unread: &Unread) -> Result<(), NoMemory>
     ensures { OnOk result ((words : List ℕ)
         × IfSome (unread_text unread.now) (λ known. words ≡ known)
@@ -102,8 +103,7 @@ fn push_refusal<F: PieceSource>(
     requires room { 0 < length buffer.old }
     ensures same { F.borrows files.new ≡ F.borrows files.old }
     ensures kept { F.contents files.new ≡ F.contents files.old }
-    ensures adds { OnOk result (AppendsWithFailures
-        (IsRefusalReason (F.contents files.old) (string_bytes refused.now.name) refused.now.refusal)
+    ensures adds { OnOk result (AppendsWithFailures (IsReasonOfFile (F.contents files.old) refused.now)
         (string_bytes text.old) (string_bytes text.new) (F.failed files.old) (F.failed files.new)) }
 {
     let name = refused.name.as_str();
@@ -113,7 +113,7 @@ fn push_refusal<F: PieceSource>(
     }
 }
 
-/// Writes the line of a file that is refused.
+/// Writes the line of a refused file.
 fn push_refused_file<F: PieceSource>(
     alloc: Global,
     files: &mut F,
@@ -154,7 +154,7 @@ fn push_refused_files<F: PieceSource>(
     Ok(())
 }
 
-/// Writes how many files more are refused, where there are more.
+/// Writes how many further files are refused, if there are any.
 fn push_more_files(text: &mut String, more: usize) -> Result<(), NoMemory>
     ensures { OnOk result (string_bytes text.new ≡ string_bytes text.old ++ more_line more) }
 {
@@ -164,7 +164,7 @@ fn push_more_files(text: &mut String, more: usize) -> Result<(), NoMemory>
     writeln!(text, "  and {more} more").map_err(|_| NoMemory)
 }
 
-/// Writes a line for each of the first 50 files, and how many more there are.
+/// Writes a line for each of the first 50 files, and how many further ones there are.
 fn push_first_files<F: PieceSource>(
     alloc: Global,
     files: &mut F,
@@ -182,14 +182,14 @@ fn push_first_files<F: PieceSource>(
     push_more_files(text, refused.len() - first)
 }
 
-/// A line for each file of a folder that is refused, in the order of a domain's files, with the
-/// front of the line that its fault stands in: at most 50 lines, and one that says how many more
-/// files are refused. Of a refused topology alone, since it names the other files. Nothing where no
-/// file is refused. The files of the routers of the names `without` aren't asked for.
+/// A line for each refused file of a folder, in the order of a domain's files, with the first fault and
+/// the front of the line that has it: at most 50 lines, and one with the number of further refused
+/// files. If the topology is refused, it is the only one, since it names the other files. The text is
+/// empty if no file is refused. The files of the routers with the names `without` aren't opened.
 ///
 /// # Errors
 ///
-/// `Memory` where a growth was refused.
+/// `Memory` if an allocation fails.
 pub fn refusal_lines<F: PieceSource>(
     alloc: Global,
     files: &mut F,
@@ -197,8 +197,8 @@ pub fn refusal_lines<F: PieceSource>(
 ) -> Result<String, NoMemory>
     ensures same { F.borrows files.new ≡ F.borrows files.old }
     ensures kept { F.contents files.new ≡ F.contents files.old }
-    // A line for each file that is refused, by its own first fault, with the front of the fault's line
-    // in the text that the source has of the file.
+    // The text has a line for each refused file, with its own first fault and the front of the fault's
+    // line in the source's file.
     ensures text { IfOk result (λ text. IsRefusalText (map (λ n. n.now) without.now)
         (F.contents files.old) (F.failed files.old) (F.failed files.new) (string_bytes text)) }
 {
@@ -208,12 +208,12 @@ pub fn refusal_lines<F: PieceSource>(
     Ok(text)
 }
 
-/// Writes a line for each file of a folder that is refused, as [`refusal_lines`] gives them.
+/// Writes the lines of [`refusal_lines`] to the output.
 ///
 /// # Errors
 ///
-/// `Memory` where memory ran out before anything was written, and `Write` where the output failed, or
-/// took no byte of a text that has one: a part of the lines was taken then, from their front.
+/// `Memory` if an allocation fails, before anything is written; `Write` if the output fails, or takes
+/// no byte of a nonempty text, after a part of the lines was written, from their front.
 pub fn print_refused_files<F: PieceSource, W: Output>(
     alloc: Global,
     files: &mut F,
@@ -224,10 +224,11 @@ pub fn print_refused_files<F: PieceSource, W: Output>(
     ensures files_same { F.borrows files.new ≡ F.borrows files.old }
     ensures output_same { W.borrows output.new ≡ W.borrows output.old }
     ensures kept { F.contents files.new ≡ F.contents files.old }
-    // The lines are written whole, or a part of them where the output failed, or else nothing.
+    // The lines are written whole; a part of them after a `Write` fault; nothing after `Memory`.
     ensures printed { IsTextWritten (IsRefusalText (map (λ n. n.now) without.now)
         (F.contents files.old) (F.failed files.old) (F.failed files.new))
         result (W.written output.old) (W.written output.new) }
+    // After any other fault, nothing was written.
     ensures unwritten { IfErr result (λ fault. fault ≢ RunFault.Write → output.new ≡ output.old) }
     ensures failures { W.failed output.new ≡ failures_after is_write result (W.failed output.old) }
 {

@@ -1,4 +1,4 @@
-//! `mcaudit replay`: the travel of one packet through a domain, event by event, and what it shows.
+//! `mcaudit replay`: the travel of one packet through a domain, event by event, and its finding.
 
 ghost use Rattle.std.specs.Prelude.{◌≡◌, ◌≢◌, ◌+◌, ◌<◌, ◌⊎◌, IfErr, IfOk, IfSome, Err, false};
 ghost use Rattle.std.specs.Prelude.{length};
@@ -10,7 +10,7 @@ ghost use Rattle.mc_run.specs.Failures.{is_read, is_write};
 ghost use Rattle.mc_run.specs.Faults.{IsFaultOfReplay};
 ghost use Rattle.mc_run.specs.ReplayRun.{HasNoTravel, IsReplayRefused, IsTextOfTravel};
 ghost use Rattle.mc_run.specs.ReplayRun.{IsTravelText};
-ghost use Rattle.mc_run.specs.RunOutput.{Answers, Writes, WritesPart};
+ghost use Rattle.mc_run.specs.RunOutput.{Answers, IsWrittenWhole, WritesPart};
 
 use crate::domain_input::read_domain;
 use crate::fault::RunFault;
@@ -21,7 +21,7 @@ use mc_replay::{Picker, replay};
 use mc_text::{Input, Output};
 use std::alloc::Global;
 
-/// The place, from 0, of the flow with this number, counted from 1.
+/// The index, counted from 0, of the flow with this number, counted from 1.
 fn flow_index(domain: &Domain, flow: u32) -> Result<u32, RunFault>
     ensures counted { IfOk result (λ place. flow ≡ place + 1) }
     ensures listed { IfOk result (λ place. place < length domain.now.topology.flows) }
@@ -34,7 +34,7 @@ fn flow_index(domain: &Domain, flow: u32) -> Result<u32, RunFault>
     Ok(flow - 1)
 }
 
-/// The text of the travel of a packet through a domain, and whether it is clean.
+/// The text of the travel of a packet through a domain, and whether the finding is `Clean`.
 fn travel_in_domain<P: Picker>(
     alloc: Global,
     domain: &Domain,
@@ -42,7 +42,7 @@ fn travel_in_domain<P: Picker>(
     ttl: u8,
     picker: &mut P,
 ) -> Result<RunOutput, RunFault>
-    requires positive { 0 < ttl }
+    requires ttl { 0 < ttl }
     ensures text { IfOk result (λ run_output. IsTextOfTravel domain.now flow ttl (P.choices picker.old)
         run_output.yes (string_bytes run_output.text)) }
     ensures none { IfErr result (HasNoTravel domain.now flow) }
@@ -56,7 +56,7 @@ fn travel_in_domain<P: Picker>(
     Ok(RunOutput { text, yes: clean })
 }
 
-/// The travel of a packet through the domain that an input's bundle tells.
+/// The text of the travel of a packet through the domain of an input's bundle.
 fn travel_of_input<P: Picker, R: Input>(
     alloc: Global,
     flow: u32,
@@ -82,8 +82,13 @@ fn travel_of_input<P: Picker, R: Input>(
 
 /// Reads a bundle without a certificate from the input, at most 268,435,552 bytes, and writes the
 /// travel of one packet of the flow with this number, counted from 1, sent with this time to live,
-/// 1 to 255, whose copies are handled in the order that the picker chooses: its events, and last
-/// what it shows. It answers whether that is `Clean`. A refused bundle writes nothing.
+/// 1 to 255, whose copies are handled in the order that the picker chooses: its events, and last its
+/// finding. Returns whether the finding is `Clean`.
+///
+/// # Errors
+///
+/// The first fault of the bundle, or `NoSuchFlow`; `Read` or `Write` if a device fails, and `Memory` if
+/// an allocation fails. Only `Write` may leave a part of the text written.
 pub fn run_replay<P: Picker, R: Input, W: Output>(
     alloc: Global,
     flow: u32,
@@ -97,24 +102,25 @@ pub fn run_replay<P: Picker, R: Input, W: Output>(
     requires writes { W.failed output.old < u64.MAX }
     ensures input_same { R.borrows input.new ≡ R.borrows input.old }
     ensures output_same { W.borrows output.new ≡ W.borrows output.old }
-    // The answer is that of the definition, or the bundle's first fault, or that it lists no such
-    // flow.
+    // The answer is right, with some text, or is the first fault of the bundle, or that the bundle's
+    // topology lists no such flow.
     ensures answer { IfSome (R.remaining input.old) (λ text.
         Answers (IsTravelText flow ttl (P.choices picker.old)) (IsReplayRefused flow) text result) }
-    // No more is read than the greatest bundle and a line, whatever the answer.
+    // At most the size of the greatest bundle and one line is read, whatever the answer.
     ensures consumed { ConsumesUpTo max_input (R.remaining input.old) (R.remaining input.new) }
-    // The travel's text is written whole, or a part of it where the output failed, or else nothing.
-    ensures written { IfOk result
-        (λ clean. IfSome (R.remaining input.old) (λ text. Writes (IsTravelText flow ttl
-        (P.choices picker.old)) text clean (W.written output.old) (W.written output.new))) }
+    // After an answer, its text is written whole.
+    ensures written { IsWrittenWhole (IsTravelText flow ttl (P.choices picker.old))
+        (R.remaining input.old) result (W.written output.old) (W.written output.new) }
+    // After a `Write` fault, a proper part of a right text was written, from its front.
     ensures part { result ≡ Err RunFault.Write → IfSome (R.remaining input.old) (λ text.
         WritesPart (IsTravelText flow ttl (P.choices picker.old)) text
         (W.written output.old) (W.written output.new)) }
+    // After any other fault, nothing was written.
     ensures unwritten { IfErr result (λ fault. fault ≢ RunFault.Write → output.new ≡ output.old) }
-    // No other fault is answered than one of a bundle without a certificate, that it lists no flow
-    // with this number, or that a device failed or memory ran out.
+    // A fault is one of a bundle without a certificate, that its topology lists no flow with this number,
+    // a device's, or `Memory`.
     ensures faults { IfErr result (IsFaultOfReplay flow) }
-    // Read and Write come only where the device's failures rose in the call.
+    // `Read` and `Write` come only where a call of that device failed.
     ensures read_failures { R.failed input.new ≡ failures_after is_read result (R.failed input.old) }
     ensures write_failures { W.failed output.new ≡ failures_after is_write result (W.failed output.old) }
 {

@@ -1,4 +1,4 @@
-//! What a run has to say, and the saying of it.
+//! The output of a run, and writing it.
 
 ghost use Rattle.std.specs.Prelude.{◌≡◌, ◌≢◌, ◌<◌, ℕ, IfErr, false};
 ghost use Rattle.mc_text.specs.Device.{failures_after};
@@ -8,27 +8,28 @@ ghost use Rattle.mc_run.specs.RunOutput.{IsOutputWritten};
 use crate::fault::RunFault;
 use mc_text::{Output, write_all};
 
-/// What is said: a text, and whether it says yes.
+/// The output of a run: a text, and whether its answer is yes.
 #[derive(Drop)]
 pub(crate) struct RunOutput {
     /// The text.
     pub(crate) text: String,
-    /// Whether it says yes.
+    /// Whether the answer is yes.
     pub(crate) yes: bool,
 }
 
-/// Writes what is to be said, and answers whether it says yes. A fault in its place is handed on,
+/// Writes the text, and returns whether the answer is yes. A fault in place of the output is returned,
 /// and nothing is written.
 pub(crate) fn write_output<W: Output>(
     run_output: Result<RunOutput, RunFault>,
     output: &mut W,
 ) -> Result<bool, RunFault>
     requires writes { W.failed output.old < u64.MAX }
-    requires unsaid { IfErr run_output (λ fault. is_write fault ≡ false) }
+    requires no_write { IfErr run_output (λ fault. is_write fault ≡ false) }
     ensures same { W.borrows output.new ≡ W.borrows output.old }
     ensures ended { IsOutputWritten run_output result (W.written output.old) (W.written output.new) }
     ensures unwritten { IfErr result (λ fault. fault ≢ RunFault.Write → output.new ≡ output.old) }
-    ensures reads { (before : ℕ) → failures_after is_read run_output before ≡ failures_after is_read result before }
+    ensures reads { (before : ℕ) → failures_after is_read run_output before
+        ≡ failures_after is_read result before }
     ensures failures { W.failed output.new ≡ failures_after is_write result (W.failed output.old) }
 {
     let run_output = match run_output {

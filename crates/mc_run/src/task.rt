@@ -1,4 +1,4 @@
-//! What the program's words ask for, done: each task runs its own run, with its own arguments.
+//! Runs the task that the command line asks for, with the task's own arguments.
 
 ghost use Rattle.std.specs.Prelude.{◌≡◌, ◌≢◌, ◌<◌, IfErr, true, false};
 ghost use Rattle.mc_text.specs.Device.{failures_after};
@@ -18,11 +18,15 @@ use mc_files::PieceSource;
 use mc_text::{Input, Output};
 use std::alloc::Global;
 
-/// Does a task: its run, with its own arguments, over the input, over the files, which have to be those
-/// of its folder, or over neither, as the task is. It answers what the run answers; of an audit, whether
-/// the answer is enough: it is yes and, where the words want it strict, no flow is wanted by nobody.
-/// `pack`, `help` and `--version` answer yes once all is written. What the runs promise as `faults` and
-/// `excluded` is said at each run alone.
+/// Runs a task with its own arguments. `wants`, `check`, `make` and `replay` read the input; `pack` and
+/// `audit` read the files, which have to be those of the task's folder; `help` and `--version` read
+/// neither. Returns the answer of the run. For an audit, that is whether its answer is enough: yes, and
+/// with `--strict` no right flow that nobody wants. `pack`, `help` and `--version` return true once all is
+/// written. The clauses `faults` and `excluded` are those of the runs, and aren't repeated here.
+///
+/// # Errors
+///
+/// The fault of the task's run.
 pub fn run_task<R: Input, F: PieceSource, W: Output>(
     alloc: Global,
     task: &Task<'_>,
@@ -39,22 +43,26 @@ pub fn run_task<R: Input, F: PieceSource, W: Output>(
     ensures output_same { W.borrows output.new ≡ W.borrows output.old }
     // What `run_wants` promises, with the group and the source of the task.
     ensures wants { IfWants task.now (λ group source. IsWantsRun group source
-        (R.remaining input.old) (R.remaining input.new) result (W.written output.old) (W.written output.new)) }
+        (R.remaining input.old) (R.remaining input.new) result
+        (W.written output.old) (W.written output.new)) }
     // What `run_check` promises.
     ensures check { IfCheck task.now (IsCheckRun
-        (R.remaining input.old) (R.remaining input.new) result (W.written output.old) (W.written output.new)) }
+        (R.remaining input.old) (R.remaining input.new) result
+        (W.written output.old) (W.written output.new)) }
     // What `run_make` promises.
     ensures make { IfMake task.now (IsMakeRun
-        (R.remaining input.old) (R.remaining input.new) result (W.written output.old) (W.written output.new)) }
+        (R.remaining input.old) (R.remaining input.new) result
+        (W.written output.old) (W.written output.new)) }
     // What `run_replay` promises, with the flow, the time to live and the order of the task.
     ensures replay { IfReplay task.now (λ flow ttl last. IsReplayRun flow ttl last
-        (R.remaining input.old) (R.remaining input.new) result (W.written output.old) (W.written output.new)) }
-    // What `run_pack` promises, with the certificate where the task wants it, and yes where the bundle
-    // is written.
+        (R.remaining input.old) (R.remaining input.new) result
+        (W.written output.old) (W.written output.new)) }
+    // What `run_pack` promises, with the certificate if the task asks for it, and yes once the bundle is
+    // written.
     ensures pack { IfPack task.now (λ certificate. IsPackRun certificate
         (F.contents files.old) result (W.written output.old) (W.written output.new)) }
-    // What `run_audit` promises, with the options of the words and without the routers that they name;
-    // and the answer is whether its answer is enough.
+    // What `run_audit` promises, with the options and the excluded routers of the task, and as the answer
+    // whether the audit's answer is enough.
     ensures audit { IfAudit task.now (λ words. IsAuditRun words
         (F.contents files.old) result (W.written output.old) (W.written output.new)) }
     // The text of the help is written.
@@ -63,11 +71,12 @@ pub fn run_task<R: Input, F: PieceSource, W: Output>(
     // The line with the version is written.
     ensures version { IfVersion task.now (IsTextRun VERSION_LINE.now
         result (W.written output.old) (W.written output.new)) }
-    // Of the two that are read from, only the task's own is.
+    // A task that doesn't read the input, or the files, leaves it as it was.
     ensures input_unread { reads_input task.now ≡ false → input.new ≡ input.old }
     ensures files_unread { reads_files task.now ≡ false → files.new ≡ files.old }
+    // After any other fault, nothing was written.
     ensures unwritten { IfErr result (λ fault. fault ≢ RunFault.Write → output.new ≡ output.old) }
-    // Read and Write come only where the device's failures rose in the call.
+    // `Read` and `Write` come only where a call of that device failed.
     ensures input_failures { reads_input task.now ≡ true
         → R.failed input.new ≡ failures_after is_read result (R.failed input.old) }
     ensures files_failures { reads_files task.now ≡ true

@@ -1,4 +1,4 @@
-//! The tasks that read the files of a folder: each runs its own run, with its own arguments.
+//! The tasks that read the files of a folder, each with its own arguments.
 
 ghost use Rattle.std.specs.Prelude.{◌≡◌, ◌≢◌, ◌<◌, IfErr};
 ghost use Rattle.mc_text.specs.Device.{failures_after};
@@ -16,7 +16,7 @@ use mc_files::PieceSource;
 use mc_text::Output;
 use std::alloc::Global;
 
-/// `mcaudit pack`, which answers yes where the bundle is written.
+/// `mcaudit pack`, which returns true once the bundle is written.
 pub(crate) fn pack_task<F: PieceSource, W: Output>(
     alloc: Global,
     certificate: bool,
@@ -39,7 +39,7 @@ pub(crate) fn pack_task<F: PieceSource, W: Output>(
     }
 }
 
-/// What the words ask an audit to judge and to show.
+/// The options of an audit, as the command line gives them.
 fn options_of(words: &WordsOptions) -> AuditOptions
     ensures { result ≡ options_of words.now }
 {
@@ -52,15 +52,14 @@ fn options_of(words: &WordsOptions) -> AuditOptions
     }
 }
 
-/// Whether an audit's answer is enough: it is yes and, where it has to be strict, no flow is wanted by
-/// nobody.
+/// Whether an audit's answer is enough: it is yes and, with `strict`, no right flow is wanted by nobody.
 fn is_enough(answer: AuditAnswer, strict: bool) -> bool
     ensures { result ≡ is_enough strict answer }
 {
     answer.yes && (answer.unwanted == 0 || !strict)
 }
 
-/// An audit's answer, as whether it is enough.
+/// Whether an audit's answer is enough, or the audit's fault.
 fn enough_of(audited: Result<AuditAnswer, RunFault>, strict: bool) -> Result<bool, RunFault>
     ensures { result ≡ enough_of strict audited }
 {
@@ -70,7 +69,7 @@ fn enough_of(audited: Result<AuditAnswer, RunFault>, strict: bool) -> Result<boo
     }
 }
 
-/// `mcaudit audit`, without whether its answer is enough.
+/// `mcaudit audit`, with the audit's own answer.
 fn audit_with_words<F: PieceSource, W: Output>(
     alloc: Global,
     words: &AuditWords<'_>,
@@ -91,7 +90,7 @@ fn audit_with_words<F: PieceSource, W: Output>(
     run_audit(alloc, files, options, &words.without, output)
 }
 
-/// `mcaudit audit`, which answers whether the audit's answer is enough.
+/// `mcaudit audit`, which returns whether the audit's answer is enough.
 pub(crate) fn audit_task<F: PieceSource, W: Output>(
     alloc: Global,
     words: &AuditWords<'_>,

@@ -1,4 +1,4 @@
-//! The tasks that read an input: each runs its own run, with its own arguments.
+//! The tasks that read the input, each with its own arguments.
 
 ghost use Rattle.std.specs.Prelude.{◌≡◌, ◌≢◌, ◌<◌, IfErr};
 ghost use Rattle.mc_text.specs.Device.{failures_after};
@@ -73,7 +73,7 @@ pub(crate) fn make_task<R: Input, W: Output>(
     run_make(alloc, input, output)
 }
 
-/// `mcaudit replay`, where the last of the waiting copies is always handled next, or the first.
+/// `mcaudit replay`, which always handles the last waiting copy next, with `last`, or else the first.
 pub(crate) fn replay_task<R: Input, W: Output>(
     alloc: Global,
     flow: u32,

@@ -1,4 +1,4 @@
-//! The tasks that read nothing, and write a text.
+//! The tasks that read nothing and write a text.
 
 ghost use Rattle.std.specs.Prelude.{◌≡◌, ◌≢◌, ◌<◌, IfErr};
 ghost use Rattle.mc_text.specs.Device.{failures_after};
@@ -8,10 +8,10 @@ ghost use Rattle.mc_run.specs.TaskRuns.{IsTextRun};
 use crate::fault::RunFault;
 use mc_text::{Output, write_all};
 
-/// The program's name and its version, which is that of the file VERSION, with a line feed.
+/// The program's name and its version, the one of the file VERSION, with a line feed.
 pub(crate) const VERSION_LINE: &str = "mcaudit 0.2.0\n";
 
-/// `mcaudit --version` and `mcaudit help`: writes the text, and answers yes.
+/// `mcaudit --version` and `mcaudit help`: writes the text, and returns true.
 pub(crate) fn text_task<W: Output>(text: &str, output: &mut W) -> Result<bool, RunFault>
     requires failures { W.failed output.old < u64.MAX }
     ensures same { W.borrows output.new ≡ W.borrows output.old }

@@ -1,4 +1,4 @@
-//! A travel as it is written, event by event.
+//! Writes a travel, event by event.
 
 ghost use Rattle.std.specs.Prelude.{◌≡◌, ◌++◌, IfOk, OnOk};
 ghost use Rattle.std.specs.String.{string_bytes};
@@ -18,7 +18,7 @@ pub(crate) fn is_clean(finding: Finding) -> bool
     matches!(finding, Finding::Clean)
 }
 
-/// The first line.
+/// The first line of a travel's text.
 fn first_line(alloc: Global, flow: &Flow, ttl: u8) -> Result<String, NoMemory>
     ensures { IfOk result (λ text. string_bytes text ≡ replay_line flow.now ttl) }
 {
@@ -34,7 +34,7 @@ fn push_event(text: &mut String, topology: &Topology, event: Event) -> Result<()
     writeln!(text, "event {event}").map_err(|_| NoMemory)
 }
 
-/// Writes the lines of events.
+/// Writes the lines of events, in order.
 pub(crate) fn push_events(
     text: &mut String,
     topology: &Topology,
@@ -58,7 +58,7 @@ fn push_finding(text: &mut String, topology: &Topology, finding: Finding) -> Res
     writeln!(text, "finding {finding}").map_err(|_| NoMemory)
 }
 
-/// The text of a travel of a flow's packet with this time to live.
+/// The text of the travel of a flow's packet with this time to live.
 pub(crate) fn travel_text(
     alloc: Global,
     topology: &Topology,

@@ -1,4 +1,4 @@
-//! The verdicts on the flows of a topology, as they are written.
+//! Writes the verdicts on the flows of a topology.
 
 ghost use Rattle.std.specs.Prelude.{◌≡◌, ◌++◌, IfOk, OnOk, Some, length};
 ghost use Rattle.std.specs.String.{string_bytes};
@@ -11,7 +11,7 @@ use mc_topology::{Flow, Topology};
 use std::alloc::Global;
 use std::fmt;
 
-/// The words that begin a flow's line, as `flow 10.0.0.5 239.1.2.3 ttl 3`.
+/// The words at the start of a flow's line, as `flow 10.0.0.5 239.1.2.3 ttl 3`.
 #[derive(Clone, Copy, Drop)]
 pub(crate) struct FlowWords<'t> {
     /// The flow.
@@ -36,7 +36,7 @@ pub(crate) fn are_yes(verdicts: &[Verdict]) -> bool
         .all(|verdict| matches!(verdict, Verdict::Yes { .. }))
 }
 
-/// Writes the line of a flow and of its verdict.
+/// Writes the line of a flow and its verdict.
 pub(crate) fn push_flow_verdict(
     text: &mut String,
     topology: &Topology,
@@ -51,7 +51,7 @@ pub(crate) fn push_flow_verdict(
     writeln!(text, "{words} {verdict}").map_err(|_| NoMemory)
 }
 
-/// Writes the last line.
+/// Writes the last line, the verdict on all flows.
 pub(crate) fn push_overall_verdict(text: &mut String, yes: bool) -> Result<(), NoMemory>
     ensures { OnOk result (string_bytes text.new ≡ string_bytes text.old ++ last_line yes) }
 {
@@ -59,7 +59,7 @@ pub(crate) fn push_overall_verdict(text: &mut String, yes: bool) -> Result<(), N
     text.push_str(last).map_err(|_| NoMemory)
 }
 
-/// A line for each flow of the topology, and the verdict on all.
+/// A line for each flow of the topology, and the verdict on all flows.
 pub(crate) fn check_text(
     alloc: Global,
     topology: &Topology,

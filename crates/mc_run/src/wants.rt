@@ -17,11 +17,11 @@ use mc_igmp::ListReader;
 use mc_text::{Addr, Input, Memory as NoMemory, Output, write_all};
 use std::alloc::Global;
 
-/// How many bytes are asked of the input at once.
+/// The number of bytes that are read from the input at once.
 const PIECE: usize = 65_536;
 
-/// Looks at the records of the lines that end in a piece, and tells whether one of them wants what
-/// the source sends to the group.
+/// Reads the records of the lines that end in a piece, and returns whether one of them wants what the
+/// source sends to the group.
 fn wanted_in_piece(
     reader: &mut ListReader,
     piece: &[u8],
@@ -39,7 +39,8 @@ fn wanted_in_piece(
     Ok(wanted)
 }
 
-/// Looks at the records of all lines that end, until the input ends or the list is too large.
+/// Reads the records of all complete lines, until the input ends or the list is too large. Returns
+/// whether one of them wants what the source sends to the group.
 fn wanted_in_pieces<R: Input>(
     input: &mut R,
     buffer: &mut [u8],
@@ -71,7 +72,7 @@ fn wanted_in_pieces<R: Input>(
     Ok(wanted)
 }
 
-/// Whether some record of the list that the input has wants what the source sends to the group.
+/// Whether some record of the input's list wants what the source sends to the group.
 fn wanted_in_input<R: Input>(
     alloc: Global,
     group: Addr,
@@ -96,7 +97,7 @@ fn wanted_in_input<R: Input>(
     Ok(wanted | wanted_by_last)
 }
 
-/// The line that tells the answer.
+/// The line of the answer.
 fn answer_text(wanted: bool) -> &'static str
     ensures { result.now ≡ answer_line wanted }
 {
@@ -104,8 +105,13 @@ fn answer_text(wanted: bool) -> &'static str
 }
 
 /// Reads a report list of one LAN from the input, at most 16,777,216 bytes, and writes `wanted` or
-/// `not wanted` with a line feed to the output. It answers whether the LAN wants what the source
-/// sends to the group. A refused list writes nothing.
+/// `not wanted` with a line feed to the output. Returns whether the LAN wants what the source sends to
+/// the group.
+///
+/// # Errors
+///
+/// The first fault of the list; `Read` or `Write` if a device fails, and `Memory` if an allocation
+/// fails. Only `Write` may leave a part of the line written.
 pub fn run_wants<R: Input, W: Output>(
     alloc: Global,
     group: Addr,
@@ -117,19 +123,22 @@ pub fn run_wants<R: Input, W: Output>(
     requires writes { W.failed output.old < u64.MAX }
     ensures input_same { R.borrows input.new ≡ R.borrows input.old }
     ensures output_same { W.borrows output.new ≡ W.borrows output.old }
-    // The answer is that of the definition, or the list's first fault.
+    // The answer is right, or is the first fault of the list.
     ensures answer { IfSome (R.remaining input.old) (λ text. AnswersWants text group source result) }
-    // No more is read than the greatest list and one byte, whatever the answer.
+    // At most the size of the greatest list and one byte is read, whatever the answer.
     ensures consumed { ConsumesUpTo (max_text + 1) (R.remaining input.old) (R.remaining input.new) }
-    // The answer's line is written whole, or a part of it where the output failed, or else nothing.
+    // After an answer, its line is written whole.
     ensures written { IfOk result (λ wanted.
         Appends (W.written output.old) (W.written output.new) (answer_line wanted)) }
+    // After a `Write` fault, a proper part of the line was written, from its front.
     ensures part { result ≡ Err RunFault.Write
-        → WritesPartOfLine (R.remaining input.old) group source (W.written output.old) (W.written output.new) }
+        → WritesPartOfLine (R.remaining input.old) group source (W.written output.old)
+        (W.written output.new) }
+    // After any other fault, nothing was written.
     ensures unwritten { IfErr result (λ fault. fault ≢ RunFault.Write → output.new ≡ output.old) }
-    // No other fault is answered than the list's, or that a device failed or memory ran out.
+    // A fault is the list's, a device's, or `Memory`.
     ensures faults { IfErr result IsFaultOfWants }
-    // Read and Write come only where the device's failures rose in the call.
+    // `Read` and `Write` come only where a call of that device failed.
     ensures read_failures { R.failed input.new ≡ failures_after is_read result (R.failed input.old) }
     ensures write_failures { W.failed output.new ≡ failures_after is_write result (W.failed output.old) }
 {

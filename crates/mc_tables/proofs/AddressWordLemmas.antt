@@ -15,12 +15,12 @@ use Rattle.mc_tables.specs.TableWords.{address_in}
 use Rattle.mc_tables.specs.RowWords.{HasAddresses}
 use Rattle.mc_tables.proofs.PlainRowLemmas.{words_of-address}
 
--- a word that decodes to four bytes shows the address of them
+-- a word that decodes to four bytes denotes the address of them
 address_in-decoded : (order : Order) (word bytes : List ℕ) → length bytes ≡ 4 → decode_of word ≡ Ok bytes
     → address_in order word ≡ Some (from_be_bytes w32 (octets_in_order order bytes))
 address_in-decoded order word bytes four decoded = rw (decoded, four) refl
 
--- the halves of sixteen digits, with others behind them
+-- the halves of sixteen digits with more behind them
 address_in-digit_halves : (order : Order) (a b more bytes : List ℕ) → length a ≡ 8 → length b ≡ 8
     → list_all is_hex_digit ((a ++ b) ++ more) ≡ true → bytes ≡ bytes_of_pairs ((a ++ b) ++ more)
     → (address_in order a ≡ Some (from_be_bytes w32 (octets_in_order order
@@ -44,7 +44,7 @@ address_in-digit_halves order
     )
 address_in-digit_halves order _ _ more bytes eight_a eight_b digits is = grind arith
 
--- the words of both addresses, of whose digits the lanes are made
+-- the words of both addresses, whose digits are in the lanes
 pub address_in-both_words : (order : Order) (line text bytes : List ℕ) → 25 ≤ length line
     → text ≡ (take 8 line ++ take 8 (drop 9 line)) ++ (take 8 line ++ take 8 (drop 9 line))
     → list_all is_hex_digit text ≡ true → bytes ≡ bytes_of_pairs text
@@ -60,7 +60,7 @@ address_in-both_words order line text bytes long parts digits is =
     (length-take-le 8 (drop 9 line) (omega (arith, long, size)))
     (subst (λ t. list_all is_hex_digit t ≡ true) parts digits) (is ∙ ap bytes_of_pairs parts)
 
--- two words in their places, with a space behind each, are a line's first words
+-- two words at their places, with a space after each, are a line's first words
 pub has_addresses-from_words : (order : Order) (line : List ℕ) (group origin : ℕ) → 18 ≤ length line
     → get_or line 8 0 ≡ 32 → get_or line 17 0 ≡ 32 → address_in order (take 8 line) ≡ Some group
     → address_in order (take 8 (drop 9 line)) ≡ Some origin → HasAddresses order line group origin

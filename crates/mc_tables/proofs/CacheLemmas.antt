@@ -1,4 +1,4 @@
--- What reading a cache gives is what its text stands for.
+-- What reading a cache gives is what its text denotes.
 use Rattle.std.proofs.Common.{◌≡◌, ℕ, ◌<◌, ◌≤◌, true, false, ltb, List, [], ◌∷◌, ◌++◌, length}
 use Rattle.std.proofs.Common.{Option, Some, None, Result, Ok, Err, refl, sym, ap, subst, ◌∙◌, inl}
 use Rattle.std.proofs.Common.{inr, arith}
@@ -34,17 +34,18 @@ use Rattle.mc_tables.proofs.StepLemmas.{demand-bind_ok, at_line-ok}
 use Rattle.mc_tables.proofs.WordLemmas.{number_in-denotes, number_in-from_denotes}
 use Rattle.mc_tables.proofs.AddressLemmas.{address_in-denotes, address_in-from_denotes}
 use Rattle.mc_tables.proofs.KeyLemmas.{is_distinct-push_key, is_among-distinct_before}
-use Rattle.mc_tables.proofs.RowLemmas.{lines_in-has_header, lines_in-from_header, ReadsRows, rows_after-denotes, rows_after-from_denotes}
+use Rattle.mc_tables.proofs.RowLemmas.{lines_in-has_header, lines_in-from_header, ReadsRows}
+use Rattle.mc_tables.proofs.RowLemmas.{rows_after-denotes, rows_after-from_denotes}
 use Rattle.mc_tables.proofs.OifLemmas.{oifs_in-denotes, oifs_in-from_denotes}
 
 -- ---- the incoming vif and the outgoing ones
 
--- a number that is there is the incoming vif
+-- a number is read as the incoming vif
 incoming_number-some : (o i : Option ℕ) → incoming_number o ≡ Ok i → (n : ℕ) × (o ≡ Some n) × (i ≡ Some n)
 incoming_number-some None i e = absurd cc
 incoming_number-some (Some n) i e = (n, refl, cc)
 
--- the entry that is read is what the words write
+-- the entry that is read is the one that the words denote
 entry_in-denotes : (iif : List ℕ) (outgoing : List (List ℕ)) (i : Option ℕ) (entry : Option EntryValue)
     → incoming_in iif ≡ Ok i → entry_in i outgoing ≡ Ok entry → WordsDenoteEntry iif outgoing entry
 entry_in-denotes iif [] None entry incoming e =
@@ -69,8 +70,9 @@ entry_in-denotes iif outgoing (Some number) entry incoming e =
           subst (WordsDenoteEntry iif outgoing) same writes
     ]
 
--- a number's word is not `-1`
-bytes_eq-number_is_not_unresolved : (iif : List ℕ) (n : ℕ) → WordDenotesNumber 0 31 iif n → bytes_eq iif (codes "-1") ≡ false
+-- a word that denotes a number isn't `-1`
+bytes_eq-number_is_not_unresolved : (iif : List ℕ) (n : ℕ) → WordDenotesNumber 0 31 iif n
+    → bytes_eq iif (codes "-1") ≡ false
 bytes_eq-number_is_not_unresolved iif n h =
     false_from_ne_true (bytes_eq iif (codes "-1")) (λ is.
     let same : iif ≡ codes "-1" = (bytes_eq-Decides iif (codes "-1")).0 is in
@@ -78,7 +80,7 @@ bytes_eq-number_is_not_unresolved iif n h =
     let digit : digit_value 45 < 10 = minus.0.0.1.0 in
     absurd (omega (arith, digit)))
 
--- the entry that the words write is read
+-- the entry that the words denote is read
 entry_in-from_denotes : (iif : List ℕ) (outgoing : List (List ℕ)) (entry : Option EntryValue)
     → WordsDenoteEntry iif outgoing entry → (i : Option ℕ) × (incoming_in iif ≡ Ok i)
     × (entry_in i outgoing ≡ Ok entry)
@@ -87,13 +89,14 @@ entry_in-from_denotes iif outgoing None h =
     (None, rw is refl, rw h.1 refl)
 entry_in-from_denotes iif outgoing (Some entry) h = (
   Some entry.iif,
-  rw (bytes_eq-number_is_not_unresolved iif entry.iif h.0, number_in-from_denotes 0 31 iif entry.iif h.0) refl,
+  rw (bytes_eq-number_is_not_unresolved iif entry.iif h.0, number_in-from_denotes 0 31 iif entry.iif h.0)
+      refl,
   rw (oifs_in-from_denotes outgoing entry.oifs h.1) refl,
 )
 
 -- ---- the words of a row
 
--- the row that is read is what the words tell
+-- the row that is read is the one that the words denote
 pub row_in_words-denotes : (order : Order) (words : List (List ℕ)) (row : RowValue)
     → row_in_words order words ≡ Ok row → WordsDenoteRow order words row
 unfolding row_in_words
@@ -118,7 +121,7 @@ row_in_words-denotes order (group ∷ origin ∷ iif ∷ packets ∷ bytes ∷ w
     subst (WordsDenoteRow order words) (ok_injective made row x.2) all
 row_in_words-denotes order words row e = absurd cc
 
--- the row that the words tell is read
+-- the row that the words denote is read
 row_in_words-from_denotes : (order : Order) (words : List (List ℕ)) (row : RowValue)
     → WordsDenoteRow order words row → row_in_words order words ≡ Ok row
 unfolding row_in_words
@@ -137,24 +140,24 @@ row_in_words-from_denotes order words row h = absurd h
 
 -- ---- the rows
 
--- there is room for the row, and it repeats no earlier one's source and group
+-- there is room for the row, and it repeats no earlier one's key
 abbrev pub MayFollow : List RowValue → RowValue → Type 0
 MayFollow earlier row = (length earlier < 65536) × (entry_repeats earlier row ≡ false)
 
--- there are no more rows than allowed, and no two of one source and group
+-- there are at most as many rows as allowed, and no two have the same key
 abbrev pub AreValid : List RowValue → Type 0
 AreValid rows = (length rows ≤ 65536) × IsDistinct same_key (filter_map key_of rows)
 
--- sources and groups are in a total order
+-- keys are in a total order
 pub key_cmp-total : IsTotalOrder key_cmp
 key_cmp-total = then_total (on_total (λ key. key.0) nat_cmp_total)
     (on_total (λ key. key.1) nat_cmp_total)
 
--- to have one source and group is an equivalence
+-- being the same key is an equivalence
 pub same_key-equivalence : IsEquivalence same_key
 same_key-equivalence = eq_by_cmp_equiv key_cmp-total
 
--- a line that is read as a row tells it, and the row may follow the earlier ones
+-- the row that a line is read as is denoted by it and may follow the earlier ones
 row_in_line-denotes : (order : Order) (earlier : List RowValue) (line : LineText) (row : RowValue)
     → row_in_line order earlier line ≡ Ok row → LineDenotesRow order line row × MayFollow earlier row
 unfolding row_in_line
@@ -170,27 +173,29 @@ row_in_line-denotes order earlier line row e =
     subst (λ (x : RowValue). LineDenotesRow order line x × MayFollow earlier x) (ok_injective w.0 row r.1)
     (denoted, (ltb-true (length earlier) 65536 n.0, not-true _ r.0))
 
--- a row that a line tells and that may follow the earlier ones is read
+-- a row that a line denotes and that may follow the earlier ones is read
 row_in_line-from_denotes : (order : Order) (earlier : List RowValue) (line : LineText) (row : RowValue)
     → LineDenotesRow order line row → MayFollow earlier row → row_in_line order earlier line ≡ Ok row
 unfolding row_in_line
 row_in_line-from_denotes order earlier line row denoted new =
     let room : ltb (length earlier) 65536 ≡ true = lt-ltb (length earlier) 65536 new.0 in
-    rw (denoted.ended, room, row_in_words-from_denotes order (words_of line.bytes) row denoted.words, new.1) refl
+    rw (denoted.ended, room, row_in_words-from_denotes order (words_of line.bytes) row denoted.words, new.1)
+        refl
 
--- and so with its number
+-- the same for reading with the line's number
 row_at_line-denotes : (order : Order) (earlier : List RowValue) (line : LineText) (row : RowValue)
     → row_at_line order earlier line ≡ Ok row → LineDenotesRow order line row × MayFollow earlier row
 row_at_line-denotes order earlier line row e =
     row_in_line-denotes order earlier line row
     (at_line-ok line.number (row_in_line order earlier line) row e)
 
--- and so with its number
+-- and the other direction
 row_at_line-from_denotes : (order : Order) (earlier : List RowValue) (line : LineText) (row : RowValue)
     → LineDenotesRow order line row → MayFollow earlier row → row_at_line order earlier line ≡ Ok row
-row_at_line-from_denotes order earlier line row denoted new = rw (row_in_line-from_denotes order earlier line row denoted new) refl
+row_at_line-from_denotes order earlier line row denoted new =
+    rw (row_in_line-from_denotes order earlier line row denoted new) refl
 
--- rows stay ones that may stand when one that may follow is added
+-- allowed rows stay allowed when one that may follow them is added
 rows-valid_push : (earlier : List RowValue) (row : RowValue) → AreValid earlier → MayFollow earlier row
     → AreValid (earlier ++ row ∷ [])
 rows-valid_push earlier row valid new = (
@@ -198,7 +203,7 @@ rows-valid_push earlier row valid new = (
   rw filter_map-append (is_distinct-push_key same_key-equivalence _ (key_of row) valid.1 new.1),
 )
 
--- in rows that may stand each row may follow those before it
+-- in allowed rows each may follow those before it
 rows-may_follow : (earlier : List RowValue) (row : RowValue) (later : List RowValue)
     → AreValid (earlier ++ row ∷ later) → MayFollow earlier row
 rows-may_follow earlier row later valid = (
@@ -206,8 +211,9 @@ rows-may_follow earlier row later valid = (
   is_among-distinct_before same_key-equivalence _ (key_of row) _ (rw filter_map-append at valid.1),
 )
 
--- so lines are read as rows
-row_at_line-reads_rows : (order : Order) → ReadsRows (row_at_line order) (LineDenotesRow order) MayFollow AreValid
+-- so lines are read as the rows that they denote
+row_at_line-reads_rows : (order : Order)
+    → ReadsRows (row_at_line order) (LineDenotesRow order) MayFollow AreValid
 row_at_line-reads_rows order = record {
   found = row_at_line-denotes order;
   only = row_at_line-from_denotes order;
@@ -215,15 +221,16 @@ row_at_line-reads_rows order = record {
   follows = rows-may_follow;
 }
 
--- the empty list may stand
+-- no rows are allowed
 rows-valid_none : AreValid []
 unfolding IsDistinct
 rows-valid_none = (omega arith, tt)
 
 -- ---- the text
 
--- the rows that are read are those of the text
-cache_rows_in-denotes : (order : Order) (text : List ℕ) (rows : List RowValue) → cache_rows_in order text ≡ Ok rows
+-- the rows that are read are those that the text denotes
+cache_rows_in-denotes : (order : Order) (text : List ℕ) (rows : List RowValue)
+    → cache_rows_in order text ≡ Ok rows
     → DenotesCacheRows order text rows
 cache_rows_in-denotes order text rows e =
     let b = bind_ok (lines_in (codes "Group") text) (rows_after (row_at_line order) []) rows e in
@@ -237,15 +244,16 @@ cache_rows_in-denotes order text rows e =
       keys_differ = t.3.1;
     }
 
--- the rows of the text are read
-cache_rows_in-from_denotes : (order : Order) (text : List ℕ) (rows : List RowValue) → DenotesCacheRows order text rows
+-- the rows that the text denotes are read
+cache_rows_in-from_denotes : (order : Order) (text : List ℕ) (rows : List RowValue)
+    → DenotesCacheRows order text rows
     → cache_rows_in order text ≡ Ok rows
 cache_rows_in-from_denotes order text rows h =
     let e = lines_in-from_header (codes "Group") text h.lines h.header in
     rw e (rows_after-from_denotes (row_at_line order) (LineDenotesRow order) MayFollow AreValid
     (row_at_line-reads_rows order) h.lines [] rows h.denoted (h.count, h.keys_differ))
 
--- what is read is what the text stands for
+-- the table that is read is the one that the text denotes
 pub cache_in-denotes : (order : Order) (text : List ℕ) (table : CacheValue)
     → cache_in order text ≡ Ok table → DenotesCache order text table
 cache_in-denotes order text table e =
@@ -256,12 +264,13 @@ cache_in-denotes order text table e =
       as_table = sym (ok_injective (table_of b.0) table b.2);
     }
 
--- what the text stands for is read
+-- the table that the text denotes is read
 pub cache_in-from_denotes : (order : Order) (text : List ℕ) (table : CacheValue)
     → DenotesCache order text table → cache_in order text ≡ Ok table
-cache_in-from_denotes order text table h = rw (cache_rows_in-from_denotes order text h.rows h.lines) (ap Ok (sym h.as_table))
+cache_in-from_denotes order text table h =
+    rw (cache_rows_in-from_denotes order text h.rows h.lines) (ap Ok (sym h.as_table))
 
--- what is read, unless memory runs out, is what the text stands for
+-- unless memory runs out, the table that is read is the one that the text denotes
 pub cache_result-denotes : (order : Order) (text : List ℕ) (read : Result CacheValue TableFault)
     → ((read ≡ Err out_of_memory → ⊥) → read ≡ cache_in order text)
     → IfOk read (DenotesCache order text)

@@ -1,4 +1,4 @@
--- What the maps of the library keep, as the table of a cache.
+-- What the maps and lists of a cache hold, as its table.
 use Rattle.std.proofs.Common.{◌≡◌, ℕ, zero, suc, ◌+◌, ◌<◌, true, false, cond, List, [], ◌∷◌}
 use Rattle.std.proofs.Common.{◌++◌, length, Option, Some, None, refl, sym, ap, subst, ◌∙◌, inl, inr}
 use Rattle.std.proofs.Common.{arith}
@@ -15,11 +15,12 @@ use Rattle.std.proofs.lemmas.List.{length_push}
 use Rattle.std.specs.BTreeMap.{is_at}
 use Rattle.std.specs.Map.{lookup}
 use Rattle.mc_tables.specs.CacheTable.{EntryValue, CacheValue, key_cmp}
-use Rattle.mc_tables.specs.CacheNumbers.{entries_by_key, number_of_key, AreEntryNumbers, KeptRowsValue, AddsNumber}
+use Rattle.mc_tables.specs.CacheNumbers.{entries_by_key, number_of_key, AreEntryNumbers, KeptRowsValue}
+use Rattle.mc_tables.specs.CacheNumbers.{AddsNumber}
 use Rattle.mc_tables.specs.ListedRows.{ListedSet}
 use Rattle.mc_tables.proofs.CacheLemmas.{key_cmp-total, same_key-equivalence}
 
--- the table that numbers, entries and groups make
+-- the table of numbers, entries and groups
 abbrev pub table_from_numbers : List ((ℕ × ℕ) × ℕ) → List EntryValue → set.FinSet nat_cmp → CacheValue
 table_from_numbers numbers es groups = record {
   entries = map.from_entries (entries_by_key numbers es);
@@ -30,12 +31,12 @@ table_from_numbers numbers es groups = record {
 abbrev pub table_of_kept : List ((ℕ × ℕ) × ℕ) → List EntryValue → List ℕ → CacheValue
 table_of_kept numbers es groups = table_from_numbers numbers es (set.from_list groups)
 
--- the rows that are kept of these
+-- the rows that are kept, of these
 abbrev pub kept_rows_value : ListedSet → List ((ℕ × ℕ) × ℕ) → List EntryValue → List ℕ → KeptRowsValue
 kept_rows_value listed numbers es groups =
     record { table = table_of_kept numbers es groups; listed = listed; groups = groups }
 
--- only equal keys tie
+-- only equal keys are equal in order
 pub key_cmp-antisymmetric : IsAntisymmetric key_cmp
 key_cmp-antisymmetric x y is =
     elim (nat_cmp x.0 y.0) as
@@ -48,19 +49,19 @@ key_cmp-antisymmetric x y is =
       | Greater ↦ λ _ e. absurd cc
     ] refl is
 
--- looking up a key finds what the map has there
+-- a look-up of a key finds what the map has there
 lookup-find : (key : ℕ × ℕ) (es : List ((ℕ × ℕ) × EntryValue))
     → lookup (is_at (key_cmp key)) es ≡ map.find key_cmp key es
 lookup-find key [] = refl
 lookup-find key (e ∷ es) =
     ap (cond (eq_by_cmp key_cmp key e.0) (Some e.1)) (lookup-find key es)
 
--- looking up a key among the entries finds what their map has there
+-- a look-up of a key among the entries finds what their map has there
 pub lookup-from_entries : (key : ℕ × ℕ) (es : List ((ℕ × ℕ) × EntryValue)) →
     lookup (is_at (key_cmp key)) es ≡ map.get (map.from_entries {R = key_cmp} es) key
 lookup-from_entries key es = lookup-find key es ∙ sym (map.get-from_entries key_cmp-total es key)
 
--- a number more to look through
+-- a look-up among the numbers with one more
 lookup-other_key : (key own : ℕ × ℕ) (o : Option EntryValue) (rest : List ((ℕ × ℕ) × EntryValue))
     → is_at (key_cmp key) own ≡ false
     → lookup (is_at (key_cmp key)) (cons_option (option_map (λ e. (own, e)) o) rest)
@@ -68,7 +69,7 @@ lookup-other_key : (key own : ℕ × ℕ) (o : Option EntryValue) (rest : List (
 lookup-other_key key own None rest other = refl
 lookup-other_key key own (Some e) rest other = rw other refl
 
--- the number that is looked for
+-- the number that a look-up finds
 lookup-same_key : (key own : ℕ × ℕ) (es : List EntryValue) (number : ℕ) (rest : List ((ℕ × ℕ) × EntryValue))
     → is_at (key_cmp key) own ≡ true → number < length es
     → lookup (is_at (key_cmp key))
@@ -78,7 +79,7 @@ lookup-same_key key own (e ∷ es) zero rest same within = rw same refl
 lookup-same_key key own (e ∷ es) (suc number) rest same within =
     lookup-same_key key own es number rest same (omega (arith, within))
 
--- a source and a group have the entry of their number
+-- a key has the entry of its number
 pub lookup-entries_by_key : (key : ℕ × ℕ) (numbers : List ((ℕ × ℕ) × ℕ)) (es : List EntryValue)
     → IfSome (number_of_key numbers key) (λ number. number < length es)
     → lookup (is_at (key_cmp key)) (entries_by_key numbers es)
@@ -109,19 +110,22 @@ is_some-slice_get_number : (es : List EntryValue) (o : Option ℕ) → IfSome o 
 is_some-slice_get_number es None within = refl
 is_some-slice_get_number [] (Some n) within = absurd (omega (arith, within))
 is_some-slice_get_number (e ∷ es) (Some zero) within = refl
-is_some-slice_get_number (e ∷ es) (Some (suc n)) within = is_some-slice_get_number es (Some n) (omega (arith, within))
+is_some-slice_get_number (e ∷ es) (Some (suc n)) within =
+    is_some-slice_get_number es (Some n) (omega (arith, within))
 
--- a source and a group have an entry where they have a number
+-- a key has an entry if it has a number
 pub is_some_get-entries_by_key : (key : ℕ × ℕ) (numbers : List ((ℕ × ℕ) × ℕ)) (es : List EntryValue)
     → AreEntryNumbers numbers es
     → is_some (map.get (map.from_entries {R = key_cmp} (entries_by_key numbers es)) key)
     ≡ is_some (number_of_key numbers key)
 is_some_get-entries_by_key key numbers es own =
-    ap is_some (sym (lookup-from_entries key (entries_by_key numbers es)) ∙ lookup-entries_by_key key numbers es (own key))
+    ap is_some (sym (lookup-from_entries key (entries_by_key numbers es))
+        ∙ lookup-entries_by_key key numbers es (own key))
     ∙ is_some-slice_get_number es (number_of_key numbers key) (own key)
 
--- what a number finds stays found behind one entry more
-slice_get-push_earlier : (es : List EntryValue) (entry : EntryValue) (o : Option ℕ) → IfSome o (λ n. n < length es)
+-- what a number finds stays found with one more entry behind
+slice_get-push_earlier : (es : List EntryValue) (entry : EntryValue) (o : Option ℕ)
+    → IfSome o (λ n. n < length es)
     → option_and_then (slice_get (es ++ entry ∷ [])) o ≡ option_and_then (slice_get es) o
 slice_get-push_earlier es entry None within = refl
 slice_get-push_earlier [] entry (Some n) within = absurd (omega (arith, within))
@@ -140,7 +144,7 @@ if_some_less-more : (n : ℕ) (o : Option ℕ) → IfSome o (λ m. m < n) → If
 if_some_less-more n None within = tt
 if_some_less-more n (Some m) within = omega (arith, within)
 
--- with the next number and an entry more, each number is of an entry
+-- with the next number and one more entry, each number is that of an entry
 pub are_entry_numbers-push : (key : ℕ × ℕ) (entry : EntryValue) (es : List EntryValue)
     (numbers more : List ((ℕ × ℕ) × ℕ)) → AreEntryNumbers numbers es
     → AddsNumber key (length es) numbers more → AreEntryNumbers more (es ++ entry ∷ [])
@@ -164,7 +168,8 @@ pub lookup-entries_by_key_push : (key : ℕ × ℕ) (entry : EntryValue) (es : L
     ≡ cond (is_at (key_cmp key) q) (Some entry)
     (lookup (is_at (key_cmp q)) (entries_by_key numbers es))
 lookup-entries_by_key_push key entry es numbers more own grown q =
-    lookup-entries_by_key q more (es ++ entry ∷ []) (are_entry_numbers-push key entry es numbers more own grown q)
+    lookup-entries_by_key q more (es ++ entry ∷ [])
+        (are_entry_numbers-push key entry es numbers more own grown q)
     ∙ ap (option_and_then (slice_get (es ++ entry ∷ []))) (grown q)
     ∙ elim (is_at (key_cmp key) q) as
     (λ b. option_and_then (slice_get (es ++ entry ∷ []))
@@ -175,7 +180,7 @@ lookup-entries_by_key_push key entry es numbers more own grown q =
           ∙ sym (lookup-entries_by_key q numbers es (own q))
     ]
 
--- entries that answer as those before and one more are the map with that one
+-- entries that give what those before and one more give are the map with that one
 pub from_entries-insert : (key : ℕ × ℕ) (entry : EntryValue) (es more : List ((ℕ × ℕ) × EntryValue)) →
     ((q : ℕ × ℕ) → lookup (is_at (key_cmp q)) more
     ≡ cond (is_at (key_cmp key) q) (Some entry) (lookup (is_at (key_cmp q)) es)) →

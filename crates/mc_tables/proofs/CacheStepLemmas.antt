@@ -1,4 +1,4 @@
--- A table that grows by a row at a time is the table of all the rows.
+-- A table that grows row by row is the table of all the rows.
 use Rattle.std.proofs.Common.{◌≡◌, ℕ, false, List, [], ◌∷◌, ◌++◌, Option}
 use Rattle.std.proofs.Common.{Some, None, Ok, refl, sym, ap, ◌∙◌, inl, inr}
 use Rattle.std.specs.Prelude.{not, is_some, map as map_list}
@@ -20,14 +20,15 @@ use Rattle.mc_tables.specs.TableLines.{is_among}
 use Rattle.mc_tables.specs.CacheTable.{RowValue, key_cmp, same_key, exact_entry, key_of}
 use Rattle.mc_tables.specs.CacheTable.{wildcard_group, table_of}
 use Rattle.mc_tables.specs.CacheReading.{entry_repeats}
-use Rattle.mc_tables.specs.CacheSteps.{has_key, with_exact_entry, with_numbered_entry, with_wildcard_group, row_added}
+use Rattle.mc_tables.specs.CacheSteps.{has_key, with_exact_entry, with_numbered_entry, with_wildcard_group}
+use Rattle.mc_tables.specs.CacheSteps.{row_added}
 use Rattle.mc_tables.proofs.CacheLemmas.{key_cmp-total}
 use Rattle.mc_tables.proofs.CacheLookupLemmas.{is_some_find-row_keys}
 use Rattle.mc_tables.proofs.CacheMapLemmas.{key_cmp-antisymmetric}
 
 -- ---- one row
 
--- the map has a row's key where an earlier row has it
+-- the map has a row's key if an earlier row has it
 has_key-from_entries : (exact : Option ((ℕ × ℕ) × EntryValue)) (rows : List RowValue) →
     has_key (map.from_entries (filter_map exact_entry rows)) exact
     ≡ is_among same_key (option_map (λ e. e.0) exact) (filter_map key_of rows)
@@ -36,12 +37,12 @@ has_key-from_entries (Some exact) rows =
     ap is_some (map.get-from_entries key_cmp-total (filter_map exact_entry rows) exact.0)
     ∙ is_some_find-row_keys exact.0 rows
 
--- what is not there is None
+-- what isn't there is None
 is_some-false_none : {A : Type 0} (o : Option A) → is_some o ≡ false → o ≡ None
 is_some-false_none None e = refl
 is_some-false_none (Some x) e = absurd cc
 
--- the entries of one row more
+-- the entries of the rows with one more
 from_entries-push_entry : (exact : Option ((ℕ × ℕ) × EntryValue)) (es : List ((ℕ × ℕ) × EntryValue)) →
     has_key (map.from_entries es) exact ≡ false →
     map.from_entries {R = key_cmp} (es ++ cons_option exact [])
@@ -52,14 +53,14 @@ from_entries-push_entry (Some exact) es new =
     (sym (map.get-from_entries key_cmp-total es exact.0)
     ∙ is_some-false_none (map.get (map.from_entries {R = key_cmp} es) exact.0) new)
 
--- the same by number
+-- the numbered entries of the rows with one more
 map-push_numbered : (exact : Option ((ℕ × ℕ) × EntryValue)) (es : List ((ℕ × ℕ) × EntryValue)) →
     map_list (λ e. e.1) (es ++ cons_option exact [])
     ≡ with_numbered_entry (map_list (λ e. e.1) es) exact
 map-push_numbered None es = ap (map_list (λ e. e.1)) (append-nil es)
 map-push_numbered (Some exact) es = map-append (λ e. e.1) es (exact ∷ [])
 
--- the groups of one row more
+-- the groups of the rows with one more
 from_list-push_group : (wildcard : Option ℕ) (groups : List ℕ) →
     set.from_list {R = nat_cmp} (groups ++ cons_option wildcard [])
     ≡ with_wildcard_group (set.from_list groups) wildcard
@@ -67,7 +68,7 @@ from_list-push_group None groups = ap (set.from_list {R = nat_cmp}) (append-nil 
 from_list-push_group (Some group) groups =
     set.from_list_push nat_cmp_total nat_cmp-IsAntisymmetric groups group
 
--- a table takes a row that repeats no earlier one, and is the table of the rows with it
+-- a table with a row that repeats no earlier one is the table of the rows with it
 pub row_added-table_of : (rows : List RowValue) (row : RowValue) →
     row_added (table_of rows) row
     ≡ (demand (not (entry_repeats rows row)) RepeatedEntry >>= λ _. Ok

@@ -1,4 +1,4 @@
--- A word's parts round its colons.
+-- A word's parts around its colons.
 use Rattle.std.proofs.Common.{◌≡◌, ℕ, suc, ◌+◌, ◌≤◌, Bool, true, false, cond, ltb, List, [], ◌∷◌}
 use Rattle.std.proofs.Common.{length, take, drop, Option, Some, None, refl, ap, ◌∙◌, arith}
 use Rattle.std.specs.Prelude.{not, position, is_some, unwrap_or}
@@ -8,7 +8,7 @@ use Rattle.std.proofs.lemmas.List.Splits.{slice_split-cons_no, slice_split_first
 use Rattle.mc_tables.proofs.WordLemmas.{cond-some}
 
 module _ {X : Type 0} (p : X → Bool) where
-  -- a front is no longer than the list
+  -- the front of a list is no longer than the list
   prefix_len-within : (xs : List X) → prefix_len p xs ≤ length xs
   prefix_len-within [] = omega arith
   prefix_len-within (x ∷ xs) =
@@ -18,12 +18,12 @@ module _ {X : Type 0} (p : X → Bool) where
         | false ↦ omega arith
       ]
 
-  -- a guarded value that is None was not let through
+  -- a guarded value that is None failed its test
   cond-some_none : (b : Bool) (n : ℕ) → cond b (Some n) None ≡ None → b ≡ false
   cond-some_none true n e = absurd cc
   cond-some_none false n e = refl
 
-  -- what is nowhere divided is one part
+  -- a list without a place to split at is one part
   slice_split-one_part : (xs : List X) → length xs ≤ position_or_len p xs → slice_split p xs ≡ xs ∷ []
   slice_split-one_part [] le = refl
   slice_split-one_part (x ∷ xs) le =
@@ -34,13 +34,13 @@ module _ {X : Type 0} (p : X → Bool) where
             slice_split-cons_no p x xs e ∙ rw (slice_split-one_part xs later) refl
       ] refl le
 
-  -- where nothing divides, there is one part
+  -- so there is one part if no place is found
   pub slice_split-none : (xs : List X) → position p xs ≡ None → slice_split p xs ≡ xs ∷ []
   slice_split-none xs e = slice_split-one_part xs
       (ltb-false (position_or_len p xs) (length xs)
       (cond-some_none (ltb (position_or_len p xs) (length xs)) (position_or_len p xs) e))
 
-  -- the first place that divides parts the front from the parts of the rest
+  -- the first place to split at separates the front from the parts of the rest
   pub slice_split-some : (xs : List X) (d : X) (k : ℕ) → position p xs ≡ Some k
       → slice_split p xs ≡ take k xs ∷ slice_split p (drop (k + 1) xs)
   slice_split-some xs d k e =
@@ -48,7 +48,7 @@ module _ {X : Type 0} (p : X → Bool) where
       slice_split_first p xs d (ltb-true (position_or_len p xs) (length xs) g.0)
       ∙ ap (λ n. take n xs ∷ slice_split p (drop (n + 1) xs)) g.1
 
-  -- what is not there is None
+  -- what isn't there is None
   pub is_some-none_from : (o : Option ℕ) → is_some o ≡ false → o ≡ None
   is_some-none_from None e = refl
   is_some-none_from (Some k) e = absurd cc
@@ -65,7 +65,7 @@ module _ {X : Type 0} (p : X → Bool) where
   unwrap_or-place false n len e le = omega (arith, ltb-false n len e)
 
 module _ {X : Type 0} (p : X → Bool) where
-  -- the place of the first that passes, or the end
+  -- the place of the first element that passes, or the end
   pub unwrap_or-position : (xs : List X) → unwrap_or (position p xs) (length xs) ≡ position_or_len p xs
   unwrap_or-position xs = unwrap_or-place p (ltb (position_or_len p xs) (length xs)) (position_or_len p xs)
       (length xs) refl (prefix_len-within (λ x. not (p x)) xs)

@@ -1,4 +1,4 @@
--- Numbers that are told apart by the slots that they are put in.
+-- Numbers that are shown to differ by the slots that they are put in.
 use Rattle.std.proofs.Common.{◌≡◌, ℕ, ◌+◌, ◌-◌, ◌<◌, ◌≤◌, Bool, true, false, List, [], ◌∷◌, ◌++◌, ◌⊎◌}
 use Rattle.std.proofs.Common.{length, get_or, Ok, Err, refl, sym, ap, subst, ◌∙◌, arith, inl, inr}
 use Rattle.std.specs.Prelude.{◌≢◌, nat_lt, slice_set, Result, IfOk}
@@ -9,24 +9,26 @@ use Rattle.std.specs.List.Sorted.{IsPermutation, IsStrictlyIncreasing}
 use Rattle.std.specs.Ordering.{nat_cmp, eq_by_cmp}
 use Rattle.std.proofs.lemmas.Bool.{cases_lt, ltb-true, true≢false}
 use Rattle.std.proofs.lemmas.Bool.Decides.{nat_tests}
-use Rattle.std.proofs.lemmas.List.{get_or-append_right, get_or_append_left, get_or-set_other, get_or-set_same, get_or_default}
+use Rattle.std.proofs.lemmas.List.{get_or-append_right, get_or_append_left, get_or-set_other, get_or-set_same}
+use Rattle.std.proofs.lemmas.List.{get_or_default}
 use Rattle.std.proofs.lemmas.List.{length-append, length-set}
 use Rattle.std.proofs.lemmas.List.Sorted.{IsPermutation-sym}
 use Rattle.std.proofs.lemmas.Cmp.{nat_cmp_total, eq_by_cmp_equiv}
-use Rattle.std.proofs.lemmas.Map.Keys.{IsDistinct-IsPermutation, IsDistinct-from_sorted, IsDistinct-from_apart}
+use Rattle.std.proofs.lemmas.Map.Keys.{IsDistinct-IsPermutation, IsDistinct-from_sorted}
+use Rattle.std.proofs.lemmas.Map.Keys.{IsDistinct-from_apart}
 use Rattle.std.proofs.lemmas.Map.Keys.{apart_from_distinct, sorted_from_strictly_increasing}
 use Rattle.mc_tables.specs.Distinct.{AreDistinct, slot_of, number_in_slot, IsPut}
 
 -- ---- two numbers
 
--- numbers that differ are told apart
+-- numbers that differ are not the same
 eq_by_cmp-different : (x y : ℕ) → x ≢ y → eq_by_cmp nat_cmp x y ≡ false
 eq_by_cmp-different x y other = grind (arith, nat_tests)
 
 eq_by_cmp-equivalence : IsEquivalence (eq_by_cmp nat_cmp)
 eq_by_cmp-equivalence = eq_by_cmp_equiv nat_cmp_total
 
--- no two places have one number
+-- no two places have the same number
 abbrev AllPlacesDiffer : List ℕ → Type 0
 AllPlacesDiffer numbers = (a b : ℕ) → a < b → b < length numbers → get_or numbers a 0 ≢ get_or numbers b 0
 
@@ -38,11 +40,11 @@ all_places_differ-from_distinct numbers apart a b less within is =
 
 -- ---- the slots
 
--- a number stands somewhere
+-- a number is in the list
 abbrev IsAmong : List ℕ → ℕ → Type 0
 IsAmong others number = (j : ℕ) × (j < length others) × (get_or others j 0 ≡ number)
 
--- each of the first numbers has its slot or is among the others, and if those differ they do
+-- each of the first numbers has its slot or is among the others, and if those differ, all do
 pub record AreSlotted (slots others numbers : List ℕ) (i : ℕ) : Type 0 where
   pub full : (k : ℕ) → k < i → number_in_slot slots (get_or numbers k 0) ≢ 0
   pub placed : (k : ℕ) → k < i → (number_in_slot slots (get_or numbers k 0) ≡ get_or numbers k 0)
@@ -84,7 +86,7 @@ module _ (slots others numbers : List ℕ) (i : ℕ) (before : AreSlotted slots 
       → AreSlotted (slice_set slots (slot_of (length slots) number) number) others numbers (i + 1)
   are_slotted-in_slot within empty some =
       let place = slot_of (length slots) number in
-      -- the slot of an earlier one is another
+      -- an earlier one has another slot
       let elsewhere = λ (k : ℕ) (early : k < i)
       (is : slot_of (length slots) (get_or numbers k 0) ≡ place).
       before.full k early (ap (λ (p : ℕ). get_or slots p 0) is ∙ empty) in
@@ -102,7 +104,8 @@ module _ (slots others numbers : List ℕ) (i : ℕ) (before : AreSlotted slots 
             | inr among ↦ inr among
           ]
           | inr late ↦ inl (in_slot-same_slot slots number within (get_or numbers k 0)
-              (ap (slot_of (length slots)) (number-at_last_place k late less)) ∙ sym (number-at_last_place k late less))
+              (ap (slot_of (length slots)) (number-at_last_place k late less))
+                  ∙ sym (number-at_last_place k late less))
         ];
         apart = λ all a b less below is. elim (cases_lt b i) [
           | inl early ↦ before.apart all a b less early is
@@ -151,7 +154,7 @@ module _ (slots others numbers : List ℕ) (i : ℕ) (before : AreSlotted slots 
             ];
       }
 
-  -- a number more that was put
+  -- one more number that was put
   pub are_slotted-push : (slots' others' : List ℕ) → IsPut slots others number slots' others'
       → AreSlotted slots' others' numbers (i + 1) × (length slots' ≡ length slots)
   are_slotted-push slots' others' (inl put) = (
@@ -167,7 +170,7 @@ module _ (slots others numbers : List ℕ) (i : ℕ) (before : AreSlotted slots 
     ap length put.same,
   )
 
--- where the others ascend, in their order, all are apart
+-- if the others ascend in some order, all numbers differ
 pub are_distinct-all : (slots others sorted numbers : List ℕ) (i : ℕ) → AreSlotted slots others numbers i
     → length numbers ≤ i → IsPermutation others sorted → IsStrictlyIncreasing sorted
     → AreDistinct numbers
@@ -182,7 +185,7 @@ are_distinct-all slots others sorted numbers i placed all moved up =
     (get_or_default numbers a 0 d (omega (arith, less, within)) ∙ is
     ∙ get_or_default numbers b d 0 within)))
 
--- numbers of which each was found less than the next
+-- numbers of which each was found less than the next ascend
 pub is_strictly_increasing-from_answer : (numbers : List ℕ) (r : Bool)
     → IsAllAdjacentAnswer (λ x y b. b ≡ nat_lt x y) numbers r → r ≡ true
     → IsStrictlyIncreasing numbers
@@ -190,8 +193,9 @@ is_strictly_increasing-from_answer numbers true each is = λ k lt.
     ltb-true (get_or numbers k 0) (get_or numbers (k + 1) 0) (sym (each k 0 lt))
 is_strictly_increasing-from_answer numbers false each is = absurd cc
 
--- what is said where it was found out is so
-pub if_ok-from_unwrap_or : {E : Type 0} (found : Result Bool E) (P : Type 0) → IfOk found (λ apart. apart ≡ true → P)
+-- what an answer `true` shows, where a fault counts as `false`
+pub if_ok-from_unwrap_or : {E : Type 0} (found : Result Bool E) (P : Type 0)
+    → IfOk found (λ apart. apart ≡ true → P)
     → result_unwrap_or found false ≡ true → P
 if_ok-from_unwrap_or (Ok apart) P so is = so is
 if_ok-from_unwrap_or (Err e) P so is = absurd cc

@@ -1,4 +1,4 @@
--- Lists of outgoing vifs that stand one after another, and one list more behind them.
+-- Lists of outgoing vifs, one after another, and one more list behind them.
 use Rattle.std.proofs.Common.{◌≡◌, ◌+◌, ◌≤◌, List, [], ◌∷◌, ◌++◌, length, take, drop, refl, ap}
 use Rattle.std.proofs.Common.{◌∙◌, arith}
 use Rattle.std.specs.List.{AllByRecursion}
@@ -9,7 +9,7 @@ use Rattle.mc_tables.specs.declared.entry.Oif.{Oif}
 use Rattle.mc_tables.specs.declared.flat_oifs.FlatList.{FlatList}
 use Rattle.mc_tables.specs.FlatRows.{list_of, lists_of, AreFlatLists}
 
--- a list stays as it is where more outgoing vifs come behind
+-- a list stays as it is if more outgoing vifs come behind
 list_of-append : {H : Type 0} (oifs more : List Oif) (l : FlatList H) → l.start + l.count ≤ length oifs
     → list_of (oifs ++ more) l ≡ list_of oifs l
 list_of-append {H} oifs more l within =
@@ -26,7 +26,7 @@ lists_of-append (l ∷ ls) oifs more within =
     ap (λ own. own ∷ lists_of ls (oifs ++ more)) (list_of-append oifs more l within.0)
     ∙ ap (λ rest. list_of oifs l ∷ rest) (lists_of-append ls oifs more within.1)
 
--- the one more
+-- the lists with one more
 list_of-pushed : {H : Type 0} (oifs more : List Oif) (l : FlatList H) → l.start ≡ length oifs
     → l.count ≡ length more → list_of (oifs ++ more) l ≡ (l.head, more)
 list_of-pushed {H} oifs more l start count =

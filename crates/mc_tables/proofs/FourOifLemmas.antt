@@ -17,10 +17,11 @@ use Rattle.mc_tables.specs.declared.entry.Oif.{Oif}
 use Rattle.mc_tables.specs.CacheReading.{oif_in}
 use Rattle.mc_tables.specs.OutgoingSteps.{oifs_after_words}
 use Rattle.mc_tables.specs.FourOifs.{StartsWithPrintedOif, StartsWithFourOifs, DenoteAscendingOifs}
-use Rattle.mc_tables.proofs.PlainRowLemmas.{one_digit_oif_is_first_word, two_digit_oif_is_first_word, drop_as_take_drop, greater_oif_is_appended}
+use Rattle.mc_tables.proofs.PlainRowLemmas.{one_digit_oif_is_first_word, two_digit_oif_is_first_word}
+use Rattle.mc_tables.proofs.PlainRowLemmas.{drop_as_take_drop, greater_oif_is_appended}
 use Rattle.mc_tables.proofs.MarkedLemmas.{cond-one}
 
--- the vif of its two bytes
+-- the vif of its two digits
 abbrev printed_vif : ℕ → ℕ → ℕ
 printed_vif tens units = tens % 16 * 10 + (units - 48)
 
@@ -29,11 +30,14 @@ abbrev FirstWordIsOif : List ℕ → List ℕ → ℕ → ℕ → Type 0
 FirstWordIsOif line behind vif threshold =
     (word : List ℕ) × (words_of line ≡ word ∷ words_of behind) × (oif_in word ≡ Ok (vif, threshold))
 
-first_word-without_tens : (line : List ℕ) → 7 ≤ length line → StartsWithPrintedOif line → (get_or line 1 0 == 32) ≡ true
-    → FirstWordIsOif line (drop 7 line) (printed_vif (get_or line 1 0) (get_or line 2 0)) (get_or line 4 0 - 48)
+first_word-without_tens : (line : List ℕ) → 7 ≤ length line → StartsWithPrintedOif line
+    → (get_or line 1 0 == 32) ≡ true
+    → FirstWordIsOif line (drop 7 line) (printed_vif (get_or line 1 0) (get_or line 2 0))
+        (get_or line 4 0 - 48)
 first_word-without_tens line long printed space =
     let first = eqb-true (get_or line 1 0) 32 space in
-    let found = one_digit_oif_is_first_word line long printed.before first printed.units printed.colon printed.threshold
+    let found = one_digit_oif_is_first_word line long printed.before first printed.units printed.colon
+        printed.threshold
     printed.behind printed.last in
     let plain : get_or line 2 0 - 48 ≡ 0 + (get_or line 2 0 - 48) = omega arith in
     let vif : get_or line 2 0 - 48 ≡ printed_vif (get_or line 1 0) (get_or line 2 0) =
@@ -46,9 +50,11 @@ first_word-without_tens line long printed space =
 tens_digit-mod_16 : (tens : ℕ) → 49 ≤ tens → tens ≤ 51 → tens - 48 ≡ tens % 16
 tens_digit-mod_16 tens low high = omega (arith, low, high)
 
-first_word-with_tens : (line : List ℕ) → 7 ≤ length line → StartsWithPrintedOif line → (get_or line 1 0 == 32) ≡ false
+first_word-with_tens : (line : List ℕ) → 7 ≤ length line → StartsWithPrintedOif line
+    → (get_or line 1 0 == 32) ≡ false
     → printed_vif (get_or line 1 0) (get_or line 2 0) ≤ 31
-    → FirstWordIsOif line (drop 7 line) (printed_vif (get_or line 1 0) (get_or line 2 0)) (get_or line 4 0 - 48)
+    → FirstWordIsOif line (drop 7 line) (printed_vif (get_or line 1 0) (get_or line 2 0))
+        (get_or line 4 0 - 48)
 first_word-with_tens line long printed other few =
     let tens = get_or line 1 0 in
     let units = get_or line 2 0 in
@@ -71,14 +77,15 @@ first_word-with_tens line long printed other few =
 -- what is printed is read
 pub first_word-printed_oif : (line : List ℕ) → 7 ≤ length line → StartsWithPrintedOif line
     → printed_vif (get_or line 1 0) (get_or line 2 0) ≤ 31
-    → FirstWordIsOif line (drop 7 line) (printed_vif (get_or line 1 0) (get_or line 2 0)) (get_or line 4 0 - 48)
+    → FirstWordIsOif line (drop 7 line) (printed_vif (get_or line 1 0) (get_or line 2 0))
+        (get_or line 4 0 - 48)
 first_word-printed_oif line long printed few =
     elim (cases_Bool (get_or line 1 0 == 32)) [
       | inl space ↦ first_word-without_tens line long printed space
       | inr other ↦ first_word-with_tens line long printed other few
     ]
 
--- the units and the threshold of one are digits
+-- the units and the threshold are digits
 pub printed_oif-has_digits : (line : List ℕ) (at : ℕ) → StartsWithPrintedOif (drop at line)
     → (48 ≤ get_or line (at + 2) 0) × (get_or line (at + 2) 0 ≤ 57)
     × (49 ≤ get_or line (at + 4) 0) × (get_or line (at + 4) 0 ≤ 57)
@@ -99,8 +106,9 @@ printed_vif-fits line at printed =
     let digits = printed_oif-has_digits line at printed in
     record { fits = omega (arith, digits.1) }
 
--- so is what is printed at a place
-pub first_word-printed_oif_at : (line : List ℕ) (at : ℕ) → at + 7 ≤ length line → StartsWithPrintedOif (drop at line)
+-- what is printed at a place is read
+pub first_word-printed_oif_at : (line : List ℕ) (at : ℕ) → at + 7 ≤ length line
+    → StartsWithPrintedOif (drop at line)
     → printed_vif (get_or line (at + 1) 0) (get_or line (at + 2) 0) ≤ 31
     → FirstWordIsOif (drop at line) (drop (at + 7) line)
     (printed_vif (get_or line (at + 1) 0) (get_or line (at + 2) 0)) (get_or line (at + 4) 0 - 48)
@@ -117,7 +125,7 @@ first_word-printed_oif_at line at long printed few =
       found.2 ∙ ap₂ (λ (v : ℕ) (b : ℕ). Ok (v, b - 48)) vif h,
     )
 
--- four that ascend are the first words
+-- four that ascend are a line's first words
 pub first_words-four_oifs : (line : List ℕ) (next : ℕ) (a b c d : Oif)
     → (a.vif ≤ 31 → FirstWordIsOif line (drop 7 line) a.vif a.threshold)
     → (b.vif ≤ 31 → FirstWordIsOif (drop 7 line) (drop 14 line) b.vif b.threshold)
@@ -146,8 +154,9 @@ first_words-four_oifs line next a b c d of_a of_b of_c of_d up up_b up_c up_d fe
       ),
     )
 
--- those that ascend are added one after another
-pub oifs_after_words-ascending : (oifs : List Oif) (next : ℕ) (words : List (List ℕ)) (more : List Oif) (end : ℕ)
+-- outgoing vifs that ascend are added one after another
+pub oifs_after_words-ascending : (oifs : List Oif) (next : ℕ) (words : List (List ℕ)) (more : List Oif)
+    (end : ℕ)
     (rest : List (List ℕ)) → DenoteAscendingOifs next words more end
     → list_all (λ other. nat_lt other.vif next) oifs ≡ true
     → (oifs_after_words oifs (words ++ rest) ≡ oifs_after_words (oifs ++ more) rest)
@@ -159,7 +168,8 @@ oifs_after_words-ascending oifs next [] [] end rest ascend lane_below = (
 )
 oifs_after_words-ascending oifs next (word ∷ words) (oif ∷ more) end rest ascend lane_below =
     let step = greater_oif_is_appended oifs oif next word (words ++ rest) ascend.0 lane_below ascend.1 in
-    let others = oifs_after_words-ascending (oifs ++ oif ∷ []) (oif.vif + 1) words more end rest ascend.2 step.1 in
+    let others = oifs_after_words-ascending (oifs ++ oif ∷ [])
+        (oif.vif + 1) words more end rest ascend.2 step.1 in
     let whole = append_assoc oifs (oif ∷ []) more in (
       step.0 ∙ others.0 ∙ ap (λ os. oifs_after_words os rest) whole,
       ap (λ os. list_all (λ other. nat_lt other.vif end) os) (sym whole) ∙ others.1,
@@ -206,7 +216,7 @@ get_or-tested_lanes v least sizes others a b c d k within =
     (get_or-zip2 lane_minus v least k 0 0 0 (omega (arith, within, a)) (omega (arith, within, b))))
     (get_or-zip2 equal_lane v others k 0 0 0 (omega (arith, within, a)) (omega (arith, within, d))))
 
--- where all top bits are set, each lane passes
+-- if all top bits are set, each lane passes
 byte_passes-all_lanes : (v least sizes others : List ℕ) → length v ≡ 32 → length least ≡ 32
     → length sizes ≡ 32 → length others ≡ 32
     → eqb (mask_l (map (top 7) (tested_lanes v least sizes others)) % 2 ^ 64) 4294967295 ≡ true
@@ -220,7 +230,7 @@ byte_passes-all_lanes v least sizes others a b c d all k within bit =
     sym (get_or-tested_lanes v least sizes others a b c d k within)
     ∙ cond-one _ (sym (bit_mask_l tops k) ∙ ap (λ m. m / 2 ^ k % 2) mask ∙ bit)
 
--- ---- what may stand at each place
+-- ---- the bytes that are allowed at each place
 
 byte_passes-space : (b : ℕ) → b < 256 → byte_passes 32 1 32 b ≡ true → b ≡ 32
 byte_passes-space b fits e =

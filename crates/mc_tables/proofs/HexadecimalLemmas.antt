@@ -1,4 +1,4 @@
--- The number that hexadecimal digits write.
+-- The value of hexadecimal digits.
 use Rattle.std.proofs.Common.{◌≡◌, ℕ, ◌^◌, lit<, ◌<◌, ◌≤◌, true, false, ltb, inl, inr, List, []}
 use Rattle.std.proofs.Common.{◌∷◌, length, Result, Ok, Err, refl, ap, ◌∙◌, subst, sym, arith}
 use Rattle.std.specs.Prelude.{◌==◌, nat_le}
@@ -29,7 +29,7 @@ digit_value-upper c low high =
     let f : ltb c 91 ≡ true = lt-ltb c 91 (omega arith) in
     rw (a, b, d, f) (omega arith)
 
--- and so are a to f
+-- the digits a to f are below 16
 digit_value-lower : (c : ℕ) → 97 ≤ c → c ≤ 102 → digit_value c < 16
 digit_value-lower c low high =
     let a : ltb c 48 ≡ false = le-ltb c 48 (omega arith) in
@@ -40,7 +40,7 @@ digit_value-lower c low high =
     let h : ltb c 123 ≡ true = lt-ltb c 123 (omega arith) in
     rw (a, b, d, f, g, h) (omega arith)
 
--- each hexadecimal digit is
+-- each hexadecimal digit is below 16
 digit_value-hexadecimal : (c : ℕ) → is_ascii_hexdigit c ≡ true → digit_value c < 16
 digit_value-hexadecimal c e =
     elim (cases_Bool (is_in_range 48 57 c)) [
@@ -53,7 +53,7 @@ digit_value-hexadecimal c e =
       ]
     ]
 
--- and is ASCII, from `0` on
+-- each is ASCII, from `0` on
 is_ascii_hexdigit-ascii : (c : ℕ) → is_ascii_hexdigit c ≡ true → (48 ≤ c) × (c < 128)
 is_ascii_hexdigit-ascii c e = grind (arith)
 
@@ -63,20 +63,20 @@ all_digits-hexadecimal [] e = tt
 all_digits-hexadecimal (c ∷ cs) e = let p = and_parts (is_ascii_hexdigit c) _ e in
     (digit_value-hexadecimal c p.0, all_digits-hexadecimal cs p.1)
 
--- and ASCII
+-- they are ASCII
 all_hexdigits-ascii : (word : List ℕ) → list_all is_ascii_hexdigit word ≡ true
     → AllByRecursion (λ b. b < 128) word
 all_hexdigits-ascii [] e = tt
 all_hexdigits-ascii (c ∷ cs) e = let p = and_parts (is_ascii_hexdigit c) _ e in
     ((is_ascii_hexdigit-ascii c p.0).1, all_hexdigits-ascii cs p.1)
 
--- so they are a text
+-- so they are UTF-8
 pub is_utf8-hexadecimal : (word : List ℕ) → list_all is_ascii_hexdigit word ≡ true → IsUtf8 word
 is_utf8-hexadecimal word e =
     IsUtf8-from_ascii word
     (IsAscii-from_all word (All-from_recursion (λ b. b < 128) word (all_hexdigits-ascii word e)))
 
--- they have no `+` at the front
+-- they don't begin with `+`
 without_leading_plus-hexadecimal : (word : List ℕ) → list_all is_ascii_hexdigit word ≡ true
     → without_leading_plus word ≡ word
 without_leading_plus-hexadecimal [] e = refl
@@ -86,18 +86,19 @@ without_leading_plus-hexadecimal (c ∷ cs) e =
     ≡ false = ne_eqb c 43 (λ is. absurd (omega (arith, is, (is_ascii_hexdigit-ascii c p.0).0))) in
     rw other refl
 
--- up to eight of them write a number of 32 bits
+-- up to eight of them are a number of 32 bits
 digits_value-fits_32_bits : (word : List ℕ) → length word ≤ 8 → list_all is_ascii_hexdigit word ≡ true
     → digits_value 16 word < 2 ^ 32
 digits_value-fits_32_bits word few e =
     let most : 16 ^ length word ≤ 16 ^ 8 = pow-le-pow_right (lit< tt) few in
     omega (arith, most, digits_value-lt 16 word (all_digits-hexadecimal word e))
 
--- what the library reads of them is the number that they write
+-- what std parses them as is their value
 pub parse-hexadecimal : {E : Type 0} (word : List ℕ) (read : Result ℕ E) → 1 ≤ length word → length word ≤ 8
     → list_all is_ascii_hexdigit word ≡ true → ParsesUnsigned 32 16 word read
     → read ≡ Ok (digits_value 16 word)
-parse-hexadecimal word (Ok n) some few e h = ap Ok (h.1 ∙ ap (digits_value 16) (without_leading_plus-hexadecimal word e))
+parse-hexadecimal word (Ok n) some few e h =
+    ap Ok (h.1 ∙ ap (digits_value 16) (without_leading_plus-hexadecimal word e))
 parse-hexadecimal word (Err error) some few e h =
     let numeral : IsNumeral 16 word × (digits_value 16 word < 2 ^ 32) =
     ((some, all_digits-hexadecimal word e), digits_value-fits_32_bits word few e) in

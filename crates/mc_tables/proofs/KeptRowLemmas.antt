@@ -1,4 +1,4 @@
--- The rows of a cache that are kept whole, and the others.
+-- The rows of a cache that are kept, and the others.
 use Rattle.std.proofs.Common.{◌≡◌, ℕ, Bool, true, false, cond, List, [], ◌∷◌}
 use Rattle.std.proofs.Common.{Option, Some, None, refl, sym, ap, ◌∙◌, inl, inr}
 use Rattle.std.specs.Prelude.{not, filter}
@@ -10,14 +10,14 @@ use Rattle.mc_tables.specs.TableLines.{is_among}
 use Rattle.mc_tables.specs.ListedRows.{Listed, is_listed, is_kept_key, is_kept, kept_rows}
 use Rattle.mc_tables.proofs.UnlistedRowLemmas.{same_key-equal}
 
--- ---- sources and groups
+-- ---- keys
 
--- no test is its opposite
+-- no test is equal to its opposite
 not-differs : (b : Bool) → b ≡ not b → ⊥
 not-differs true e = cc
 not-differs false e = cc
 
--- of two of which one alone is listed, each is another
+-- of two keys of which only one is listed, neither is the other
 pub same_key-listed_differs : (listed : Listed) (x y : ℕ × ℕ) (b : Bool) → is_listed listed x ≡ b
     → is_listed listed y ≡ not b → same_key x y ≡ false
 same_key-listed_differs listed x y b of_x of_y =
@@ -31,11 +31,11 @@ same_key-listed_differs listed x y b of_x of_y =
 
 -- ---- the rows that are kept, and the others
 
--- the sources and groups of the others
+-- the keys of the rows that aren't kept
 abbrev pub unlisted_row_keys : Listed → List RowValue → List (ℕ × ℕ)
 unlisted_row_keys listed rows = filter_map key_of (filter (λ row. not (is_kept listed row)) rows)
 
--- one row more to look for a listed source and group in
+-- whether a listed key is among the keys of the rows with one more
 any_key-kept_more : (listed : Listed) (key : ℕ × ℕ) (row : RowValue) (kept rows : List RowValue)
     (own : Option (ℕ × ℕ)) → key_of row ≡ own → is_listed listed key ≡ true
     → list_any (same_key key) (filter_map key_of kept)
@@ -49,8 +49,7 @@ any_key-kept_more listed key row kept rows (Some other) own is rest =
       | inr none ↦ rw (none, same_key-listed_differs listed key other true is none) rest
     ]
 
--- a source and a group that are listed are among the rows' where they are among those of the rows
--- that are kept
+-- a listed key is among the keys of the rows exactly if it is among those of the kept rows
 any_key-kept_rows : (listed : Listed) (key : ℕ × ℕ) (rows : List RowValue) → is_listed listed key ≡ true
     → list_any (same_key key) (filter_map key_of (kept_rows listed rows))
     ≡ list_any (same_key key) (filter_map key_of rows)
@@ -59,7 +58,7 @@ any_key-kept_rows listed key (row ∷ rows) is =
     any_key-kept_more listed key row (kept_rows listed rows) rows (key_of row) refl is
     (any_key-kept_rows listed key rows is)
 
--- one row more to look for another source and group in
+-- whether another key is among the keys of the rows with one more
 any_key-unlisted_more : (listed : Listed) (key : ℕ × ℕ) (row : RowValue) (others rows : List RowValue)
     (own : Option (ℕ × ℕ)) → key_of row ≡ own → is_listed listed key ≡ false
     → list_any (same_key key) (filter_map key_of others)
@@ -74,8 +73,9 @@ any_key-unlisted_more listed key row others rows (Some other) own is rest =
       | inr none ↦ rw (none, own, rest) refl
     ]
 
--- and others where they are among those of the others
-pub any_key-unlisted_rows : (listed : Listed) (key : ℕ × ℕ) (rows : List RowValue) → is_listed listed key ≡ false
+-- a key that isn't listed is among the keys of the rows exactly if it is among those of the others
+pub any_key-unlisted_rows : (listed : Listed) (key : ℕ × ℕ) (rows : List RowValue)
+    → is_listed listed key ≡ false
     → list_any (same_key key) (unlisted_row_keys listed rows)
     ≡ list_any (same_key key) (filter_map key_of rows)
 any_key-unlisted_rows listed key [] is = refl
@@ -83,7 +83,7 @@ any_key-unlisted_rows listed key (row ∷ rows) is =
     any_key-unlisted_more listed key row (filter (λ r. not (is_kept listed r)) rows) rows (key_of row) refl is
     (any_key-unlisted_rows listed key rows is)
 
--- a row that is kept repeats an earlier one where it repeats one that is kept
+-- a kept row repeats an earlier row exactly if it repeats a kept one
 pub is_among-kept_rows : (listed : Listed) (rows : List RowValue) (own : Option (ℕ × ℕ))
     → is_kept_key listed own ≡ true
     → is_among same_key own (filter_map key_of (kept_rows listed rows))
@@ -91,7 +91,7 @@ pub is_among-kept_rows : (listed : Listed) (rows : List RowValue) (own : Option 
 is_among-kept_rows listed rows None is = refl
 is_among-kept_rows listed rows (Some key) is = any_key-kept_rows listed key rows is
 
--- a row that isn't kept has a source and a group
+-- a row that isn't kept has a key
 pub key_of-unlisted_row : (listed : Listed) (row : RowValue) (b : Bool) (entry : Option EntryValue)
     → is_kept_key listed (option_map (λ (exact : (ℕ × ℕ) × EntryValue). exact.0)
     (cond b None (option_map (λ e. ((row.origin, row.group), e)) entry))) ≡ false

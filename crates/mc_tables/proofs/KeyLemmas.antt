@@ -1,4 +1,4 @@
--- Keys that differ, along a list that grows at its end.
+-- Keys that differ, in a list that grows at its end.
 use Rattle.std.proofs.Common.{◌≡◌, Bool, false, List, [], ◌∷◌, ◌++◌, Option, Some, None, refl, ◌∙◌}
 use Rattle.std.specs.List.{IsDistinct, AllByRecursion, list_any, cons_option}
 use Rattle.std.specs.Cmp.{IsEquivalence}
@@ -7,7 +7,7 @@ use Rattle.std.proofs.lemmas.Bool.{or_from}
 use Rattle.std.proofs.lemmas.Map.Keys.{IsDistinct-head, IsDistinct-tail, IsDistinct-push}
 use Rattle.mc_tables.specs.TableLines.{is_among}
 
--- what all have, the one in the middle has
+-- what holds of all holds of the one in the middle
 all-middle : {K : Type 0} (P : K → Type 0) (xs : List K) (y : K) (ys : List K)
     → AllByRecursion P (xs ++ y ∷ ys) → P y
 all-middle P [] y ys all = all.0
@@ -24,13 +24,13 @@ module _ {K : Type 0} {same : K → K → Bool} (laws : IsEquivalence same) wher
       or_from (same y x) (list_any (same y) xs) (laws.symm y x ∙ apart)
       (list_any-distinct_middle xs y ys (IsDistinct-tail same x (xs ++ y ∷ ys) distinct))
 
-  -- keys that differ and one that is new, if it is one, differ
+  -- keys that differ still differ with one that is new, if there is one
   pub is_distinct-push_key : (xs : List K) (key : Option K) → IsDistinct same xs
       → is_among same key xs ≡ false → IsDistinct same (xs ++ cons_option key [])
   is_distinct-push_key xs None distinct new = rw append-nil distinct
   is_distinct-push_key xs (Some y) distinct new = IsDistinct-push laws xs y distinct new
 
-  -- a key in the middle, if it is one, is new
+  -- a key in the middle, if there is one, is new
   pub is_among-distinct_before : (xs : List K) (key : Option K) (ys : List K)
       → IsDistinct same (xs ++ cons_option key ys) → is_among same key xs ≡ false
   is_among-distinct_before xs None ys distinct = refl

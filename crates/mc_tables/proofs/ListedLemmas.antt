@@ -1,4 +1,4 @@
--- Sources and groups that are listed, as a set and in order.
+-- Listed keys, as a set and in order.
 use Rattle.std.proofs.Common.{◌≡◌, ℕ, true, false, List, length, get_or, Option, Some}
 use Rattle.std.proofs.Common.{None, Result, Ok, Err, refl, sym, ap, ◌∙◌, arith, inl, inr}
 use Rattle.std.specs.Prelude.{◌==◌, ◌&&◌, is_ok}
@@ -22,16 +22,18 @@ use Rattle.mc_tables.proofs.UnlistedRowLemmas.{list_any-same_tests}
 
 -- ---- as a set
 
--- two tests for one source and group
+-- two tests for one key
 same_key-components : (key k : ℕ × ℕ) → same_key key k ≡ ((k.0 == key.0) && (k.1 == key.1))
 same_key-components key k = grind (arith, nat_tests)
 
--- the set has those that are listed
-pub set_has_key-listed_set : (listed : Listed) (key : ℕ × ℕ) → set_has_key (listed_set listed) key ≡ is_listed listed key
+-- the set has the keys that are listed
+pub set_has_key-listed_set : (listed : Listed) (key : ℕ × ℕ)
+    → set_has_key (listed_set listed) key ≡ is_listed listed key
 set_has_key-listed_set None key = refl
 set_has_key-listed_set (Some keys) key =
     set.contains-from_list key_cmp-total keys key
-    ∙ list_any-same_tests (same_key key) (λ k. (k.0 == key.0) && (k.1 == key.1)) keys (same_key-components key)
+    ∙ list_any-same_tests (same_key key) (λ k. (k.0 == key.0) && (k.1 == key.1)) keys
+        (same_key-components key)
 
 -- so the same rows are kept
 is_key_kept_by_set-listed_set : (listed : Listed) (own : Option (ℕ × ℕ))

@@ -1,4 +1,4 @@
--- Sources and groups that are kept as numbers.
+-- Listed pairs that are stored as numbers.
 use Rattle.std.proofs.Common.{◌≡◌, ℕ, ◌<◌, false, List, [], ◌∷◌, length, get_or, map, Option}
 use Rattle.std.proofs.Common.{None, Some, sym, ap, ◌∙◌, inl, inr, arith, subst}
 use Rattle.std.specs.Prelude.{◌↔◌, IfNone}
@@ -66,13 +66,14 @@ pair_of-distinct (n ∷ ns) distinct = (
   pair_of-distinct ns (IsDistinct-tail (eq_by_cmp nat_cmp) n ns distinct),
 )
 
-pub pair_of-increasing_distinct : (ns : List ℕ) → IsStrictlyIncreasing ns → IsDistinct same_key (map pair_of ns)
+pub pair_of-increasing_distinct : (ns : List ℕ) → IsStrictlyIncreasing ns
+    → IsDistinct same_key (map pair_of ns)
 pair_of-increasing_distinct ns up =
     pair_of-distinct ns (IsDistinct-from_sorted nat_cmp ns (sorted_from_strictly_increasing ns up))
 
 -- ---- which pairs they are
 
--- the same pairs are the same set
+-- lists of the same pairs are the same set
 pub same_set : (xs ys : List (ℕ × ℕ)) → ((q : ℕ × ℕ) → Contains xs q ↔ Contains ys q)
     → set.from_list {R = key_cmp} xs ≡ set.from_list ys
 same_set xs ys same =
@@ -92,7 +93,7 @@ same_set xs ys same =
     ]
     ∙ sym (set.contains-from_list key_cmp-total ys q))
 
--- what elements among these give, those that are among others give too
+-- if these elements are among others, what they are mapped to is among what those are mapped to
 contains-map : {A : Type 0} (f : A → ℕ × ℕ) (d : A) (xs ys : List A)
     → ((x : A) → Contains xs x → Contains ys x) → (q : ℕ × ℕ)
     → Contains (map f xs) q → Contains (map f ys) q

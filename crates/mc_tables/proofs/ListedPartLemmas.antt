@@ -1,4 +1,4 @@
--- What a cache of which the listed rows are kept answers, beside the whole one.
+-- The table of the listed rows beside the one of all rows.
 use Rattle.std.proofs.Common.{◌≡◌, ℕ, Bool, true, false, cond, eqb, List, [], ◌∷◌, Option, Some, None}
 use Rattle.std.proofs.Common.{Result, Ok, Err, refl, ap, subst, ◌∙◌, sym, inl, inr}
 use Rattle.std.specs.Prelude.{◌↔◌}
@@ -22,7 +22,7 @@ use Rattle.mc_tables.proofs.KeptRowLemmas.{same_key-listed_differs}
 
 -- ---- entries
 
--- one row more to search for a listed source and group
+-- whether a listed key is found among the entries of the rows with one more
 find-kept_more : (listed : Listed) (key : ℕ × ℕ) (row : RowValue) (kept rows : List RowValue)
     (own : Option ((ℕ × ℕ) × EntryValue)) → exact_entry row ≡ own → is_listed listed key ≡ true
     → map.find key_cmp key (filter_map exact_entry kept)
@@ -37,7 +37,7 @@ find-kept_more listed key row kept rows (Some exact) own is rest =
       | inr none ↦ rw (none, same_key-listed_differs listed key exact.0 true is none) rest
     ]
 
--- a listed source and group have among the kept rows the entry that they have among all
+-- a listed key has the same entry among the kept rows and among all
 find-kept_rows : (listed : Listed) (key : ℕ × ℕ) (rows : List RowValue) → is_listed listed key ≡ true
     → map.find key_cmp key (filter_map exact_entry (kept_rows listed rows))
     ≡ map.find key_cmp key (filter_map exact_entry rows)
@@ -46,7 +46,7 @@ find-kept_rows listed key (row ∷ rows) is =
     find-kept_more listed key row (kept_rows listed rows) rows (exact_entry row) refl is
     (find-kept_rows listed key rows is)
 
--- one row more to search for another source and group
+-- whether another key is found among the entries of the rows with one more
 find-unlisted_more : (listed : Listed) (key : ℕ × ℕ) (row : RowValue) (kept : List RowValue)
     (own : Option ((ℕ × ℕ) × EntryValue)) → exact_entry row ≡ own → is_listed listed key ≡ false
     → map.find key_cmp key (filter_map exact_entry kept) ≡ None
@@ -60,7 +60,7 @@ find-unlisted_more listed key row kept (Some exact) own is rest =
       | inr none ↦ rw none rest
     ]
 
--- others have none
+-- a key that isn't listed has no entry among the kept rows
 find-unlisted : (listed : Listed) (key : ℕ × ℕ) (rows : List RowValue) → is_listed listed key ≡ false
     → map.find key_cmp key (filter_map exact_entry (kept_rows listed rows)) ≡ None
 find-unlisted listed key [] is = refl
@@ -78,7 +78,7 @@ wildcard_group-unlisted_row : (listed : Listed) (row : RowValue) (b : Bool) (ent
 wildcard_group-unlisted_row listed row true entry e = absurd cc
 wildcard_group-unlisted_row listed row false entry e = refl
 
--- so the groups of the others are those of all
+-- so the kept rows have all groups of the rows for every source
 wildcard_groups-kept_rows : (listed : Listed) (rows : List RowValue)
     → filter_map wildcard_group (kept_rows listed rows) ≡ filter_map wildcard_group rows
 wildcard_groups-kept_rows listed [] = refl
@@ -93,7 +93,7 @@ wildcard_groups-kept_rows listed (row ∷ rows) =
 
 -- ---- tables
 
--- the table of the kept rows is the listed part of the table of all
+-- the table of the kept rows is the listed part of the table of all rows
 table_of-listed_part : (listed : Listed) (rows : List RowValue)
     → IsListedPart listed (table_of (kept_rows listed rows)) (table_of rows)
 table_of-listed_part listed rows = record {
@@ -121,7 +121,7 @@ listed_in-is_part order listed text part e =
           (table_of-listed_part listed read.0),
     )
 
--- the faults are those of the whole
+-- the faults are those of the whole text
 table_of-same_fault : (listed : Listed) (read : Result (List RowValue) TableFault) (fault : TableFault)
     → ((read >>= λ rows. Ok (table_of (kept_rows listed rows))) ≡ Err fault)
     ↔ ((read >>= λ rows. Ok (table_of rows)) ≡ Err fault)

@@ -1,11 +1,13 @@
 -- The lowest of many pairs, ascending and each once.
-use Rattle.std.proofs.Common.{◌≡◌, ℕ, zero, suc, ◌+◌, ◌<◌, ◌≤◌, Bool, true, false, cond, T, List, [], ◌∷◌, ◌++◌}
+use Rattle.std.proofs.Common.{◌≡◌, ℕ, zero, suc, ◌+◌, ◌<◌, ◌≤◌, Bool, true, false, cond, T, List, [], ◌∷◌}
+use Rattle.std.proofs.Common.{◌++◌}
 use Rattle.std.proofs.Common.{length, take, get_or, map, Option, None, Some, refl, sym, ap, subst, ◌∙◌, arith}
 use Rattle.std.specs.Prelude.{◌&&◌, ◌≢◌}
 use Rattle.std.specs.FinMap as fin
 use Rattle.std.specs.FinMap.Entries.{below_all, by_order, is_sorted, same_entries}
 use Rattle.std.specs.List.{AllByRecursion, Contains, dedup, insert}
-use Rattle.std.specs.List.Sorted.{IsStrictlySortedBy, IsPermutation, IsSorted, IsNonDecreasingBy, IsPartitionPoint}
+use Rattle.std.specs.List.Sorted.{IsStrictlySortedBy, IsPermutation, IsSorted, IsNonDecreasingBy}
+use Rattle.std.specs.List.Sorted.{IsPartitionPoint}
 use Rattle.std.specs.Cmp.{IsEquivalence, tied_itself}
 use Rattle.std.specs.Ordering.{eq_by_cmp, is_le, is_lt, is_some_and, nat_cmp, ordering_index}
 use Rattle.std.specs.Ordering.{ordering_reverse, ordering_then, partial_le, partial_ordering_then}
@@ -30,7 +32,7 @@ key_cmp-greater_flip x y is = key_cmp-total.antisymm y x ∙ ap ordering_reverse
 key_cmp-less_flip : (x y : ℕ × ℕ) → key_cmp x y ≡ Less → key_cmp y x ≡ Greater
 key_cmp-less_flip x y is = key_cmp-total.antisymm y x ∙ ap ordering_reverse is
 
--- a pair is not less than one that is at most it, by the test of two parts
+-- a pair is not less than one that is at most it, by comparing both parts
 pub key_cmp-not_less : (x y : ℕ × ℕ)
     → true ≡ partial_le (λ (x : ℕ × ℕ) (y : ℕ × ℕ).
     partial_ordering_then (Some (nat_cmp x.0 y.0)) (Some (nat_cmp x.1 y.1))) x y
@@ -46,14 +48,15 @@ key_cmp-not_less x y le less =
     ] le in
     true≢false (sym at_most ∙ ap is_le (key_cmp-less_flip y x less))
 
--- a pair that is not less than one is greater than each lesser one
+-- a pair that isn't less than one is greater than each lesser one
 key_cmp-greater_than_lesser : (pair x p : ℕ × ℕ) → key_cmp pair x ≢ Less → key_cmp p x ≡ Less
     → key_cmp pair p ≡ Greater
 key_cmp-greater_than_lesser pair x p above less =
     elim (key_cmp pair x) as (λ r. key_cmp pair x ≡ r → key_cmp pair p ≡ Greater) [
       | Less ↦ λ is. absurd (above is)
       | Equal ↦ λ is. key_cmp-total.congr pair x p is ∙ key_cmp-less_flip p x less
-      | Greater ↦ λ is. key_cmp-less_flip p pair (key_cmp-total.trans p x pair less (key_cmp-greater_flip pair x is))
+      | Greater ↦ λ is. key_cmp-less_flip p pair
+          (key_cmp-total.trans p x pair less (key_cmp-greater_flip pair x is))
     ] refl
 
 -- ---- ascending pairs
@@ -83,7 +86,7 @@ are_above-take zero x ps all = tt
 are_above-take (suc n) x [] all = tt
 are_above-take (suc n) x (p ∷ ps) all = (all.0, are_above-take n x ps all.1)
 
--- with a pair in its place they ascend
+-- pairs that ascend still ascend with one more at its place
 put_pair-ascends : (pair : ℕ × ℕ) (ps : List (ℕ × ℕ)) → IsStrictlySortedBy key_cmp ps
     → IsStrictlySortedBy key_cmp (put_pair pair ps)
 unfolding IsStrictlySortedBy
@@ -93,10 +96,11 @@ put_pair-ascends pair (p ∷ ps) up =
     → IsStrictlySortedBy key_cmp (put_at r pair p ps (put_pair pair ps))) [
       | Less ↦ λ is. ((is, are_above-lesser pair p ps is up.0), up)
       | Equal ↦ λ is. up
-      | Greater ↦ λ is. (are_above-put_pair p pair ps (key_cmp-greater_flip pair p is) up.0, put_pair-ascends pair ps up.1)
+      | Greater ↦ λ is. (are_above-put_pair p pair ps
+          (key_cmp-greater_flip pair p is) up.0, put_pair-ascends pair ps up.1)
     ] refl
 
--- and so do the first of them
+-- the first ones of pairs that ascend do too
 take-ascends : (n : ℕ) (ps : List (ℕ × ℕ)) → IsStrictlySortedBy key_cmp ps
     → IsStrictlySortedBy key_cmp (take n ps)
 unfolding IsStrictlySortedBy
@@ -116,11 +120,12 @@ is_sorted-from_strict ps up = λ k d low high.
 
 search_order-from_strict : (ps : List (ℕ × ℕ)) (pair : ℕ × ℕ) → IsStrictlySortedBy key_cmp ps
     → IsNonDecreasingBy (λ p. ordering_index (key_cmp p pair)) ps
-search_order-from_strict ps pair up = searchable_from_sorted key_cmp-total (λ p. p) ps pair (is_sorted-from_strict ps up)
+search_order-from_strict ps pair up =
+    searchable_from_sorted key_cmp-total (λ p. p) ps pair (is_sorted-from_strict ps up)
 
--- ---- a pair in its place
+-- ---- a pair at its place
 
--- one that is there
+-- a pair that is there
 pub put_pair-member : (pair d : ℕ × ℕ) (ps : List (ℕ × ℕ)) (i : ℕ) → IsStrictlySortedBy key_cmp ps
     → i < length ps → key_cmp (get_or ps i d) pair ≡ Equal → put_pair pair ps ≡ ps
 unfolding IsStrictlySortedBy
@@ -138,7 +143,7 @@ put_pair-member pair d (p ∷ ps) (suc i) up lt is =
     ap (λ r. put_at r pair p ps (put_pair pair ps)) (key_cmp-less_flip p pair less)
     ∙ ap (λ (l : List (ℕ × ℕ)). p ∷ l) (put_pair-member pair d ps i up.1 below is)
 
--- one that belongs between those before a place and those from it on
+-- a pair that belongs between those before a place and those from it on
 put_pair-between : (pair : ℕ × ℕ) (ps : List (ℕ × ℕ)) (i : ℕ) → i ≤ length ps
     → ((k : ℕ) (d : ℕ × ℕ) → k < i → key_cmp (get_or ps k d) pair ≡ Less)
     → ((k : ℕ) (d : ℕ × ℕ) → i ≤ k → k < length ps → key_cmp (get_or ps k d) pair ≡ Greater)
@@ -154,7 +159,7 @@ put_pair-between pair (p ∷ ps) (suc i) le before after =
     (λ k d lt. before (suc k) d (omega (arith, lt)))
     (λ k d low high. after (suc k) d (omega (arith, low)) (omega (arith, high))))
 
--- one for which a search found a place
+-- a pair for which a search found a place
 pub put_pair-at_search_place : (pair : ℕ × ℕ) (ps seen : List (ℕ × ℕ)) (i : ℕ) → seen ≡ ps
     → IsStrictlySortedBy key_cmp ps → i ≤ length seen
     → (IsNonDecreasingBy (λ p. ordering_index (key_cmp p pair)) seen
@@ -167,7 +172,7 @@ put_pair-at_search_place pair ps seen i is up le found =
     put_pair-between pair ps i (subst (λ (l : List (ℕ × ℕ)). i ≤ length l) is le)
     (λ k d lt. parts.0 k d (omega arith) lt) parts.1
 
--- one that is not less than the one at a place changes none up to there
+-- a pair that isn't less than the one at a place changes none up to there
 pub take_put_pair-above : (pair d : ℕ × ℕ) (ps : List (ℕ × ℕ)) (i : ℕ) → IsStrictlySortedBy key_cmp ps
     → i < length ps → key_cmp pair (get_or ps i d) ≢ Less
     → take (suc i) (put_pair pair ps) ≡ take (suc i) ps
@@ -189,7 +194,7 @@ take_put_pair-above pair d (p ∷ ps) (suc i) up lt above =
 
 -- ---- the lowest
 
--- the first of the first of some, with one before them
+-- the first ones of the first ones, with one before them
 take-cons_take : (n : ℕ) (p : ℕ × ℕ) (ps : List (ℕ × ℕ)) → take n (p ∷ take n ps) ≡ take n (p ∷ ps)
 take-cons_take zero p ps = refl
 take-cons_take (suc n) p ps = ap (λ (l : List (ℕ × ℕ)). p ∷ l) (take-take n (suc n) ps (omega arith))
@@ -226,7 +231,7 @@ map-put_key pair (e ∷ es) =
       | Greater ↦ ap (λ (l : List (ℕ × ℕ)). e.0 ∷ l) (map-put_key pair es)
     ]
 
--- one more at the end is found as one more
+-- one more at the end is found like one more at the front
 find-push : (q pair : ℕ × ℕ) (ps : List (ℕ × ℕ))
     → fin.find key_cmp q (as_keys (ps ++ pair ∷ []))
     ≡ cond (eq_by_cmp key_cmp q pair) (Some (tt {0})) (fin.find key_cmp q (as_keys ps))
@@ -245,7 +250,7 @@ find-push q pair (p ∷ ps) =
       | false ↦ refl
     ]
 
--- pairs in order with one more
+-- the pairs in order, with one more
 in_order-push : (ps : List (ℕ × ℕ)) (pair : ℕ × ℕ)
     → in_order (ps ++ pair ∷ []) ≡ put_pair pair (in_order ps)
 in_order-push ps pair =
@@ -266,23 +271,23 @@ pub take_in_order-push : (ps : List (ℕ × ℕ)) (pair : ℕ × ℕ)
 take_in_order-push ps pair =
     ap (take 20) (in_order-push ps pair) ∙ sym (take_put_pair-take 20 pair (in_order ps))
 
--- a list of no length
+-- a list without elements
 length-zero : {A : Type 0} (xs : List A) → length xs ≡ 0 → xs ≡ []
 length-zero [] none = refl
 length-zero (x ∷ xs) none = absurd (omega (arith, none))
 
--- none is what none are in order
+-- no pairs in order are none
 pub in_order-none : [] ≡ in_order []
 in_order-none =
     let none = fin.empty {X = Unit {0}} {R = key_cmp} in
     ap (map (λ (e : (ℕ × ℕ) × Unit {0}). e.0))
     (sym (length-zero (fin.entries none) (sym (fin.len-entries none) ∙ fin.len-empty key_cmp (Unit {0}))))
 
--- none is the lowest of none
+-- the lowest of none are none
 pub take_in_order-none : [] ≡ take 20 (in_order [])
 take_in_order-none = ap (take 20) in_order-none
 
--- ---- all, or the lowest
+-- ---- all pairs, or the lowest
 
 pub shown_pairs-push : (all : Bool) (ps : List (ℕ × ℕ)) (pair : ℕ × ℕ)
     → shown_pairs all (in_order (ps ++ pair ∷ []))
@@ -294,7 +299,7 @@ pub shown_pairs-none : (all : Bool) → [] ≡ shown_pairs all (in_order [])
 shown_pairs-none true = in_order-none
 shown_pairs-none false = take_in_order-none
 
--- ---- pairs that were put in order
+-- ---- pairs that were sorted
 
 is_true-from_eq : (b : Bool) → b ≡ true → T b
 is_true-from_eq b is = subst T (sym is) tt
@@ -317,7 +322,7 @@ map-as_keys : (ps : List (ℕ × ℕ)) → map (λ e. e.0) (as_keys ps) ≡ ps
 map-as_keys [] = refl
 map-as_keys (p ∷ ps) = ap (λ (l : List (ℕ × ℕ)). p ∷ l) (map-as_keys ps)
 
--- ascending pairs are those in order of which the same are found
+-- ascending pairs are those in order if the same pairs are found in them
 in_order-unique : (ps up : List (ℕ × ℕ)) → IsStrictlySortedBy key_cmp up
     → ((q : ℕ × ℕ) → fin.find key_cmp q (as_keys up) ≡ fin.find key_cmp q (as_keys ps))
     → up ≡ in_order ps
@@ -329,7 +334,7 @@ in_order-unique ps up ascend same =
     (is_true-from_eq (is_sorted key_cmp (as_keys up)) (is_sorted-as_keys up ascend)) (fin.entries_sorted m)
     (λ q. same q ∙ sym (fin.get-from_entries key_cmp-total (as_keys ps) q) ∙ fin.get-entries m q))
 
--- a pair is found where it is one of them
+-- a pair that is in the list is found
 find-contained : (q : ℕ × ℕ) (ps : List (ℕ × ℕ)) (k : ℕ) → k < length ps → get_or ps k q ≡ q
     → fin.find key_cmp q (as_keys ps) ≡ Some (tt {0})
 find-contained q [] k lt is = absurd (omega (arith, lt))
@@ -343,7 +348,7 @@ find-contained q (p ∷ ps) (suc k) lt is =
       | false ↦ find-contained q ps k (omega (arith, lt)) is
     ]
 
--- and is one of them where it is found
+-- a pair that is found is in the list
 contains-found : (q : ℕ × ℕ) (ps : List (ℕ × ℕ))
     → fin.find key_cmp q (as_keys ps) ≡ Some (tt {0}) → Contains ps q
 contains-found q [] is = absurd cc
@@ -363,15 +368,16 @@ option-same_some None None there key_cmp-less_flip = refl
 option-same_some None (Some y) there key_cmp-less_flip = key_cmp-less_flip refl
 option-same_some (Some x) b there key_cmp-less_flip = sym (there refl)
 
--- a test that tells which are one is an equivalence
-equivalence-from_same_key : (E : ℕ × ℕ → ℕ × ℕ → Bool) → ((x y : ℕ × ℕ) → E x y ≡ same_key x y) → IsEquivalence E
+-- a test of equality is an equivalence
+equivalence-from_same_key : (E : ℕ × ℕ → ℕ × ℕ → Bool) → ((x y : ℕ × ℕ) → E x y ≡ same_key x y)
+    → IsEquivalence E
 equivalence-from_same_key E ties = record {
   refl = λ x. ties x x ∙ same_key-equivalence.refl x;
   symm = λ x y. ties x y ∙ same_key-equivalence.symm x y ∙ sym (ties y x);
   congr = λ x y z e. ties x z ∙ same_key-equivalence.congr x y z (sym (ties x y) ∙ e) ∙ sym (ties y z);
 }
 
--- pairs that were put in order, each once by a test that tells which are one
+-- sorted pairs without repeats are the pairs in order
 pub dedup-in_order : (E : ℕ × ℕ → ℕ × ℕ → Bool) → ((x y : ℕ × ℕ) → E x y ≡ same_key x y)
     → (ps sorted : List (ℕ × ℕ)) → IsPermutation ps sorted → IsSorted key_cmp sorted
     → dedup E sorted ≡ in_order ps

@@ -1,4 +1,4 @@
--- The bytes that the bits of a number mark.
+-- The bytes that the bits of a mask mark.
 use Rattle.std.proofs.Common.{◌≡◌, ℕ, zero, suc, ◌+◌, ◌-◌, ◌/◌, ◌%◌, ◌^◌, ◌<◌, ◌≤◌, min, bit_and, bit_or}
 use Rattle.std.proofs.Common.{Bool, true, false, cond, List, [], ◌∷◌, length, take, drop, get_or, map}
 use Rattle.std.proofs.Common.{Fits, w8, w64, refl, sym, ap, ap₂, subst, ◌∙◌, arith, inl, inr, shr-shr}
@@ -23,7 +23,7 @@ use Rattle.mc_tables.specs.Counters.{AreMarks, AreLastDigits, HasCounters}
 use Rattle.mc_tables.specs.TableWords.{is_counter, is_decimal_word}
 use Rattle.mc_tables.proofs.PlainRowLemmas.{counter_is_first_word}
 
--- the lane of a bit that is set
+-- the lane of a set bit
 pub cond-one : (b : Bool) → cond {A = ℕ} b 1 0 ≡ 1 → b ≡ true
 cond-one true e = refl
 cond-one false e = absurd (omega (arith, e))
@@ -64,7 +64,7 @@ mask-are_marks test passes line m long fits is agree k set =
           ∙ ap (λ j. test (get_or line j 0)) (sym zero_more) ∙ ap test (sym byte) ∙ lane.1,
     )
 
--- `trailing_ones` is a run of bits that are set
+-- `trailing_ones` is a run of set bits
 pub trailing_ones-set : (n r k : ℕ) → n < 2 ^ 64 → r ≡ trailing_ones w64 n → k < r → bit_at n k ≡ 1
 trailing_ones-set n r k fits is less =
     elim (cases_lt (n + 1) (2 ^ 64)) [
@@ -75,7 +75,7 @@ trailing_ones-set n r k fits is less =
           ap (λ m. bit_at m k) all ∙ bit_at_ones 64 k (omega (arith, less, is, few))
     ]
 
--- the marks of what stands behind a line's front
+-- the marks of what follows a line's front
 are_marks-drop : (passes : ℕ → Bool) (line : List ℕ) (m n : ℕ) → AreMarks passes line m
     → AreMarks passes (drop n line) (m / 2 ^ n)
 are_marks-drop passes line m n marks k set =
@@ -99,7 +99,7 @@ marks_run-passes passes line m n marks run =
     let below : k < n = omega (arith, within, size) in
     rw (get_or-take n line k 0 below) (marks k (run k below)).1))
 
--- a line has the words that it has behind spaces
+-- a line has the words that it has after its spaces
 words_of-drop_spaces : (n : ℕ) (line : List ℕ) → list_all (λ b. b == 32) (take n line) ≡ true
     → words_of (drop n line) ≡ words_of line
 words_of-drop_spaces zero line e = refl
@@ -113,7 +113,7 @@ pub words_of-drop_marked_spaces : (line : List ℕ) (m n : ℕ) → AreMarks (λ
 words_of-drop_marked_spaces line m n marks run =
     words_of-drop_spaces n line (marks_run-passes (λ b. b == 32) line m n marks run)
 
--- digits and a space behind them are a line's first word
+-- digits and a space after them are a line's first word
 pub words_of-marked_counter : (line : List ℕ) (digits spaces n : ℕ) → AreMarks is_ascii_digit line digits
     → AreMarks (λ b. b == 32) line spaces → ((k : ℕ) → k < n → bit_at digits k ≡ 1)
     → bit_at spaces n ≡ 1 → 0 < n → n ≤ 20 → (word : List ℕ)
@@ -129,7 +129,7 @@ words_of-marked_counter line digits spaces n of_digits of_spaces run space some 
 
 -- ---- counters and the spaces before them
 
--- `trailing_zeros` is the place of the lowest bit that is set
+-- `trailing_zeros` is the place of the lowest set bit
 pub trailing_zeros-unset : (n k : ℕ) → n < 2 ^ 64 → k < trailing_zeros w64 n → bit_at n k ≡ 0
 trailing_zeros-unset zero k fits less = bit_at-zero k
 trailing_zeros-unset (suc n) k fits less = (bit_at-trailing_zeros w64 (suc n) (omega arith) fits).2 k less
@@ -154,11 +154,11 @@ last_digits-are_marks digits spaces k =
 abbrev pub AreDigitsOrSpaces : ℕ → ℕ → ℕ → Type 0
 AreDigitsOrSpaces digits spaces n = (k : ℕ) → k < n → (bit_at digits k ≡ 1) ⊎ (bit_at spaces k ≡ 1)
 
--- no digit before a place has a space behind it
+-- no digit before a place has a space after it
 abbrev HasNoLastDigitBefore : ℕ → ℕ → ℕ → Type 0
 HasNoLastDigitBefore digits spaces n = (k : ℕ) → k < n → bit_at digits k ≡ 1 → bit_at spaces (k + 1) ≡ 1 → ⊥
 
--- from a place on there are spaces, and then digits to the last one
+-- from a place on there are spaces, and then digits up to the last one
 record SpacesThenDigits (digits spaces from last : ℕ) : Type 0 where
   first : ℕ
   after : from ≤ first
@@ -167,8 +167,10 @@ record SpacesThenDigits (digits spaces from last : ℕ) : Type 0 where
   are_digits : (k : ℕ) → first ≤ k → k ≤ last → bit_at digits k ≡ 1
 
 -- a digit before them is one more digit
-spaces_then_digits-digit : (digits spaces from last : ℕ) → from < last → HasNoLastDigitBefore digits spaces last
-    → bit_at digits from ≡ 1 → SpacesThenDigits digits spaces (from + 1) last → SpacesThenDigits digits spaces from last
+spaces_then_digits-digit : (digits spaces from last : ℕ) → from < last
+    → HasNoLastDigitBefore digits spaces last
+    → bit_at digits from ≡ 1 → SpacesThenDigits digits spaces (from + 1) last
+        → SpacesThenDigits digits spaces from last
 spaces_then_digits-digit digits spaces from last below no_end digit split =
     elim (cases_lt (from + 1) split.first) [
       | inl space ↦ absurd (no_end from below digit (split.are_spaces (from + 1) (omega arith) space))
@@ -185,7 +187,7 @@ spaces_then_digits-digit digits spaces from last below no_end digit split =
       }
     ]
 
--- and a space one more space
+-- a space before them is one more space
 spaces_then_digits-space : (digits spaces from last : ℕ) → bit_at spaces from ≡ 1
     → SpacesThenDigits digits spaces (from + 1) last → SpacesThenDigits digits spaces from last
 spaces_then_digits-space digits spaces from last space split =
@@ -201,7 +203,8 @@ spaces_then_digits-space digits spaces from last space split =
       are_digits = split.are_digits;
     }
 
-spaces_then_digits-from : (d digits spaces from last : ℕ) → from + d ≡ last → HasNoLastDigitBefore digits spaces last
+spaces_then_digits-from : (d digits spaces from last : ℕ) → from + d ≡ last
+    → HasNoLastDigitBefore digits spaces last
     → AreDigitsOrSpaces digits spaces last → bit_at digits last ≡ 1 → SpacesThenDigits digits spaces from last
 spaces_then_digits-from zero digits spaces from last sum no_end known digit =
     record {
@@ -213,24 +216,27 @@ spaces_then_digits-from zero digits spaces from last sum no_end known digit =
           subst (λ i. bit_at digits i ≡ 1) is digit);
     }
 spaces_then_digits-from (suc d) digits spaces from last sum no_end known digit =
-    let others = spaces_then_digits-from d digits spaces (from + 1) last (omega (arith, sum)) no_end known digit in
+    let others = spaces_then_digits-from d digits spaces (from + 1) last
+        (omega (arith, sum)) no_end known digit in
     let below : from < last = omega (arith, sum) in
     elim (known from below) [
       | inl is_digit ↦ spaces_then_digits-digit digits spaces from last below no_end is_digit others
       | inr is_space ↦ spaces_then_digits-space digits spaces from last is_space others
     ]
 
--- the least of two bits is 1 where both are
+-- the least of two bits is 1 if both are
 min-one : (a b : ℕ) → a < 2 → b < 2 → min a b ≡ 1 → (a ≡ 1) × (b ≡ 1)
 min-one a b few_a few_b is = (omega (arith, few_a, few_b, is), omega (arith, few_a, few_b, is))
 
--- spaces, digits to the last one and a space behind it begin with a counter
-words_of-counter_after_spaces : (line : List ℕ) (digits spaces n more end : ℕ) → AreMarks is_ascii_digit line digits
+-- spaces, digits up to the last one and a space after it begin with a counter
+words_of-counter_after_spaces : (line : List ℕ) (digits spaces n more end : ℕ)
+    → AreMarks is_ascii_digit line digits
     → AreMarks (λ b. b == 32) line spaces → n + more ≡ end → 0 < more → more ≤ 20
     → ((k : ℕ) → k < n → bit_at spaces k ≡ 1) → ((k : ℕ) → k < more → bit_at digits (n + k) ≡ 1)
     → bit_at spaces end ≡ 1 → (word : List ℕ)
     × (words_of line ≡ word ∷ words_of (drop end line)) × (is_counter word ≡ true)
-words_of-counter_after_spaces line digits spaces n more end of_digits of_spaces sum some few are_spaces are_digits
+words_of-counter_after_spaces line digits spaces n more end of_digits of_spaces sum some few are_spaces
+    are_digits
     space =
     let found = words_of-marked_counter (drop n line) (digits / 2 ^ n) (spaces / 2 ^ n) more
     (are_marks-drop is_ascii_digit line digits n of_digits)
@@ -249,7 +255,8 @@ words_of-spaces_then_digits : (line : List ℕ) (digits spaces last : ℕ) → A
     → bit_at spaces (last + 1) ≡ 1 → (word : List ℕ)
     × (words_of line ≡ word ∷ words_of (drop (last + 1) line)) × (is_counter word ≡ true)
 words_of-spaces_then_digits line digits spaces last of_digits of_spaces few split space =
-    words_of-counter_after_spaces line digits spaces split.first (last + 1 - split.first) (last + 1) of_digits of_spaces
+    words_of-counter_after_spaces line digits spaces split.first (last + 1 - split.first)
+        (last + 1) of_digits of_spaces
     (omega (arith, split.within)) (omega (arith, split.within)) (omega (arith, few))
     (λ k less. split.are_spaces k (omega arith) less)
     (λ k less. split.are_digits (split.first + k) (omega arith) (omega (arith, less, split.within)))
@@ -261,7 +268,7 @@ no_last_digit-from_lowest digits spaces ends last are_ends lowest k less digit s
     let both : min 1 1 ≡ 0 = ap₂ min (sym digit) (sym space) ∙ sym (are_ends k) ∙ lowest k less in
     omega (arith, both)
 
--- the first word is the counter that ends with the first digit that has a space behind it
+-- the first word is the counter that ends with the first digit that has a space after it
 words_of-first_counter : (line : List ℕ) (digits spaces ends last : ℕ) → AreMarks is_ascii_digit line digits
     → AreMarks (λ b. b == 32) line spaces → AreLastDigits digits spaces ends
     → AreDigitsOrSpaces digits spaces (last + 1) → ((k : ℕ) → k < last → bit_at ends k ≡ 0)
@@ -275,7 +282,7 @@ words_of-first_counter line digits spaces ends last of_digits of_spaces are_ends
     (no_last_digit-from_lowest digits spaces ends last are_ends lowest)
     (λ k less. known k (omega (arith, less))) both.0) both.1
 
--- ---- what stands behind it, likewise
+-- ---- what follows that counter, likewise
 
 last_digits-shift : (digits spaces ends n : ℕ) → AreLastDigits digits spaces ends
     → AreLastDigits (digits / 2 ^ n) (spaces / 2 ^ n) (ends / 2 ^ n)
@@ -303,7 +310,7 @@ digits_or_spaces-run digits spaces n run k less =
       | inr none ↦ inr (omega (arith, none, is, bit_at-lt spaces k))
     ]
 
--- they stand within the line
+-- they are within the line
 pub digits_or_spaces-within : (line : List ℕ) (digits spaces n : ℕ) → AreMarks is_ascii_digit line digits
     → AreMarks (λ b. b == 32) line spaces → AreDigitsOrSpaces digits spaces n → n ≤ length line
 digits_or_spaces-within line digits spaces zero of_digits of_spaces known = omega arith
@@ -322,7 +329,8 @@ pub has_counters-from_marks : (line : List ℕ) (digits spaces ends a b c : ℕ)
     → ((k : ℕ) → k < c → bit_at (ends / 2 ^ (a + 1) / 2 ^ (b + 1)) k ≡ 0)
     → bit_at (ends / 2 ^ (a + 1) / 2 ^ (b + 1)) c ≡ 1 → c < 20
     → HasCounters line (drop (a + 1 + (b + 1) + (c + 1)) line)
-has_counters-from_marks line digits spaces ends a b c of_digits of_spaces are_ends known low_a set_a few_a low_b
+has_counters-from_marks line digits spaces ends a b c of_digits of_spaces are_ends known low_a set_a few_a
+    low_b
     set_b few_b low_c set_c few_c =
     let first = words_of-first_counter line digits spaces ends a of_digits of_spaces are_ends
     (λ k less. known k (omega (arith, less))) low_a set_a few_a in

@@ -1,4 +1,4 @@
--- The numbers of sources and groups that are listed.
+-- The numbers of listed keys.
 use Rattle.std.proofs.Common.{◌≡◌, ℕ, zero, suc, ◌+◌, ◌<◌, true, false, cond, List, [], ◌∷◌}
 use Rattle.std.proofs.Common.{◌++◌, length, get_or, Option, Some, None, Result, Ok, Err, refl, sym}
 use Rattle.std.proofs.Common.{add-one, ap, subst, ◌∙◌, inl, inr, arith}
@@ -10,7 +10,8 @@ use Rattle.std.proofs.lemmas.List.{get_or-set_same}
 use Rattle.std.proofs.lemmas.List.Folds.{list_any_at}
 use Rattle.std.proofs.lemmas.Map.Keys.{IsDistinct-head, IsDistinct-tail}
 use Rattle.mc_tables.specs.CacheTable.{key_cmp, same_key}
-use Rattle.mc_tables.specs.CacheNumbers.{IsNumberInserted, IsPlaceOf, EntryNumbersValue, AddsNumber, numbers_at_places, listed_or_all}
+use Rattle.mc_tables.specs.CacheNumbers.{IsNumberInserted, IsPlaceOf, EntryNumbersValue, AddsNumber}
+use Rattle.mc_tables.specs.CacheNumbers.{numbers_at_places, listed_or_all}
 use Rattle.mc_tables.specs.CacheNumbers.{number_of_key, decoded_number}
 use Rattle.mc_tables.specs.declared.listed_entry_numbers.Inserted.TheVariants.{New}
 use Rattle.std.specs.BTreeMap.{is_at}
@@ -18,7 +19,7 @@ use Rattle.mc_tables.specs.ListedRows.{set_has_key}
 use Rattle.mc_tables.proofs.CacheLemmas.{key_cmp-total, same_key-equivalence}
 use Rattle.mc_tables.proofs.UnlistedRowLemmas.{same_key-equal}
 
--- ---- a key that is none of the keys has no number
+-- ---- a key that isn't among the keys has no number
 
 pub number_of_key-missing : (key : ℕ × ℕ) (keys : List (ℕ × ℕ)) (ns : List ℕ)
     → list_any (same_key key) keys ≡ false → number_of_key (numbers_at_places keys ns) key ≡ None
@@ -39,13 +40,13 @@ number_of_key-missing key (k ∷ keys) (suc n ∷ ns) none =
 
 -- ---- a key at its place
 
--- a key that is the same as none of those after it
+-- a key at a place is equal to none of those after it
 list_any-none_same : (key : ℕ × ℕ) (keys : List (ℕ × ℕ)) → AllByRecursion (λ k. same_key key k ≡ false) keys
     → list_any (same_key key) keys ≡ false
 list_any-none_same key [] all = refl
 list_any-none_same key (k ∷ keys) all = rw (all.0) (list_any-none_same key keys all.1)
 
--- what all have, the one at a place has
+-- what holds of all holds of the one at a place
 all-get_or : (P : ℕ × ℕ → Type 0) (keys : List (ℕ × ℕ)) (i : ℕ) (d : ℕ × ℕ) → AllByRecursion P keys
     → i < length keys → P (get_or keys i d)
 all-get_or P [] i d all lt = absurd (omega (arith, lt))
@@ -55,8 +56,9 @@ all-get_or P (k ∷ keys) (suc i) d all lt = all-get_or P keys i d all.1 (omega 
 pub same_key-refl : (key : ℕ × ℕ) → same_key key key ≡ true
 same_key-refl key = same_key-equivalence.refl key
 
--- the number of a key is what its place says
-pub number_of_key-at_place : (key : ℕ × ℕ) (keys : List (ℕ × ℕ)) (ns : List ℕ) (i : ℕ) → IsDistinct same_key keys
+-- the number of a key is the one at its place
+pub number_of_key-at_place : (key : ℕ × ℕ) (keys : List (ℕ × ℕ)) (ns : List ℕ) (i : ℕ)
+    → IsDistinct same_key keys
     → i < length keys → get_or keys i key ≡ key
     → number_of_key (numbers_at_places keys ns) key ≡ decoded_number (get_or ns i 0)
 number_of_key-at_place key [] ns i distinct lt is = absurd (omega (arith, lt))
@@ -70,18 +72,20 @@ number_of_key-at_place key (k ∷ keys) (zero ∷ ns) (suc i) distinct lt is =
     number_of_key-at_place key keys ns i (IsDistinct-tail same_key k keys distinct) (omega (arith, lt)) is
 number_of_key-at_place key (k ∷ keys) (suc n ∷ ns) (suc i) distinct lt is =
     let apart : same_key k (get_or keys i key) ≡ false =
-    all-get_or (λ y. same_key k y ≡ false) keys i key (IsDistinct-head same_key k keys distinct) (omega (arith, lt)) in
+    all-get_or (λ y. same_key k y ≡ false) keys i key (IsDistinct-head same_key k keys distinct)
+        (omega (arith, lt)) in
     let other : same_key key k ≡ false =
     same_key-equivalence.symm key k ∙ subst (λ x. same_key k x ≡ false) is apart in
     rw (other)
     (number_of_key-at_place key keys ns i (IsDistinct-tail same_key k keys distinct) (omega (arith, lt)) is)
 
--- ---- one number more
+-- ---- one more number
 
--- what another key has stays
+-- the number of another key stays the same
 number_of_key-set_other : (key q : ℕ × ℕ) (keys : List (ℕ × ℕ)) (ns : List ℕ) (i n : ℕ)
     → i < length keys → get_or keys i key ≡ key → same_key q key ≡ false
-    → number_of_key (numbers_at_places keys (slice_set ns i n)) q ≡ number_of_key (numbers_at_places keys ns) q
+    → number_of_key (numbers_at_places keys (slice_set ns i n)) q
+        ≡ number_of_key (numbers_at_places keys ns) q
 number_of_key-set_other key q [] ns i n lt is other = absurd (omega (arith, lt))
 number_of_key-set_other key q (k ∷ keys) [] i n lt is other = refl
 number_of_key-set_other key q (k ∷ keys) (zero ∷ ns) zero zero lt is other = refl
@@ -105,9 +109,11 @@ adds_number-set key keys ns i n distinct place within = λ q.
           ≡ cond (same_key key x) (Some n) (number_of_key (numbers_at_places keys ns) x)) same
           (number_of_key-at_place key keys (slice_set ns i (suc n)) i distinct place.0 place.1
           ∙ ap decoded_number (get_or-set_same ns i (suc n) 0 within)
-          ∙ ap (λ b. cond b (Some n) (number_of_key (numbers_at_places keys ns) key)) (sym (same_key-refl key)))
+          ∙ ap (λ b. cond b (Some n) (number_of_key (numbers_at_places keys ns) key))
+              (sym (same_key-refl key)))
       | inr other ↦
-          number_of_key-set_other key q keys ns i (suc n) place.0 place.1 (same_key-equivalence.symm q key ∙ other)
+          number_of_key-set_other key q keys ns i (suc n) place.0 place.1
+              (same_key-equivalence.symm q key ∙ other)
           ∙ ap (λ b. cond b (Some n) (number_of_key (numbers_at_places keys ns) q)) (sym other)
     ])
 
@@ -123,9 +129,10 @@ pub numbers_at_places-append_zeros : (keys : List (ℕ × ℕ)) (ns : List ℕ) 
 numbers_at_places-append_zeros [] ns n = refl
 numbers_at_places-append_zeros (k ∷ keys) [] n = numbers_at_places-zeros (k ∷ keys) n
 numbers_at_places-append_zeros (k ∷ keys) (zero ∷ ns) n = numbers_at_places-append_zeros keys ns n
-numbers_at_places-append_zeros (k ∷ keys) (suc m ∷ ns) n = ap (λ rest. (k, m) ∷ rest) (numbers_at_places-append_zeros keys ns n)
+numbers_at_places-append_zeros (k ∷ keys) (suc m ∷ ns) n =
+    ap (λ rest. (k, m) ∷ rest) (numbers_at_places-append_zeros keys ns n)
 
--- ---- what is kept of a pair
+-- ---- places of pairs
 
 pub is_some-decoded_number : (n : ℕ) → n ≢ 0 → is_some (decoded_number n) ≡ true
 is_some-decoded_number zero some = absurd (some refl)
@@ -147,11 +154,12 @@ pub numbers_at_places-none : (keys : List (ℕ × ℕ)) → numbers_at_places ke
 numbers_at_places-none [] = refl
 numbers_at_places-none (k ∷ keys) = refl
 
--- ---- the pairs and their numbers
+-- ---- the value of listed numbers
 
--- what they keep
+-- the keys with the numbers at their places
 abbrev pub listed_numbers_value : List (ℕ × ℕ) → List ℕ → EntryNumbersValue
-listed_numbers_value keys ns = record { listed = Some (set.from_list keys); numbers = numbers_at_places keys ns }
+listed_numbers_value keys ns =
+    record { listed = Some (set.from_list keys); numbers = numbers_at_places keys ns }
 
 pub number_of_key-here : (keys : List (ℕ × ℕ)) (ns : List ℕ) (key : ℕ × ℕ) (i : ℕ) (s : EntryNumbersValue)
     → listed_numbers_value keys ns ≡ s → IsDistinct same_key keys → IsPlaceOf keys key i
@@ -160,13 +168,15 @@ number_of_key-here keys ns key i s is distinct place =
     ap (λ (t : EntryNumbersValue). number_of_key t.numbers key) (sym is)
     ∙ number_of_key-at_place key keys ns i distinct place.0 place.1
 
-pub set_has_key-listed_place : (keys : List (ℕ × ℕ)) (ns : List ℕ) (key : ℕ × ℕ) (i : ℕ) (s : EntryNumbersValue)
+pub set_has_key-listed_place : (keys : List (ℕ × ℕ)) (ns : List ℕ) (key : ℕ × ℕ) (i : ℕ)
+    (s : EntryNumbersValue)
     → listed_numbers_value keys ns ≡ s → IsPlaceOf keys key i → set_has_key s.listed key ≡ true
 set_has_key-listed_place keys ns key i s is place =
     ap (λ (t : EntryNumbersValue). set_has_key t.listed key) (sym is) ∙ contains-listed_place keys key i place
 
 -- more places change nothing
-pub listed_numbers_value-append_zeros : (keys : List (ℕ × ℕ)) (ns more : List ℕ) (zeros : ℕ) (s : EntryNumbersValue)
+pub listed_numbers_value-append_zeros : (keys : List (ℕ × ℕ)) (ns more : List ℕ) (zeros : ℕ)
+    (s : EntryNumbersValue)
     → more ≡ ns ++ replicate zeros 0 → listed_numbers_value keys ns ≡ s → listed_numbers_value keys more ≡ s
 listed_numbers_value-append_zeros keys ns more zeros s is kept =
     ap (λ (l : List ((ℕ × ℕ) × ℕ)). let t : EntryNumbersValue = record {
@@ -175,26 +185,29 @@ listed_numbers_value-append_zeros keys ns more zeros s is kept =
     } in t) (ap (numbers_at_places keys) is ∙ numbers_at_places-append_zeros keys ns zeros)
     ∙ kept
 
--- a refusal leaves what holds
+-- what holds at any rate holds after an error
 pub on_err-kept : {A E : Type 0} (P : Type 0) (r : Result A E) → P → OnErr r P
 on_err-kept P (Ok x) holds = tt
 on_err-kept P (Err e) holds = holds
 
--- ---- where all are kept
+-- ---- where all keys can have a number
 
 pub is_some-false : {A : Type 0} (o : Option A) → is_some o ≡ false → o ≡ None
 is_some-false None none = refl
 is_some-false (Some x) none = absurd cc
 
 -- a key that has no number gets this one
-pub number_inserted-all_listed : (listed : Option EntryNumbersValue) (all more : List ((ℕ × ℕ) × ℕ)) (key : ℕ × ℕ) (n : ℕ)
+pub number_inserted-all_listed : (listed : Option EntryNumbersValue) (all more : List ((ℕ × ℕ) × ℕ))
+    (key : ℕ × ℕ) (n : ℕ)
     (s : EntryNumbersValue) → listed ≡ None → listed_or_all listed all ≡ s → number_of_key all key ≡ None
     → AddsNumber key n all more → IsNumberInserted key n s (listed_or_all listed more) New
-number_inserted-all_listed (Some keys) all more key n s is kept none listed_numbers_value-append_zeros = absurd cc
+number_inserted-all_listed (Some keys) all more key n s is kept none listed_numbers_value-append_zeros =
+    absurd cc
 number_inserted-all_listed None all more key n s is kept none listed_numbers_value-append_zeros = (
   ap (λ (t : EntryNumbersValue). set_has_key t.listed key) (sym kept),
   ap (λ (t : EntryNumbersValue). number_of_key t.numbers key) (sym kept) ∙ none,
   ap (λ (t : EntryNumbersValue). t.listed) kept,
-  λ q. listed_numbers_value-append_zeros q ∙ ap (λ (t : EntryNumbersValue). cond (is_at (key_cmp key) q) (Some n) (number_of_key t.numbers q))
+  λ q. listed_numbers_value-append_zeros q
+      ∙ ap (λ (t : EntryNumbersValue). cond (is_at (key_cmp key) q) (Some n) (number_of_key t.numbers q))
       kept,
 )

@@ -1,4 +1,4 @@
--- What reading outgoing vifs gives is what their words write.
+-- What reading outgoing vifs gives is what their words denote.
 use Rattle.std.proofs.Common.{◌≡◌, ℕ, suc, ◌+◌, ◌<◌, true, false, ltb, List, [], ◌∷◌, ◌++◌, length}
 use Rattle.std.proofs.Common.{Option, Some, None, Result, Ok, Err, refl, sym, ap, subst, ◌∙◌, inl}
 use Rattle.std.proofs.Common.{inr, arith}
@@ -51,7 +51,7 @@ all_digits-no_colon (c ∷ cs) h = (
   all_digits-no_colon cs h.1,
 )
 
--- what the parts of a word give is what the word writes
+-- what the parts of a word give is what the word denotes
 oif_in_parts-denotes : (word : List ℕ) (parts : List (List ℕ)) (oif : ℕ × ℕ)
     → slice_split (λ b. b == 58) word ≡ parts → oif_in_parts parts ≡ Ok oif → WordDenotesOif word oif
 unfolding oif_in_parts
@@ -71,11 +71,11 @@ oif_in_parts-denotes word (vif ∷ threshold ∷ []) oif split e =
     subst (WordDenotesOif word) same writes
 oif_in_parts-denotes word parts oif split e = absurd cc
 
--- the outgoing vif that is read is what the word writes
+-- the outgoing vif that is read is the one that the word denotes
 oif_in-denotes : (word : List ℕ) (oif : ℕ × ℕ) → oif_in word ≡ Ok oif → WordDenotesOif word oif
 oif_in-denotes word oif e = oif_in_parts-denotes word (slice_split (λ b. b == 58) word) oif refl e
 
--- the outgoing vif that the word writes is read
+-- the outgoing vif that the word denotes is read
 pub oif_in-from_denotes : (word : List ℕ) (oif : ℕ × ℕ) → WordDenotesOif word oif → oif_in word ≡ Ok oif
 unfolding oif_in_parts
 oif_in-from_denotes word oif h =
@@ -96,11 +96,11 @@ oif_in-from_denotes word oif h =
 
 -- ---- the list by vif, and the map
 
--- the vifs of pairs with thresholds
+-- the vifs of pairs of a vif and a threshold
 abbrev vifs_of_pairs : List (ℕ × ℕ) → List ℕ
 vifs_of_pairs denoted = map (λ oif. oif.0) denoted
 
--- a map finds a vif where it is among those told
+-- a map has a vif exactly if it is among those of its pairs
 is_some_find-vifs : (denoted : List (ℕ × ℕ)) (vif : ℕ)
     → is_some (fin.find nat_cmp vif denoted) ≡ list_any (nat_eq vif) (vifs_of_pairs denoted)
 is_some_find-vifs [] vif = refl
@@ -111,13 +111,14 @@ is_some_find-vifs (oif ∷ denoted) vif =
       | inr is ↦ rw (tied, is) (is_some_find-vifs denoted vif)
     ]
 
--- a list of outgoing vifs has a vif where it is among the vifs
+-- a list of outgoing vifs has a vif exactly if it is among their vifs
 has_vif-to_oif : (es : List (ℕ × ℕ)) (vif : ℕ)
     → has_vif (map to_oif es) vif ≡ list_any (eq_by_cmp nat_cmp vif) (vifs_of_pairs es)
 has_vif-to_oif [] vif = refl
-has_vif-to_oif (e ∷ es) vif = rw (unsigned_tied vif e.0, nat_eq_equiv.symm vif e.0, has_vif-to_oif es vif) refl
+has_vif-to_oif (e ∷ es) vif =
+    rw (unsigned_tied vif e.0, nat_eq_equiv.symm vif e.0, has_vif-to_oif es vif) refl
 
--- the list by vif has a vif where it is among those told
+-- the list by vif has a vif exactly if it is among those of the pairs
 has_vif-oifs_by_vif : (denoted : List (ℕ × ℕ)) (vif : ℕ)
     → has_vif (oifs_by_vif (fin.from_entries denoted)) vif ≡ list_any (nat_eq vif) (vifs_of_pairs denoted)
 has_vif-oifs_by_vif denoted vif =
@@ -125,17 +126,17 @@ has_vif-oifs_by_vif denoted vif =
     ∙ sym (fin.contains_key-keys (fin.from_entries denoted) vif)
     ∙ ap is_some (fin.get-from_entries nat_cmp_total denoted vif) ∙ is_some_find-vifs denoted vif
 
--- what is not there is None
+-- what isn't there is None
 is_some-false_find : (o : Option ℕ) → is_some o ≡ false → o ≡ None
 is_some-false_find None e = refl
 is_some-false_find (Some n) e = absurd cc
 
--- a lesser vif is put before a greater one
+-- a lesser vif is inserted before a greater one
 put-lesser_vif : (vif threshold : ℕ) (e : ℕ × ℕ) (es : List (ℕ × ℕ)) → ltb vif e.0 ≡ true
     → fin.put nat_cmp vif threshold (e ∷ es) ≡ (vif, threshold) ∷ e ∷ es
 put-lesser_vif vif threshold e es below = rw below refl
 
--- a greater vif is put among those after a lesser one
+-- a greater vif is inserted after a lesser one
 put-greater_vif : (vif threshold : ℕ) (e : ℕ × ℕ) (es : List (ℕ × ℕ)) → ltb vif e.0 ≡ false
     → nat_eq vif e.0 ≡ false → fin.put nat_cmp vif threshold (e ∷ es) ≡ e
     ∷ fin.put nat_cmp vif threshold es
@@ -146,7 +147,7 @@ insert_oif-lesser : (oif : ℕ × ℕ) (first : Oif) (oifs : List Oif) → ltb o
     → insert_oif (first ∷ oifs) oif ≡ to_oif oif ∷ first ∷ oifs
 insert_oif-lesser oif first oifs below = rw below refl
 
--- and so into that list
+-- and so a greater one
 insert_oif-greater : (oif : ℕ × ℕ) (first : Oif) (oifs : List Oif) → ltb oif.0 first.vif ≡ false
     → insert_oif (first ∷ oifs) oif ≡ first ∷ insert_oif oifs oif
 insert_oif-greater oif first oifs below =
@@ -182,7 +183,7 @@ pub oifs_with_word-last : (oifs : List Oif) (word : List ℕ) (vif threshold : �
 oifs_with_word-last oifs word vif threshold read above =
     rw (read, has_vif-above_all oifs vif above) (ap Ok (insert_oif-last oifs (vif, threshold) above))
 
--- a new vif has its place in the list where the map puts it
+-- a new vif gets the same place in the list as in the map
 insert_oif-put : (es : List (ℕ × ℕ)) (vif threshold : ℕ) → has_vif (map to_oif es) vif ≡ false
     → insert_oif (map to_oif es) (vif, threshold) ≡ map to_oif (fin.put nat_cmp vif threshold es)
 insert_oif-put [] vif threshold new = refl
@@ -197,12 +198,15 @@ insert_oif-put (e ∷ es) vif threshold new =
           ∙ sym (ap (map to_oif) (put-greater_vif vif threshold e es above other))
     ]
 
--- one more outgoing vif at the end of those told is one more at its place
-oifs_by_vif-push : (denoted : List (ℕ × ℕ)) (oif : ℕ × ℕ) → list_any (nat_eq oif.0) (vifs_of_pairs denoted) ≡ false
-    → insert_oif (oifs_by_vif (fin.from_entries denoted)) oif ≡ oifs_by_vif (fin.from_entries (denoted ++ oif ∷ []))
+-- the list by vif of the pairs with one more is that list with one more at its place
+oifs_by_vif-push : (denoted : List (ℕ × ℕ)) (oif : ℕ × ℕ)
+    → list_any (nat_eq oif.0) (vifs_of_pairs denoted) ≡ false
+    → insert_oif (oifs_by_vif (fin.from_entries denoted)) oif
+        ≡ oifs_by_vif (fin.from_entries (denoted ++ oif ∷ []))
 oifs_by_vif-push denoted oif new =
     let m = fin.from_entries {R = nat_cmp} denoted in
-    let absent : fin.find nat_cmp oif.0 denoted ≡ None = is_some-false_find _ (is_some_find-vifs denoted oif.0 ∙ new) in
+    let absent : fin.find nat_cmp oif.0 denoted ≡ None =
+        is_some-false_find _ (is_some_find-vifs denoted oif.0 ∙ new) in
     insert_oif-put (fin.entries m) oif.0 oif.1 (has_vif-oifs_by_vif denoted oif.0 ∙ new)
     ∙ sym (ap (map to_oif) (fin.entries-insert nat_cmp_total m oif.0 oif.1))
     ∙ sym (ap oifs_by_vif (fin.from_entries_push nat_cmp_total fin.nat_cmp-IsAntisymmetric denoted oif.0
@@ -218,7 +222,7 @@ MayFollow earlier oif = oif_repeats earlier oif ≡ false
 abbrev AreValid : List (ℕ × ℕ) → Type 0
 AreValid denoted = IsDistinct nat_eq (vifs_of_pairs denoted)
 
--- an outgoing vif that is read is written, and no earlier word has its vif
+-- an outgoing vif that is read is denoted, and no earlier word has its vif
 oif_after-denotes : (earlier : List (ℕ × ℕ)) (word : List ℕ) (oif : ℕ × ℕ)
     → oif_after earlier word ≡ Ok oif → WordDenotesOif word oif × MayFollow earlier oif
 oif_after-denotes earlier word oif e =
@@ -228,12 +232,12 @@ oif_after-denotes earlier word oif e =
     (oif_in-denotes word o.0 o.1, not-true _ d.0) in
     subst (λ (x : ℕ × ℕ). WordDenotesOif word x × MayFollow earlier x) (ok_injective o.0 oif d.1) both
 
--- one that is written and whose vif no earlier word has is read
+-- one that is denoted and whose vif no earlier word has is read
 oif_after-from_denotes : (earlier : List (ℕ × ℕ)) (word : List ℕ) (oif : ℕ × ℕ) → WordDenotesOif word oif
     → MayFollow earlier oif → oif_after earlier word ≡ Ok oif
 oif_after-from_denotes earlier word oif writes new = rw (oif_in-from_denotes word oif writes, new) refl
 
--- vifs that differ and a new one differ
+-- vifs that differ still differ with a new one
 oifs-valid_push : (earlier : List (ℕ × ℕ)) (oif : ℕ × ℕ) → AreValid earlier → MayFollow earlier oif
     → AreValid (earlier ++ oif ∷ [])
 oifs-valid_push earlier oif valid new = rw map-append (IsDistinct-push nat_eq_equiv _ oif.0 valid new)
@@ -244,7 +248,7 @@ oifs-may_follow : (earlier : List (ℕ × ℕ)) (oif : ℕ × ℕ) (later : List
 oifs-may_follow earlier oif later valid =
     list_any-distinct_middle nat_eq_equiv _ oif.0 _ (rw map-append at valid)
 
--- so words are read as outgoing vifs
+-- so words are read as the outgoing vifs that they denote
 oif_after-reads_rows : ReadsRows oif_after WordDenotesOif MayFollow AreValid
 oif_after-reads_rows = record {
   found = oif_after-denotes;
@@ -258,13 +262,14 @@ oifs-valid_none : AreValid []
 unfolding IsDistinct
 oifs-valid_none = tt
 
--- the outgoing vifs that are read are what the words write
+-- the outgoing vifs that are read are those that the words denote
 pub oifs_in-denotes : (words : List (List ℕ)) (oifs : List Oif) → oifs_in words ≡ Ok oifs
     → WordsDenoteOifs words oifs
 oifs_in-denotes words oifs e =
     let b = bind_ok (rows_after oif_after [] words)
     (λ denoted. Ok (oifs_by_vif (fin.from_entries denoted))) oifs e in
-    let t = rows_after-denotes oif_after WordDenotesOif MayFollow AreValid oif_after-reads_rows words [] b.0 oifs-valid_none
+    let t = rows_after-denotes oif_after WordDenotesOif MayFollow AreValid oif_after-reads_rows words [] b.0
+        oifs-valid_none
     b.1 in
     record {
       denoted = b.0;
@@ -273,11 +278,12 @@ oifs_in-denotes words oifs e =
       ascending = sym (ok_injective (oifs_by_vif (fin.from_entries b.0)) oifs b.2);
     }
 
--- the outgoing vifs that the words write are read
+-- the outgoing vifs that the words denote are read
 pub oifs_in-from_denotes : (words : List (List ℕ)) (oifs : List Oif) → WordsDenoteOifs words oifs
     → oifs_in words ≡ Ok oifs
 oifs_in-from_denotes words oifs h =
-    rw (rows_after-from_denotes oif_after WordDenotesOif MayFollow AreValid oif_after-reads_rows words [] h.denoted h.each
+    rw (rows_after-from_denotes oif_after WordDenotesOif MayFollow AreValid oif_after-reads_rows words []
+        h.denoted h.each
     h.vifs_differ) (ap Ok (sym h.ascending))
 
 -- ---- the steps
@@ -296,10 +302,12 @@ oifs_by_vif-none = map_to_oif-none (fin.entries (fin.empty {K = ℕ} {X = ℕ} {
 abbrev SortedReading : Result (List (ℕ × ℕ)) TableFaultKind → Result (List Oif) TableFaultKind
 SortedReading read = read >>= λ denoted. Ok (oifs_by_vif (fin.from_entries denoted))
 
--- to keep them in order is to put them in order at the end
-oifs_after_words-sorted_more : (denoted : List (ℕ × ℕ)) (words : List (List ℕ)) (read : Result (ℕ × ℕ) TableFaultKind)
+-- inserting each in order is the same as sorting them at the end
+oifs_after_words-sorted_more : (denoted : List (ℕ × ℕ)) (words : List (List ℕ))
+    (read : Result (ℕ × ℕ) TableFaultKind)
     → ((more : List (ℕ × ℕ))
-    → oifs_after_words (oifs_by_vif (fin.from_entries more)) words ≡ SortedReading (rows_after oif_after more words))
+    → oifs_after_words (oifs_by_vif (fin.from_entries more)) words
+        ≡ SortedReading (rows_after oif_after more words))
     → ((read >>= λ oif. demand
     (not (has_vif (oifs_by_vif (fin.from_entries denoted)) oif.0)) RepeatedOif >>= λ _. Ok
     (insert_oif (oifs_by_vif (fin.from_entries denoted)) oif)) >>= λ more. oifs_after_words more words)
@@ -310,16 +318,20 @@ oifs_after_words-sorted_more denoted words (Ok oif) later =
     elim (cases_Bool (oif_repeats denoted oif)) [
       | inl old ↦ rw (has_vif-oifs_by_vif denoted oif.0, old) refl
       | inr new ↦ rw (has_vif-oifs_by_vif denoted oif.0, new)
-          (ap (λ oifs. oifs_after_words oifs words) (oifs_by_vif-push denoted oif new) ∙ later (denoted ++ oif ∷ []))
+          (ap (λ oifs. oifs_after_words oifs words) (oifs_by_vif-push denoted oif new)
+              ∙ later (denoted ++ oif ∷ []))
     ]
 
--- and so for all words after those told
+-- the same for all words after the earlier pairs
 oifs_after_words-sorted : (words : List (List ℕ)) (denoted : List (ℕ × ℕ))
-    → oifs_after_words (oifs_by_vif (fin.from_entries denoted)) words ≡ SortedReading (rows_after oif_after denoted words)
+    → oifs_after_words (oifs_by_vif (fin.from_entries denoted)) words
+        ≡ SortedReading (rows_after oif_after denoted words)
 oifs_after_words-sorted [] denoted = refl
-oifs_after_words-sorted (word ∷ words) denoted = oifs_after_words-sorted_more denoted words (oif_in word) (oifs_after_words-sorted words)
+oifs_after_words-sorted (word ∷ words) denoted =
+    oifs_after_words-sorted_more denoted words (oif_in word) (oifs_after_words-sorted words)
 
--- keeping the outgoing vifs of all words in order is reading them
+-- inserting the outgoing vifs of all words in order is reading them
 pub oifs_in_by_steps : (words : List (List ℕ)) → oifs_after_words [] words ≡ oifs_in words
 oifs_in_by_steps words =
-    subst (λ oifs. oifs_after_words oifs words ≡ oifs_in words) oifs_by_vif-none (oifs_after_words-sorted words [])
+    subst (λ oifs. oifs_after_words oifs words ≡ oifs_in words) oifs_by_vif-none
+        (oifs_after_words-sorted words [])

@@ -25,13 +25,13 @@ use Rattle.mc_tables.specs.LinesSoFar.{line_after, check_end_of_lines, ReadsInSt
 
 -- ---- line feeds
 
--- two stretches without one have none together
+-- two stretches without a line feed have none together
 pub no_line_feed-append : (xs ys : List ℕ) → HasNoLineFeed xs → HasNoLineFeed ys
     → HasNoLineFeed (xs ++ ys)
 no_line_feed-append [] ys a b = b
 no_line_feed-append (x ∷ xs) ys a b = (a.0, no_line_feed-append xs ys a.1 b)
 
--- a list none of whose bytes is one
+-- a list none of whose bytes is a line feed
 no_line_feed-each : (xs : List ℕ) → ((k : ℕ) → k < length xs → eqb (get_or xs k 0) 10 ≡ false)
     → HasNoLineFeed xs
 no_line_feed-each [] none = tt
@@ -44,7 +44,7 @@ no_line_feed-not_found xs none =
     let past : length xs ≤ position_or_len (λ b. eqb b 10) xs = grind (arith, nat_tests) in
     no_line_feed-each xs (λ k lt. fails_before_first (λ b. eqb b 10) xs k 0 (omega (arith, past)))
 
--- before the first there is none
+-- before the first one there is none
 pub no_line_feed-before_first : (xs : List ℕ) (end : ℕ) → position (λ b. eqb b 10) xs ≡ Some end
     → HasNoLineFeed (take end xs)
 no_line_feed-before_first xs end found =
@@ -53,13 +53,13 @@ no_line_feed-before_first xs end found =
     let before : k < end = omega (arith, lt, length-take end xs) in
     ap (λ b. eqb b 10) (get_or-take end xs k 0 before) ∙ at.2 k before)
 
--- it stands within the text
+-- the first one is within the text
 pub position-within : (xs : List ℕ) (end : ℕ) → position (λ b. eqb b 10) xs ≡ Some end
     → end + 1 ≤ length xs
 position-within xs end found =
     let at = position-Some (λ b. eqb b 10) xs end 0 found in omega (arith, at.0)
 
--- a text at its first line feed
+-- a text is split at its first line feed
 pub split-at_line_feed : (xs : List ℕ) (end : ℕ) → position (λ b. eqb b 10) xs ≡ Some end
     → xs ≡ take end xs ++ 10 ∷ drop (end + 1) xs
 split-at_line_feed xs end found =
@@ -69,7 +69,7 @@ split-at_line_feed xs end found =
     ∙ ap (λ rest. take end xs ++ rest) (drop_more xs end 0 at.0)
     ∙ ap (λ b. take end xs ++ b ∷ drop (end + 1) xs) feed
 
--- what a stretch has taken keeps the rules
+-- the state keeps its rules when bytes are taken
 pub lines_so_far-with_begun : (lines : LinesSoFar) (size : ℕ) (bytes : List ℕ) → IsValidLinesSoFar lines
     → lines.size + size ≤ 16777216 → length bytes ≤ size → HasNoLineFeed bytes
     → IsValidLinesSoFar (with_begun lines size bytes)
@@ -87,7 +87,7 @@ numbered-cons : (n : ℕ) (part : List ℕ) (parts : List (List ℕ)) → 0 < le
     ∷ numbered (n + 1) parts
 numbered-cons n part parts some = grind arith
 
--- a line without a line feed, and one after it
+-- a line without a line feed in it, and one after it
 lines_from-line : (n : ℕ) (line rest : List ℕ) → HasNoLineFeed line
     → lines_from n (line ++ 10 ∷ rest)
     ≡ record { number = n; bytes = line; ended = true } ∷ lines_from (n + 1) rest
@@ -98,7 +98,7 @@ lines_from-line n line rest without =
     ap (numbered n) parts
     ∙ numbered-cons n line (slice_split (λ b. eqb b 10) rest) (omega (arith, more))
 
--- a part without a line feed is one line that none ends, if it has a byte
+-- a part without a line feed is one line that isn't ended, if it has a byte
 pub lines_from-last_line : (n : ℕ) (line : List ℕ) → HasNoLineFeed line → eqb (length line) 0 ≡ false
     → lines_from n line ≡ record { number = n; bytes = line; ended = false } ∷ []
 lines_from-last_line n line without some =
@@ -106,7 +106,7 @@ lines_from-last_line n line without some =
     (All-from_recursion (λ b. eqb b 10 ≡ false) line without) in
     rw (one, some) refl
 
--- the first of the lines to come, where a line feed stands in the next bytes
+-- the first of the lines to come, where the next bytes have a line feed
 pub lines_to_come-first : (lines : LinesSoFar) (rest more : List ℕ) (end : ℕ)
     → HasNoLineFeed lines.begun → position (λ b. eqb b 10) rest ≡ Some end
     → lines_to_come lines (rest ++ more)
@@ -125,7 +125,7 @@ lines_to_come-first lines rest more end without found =
 
 -- ---- reading them
 
--- where the header is judged, the others are read from the state on
+-- where a header is checked, the lines after it are read from the state on
 lines_after_header-steps : {S A : Type 0} (read : S → List LineText → Result A TableFault)
     (state : S) (lines : List LineText) (judged : Result (Unit {0}) TableFaultKind)
     → ((at_line 1 judged >>= λ _. Ok lines) >>= read state)
@@ -133,7 +133,7 @@ lines_after_header-steps : {S A : Type 0} (read : S → List LineText → Result
 lines_after_header-steps read state lines (Ok u) = refl
 lines_after_header-steps read state lines (Err kind) = refl
 
--- the line that has begun, by what was answered of it
+-- what a function says of the line that has begun, by its number and bytes
 pub judge-begun_line : {R : Type 0} (judge : ℕ → LineText → R) (begun now : LinesSoFar) (ended : ℕ)
     (line : LineText) → now ≡ begun → ended ≡ now.ended → line ≡ line_begun now
     → judge begun.ended (line_begun begun) ≡ judge ended line
@@ -141,22 +141,23 @@ judge-begun_line judge begun now ended line is number text =
     ap (λ (l : LinesSoFar). judge l.ended (line_begun l)) (sym is)
     ∙ ap (λ n. judge n (line_begun now)) (sym number) ∙ ap (judge ended) (sym text)
 
--- what follows a step may be said otherwise
+-- what follows a step may be replaced by what is equal
 bind-same : {A B E : Type 0} (r : Result A E) (f g : A → Result B E) → ((x : A) → f x ≡ g x)
     → (r >>= f) ≡ (r >>= g)
 bind-same (Ok x) f g same = same x
 bind-same (Err e) f g same = refl
 
--- a list without an element
+-- a list without elements
 length-zero_test : (xs : List ℕ) → eqb (length xs) 0 ≡ true → xs ≡ []
 length-zero_test [] none = refl
 length-zero_test (x ∷ xs) none = absurd (let wrong = eqb-true (length (x ∷ xs)) 0 none in omega arith)
 
 module _ {S A : Type 0} (first : List ℕ) (read : S → List LineText → Result A TableFault)
     (step : S → LineText → Result S TableFault) (steps : ReadsInSteps read step) where
-  -- a line after a state, of which the first is the header
+  -- one line after a state, of which the first is the header
   lines_after_header-one_line : (ended : ℕ) (state : S) (line : LineText) (lines : List LineText)
-      → cond (eqb ended 0) (lines_after_header first (line ∷ lines) >>= read state) (read state (line ∷ lines))
+      → cond (eqb ended 0) (lines_after_header first (line ∷ lines) >>= read state)
+          (read state (line ∷ lines))
       ≡ (line_after first (step state) state ended line >>= λ new. read new lines)
   lines_after_header-one_line ended state line lines = elim (cases_Bool (eqb ended 0)) [
     | inl none ↦ rw none (lines_after_header-steps read state lines (header_line first line))
@@ -171,7 +172,7 @@ module _ {S A : Type 0} (first : List ℕ) (read : S → List LineText → Resul
       let some : eqb (lines.ended + 1) 0 ≡ false = grind (arith, nat_tests) in
       rw some refl
 
-  -- a line that ends is read, and the others after it
+  -- a line that ends is read, and then the others
   pub read_after-line : (lines : LinesSoFar) (state : S) (rest more : List ℕ) (end : ℕ)
       → HasNoLineFeed lines.begun → position (λ b. eqb b 10) rest ≡ Some end
       → read_after first (read state) lines (rest ++ more)
@@ -184,13 +185,14 @@ module _ {S A : Type 0} (first : List ℕ) (read : S → List LineText → Resul
       let later = drop (end + 1) rest ++ more in
       ap (λ all. cond (eqb lines.ended 0) (lines_after_header first all >>= read state) (read state all))
       (lines_to_come-first lines rest more end without found)
-      ∙ lines_after_header-one_line lines.ended state (line_begun begun) (lines_to_come (with_ended begun) later)
+      ∙ lines_after_header-one_line lines.ended state (line_begun begun)
+          (lines_to_come (with_ended begun) later)
       ∙ bind-same (line_after first (step state) state lines.ended (line_begun begun))
       (λ new. read new (lines_to_come (with_ended begun) later))
       (λ new. read_after first (read new) (with_ended begun) later)
       (λ new. sym (read_after-with_ended begun new later))
 
-  -- a line that was taken
+  -- a line that was read
   pub read_after-taken : (lines : LinesSoFar) (state new : S) (rest more : List ℕ) (end : ℕ)
       → HasNoLineFeed lines.begun → position (λ b. eqb b 10) rest ≡ Some end
       → line_after first (step state) state lines.ended
@@ -218,7 +220,7 @@ module _ {S A : Type 0} (first : List ℕ) (read : S → List LineText → Resul
 
 -- ---- the end of a text
 
--- a line that has begun, which none ends
+-- the fault of a last line that isn't ended
 abbrev pub last_line : LinesSoFar → LineText
 last_line lines = record { number = lines.ended + 1; bytes = lines.begun; ended = false }
 
@@ -230,7 +232,8 @@ lines_to_come-begun lines without some =
     ∙ lines_from-last_line (lines.ended + 1) lines.begun without some
 
 -- and else there is none
-pub lines_to_come-none : (lines : LinesSoFar) → eqb (length lines.begun) 0 ≡ true → lines_to_come lines [] ≡ []
+pub lines_to_come-none : (lines : LinesSoFar) → eqb (length lines.begun) 0 ≡ true
+    → lines_to_come lines [] ≡ []
 lines_to_come-none lines none =
     ap (lines_from (lines.ended + 1)) (append-nil lines.begun ∙ length-zero_test lines.begun none)
 
@@ -252,7 +255,7 @@ module _ {A : Type 0} (first : List ℕ) (read : List LineText → Result A Tabl
             ∙ rw (begun, none, zero_is) refl
       ]
 
-  -- one that ends in a later line
+  -- a text that ends in a later line
   pub read_after-end_in_line : (lines : LinesSoFar) → HasNoLineFeed lines.begun → eqb lines.ended 0 ≡ false
       → eqb (length lines.begun) 0 ≡ false
       → read_after first read lines [] ≡ read (last_line lines ∷ [])
@@ -261,7 +264,7 @@ module _ {A : Type 0} (first : List ℕ) (read : List LineText → Result A Tabl
       (lines_to_come-begun lines without begun)
       ∙ rw later refl
 
-  -- and one that ends after a line
+  -- a text that ends after a line
   pub read_after-end_after_line : (lines : LinesSoFar) → eqb lines.ended 0 ≡ false
       → eqb (length lines.begun) 0 ≡ true → read_after first read lines [] ≡ read []
   read_after-end_after_line lines later none =
@@ -271,8 +274,8 @@ module _ {A : Type 0} (first : List ℕ) (read : List LineText → Result A Tabl
 
 -- ---- a text in one piece
 
--- What reading ends with, if these bytes come: before the piece and behind it. The whole text is
--- read as it would be before it.
+-- What reading ends with if these bytes come, before a piece and after it. Before the piece it is what
+-- the whole text is read as.
 module _ {A : Type 0} (before behind : List ℕ → Result A TableFault) (whole : Result A TableFault)
     (text : List ℕ) (size : ℕ) (none : size ≡ 0)
     (reads : length text ≤ 16777216 → before text ≡ whole)
@@ -293,7 +296,7 @@ module _ {A : Type 0} (before behind : List ℕ → Result A TableFault) (whole 
     | inr fits ↦ sym (only_piece (ltb-false 16777216 (length text) fits)) ∙ is
   ]
 
-  -- and a text of the only piece is read whole
+  -- a text of only one piece is read whole
   pub whole_taken : (16777216 < size + length text → ⊥) → behind [] ≡ whole
   whole_taken small = elim (cases_Bool (nat_lt 16777216 (length text))) [
     | inl more ↦

@@ -1,5 +1,6 @@
 -- A line whose words are read from its front.
-use Rattle.std.proofs.Common.{◌≡◌, ℕ, zero, suc, ◌+◌, ◌-◌, ◌*◌, ◌<◌, ◌≤◌, true, false, List, [], ◌∷◌, ◌++◌, length, take}
+use Rattle.std.proofs.Common.{◌≡◌, ℕ, zero, suc, ◌+◌, ◌-◌, ◌*◌, ◌<◌, ◌≤◌, true, false, List, [], ◌∷◌, ◌++◌}
+use Rattle.std.proofs.Common.{length, take}
 use Rattle.std.proofs.Common.{drop, get_or, Option, Some, None, Ok, refl, sym, ap, subst, ◌∙◌, arith}
 use Rattle.std.specs.Prelude.{◌==◌, ◌&&◌, Bool, nat_le, nat_lt, not, position, filter, unwrap_or, IfSome}
 use Rattle.std.specs.List.{list_all, slice_split}
@@ -10,7 +11,8 @@ use Rattle.std.proofs.lemmas.Bool.{leb-true, le-leb, ltb-true, lt-ltb}
 use Rattle.std.proofs.lemmas.List.Splits.{slice_split_at}
 use Rattle.std.proofs.lemmas.List.Sums.{AllPass-from_list_all, list_all-from_AllPass}
 use Rattle.std.proofs.lemmas.List.Quantifiers.{position-Some}
-use Rattle.std.proofs.lemmas.List.{length-drop, take_all, length-take-le, take-append-drop, drop_more, length-append, append_assoc}
+use Rattle.std.proofs.lemmas.List.{length-drop, take_all, length-take-le, take-append-drop, drop_more}
+use Rattle.std.proofs.lemmas.List.{length-append, append_assoc}
 use Rattle.std.proofs.lemmas.List.{get_or-take}
 use Rattle.std.proofs.lemmas.List.Folds.{list_all-append}
 use Rattle.std.proofs.lemmas.List.Elements.{All-from_get_or}
@@ -34,7 +36,7 @@ use Rattle.mc_tables.proofs.AddressLemmas.{address_in-denotes}
 use Rattle.mc_tables.proofs.OifLemmas.{oif_in-from_denotes, oifs_with_word-last}
 use Rattle.mc_tables.proofs.WordLemmas.{number_in-denotes}
 
--- no space stands among them
+-- none of the bytes is a space
 abbrev pub HasNoSpace : List ℕ → Type 0
 HasNoSpace word = list_all (λ b. not (b == 32)) word ≡ true
 
@@ -76,7 +78,7 @@ digits_are_first_word digits more e =
     let p = and_parts (nat_le 1 (length digits)) _ e in
     words_of-first_word digits more (no_space-digits digits p.1) (leb-true 1 (length digits) p.0)
 
--- the bytes before the first that is no digit are digits
+-- the bytes before the first that isn't a digit are digits
 list_all-digits_before : (line : List ℕ) (end : ℕ) → position (λ b. not (is_ascii_digit b)) line ≡ Some end
     → list_all is_ascii_digit (take end line) ≡ true
 list_all-digits_before line end e =
@@ -87,7 +89,8 @@ list_all-digits_before line end e =
     let below : k < end = omega (arith, within, size) in
     rw (get_or-take end line k 0 below) (not-false _ (first.2 k below))))
 
-pub front_digits_are_decimal : (line : List ℕ) (end : ℕ) → position (λ b. not (is_ascii_digit b)) line ≡ Some end
+pub front_digits_are_decimal : (line : List ℕ) (end : ℕ)
+    → position (λ b. not (is_ascii_digit b)) line ≡ Some end
     → (end ≡ 0 → ⊥) → is_decimal_word (take end line) ≡ true
 front_digits_are_decimal line end e some =
     let first = position-Some (λ b. not (is_ascii_digit b)) line end 0 e in
@@ -95,7 +98,7 @@ front_digits_are_decimal line end e some =
     and_from (nat_le 1 (length (take end line))) _
     (le-leb 1 (length (take end line)) (omega (arith, size, some))) (list_all-digits_before line end e)
 
--- digits and a space behind them are a line's first word
+-- digits and a space after them are a line's first word
 pub words_of-digits : (line : List ℕ) (end : ℕ) → is_decimal_word (take end line) ≡ true → end < length line
     → get_or line end 0 ≡ 32 → words_of line ≡ take end line ∷ words_of (drop end line)
 words_of-digits line end decimal within space =
@@ -105,7 +108,7 @@ words_of-digits line end decimal within space =
     ∙ digits_are_first_word (take end line) (drop (end + 1) line) decimal
     ∙ ap (λ (r : List ℕ). take end line ∷ words_of r) (sym behind)
 
--- decimal digits are no `-` and more
+-- decimal digits have no `-` at their front
 is_counter-decimal : (word : List ℕ) → is_decimal_word word ≡ true → length word ≤ 20
     → is_counter word ≡ true
 is_counter-decimal [] e few = absurd cc
@@ -129,7 +132,7 @@ counter_is_first_word line end decimal few within space =
 
 -- ---- spaces
 
--- a line has the words that it has from its first byte that is no space
+-- a line has the words that it has from its first byte on that isn't a space
 pub words_of_without_spaces : (line : List ℕ) (start : ℕ) → position (λ b. not (b == 32)) line ≡ Some start
     → words_of (drop start line) ≡ words_of line
 words_of_without_spaces line start e =
@@ -142,8 +145,9 @@ words_of_without_spaces line start e =
     words_of-word from from 0 end begins refl refl
     ∙ sym (words_of-word line from start end e refl refl)
 
--- a line of spaces alone has none
-pub words_of_spaces : (line : List ℕ) → position (λ b. not (b == 32)) line ≡ None → words_of [] ≡ words_of line
+-- a line of spaces has no words
+pub words_of_spaces : (line : List ℕ) → position (λ b. not (b == 32)) line ≡ None
+    → words_of [] ≡ words_of line
 words_of_spaces line e = sym (words_of-spaces line e)
 
 -- ---- an address
@@ -158,19 +162,20 @@ is_hex_digit-at word both (suc k) less =
     subst (λ n. is_hex_digit (get_or word n 0) ≡ true) next
     (and_parts _ _ (both k (omega (arith, less)))).1
 
--- eight bytes that show an address have no space
+-- eight bytes that denote an address have no space
 no_space-address : (order : Order) (word : List ℕ) (a : ℕ) → address_in order word ≡ Some a
     → (length word ≡ 8) × HasNoSpace word
 no_space-address order word a e =
     let printed = address_in-denotes order word a e in
-    let digits = decoded_word_has_eight_digits word (printed_octets order a) (length-printed_octets order a) printed.1 in (
+    let digits = decoded_word_has_eight_digits word (printed_octets order a)
+        (length-printed_octets order a) printed.1 in (
       digits.0,
       no_space-from_test is_hex_digit word refl
           (All-from_get_or (λ c. is_hex_digit c ≡ true) word 0 (λ k within.
           is_hex_digit-at word digits.1 k (omega (arith, within, digits.0)))),
     )
 
--- so they and a space behind them are the first word
+-- so they and a space after them are the first word
 pub words_of-address : (order : Order) (line : List ℕ) (a : ℕ) → 9 ≤ length line
     → get_or line 8 0 ≡ 32 → address_in order (take 8 line) ≡ Some a
     → words_of line ≡ take 8 line ∷ words_of (drop 9 line)
@@ -188,14 +193,14 @@ address_is_first_word order line None long space is = tt
 address_is_first_word order line (Some a) long space is =
     words_of-address order line a (omega (arith, long)) space (sym is)
 
--- what stands behind a place, to the end of a line
+-- what follows a place, up to the end of a line
 pub drop_as_take_drop : (line : List ℕ) (n : ℕ) → take (length line - n) (drop n line) ≡ drop n line
 drop_as_take_drop line n = let size = length-drop n line in
     take_all (length line - n) (drop n line) (omega (arith, size))
 
 -- ---- an outgoing vif
 
--- digits, a colon, digits and a space are a first word that writes an outgoing vif
+-- digits, a colon, digits and a space are a first word that denotes an outgoing vif
 pub words_of-oif : (line vif rest threshold after : List ℕ) (v t : ℕ) → line ≡ vif ++ 58 ∷ rest
     → rest ≡ threshold ++ 32 ∷ after → is_decimal_word vif ≡ true → is_decimal_word threshold ≡ true
     → number_in 0 31 vif ≡ Some v → number_in 1 254 threshold ≡ Some t
@@ -233,7 +238,7 @@ number_in-one_digit least most c digit low high =
     (let e = digit_value_digit c (leb-true 48 c range.0, leb-true c 57 range.1) in omega (arith, e)) in
     rw (digit, value, add-zero_left (c - 48), le-leb least (c - 48) low, le-leb (c - 48) most high) refl
 
--- a digit, a colon, a digit but 0 and a space are a first word that writes an outgoing vif
+-- a digit, a colon, a digit other than 0 and a space are a first word that denotes an outgoing vif
 pub words_of-one_digit_oif : (vif threshold : ℕ) (after : List ℕ) → is_ascii_digit vif ≡ true
     → (nat_le 49 threshold && nat_le threshold 57) ≡ true → (word : List ℕ)
     × (words_of (vif ∷ 58 ∷ threshold ∷ 32 ∷ after) ≡ word ∷ words_of after)
@@ -251,13 +256,15 @@ words_of-one_digit_oif vif threshold after of_vif of_threshold =
     (number_in-one_digit 0 31 vif of_vif (omega arith) (omega (arith, top)))
     (number_in-one_digit 1 254 threshold digit (omega (arith, low)) (omega (arith, high)))
 
-pub one_digit_oif_is_first_word : (line : List ℕ) → 7 ≤ length line → get_or line 0 0 ≡ 32 → get_or line 1 0 ≡ 32
+pub one_digit_oif_is_first_word : (line : List ℕ) → 7 ≤ length line → get_or line 0 0 ≡ 32
+    → get_or line 1 0 ≡ 32
     → is_ascii_digit (get_or line 2 0) ≡ true → get_or line 3 0 ≡ 58
     → (nat_le 49 (get_or line 4 0) && nat_le (get_or line 4 0) 57) ≡ true → get_or line 5 0 ≡ 32
     → get_or line 6 0 ≡ 32 → (word : List ℕ)
     × (words_of line ≡ word ∷ words_of (take (length line - 7) (drop 7 line)))
     × (oif_in word ≡ Ok (get_or line 2 0 - 48, get_or line 4 0 - 48))
-one_digit_oif_is_first_word (s ∷ t ∷ a ∷ b ∷ c ∷ d ∷ e ∷ rest) long first second of_vif colon of_threshold third last =
+one_digit_oif_is_first_word
+    (s ∷ t ∷ a ∷ b ∷ c ∷ d ∷ e ∷ rest) long first second of_vif colon of_threshold third last =
     let found = words_of-one_digit_oif a c (32 ∷ rest) of_vif of_threshold in (
       found.0,
       ap (λ x. words_of (x ∷ t ∷ a ∷ b ∷ c ∷ d ∷ e ∷ rest)) first
@@ -292,7 +299,7 @@ number_in-two_digits most c d first second high =
       le-leb ((c - 48) * 10 + (d - 48)) most high,
     ) refl
 
--- and they, a colon, a digit but 0 and spaces are a first word that writes an outgoing vif
+-- and they, a colon, a digit other than 0 and spaces are a first word that denotes an outgoing vif
 pub two_digit_oif_is_first_word : (line : List ℕ) → 7 ≤ length line → get_or line 0 0 ≡ 32
     → is_ascii_digit (get_or line 1 0) ≡ true → is_ascii_digit (get_or line 2 0) ≡ true
     → (get_or line 1 0 - 48) * 10 + (get_or line 2 0 - 48) ≤ 31 → get_or line 3 0 ≡ 58
@@ -300,7 +307,8 @@ pub two_digit_oif_is_first_word : (line : List ℕ) → 7 ≤ length line → ge
     → get_or line 6 0 ≡ 32 → (word : List ℕ)
     × (words_of line ≡ word ∷ words_of (take (length line - 7) (drop 7 line)))
     × (oif_in word ≡ Ok ((get_or line 1 0 - 48) * 10 + (get_or line 2 0 - 48), get_or line 4 0 - 48))
-two_digit_oif_is_first_word (s ∷ a ∷ b ∷ c ∷ d ∷ e ∷ f ∷ rest) long first tens units top colon of_threshold third last =
+two_digit_oif_is_first_word
+    (s ∷ a ∷ b ∷ c ∷ d ∷ e ∷ f ∷ rest) long first tens units top colon of_threshold third last =
     let t = and_parts (nat_le 49 d) (nat_le d 57) of_threshold in
     let low = leb-true 49 d t.0 in
     let high = leb-true d 57 t.1 in
@@ -323,7 +331,7 @@ two_digit_oif_is_first_word line long first tens units top colon of_threshold th
 
 -- ---- an incoming vif
 
--- a digit and two spaces are a first word that writes an incoming vif
+-- a digit and two spaces are a first word that denotes an incoming vif
 pub one_digit_iif_is_first_word : (line : List ℕ) → 3 ≤ length line → is_ascii_digit (get_or line 0 0) ≡ true
     → get_or line 1 0 ≡ 32 → get_or line 2 0 ≡ 32 → (word : List ℕ)
     × (words_of line ≡ word ∷ words_of (take (length line - 3) (drop 3 line)))
@@ -341,7 +349,7 @@ one_digit_iif_is_first_word (a ∷ b ∷ c ∷ rest) long digit first second =
     )
 one_digit_iif_is_first_word line long digit first second = grind arith
 
--- so are two digits and a space
+-- and so are two digits and a space
 pub two_digit_iif_is_first_word : (line : List ℕ) → 3 ≤ length line → is_ascii_digit (get_or line 0 0) ≡ true
     → is_ascii_digit (get_or line 1 0) ≡ true
     → (get_or line 0 0 - 48) * 10 + (get_or line 1 0 - 48) ≤ 31 → get_or line 2 0 ≡ 32
@@ -373,7 +381,7 @@ all_below-greater (oif ∷ oifs) next vif all up =
     and_from (nat_lt oif.vif vif) _ (lt-ltb oif.vif vif (omega (arith, less, up)))
     (all_below-greater oifs next vif p.1 up)
 
--- a greater outgoing vif more
+-- one more outgoing vif that is greater than the others
 pub greater_oif_is_appended : (oifs : List Oif) (oif : Oif) (next : ℕ) (word : List ℕ) (words : List (List ℕ))
     → oif_in word ≡ Ok (oif.vif, oif.threshold)
     → list_all (λ other. nat_lt other.vif next) oifs ≡ true → next ≤ oif.vif
@@ -392,8 +400,9 @@ greater_oif_is_appended oifs oif next word words is below up =
 
 -- ---- a row
 
--- decimal digits are not `-1`
-bytes_eq-decimal_is_not_unresolved : (word : List ℕ) → is_decimal_word word ≡ true → bytes_eq word (codes "-1") ≡ false
+-- decimal digits aren't `-1`
+bytes_eq-decimal_is_not_unresolved : (word : List ℕ) → is_decimal_word word ≡ true
+    → bytes_eq word (codes "-1") ≡ false
 bytes_eq-decimal_is_not_unresolved [] e = absurd cc
 bytes_eq-decimal_is_not_unresolved (c ∷ word) e =
     let p = and_parts (nat_le 1 (length (c ∷ word))) _ e in
@@ -405,9 +414,10 @@ bytes_eq-decimal_is_not_unresolved (c ∷ word) e =
 -- so they are an incoming vif
 pub incoming_in-decimal : (word : List ℕ) (i : ℕ) → is_decimal_word word ≡ true → number_in 0 31 word ≡ Some i
     → incoming_in word ≡ Ok (Some i)
-incoming_in-decimal word i digits e = rw (bytes_eq-decimal_is_not_unresolved word digits) (ap incoming_number e)
+incoming_in-decimal word i digits e =
+    rw (bytes_eq-decimal_is_not_unresolved word digits) (ap incoming_number e)
 
--- the row of six words that are read, and of the outgoing ones behind them
+-- the row of six words that are read, and of the outgoing vifs after them
 pub row_in_words-front : (order : Order) (words after : List (List ℕ)) (group origin iif a b c : List ℕ)
     (g o i : ℕ) (oifs : List Oif) → words ≡ group ∷ origin ∷ iif ∷ a ∷ b ∷ c ∷ after
     → address_in order group ≡ Some g → address_in order origin ≡ Some o → is_decimal_word iif ≡ true

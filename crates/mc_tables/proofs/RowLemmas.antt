@@ -1,4 +1,4 @@
--- Rows that are read one after the other are the rows that the lines tell.
+-- Rows that are read one after the other are the rows that the lines denote.
 use Rattle.std.proofs.Common.{◌≡◌, ℕ, Bool, true, false, cond, ltb, length, List, [], ◌∷◌, ◌++◌}
 use Rattle.std.proofs.Common.{Result, Ok, Err, refl, sym, ap, subst, ◌∙◌, append_assoc}
 use Rattle.std.specs.Prelude.{IsTrue}
@@ -15,7 +15,7 @@ use Rattle.mc_tables.specs.TableLines.{rows_after}
 use Rattle.mc_text.proofs.StepLemmas.{bind_ok, ok_injective}
 use Rattle.mc_tables.proofs.StepLemmas.{demand-ok, demand-bind_ok, at_line-ok}
 
--- the lines that are read follow a header that ends and begins as it has to
+-- the lines that are read follow a header that ends and has its first word
 lines_after_header-ok : (first : List ℕ) (all lines : List LineText) → lines_after_header first all ≡ Ok lines
     → (header : LineText) × (all ≡ header ∷ lines) × IsTrue header.ended
     × IsTrue (begins_with first (words_of header.bytes))
@@ -33,13 +33,13 @@ lines_after_header-ok first (header ∷ rest) lines e =
       demand-ok (begins_with first (words_of header.bytes)) NoHeader b.0 d.1,
     )
 
--- what is read of a text was read within the limit
+-- a text that is read is within the limit
 cond-err_else : {A : Type 0} (b : Bool) (d : TableFault) (r : Result A TableFault) (y : A)
     → cond b (Err d) r ≡ Ok y → (b ≡ false) × (r ≡ Ok y)
 cond-err_else true d r y e = absurd cc
 cond-err_else false d r y e = (refl, e)
 
--- the lines after the header
+-- the lines after the header are read
 pub lines_in-has_header : (first text : List ℕ) (lines : List LineText) → lines_in first text ≡ Ok lines
     → HasHeader first text lines
 lines_in-has_header first text lines e =
@@ -61,8 +61,8 @@ lines_in-from_header first text lines h =
     let size : ltb 16777216 (length text) ≡ false = le-ltb 16777216 (length text) h.size in
     rw (size, h.whole, h.ended, h.begins) refl
 
--- A line is read as the row that it tells, if the row may follow the earlier ones. Lists that may
--- stand grow by such rows.
+-- A line is read as the row that it denotes, if the row may follow the earlier ones. Allowed lists grow
+-- by such rows.
 pub record ReadsRows {L R E : Type 0} (row_in : List R → L → Result R E) (Denotes : L → R → Type 0)
     (MayFollow : List R → R → Type 0) (AreValid : List R → Type 0) : Type 0 where
   pub found : (earlier : List R) (line : L) (row : R) → row_in earlier line ≡ Ok row
@@ -77,7 +77,7 @@ pub record ReadsRows {L R E : Type 0} (row_in : List R → L → Result R E) (De
 module _ {L R E : Type 0} (row_in : List R → L → Result R E) (Denotes : L → R → Type 0)
     (MayFollow : List R → R → Type 0) (AreValid : List R → Type 0)
     (reads : ReadsRows row_in Denotes MayFollow AreValid) where
-  -- what is read is told
+  -- what is read is denoted
   pub rows_after-denotes : (lines : List L) (earlier all : List R) → AreValid earlier
       → rows_after row_in earlier lines ≡ Ok all
       → (rows : List R) × (earlier ++ rows ≡ all) × EachDenotes Denotes lines rows × AreValid all
@@ -93,7 +93,7 @@ module _ {L R E : Type 0} (row_in : List R → L → Result R E) (Denotes : L �
       (reads.grows earlier row valid f.1) b.2 in
       (row ∷ rest.0, sym (append_assoc earlier (row ∷ []) rest.0) ∙ rest.1, (f.0, rest.2), rest.3)
 
-  -- what is told is read
+  -- what is denoted is read
   pub rows_after-from_denotes : (lines : List L) (earlier rows : List R) → EachDenotes Denotes lines rows
       → AreValid (earlier ++ rows)
       → rows_after row_in earlier lines ≡ Ok (earlier ++ rows)

@@ -1,4 +1,4 @@
--- What every table keeps while its rows come.
+-- The rules of a cache's table while its rows are read.
 use Rattle.std.proofs.Common.{◌≡◌, ℕ, ◌+◌, Bool, true, false, cond, eqb, List, []}
 use Rattle.std.proofs.Common.{Option, Some, None, Ok, refl, sym, ap, subst, ◌∙◌, inl, inr}
 use Rattle.std.specs.Prelude.{nat_lt, not, IfSome}
@@ -29,7 +29,7 @@ use Rattle.mc_tables.proofs.CacheLookupLemmas.{same_key-zero_source}
 use Rattle.mc_tables.proofs.EntryLemmas.{row_entry-is_valid}
 use Rattle.mc_tables.proofs.TableRuleLemmas.{cache_rows-valid_table}
 
--- an entry that is one, if it is for a source, may be added
+-- an entry for a source other than 0.0.0.0 may be added if it is valid
 insert-keeps_valid_cache : (entries : fin.FinMap key_cmp EntryValue) (source group : ℕ) (entry : EntryValue)
     → eqb source 0 ≡ false → IsValidEntry entry
     → ((key : ℕ × ℕ) → IfSome (fin.get entries key) IsValidEntry)
@@ -45,11 +45,12 @@ insert-keeps_valid_cache entries source group entry apart valid all none = (
         | false ↦ all key
       ]),
   λ other. fin.get-insert key_cmp-total entries (source, group) entry (0, other)
-      ∙ ap (λ b. cond b (Some entry) (fin.get entries (0, other))) (same_key-zero_source other source group apart)
+      ∙ ap (λ b. cond b (Some entry) (fin.get entries (0, other)))
+          (same_key-zero_source other source group apart)
       ∙ none other,
 )
 
--- and so may a row's
+-- and so may that of a row
 exact_entry-keeps_valid_cache : (table : CacheValue) (source group : ℕ) (b : Bool) (entry : Option EntryValue)
     (numbered : List EntryValue) (wildcards : set.FinSet nat_cmp) → eqb source 0 ≡ b
     → IfSome entry IsValidEntry → IsValidCache table
@@ -64,10 +65,11 @@ exact_entry-keeps_valid_cache table source group true entry numbered wildcards i
 exact_entry-keeps_valid_cache table source group false None numbered wildcards is valid rules =
     record { entries = rules.entries; sources = rules.sources }
 exact_entry-keeps_valid_cache table source group false (Some entry) numbered wildcards is valid rules =
-    let kept = insert-keeps_valid_cache table.entries source group entry is valid rules.entries rules.sources in
+    let kept = insert-keeps_valid_cache table.entries source group entry is valid rules.entries rules.sources
+        in
     record { entries = kept.0; sources = kept.1 }
 
--- a table that took a row keeps the rules
+-- a valid table stays valid when a row is added
 row_added-keeps_valid_cache : (table new : CacheValue) (row : RowValue) → row_added table row ≡ Ok new
     → IfSome row.entry IsValidEntry → IsValidCache table → IsValidCache new
 row_added-keeps_valid_cache table new row is valid rules =
@@ -78,11 +80,12 @@ row_added-keeps_valid_cache table new row is valid rules =
     } in
     let demanded = demand-bind_ok (not (has_key table.entries (exact_entry row))) RepeatedEntry
     (λ _. Ok grown) new is in
-    let keeps : IsValidCache grown = exact_entry-keeps_valid_cache table row.origin row.group (eqb row.origin 0) row.entry
+    let keeps : IsValidCache grown =
+        exact_entry-keeps_valid_cache table row.origin row.group (eqb row.origin 0) row.entry
     grown.numbered grown.wildcards refl valid rules in
     subst IsValidCache (ok_injective {E = TableFaultKind} grown new demanded.1) keeps
 
--- and so do rows that took one, kept or not
+-- and so it does when a row is added that is kept or not
 any_row_added-keeps_valid_cache : (listed : ListedSet) (rows new : RowsSoFar) (row : RowValue) (line : ℕ)
     → any_row_added listed rows row line ≡ Ok new → IfSome row.entry IsValidEntry → IsValidCache rows.table
     → IsValidCache new.table
@@ -105,8 +108,9 @@ any_row_added-keeps_valid_cache listed rows new row line is valid rules =
           (ok_injective {E = TableFaultKind} (unlisted_added rows key line) new added)) rules
     ]
 
--- the table keeps the rules with a line's row
-pub line_added_keeps_valid_cache : (so_far new : ListedRowsSoFar) (line : LineText) → line_added so_far line ≡ Ok new
+-- and when the row of a line is
+pub line_added_keeps_valid_cache : (so_far new : ListedRowsSoFar) (line : LineText)
+    → line_added so_far line ≡ Ok new
     → IsValidCache so_far.rows.table → IsValidCache new.rows.table
 line_added_keeps_valid_cache so_far new line is rules =
     let both = bind_ok (row_with_room so_far.order so_far.rows.count line)
@@ -130,6 +134,6 @@ line_added_keeps_valid_cache so_far new line is rules =
     (ap (λ (s : ListedRowsSoFar). s.rows.table) (ok_injective {E = TableFaultKind} (make one.0) new one.2))
     (any_row_added-keeps_valid_cache so_far.listed so_far.rows one.0 row line.number one.1 valid rules)
 
--- the empty table keeps them
+-- the empty table is valid
 pub table_of_none-is_valid : IsValidCache (table_of [])
 table_of_none-is_valid = cache_rows-valid_table [] tt

@@ -13,9 +13,10 @@ use Rattle.mc_tables.specs.declared.fault.TableFaultKind.TheVariants.{BadThresho
 use Rattle.mc_text.specs.Steps.{◌>>=◌}
 use Rattle.mc_tables.specs.TableWords.{number_in}
 use Rattle.mc_tables.specs.CacheReading.{oif_in_parts, oif_in, row_in_words}
-use Rattle.mc_tables.specs.OutgoingSteps.{threshold_in, oif_in_turn}
+use Rattle.mc_tables.specs.OutgoingSteps.{threshold_in, oif_at_colon}
 use Rattle.mc_tables.proofs.WordLemmas.{number_in-denotes}
-use Rattle.mc_tables.proofs.ColonLemmas.{slice_split-none, slice_split-some, is_some-none_from, is_some-some_from}
+use Rattle.mc_tables.proofs.ColonLemmas.{slice_split-none, slice_split-some, is_some-none_from}
+use Rattle.mc_tables.proofs.ColonLemmas.{is_some-some_from}
 use Rattle.mc_tables.proofs.OifLemmas.{all_digits-no_colon}
 
 -- a word without a colon is no outgoing vif
@@ -31,19 +32,19 @@ bind-same_err None = refl
 bind-same_err (Some v) = refl
 
 -- the vif is read first, and then the threshold
-oif_in_parts-in_turn : (vif : List ℕ) (after : List (List ℕ))
-    → oif_in_parts (vif ∷ after) ≡ oif_in_turn vif after
+oif_in_parts-at_colon : (vif : List ℕ) (after : List (List ℕ))
+    → oif_in_parts (vif ∷ after) ≡ oif_at_colon vif after
 unfolding oif_in_parts
-oif_in_parts-in_turn vif (threshold ∷ []) = refl
-oif_in_parts-in_turn vif [] = bind-same_err (number_in 0 31 vif)
-oif_in_parts-in_turn vif (threshold ∷ more ∷ parts) = bind-same_err (number_in 0 31 vif)
+oif_in_parts-at_colon vif (threshold ∷ []) = refl
+oif_in_parts-at_colon vif [] = bind-same_err (number_in 0 31 vif)
+oif_in_parts-at_colon vif (threshold ∷ more ∷ parts) = bind-same_err (number_in 0 31 vif)
 
--- a word with a colon is read by what stands before and after its first one
+-- a word with a colon is read by what precedes and follows its first one
 pub oif_in_at_first_colon : (word vif : List ℕ) (after : List (List ℕ))
-    → slice_split (λ b. b == 58) word ≡ vif ∷ after → oif_in word ≡ oif_in_turn vif after
-oif_in_at_first_colon word vif after e = ap oif_in_parts e ∙ oif_in_parts-in_turn vif after
+    → slice_split (λ b. b == 58) word ≡ vif ∷ after → oif_in word ≡ oif_at_colon vif after
+oif_in_at_first_colon word vif after e = ap oif_in_parts e ∙ oif_in_parts-at_colon vif after
 
--- a word that writes a threshold has no colon
+-- a word that denotes a threshold has no colon
 pub threshold_in_number : (word : List ℕ) (t : ℕ) → number_in 1 254 word ≡ Some t
     → threshold_in (slice_split (λ b. b == 58) word) ≡ Ok t
 threshold_in_number word t e =
@@ -53,7 +54,7 @@ threshold_in_number word t e =
     ap threshold_in (slice_split_none (λ b. b == 58) word none)
     ∙ ap (λ o. ok_or o BadThreshold) e
 
--- two parts and more are no threshold
+-- two or more parts are no threshold
 threshold_in-more_parts : (first : List ℕ) (parts : List (List ℕ)) (n : ℕ) → length parts ≡ n + 1
     → threshold_in (first ∷ parts) ≡ Err BadOif
 threshold_in-more_parts first [] n e = absurd (omega (arith, e))
@@ -69,7 +70,7 @@ threshold_in-colon word e =
     ∙ threshold_in-more_parts (take first.0 word) (slice_split (λ b. b == 58) rest)
     (count_by (λ b. b == 58) rest) (length-slice_split (λ b. b == 58) rest)
 
--- one without a colon that writes no number from 1 to 254 is a bad one
+-- a word without a colon that denotes no number from 1 to 254 is a bad threshold
 pub threshold_in-no_number : (word : List ℕ) → number_in 1 254 word ≡ None
     → is_some (position (λ b. b == 58) word) ≡ false
     → threshold_in (slice_split (λ b. b == 58) word) ≡ Err BadThreshold

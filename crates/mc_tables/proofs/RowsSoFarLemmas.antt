@@ -1,4 +1,4 @@
--- A cache whose text comes in pieces, of which the rows of listed sources and groups are kept.
+-- Reading a cache in pieces, of which the rows of listed sources and groups are kept.
 use Rattle.std.proofs.Common.{◌≡◌, ℕ, ◌+◌, ◌≤◌, Bool, true, false, cond, eqb, List, [], ◌∷◌, ◌++◌}
 use Rattle.std.proofs.Common.{length, arith, Option, Some, None, Result, Ok, Err, refl, sym, ap, subst}
 use Rattle.std.proofs.Common.{◌∙◌, inl, inr}
@@ -35,8 +35,10 @@ use Rattle.mc_tables.proofs.CacheStepLemmas.{row_added-table_of}
 use Rattle.mc_tables.proofs.ListedLemmas.{is_kept_by_set-listed_set}
 use Rattle.mc_tables.proofs.UnlistedRowLemmas.{first_repeat-none, AreBefore, are_before-next, are_before-push}
 use Rattle.mc_tables.proofs.UnlistedRowLemmas.{first_repeat-stays, first_repeat-begins}
-use Rattle.mc_tables.proofs.PieceLemmas.{read_after-no_header, read_after-end_in_line, read_after-end_after_line}
-use Rattle.mc_tables.proofs.KeptRowLemmas.{is_among-kept_rows, any_key-unlisted_rows, key_of-unlisted_row, unlisted_row_keys}
+use Rattle.mc_tables.proofs.PieceLemmas.{read_after-no_header, read_after-end_in_line}
+use Rattle.mc_tables.proofs.PieceLemmas.{read_after-end_after_line}
+use Rattle.mc_tables.proofs.KeptRowLemmas.{is_among-kept_rows, any_key-unlisted_rows, key_of-unlisted_row}
+use Rattle.mc_tables.proofs.KeptRowLemmas.{unlisted_row_keys}
 
 -- ---- row by row
 
@@ -47,7 +49,7 @@ bind-demand_twice : {A B C E : Type 0} (b : Bool) (d : E) (x : A) (f : A → B) 
 bind-demand_twice true d x f g = refl
 bind-demand_twice false d x f g = refl
 
--- one element more that passes, and one that doesn't
+-- a filter's result with one more element that passes, and with one that doesn't
 pub filter-push_passing : {X : Type 0} (p : X → Bool) (xs : List X) (x : X) → p x ≡ true
     → filter p (xs ++ x ∷ []) ≡ filter p xs ++ x ∷ []
 filter-push_passing p xs x is =
@@ -66,13 +68,14 @@ filter_map_key_of-push rows row key is =
     filter_map-append key_of rows (row ∷ [])
     ∙ ap (λ k. filter_map key_of rows ++ cons_option k []) is
 
--- one row more that is kept is none of the others
-unlisted_row_keys-push_kept : (listed : Listed) (rows : List RowValue) (row : RowValue) → is_kept listed row ≡ true
+-- one more row that is kept isn't among the others
+unlisted_row_keys-push_kept : (listed : Listed) (rows : List RowValue) (row : RowValue)
+    → is_kept listed row ≡ true
     → unlisted_row_keys listed (rows ++ row ∷ []) ≡ unlisted_row_keys listed rows
 unlisted_row_keys-push_kept listed rows row is =
     ap (filter_map key_of) (filter-push_failing (λ r. not (is_kept listed r)) rows row (ap not is))
 
--- and another one is
+-- one more row that isn't kept is among the others
 unlisted_row_keys-push : (listed : Listed) (rows : List RowValue) (row : RowValue) (key : ℕ × ℕ)
     → is_kept listed row ≡ false → key_of row ≡ Some key
     → unlisted_row_keys listed (rows ++ row ∷ []) ≡ unlisted_row_keys listed rows ++ key ∷ []
@@ -80,18 +83,18 @@ unlisted_row_keys-push listed rows row key is own =
     ap (filter_map key_of) (filter-push_passing (λ r. not (is_kept listed r)) rows row (ap not is))
     ∙ filter_map_key_of-push (filter (λ r. not (is_kept listed r)) rows) row key own
 
--- one row more counts one more
+-- the number of rows with one more
 pub length-push_row : (rows : List RowValue) (row : RowValue) → length (rows ++ row ∷ []) ≡ length rows + 1
 length-push_row rows row = length-append rows (row ∷ [])
 
--- ---- lines by their numbers
+-- ---- lines with their numbers
 
--- the lines have the numbers from this one on
+-- the lines are numbered from this one on
 abbrev AreNumberedFrom : ℕ → List LineText → Type 0
 AreNumberedFrom n [] = Unit {0}
 AreNumberedFrom n (line ∷ lines) = (line.number ≡ n) × AreNumberedFrom (n + 1) lines
 
--- those of a text have
+-- the lines of a text are
 numbered-from : (n : ℕ) (parts : List (List ℕ)) → AreNumberedFrom n (numbered n parts)
 numbered-from n [] = tt
 numbered-from n ([] ∷ []) = tt
@@ -102,7 +105,7 @@ numbered-from n (part ∷ next ∷ parts) = (refl, numbered-from (n + 1) (next �
 
 -- ---- line by line
 
--- the rows so far, by those that were read and by the others
+-- the rows so far of the rows that were read, with the others of them
 abbrev rows_so_far_of : Order → Listed → List RowValue → List UnlistedRow → ListedRowsSoFar
 rows_so_far_of order listed rows others = record {
   order = order;
@@ -110,7 +113,7 @@ rows_so_far_of order listed rows others = record {
   rows = record { table = table_of (kept_rows listed rows); others = others; count = length rows };
 }
 
--- a line takes no row from the others, and adds one at most
+-- a line takes no row from the others, and adds at most one
 abbrev GrewByAtMostOne : List UnlistedRow → ℕ → List UnlistedRow → Type 0
 GrewByAtMostOne others line new =
     (new ≡ others) ⊎ ((key : ℕ × ℕ) × (new ≡ others ++ (key, line) ∷ []))
@@ -145,11 +148,12 @@ line_added-grows_unlisted so_far new line added =
           inr (
             key,
             ap (λ (r : RowsSoFar). r.others)
-                (sym is ∙ sym (ok_injective {E = TableFaultKind} (unlisted_added rows key line.number) one.0 grown)),
+                (sym is ∙ sym (ok_injective {E = TableFaultKind}
+                    (unlisted_added rows key line.number) one.0 grown)),
           )
     ]
 
--- what is a repeat stays the first one
+-- the first repeat stays the first
 first_repeat-kept : (others new : List UnlistedRow) (line first : ℕ) → GrewByAtMostOne others line new
     → AreBefore others line → first_repeat others ≡ Some first
     → (first_repeat new ≡ Some first) × AreBefore new (line + 1)
@@ -160,8 +164,9 @@ first_repeat-kept others new line first grew before is =
           (first_repeat-stays others more.0 line first before is, are_before-push others more.0 line before)
     ]
 
--- where one of the others is a repeat, the first one is the fault, whatever lines come
-table_from-repeat_fault : (so_far : ListedRowsSoFar) (lines : List LineText) (n first : ℕ) → AreNumberedFrom n lines
+-- if one of the others is a repeat, the first one is the fault, whatever lines follow
+table_from-repeat_fault : (so_far : ListedRowsSoFar) (lines : List LineText) (n first : ℕ)
+    → AreNumberedFrom n lines
     → AreBefore so_far.rows.others n → first_repeat so_far.rows.others ≡ Some first
     → table_from so_far lines ≡ Err (record { line = first; kind = RepeatedEntry })
 table_from-repeat_fault so_far [] n first numbered before is = rw is refl
@@ -178,12 +183,12 @@ table_from-repeat_fault so_far (line ∷ lines) n first numbered before is =
           table_from-repeat_fault more lines (n + 1) first numbered.1 kept.1 kept.0
     ] refl
 
--- what is read of lines after rows
+-- what lines after some rows are read as
 abbrev table_after : Order → Listed → List RowValue → List LineText → Result CacheValue TableFault
 table_after order listed rows lines =
     rows_after (row_at_line order) rows lines >>= λ all. Ok (table_of (kept_rows listed all))
 
--- so are the lines after rows of which none is a repeat
+-- the same if none of the rows is a repeat
 abbrev ReadsAfter : Order → Listed → List RowValue → List LineText → ℕ → Type 0
 ReadsAfter order listed rows lines n =
     (others : List UnlistedRow) → map (λ (r : UnlistedRow). r.0) others ≡ unlisted_row_keys listed rows
@@ -205,7 +210,7 @@ module _ (order : Order) (listed : Listed) (lines : List LineText) (n : ℕ) (ro
       >>= λ row. rows_after (row_at_line order) (rows ++ row ∷ []) lines)
       >>= λ all. Ok (table_of (kept_rows listed all)))
 
-  -- one that is kept
+  -- a row that is kept
   kept_row-reads_on : is_kept listed row ≡ true
       → ReadsOn (row_added_so_far (rows_so_far_of order listed rows others) row n)
   kept_row-reads_on kept =
@@ -222,7 +227,8 @@ module _ (order : Order) (listed : Listed) (lines : List LineText) (n : ℕ) (ro
       ap (λ b. cond b (kept_added so_far.rows row)
       (Ok (unlisted_added so_far.rows (row.origin, row.group) n)) >>= λ r. Ok (make r))
       (is_kept_by_set-listed_set listed row ∙ kept)
-      ∙ ap (λ r. (r >>= λ t. Ok (with t)) >>= λ r. Ok (make r)) (row_added-table_of (kept_rows listed rows) row)
+      ∙ ap (λ r. (r >>= λ t. Ok (with t)) >>= λ r. Ok (make r))
+          (row_added-table_of (kept_rows listed rows) row)
       ∙ ap (λ b. ((demand (not b) RepeatedEntry
       >>= λ _. Ok (table_of (kept_rows listed rows ++ row ∷ []))) >>= λ t. Ok (with t))
       >>= λ r. Ok (make r)) repeats
@@ -250,7 +256,7 @@ module _ (order : Order) (listed : Listed) (lines : List LineText) (n : ℕ) (ro
             (are_before-next others n before) none
       ])
 
-  -- and one that isn't
+  -- a row that isn't kept
   unlisted_row-reads_on : is_kept listed row ≡ false
       → ReadsOn (row_added_so_far (rows_so_far_of order listed rows others) row n)
   unlisted_row-reads_on other =
@@ -284,7 +290,8 @@ module _ (order : Order) (listed : Listed) (lines : List LineText) (n : ℕ) (ro
       ≡ ((at_line n (demand (not b) RepeatedEntry >>= λ _. Ok row)
       >>= λ row. rows_after (row_at_line order) (rows ++ row ∷ []) lines)
       >>= λ all. Ok (table_of (kept_rows listed all)))) [
-        | true ↦ λ is. table_from-repeat_fault (rows_so_far_of order listed (rows ++ row ∷ []) new) lines (n + 1) n
+        | true ↦ λ is. table_from-repeat_fault (rows_so_far_of order listed (rows ++ row ∷ []) new) lines
+            (n + 1) n
             numbered (are_before-push others key n before) is
         | false ↦ λ is. rest new
             (map-append (λ (r : UnlistedRow). r.0) others ((key, n) ∷ [])
@@ -316,7 +323,7 @@ row_words-reads_on order listed lines n rows others keys before none numbered re
 row_words-reads_on order listed lines n rows others keys before none numbered rest (Ok row) =
     row-reads_on order listed lines n rows row others keys before none numbered (rest row)
 
--- a line is read after the rows so far as after the rows
+-- a line after the rows so far is read as after the rows
 line-reads_on : (order : Order) (listed : Listed) (line : LineText) (lines : List LineText)
     (rows : List RowValue) (others : List UnlistedRow)
     → map (λ (r : UnlistedRow). r.0) others ≡ unlisted_row_keys listed rows
@@ -335,7 +342,7 @@ line-reads_on order listed line lines rows others keys before none numbered rest
       ]
     ]
 
--- reading the lines after the rows so far is reading them after the rows
+-- the lines after the rows so far are read as after the rows
 table_from-rows : (order : Order) (listed : Listed) (lines : List LineText) (n : ℕ)
     (rows : List RowValue) → AreNumberedFrom n lines → ReadsAfter order listed rows lines n
 table_from-rows order listed [] n rows numbered = λ others keys before none. rw none refl
@@ -351,8 +358,9 @@ table_from-rows order listed (line ∷ lines) n rows numbered = λ others keys b
 pub table_reads_in_steps : ReadsInSteps table_from row_step
 table_reads_in_steps = record { line = λ so_far line lines. refl }
 
--- the lines after the header
-lines_after_header-table_from : (order : Order) (listed : Listed) (lines : List LineText) → AreNumberedFrom 1 lines
+-- the lines after the header are read from no rows on
+lines_after_header-table_from : (order : Order) (listed : Listed) (lines : List LineText)
+    → AreNumberedFrom 1 lines
     → (lines_after_header (codes "Group") lines >>= table_from (rows_start order (listed_set listed)))
     ≡ ((lines_after_header (codes "Group") lines >>= rows_after (row_at_line order) [])
     >>= λ all. Ok (table_of (kept_rows listed all)))
@@ -366,17 +374,18 @@ lines_after_header-table_from order listed (header ∷ lines) numbered =
       | Ok _ ↦ table_from-rows order listed lines 2 [] numbered.1 [] refl tt first_repeat-none
     ]
 
--- with nothing before it, a text is read as the whole text
+-- fed to a new reader, a text is read as the whole text
 pub cache_if-start : (order : Order) (listed : Listed) (text : List ℕ) → length text ≤ 16777216
     → cache_if (cache_start order listed) text ≡ listed_in order listed text
 cache_if-start order listed text within =
     let fits : nat_lt 16777216 (length text) ≡ false = le-ltb 16777216 (length text) within in
-    lines_after_header-table_from order listed (lines_of text) (numbered-from 1 (slice_split (λ b. eqb b 10) text))
+    lines_after_header-table_from order listed (lines_of text)
+        (numbered-from 1 (slice_split (λ b. eqb b 10) text))
     ∙ ap (λ b. (cond b (Err (record { line = 0; kind = TooLarge }))
     (lines_after_header (codes "Group") (lines_of text)) >>= rows_after (row_at_line order) [])
     >>= λ all. Ok (table_of (kept_rows listed all))) (sym fits)
 
--- a last line that none ends
+-- the fault of a last line that isn't ended
 abbrev unended_fault : {A : Type 0} → LinesSoFar → Result A TableFault
 unended_fault lines = Err (record { line = lines.ended + 1; kind = Unended })
 
@@ -400,7 +409,8 @@ cache_after-end lines so_far without =
             ])
         | inr begun ↦ read_after-end_in_line (codes "Group") read lines without later begun
             ∙ rw (later, begun) (elim (first_repeat so_far.rows.others) as (λ o.
-            ((repeat_fault o >>= λ _. unended_fault {A = ListedRowsSoFar} lines) >>= λ more. table_from more [])
+            ((repeat_fault o >>= λ _. unended_fault {A = ListedRowsSoFar} lines) >>= λ more. table_from more
+                [])
             ≡ ((repeat_fault o >>= λ _. unended_fault {A = Unit {0}} lines)
             >>= λ _. Ok so_far.rows.table)) [
               | None ↦ refl
@@ -409,12 +419,12 @@ cache_after-end lines so_far without =
       ]
     ]
 
--- where all are listed each is
+-- where all keys are listed each is
 is_kept_key-all_listed : (own : Option (ℕ × ℕ)) → is_kept_key None own ≡ true
 is_kept_key-all_listed None = refl
 is_kept_key-all_listed (Some key) = refl
 
--- where all are listed all are kept
+-- where all keys are listed all rows are kept
 kept_rows-all_listed : (rows : List RowValue) → kept_rows None rows ≡ rows
 kept_rows-all_listed [] = refl
 kept_rows-all_listed (row ∷ rows) =

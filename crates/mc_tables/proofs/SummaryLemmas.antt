@@ -1,4 +1,4 @@
--- A cache that is read with notes of its rows.
+-- A cache that is read with a summary of its rows.
 use Rattle.std.proofs.Common.{◌≡◌, ℕ, ◌+◌, ◌≤◌, Bool, true, false, cond, eqb, List, [], ◌∷◌, ◌++◌}
 use Rattle.std.proofs.Common.{length}
 use Rattle.std.proofs.Common.{drop, Option, Some, None, Result, Ok, Err, refl, sym, ap, subst, ◌∙◌, inl, inr}
@@ -32,12 +32,16 @@ use Rattle.mc_tables.specs.RowsSoFar.{ListedRowsSoFar, RowsSoFar, cache_after, f
 use Rattle.mc_tables.specs.RowsSoFar.{row_added_so_far, any_row_added, row_step, rows_end, table_from}
 use Rattle.mc_tables.specs.Summary.{every_source_entry, group_first, in_order, keys_for_every_source}
 use Rattle.mc_tables.specs.Summary.{summary_of, shown_pairs, unresolved_key}
-use Rattle.mc_tables.specs.SummarySoFar.{KeptPairs, SummarySoFar, summary_with_every_source, summary_with_exact, summary_with_line}
-use Rattle.mc_tables.specs.SummarySoFar.{with_entry_if_new, empty_summary, summary_of_lines, with_pair, summary_with_read}
+use Rattle.mc_tables.specs.SummarySoFar.{KeptPairs, SummarySoFar, summary_with_every_source}
+use Rattle.mc_tables.specs.SummarySoFar.{summary_with_exact, summary_with_line}
+use Rattle.mc_tables.specs.SummarySoFar.{with_entry_if_new, empty_summary, summary_of_lines, with_pair}
+use Rattle.mc_tables.specs.SummarySoFar.{summary_with_read}
 use Rattle.mc_tables.specs.SummarySoFar.{summary_with_row, finished_summary}
 use Rattle.mc_tables.specs.SummarySoFar.{summary_with_unresolved, with_first_entry}
-use Rattle.mc_tables.specs.SummaryReading.{SummarizedRowsSoFar, summary_start, summary_rows_start, summary_after}
-use Rattle.mc_tables.specs.SummaryReading.{summary_from, summary_if, summary_in, summary_step, table_without_summary}
+use Rattle.mc_tables.specs.SummaryReading.{SummarizedRowsSoFar, summary_start, summary_rows_start}
+use Rattle.mc_tables.specs.SummaryReading.{summary_after}
+use Rattle.mc_tables.specs.SummaryReading.{summary_from, summary_if, summary_in, summary_step}
+use Rattle.mc_tables.specs.SummaryReading.{table_without_summary}
 use Rattle.mc_text.proofs.StepLemmas.{bind_ok, ok_injective}
 use Rattle.mc_tables.proofs.StepLemmas.{at_line-ok, demand-bind_ok}
 use Rattle.mc_tables.proofs.CacheLemmas.{key_cmp-total}
@@ -48,7 +52,8 @@ use Rattle.mc_tables.proofs.LowestLemmas.{shown_pairs-none, shown_pairs-push}
 use Rattle.mc_tables.proofs.NumberLemmas.{is_some-false}
 use Rattle.mc_tables.proofs.UnlistedRowLemmas.{same_key-equal}
 use Rattle.mc_tables.proofs.PieceLemmas.{lines_to_come-none}
-use Rattle.mc_tables.proofs.RowsSoFarLemmas.{cache_after-end, filter-push_passing, filter-push_failing, cache_if-start}
+use Rattle.mc_tables.proofs.RowsSoFarLemmas.{cache_after-end, filter-push_passing, filter-push_failing}
+use Rattle.mc_tables.proofs.RowsSoFarLemmas.{cache_if-start}
 
 -- ---- line by line
 
@@ -58,13 +63,13 @@ bind_err-not_ok : {A : Type 0} (r : Result (Unit {0}) TableFault) (fault : Table
 bind_err-not_ok (Ok u) fault x e = cc
 bind_err-not_ok (Err first) fault x e = cc
 
--- a value where no row before it repeats another is one
+-- a value that is found after a check for repeats is a value
 first_fault-ok : {A : Type 0} (others : List UnlistedRow) (r : Result A TableFault) (x : A)
     → first_fault others r ≡ Ok x → r ≡ Ok x
 first_fault-ok others (Ok y) x e = e
 first_fault-ok others (Err fault) x e = absurd (bind_err-not_ok (without_repeat others) fault x e)
 
--- a line's row changes no byte order
+-- the row of a line changes no byte order
 row_step-same_order : (so_far more : ListedRowsSoFar) (line : LineText) → row_step so_far line ≡ Ok more
     → more.order ≡ so_far.order
 row_step-same_order so_far more line is =
@@ -78,7 +83,7 @@ row_step-same_order so_far more line is =
     read.2 in
     sym (ap (λ (s : ListedRowsSoFar). s.order) (ok_injective {E = TableFaultKind} (make one.0) more one.2))
 
--- the table and the notes
+-- the table and the summary
 abbrev with_summary : Order → SummarySoFar → List LineText → CacheValue → Result SummarizedCache TableFault
 with_summary order summary lines table =
     Ok (record { table = table; summary = finished_summary (summary_of_lines order summary lines) })
@@ -99,7 +104,7 @@ summary_reads_in_steps = record {
       ] refl;
 }
 
--- ---- the table as without notes
+-- ---- the table is that without the summary
 
 -- the rows of the lines to come
 abbrev row_lines_to_come : LinesSoFar → List ℕ → List LineText
@@ -120,7 +125,7 @@ lines_after_header-summary_from so_far (header ∷ lines) =
       | Ok u ↦ refl
     ]
 
--- what is read is the table that is read without notes, with notes of the rows to come
+-- what is read is the table that is read without a summary, with the summary of the rows to come
 summary_after-cache_after : (lines : LinesSoFar) (so_far : SummarizedRowsSoFar) (more : List ℕ)
     → summary_after lines so_far more
     ≡ (cache_after lines so_far.rows more
@@ -137,7 +142,7 @@ summary_after-cache_after lines so_far more =
 
 -- ---- a text that ends
 
--- no line has begun there
+-- at such an end no line has begun
 rows_end-no_begun_line : (lines : LinesSoFar) (so_far : ListedRowsSoFar) (u : Unit {0})
     → rows_end lines so_far ≡ Ok u → eqb (length lines.begun) 0 ≡ true
 rows_end-no_begun_line lines so_far u is =
@@ -178,9 +183,9 @@ summary_after-end lines so_far without =
           ]
     ] refl
 
--- ---- the notes of some rows
+-- ---- the summary of some rows
 
--- what passes a filter by a source and a group that are listed, and what by one that aren't
+-- which elements pass a filter by listed keys, and which by keys that aren't listed
 abbrev ListedOf : List (ℕ × ℕ) → List (ℕ × ℕ) → List (ℕ × ℕ)
 ListedOf listed keys = filter (is_listed (Some listed)) keys
 
@@ -190,12 +195,12 @@ UnlistedOf listed keys = filter (λ key. not (is_listed (Some listed) key)) keys
 abbrev ListedEntriesOf : List (ℕ × ℕ) → List ((ℕ × ℕ) × EntryValue) → List ((ℕ × ℕ) × EntryValue)
 ListedEntriesOf listed exacts = filter (λ exact. is_listed (Some listed) exact.0) exacts
 
--- pairs that are kept, and whether they are all
+-- the pairs that are kept, and whether they are all
 abbrev kept_pairs_of : Bool → List (ℕ × ℕ) → KeptPairs
 kept_pairs_of all pairs = record { all = all; pairs = pairs }
 
--- The notes so far are those of rows of which these are the sources and groups of the unresolved
--- ones, the entries of those for every source, and the sources and groups of the others.
+-- The summary so far is that of rows of which these are the keys of the unresolved ones, the entries of
+-- those for every source, and the keys of the others.
 record IsSummaryOfKeys (all : Bool) (listed unresolved : List (ℕ × ℕ)) (exacts : List ((ℕ × ℕ) × EntryValue))
     (keys : List (ℕ × ℕ)) (summary : SummarySoFar) : Type 0 where
   pub listed_is : summary.listed ≡ listed_set (Some listed)
@@ -230,7 +235,7 @@ find-push_found q (e ∷ es) exact there =
       | false ↦ find-push_found q es exact
     ] there
 
--- and another key is not found there
+-- and another key isn't found there
 find-push_other : (q : ℕ × ℕ) (es : List ((ℕ × ℕ) × EntryValue)) (exact : (ℕ × ℕ) × EntryValue)
     → eq_by_cmp key_cmp q exact.0 ≡ false
     → map.find key_cmp q (es ++ exact ∷ []) ≡ map.find key_cmp q es
@@ -258,23 +263,27 @@ module _ (all : Bool) (listed unresolved : List (ℕ × ℕ)) (exacts : List ((�
     (keys : List (ℕ × ℕ)) (summary : SummarySoFar)
     (before : IsSummaryOfKeys all listed unresolved exacts keys summary) where
   set_has_key-listed : (key : ℕ × ℕ) → set_has_key summary.listed key ≡ is_listed (Some listed) key
-  set_has_key-listed key = ap (λ l. set_has_key l key) before.listed_is ∙ set_has_key-listed_set (Some listed) key
+  set_has_key-listed key =
+      ap (λ l. set_has_key l key) before.listed_is ∙ set_has_key-listed_set (Some listed) key
 
-  -- one more that may be unresolved
+  -- one more row that may be unresolved
   is_summary-unresolved_more : (own : Option (ℕ × ℕ))
-      → IsSummaryOfKeys all listed (unresolved ++ cons_option own []) exacts keys (summary_with_unresolved summary own)
+      → IsSummaryOfKeys all listed (unresolved ++ cons_option own []) exacts keys
+          (summary_with_unresolved summary own)
   is_summary-unresolved_more None = rw append-nil before
   is_summary-unresolved_more (Some key) = record {
     listed_is = before.listed_is;
     first_listed = before.first_listed;
     unresolved_is = elim (cases_Bool (is_listed (Some listed) key)) [
       | inl is ↦
-          ap (λ b. cond b (set.insert summary.unresolved key) summary.unresolved) (set_has_key-listed key ∙ is)
+          ap (λ b. cond b (set.insert summary.unresolved key) summary.unresolved)
+              (set_has_key-listed key ∙ is)
           ∙ ap (λ s. set.insert s key) before.unresolved_is
           ∙ sym (set.from_list_push key_cmp-total key_cmp-antisymmetric (ListedOf listed unresolved) key)
           ∙ ap (λ l. set.from_list l) (sym (filter-push_passing (is_listed (Some listed)) unresolved key is))
       | inr other ↦
-          ap (λ b. cond b (set.insert summary.unresolved key) summary.unresolved) (set_has_key-listed key ∙ other)
+          ap (λ b. cond b (set.insert summary.unresolved key) summary.unresolved)
+              (set_has_key-listed key ∙ other)
           ∙ before.unresolved_is
           ∙ ap (λ l. set.from_list l)
           (sym (filter-push_failing (is_listed (Some listed)) unresolved key other))
@@ -284,9 +293,10 @@ module _ (all : Bool) (listed unresolved : List (ℕ × ℕ)) (exacts : List ((�
     lowest_is = before.lowest_is;
   }
 
-  -- one more that may be for every source
+  -- one more row that may be for every source
   is_summary-every_source_more : (own : Option ((ℕ × ℕ) × EntryValue))
-      → IsSummaryOfKeys all listed unresolved (exacts ++ cons_option own []) keys (summary_with_every_source summary own)
+      → IsSummaryOfKeys all listed unresolved (exacts ++ cons_option own []) keys
+          (summary_with_every_source summary own)
   is_summary-every_source_more None = rw append-nil before
   is_summary-every_source_more (Some exact) =
       let groups = keys_for_every_source listed in
@@ -340,9 +350,10 @@ module _ (all : Bool) (listed unresolved : List (ℕ × ℕ)) (exacts : List ((�
         lowest_is = before.lowest_is;
       }
 
-  -- one more that may be of a source and a group
+  -- one more row that may be for one source
   is_summary-key_more : (own : Option (ℕ × ℕ))
-      → IsSummaryOfKeys all listed unresolved exacts (keys ++ cons_option own []) (summary_with_exact summary own)
+      → IsSummaryOfKeys all listed unresolved exacts (keys ++ cons_option own [])
+          (summary_with_exact summary own)
   is_summary-key_more None = rw append-nil before
   is_summary-key_more (Some key) =
       let passes : ℕ × ℕ → Bool = λ k. not (is_listed (Some listed) k) in
@@ -370,7 +381,8 @@ module _ (all : Bool) (listed unresolved : List (ℕ × ℕ)) (exacts : List ((�
                   ∙ ap length (sym (filter-push_passing passes keys key (ap not other)));
               lowest_is = ap (with_pair (group_first key)) before.lowest_is
                   ∙ ap (kept_pairs_of all)
-                  (sym (shown_pairs-push all (map_list group_first (UnlistedOf listed keys)) (group_first key)))
+                  (sym (shown_pairs-push all (map_list group_first (UnlistedOf listed keys))
+                      (group_first key)))
                   ∙ ap (λ l. kept_pairs_of all (shown_pairs all (in_order l)))
                   (sym (map-append group_first (UnlistedOf listed keys) (key ∷ [])))
                   ∙ ap (λ l. kept_pairs_of all (shown_pairs all (in_order (map_list group_first l))))
@@ -378,15 +390,17 @@ module _ (all : Bool) (listed unresolved : List (ℕ × ℕ)) (exacts : List ((�
             })
       ]
 
--- the notes so far are those of these rows
+-- the summary so far is that of these rows
 abbrev IsSummaryOfRows : Bool → List (ℕ × ℕ) → List RowValue → SummarySoFar → Type 0
 IsSummaryOfRows all listed rows summary =
     IsSummaryOfKeys all listed (filter_map unresolved_key rows) (filter_map every_source_entry rows)
     (filter_map key_of rows) summary
 
--- with one row more
-is_summary-row_more : (all : Bool) (listed : List (ℕ × ℕ)) (rows : List RowValue) (row : RowValue) (summary : SummarySoFar)
-    → IsSummaryOfRows all listed rows summary → IsSummaryOfRows all listed (rows ++ row ∷ []) (summary_with_row summary row)
+-- with one more row
+is_summary-row_more : (all : Bool) (listed : List (ℕ × ℕ)) (rows : List RowValue) (row : RowValue)
+    (summary : SummarySoFar)
+    → IsSummaryOfRows all listed rows summary
+        → IsSummaryOfRows all listed (rows ++ row ∷ []) (summary_with_row summary row)
 is_summary-row_more all listed rows row summary before =
     let us = filter_map unresolved_key rows in
     let es = filter_map every_source_entry rows in
@@ -394,7 +408,8 @@ is_summary-row_more all listed rows row summary before =
     let u = unresolved_key row in
     let e = every_source_entry row in
     let first = is_summary-unresolved_more all listed us es ks summary before u in
-    let second = is_summary-every_source_more all listed (us ++ cons_option u []) es ks (summary_with_unresolved summary u) first e in
+    let second = is_summary-every_source_more all listed (us ++ cons_option u []) es ks
+        (summary_with_unresolved summary u) first e in
     let third = is_summary-key_more all listed (us ++ cons_option u []) (es ++ cons_option e []) ks
     (summary_with_every_source (summary_with_unresolved summary u) e) second (key_of row) in
     rw (
@@ -403,8 +418,9 @@ is_summary-row_more all listed rows row summary before =
       filter_map-append key_of rows (row ∷ []),
     ) third
 
--- none of them
-is_summary-none : (all : Bool) (listed : List (ℕ × ℕ)) → IsSummaryOfRows all listed [] (empty_summary all listed)
+-- the summary of no rows
+is_summary-none : (all : Bool) (listed : List (ℕ × ℕ))
+    → IsSummaryOfRows all listed [] (empty_summary all listed)
 is_summary-none all listed = record {
   listed_is = refl;
   first_listed = refl;
@@ -414,13 +430,14 @@ is_summary-none all listed = record {
   lowest_is = ap (kept_pairs_of all) (shown_pairs-none all);
 }
 
--- what is told of them
-finished_summary-of_rows : (all : Bool) (listed : List (ℕ × ℕ)) (rows : List RowValue) (summary : SummarySoFar)
+-- the summary when all rows have been read
+finished_summary-of_rows : (all : Bool) (listed : List (ℕ × ℕ)) (rows : List RowValue)
+    (summary : SummarySoFar)
     → IsSummaryOfRows all listed rows summary → finished_summary summary ≡ summary_of all listed rows
 finished_summary-of_rows all listed rows summary summarizes =
     rw (summarizes.unresolved_is, summarizes.first_is, summarizes.unlisted_is, summarizes.lowest_is) refl
 
--- ---- the notes of a text's rows
+-- ---- the summary of a text's rows
 
 -- a line that is read after others is read as a row
 row_in_line-words : (order : Order) (earlier : List RowValue) (line : LineText) (row : RowValue)
@@ -453,7 +470,8 @@ is_summary-lines all order listed (line ∷ lines) earlier rows summary summariz
     (λ row. rows_after (row_at_line order) (earlier ++ row ∷ []) lines) rows is in
     let row = read.0 in
     let words : row_in_words order (words_of line.bytes) ≡ Ok row =
-    row_in_line-words order earlier line row (at_line-ok line.number (row_in_line order earlier line) row read.1) in
+    row_in_line-words order earlier line row
+        (at_line-ok line.number (row_in_line order earlier line) row read.1) in
     let summarized : summary_with_line order summary line ≡ summary_with_row summary row =
     ap (summary_with_read summary) words in
     is_summary-lines all order listed lines (earlier ++ row ∷ []) rows (summary_with_line order summary line)
@@ -468,7 +486,7 @@ lines_after_header-drop (header ∷ lines) rest is =
     let read = bind_ok (at_line 1 (header_line (codes "Group") header)) (λ _. Ok lines) rest is in
     ok_injective {E = TableFault} lines rest read.2
 
--- with nothing before it, a text is read as the whole text
+-- fed to a new reader, a text is read as the whole text
 pub summary_if-start : (all : Bool) (order : Order) (listed : List (ℕ × ℕ)) (text : List ℕ)
     → length text ≤ 16777216
     → summary_if (summary_start all order listed) text ≡ summary_in all order listed text
@@ -477,7 +495,8 @@ summary_if-start all order listed text within =
     let start = summary_rows_start all order listed in
     let left = drop 1 (lines_of text) in
     summary_after-cache_after lines_start start text
-    ∙ ap (λ r. r >>= with_summary order (empty_summary all listed) left) (cache_if-start order (Some listed) text within)
+    ∙ ap (λ r. r >>= with_summary order (empty_summary all listed) left)
+        (cache_if-start order (Some listed) text within)
     ∙ elim (cache_rows_in order text) as (λ r. cache_rows_in order text ≡ r
     → ((r >>= λ rows. Ok (table_of (kept_rows (Some listed) rows)))
     >>= with_summary order (empty_summary all listed) left)
@@ -487,17 +506,21 @@ summary_if-start all order listed text within =
     }))) [
       | Err fault ↦ λ is. refl
       | Ok rows ↦ λ is.
-          let read = bind_ok (lines_after_header (codes "Group") (lines_of text)) (rows_after (row_at_line order) [])
+          let read = bind_ok (lines_after_header (codes "Group") (lines_of text))
+              (rows_after (row_at_line order) [])
           rows (rw fits at is) in
-          let summarizes = is_summary-lines all order listed left [] rows (empty_summary all listed) (is_summary-none all listed)
-          (ap (rows_after (row_at_line order) []) (lines_after_header-drop (lines_of text) read.0 read.1) ∙ read.2) in
+          let summarizes = is_summary-lines all order listed left [] rows (empty_summary all listed)
+              (is_summary-none all listed)
+          (ap (rows_after (row_at_line order) []) (lines_after_header-drop (lines_of text) read.0 read.1)
+              ∙ read.2) in
           ap (λ n. Ok (record { table = table_of (kept_rows (Some listed) rows); summary = n }))
-          (finished_summary-of_rows all listed rows (summary_of_lines order (empty_summary all listed) left) summarizes)
+          (finished_summary-of_rows all listed rows
+              (summary_of_lines order (empty_summary all listed) left) summarizes)
     ] refl
 
--- ---- what they tell
+-- ---- what a summary says of the rows
 
--- the table is that without notes
+-- the table is that without the summary
 pub table_without_summary-listed_in : (all : Bool) (order : Order) (listed : List (ℕ × ℕ)) (text : List ℕ)
     → listed_in order (Some listed) text
     ≡ table_without_summary (summary_in all order listed text)
@@ -512,13 +535,14 @@ table_without_summary-listed_in all order listed text =
       | Ok rows ↦ refl
     ]
 
--- no test and another are none
+-- a test and false are false
 and-false : (b : Bool) → (b && false) ≡ false
 and-false true = refl
 and-false false = refl
 
--- a key that is another one fails one of two tests
-is_listed-unlisted_key : (listed : List (ℕ × ℕ)) (key k : ℕ × ℕ) (b : Bool) → is_listed (Some listed) k ≡ false
+-- a listed key is not the same as one that isn't listed
+is_listed-unlisted_key : (listed : List (ℕ × ℕ)) (key k : ℕ × ℕ) (b : Bool)
+    → is_listed (Some listed) k ≡ false
     → (is_listed (Some listed) key && b) ≡ (is_listed (Some listed) key && (same_key key k || b))
 is_listed-unlisted_key listed key k b other =
     elim (cases_Bool (same_key key k)) [
@@ -529,7 +553,7 @@ is_listed-unlisted_key listed key k b other =
       | inr differs ↦ ap (λ c. is_listed (Some listed) key && (c || b)) (sym differs)
     ]
 
--- a key that is this one passes it
+-- a key that is the same as a listed one is listed
 is_listed-listed_key : (listed : List (ℕ × ℕ)) (key k : ℕ × ℕ) (b : Bool) → is_listed (Some listed) k ≡ true
     → (same_key key k || (is_listed (Some listed) key && b))
     ≡ (is_listed (Some listed) key && (same_key key k || b))
@@ -542,7 +566,7 @@ is_listed-listed_key listed key k b is =
       | inr differs ↦ rw differs refl
     ]
 
--- a key is among the listed ones of some where it is listed and among them
+-- a key is among the listed keys of some exactly if it is listed and among them
 list_any-listed_of : (listed keys : List (ℕ × ℕ)) (key : ℕ × ℕ)
     → list_any (same_key key) (ListedOf listed keys)
     ≡ (is_listed (Some listed) key && list_any (same_key key) keys)
@@ -567,7 +591,7 @@ summary_of-unresolved all listed rows key =
     set.contains-from_list key_cmp-total (ListedOf listed (filter_map unresolved_key rows)) key
     ∙ list_any-listed_of listed (filter_map unresolved_key rows) key
 
--- a key that is listed is found among the listed ones as among all
+-- a listed key is found among the listed ones as among all
 find-listed_entries : (listed : List (ℕ × ℕ)) (es : List ((ℕ × ℕ) × EntryValue)) (key : ℕ × ℕ)
     → is_listed (Some listed) key ≡ true
     → map.find key_cmp key (ListedEntriesOf listed es) ≡ map.find key_cmp key es

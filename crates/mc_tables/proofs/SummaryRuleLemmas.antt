@@ -1,4 +1,4 @@
--- What the notes of a cache keep while its rows come.
+-- The rules of a cache's summary while its rows are read.
 use Rattle.std.proofs.Common.{◌≡◌, ℕ, Bool, true, false, cond, eqb, List, Option, Some, None, Result, Ok}
 use Rattle.std.proofs.Common.{Err, refl, sym, subst}
 use Rattle.std.specs.Prelude.{◌&&◌, IfSome, is_some, not}
@@ -7,24 +7,27 @@ use Rattle.std.specs.Option.{option_map}
 use Rattle.mc_text.specs.declared.text.addr.Order.{Order}
 use Rattle.mc_text.specs.Lines.{LineText, words_of}
 use Rattle.mc_tables.specs.declared.fault.TableFaultKind.{TableFaultKind}
-use Rattle.mc_tables.specs.CacheTable.{EntryValue, IsValidCache, IsValidEntry, RowValue, key_cmp, key_of, same_key}
+use Rattle.mc_tables.specs.CacheTable.{EntryValue, IsValidCache, IsValidEntry, RowValue, key_cmp, key_of}
+use Rattle.mc_tables.specs.CacheTable.{same_key}
 use Rattle.mc_tables.specs.CacheNumbers.{KeptRowsValue}
 use Rattle.mc_tables.specs.CacheReading.{row_in_words}
 use Rattle.mc_tables.specs.ListedRows.{set_has_key}
 use Rattle.mc_tables.specs.RowsSoFar.{ListedRowsSoFar, line_added}
 use Rattle.mc_tables.specs.Summary.{HasValidEntries, every_source_entry, unresolved_key}
-use Rattle.mc_tables.specs.SummarySoFar.{SummarySoFar, summary_with_every_source, summary_with_exact, with_entry_if_new}
-use Rattle.mc_tables.specs.SummarySoFar.{summary_with_line, empty_summary, summary_with_read, summary_with_row, finished_summary}
+use Rattle.mc_tables.specs.SummarySoFar.{SummarySoFar, summary_with_every_source, summary_with_exact}
+use Rattle.mc_tables.specs.SummarySoFar.{with_entry_if_new}
+use Rattle.mc_tables.specs.SummarySoFar.{summary_with_line, empty_summary, summary_with_read}
+use Rattle.mc_tables.specs.SummarySoFar.{summary_with_row, finished_summary}
 use Rattle.mc_tables.specs.SummarySoFar.{summary_with_unlisted, summary_with_unresolved, with_first_entry}
 use Rattle.mc_tables.proofs.CacheLemmas.{key_cmp-total, row_in_words-denotes}
 use Rattle.mc_tables.proofs.EntryLemmas.{row_entry-is_valid}
 use Rattle.mc_tables.proofs.RowRuleLemmas.{line_added_keeps_valid_cache}
 
--- the first entries stand
+-- the first entries are valid
 abbrev HasValidFirstEntries : KeptRowsValue → Type 0
 HasValidFirstEntries first = (key : ℕ × ℕ) → IfSome (map.get first.table.entries key) IsValidEntry
 
--- with one more that stands
+-- they stay valid with one more valid entry
 first_entries-push : (first : KeptRowsValue) (key : ℕ × ℕ) (entry : EntryValue) → IsValidEntry entry
     → HasValidFirstEntries first → HasValidFirstEntries (with_entry_if_new first key entry)
 first_entries-push first key entry valid all =
@@ -40,7 +43,7 @@ first_entries-push first key entry valid all =
       | false ↦ all
     ]
 
--- with one more that may be for every source
+-- with one more row that may be for every source
 first_entries-every_source : (summary : SummarySoFar) (row : RowValue) (b : Bool) (entry : Option EntryValue)
     → IfSome entry IsValidEntry → HasValidFirstEntries summary.first
     → HasValidFirstEntries (summary_with_every_source summary
@@ -50,7 +53,7 @@ first_entries-every_source summary row true None valid all = all
 first_entries-every_source summary row true (Some entry) valid all =
     first_entries-push summary.first (row.origin, row.group) entry valid all
 
--- others change none of them
+-- other rows change none of them
 summary_with_unresolved-first : (summary : SummarySoFar) (own : Option (ℕ × ℕ))
     → (summary_with_unresolved summary own).first ≡ summary.first
 summary_with_unresolved-first summary None = refl
@@ -66,25 +69,30 @@ summary_with_exact-first summary (Some key) =
       | false ↦ refl
     ]
 
--- with one row more
-summary_with_row-keeps_valid : (summary : SummarySoFar) (row : RowValue) → IfSome row.entry IsValidEntry → HasValidFirstEntries summary.first
+-- with one more row
+summary_with_row-keeps_valid : (summary : SummarySoFar) (row : RowValue) → IfSome row.entry IsValidEntry
+    → HasValidFirstEntries summary.first
     → HasValidFirstEntries (summary_with_row summary row).first
 summary_with_row-keeps_valid summary row valid all =
     let seen = summary_with_unresolved summary (unresolved_key row) in
-    subst HasValidFirstEntries (sym (summary_with_exact-first (summary_with_every_source seen (every_source_entry row)) (key_of row)))
+    subst HasValidFirstEntries
+        (sym (summary_with_exact-first (summary_with_every_source seen (every_source_entry row))
+        (key_of row)))
     (first_entries-every_source seen row (eqb row.origin 0) row.entry valid
     (subst HasValidFirstEntries (sym (summary_with_unresolved-first summary (unresolved_key row))) all))
 
--- with what a line is read as
+-- with the row that a line is read as
 summary_with_read-keeps_valid : (order : Order) (words : List (List ℕ)) (summary : SummarySoFar)
     (read : Result RowValue TableFaultKind) → row_in_words order words ≡ read
     → HasValidFirstEntries summary.first → HasValidFirstEntries (summary_with_read summary read).first
 summary_with_read-keeps_valid order words summary (Err kind) is all = all
 summary_with_read-keeps_valid order words summary (Ok row) is all =
-    summary_with_row-keeps_valid summary row (row_entry-is_valid order words row (row_in_words-denotes order words row is)) all
+    summary_with_row-keeps_valid summary row
+        (row_entry-is_valid order words row (row_in_words-denotes order words row is)) all
 
--- the table and the notes keep the rules with a line's row
-pub summary_with_line-keeps_valid : (so_far new : ListedRowsSoFar) (summary more : SummarySoFar) (line : LineText)
+-- the table and the summary stay valid when the row of a line is added
+pub summary_with_line-keeps_valid : (so_far new : ListedRowsSoFar) (summary more : SummarySoFar)
+    (line : LineText)
     → line_added so_far line ≡ Ok new → more ≡ summary_with_line so_far.order summary line
     → IsValidCache so_far.rows.table × HasValidEntries (finished_summary summary)
     → IsValidCache new.rows.table × HasValidEntries (finished_summary more)
@@ -95,7 +103,8 @@ summary_with_line-keeps_valid so_far new summary more line added summarized vali
       (row_in_words so_far.order (words_of line.bytes)) refl valid_before.1),
 )
 
--- the notes of no rows do
-pub empty_summary-is_valid : (all : Bool) (listed : List (ℕ × ℕ)) → HasValidEntries (finished_summary (empty_summary all listed))
+-- the summary of no rows is valid
+pub empty_summary-is_valid : (all : Bool) (listed : List (ℕ × ℕ))
+    → HasValidEntries (finished_summary (empty_summary all listed))
 empty_summary-is_valid all listed = λ key.
     subst (λ (o : Option EntryValue). IfSome o IsValidEntry) (sym (map.get-empty key_cmp key)) tt

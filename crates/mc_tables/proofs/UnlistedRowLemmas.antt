@@ -1,4 +1,4 @@
--- Rows of which only what finds a repeated one is kept.
+-- Rows of which only the key and the line are kept: the first one that repeats another.
 use Rattle.std.proofs.Common.{◌≡◌, ℕ, ◌+◌, ◌<◌, ◌≤◌, Bool, true, false, cond, List}
 use Rattle.std.proofs.Common.{[], ◌∷◌, ◌++◌, length, get_or, Option, Some, None, refl, sym, ap}
 use Rattle.std.proofs.Common.{◌∙◌, arith, inl, inr}
@@ -36,29 +36,30 @@ and-true : (b : Bool) → (b && true) ≡ b
 and-true true = refl
 and-true false = refl
 
--- of two equal values either is taken
+-- either of two equal values gives the same
 cond-same : {X : Type 0} (b : Bool) (x y : X) → x ≡ y → cond b x y ≡ y
 cond-same true x y is = is
 cond-same false x y is = refl
 
--- what the order does not tell apart is one
+-- rows that their order doesn't distinguish are equal
 pub same_key-equal : (x y : ℕ × ℕ) → same_key x y ≡ true → x ≡ y
 same_key-equal x y e = key_cmp-antisymmetric x y ((Equal-is (key_cmp x y)).0 e)
 
 -- ---- the least of some numbers
 
--- which of two is taken first does not matter
-lesser_or-swap : (m n : ℕ) (o : Option ℕ) → lesser_or m (Some (lesser_or n o)) ≡ lesser_or n (Some (lesser_or m o))
+-- the lesser of three doesn't depend on which two are compared first
+lesser_or-swap : (m n : ℕ) (o : Option ℕ)
+    → lesser_or m (Some (lesser_or n o)) ≡ lesser_or n (Some (lesser_or m o))
 lesser_or-swap m n None = grind (arith, nat_tests)
 lesser_or-swap m n (Some k) = grind (arith, nat_tests)
 
--- one number more
+-- the least of some numbers and one more
 least-push : (ns : List ℕ) (n : ℕ) → least (ns ++ n ∷ []) ≡ Some (lesser_or n (least ns))
 least-push [] n = refl
 least-push (m ∷ ns) n =
     ap (λ o. Some (lesser_or m o)) (least-push ns n) ∙ ap Some (lesser_or-swap m n (least ns))
 
--- a number that may be there is at most this one
+-- the number, if there is one, is at most this one
 abbrev pub is_at_most : ℕ → Option ℕ → Bool
 is_at_most most None = false
 is_at_most most (Some n) = nat_le n most
@@ -68,7 +69,7 @@ is_at_most-lesser_or : (most n : ℕ) (o : Option ℕ)
 is_at_most-lesser_or most n None = grind (arith, nat_tests)
 is_at_most-lesser_or most n (Some m) = grind (arith, nat_tests)
 
--- two that are at most the same numbers are one
+-- two that are at most the same numbers are equal
 least-unique : (a b : Option ℕ) → ((most : ℕ) → is_at_most most a ≡ is_at_most most b) → a ≡ b
 least-unique None None same = refl
 least-unique None (Some n) same =
@@ -81,7 +82,7 @@ least-unique (Some n) (Some m) same =
     let is : n ≡ m = omega arith in
     ap Some is
 
--- a number that is no less than the least changes nothing
+-- a number that isn't less than the least one doesn't change it
 pub lesser_or-same : (n : ℕ) (o : Option ℕ) → is_at_most n o ≡ true → Some (lesser_or n o) ≡ o
 lesser_or-same n None e = absurd cc
 lesser_or-same n (Some m) e = grind (arith, nat_tests)
@@ -102,7 +103,7 @@ is_at_most-least_line p (row ∷ rows) most =
 
 -- ---- the first repeat
 
--- it is within a line where a row within it is a repeat
+-- the first repeat is at most a line if a row up to that line is a repeat
 pub is_at_most-first_repeat : (rows : List UnlistedRow) (most : ℕ)
     → is_at_most most (first_repeat rows) ≡ list_any (λ r. is_repeat rows r && nat_le r.1 most) rows
 unfolding first_repeat
@@ -115,13 +116,14 @@ list_any-same_tests p q [] same = refl
 list_any-same_tests p q (x ∷ xs) same =
     ap (λ b. b || list_any p xs) (same x) ∙ ap (λ b. q x || b) (list_any-same_tests p q xs same)
 
--- the order of the rows does not matter
+-- the first repeat doesn't depend on the order of the rows
 pub first_repeat-permuted : (rows sorted : List UnlistedRow) → IsPermutation rows sorted
     → first_repeat sorted ≡ first_repeat rows
 first_repeat-permuted rows sorted moved =
     least-unique (first_repeat sorted) (first_repeat rows) (λ most.
     is_at_most-first_repeat sorted most
-    ∙ list_any-same_tests (λ r. is_repeat sorted r && nat_le r.1 most) (λ r. is_repeat rows r && nat_le r.1 most)
+    ∙ list_any-same_tests (λ r. is_repeat sorted r && nat_le r.1 most)
+        (λ r. is_repeat rows r && nat_le r.1 most)
     sorted (λ r. ap (λ b. b && nat_le r.1 most)
     (sym (list_any-IsPermutation (repeats r) rows sorted moved)))
     ∙ sym (list_any-IsPermutation (λ r. is_repeat rows r && nat_le r.1 most) rows sorted moved)
@@ -129,7 +131,7 @@ first_repeat-permuted rows sorted moved =
 
 -- ---- one row more
 
--- the row repeats none of these
+-- a row repeats none of these
 abbrev pub IsRepeatedByNone : List UnlistedRow → UnlistedRow → Type 0
 IsRepeatedByNone rows row =
     AllByRecursion (λ r. repeats r row ≡ false) rows
@@ -147,7 +149,7 @@ filter-is_repeat_push rows (r ∷ front) row later =
     (filter (is_repeat (rows ++ row ∷ [])) front)) same
     ∙ ap (λ f. cond (is_repeat rows r) (r ∷ f) f) (filter-is_repeat_push rows front row later.1)
 
--- it is none of an earlier line
+-- a row repeats none whose line isn't earlier
 is_repeat-itself : (rows : List UnlistedRow) (row : UnlistedRow)
     → is_repeat (rows ++ row ∷ []) row ≡ is_repeat rows row
 is_repeat-itself rows row =
@@ -156,7 +158,7 @@ is_repeat-itself rows row =
     (and_right (same_key row.0 row.0) (nat_lt row.1 row.1) (le-ltb row.1 row.1 (omega arith)))
     ∙ or-false (is_repeat rows row)
 
--- the lines of the rows that pass, with one that may pass after them
+-- the lines of the rows that pass, and of one more if it passes
 least-push_if : (lines : List UnlistedRow) (row : UnlistedRow) (b : Bool)
     → least (map (λ (r : UnlistedRow). r.1) (lines ++ cond b (row ∷ []) []))
     ≡ cond b (Some (lesser_or row.1 (least (map (λ (r : UnlistedRow). r.1) lines))))
@@ -166,7 +168,7 @@ least-push_if lines row true =
     ∙ least-push (map (λ (r : UnlistedRow). r.1) lines) row.1
 least-push_if lines row false = ap (λ l. least (map (λ (r : UnlistedRow). r.1) l)) (append-nil lines)
 
--- the first repeat with a row after others that don't repeat it
+-- the first repeat after one more row, which none of the others repeats
 pub first_repeat-push : (rows : List UnlistedRow) (row : UnlistedRow) → IsRepeatedByNone rows row
     → first_repeat (rows ++ row ∷ [])
     ≡ cond (is_repeat rows row) (Some (lesser_or row.1 (first_repeat rows))) (first_repeat rows)
@@ -181,30 +183,30 @@ first_repeat-push rows row later =
     ap (λ f. least (map (λ (r : UnlistedRow). r.1) f)) passed
     ∙ least-push_if (filter (is_repeat rows) rows) row (is_repeat rows row)
 
--- no row is the first
+-- among no rows there is no repeat
 pub first_repeat-none : first_repeat [] ≡ None
 unfolding first_repeat
 first_repeat-none = refl
 
 -- ---- rows in the order of their lines
 
--- they are all before a line
+-- all rows are of lines before this one
 abbrev pub AreBefore : List UnlistedRow → ℕ → Type 0
 AreBefore rows line = AllByRecursion (λ r. r.1 < line) rows
 
--- and so before the next ones
+-- so they are before the next one
 pub are_before-next : (rows : List UnlistedRow) (line : ℕ) → AreBefore rows line → AreBefore rows (line + 1)
 are_before-next [] line before = tt
 are_before-next (r ∷ rows) line before = (omega (arith, before.0), are_before-next rows line before.1)
 
--- with that of the line too
+-- and so they are with that of the line itself
 pub are_before-push : (rows : List UnlistedRow) (key : ℕ × ℕ) (line : ℕ) → AreBefore rows line
     → AreBefore (rows ++ (key, line) ∷ []) (line + 1)
 are_before-push [] key line before = (omega arith, tt)
 are_before-push (r ∷ rows) key line before =
     (omega (arith, before.0), are_before-push rows key line before.1)
 
--- that of the line is repeated by none of them
+-- none of them repeats the row of the line
 repeated_by_none-later : (rows : List UnlistedRow) (key : ℕ × ℕ) (line : ℕ) → AreBefore rows line
     → IsRepeatedByNone rows (key, line)
 repeated_by_none-later [] key line before = tt
@@ -213,7 +215,7 @@ repeated_by_none-later (r ∷ rows) key line before = (
   repeated_by_none-later rows key line before.1,
 )
 
--- it is a repeat where its source and group are among theirs
+-- a row after others is a repeat if its key is among theirs
 is_repeat-later : (rows : List UnlistedRow) (key : ℕ × ℕ) (line : ℕ) → AreBefore rows line
     → is_repeat rows (key, line) ≡ list_any (same_key key) (map (λ (r : UnlistedRow). r.0) rows)
 is_repeat-later [] key line before = refl
@@ -224,8 +226,9 @@ is_repeat-later (r ∷ rows) key line before =
     ap (λ b. b || is_repeat rows (key, line)) same
     ∙ ap (λ b. same_key key r.0 || b) (is_repeat-later rows key line before.1)
 
--- a row within a line, where all are before it
-list_any-before_line : (p : UnlistedRow → Bool) (rows : List UnlistedRow) (line most : ℕ) → AreBefore rows line
+-- a row up to a line, where all rows are before it
+list_any-before_line : (p : UnlistedRow → Bool) (rows : List UnlistedRow) (line most : ℕ)
+    → AreBefore rows line
     → list_any (λ r. p r && nat_le r.1 most) rows ≡ true
     → list_any (λ r. p r && nat_le r.1 line) rows ≡ true
 list_any-before_line p [] line most before some = absurd cc
@@ -237,7 +240,7 @@ list_any-before_line p (r ∷ rows) line most before some =
       | inr none ↦ rw none (list_any-before_line p rows line most before.1 (rw none at some))
     ]
 
--- the first repeat stays it
+-- a first repeat stays the first when a row is added
 pub first_repeat-stays : (rows : List UnlistedRow) (key : ℕ × ℕ) (line first : ℕ) → AreBefore rows line
     → first_repeat rows ≡ Some first → first_repeat (rows ++ (key, line) ∷ []) ≡ Some first
 first_repeat-stays rows key line first before is =
@@ -251,7 +254,7 @@ first_repeat-stays rows key line first before is =
     ∙ cond-same (is_repeat rows (key, line)) (Some (lesser_or line (Some first))) (Some first)
     (lesser_or-same line (Some first) within_line)
 
--- where there was none, the row is one if an earlier one has its source and group
+-- where there was none, the added row is one if an earlier one has its key
 pub first_repeat-begins : (rows : List UnlistedRow) (key : ℕ × ℕ) (line : ℕ) → AreBefore rows line
     → first_repeat rows ≡ None → first_repeat (rows ++ (key, line) ∷ [])
     ≡ cond (list_any (same_key key) (map (λ (r : UnlistedRow). r.0) rows)) (Some line) None
@@ -262,7 +265,7 @@ first_repeat-begins rows key line before none =
 
 -- ---- rows as numbers
 
--- one row more
+-- the numbers of the rows with one more
 pub key_numbers-push : (rows : List UnlistedRow) (numbers : List ℕ) (row : UnlistedRow)
     → IsPermutation (map key_number rows) numbers
     → IsPermutation (map key_number (rows ++ row ∷ [])) (numbers ++ key_number row ∷ [])
@@ -270,7 +273,7 @@ key_numbers-push rows numbers row same =
     rw (map-append key_number rows (row ∷ []))
     (IsPermutation-append_left (key_number row ∷ []) (map key_number rows) numbers same)
 
--- in another order
+-- the numbers of rows in another order
 pub key_numbers-permuted : (rows moved : List UnlistedRow) (numbers others : List ℕ)
     → IsPermutation (map key_number rows) numbers → IsPermutation rows moved
     → IsPermutation numbers others → IsPermutation (map key_number moved) others
@@ -280,14 +283,14 @@ key_numbers-permuted rows moved numbers others same by to =
     (IsPermutation-map key_number rows moved by))
     (IsPermutation-trans (map key_number rows) numbers others same to)
 
--- two numbers are the same
+-- two of some numbers are equal
 abbrev same_number : ℕ → ℕ → Bool
 same_number = eq_by_cmp nat_cmp
 
 same_number-equivalence : IsEquivalence same_number
 same_number-equivalence = eq_by_cmp_equiv nat_cmp_total
 
--- rows whose numbers differ are no repeats
+-- rows whose numbers differ have no repeat
 repeats-different_number : (x y : UnlistedRow) → same_number (key_number y) (key_number x) ≡ false
     → repeats x y ≡ false
 repeats-different_number x y apart =
@@ -300,7 +303,7 @@ repeats-different_number x y apart =
     ]
 
 module _ (rows : List UnlistedRow) (apart : IsDistinct same_number (map key_number rows)) where
-  -- two of the rows have not one number
+  -- no two of the rows have the same number
   key_numbers-differ : (i j : ℕ) (d : UnlistedRow) → i < j → j < length rows
       → same_number (key_number (get_or rows i d)) (key_number (get_or rows j d)) ≡ false
   key_numbers-differ i j d before fits =
@@ -335,7 +338,7 @@ module _ (rows : List UnlistedRow) (apart : IsDistinct same_number (map key_numb
       list_any_none (repeats (get_or rows i d)) rows (λ j e lt.
       ap (repeats (get_or rows i d)) (get_or_default rows j e d lt) ∙ repeats-none i j d fits lt)
 
--- rows whose numbers, in some order, are apart repeat none
+-- rows whose numbers differ in some order have no repeat
 pub first_repeat-distinct : (rows : List UnlistedRow) (numbers : List ℕ)
     → IsPermutation (map key_number rows) numbers → AreDistinct numbers → first_repeat rows ≡ None
 first_repeat-distinct rows numbers same numbers_apart =

@@ -1,4 +1,4 @@
--- What reading a vif table gives is what its text stands for.
+-- What reading a vif table gives is what its text denotes.
 use Rattle.std.proofs.Common.{◌≡◌, ℕ, ◌≤◌, false, List, [], ◌∷◌, ◌++◌, length, Result, Ok, Err}
 use Rattle.std.proofs.Common.{refl, sym, ap, subst}
 use Rattle.std.specs.Prelude.{nat_eq, not, map, codes, IfOk}
@@ -31,10 +31,12 @@ use Rattle.mc_tables.specs.VifReading.{device_repeats, vif_in_line, vif_at_line,
 use Rattle.mc_text.proofs.StepLemmas.{bind_ok, if_ok, ok_or_ok, ok_injective}
 use Rattle.mc_tables.proofs.StepLemmas.{demand-bind_ok, at_line-ok}
 use Rattle.mc_tables.proofs.WordLemmas.{number_in-denotes, number_in-from_denotes}
-use Rattle.mc_tables.proofs.KeyLemmas.{list_any-distinct_middle, is_distinct-push_key, is_among-distinct_before}
-use Rattle.mc_tables.proofs.RowLemmas.{lines_in-has_header, lines_in-from_header, ReadsRows, rows_after-denotes, rows_after-from_denotes}
+use Rattle.mc_tables.proofs.KeyLemmas.{list_any-distinct_middle, is_distinct-push_key}
+use Rattle.mc_tables.proofs.KeyLemmas.{is_among-distinct_before}
+use Rattle.mc_tables.proofs.RowLemmas.{lines_in-has_header, lines_in-from_header, ReadsRows}
+use Rattle.mc_tables.proofs.RowLemmas.{rows_after-denotes, rows_after-from_denotes}
 
--- the vif that is read is what the words tell
+-- the vif that is read is the one that the words denote
 pub vif_in_words-denotes : (words : List (List ℕ)) (row : ℕ × VifValue) → vif_in_words words ≡ Ok row
     → WordsDenoteVif words row
 unfolding vif_in_words
@@ -83,7 +85,7 @@ vif_in_words-denotes (index ∷ device ∷ bytes_in ∷ packets_in ∷ bytes_out
     x) same all
 vif_in_words-denotes words row e = absurd cc
 
--- the vif that the words tell is read
+-- the vif that the words denote is read
 pub vif_in_words-from_denotes : (words : List (List ℕ)) (row : ℕ × VifValue) → WordsDenoteVif words row
     → vif_in_words words ≡ Ok row
 unfolding vif_in_words
@@ -106,7 +108,7 @@ vif_in_words-from_denotes (index ∷ device ∷ bytes_in ∷ packets_in ∷ byte
     ) refl
 vif_in_words-from_denotes words row h = absurd h
 
--- the row repeats neither index nor device of an earlier one
+-- the row repeats neither the index nor the device of an earlier one
 abbrev pub MayFollow : List (ℕ × VifValue) → ℕ × VifValue → Type 0
 MayFollow earlier row = (index_repeats earlier row ≡ false) × (device_repeats earlier row ≡ false)
 
@@ -115,7 +117,7 @@ abbrev pub AreValid : List (ℕ × VifValue) → Type 0
 AreValid rows = IsDistinct nat_eq (map (λ row. row.0) rows)
     × IsDistinct bytes_eq (filter_map device_of rows)
 
--- a line that is read as a vif tells it, and the vif may follow the earlier ones
+-- the vif that a line is read as is denoted by it and may follow the earlier ones
 vif_in_line-denotes : (earlier : List (ℕ × VifValue)) (line : LineText) (row : ℕ × VifValue)
     → vif_in_line earlier line ≡ Ok row → LineDenotesVif line row × MayFollow earlier row
 unfolding vif_in_line
@@ -132,14 +134,14 @@ vif_in_line-denotes earlier line row e =
     subst (λ (x : ℕ × VifValue). LineDenotesVif line x × MayFollow earlier x) same
     (denoted, (not-true _ i.0, not-true _ v.0))
 
--- a vif that a line tells and that may follow the earlier ones is read
+-- a vif that a line denotes and that may follow the earlier ones is read
 vif_in_line-from_denotes : (earlier : List (ℕ × VifValue)) (line : LineText) (row : ℕ × VifValue)
     → LineDenotesVif line row → MayFollow earlier row → vif_in_line earlier line ≡ Ok row
 unfolding vif_in_line
 vif_in_line-from_denotes earlier line row denoted new =
     rw (denoted.ended, vif_in_words-from_denotes (words_of line.bytes) row denoted.words, new.0, new.1) refl
 
--- vifs stay ones that may stand when one that may follow is added
+-- allowed vifs stay allowed when one that may follow them is added
 rows-valid_push : (earlier : List (ℕ × VifValue)) (row : ℕ × VifValue) → AreValid earlier
     → MayFollow earlier row → AreValid (earlier ++ row ∷ [])
 rows-valid_push earlier row valid new = (
@@ -147,7 +149,7 @@ rows-valid_push earlier row valid new = (
   rw filter_map-append (is_distinct-push_key nat_list_eq_equiv _ (device_of row) valid.1 new.1),
 )
 
--- in vifs that may stand each may follow those before it
+-- in allowed vifs each may follow those before it
 rows-may_follow : (earlier : List (ℕ × VifValue)) (row : ℕ × VifValue) (later : List (ℕ × VifValue))
     → AreValid (earlier ++ row ∷ later) → MayFollow earlier row
 rows-may_follow earlier row later valid = (
@@ -155,32 +157,36 @@ rows-may_follow earlier row later valid = (
   is_among-distinct_before nat_list_eq_equiv _ (device_of row) _ (rw filter_map-append at valid.1),
 )
 
--- what is read with the line's number is told
+-- the same for reading with the line's number
 vif_at_line-denotes : (earlier : List (ℕ × VifValue)) (line : LineText) (row : ℕ × VifValue)
     → vif_at_line earlier line ≡ Ok row → LineDenotesVif line row × MayFollow earlier row
 vif_at_line-denotes earlier line row e =
     vif_in_line-denotes earlier line row (at_line-ok line.number (vif_in_line earlier line) row e)
 
--- what is told is read with the line's number
+-- and the other direction
 vif_at_line-from_denotes : (earlier : List (ℕ × VifValue)) (line : LineText) (row : ℕ × VifValue)
     → LineDenotesVif line row → MayFollow earlier row → vif_at_line earlier line ≡ Ok row
-vif_at_line-from_denotes earlier line row denoted new = rw (vif_in_line-from_denotes earlier line row denoted new) refl
+vif_at_line-from_denotes earlier line row denoted new =
+    rw (vif_in_line-from_denotes earlier line row denoted new) refl
 
--- the empty list may stand
+-- no vifs are allowed
 rows-valid_none : AreValid []
 unfolding IsDistinct
 rows-valid_none = (tt, tt)
 
--- so lines are read as vifs
+-- so lines are read as the vifs that they denote
 pub vif_at_line-reads_rows : ReadsRows vif_at_line LineDenotesVif MayFollow AreValid
-vif_at_line-reads_rows = record { found = vif_at_line-denotes; only = vif_at_line-from_denotes; grows = rows-valid_push; follows = rows-may_follow }
+vif_at_line-reads_rows =
+    record { found = vif_at_line-denotes; only = vif_at_line-from_denotes; grows = rows-valid_push; follows =
+    rows-may_follow }
 
--- the vifs that are read are those of the text
+-- the vifs that are read are those that the text denotes
 vif_rows_in-denotes : (text : List ℕ) (rows : List (ℕ × VifValue)) → vif_rows_in text ≡ Ok rows
     → DenotesVifRows text rows
 vif_rows_in-denotes text rows e =
     let b = bind_ok (lines_in (codes "Interface") text) (rows_after vif_at_line []) rows e in
-    let t = rows_after-denotes vif_at_line LineDenotesVif MayFollow AreValid vif_at_line-reads_rows b.0 [] rows rows-valid_none
+    let t = rows_after-denotes vif_at_line LineDenotesVif MayFollow AreValid vif_at_line-reads_rows b.0 []
+        rows rows-valid_none
     b.2 in
     record {
       lines = b.0;
@@ -190,15 +196,16 @@ vif_rows_in-denotes text rows e =
       devices_differ = t.3.1;
     }
 
--- the vifs of the text are read
+-- the vifs that the text denotes are read
 vif_rows_in-from_denotes : (text : List ℕ) (rows : List (ℕ × VifValue)) → DenotesVifRows text rows
     → vif_rows_in text ≡ Ok rows
 vif_rows_in-from_denotes text rows h =
     let e = lines_in-from_header (codes "Interface") text h.lines h.header in
-    rw e (rows_after-from_denotes vif_at_line LineDenotesVif MayFollow AreValid vif_at_line-reads_rows h.lines [] rows h.denoted
+    rw e (rows_after-from_denotes vif_at_line LineDenotesVif MayFollow AreValid vif_at_line-reads_rows h.lines
+        [] rows h.denoted
     (h.indexes_differ, h.devices_differ))
 
--- what is read is what the text stands for
+-- the table that is read is the one that the text denotes
 pub vifs_in-denotes : (text : List ℕ) (vifs : FinMap nat_cmp VifValue) → vifs_in text ≡ Ok vifs
     → DenotesVifs text vifs
 vifs_in-denotes text vifs e =
@@ -209,19 +216,21 @@ vifs_in-denotes text vifs e =
       as_map = sym (ok_injective (from_entries b.0) vifs b.2);
     }
 
--- what the text stands for is read
+-- the table that the text denotes is read
 pub vifs_in-from_denotes : (text : List ℕ) (vifs : FinMap nat_cmp VifValue) → DenotesVifs text vifs
     → vifs_in text ≡ Ok vifs
 vifs_in-from_denotes text vifs h = rw (vif_rows_in-from_denotes text h.rows h.lines, h.as_map) refl
 
--- other than nine words are no vif
-pub vif_needs_nine_words : (words : List (List ℕ)) → (length words ≡ 9 → ⊥) → vif_in_words words ≡ Err WordCount
+-- words other than nine are no vif
+pub vif_needs_nine_words : (words : List (List ℕ)) → (length words ≡ 9 → ⊥)
+    → vif_in_words words ≡ Err WordCount
 unfolding vif_in_words
-vif_needs_nine_words (index ∷ device ∷ bytes_in ∷ packets_in ∷ bytes_out ∷ packets_out ∷ flags ∷ local ∷ remote
+vif_needs_nine_words
+    (index ∷ device ∷ bytes_in ∷ packets_in ∷ bytes_out ∷ packets_out ∷ flags ∷ local ∷ remote
     ∷ []) other = absurd (other refl)
 vif_needs_nine_words words other = refl
 
--- the index that words tell is 31 at most
+-- the index that words denote is at most 31
 denoted_vif-at_most_31 : (words : List (List ℕ)) (row : ℕ × VifValue) → WordsDenoteVif words row → row.0 ≤ 31
 denoted_vif-at_most_31 (index ∷ device ∷ bytes_in ∷ packets_in ∷ bytes_out ∷ packets_out ∷ flags ∷ local
     ∷ remote ∷ []) row h = h.0.2
@@ -231,16 +240,17 @@ denoted_vif-at_most_31 words row h = absurd h
 abbrev pub HaveIndexesTo31 : List (ℕ × VifValue) → Type 0
 HaveIndexesTo31 rows = AllByRecursion (λ row. row.0 ≤ 31) rows
 
--- lines tell such indexes alone
+-- lines denote only such indexes
 pub denoted_vifs-at_most_31 : (lines : List LineText) (rows : List (ℕ × VifValue))
     → EachDenotes LineDenotesVif lines rows → HaveIndexesTo31 rows
 denoted_vifs-at_most_31 [] [] denoted = tt
 denoted_vifs-at_most_31 [] (row ∷ rows) denoted = absurd denoted
 denoted_vifs-at_most_31 (line ∷ lines) [] denoted = absurd denoted
 denoted_vifs-at_most_31 (line ∷ lines) (row ∷ rows) denoted =
-    (denoted_vif-at_most_31 (words_of line.bytes) row denoted.0.words, denoted_vifs-at_most_31 lines rows denoted.1)
+    (denoted_vif-at_most_31
+        (words_of line.bytes) row denoted.0.words, denoted_vifs-at_most_31 lines rows denoted.1)
 
--- what is read, unless memory runs out, is what the text stands for
+-- unless memory runs out, the table that is read is the one that the text denotes
 pub vifs_result-denotes : (text : List ℕ) (read : Result (FinMap nat_cmp VifValue) TableFault)
     → ((read ≡ Err out_of_memory → ⊥) → read ≡ vifs_in text) → IfOk read (DenotesVifs text)
 vifs_result-denotes text (Ok vifs) exact = vifs_in-denotes text vifs (sym (exact (λ e. absurd cc)))

@@ -1,6 +1,7 @@
--- The look-ups of a vif table answer by its map.
+-- The look-ups of a vif table find what its map has.
 use Rattle.std.proofs.Common.{◌≡◌, ℕ, ◌≤◌, arith, Bool, true, false, cond, List, [], ◌∷◌, Option}
-use Rattle.std.proofs.Common.{Some, None, refl, sym, ap, subst, ◌∙◌, inl, inr, ◌≢◌, Ordering, Less, Equal, Greater}
+use Rattle.std.proofs.Common.{Some, None, refl, sym, ap, subst, ◌∙◌, inl, inr, ◌≢◌, Ordering, Less, Equal}
+use Rattle.std.proofs.Common.{Greater}
 use Rattle.std.specs.Option.{option_map}
 use Rattle.std.specs.List as lists
 use Rattle.std.specs.Prelude.{nat_eq, map, IsSome, IsSomeAnd, IfSome, ◌||◌, ◌&&◌, ◌↔◌, T}
@@ -11,7 +12,7 @@ use Rattle.std.specs.Str.{bytes_eq}
 use Rattle.std.specs.FinMap.{FinMap, find, get, from_entries, get-from_entries, entries, get-entries}
 use Rattle.std.specs.FinMap.{entries_sorted}
 use Rattle.std.specs.FinMap.Entries.{below_all, is_sorted}
-use Rattle.std.proofs.lemmas.Bool.{cases_eq, eq-eqb, ne_eqb, both_directions, or_left, or_right, or_from}
+use Rattle.std.proofs.lemmas.Bool.{cases_eq, eq-eqb, ne_eqb, true≢false, or_left, or_right, or_from}
 use Rattle.std.proofs.lemmas.Bool.{false_from_ne_true}
 use Rattle.std.proofs.lemmas.Cmp.{nat_cmp_total, nat_eq_equiv, nat_list_eq_equiv}
 use Rattle.std.proofs.lemmas.Map.Keys.{IsDistinct-head, IsDistinct-tail}
@@ -21,19 +22,23 @@ use Rattle.mc_tables.specs.VifTable.{VifValue, no_device, device_of}
 use Rattle.mc_tables.specs.VifReading.{device_repeats}
 use Rattle.mc_tables.specs.VifLookups.{HasDevice, IsValidVifTable, first_index_with, index_of}
 
+-- no test is both false and true
+pub absurd-both_values : (b : Bool) → b ≡ false → b ≡ true → ⊥
+absurd-both_values b is_false is_true = true≢false (sym is_true ∙ is_false)
+
 -- ---- the tests of a row against the earlier ones
 
--- the code asks each row for its index
+-- comparing each row's index is comparing the list of indexes
 pub list_any-index : (index : ℕ) (rows : List (ℕ × VifValue))
     → list_any (λ row. nat_eq index row.0) rows ≡ list_any (nat_eq index) (map (λ row. row.0) rows)
 list_any-index index [] = refl
 list_any-index index (row ∷ rows) = rw (list_any-index index rows) refl
 
--- a device that equals `none` is it
+-- a device that equals `none` is `none`
 bytes_eq-no_device : (device : List ℕ) → bytes_eq device no_device ≡ true → device ≡ no_device
 bytes_eq-no_device device e = (bytes_eq-Decides device no_device).0 e
 
--- a device other than `none` is asked of each row
+-- comparing a row's device, where the other one isn't `none`
 list_any-device_cons : (other : ℕ × VifValue) (device : List ℕ) (b : Bool) (rest : Bool)
     (keys : List (List ℕ)) → bytes_eq other.1.device no_device ≡ b
     → bytes_eq device no_device ≡ false → rest ≡ list_any (bytes_eq device) keys
@@ -47,7 +52,7 @@ list_any-device_cons other device true rest keys none some same =
 list_any-device_cons other device false rest keys none some same =
     rw (nat_list_eq_equiv.symm other.1.device device, same) refl
 
--- and so of all rows
+-- comparing each row's device is comparing the list of devices
 pub list_any-device : (device : List ℕ) (rows : List (ℕ × VifValue)) → bytes_eq device no_device ≡ false
     → list_any (λ row. bytes_eq row.1.device device) rows
     ≡ list_any (bytes_eq device) (filter_map device_of rows)
@@ -56,7 +61,7 @@ list_any-device device (row ∷ rows) some =
     list_any-device_cons row device (bytes_eq row.1.device no_device) _
     (filter_map device_of rows) refl some (list_any-device device rows some)
 
--- the code asks each row for its device
+-- a repeated device is found by comparing each row's device
 pub device_repeats-by_rows : (earlier : List (ℕ × VifValue)) (row : ℕ × VifValue)
     → bytes_eq row.1.device no_device ≡ false
     → list_any (λ other. bytes_eq other.1.device row.1.device) earlier ≡ device_repeats earlier row
@@ -74,7 +79,7 @@ list_any-all_differ same key [] all = refl
 list_any-all_differ same key (other ∷ keys) all =
     or_from (same key other) _ all.0 (list_any-all_differ same key keys all.1)
 
--- the first row's index finds its vif
+-- the index of the first row finds its vif
 find-first_index : (index : ℕ) (row : ℕ × VifValue) (rows : List (ℕ × VifValue)) → index ≡ row.0
     → find nat_cmp index (row ∷ rows) ≡ Some row.1
 find-first_index index row rows e =
@@ -119,7 +124,7 @@ option_map_cond-index : (row : ℕ × VifValue) (b : Bool) (later : Option (ℕ 
 option_map_cond-index row true later = refl
 option_map_cond-index row false later = refl
 
--- the first index of a device is the first row's, or a later one
+-- the first index of a device is that of the first row, or a later one
 first_index_with-cons : (device : List ℕ) (row : ℕ × VifValue) (rows : List (ℕ × VifValue))
     → first_index_with device (row ∷ rows)
     ≡ cond (bytes_eq row.1.device device) (Some row.0) (first_index_with device rows)
@@ -127,7 +132,7 @@ first_index_with-cons device row rows =
     option_map_cond-index row (bytes_eq row.1.device device)
     (lists.find (λ r. bytes_eq r.1.device device) rows)
 
--- an index that is answered is one of the table
+-- an index that is found is one of the table
 first_index_with-is_listed : (device : List ℕ) (rows : List (ℕ × VifValue)) (index : ℕ)
     → first_index_with device rows ≡ Some index
     → list_any (nat_eq index) (map (λ row. row.0) rows) ≡ true
@@ -141,7 +146,7 @@ first_index_with-is_listed device (row ∷ rows) index e =
       | false ↦ λ h. or_right (nat_eq index row.0) _ (first_index_with-is_listed device rows index h)
     ] (sym (first_index_with-cons device row rows) ∙ e)
 
--- the index that is answered has the device
+-- the index that is found has the device
 pub find-first_index_with : (device : List ℕ) (rows : List (ℕ × VifValue)) (index : ℕ)
     → IsDistinct nat_eq (map (λ row. row.0) rows) → first_index_with device rows ≡ Some index
     → HasThisDevice device (find nat_cmp index rows)
@@ -159,7 +164,7 @@ find-first_index_with device (row ∷ rows) index distinct e =
           let none = list_any-all_differ nat_eq row.0 (map (λ r. r.0) rows)
           (IsDistinct-head nat_eq row.0 _ distinct) in
           let apart : index ≡ row.0 → ⊥ =
-          λ same. both_directions (list_any (nat_eq index) (map (λ r. r.0) rows)) (rw same none) among in
+          λ same. absurd-both_values (list_any (nat_eq index) (map (λ r. r.0) rows)) (rw same none) among in
           subst (HasThisDevice device) (sym (find-other_index index row rows apart))
           (find-first_index_with device rows index (IsDistinct-tail nat_eq row.0 _ distinct) h)
     ] refl (sym (first_index_with-cons device row rows) ∙ e)
@@ -181,10 +186,11 @@ list_any-found_device device (row ∷ rows) index h =
           ((bytes_eq-Decides row.1.device device).1
           (subst (HasThisDevice device) (find-first_index index row rows same) h))
       | inr apart ↦ or_right (bytes_eq row.1.device device) _
-          (list_any-found_device device rows index (subst (HasThisDevice device) (find-other_index index row rows apart) h))
+          (list_any-found_device device rows index
+              (subst (HasThisDevice device) (find-other_index index row rows apart) h))
     ]
 
--- the index that has the device is answered
+-- the index that has the device is found
 pub first_index_with-unique : (device : List ℕ) (rows : List (ℕ × VifValue)) (index : ℕ)
     → bytes_eq device no_device ≡ false → IsDistinct bytes_eq (filter_map device_of rows)
     → HasThisDevice device (find nat_cmp index rows) → first_index_with device rows ≡ Some index
@@ -210,7 +216,7 @@ first_index_with-unique device (row ∷ rows) index some distinct h =
                 (IsDistinct-head bytes_eq row.1.device _
                 (subst (λ k. IsDistinct bytes_eq (cons_option k (filter_map device_of rows))) key
                 distinct)) in
-                absurd (both_directions (list_any (bytes_eq device) (filter_map device_of rows))
+                absurd (absurd-both_values (list_any (bytes_eq device) (filter_map device_of rows))
                 (ap (λ d. list_any (bytes_eq d) (filter_map device_of rows)) (sym same) ∙ none)
                 (sym (list_any-device device rows some) ∙ among))
             | false ↦ λ is. first_index_with-unique device rows index some
@@ -218,7 +224,7 @@ first_index_with-unique device (row ∷ rows) index some distinct h =
           ] refl
     ]
 
--- the index that is answered has the device in the map
+-- the index that is found has the device in the map
 pub has_device-first_index_with : (device : List ℕ) (rows : List (ℕ × VifValue)) (answer : Option ℕ)
     → IsDistinct nat_eq (map (λ row. row.0) rows) → answer ≡ first_index_with device rows
     → IfSome answer (λ index. HasDevice (from_entries rows) index device)
@@ -227,7 +233,7 @@ has_device-first_index_with device rows (Some index) distinct is =
     subst (HasThisDevice device) (sym (get-from_entries nat_cmp_total rows index))
     (find-first_index_with device rows index distinct (sym is))
 
--- the index that has the device in the map is answered
+-- the index that has the device in the map is found
 pub first_index_with-has_device : (device : List ℕ) (rows : List (ℕ × VifValue)) (index : ℕ)
     → (device ≡ no_device → ⊥) → IsDistinct bytes_eq (filter_map device_of rows)
     → HasDevice (from_entries rows) index device → first_index_with device rows ≡ Some index
@@ -238,7 +244,7 @@ first_index_with-has_device device rows index some distinct has =
 
 -- ---- the indexes
 
--- an index that is found among rows of indexes up to 31 is 31 at most
+-- an index that is found among rows with indexes up to 31 is at most 31
 find-at_most_31 : (rows : List (ℕ × VifValue)) (index : ℕ) → AllByRecursion (λ row. row.0 ≤ 31) rows
     → IsSome (find nat_cmp index rows) → index ≤ 31
 find-at_most_31 [] index all there = absurd (let wrong = there in cc)
@@ -249,18 +255,18 @@ find-at_most_31 (row ∷ rows) index all there =
           (subst IsSome (find-other_index index row rows apart) there)
     ]
 
--- and so one that the map has
+-- and so is one that the map has
 pub get-at_most_31 : (rows : List (ℕ × VifValue)) (index : ℕ) → AllByRecursion (λ row. row.0 ≤ 31) rows
     → IsSome (get (from_entries {R = nat_cmp} rows) index) → index ≤ 31
 get-at_most_31 rows index all there =
     find-at_most_31 rows index all (subst IsSome (get-from_entries nat_cmp_total rows index) there)
 
--- what has a device is there
+-- an index that has a device is there
 is_some-has_device : (device : List ℕ) (o : Option VifValue) → HasThisDevice device o → IsSome o
 is_some-has_device device None has = absurd has
 is_some-has_device device (Some vif) has = refl
 
--- and so is an index that is answered
+-- and so is an index that is found
 pub answer-at_most_31 : (device : List ℕ) (rows : List (ℕ × VifValue)) (answer : Option ℕ)
     → AllByRecursion (λ row. row.0 ≤ 31) rows
     → IfSome answer (λ index. HasDevice (from_entries rows) index device)
@@ -270,7 +276,7 @@ answer-at_most_31 device rows (Some index) all has =
     get-at_most_31 rows index all
     (is_some-has_device device (get (from_entries {R = nat_cmp} rows) index) has)
 
--- ---- the map's own entries, which stand in the order of their indexes
+-- ---- the map's own entries, in the order of their indexes
 
 and-both_parts : (a b : Bool) → T (a && b) → T a × T b
 and-both_parts true b h = (tt, h)
@@ -319,9 +325,10 @@ first_index_with-entries : (vifs : FinMap nat_cmp VifValue) (device : List ℕ) 
     → first_index_with device (entries vifs) ≡ Some index → HasDevice vifs index device
 first_index_with-entries vifs device index e =
     subst (HasThisDevice device) (sym (get-entries vifs index))
-    (find-first_index_with device (entries vifs) index (is_sorted-distinct (entries vifs) (entries_sorted vifs)) e)
+    (find-first_index_with device (entries vifs) index
+        (is_sorted-distinct (entries vifs) (entries_sorted vifs)) e)
 
--- an index is answered for a device exactly if its vif has the device, and it isn't `none`
+-- an index is found for a device exactly if its vif has the device, and it isn't `none`
 pub index_of-exact : (vifs : FinMap nat_cmp VifValue) (device : List ℕ) (index : ℕ)
     → IsValidVifTable vifs
     → (index_of vifs device ≡ Some index) ↔ ((device ≢ no_device) × HasDevice vifs index device)
@@ -332,7 +339,7 @@ index_of-exact vifs device index rules = (
       → (device ≢ no_device) × HasDevice vifs index device) [
         | true ↦ λ is e. absurd cc
         | false ↦ λ is e. (
-          λ unnamed. both_directions (bytes_eq device no_device) is
+          λ unnamed. absurd-both_values (bytes_eq device no_device) is
               ((bytes_eq-Decides device no_device).1 unnamed),
           first_index_with-entries vifs device index e,
         )
@@ -340,13 +347,14 @@ index_of-exact vifs device index rules = (
   λ both.
       let some = false_from_ne_true (bytes_eq device no_device) (λ e. both.0 (bytes_eq-no_device device e)) in
       let first = first_index_with-exists device (entries vifs)
-      (list_any-found_device device (entries vifs) index (subst (HasThisDevice device) (get-entries vifs index) both.1)) in
+      (list_any-found_device device (entries vifs) index
+          (subst (HasThisDevice device) (get-entries vifs index) both.1)) in
       let same = rules.devices_differ device first.0 index both.0
       (first_index_with-entries vifs device first.0 first.1) both.1 in
       ap (λ b. cond b None (first_index_with device (entries vifs))) some ∙ first.1 ∙ ap Some same,
 )
 
--- what is answered exactly so is that index
+-- a result that is found exactly for an index is that index
 pub index_of-value : (vifs : FinMap nat_cmp VifValue) (device : List ℕ) (answer : Option ℕ)
     → IsValidVifTable vifs
     → ((index : ℕ) → (answer ≡ Some index) ↔ ((device ≢ no_device) × HasDevice vifs index device))

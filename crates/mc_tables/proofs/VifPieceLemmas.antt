@@ -1,4 +1,4 @@
--- A table of vifs whose text comes in pieces.
+-- Reading a table of vifs in pieces.
 use Rattle.std.proofs.Common.{◌≡◌, ℕ, ◌+◌, ◌≤◌, false, eqb, length, List, [], ◌∷◌, ◌++◌, Result, Ok, Err}
 use Rattle.std.proofs.Common.{refl, ap, ◌∙◌, inl, inr}
 use Rattle.std.specs.Prelude.{codes}
@@ -16,7 +16,8 @@ use Rattle.mc_tables.specs.VifReading.{vif_in_line, vif_at_line}
 use Rattle.mc_tables.specs.VifsSoFar.{vif_step, vifs_from_lines, vifs_after}
 use Rattle.mc_tables.proofs.VifLemmas.{vif_at_line-reads_rows, denoted_vifs-at_most_31}
 use Rattle.mc_tables.specs.LinesSoFar.{LinesSoFar, HasNoLineFeed, check_end_of_lines, ReadsInSteps}
-use Rattle.mc_tables.proofs.PieceLemmas.{last_line, read_after-no_header, read_after-end_in_line, read_after-end_after_line}
+use Rattle.mc_tables.proofs.PieceLemmas.{last_line, read_after-no_header, read_after-end_in_line}
+use Rattle.mc_tables.proofs.PieceLemmas.{read_after-end_after_line}
 
 -- one line and then the others
 rows_after-line_first : (n : ℕ) (rows : List (ℕ × VifValue)) (lines : List LineText)
@@ -33,7 +34,7 @@ vifs_read_in_steps = record {
   line = λ rows line lines. rows_after-line_first line.number rows lines (vif_in_line rows line);
 }
 
--- a line that none ends is refused
+-- a line that isn't ended is refused
 vif_in_line-unended : (rows : List (ℕ × VifValue)) (line : LineText) → line.ended ≡ false
     → vif_in_line rows line ≡ Err Unended
 unfolding vif_in_line
@@ -44,11 +45,13 @@ pub vifs_after-end : (lines : LinesSoFar) (rows : List (ℕ × VifValue)) → Ha
     → vifs_after lines rows [] ≡ (check_end_of_lines lines >>= λ _. vifs_from_lines rows [])
 vifs_after-end lines rows without =
     elim (cases_Bool (eqb lines.ended 0)) [
-      | inl none ↦ read_after-no_header (codes "Interface") (vifs_from_lines rows) lines (vifs_from_lines rows []) without none
+      | inl none ↦ read_after-no_header (codes "Interface") (vifs_from_lines rows) lines
+          (vifs_from_lines rows []) without none
       | inr later ↦ elim (cases_Bool (eqb (length lines.begun) 0)) [
         | inl none ↦ read_after-end_after_line (codes "Interface") (vifs_from_lines rows) lines later none
             ∙ rw (none, later) refl
-        | inr begun ↦ read_after-end_in_line (codes "Interface") (vifs_from_lines rows) lines without later begun
+        | inr begun ↦ read_after-end_in_line (codes "Interface")
+            (vifs_from_lines rows) lines without later begun
             ∙ ap (λ r. (at_line (lines.ended + 1) r
             >>= λ row. rows_after vif_at_line (rows ++ row ∷ []) []) >>= λ all. Ok (from_entries all))
             (vif_in_line-unended rows (last_line lines) refl)
@@ -56,18 +59,18 @@ vifs_after-end lines rows without =
       ]
     ]
 
--- the empty list may stand
+-- no rows are valid
 pub vif_rows-valid_none : AreValidVifRows []
 unfolding IsDistinct
 vif_rows-valid_none = (tt, tt, tt)
 
--- what all have and one more has
+-- what holds of all and of one more
 all-push : {X : Type 0} (P : X → Type 0) (xs : List X) (y : X) → AllByRecursion P xs → P y
     → AllByRecursion P (xs ++ y ∷ [])
 all-push P [] y all here = (here, tt)
 all-push P (x ∷ xs) y all here = (all.0, all-push P xs y all.1 here)
 
--- and so may rows with one that was read after them
+-- valid rows stay valid with one that was read after them
 pub vif_rows-valid_push : (rows : List (ℕ × VifValue)) (line : LineText) (row : ℕ × VifValue)
     → vif_in_line rows line ≡ Ok row → AreValidVifRows rows → AreValidVifRows (rows ++ row ∷ [])
 vif_rows-valid_push rows line row is valid =

@@ -1,4 +1,4 @@
--- Words and their values.
+-- Words and the values that they denote.
 use Rattle.std.proofs.Common.{◌≡◌, ℕ, ◌<◌, ◌≤◌, Bool, true, false, cond, List, [], ◌∷◌, length}
 use Rattle.std.proofs.Common.{Option, Some, None, refl, sym, ap, ◌∙◌, arith}
 use Rattle.std.specs.Prelude.{IfSome, nat_le}
@@ -11,7 +11,7 @@ use Rattle.std.proofs.lemmas.Str.Parse.{digit_from_value}
 use Rattle.mc_text.specs.Number.{IsDecimal}
 use Rattle.mc_tables.specs.TableWords.{WordDenotesNumber, is_decimal_word, number_in}
 
--- a result that is found and only found where P holds is the answer that has P
+-- a result that is found, and only found, where P holds is the value that has P
 pub option_from_clauses : {A : Type 0} (P : A → Type 0) (r o : Option A) → IfSome r P
     → ((x : A) → P x → r ≡ Some x) → ((x : A) → o ≡ Some x → P x) → ((x : A) → P x → o ≡ Some x)
     → r ≡ o
@@ -47,12 +47,13 @@ all_digits-decimal [] e = tt
 all_digits-decimal (c ∷ cs) e = let p = and_parts (is_ascii_digit c) _ e in
     (digit_value-decimal c p.0, all_digits-decimal cs p.1)
 
--- and digits to that base pass it
+-- digits to the base 10 pass the test
 list_all-decimal_digits : (word : List ℕ) → AllDigits 10 word → list_all is_ascii_digit word ≡ true
 list_all-decimal_digits [] h = refl
-list_all-decimal_digits (c ∷ cs) h = and_from (is_ascii_digit c) _ (is_ascii_digit-decimal c h.0) (list_all-decimal_digits cs h.1)
+list_all-decimal_digits (c ∷ cs) h =
+    and_from (is_ascii_digit c) _ (is_ascii_digit-decimal c h.0) (list_all-decimal_digits cs h.1)
 
--- the number that is read is what the word writes
+-- the number that is read is the one that the word denotes
 pub number_in-denotes : (least most : ℕ) (word : List ℕ) (n : ℕ) → number_in least most word ≡ Some n
     → WordDenotesNumber least most word n
 number_in-denotes least most word n e =
@@ -67,7 +68,7 @@ number_in-denotes least most word n e =
       omega (arith, g.1),
     )
 
--- the number that the word writes is read
+-- the number that the word denotes is read
 pub number_in-from_denotes : (least most : ℕ) (word : List ℕ) (n : ℕ) → WordDenotesNumber least most word n
     → number_in least most word ≡ Some n
 number_in-from_denotes least most word n h =
@@ -79,9 +80,10 @@ number_in-from_denotes least most word n h =
     let high : nat_le (digits_value 10 word) most ≡ true = le-leb _ _ (omega (arith, is, h.2)) in
     rw (d, low, high) (ap Some is)
 
--- a word that writes no number up to the greatest one
+-- a word that denotes no number up to the greatest one is read as none
 pub number_in-none : (least most : ℕ) (word : List ℕ) (decimal : Option ℕ) → decimal ≡ None
     → ((n : ℕ) → IsDecimal word n → n ≤ most → decimal ≡ Some n) → None ≡ number_in least most word
 number_in-none least most word decimal none only =
     option_from_clauses (WordDenotesNumber least most word) None (number_in least most word) tt
-    (λ n h. sym none ∙ only n h.0 h.2) (number_in-denotes least most word) (number_in-from_denotes least most word)
+    (λ n h. sym none ∙ only n h.0 h.2) (number_in-denotes least most word)
+        (number_in-from_denotes least most word)

@@ -1,4 +1,4 @@
--- How a cache keeps its entries: by number, and the number of each source and group that has one.
+-- How a cache stores its entries: by number, with the number of each key that has one.
 use Rattle.std.specs.Prelude.{◌≡◌, ℕ, zero, suc, ◌<◌, true, false, cond, List, [], ◌∷◌, length}
 use Rattle.std.specs.Prelude.{Option, Some, None, IfSome, is_some, get_or, slice_get}
 use Rattle.std.specs.Option.{option_map}
@@ -10,56 +10,57 @@ use Rattle.mc_tables.specs.declared.listed_entry_numbers.Inserted.{Inserted}
 use Rattle.mc_tables.specs.declared.listed_entry_numbers.Inserted.TheVariants.{New, Repeated, Unlisted}
 use Rattle.mc_tables.specs.ListedRows.{ListedSet, set_has_key}
 
--- the entry of a number, with the source and the group that have the number
+-- the key of a number, with the entry that has the number
 abbrev pub numbered_entry : List EntryValue → (ℕ × ℕ) × ℕ → Option ((ℕ × ℕ) × EntryValue)
 numbered_entry entries p = option_map (λ entry. (p.0, entry)) (slice_get entries p.1)
 
--- the entries by source and group
+-- the entries by key
 abbrev pub entries_by_key : List ((ℕ × ℕ) × ℕ) → List EntryValue → List ((ℕ × ℕ) × EntryValue)
 entries_by_key numbers entries = filter_map (numbered_entry entries) numbers
 
--- the number of a source and a group
+-- the number of a key
 abbrev pub number_of_key : List ((ℕ × ℕ) × ℕ) → ℕ × ℕ → Option ℕ
 number_of_key numbers key = lookup (is_at (key_cmp key)) numbers
 
--- each number is of an entry
+-- each number is that of an entry
 abbrev pub AreEntryNumbers : List ((ℕ × ℕ) × ℕ) → List EntryValue → Type 0
 AreEntryNumbers numbers entries =
     (key : ℕ × ℕ) → IfSome (number_of_key numbers key) (λ number. number < length entries)
 
--- ---- numbers of some sources and groups
+-- ---- numbers of some keys
 
--- which sources and groups can have a number, and those that have one
+-- which keys can have a number, and those that have one
 pub record EntryNumbersValue : Type 0 where
   pub listed : ListedSet
   pub numbers : List ((ℕ × ℕ) × ℕ)
 
--- A list says at the place of each key one more than its number, or 0; a key past its end has none.
+-- The numbers that a list has at the places of the keys: each plus one, or 0 for a key that has none.
+-- A key past the list's end has none.
 abbrev pub numbers_at_places : List (ℕ × ℕ) → List ℕ → List ((ℕ × ℕ) × ℕ)
 numbers_at_places (key ∷ keys) (zero ∷ ns) = numbers_at_places keys ns
 numbers_at_places (key ∷ keys) (suc n ∷ ns) = (key, n) ∷ numbers_at_places keys ns
 numbers_at_places _ _ = []
 
--- the number that a place says
+-- the number at such a place
 abbrev pub decoded_number : ℕ → Option ℕ
 decoded_number zero = None
 decoded_number (suc n) = Some n
 
--- the key stands at this place
+-- the key is at this place
 abbrev pub IsPlaceOf : List (ℕ × ℕ) → ℕ × ℕ → ℕ → Type 0
 IsPlaceOf keys key place = (place < length keys) × (get_or keys place key ≡ key)
 
--- those that are listed, with their numbers, or all
+-- the listed keys with their numbers, or numbers of which all keys can have one
 abbrev pub listed_or_all : Option EntryNumbersValue → List ((ℕ × ℕ) × ℕ) → EntryNumbersValue
 listed_or_all (Some keys) all = keys
 listed_or_all None all = record { listed = None; numbers = all }
 
--- numbers with one more
+-- the numbers with that of one more key
 abbrev pub AddsNumber : (key : ℕ × ℕ) (number : ℕ) (numbers more : List ((ℕ × ℕ) × ℕ)) → Type 0
 AddsNumber key number numbers more =
     (q : ℕ × ℕ) → number_of_key more q ≡ cond (is_at (key_cmp key) q) (Some number) (number_of_key numbers q)
 
--- what became of a key that was to get a number
+-- whether a key got a number, or why not
 abbrev pub IsNumberInserted : (key : ℕ × ℕ) (number : ℕ) (old new : EntryNumbersValue) → Inserted → Type 0
 IsNumberInserted key number old new New =
     (set_has_key old.listed key ≡ true) × (number_of_key old.numbers key ≡ None) × (new.listed ≡ old.listed)
@@ -70,8 +71,8 @@ IsNumberInserted key number old new Unlisted = (set_has_key old.listed key ≡ f
 
 -- ---- the rows that are kept
 
--- the table of the rows that are kept, which rows are, and the groups of those for every source, as
--- they stand
+-- the table of the rows that are kept, which keys are kept, and the groups of the rows for every
+-- source, in the order in which they are stored
 pub record KeptRowsValue : Type 0 where
   pub table : CacheValue
   pub listed : ListedSet

@@ -1,4 +1,4 @@
--- Reading a text of /proc/net/ip_mr_cache from its front: its table, or the first fault.
+-- What a text of /proc/net/ip_mr_cache is read as, from its front: its table, or the first fault.
 use Rattle.std.specs.Prelude.{ℕ, ◌==◌, nat_eq, nat_lt, Bool, not, if◌then◌else◌, List, [], ◌∷◌}
 use Rattle.std.specs.Prelude.{length, map, Option, Some, None, Result, Ok, Err, codes}
 use Rattle.std.specs.Option.{ok_or}
@@ -24,7 +24,7 @@ use Rattle.mc_tables.specs.CacheTable.{RowValue, CacheValue, oifs_by_vif, same_k
 
 -- ---- the outgoing words
 
--- the parts of the word round its colons, of which there has to be one
+-- the vif and the threshold of a word's parts around its colons, of which there has to be one
 unfoldable pub oif_in_parts : List (List ℕ) → Result (ℕ × ℕ) TableFaultKind
 oif_in_parts (vif ∷ threshold ∷ []) = do
   v ← ok_or (number_in 0 31 vif) BadOif
@@ -32,6 +32,7 @@ oif_in_parts (vif ∷ threshold ∷ []) = do
   Ok (v, t)
 oif_in_parts parts = Err BadOif
 
+-- the vif and the threshold of a word
 abbrev pub oif_in : List ℕ → Result (ℕ × ℕ) TableFaultKind
 oif_in word = oif_in_parts (slice_split (λ b. b == 58) word)
 
@@ -39,34 +40,36 @@ oif_in word = oif_in_parts (slice_split (λ b. b == 58) word)
 abbrev pub oif_repeats : List (ℕ × ℕ) → ℕ × ℕ → Bool
 oif_repeats earlier oif = list_any (nat_eq oif.0) (map (λ other. other.0) earlier)
 
--- the outgoing vif of a word after the earlier ones
+-- the outgoing vif of a word that comes after the earlier ones
 abbrev pub oif_after : List (ℕ × ℕ) → List ℕ → Result (ℕ × ℕ) TableFaultKind
 oif_after earlier word = do
   oif ← oif_in word
   _ ← demand (not (oif_repeats earlier oif)) RepeatedOif
   Ok oif
 
--- the outgoing vifs, which are read in the order of the words, by ascending vif
+-- the outgoing vifs of the words, by ascending vif
 abbrev pub oifs_in : List (List ℕ) → Result (List Oif) TableFaultKind
 oifs_in words = rows_after oif_after [] words >>= λ denoted. Ok (oifs_by_vif (from_entries denoted))
 
 -- ---- a line
 
--- the incoming vif, or none
+-- the incoming vif, if there is a number
 abbrev pub incoming_number : Option ℕ → Result (Option ℕ) TableFaultKind
 incoming_number None = Err BadIif
 incoming_number (Some iif) = Ok (Some iif)
 
+-- the incoming vif of a word, or none for `-1`
 abbrev pub incoming_in : List ℕ → Result (Option ℕ) TableFaultKind
 incoming_in word =
     if bytes_eq word (codes "-1") then Ok None else incoming_number (number_in 0 31 word)
 
+-- the entry of an incoming vif and the words of the outgoing ones, or none in an unresolved row
 abbrev pub entry_in : Option ℕ → List (List ℕ) → Result (Option EntryValue) TableFaultKind
 entry_in None [] = Ok None
 entry_in None (word ∷ words) = Err BadOif
 entry_in (Some iif) words = oifs_in words >>= λ oifs. Ok (Some (record { iif = iif; oifs = oifs }))
 
--- the words from the left
+-- the row that the words are read as, from the left
 unfoldable pub row_in_words : Order → List (List ℕ) → Result RowValue TableFaultKind
 row_in_words order (group ∷ origin ∷ iif ∷ packets ∷ bytes ∷ wrong_if ∷ outgoing) = do
   g ← ok_or (address_in order group) BadAddress
@@ -83,6 +86,7 @@ row_in_words order words = Err WordCount
 abbrev pub entry_repeats : List RowValue → RowValue → Bool
 entry_repeats earlier row = is_among same_key (key_of row) (filter_map key_of earlier)
 
+-- the row of a line that comes after the earlier ones
 unfoldable pub row_in_line : Order → List RowValue → LineText → Result RowValue TableFaultKind
 row_in_line order earlier line = do
   _ ← demand line.ended Unended
@@ -91,6 +95,7 @@ row_in_line order earlier line = do
   _ ← demand (not (entry_repeats earlier row)) RepeatedEntry
   Ok row
 
+-- the same, whose fault has the line's number
 abbrev pub row_at_line : Order → List RowValue → LineText → Result RowValue TableFault
 row_at_line order earlier line = at_line line.number (row_in_line order earlier line)
 
@@ -100,5 +105,6 @@ row_at_line order earlier line = at_line line.number (row_in_line order earlier 
 abbrev pub cache_rows_in : Order → List ℕ → Result (List RowValue) TableFault
 cache_rows_in order text = lines_in (codes "Group") text >>= rows_after (row_at_line order) []
 
+-- the table of the text
 abbrev pub cache_in : Order → List ℕ → Result CacheValue TableFault
 cache_in order text = cache_rows_in order text >>= λ rows. Ok (table_of rows)

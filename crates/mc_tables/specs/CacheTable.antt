@@ -1,4 +1,4 @@
--- What a text of /proc/net/ip_mr_cache says (ipmr_mfc_seq_show in net/ipv4/ipmr.c, which writes a
+-- What a text of /proc/net/ip_mr_cache denotes (ipmr_mfc_seq_show in net/ipv4/ipmr.c, which prints a
 -- line by "%08X %08X %-3hd", " %8lu %8lu %8lu" and for each outgoing vif " %2d:%-3d").
 use Rattle.std.specs.Prelude.{◌≡◌, ℕ, ◌≤◌, ◌==◌, nat_eq, Bool, IsTrue, List, [], ◌∷◌, ◌++◌, length}
 use Rattle.std.specs.Prelude.{map as map_list, Option, Some, None, if◌then◌else◌, IfSome, codes}
@@ -19,7 +19,7 @@ use Rattle.mc_tables.specs.TableLines.{HasHeader, EachDenotes}
 
 -- ---- the lines
 
--- `n:t` writes an outgoing vif and its threshold
+-- a word `n:t` denotes an outgoing vif and its threshold
 pub record WordDenotesOif (word : List ℕ) (oif : ℕ × ℕ) : Type 0 where
   pub vif : List ℕ
   pub threshold : List ℕ
@@ -27,14 +27,15 @@ pub record WordDenotesOif (word : List ℕ) (oif : ℕ × ℕ) : Type 0 where
   pub vif_number : WordDenotesNumber 0 31 vif oif.0
   pub threshold_number : WordDenotesNumber 1 254 threshold oif.1
 
--- a map from vifs to thresholds, as the list of outgoing vifs by ascending vif
+-- a pair of a vif and a threshold, as an outgoing vif
 abbrev pub to_oif : ℕ × ℕ → Oif
 to_oif o = record { vif = o.0; threshold = o.1 }
 
+-- a map from vifs to thresholds, as the list of outgoing vifs by ascending vif
 abbrev pub oifs_by_vif : map.FinMap nat_cmp ℕ → List Oif
 oifs_by_vif thresholds = map_list to_oif (map.entries thresholds)
 
--- words that write outgoing vifs, each vif once
+-- words denote outgoing vifs, each vif once, which are listed by ascending vif
 pub record WordsDenoteOifs (words : List (List ℕ)) (oifs : List Oif) : Type 0 where
   pub denoted : List (ℕ × ℕ)
   pub each : EachDenotes WordDenotesOif words denoted
@@ -46,20 +47,21 @@ pub record EntryValue : Type 0 where
   pub iif : ℕ
   pub oifs : List Oif
 
--- the word of an incoming vif and the outgoing words: `-1` alone in an unresolved row
+-- the word of the incoming vif and those of the outgoing ones denote an entry; `-1` and no outgoing
+-- word denote none
 abbrev pub WordsDenoteEntry : List ℕ → List (List ℕ) → Option EntryValue → Type 0
 WordsDenoteEntry iif outgoing None = (iif ≡ codes "-1") × (outgoing ≡ [])
 WordsDenoteEntry iif outgoing (Some entry) =
     WordDenotesNumber 0 31 iif entry.iif × WordsDenoteOifs outgoing entry.oifs
 
--- a row: a group, an origin, which is 0 in a row for every source, and an entry unless the row is
+-- a row: a group, an origin, which is 0 in a row for every source, and an entry, unless the row is
 -- unresolved
 pub record RowValue : Type 0 where
   pub group : ℕ
   pub origin : ℕ
   pub entry : Option EntryValue
 
--- Words tell a row: group, origin, incoming vif, packets, bytes, packets from a wrong vif, and the
+-- Words denote a row: group, origin, incoming vif, packets, bytes, packets from a wrong vif, and the
 -- outgoing vifs.
 abbrev pub WordsDenoteRow : Order → List (List ℕ) → RowValue → Type 0
 WordsDenoteRow order (group ∷ origin ∷ iif ∷ packets ∷ bytes ∷ wrong_if ∷ outgoing) row =
@@ -68,26 +70,27 @@ WordsDenoteRow order (group ∷ origin ∷ iif ∷ packets ∷ bytes ∷ wrong_i
     × WordsDenoteEntry iif outgoing row.entry
 WordsDenoteRow order words row = ⊥
 
--- a line that a line feed ends
+-- a line denotes a row by its words, and has a line feed
 pub record LineDenotesRow (order : Order) (line : LineText) (row : RowValue) : Type 0 where
   pub ended : IsTrue line.ended
   pub words : WordsDenoteRow order (words_of line.bytes) row
 
 -- ---- the rows
 
--- sources and groups, by source and then by group
+-- a key is a source and a group; keys are ordered by source and then by group
 abbrev pub key_cmp : ℕ × ℕ → ℕ × ℕ → Ordering
 key_cmp x y = ordering_then (nat_cmp x.0 y.0) (nat_cmp x.1 y.1)
 
 abbrev pub same_key : ℕ × ℕ → ℕ × ℕ → Bool
 same_key = eq_by_cmp key_cmp
 
--- the source, the group and the entry of a resolved row whose source isn't 0.0.0.0
+-- the key and the entry of a resolved row whose source isn't 0.0.0.0
 abbrev pub exact_entry : RowValue → Option ((ℕ × ℕ) × EntryValue)
 exact_entry row =
     if row.origin == 0 then None
     else option_map (λ entry. ((row.origin, row.group), entry)) row.entry
 
+-- the key of such a row
 abbrev pub key_of : RowValue → Option (ℕ × ℕ)
 key_of row = option_map (λ exact. exact.0) (exact_entry row)
 
@@ -95,7 +98,7 @@ key_of row = option_map (λ exact. exact.0) (exact_entry row)
 abbrev pub wildcard_group : RowValue → Option ℕ
 wildcard_group row = if row.origin == 0 then option_map (λ _. row.group) row.entry else None
 
--- a text of these rows, in the order of its lines
+-- a text denotes these rows, in the order of its lines
 pub record DenotesCacheRows (order : Order) (text : List ℕ) (rows : List RowValue) : Type 0 where
   pub lines : List LineText
   pub header : HasHeader (codes "Group") text lines
@@ -105,13 +108,14 @@ pub record DenotesCacheRows (order : Order) (text : List ℕ) (rows : List RowVa
 
 -- ---- the table
 
--- the entries by source and group, the same entries in the order of their lines, so that each has a
--- number, and the groups of the rows for every source
+-- the entries by source and group, the same entries numbered in the order of their lines, and the
+-- groups of the resolved rows for every source
 pub record CacheValue : Type 0 where
   pub entries : map.FinMap key_cmp EntryValue
   pub numbered : List EntryValue
   pub wildcards : set.FinSet nat_cmp
 
+-- the table of some rows
 abbrev pub table_of : List RowValue → CacheValue
 table_of rows = record {
   entries = map.from_entries (filter_map exact_entry rows);
@@ -119,21 +123,21 @@ table_of rows = record {
   wildcards = set.from_list (filter_map wildcard_group rows);
 }
 
--- What each entry of a table is: vifs from 0 to 31, of which the outgoing ones ascend, so that none
--- stands twice, and thresholds from 1 to 254.
+-- The rules of an entry: vifs are 0 to 31, the outgoing ones ascend, so that each is there once, and
+-- thresholds are 1 to 254.
 pub record IsValidEntry (entry : EntryValue) : Type 0 where
   pub incoming : entry.iif ≤ 31
   pub ascending : IsStrictlyIncreasing (map_list (λ oif. oif.vif) entry.oifs)
   pub ranges : AllByRecursion
       (λ oif. (oif.vif ≤ 31) × (1 ≤ oif.threshold) × (oif.threshold ≤ 254)) entry.oifs
 
--- What every table keeps, whatever text it was read from: each entry stands as above, and none is
--- for the source 0.0.0.0.
+-- The rules of every table, whatever text it was read from: each entry is valid, and none is for the
+-- source 0.0.0.0.
 pub record IsValidCache (table : CacheValue) : Type 0 where
   pub entries : (key : ℕ × ℕ) → IfSome (map.get table.entries key) IsValidEntry
   pub sources : (group : ℕ) → map.get table.entries (0, group) ≡ None
 
--- a text stands for a table
+-- a text denotes a table
 pub record DenotesCache (order : Order) (text : List ℕ) (table : CacheValue) : Type 0 where
   pub rows : List RowValue
   pub lines : DenotesCacheRows order text rows

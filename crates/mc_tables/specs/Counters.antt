@@ -1,4 +1,4 @@
--- The counters of a row, which are read past: of them nothing is kept.
+-- The counters of a row, of which nothing is kept.
 use Rattle.std.specs.Prelude.{◌≡◌, ℕ, ◌+◌, ◌<◌, ◌==◌, min, Bool, true, List, ◌∷◌, length, slice_index}
 use Rattle.std.specs.Int.{bit_at}
 use Rattle.std.specs.Char.{is_ascii_digit}
@@ -6,7 +6,7 @@ use Rattle.mc_text.specs.Lines.{words_of}
 use Rattle.mc_tables.specs.TableWords.{is_counter}
 use Rattle.mc_tables.specs.declared.marked_line.MarkedLine.{MarkedLine}
 
--- a line's first three words are counters, and the others are those of what stands behind them
+-- a line's first three words are counters, and its other words are those of what follows them
 pub record HasCounters (line after : List ℕ) : Type 0 where
   pub packets : List ℕ
   pub bytes : List ℕ
@@ -16,7 +16,7 @@ pub record HasCounters (line after : List ℕ) : Type 0 where
   pub bytes_count : is_counter bytes ≡ true
   pub wrong_if_count : is_counter wrong_if ≡ true
 
--- where a bit is set, a byte stands at its place, and passes
+-- where a bit is set, there is a byte at its place, and it passes
 abbrev pub AreMarks : (ℕ → Bool) → List ℕ → ℕ → Type 0
 AreMarks passes bytes marks =
     (k : ℕ) → bit_at marks k ≡ 1 → (k < length bytes) × (passes (slice_index bytes k) ≡ true)
@@ -26,7 +26,7 @@ pub record IsMarked (line : MarkedLine) : Type 0 where
   pub digits : AreMarks is_ascii_digit line.bytes.now line.digits
   pub spaces : AreMarks (λ b. b == 32) line.bytes.now line.spaces
 
--- the bits of digits that have a space behind them
+-- the set bits are the digits that have a space after them
 abbrev pub AreLastDigits : ℕ → ℕ → ℕ → Type 0
 AreLastDigits digits spaces ends =
     (k : ℕ) → bit_at ends k ≡ min (bit_at digits k) (bit_at spaces (k + 1))

@@ -1,10 +1,10 @@
--- Numbers that are told apart by the slots that they are put in.
+-- Numbers that are shown to differ by the slots that they are put in.
 use Rattle.std.specs.Prelude.{◌≡◌, ◌≢◌, ℕ, ◌*◌, ◌<◌, ◌/◌, ◌%◌, ◌^◌, ◌⊎◌, List, ◌∷◌, [], ◌++◌}
 use Rattle.std.specs.Prelude.{length, slice_index, slice_set}
 use Rattle.std.specs.List.{IsDistinct}
 use Rattle.std.specs.Ordering.{nat_cmp, eq_by_cmp}
 
--- no two of them are one
+-- no two of the numbers are equal
 abbrev pub AreDistinct : List ℕ → Type 0
 AreDistinct numbers = IsDistinct (eq_by_cmp nat_cmp) numbers
 
@@ -13,10 +13,11 @@ abbrev pub slot_of : ℕ → ℕ → ℕ
 slot_of slots number =
     number * 11400714819323198485 % 18446744073709551616 / 2 ^ 32 * slots / 2 ^ 32
 
+-- what is in the slot of a number
 abbrev pub number_in_slot : List ℕ → ℕ → ℕ
 number_in_slot slots number = slice_index slots (slot_of (length slots) number)
 
--- the number took its slot, which was empty
+-- the number takes its slot, which was empty
 pub record TakesSlot (slots others : List ℕ) (number : ℕ) (slots' others' : List ℕ) : Type 0 where
   pub within : slot_of (length slots) number < length slots
   pub empty : number_in_slot slots number ≡ 0
@@ -24,7 +25,7 @@ pub record TakesSlot (slots others : List ℕ) (number : ℕ) (slots' others' : 
   pub put : slots' ≡ slice_set slots (slot_of (length slots) number) number
   pub same : others' ≡ others
 
--- it stands with the others, since another number has its slot
+-- the number goes to the others, since another one has its slot
 pub record GoesToOthers (slots others : List ℕ) (number : ℕ) (slots' others' : List ℕ)
     : Type 0 where
   pub full : number_in_slot slots number ≢ 0
@@ -32,6 +33,7 @@ pub record GoesToOthers (slots others : List ℕ) (number : ℕ) (slots' others'
   pub same : slots' ≡ slots
   pub put : others' ≡ others ++ number ∷ []
 
+-- the number was put into its slot or to the others
 abbrev pub IsPut : List ℕ → List ℕ → ℕ → List ℕ → List ℕ → Type 0
 IsPut slots others number slots' others' =
     TakesSlot slots others number slots' others' ⊎ GoesToOthers slots others number slots' others'

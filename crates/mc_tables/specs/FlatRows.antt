@@ -1,5 +1,5 @@
--- Outgoing vifs that stand apart: those of one row while it is read, and lists of them, each with a
--- head, one after another.
+-- Outgoing vifs apart from their rows: those of one row while it is read, and all lists of them in
+-- one, each with a head.
 use Rattle.std.specs.Prelude.{ℕ, ◌+◌, ◌*◌, ◌<◌, ◌≤◌, List, length, map, take, drop, Option}
 use Rattle.std.specs.Option.{option_map}
 use Rattle.std.specs.List.{AllByRecursion}
@@ -10,7 +10,7 @@ use Rattle.mc_tables.specs.CacheTable.{EntryValue, RowValue}
 
 -- ---- one row
 
--- the entry of an incoming vif, if there is one, and outgoing ones
+-- the entry of an incoming vif and the outgoing ones, if there is an incoming vif
 abbrev pub entry_with : Option ℕ → List Oif → Option EntryValue
 entry_with iif oifs = option_map (λ i. record { iif = i; oifs = oifs }) iif
 
@@ -27,7 +27,7 @@ pub record FlatListsValue (H : Type 0) : Type 0 where
   pub lists_left : ℕ
   pub oifs_left : ℕ
 
--- there is room for one list more, of so many outgoing vifs
+-- there is room for one more list, of so many outgoing vifs
 abbrev pub HasRoom : {H : Type 0} → FlatListsValue H → ℕ → Type 0
 HasRoom s oifs = (0 < s.lists_left) × (oifs ≤ s.oifs_left)
 
@@ -35,17 +35,19 @@ HasRoom s oifs = (0 < s.lists_left) × (oifs ≤ s.oifs_left)
 abbrev pub list_of : {H : Type 0} → List Oif → FlatList H → H × List Oif
 list_of oifs l = (l.head, take l.count (drop l.start oifs))
 
+-- the heads and the outgoing vifs of all lists
 abbrev pub lists_of : {H : Type 0} → List (FlatList H) → List Oif → List (H × List Oif)
 lists_of ls oifs = map (list_of oifs) ls
 
--- each list's outgoing vifs are among those of all, and no list has more than 32
+-- each list's outgoing vifs are among those of all, which are at most 32 for each list
 pub record AreFlatLists {H : Type 0} (ls : List (FlatList H)) (oifs : List Oif) : Type 0 where
   pub within : AllByRecursion (λ l. l.start + l.count ≤ length oifs) ls
-  pub few : length oifs ≤ 32 * length ls
+  pub bounded : length oifs ≤ 32 * length ls
 
--- the entries of lists of which the heads are the incoming vifs
+-- the entry of a list whose head is the incoming vif
 abbrev pub entry_of : ℕ × List Oif → EntryValue
 entry_of list = record { iif = list.0; oifs = list.1 }
 
+-- the entries of such lists
 abbrev pub entries_of : List (ℕ × List Oif) → List EntryValue
 entries_of lists = map entry_of lists

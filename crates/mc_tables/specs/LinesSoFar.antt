@@ -1,6 +1,7 @@
 -- A text that comes in pieces: how far its lines have come.
-use Rattle.std.specs.Prelude.{◌≡◌, ℕ, ◌+◌, ◌≤◌, ◌==◌, true, false, List, [], ◌∷◌, ◌++◌, length, Result, Ok, Err}
-use Rattle.std.specs.Prelude.{not, if◌then◌else◌}
+use Rattle.std.specs.Prelude.{◌≡◌, ℕ, ◌+◌, ◌≤◌, ◌==◌, true, false, List, [], ◌∷◌, ◌++◌, length}
+use Rattle.std.specs.Prelude.{Option, Some, MatchOption, Result, Ok, Err, position, take, not}
+use Rattle.std.specs.Prelude.{if◌then◌else◌}
 use Rattle.std.specs.List.{AllByRecursion}
 use Rattle.mc_text.specs.Lines.{LineText, lines_from, max_text}
 use Rattle.mc_text.specs.Lines.{words_of}
@@ -11,70 +12,77 @@ use Rattle.mc_text.specs.Steps.{◌>>=◌}
 use Rattle.mc_tables.specs.Steps.{demand, at_line}
 use Rattle.mc_tables.specs.TableLines.{begins_with, lines_after_header}
 
--- how many lines have ended, how many bytes have come, and those after the last line feed
+-- how many lines have ended, how many bytes have come, and the bytes after the last line feed
 pub record LinesSoFar : Type 0 where
   pub ended : ℕ
   pub size : ℕ
   pub begun : List ℕ
 
--- nothing has come
+-- before the first byte
 abbrev pub lines_start : LinesSoFar
 lines_start = record { ended = 0; size = 0; begun = [] }
 
--- no line feed stands there
+-- none of the bytes is a line feed
 abbrev pub HasNoLineFeed : List ℕ → Type 0
 HasNoLineFeed bytes = AllByRecursion (λ b. (b == 10) ≡ false) bytes
 
--- what has come is within the limit, and no line feed stands in the line that has begun
+-- what has come is within the limit, and the line that has begun has no line feed
 pub record IsValidLinesSoFar (lines : LinesSoFar) : Type 0 where
   pub within : lines.size ≤ max_text
   pub numbers : lines.ended + length lines.begun ≤ lines.size
   pub begun : HasNoLineFeed lines.begun
 
--- so many bytes more, of which these stand after the last line feed
+-- so many more bytes, of which these belong to the line that has begun
 abbrev pub with_begun : LinesSoFar → ℕ → List ℕ → LinesSoFar
 with_begun lines size bytes =
     record { ended = lines.ended; size = lines.size + size; begun = lines.begun ++ bytes }
 
--- the line that has begun ends here
+-- The bytes up to the first line feed were taken, whose place this is, or all where there is none.
+abbrev pub TakesToLineFeed : (old : LinesSoFar) (bytes : List ℕ) (new : LinesSoFar) → Option ℕ → Type 0
+TakesToLineFeed old bytes new place =
+    MatchOption place (HasNoLineFeed bytes × (new ≡ with_begun old (length bytes) bytes))
+    (λ end. (position (λ b. b == 10) bytes ≡ Some end)
+    × (new ≡ with_begun old (end + 1) (take end bytes)))
+
+-- the line that has begun has ended
 abbrev pub with_ended : LinesSoFar → LinesSoFar
 with_ended lines = record { ended = lines.ended + 1; size = lines.size; begun = [] }
 
--- the line that has begun, where a line feed comes next
+-- the line that has begun, ended by a line feed
 abbrev pub line_begun : LinesSoFar → LineText
 line_begun lines = record { number = lines.ended + 1; bytes = lines.begun; ended = true }
 
--- a text that ends here: each line has ended, and there is one
+-- the text may end here: each line has ended, and there is a header
 abbrev pub check_end_of_lines : LinesSoFar → Result (Unit {0}) TableFault
 check_end_of_lines lines =
     if not (length lines.begun == 0)
     then Err (record { line = lines.ended + 1; kind = Unended })
     else (if lines.ended == 0 then Err (record { line = 1; kind = NoHeader }) else Ok tt)
 
--- the lines still to be read if these bytes come
+-- the lines still to be read if these bytes follow
 abbrev pub lines_to_come : LinesSoFar → List ℕ → List LineText
 lines_to_come lines more = lines_from (lines.ended + 1) (lines.begun ++ more)
 
--- What reading the lines to come gives, of which the first is the header where none has ended. The
--- others are read by a function.
+-- What reading the rest gives if these bytes follow: `read` reads the lines after the header, which
+-- is the first line if none has ended.
 abbrev pub read_after : {A : Type 0} → List ℕ → (List LineText → Result A TableFault) → LinesSoFar
     → List ℕ → Result A TableFault
 read_after first read lines more =
     if lines.ended == 0 then (lines_after_header first (lines_to_come lines more) >>= read)
     else read (lines_to_come lines more)
 
--- a header is a line that ends and has this word first
+-- a header is a line that ends and whose first word is this one
 abbrev pub header_line : List ℕ → LineText → Result (Unit {0}) TableFaultKind
 header_line first line =
     demand line.ended Unended >>= λ _. demand (begins_with first (words_of line.bytes)) NoHeader
 
--- a line is a header where none has ended, and is read by a function otherwise
+-- the state after one more line, which is the header if none has ended, or else is read by `step`
 abbrev pub line_after : {S : Type 0} → List ℕ → (LineText → Result S TableFault) → S → ℕ
     → LineText → Result S TableFault
 line_after first step state ended line =
     if ended == 0 then (at_line 1 (header_line first line) >>= λ _. Ok state) else step line
 
--- A function reads the lines after the header from a state on, and another one line after a state.
+-- Reading all lines from a state on is reading one line by `step`, and then the others.
 pub record ReadsInSteps {S A : Type 0} (read : S → List LineText → Result A TableFault)
     (step : S → LineText → Result S TableFault) : Type 0 where
   pub line : (state : S) (line : LineText) (lines : List LineText)

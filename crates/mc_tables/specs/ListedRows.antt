@@ -1,4 +1,4 @@
--- A cache of which the rows of listed sources and groups are kept.
+-- A cache of which only the rows of listed sources and groups are kept.
 use Rattle.std.specs.Prelude.{◌≡◌, ℕ, ◌==◌, ◌&&◌, Bool, true, false, List, Option, Some, None, Result}
 use Rattle.std.specs.Prelude.{Ok, filter}
 use Rattle.std.specs.List.{list_any}
@@ -11,16 +11,16 @@ use Rattle.mc_text.specs.Steps.{◌>>=◌}
 use Rattle.mc_tables.specs.CacheTable.{RowValue, CacheValue, key_cmp, key_of, table_of}
 use Rattle.mc_tables.specs.CacheReading.{cache_rows_in}
 
--- the sources and groups that are listed, or all
+-- the keys that are listed, or all
 abbrev pub Listed : Type 0
 Listed = Option (List (ℕ × ℕ))
 
+-- the key is listed
 abbrev pub is_listed : Listed → ℕ × ℕ → Bool
 is_listed None key = true
 is_listed (Some keys) key = list_any (λ k. (k.0 == key.0) && (k.1 == key.1)) keys
 
--- whether a row is kept whole: all but the resolved ones of a source and a group that are not
--- listed
+-- the row is kept: all are but the resolved ones of a key that isn't listed
 abbrev pub is_kept_key : Listed → Option (ℕ × ℕ) → Bool
 is_kept_key listed None = true
 is_kept_key listed (Some key) = is_listed listed key
@@ -28,17 +28,18 @@ is_kept_key listed (Some key) = is_listed listed key
 abbrev pub is_kept : Listed → RowValue → Bool
 is_kept listed row = is_kept_key listed (key_of row)
 
+-- the rows that are kept
 abbrev pub kept_rows : Listed → List RowValue → List RowValue
 kept_rows listed rows = filter (is_kept listed) rows
 
--- the table of the rows that are kept
+-- the table of the rows of a text that are kept, or the first fault of the whole text
 abbrev pub listed_in : Order → Listed → List ℕ → Result CacheValue TableFault
 listed_in order listed text =
     cache_rows_in order text >>= λ rows. Ok (table_of (kept_rows listed rows))
 
 -- ---- listed as a set
 
--- those that are listed as a set, whatever their order in the list, or all
+-- the set of the keys that are listed, or all
 abbrev pub ListedSet : Type 0
 ListedSet = Option (set.FinSet key_cmp)
 
@@ -46,17 +47,17 @@ ListedSet = Option (set.FinSet key_cmp)
 abbrev pub key_set_code : Coded (set.FinSet key_cmp)
 key_set_code = set.code (coded× coded_ℕ coded_ℕ)
 
--- the set of a list
+-- the set of the listed keys
 abbrev pub listed_set : Listed → ListedSet
 listed_set None = None
 listed_set (Some keys) = Some (set.from_list keys)
 
--- the set has a source and a group
+-- the key is in the set
 abbrev pub set_has_key : ListedSet → ℕ × ℕ → Bool
 set_has_key None key = true
 set_has_key (Some keys) key = set.contains keys key
 
--- whether a row is kept whole, by the set
+-- the row is kept, by the set
 abbrev pub is_key_kept_by_set : ListedSet → Option (ℕ × ℕ) → Bool
 is_key_kept_by_set listed None = true
 is_key_kept_by_set listed (Some key) = set_has_key listed key
@@ -66,8 +67,8 @@ is_kept_by_set listed row = is_key_kept_by_set listed (key_of row)
 
 -- ---- the listed part
 
--- A table has of another one the entries of the listed sources and groups and no other entry, and
--- all groups of rows for every source.
+-- A table has exactly those entries of the whole one whose keys are listed, and all its groups of rows
+-- for every source.
 pub record IsListedPart (listed : Listed) (part whole : CacheValue) : Type 0 where
   pub entries : (key : ℕ × ℕ) → is_listed listed key ≡ true
       → map.get part.entries key ≡ map.get whole.entries key

@@ -1,4 +1,4 @@
--- Outgoing vifs that are kept by ascending vif while their words are read.
+-- Outgoing vifs that are kept in ascending order while their words are read.
 use Rattle.std.specs.Prelude.{ℕ, ◌==◌, nat_lt, Bool, not, List, [], ◌∷◌, insert, Result, Ok, Err}
 use Rattle.std.specs.Option.{ok_or}
 use Rattle.std.specs.List.{list_any, position_or_len}
@@ -17,29 +17,30 @@ abbrev pub threshold_in : List (List ℕ) → Result ℕ TableFaultKind
 threshold_in (threshold ∷ []) = ok_or (number_in 1 254 threshold) BadThreshold
 threshold_in parts = Err BadOif
 
--- the outgoing vif of the part before the first colon and of those after it
-abbrev pub oif_in_turn : List ℕ → List (List ℕ) → Result (ℕ × ℕ) TableFaultKind
-oif_in_turn vif after = do
+-- the vif of the part before the first colon, and then the threshold of the parts after it
+abbrev pub oif_at_colon : List ℕ → List (List ℕ) → Result (ℕ × ℕ) TableFaultKind
+oif_at_colon vif after = do
   v ← ok_or (number_in 0 31 vif) BadOif
   t ← threshold_in after
   Ok (v, t)
 
--- one of them is this one
+-- one of the outgoing vifs is this one
 abbrev pub has_vif : List Oif → ℕ → Bool
 has_vif oifs vif = list_any (λ other. other.vif == vif) oifs
 
--- one more at its place by vif
+-- the outgoing vifs with one more at its place
 abbrev pub insert_oif : List Oif → ℕ × ℕ → List Oif
 insert_oif oifs oif =
     insert oifs (position_or_len (λ other. nat_lt oif.0 other.vif) oifs) (to_oif oif)
 
--- that of the word more
+-- the outgoing vifs with that of one more word
 abbrev pub oifs_with_word : List Oif → List ℕ → Result (List Oif) TableFaultKind
 oifs_with_word oifs word = do
   oif ← oif_in word
   _ ← demand (not (has_vif oifs oif.0)) RepeatedOif
   Ok (insert_oif oifs oif)
 
+-- the outgoing vifs with those of more words
 abbrev pub oifs_after_words : List Oif → List (List ℕ) → Result (List Oif) TableFaultKind
 oifs_after_words oifs [] = Ok oifs
 oifs_after_words oifs (word ∷ words) = oifs_with_word oifs word >>= λ more. oifs_after_words more words

@@ -1,4 +1,4 @@
--- A cache whose text comes in pieces, of which the rows of listed sources and groups are kept.
+-- Reading a cache whose text comes in pieces, of which the rows of listed sources and groups are kept.
 use Rattle.std.specs.Prelude.{ℕ, ◌+◌, ◌==◌, List, [], ◌∷◌, ◌++◌, Option, None}
 use Rattle.std.specs.Prelude.{Result, Ok, Err, if◌then◌else◌, codes, refl}
 use Rattle.std.specs.Coded.{Coded, code_by, coded×, coded_list, coded_ℕ}
@@ -10,19 +10,24 @@ use Rattle.mc_text.specs.Steps.{◌>>=◌}
 use Rattle.mc_tables.specs.Steps.{at_line, unless_fault}
 use Rattle.mc_tables.specs.LinesSoFar.{LinesSoFar, lines_start, check_end_of_lines, read_after}
 use Rattle.mc_tables.specs.CacheTable.{RowValue, CacheValue, cache_code, table_of}
+use Rattle.mc_tables.specs.CacheNumbers.{KeptRowsValue}
 use Rattle.mc_tables.specs.ListedRows.{Listed, ListedSet, listed_set, is_kept_by_set}
 use Rattle.mc_tables.specs.UnlistedRows.{UnlistedRow, without_repeat}
 use Rattle.mc_tables.specs.CacheSteps.{row_with_room, row_added}
 
 -- ---- row by row
 
--- the table of the rows that are kept, the others, and how many rows there are in all
+-- the table of the rows that are kept, the keys and lines of the others, and how many rows there are
 pub record RowsSoFar : Type 0 where
   pub table : CacheValue
   pub others : List UnlistedRow
   pub count : ℕ
 
--- they are stored as their fields
+-- the rows so far of their parts
+abbrev pub rows_of_parts : KeptRowsValue → List UnlistedRow → ℕ → RowsSoFar
+rows_of_parts kept others count = record { table = kept.table; others = others; count = count }
+
+-- the rows so far are stored as their fields
 abbrev pub rows_code : Coded RowsSoFar
 rows_code =
     code_by (CacheValue × (List UnlistedRow × ℕ))
@@ -30,7 +35,7 @@ rows_code =
     (λ r. (r.table, (r.others, r.count)))
     (λ p. record { table = p.0; others = p.1.0; count = p.1.1 }) (λ _. refl)
 
--- a row more, of a source and a group that are not listed, which may be those of an earlier one
+-- the rows with one more that isn't kept; its key may be that of an earlier one
 abbrev pub unlisted_added : RowsSoFar → ℕ × ℕ → ℕ → RowsSoFar
 unlisted_added rows key line = record {
   table = rows.table;
@@ -38,13 +43,13 @@ unlisted_added rows key line = record {
   count = rows.count + 1;
 }
 
--- a row more that is kept
+-- the rows with one more that is kept
 abbrev pub kept_added : RowsSoFar → RowValue → Result RowsSoFar TableFaultKind
 kept_added rows row =
     row_added rows.table row >>= λ table.
     Ok (record { table = table; others = rows.others; count = rows.count + 1 })
 
--- the row of a line more
+-- the rows with one more of a line, kept or not
 abbrev pub any_row_added : ListedSet → RowsSoFar → RowValue → ℕ → Result RowsSoFar TableFaultKind
 any_row_added listed rows row line =
     if is_kept_by_set listed row then kept_added rows row
@@ -52,14 +57,13 @@ any_row_added listed rows row line =
 
 -- ---- line by line
 
--- the rows so far of a router whose addresses are written in this order, where these sources and
--- groups are listed
+-- the rows so far of a router whose addresses are printed in this order, where these keys are listed
 pub record ListedRowsSoFar : Type 0 where
   pub order : Order
   pub listed : ListedSet
   pub rows : RowsSoFar
 
--- no rows have come
+-- before the first row
 abbrev pub rows_start : Order → ListedSet → ListedRowsSoFar
 rows_start order listed = record {
   order = order;
@@ -67,33 +71,34 @@ rows_start order listed = record {
   rows = record { table = table_of []; others = []; count = 0 };
 }
 
--- the row of a line more
+-- the rows with one more of a line
 abbrev pub row_added_so_far : ListedRowsSoFar → RowValue → ℕ → Result ListedRowsSoFar TableFaultKind
 row_added_so_far so_far row line =
     any_row_added so_far.listed so_far.rows row line >>= λ rows.
     Ok (record { order = so_far.order; listed = so_far.listed; rows = rows })
 
--- the row of a line more, which is read first
+-- the rows with that of one more line
 abbrev pub line_added : ListedRowsSoFar → LineText → Result ListedRowsSoFar TableFaultKind
 line_added so_far line =
     row_with_room so_far.order so_far.rows.count line >>= λ row.
     row_added_so_far so_far row line.number
 
--- a fault counts where no row before it repeats another, and else that of the first that does
+-- a fault counts if no earlier row repeats another, or else that of the first row that does
 abbrev pub first_fault : {A : Type 0} → List UnlistedRow → Result A TableFault → Result A TableFault
 first_fault others (Ok x) = Ok x
 first_fault others (Err fault) = without_repeat others >>= λ _. Err fault
 
--- the first fault, where a line has one of this kind
+-- the first of two faults, of which the first may be absent
 abbrev pub first_of_faults : Result (Unit {0}) TableFault → TableFault → TableFault
 first_of_faults (Ok u) fault = fault
 first_of_faults (Err first) fault = first
 
+-- the first fault of a text whose line has one of this kind
 abbrev pub refusal_at : List UnlistedRow → ℕ → TableFaultKind → TableFault
 refusal_at others line kind =
     first_of_faults (without_repeat others) (record { line = line; kind = kind })
 
--- a line more, or the first fault
+-- the rows with that of one more line, or the first fault
 abbrev pub row_step : ListedRowsSoFar → LineText → Result ListedRowsSoFar TableFault
 row_step so_far line = first_fault so_far.rows.others (at_line line.number (line_added so_far line))
 
@@ -102,11 +107,11 @@ abbrev pub table_from : ListedRowsSoFar → List LineText → Result CacheValue 
 table_from so_far [] = without_repeat so_far.rows.others >>= λ _. Ok so_far.rows.table
 table_from so_far (line ∷ lines) = row_step so_far line >>= λ more. table_from more lines
 
--- the table if these bytes come
+-- the table if these bytes follow
 abbrev pub cache_after : LinesSoFar → ListedRowsSoFar → List ℕ → Result CacheValue TableFault
 cache_after lines so_far more = read_after (codes "Group") (table_from so_far) lines more
 
--- a text that ends here: once the header has ended no row repeats another, and each line has ended
+-- the text may end here: no row repeats another, and each line has ended
 abbrev pub rows_end : LinesSoFar → ListedRowsSoFar → Result (Unit {0}) TableFault
 rows_end lines so_far =
     if lines.ended == 0 then check_end_of_lines lines
@@ -114,21 +119,21 @@ rows_end lines so_far =
 
 -- ---- how far reading has come
 
--- the lines, the rows, and the fault if one was answered
+-- the state of reading: the lines, the rows, and the fault if there was one
 pub record CacheSoFar : Type 0 where
   pub lines : LinesSoFar
   pub rows : ListedRowsSoFar
   pub fault : Option TableFault
 
--- nothing has come
+-- before the first byte, where the keys of this set are listed
 abbrev pub cache_start_for_set : Order → ListedSet → CacheSoFar
 cache_start_for_set order listed =
     record { lines = lines_start; rows = rows_start order listed; fault = None }
 
--- nothing has come, and these are listed
+-- before the first byte, where these keys are listed
 abbrev pub cache_start : Order → Listed → CacheSoFar
 cache_start order listed = cache_start_for_set order (listed_set listed)
 
--- what reading ends with if these bytes come: the table, or the first fault
+-- what reading ends with if these bytes follow: the table, or the first fault
 abbrev pub cache_if : CacheSoFar → List ℕ → Result CacheValue TableFault
 cache_if cache more = unless_fault cache.fault (cache_after cache.lines cache.rows more)

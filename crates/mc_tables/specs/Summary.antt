@@ -1,17 +1,18 @@
--- What is noted of the rows of a cache besides the table of those that are kept.
+-- The summary of a cache's rows: what is kept of them besides the table.
 use Rattle.std.specs.Prelude.{Bool, ℕ, ◌==◌, not, List, ◌∷◌, length, take, filter}
 use Rattle.std.specs.Prelude.{map as map_list, Option, Some, None, IfSome, if◌then◌else◌}
 use Rattle.std.specs.Coded.{Coded, coded×, coded_ℕ}
-use Rattle.std.specs.List.{filter_map}
+use Rattle.std.specs.List.{filter_map, list_any}
 use Rattle.std.specs.Option.{option_map}
 use Rattle.std.specs.FinMap as map
 use Rattle.std.specs.FinSet as set
 use Rattle.mc_tables.specs.CacheTable.{EntryValue, IsValidEntry, RowValue, entry_code, key_cmp, key_of}
+use Rattle.mc_tables.specs.CacheTable.{same_key}
 use Rattle.mc_tables.specs.ListedRows.{is_listed}
 
 -- ---- rows
 
--- The source and the group of an unresolved row: one for packets that no route was there for
+-- The key of an unresolved row, which is made for packets that have no route
 -- (ipmr_cache_unresolved in net/ipv4/ipmr.c, which sets the incoming vif to -1).
 abbrev pub unresolved_by : Option EntryValue → ℕ × ℕ → Option (ℕ × ℕ)
 unresolved_by None key = Some key
@@ -20,24 +21,37 @@ unresolved_by (Some entry) key = None
 abbrev pub unresolved_key : RowValue → Option (ℕ × ℕ)
 unresolved_key row = unresolved_by row.entry (row.origin, row.group)
 
--- the origin, which is 0, the group and the entry of a resolved row for every source
+-- the key, whose source is 0, and the entry of a resolved row for every source
 abbrev pub every_source_entry : RowValue → Option ((ℕ × ℕ) × EntryValue)
 every_source_entry row =
     if row.origin == 0 then option_map (λ entry. ((row.origin, row.group), entry)) row.entry
     else None
 
--- Which of those concern the packets of a listed source and group: the rows of the group, and those
--- of the group 0.0.0.0 (ipmr_cache_find_any in net/ipv4/ipmr.c).
+-- one of the rows is unresolved and has this key
+abbrev pub has_unresolved_row : List RowValue → ℕ × ℕ → Bool
+has_unresolved_row rows key = list_any (same_key key) (filter_map unresolved_key rows)
+
+-- the entry of the first row for every source that has this group
+abbrev pub first_wildcard_entry : List RowValue → ℕ → Option EntryValue
+first_wildcard_entry rows group =
+    map.find key_cmp (0, group) (filter_map every_source_entry rows)
+
+-- The keys of the rows for every source that concern packets of a listed source and group: those of
+-- the group, and those of the group 0.0.0.0 (ipmr_cache_find_any in net/ipv4/ipmr.c).
 abbrev pub keys_for_every_source : List (ℕ × ℕ) → List (ℕ × ℕ)
 keys_for_every_source listed = (0, 0) ∷ map_list (λ key. (0, key.1)) listed
 
--- ---- what is noted
+-- the group is that of a listed key, or 0.0.0.0
+abbrev pub is_listed_group : List (ℕ × ℕ) → ℕ → Bool
+is_listed_group listed group = is_listed (Some (keys_for_every_source listed)) (0, group)
 
--- the group of a source and a group before the source, so that they stand by group
+-- ---- the summary
+
+-- a key with its group first, so that keys are ordered by group
 abbrev pub group_first : ℕ × ℕ → ℕ × ℕ
 group_first key = (key.1, key.0)
 
--- pairs by the first and then by the second, each once
+-- the pairs in ascending order, each once
 abbrev pub in_order : List (ℕ × ℕ) → List (ℕ × ℕ)
 in_order pairs = map.keys (map.from_entries {R = key_cmp} (map_list (λ pair. (pair, tt {0})) pairs))
 
@@ -45,24 +59,25 @@ in_order pairs = map.keys (map.from_entries {R = key_cmp} (map_list (λ pair. (p
 abbrev pub shown_pairs : (all : Bool) → List (ℕ × ℕ) → List (ℕ × ℕ)
 shown_pairs all pairs = if all then pairs else take 20 pairs
 
--- The listed sources and groups of unresolved rows; the first row for every source of each group of
--- which these are noted; of the resolved rows whose source and group are not listed how many there
--- are, and these, or the 20 lowest of them, by group and then by source, each with its group first.
+-- The listed keys of unresolved rows; the first row for every source of each listed group and of
+-- 0.0.0.0; how many resolved rows have a key that isn't listed; and these keys, all or the 20 lowest,
+-- by group and then by source, each with its group first.
 pub record SummaryValue : Type 0 where
   pub unresolved : set.FinSet key_cmp
   pub for_every_source : map.FinMap key_cmp EntryValue
   pub unlisted : ℕ
   pub lowest : List (ℕ × ℕ)
 
--- a map by source and group is stored as such
+-- a map of entries by key is stored as such
 abbrev pub entry_map_code : Coded (map.FinMap key_cmp EntryValue)
 entry_map_code = map.code (coded× coded_ℕ coded_ℕ) entry_code
 
--- the sources and groups of the resolved rows that are not listed
+-- the keys of the resolved rows that aren't listed
 abbrev pub unlisted_keys : List (ℕ × ℕ) → List RowValue → List (ℕ × ℕ)
 unlisted_keys listed rows =
     filter (λ key. not (is_listed (Some listed) key)) (filter_map key_of rows)
 
+-- the summary of some rows
 abbrev pub summary_of : (all : Bool) → List (ℕ × ℕ) → List RowValue → SummaryValue
 summary_of all listed rows = record {
   unresolved = set.from_list (filter (is_listed (Some listed)) (filter_map unresolved_key rows));
@@ -74,19 +89,22 @@ summary_of all listed rows = record {
   lowest = shown_pairs all (in_order (map_list group_first (unlisted_keys listed rows)));
 }
 
--- what all notes keep: each entry stands as those of a table do
+-- the rule of every summary: each entry is valid
 abbrev pub HasValidEntries : SummaryValue → Type 0
 HasValidEntries summary = (key : ℕ × ℕ) → IfSome (map.get summary.for_every_source key) IsValidEntry
 
 -- ---- look-ups
 
--- a row that there is, or else another one, each with its group
+-- the entry of the first row for every source of a group
+abbrev pub wildcard_entry : SummaryValue → ℕ → Option EntryValue
+wildcard_entry summary group = map.get summary.for_every_source (0, group)
+
+-- a group and its row, if there is one, or else another group and its row
 abbrev pub row_or_else : ℕ → Option EntryValue → Option (ℕ × EntryValue) → Option (ℕ × EntryValue)
 row_or_else group None other = other
 row_or_else group (Some entry) other = Some (group, entry)
 
--- the row for every source of a group, or else that of the group 0.0.0.0, and whose it is
+-- the row for every source of a group, or else that of the group 0.0.0.0, with the group that it has
 abbrev pub every_source_row : SummaryValue → ℕ → Option (ℕ × EntryValue)
 every_source_row summary group =
-    row_or_else group (map.get summary.for_every_source (0, group))
-    (row_or_else 0 (map.get summary.for_every_source (0, 0)) None)
+    row_or_else group (wildcard_entry summary group) (row_or_else 0 (wildcard_entry summary 0) None)

@@ -1,4 +1,4 @@
--- Notes of a cache whose text comes in pieces, row by row.
+-- The summary of a cache while its rows are read.
 use Rattle.std.specs.Prelude.{◌≡◌, Bool, ℕ, ◌+◌, ◌&&◌, true, false, not, List, [], ◌∷◌, ◌++◌}
 use Rattle.std.specs.Prelude.{map as map_list, Option, Some, None, is_some, Result, Ok, Err}
 use Rattle.std.specs.Prelude.{if◌then◌else◌}
@@ -18,9 +18,9 @@ use Rattle.mc_tables.specs.ListedRows.{ListedSet, set_has_key, listed_set}
 use Rattle.mc_tables.specs.Summary.{unresolved_key, every_source_entry, keys_for_every_source}
 use Rattle.mc_tables.specs.Summary.{group_first, shown_pairs, SummaryValue}
 
--- ---- one entry more
+-- ---- one more entry
 
--- an entry more of a source and a group that have none
+-- the rows with the entry of a key that has none
 abbrev pub with_first_entry : KeptRowsValue → ℕ × ℕ → EntryValue → KeptRowsValue
 with_first_entry kept key entry = record {
   table = record {
@@ -32,7 +32,7 @@ with_first_entry kept key entry = record {
   groups = kept.groups;
 }
 
--- what became of an entry that was to be added
+-- whether an entry was added, or why not
 abbrev pub IsEntryInserted : ℕ × ℕ → EntryValue → (old new : KeptRowsValue) → Inserted → Type 0
 IsEntryInserted key entry old new New =
     (set_has_key old.listed key ≡ true) × (is_some (map.get old.table.entries key) ≡ false)
@@ -41,7 +41,7 @@ IsEntryInserted key entry old new Repeated =
     (set_has_key old.listed key ≡ true) × (is_some (map.get old.table.entries key) ≡ true) × (new ≡ old)
 IsEntryInserted key entry old new Unlisted = (set_has_key old.listed key ≡ false) × (new ≡ old)
 
--- an entry more, if its source and group can have one and have none
+-- the rows with the entry of a key, if the key can have one and has none
 abbrev pub with_entry_if_new : KeptRowsValue → ℕ × ℕ → EntryValue → KeptRowsValue
 with_entry_if_new kept key entry =
     if set_has_key kept.listed key && not (is_some (map.get kept.table.entries key))
@@ -49,32 +49,32 @@ with_entry_if_new kept key entry =
 
 -- ---- the pairs that are kept
 
--- a pair before the pairs from p on, or p with those after it, where the pair is less, equal or
--- greater
+-- the pairs p and ps with one more: before p if it is less, nowhere if it is equal, and if it is
+-- greater as `put`, which has it among ps
 abbrev pub put_at : Ordering → (pair p : ℕ × ℕ) (ps put : List (ℕ × ℕ)) → List (ℕ × ℕ)
 put_at Less pair p ps put = pair ∷ p ∷ ps
 put_at Equal pair p ps put = p ∷ ps
 put_at Greater pair p ps put = p ∷ put
 
--- a pair more in its place, if it isn't there
+-- ascending pairs with one more at its place, if it isn't there
 abbrev pub put_pair : ℕ × ℕ → List (ℕ × ℕ) → List (ℕ × ℕ)
 put_pair pair [] = pair ∷ []
 put_pair pair (p ∷ ps) = put_at (key_cmp pair p) pair p ps (put_pair pair ps)
 
--- whether all that came are kept, or the lowest; and those that are, ascending and each once
+-- whether all pairs are kept or the lowest, and those that are kept, ascending and each once
 pub record KeptPairs : Type 0 where
   pub all : Bool
   pub pairs : List (ℕ × ℕ)
 
--- a pair more
+-- the pairs with one more
 abbrev pub with_pair : ℕ × ℕ → KeptPairs → KeptPairs
 with_pair pair kept =
     record { all = kept.all; pairs = shown_pairs kept.all (put_pair pair kept.pairs) }
 
 -- ---- row by row
 
--- The sources and groups that are listed, and those of them of unresolved rows; the first rows for
--- every source; how many rows are of others, and which of those are kept.
+-- The listed keys, and those of them that have an unresolved row; the first rows for every source; how
+-- many rows have other keys, and which of these keys are kept.
 pub record SummarySoFar : Type 0 where
   pub listed : ListedSet
   pub unresolved : set.FinSet key_cmp
@@ -82,7 +82,7 @@ pub record SummarySoFar : Type 0 where
   pub unlisted : ℕ
   pub lowest : KeptPairs
 
--- no rows have come
+-- the summary of no rows
 abbrev pub empty_summary : (all : Bool) → List (ℕ × ℕ) → SummarySoFar
 empty_summary all listed = record {
   listed = listed_set (Some listed);
@@ -96,18 +96,20 @@ empty_summary all listed = record {
   lowest = record { all = all; pairs = [] };
 }
 
--- an unresolved row, if it is one
+-- the summary with one more unresolved row, if it is one
 abbrev pub summary_with_unresolved : SummarySoFar → Option (ℕ × ℕ) → SummarySoFar
 summary_with_unresolved summary None = summary
 summary_with_unresolved summary (Some key) = record {
   listed = summary.listed;
-  unresolved = if set_has_key summary.listed key then set.insert summary.unresolved key else summary.unresolved;
+  unresolved =
+      if set_has_key summary.listed key then set.insert summary.unresolved key
+      else summary.unresolved;
   first = summary.first;
   unlisted = summary.unlisted;
   lowest = summary.lowest;
 }
 
--- a row for every source, if it is one
+-- the summary with one more row for every source, if it is one
 abbrev pub summary_with_every_source : SummarySoFar → Option ((ℕ × ℕ) × EntryValue) → SummarySoFar
 summary_with_every_source summary None = summary
 summary_with_every_source summary (Some exact) = record {
@@ -118,7 +120,7 @@ summary_with_every_source summary (Some exact) = record {
   lowest = summary.lowest;
 }
 
--- a row of a source and a group that are not listed
+-- the summary with one more row whose key isn't listed
 abbrev pub summary_with_unlisted : SummarySoFar → ℕ × ℕ → SummarySoFar
 summary_with_unlisted summary key = record {
   listed = summary.listed;
@@ -128,19 +130,21 @@ summary_with_unlisted summary key = record {
   lowest = with_pair (group_first key) summary.lowest;
 }
 
--- a row of a source and a group, if it is one
+-- the summary with one more row for one source, if it is one
 abbrev pub summary_with_exact : SummarySoFar → Option (ℕ × ℕ) → SummarySoFar
 summary_with_exact summary None = summary
-summary_with_exact summary (Some key) = if set_has_key summary.listed key then summary else summary_with_unlisted summary key
+summary_with_exact summary (Some key) =
+    if set_has_key summary.listed key then summary else summary_with_unlisted summary key
 
--- a row more
+-- the summary with one more row
 abbrev pub summary_with_row : SummarySoFar → RowValue → SummarySoFar
 summary_with_row summary row =
     summary_with_exact
-    (summary_with_every_source (summary_with_unresolved summary (unresolved_key row)) (every_source_entry row))
+    (summary_with_every_source (summary_with_unresolved summary (unresolved_key row))
+        (every_source_entry row))
     (key_of row)
 
--- what is told of them
+-- the summary when all rows have been read
 abbrev pub finished_summary : SummarySoFar → SummaryValue
 finished_summary summary = record {
   unresolved = summary.unresolved;
@@ -149,8 +153,8 @@ finished_summary summary = record {
   lowest = summary.lowest.pairs;
 }
 
--- the same of its parts: the numbers of the unresolved ones, the first rows for every source, and
--- how many rows are of others and which of those are kept
+-- a summary of its parts: the numbers of the keys of unresolved rows, the first rows for every source,
+-- how many rows have other keys, and which of these keys are kept
 abbrev pub summary_of_parts : List ((ℕ × ℕ) × ℕ) → KeptRowsValue → ℕ → List (ℕ × ℕ) → SummaryValue
 summary_of_parts numbers first unlisted lowest = record {
   unresolved = set.from_list (map_list (λ p. p.0) numbers);
@@ -161,14 +165,17 @@ summary_of_parts numbers first unlisted lowest = record {
 
 -- ---- line by line
 
--- the row of a line more, if it is one
+-- the summary with the row that a line is read as, if it is one
 abbrev pub summary_with_read : SummarySoFar → Result RowValue TableFaultKind → SummarySoFar
 summary_with_read summary (Err kind) = summary
 summary_with_read summary (Ok row) = summary_with_row summary row
 
+-- the summary with the row of one more line
 abbrev pub summary_with_line : Order → SummarySoFar → LineText → SummarySoFar
 summary_with_line order summary line = summary_with_read summary (row_in_words order (words_of line.bytes))
 
+-- the summary with the rows of more lines
 abbrev pub summary_of_lines : Order → SummarySoFar → List LineText → SummarySoFar
 summary_of_lines order summary [] = summary
-summary_of_lines order summary (line ∷ lines) = summary_of_lines order (summary_with_line order summary line) lines
+summary_of_lines order summary (line ∷ lines) =
+    summary_of_lines order (summary_with_line order summary line) lines

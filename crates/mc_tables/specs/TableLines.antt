@@ -10,9 +10,9 @@ use Rattle.mc_tables.specs.declared.fault.TableFaultKind.TheVariants.{NoHeader, 
 use Rattle.mc_text.specs.Steps.{◌>>=◌}
 use Rattle.mc_tables.specs.Steps.{demand, at_line}
 
--- ---- what a text says
+-- ---- what a text denotes
 
--- the words have this one first
+-- the first of the words is this one
 abbrev pub begins_with : List ℕ → List (List ℕ) → Bool
 begins_with first [] = false
 begins_with first (word ∷ words) = bytes_eq word first
@@ -26,14 +26,14 @@ pub record HasHeader (first : List ℕ) (text : List ℕ) (lines : List LineText
   pub ended : IsTrue header.ended
   pub begins : IsTrue (begins_with first (words_of header.bytes))
 
--- each line tells its row, in order
+-- each line denotes its row, in order
 abbrev pub EachDenotes : {L R : Type 0} → (L → R → Type 0) → List L → List R → Type 0
 EachDenotes Denotes [] [] = Unit {0}
 EachDenotes Denotes [] (row ∷ rows) = ⊥
 EachDenotes Denotes (line ∷ lines) [] = ⊥
 EachDenotes Denotes (line ∷ lines) (row ∷ rows) = Denotes line row × EachDenotes Denotes lines rows
 
--- what the row has is among what the earlier rows have
+-- the row's key, if it has one, is among those of the earlier rows
 abbrev pub is_among : {K : Type 0} → (K → K → Bool) → Option K → List K → Bool
 is_among same None earlier = false
 is_among same (Some key) earlier = list_any (same key) earlier
@@ -47,12 +47,13 @@ lines_after_header first (header ∷ lines) =
     at_line 1 (demand header.ended Unended >>= λ _.
     demand (begins_with first (words_of header.bytes)) NoHeader) >>= λ _. Ok lines
 
+-- the lines after the header of a text, which is within the limit
 abbrev pub lines_in : List ℕ → List ℕ → Result (List LineText) TableFault
 lines_in first text =
     if nat_lt 16777216 (length text) then Err (record { line = 0; kind = TooLarge })
     else lines_after_header first (lines_of text)
 
--- the rows of the lines, each of which is read after the earlier ones
+-- the rows of the lines after the earlier rows, each read with those before it
 abbrev pub rows_after : {L R E : Type 0} → (List R → L → Result R E) → List R → List L
     → Result (List R) E
 rows_after row_in earlier [] = Ok earlier

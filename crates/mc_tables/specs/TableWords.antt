@@ -1,4 +1,4 @@
--- The words of the kernel's tables: what each kind of word is, and the value that it writes.
+-- The words of the kernel's tables: the form of each kind of word, and the value that it denotes.
 use Rattle.std.specs.Prelude.{ℕ, ◌≤◌, ◌==◌, nat_le, Bool, ◌&&◌, List, length, drop}
 use Rattle.std.specs.Prelude.{slice_index, Option, Some, None, if◌then◌else◌}
 use Rattle.std.specs.Char.{is_ascii_digit, is_ascii_hexdigit}
@@ -13,7 +13,7 @@ use Rattle.mc_text.specs.Number.{IsDecimal}
 
 -- ---- words whose value is not used
 
--- the digits after a `-`, if one stands first
+-- the word without a `-` at its front
 abbrev pub without_sign : List ℕ → List ℕ
 without_sign word = if slice_index word 0 == 45 then drop 1 word else word
 
@@ -30,14 +30,15 @@ is_hexadecimal least most word =
 
 -- ---- numbers
 
--- the word writes in decimal the number n, from least to most
+-- the word denotes the number n in decimal, from least to most
 abbrev pub WordDenotesNumber : ℕ → ℕ → List ℕ → ℕ → Type 0
 WordDenotesNumber least most word n = IsDecimal word n × (least ≤ n) × (n ≤ most)
 
+-- one or more decimal digits, and nothing else
 abbrev pub is_decimal_word : List ℕ → Bool
 is_decimal_word word = nat_le 1 (length word) && list_all is_ascii_digit word
 
--- the number that it writes
+-- the number that the word denotes
 abbrev pub number_in : ℕ → ℕ → List ℕ → Option ℕ
 number_in least most word =
     if is_decimal_word word
@@ -47,10 +48,10 @@ number_in least most word =
 
 -- ---- addresses
 
--- the word shows the address a
+-- the word denotes the address a
 abbrev pub WordDenotesAddress : Order → List ℕ → ℕ → Type 0
 WordDenotesAddress order word a = IsAddr a × IsAddressWord order word a
 
--- the address that the word shows
+-- the address that the word denotes
 abbrev pub address_in : Order → List ℕ → Option ℕ
 address_in order word = address_of_octets order (decode_of word)

@@ -1,4 +1,4 @@
--- What the look-ups of a vif table answer.
+-- What the look-ups of a vif table give.
 use Rattle.std.specs.Prelude.{◌≡◌, ◌≢◌, ◌≤◌, ℕ, List, find, Option, None, IsSome, IsSomeAnd}
 use Rattle.std.specs.Prelude.{if◌then◌else◌}
 use Rattle.std.specs.Option.{option_map}
@@ -11,8 +11,8 @@ use Rattle.mc_tables.specs.VifTable.{VifValue, no_device}
 abbrev pub HasDevice : FinMap nat_cmp VifValue → ℕ → List ℕ → Type 0
 HasDevice vifs index device = IsSomeAnd (get vifs index) (λ vif. vif.device ≡ device)
 
--- What every table keeps, whatever text it was read from: indexes are 0 to 31, and two vifs have
--- one device only where it is `none`.
+-- The rules of every table, whatever text it was read from: indexes are 0 to 31, and two vifs have
+-- the same device only if it is `none`.
 pub record IsValidVifTable (vifs : FinMap nat_cmp VifValue) : Type 0 where
   pub numbered : (index : ℕ) → IsSome (get vifs index) → index ≤ 31
   pub devices_differ : (device : List ℕ) (i j : ℕ) → device ≢ no_device →
@@ -23,7 +23,7 @@ abbrev pub first_index_with : List ℕ → List (ℕ × VifValue) → Option ℕ
 first_index_with device rows =
     option_map (λ row. row.0) (find (λ row. bytes_eq row.1.device device) rows)
 
--- the index that is answered for a device, of which there is none for `none`
+-- the index that is found for a device; there is none for `none`
 abbrev pub index_of : FinMap nat_cmp VifValue → List ℕ → Option ℕ
 index_of vifs device =
     if bytes_eq device no_device then None else first_index_with device (entries vifs)

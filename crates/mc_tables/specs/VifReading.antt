@@ -1,4 +1,4 @@
--- Reading a text of /proc/net/ip_mr_vif from its front: its vifs, or the first fault.
+-- What a text of /proc/net/ip_mr_vif is read as, from its front: its vifs, or the first fault.
 use Rattle.std.specs.Prelude.{ℕ, nat_eq, Bool, not, if◌then◌else◌, List, [], ◌∷◌, map, Result, Ok}
 use Rattle.std.specs.Prelude.{Err, codes}
 use Rattle.std.specs.Option.{ok_or}
@@ -22,15 +22,15 @@ use Rattle.mc_tables.specs.TableWords.{is_counter, is_hexadecimal, number_in}
 use Rattle.mc_tables.specs.TableLines.{is_among, lines_in, rows_after}
 use Rattle.mc_tables.specs.VifTable.{VifValue, is_tunnel, is_register, device_of}
 
--- the device's name that the word is
+-- the word, if it is a device's name
 abbrev pub device_in : List ℕ → Result (List ℕ) TableFaultKind
 device_in word = if is_device_name word then Ok word else Err BadDevice
 
--- the flags that it writes
+-- the flags that the word denotes
 abbrev pub flags_in : List ℕ → Result ℕ TableFaultKind
 flags_in word = if is_hexadecimal 5 8 word then Ok (digits_value 16 word) else Err BadFlags
 
--- the words from the left
+-- the vif and the index that the words are read as, from the left
 unfoldable pub vif_in_words : List (List ℕ) → Result (ℕ × VifValue) TableFaultKind
 vif_in_words (index ∷ device ∷ bytes_in ∷ packets_in ∷ bytes_out ∷ packets_out ∷ flags ∷ local
     ∷ remote ∷ []) = do
@@ -54,6 +54,7 @@ index_repeats earlier row = list_any (nat_eq row.0) (map (λ other. other.0) ear
 abbrev pub device_repeats : List (ℕ × VifValue) → ℕ × VifValue → Bool
 device_repeats earlier row = is_among bytes_eq (device_of row) (filter_map device_of earlier)
 
+-- the vif of a line that comes after the earlier ones
 unfoldable pub vif_in_line : List (ℕ × VifValue) → LineText → Result (ℕ × VifValue) TableFaultKind
 vif_in_line earlier line = do
   _ ← demand line.ended Unended
@@ -62,6 +63,7 @@ vif_in_line earlier line = do
   _ ← demand (not (device_repeats earlier row)) RepeatedDevice
   Ok row
 
+-- the same, whose fault has the line's number
 abbrev pub vif_at_line : List (ℕ × VifValue) → LineText → Result (ℕ × VifValue) TableFault
 vif_at_line earlier line = at_line line.number (vif_in_line earlier line)
 

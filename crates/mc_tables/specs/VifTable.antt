@@ -1,4 +1,4 @@
--- What a text of /proc/net/ip_mr_vif says (ipmr_vif_seq_show in net/ipv4/ipmr.c, which writes a
+-- What a text of /proc/net/ip_mr_vif denotes (ipmr_vif_seq_show in net/ipv4/ipmr.c, which prints a
 -- line by "%2td %-10s %8ld %7ld  %8ld %7ld %05X %08X %08X\n").
 use Rattle.std.specs.Prelude.{◌≡◌, ℕ, ◌≤◌, ◌==◌, nat_eq, Bool, not, bit_and, IsTrue, List, [], ◌∷◌, map}
 use Rattle.std.specs.Prelude.{Option, Some, None, if◌then◌else◌, codes, refl}
@@ -34,18 +34,18 @@ is_tunnel flags = not (bit_and flags 0x1 == 0)
 abbrev pub is_register : ℕ → Bool
 is_register flags = not (bit_and flags 0x4 == 0)
 
--- the kernel's word for a vif without a device, which is no device's name here
+-- the kernel's word for a vif without a device, which isn't a device's name here
 abbrev pub no_device : List ℕ
 no_device = codes "none"
 
--- the flags in hexadecimal (`%05X`), of which the other bits are not used
+-- the word denotes the flags of the vif in hexadecimal (`%05X`); the other bits aren't used
 pub record WordDenotesFlags (word : List ℕ) (vif : VifValue) : Type 0 where
   pub digits : IsTrue (is_hexadecimal 5 8 word)
   pub tunnel : vif.tunnel ≡ is_tunnel (digits_value 16 word)
   pub register : vif.register ≡ is_register (digits_value 16 word)
 
--- Nine words tell a vif and its index: index, device, bytes in, packets in, bytes out, packets out,
--- flags, local address (or interface index) and remote address.
+-- Nine words denote a vif with its index: index, device, bytes in, packets in, bytes out, packets
+-- out, flags, local address (or interface index) and remote address.
 abbrev pub WordsDenoteVif : List (List ℕ) → ℕ × VifValue → Type 0
 WordsDenoteVif (index ∷ device ∷ bytes_in ∷ packets_in ∷ bytes_out ∷ packets_out ∷ flags ∷ local
     ∷ remote ∷ []) row =
@@ -56,23 +56,23 @@ WordsDenoteVif (index ∷ device ∷ bytes_in ∷ packets_in ∷ bytes_out ∷ p
     × IsTrue (is_hexadecimal 8 8 local) × IsTrue (is_hexadecimal 8 8 remote)
 WordsDenoteVif words row = ⊥
 
--- a line that a line feed ends
+-- a line denotes a vif with its index by its words, and has a line feed
 pub record LineDenotesVif (line : LineText) (row : ℕ × VifValue) : Type 0 where
   pub ended : IsTrue line.ended
   pub words : WordsDenoteVif (words_of line.bytes) row
 
--- the device of a vif that has one
+-- the device of the vif, unless it is `none`
 abbrev pub device_of : ℕ × VifValue → Option (List ℕ)
 device_of row = if bytes_eq row.1.device no_device then None else Some row.1.device
 
--- the rows of a table: indexes and devices differ, and the indexes are 0 to 31
+-- the rows of a valid table: indexes and devices differ, and the indexes are 0 to 31
 abbrev pub AreValidVifRows : List (ℕ × VifValue) → Type 0
 AreValidVifRows rows =
     IsDistinct nat_eq (map (λ row. row.0) rows)
     × IsDistinct bytes_eq (filter_map device_of rows)
     × AllByRecursion (λ row. row.0 ≤ 31) rows
 
--- a text of these vifs with their indexes, in the order of its lines
+-- a text denotes these vifs with their indexes, in the order of its lines
 pub record DenotesVifRows (text : List ℕ) (rows : List (ℕ × VifValue)) : Type 0 where
   pub lines : List LineText
   pub header : HasHeader (codes "Interface") text lines
@@ -80,7 +80,7 @@ pub record DenotesVifRows (text : List ℕ) (rows : List (ℕ × VifValue)) : Ty
   pub indexes_differ : IsDistinct nat_eq (map (λ row. row.0) rows)
   pub devices_differ : IsDistinct bytes_eq (filter_map device_of rows)
 
--- a text stands for a map from indexes to vifs
+-- a text denotes a map from indexes to vifs
 pub record DenotesVifs (text : List ℕ) (vifs : FinMap nat_cmp VifValue) : Type 0 where
   pub rows : List (ℕ × VifValue)
   pub lines : DenotesVifRows text rows

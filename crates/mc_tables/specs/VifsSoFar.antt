@@ -1,4 +1,4 @@
--- A table of vifs whose text comes in pieces.
+-- Reading a table of vifs whose text comes in pieces.
 use Rattle.std.specs.Prelude.{ℕ, List, [], ◌∷◌, ◌++◌, Option, None, Result, Ok}
 use Rattle.std.specs.Prelude.{codes}
 use Rattle.std.specs.Ordering.{nat_cmp}
@@ -13,10 +13,11 @@ use Rattle.mc_tables.specs.LinesSoFar.{LinesSoFar, lines_start, read_after}
 use Rattle.mc_tables.specs.VifTable.{VifValue}
 use Rattle.mc_tables.specs.VifReading.{vif_in_line, vif_at_line}
 
--- one line more
+-- the rows with the vif of one more line
 abbrev pub vif_added : List (ℕ × VifValue) → LineText → Result (List (ℕ × VifValue)) TableFaultKind
 vif_added rows line = vif_in_line rows line >>= λ row. Ok (rows ++ row ∷ [])
 
+-- the same, whose fault has the line's number
 abbrev pub vif_step : List (ℕ × VifValue) → LineText → Result (List (ℕ × VifValue)) TableFault
 vif_step rows line = at_line line.number (vif_added rows line)
 
@@ -24,21 +25,21 @@ vif_step rows line = at_line line.number (vif_added rows line)
 abbrev pub vifs_from_lines : List (ℕ × VifValue) → List LineText → Result (FinMap nat_cmp VifValue) TableFault
 vifs_from_lines rows lines = rows_after vif_at_line rows lines >>= λ all. Ok (from_entries all)
 
--- the table if these bytes come
+-- the table if these bytes follow
 abbrev pub vifs_after : LinesSoFar → List (ℕ × VifValue) → List ℕ
     → Result (FinMap nat_cmp VifValue) TableFault
 vifs_after lines rows more = read_after (codes "Interface") (vifs_from_lines rows) lines more
 
--- how far reading has come: the lines, the rows, and the fault if one was answered
+-- the state of reading: the lines, the rows, and the fault if there was one
 pub record VifsSoFar : Type 0 where
   pub lines : LinesSoFar
   pub rows : List (ℕ × VifValue)
   pub fault : Option TableFault
 
--- nothing has come
+-- before the first byte
 abbrev pub vifs_start : VifsSoFar
 vifs_start = record { lines = lines_start; rows = []; fault = None }
 
--- what reading ends with if these bytes come: the table, or the first fault
+-- what reading ends with if these bytes follow: the table, or the first fault
 abbrev pub vifs_if : VifsSoFar → List ℕ → Result (FinMap nat_cmp VifValue) TableFault
 vifs_if vifs more = unless_fault vifs.fault (vifs_after vifs.lines vifs.rows more)

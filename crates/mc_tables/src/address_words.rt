@@ -1,4 +1,4 @@
-//! The two addresses that a row begins with, read from their places at once.
+//! Reads the two addresses that a row begins with, both at once where the line is long enough.
 
 ghost use Rattle.std.specs.Prelude.{◌≡◌, ◌++◌, ◌+◌, ◌≤◌, ◌∷◌, IfSome, Some, length, take, drop};
 ghost use Rattle.mc_text.specs.Lines.{words_of};
@@ -8,11 +8,10 @@ ghost use Rattle.mc_tables.specs.RowWords.{HasAddresses};
 use mc_text::{Addr, Order, are_hex_digits, bytes_of_hex_digits};
 use std::simd::prelude::*;
 
-/// How many bytes are loaded at the place of each address: its eight digits and some behind them.
+/// How many bytes are loaded at the place of each address: its eight digits and eight more.
 const LANES: usize = 16;
 
-/// The eight digits of one address and the eight of the other, and the same again, which fill the
-/// lanes.
+/// The eight digits of one address and the eight of the other, and the same again to fill the lanes.
 #[inline(always)]
 fn digits_of_both(line: &[u8]) -> u8x32
     requires within { 9 + LANES ≤ length line.now }
@@ -28,7 +27,7 @@ fn digits_of_both(line: &[u8]) -> u8x32
     )
 }
 
-/// The group and the source with which a line begins, read together.
+/// The group and the source that a line begins with, read together.
 #[inline(always)]
 fn addresses_together(line: &[u8], order: Order) -> Option<(Addr, Addr)>
     ensures { IfSome result (λ found. HasAddresses order line.now found.0 found.1) }
@@ -46,7 +45,7 @@ fn addresses_together(line: &[u8], order: Order) -> Option<(Addr, Addr)>
     Some((group, origin))
 }
 
-/// The address of eight bytes and a space with which a line begins.
+/// The address of eight digits that a line begins with, if a space follows it.
 #[tactic(auto, using(crate::proofs::PlainRowLemmas::address_is_first_word))]
 fn address_at_front(line: &[u8], order: Order) -> Option<Addr>
     ensures long { IfSome result (λ address. 9 ≤ length line.now) }
@@ -62,7 +61,7 @@ fn address_at_front(line: &[u8], order: Order) -> Option<Addr>
     }
 }
 
-/// What stands behind an address and its space.
+/// What follows an address and its space.
 #[tactic(auto, using(crate::proofs::PlainRowLemmas::drop_as_take_drop))]
 fn after_address(line: &[u8]) -> &[u8]
     requires within { 9 ≤ length line.now }
@@ -71,8 +70,8 @@ fn after_address(line: &[u8]) -> &[u8]
     &line[9..]
 }
 
-/// The group and the source with which a line begins, one after the other.
-fn addresses_in_turn(line: &[u8], order: Order) -> Option<(Addr, Addr)>
+/// The group and the source that a line begins with, read one after the other.
+fn addresses_one_by_one(line: &[u8], order: Order) -> Option<(Addr, Addr)>
     ensures { IfSome result (λ found. HasAddresses order line.now found.0 found.1) }
 {
     let group = address_at_front(line, order)?;
@@ -80,7 +79,7 @@ fn addresses_in_turn(line: &[u8], order: Order) -> Option<(Addr, Addr)>
     Some((group, origin))
 }
 
-/// The group and the source with which a line begins.
+/// The group and the source that a line begins with.
 #[inline(always)]
 pub fn addresses_at_front(line: &[u8], order: Order) -> Option<(Addr, Addr)>
     ensures { IfSome result (λ found. HasAddresses order line.now found.0 found.1) }
@@ -88,10 +87,10 @@ pub fn addresses_at_front(line: &[u8], order: Order) -> Option<(Addr, Addr)>
     if let Some(found) = addresses_together(line, order) {
         return Some(found);
     }
-    addresses_in_turn(line, order)
+    addresses_one_by_one(line, order)
 }
 
-/// What stands behind both addresses and their spaces.
+/// What follows both addresses and their spaces.
 #[inline(always)]
 #[tactic(auto, using(crate::proofs::PlainRowLemmas::drop_as_take_drop))]
 pub fn after_addresses(line: &[u8]) -> &[u8]

@@ -21,7 +21,7 @@ use mc_text::{Addr, Order, Words};
 /// The word of an incoming vif in an unresolved row.
 const UNRESOLVED: &[u8] = b"-1";
 
-/// The words of a line before the outgoing ones, by what they are.
+/// The words of a line before its outgoing vifs.
 #[derive(Clone, Copy)]
 pub struct CacheWords<'a> {
     pub group: &'a [u8],
@@ -32,8 +32,8 @@ pub struct CacheWords<'a> {
     pub wrong_if: &'a [u8],
 }
 
-/// Reads a row, and puts it and its outgoing vifs by ascending vif in the place of those that were
-/// there. A row that is answered would be copied from where it was put together.
+/// Reads a row into `row`, and its outgoing vifs into `oifs`, by ascending vif, in place of what was
+/// there. The row isn't returned, since that would copy it.
 #[tactic(auto, using(crate::proofs::EntryLemmas::oifs_in_gives_at_most_32))]
 pub fn read_row(
     line: &[u8],
@@ -41,7 +41,7 @@ pub fn read_row(
     row: &mut CacheRow,
     oifs: &mut Vec<Oif>,
 ) -> Result<(), TableFaultKind>
-    ensures few { OnOk result (length oifs.new.items ≤ 32) }
+    ensures at_most_32 { OnOk result (length oifs.new.items ≤ 32) }
     ensures read { OnOk result
         (row_in_words order (words_of line.now) ≡ Ok (row_with_oifs row.new oifs.new.items)) }
     ensures fault { IfErr result (λ fault. fault ≢ Memory →
@@ -67,7 +67,7 @@ fn read_row_by_words(
     oifs: &mut Vec<Oif>,
 ) -> Result<CacheRow, TableFaultKind>
     requires empty { oifs.old.items ≡ [] }
-    ensures few { OnOk result (length oifs.new.items ≤ 32) }
+    ensures at_most_32 { OnOk result (length oifs.new.items ≤ 32) }
     ensures read { IfOk result (λ row.
         row_in_words order (words_of line.now) ≡ Ok (row_with_oifs row oifs.new.items)) }
     ensures fault { IfErr result (λ fault. fault ≢ Memory →
@@ -78,7 +78,7 @@ fn read_row_by_words(
     read_cache_words(&first, words, order, oifs)
 }
 
-/// The six words before the outgoing ones, if they are there.
+/// The six words before the outgoing vifs, if there are six.
 fn words_before_oifs<'a>(words: &mut Words<'a>) -> Option<CacheWords<'a>>
     ensures found { IfSome result (λ first. words.old ≡ row_words_before first words.new) }
     ensures only { IfNone result (length words.old < 6) }
@@ -103,7 +103,7 @@ fn read_cache_words(
     oifs: &mut Vec<Oif>,
 ) -> Result<CacheRow, TableFaultKind>
     requires empty { oifs.old.items ≡ [] }
-    ensures few { OnOk result (length oifs.new.items ≤ 32) }
+    ensures at_most_32 { OnOk result (length oifs.new.items ≤ 32) }
     ensures read { IfOk result (λ row.
         row_in_words order (row_words_before first.now outgoing.entry)
         ≡ Ok (row_with_oifs row oifs.new.items)) }
@@ -126,7 +126,7 @@ fn address(word: &[u8], order: Order) -> Result<Addr, TableFaultKind>
     Addr::from_hex_word(word, order).ok_or(TableFaultKind::BadAddress)
 }
 
-/// The incoming vif, or None in an unresolved row.
+/// The incoming vif, or `None` in an unresolved row.
 fn incoming_vif(word: &[u8]) -> Result<Option<u8>, TableFaultKind>
     ensures { result ≡ incoming_in word.now }
 {
@@ -144,7 +144,7 @@ fn read_entry(
     oifs: &mut Vec<Oif>,
 ) -> Result<(), TableFaultKind>
     requires empty { oifs.old.items ≡ [] }
-    ensures few { OnOk result (length oifs.new.items ≤ 32) }
+    ensures at_most_32 { OnOk result (length oifs.new.items ≤ 32) }
     ensures read { OnOk result (entry_in iif outgoing.entry ≡ Ok (entry_with iif oifs.new.items)) }
     ensures fault { IfErr result (λ fault. fault ≢ Memory → entry_in iif outgoing.entry ≡ Err fault) }
 {

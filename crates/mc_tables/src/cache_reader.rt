@@ -1,4 +1,4 @@
-//! Reading the forwarding cache from pieces of its text.
+//! Reads the forwarding cache from pieces of its text.
 
 ghost use Rattle.std.specs.Prelude.{◌≡◌, ◌≢◌, ◌+◌, ◌<◌, ◌≤◌, ℕ, List, [], ◌++◌, length, None, Some};
 ghost use Rattle.std.specs.Prelude.{Ok, Err, OnOk, IfErr, IfSome};
@@ -22,8 +22,8 @@ use std::marker::Model;
 
 /// A reader of `/proc/net/ip_mr_cache` that is fed the text in pieces of any size. It keeps the
 /// rows of listed sources and groups, the groups of rows for every source, and the source, the
-/// group and the line of each other resolved row, among which it looks for a repeated one once:
-/// before it answers another fault, or where the text ends.
+/// group and the line of each other resolved row. It searches these once for a repeated one: before
+/// it returns another fault, or at the end of the text.
 #[derive(Debug, Drop)]
 pub struct CacheReader {
     lines: LineBuffer,
@@ -51,11 +51,11 @@ impl Model for CacheReader {
 }
 
 impl CacheReader {
-    /// A reader that was fed nothing, for a router whose machine has this byte order. It keeps the
-    /// rows of these sources and groups.
+    /// A reader that has been fed nothing, for a router whose machine has this byte order. It keeps
+    /// the rows of these sources and groups.
     pub fn new(alloc: Global, order: Order, listed: ListedPairs) -> CacheReader
         ensures start { result ≡ cache_start order (Some listed) }
-        // A text of any bytes ends with what the whole text is read as.
+        // Whatever text it is fed, reading ends with what the whole text is read as.
         ensures reads { (text : List ℕ) → length text ≤ max_text →
             cache_if result text ≡ listed_in order (Some listed) text }
     {
@@ -86,13 +86,13 @@ impl CacheReader {
     ///
     /// # Errors
     ///
-    /// `TooLarge` at line 0 where the text has more than 16,777,216 bytes now; else the first fault
-    /// of the lines that have ended; or `Memory`. That of a repeated row whose source and group
-    /// aren't listed waits for the first other fault of a line, or for `finish`. Each later call
-    /// answers the same.
+    /// `TooLarge` at line 0 if the text has more than 16,777,216 bytes now; else the first fault of
+    /// the lines that have ended; or `Memory`. A repeated row whose source and group aren't listed
+    /// is reported only at the first other fault of a line, or by `finish`. Each later call returns
+    /// the same fault.
     #[tactic(auto, using(crate::proofs::RowsSoFarLemmas::table_reads_in_steps))]
     pub fn feed(&mut self, piece: &[u8]) -> Result<(), TableFault>
-        // Whatever bytes come then, reading ends as it would have with this piece before them.
+        // Whatever bytes follow, reading ends as if they came in one piece with these.
         ensures goes_on { (more : List ℕ) → result ≢ Err out_of_memory →
             self.old.lines.size + length (piece.now ++ more) ≤ max_text →
             cache_if self.new more ≡ cache_if self.old (piece.now ++ more) }
@@ -102,7 +102,7 @@ impl CacheReader {
         ensures too_large { self.old.fault ≡ None →
             max_text < self.old.lines.size + length piece.now →
             result ≡ Err (fault_at 0 TooLarge) }
-        // After a fault each call answers it again.
+        // After a fault each call returns it again.
         ensures again { IfSome self.old.fault (λ fault. (result ≡ Err fault)
             × (self.new ≡ self.old)) }
     {
@@ -122,8 +122,9 @@ impl CacheReader {
     ///
     /// # Errors
     ///
-    /// The fault that was answered before; else that of the first repeated row whose source and
-    /// group aren't listed; else that of the text's end.
+    /// The fault that `feed` returned; else `RepeatedEntry` for the first repeated row whose source
+    /// and group aren't listed; else `Unended` if the last line has no line feed, or `NoHeader` at
+    /// line 1 for an empty text.
     pub fn finish(self) -> Result<CacheTable, TableFault>
         ensures { result ≡ cache_if self [] }
     {
@@ -140,7 +141,8 @@ impl CacheReader {
     }
 }
 
-/// Refuses a text that ends here: a row that repeats one, and then its last line.
+/// Refuses a text that ends here if a row repeats an earlier one, or else if its last line hasn't
+/// ended.
 pub(crate) fn check_end(lines: &LineBuffer, rows: &mut CacheRowReader) -> Result<(), TableFault>
     ensures end { result ≡ rows_end lines.now rows.old }
     ensures table { rows.new.rows.table ≡ rows.old.rows.table }

@@ -1,4 +1,4 @@
-//! A row of the forwarding cache.
+//! A row of the forwarding cache, without its outgoing vifs.
 
 use mc_text::Addr;
 

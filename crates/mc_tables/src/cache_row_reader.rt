@@ -1,4 +1,4 @@
-//! The rows of a cache, of which those of listed sources and groups are kept.
+//! Reads the rows of a cache line by line, and keeps those of listed sources and groups.
 
 ghost use Rattle.std.specs.Prelude.{◌≡◌, ◌≢◌, [], ◌+◌, ◌<◌, ◌≤◌, length, OnOk, OnErr, IfErr, IfOk, Ok};
 ghost use Rattle.std.specs.Prelude.{Err};
@@ -9,7 +9,8 @@ ghost use Rattle.mc_tables.specs.UnlistedRows.{without_repeat};
 ghost use Rattle.mc_tables.specs.CacheSteps.{row_with_room};
 ghost use Rattle.mc_tables.specs.FlatRows.{row_with_oifs};
 ghost use Rattle.mc_tables.specs.ListedRows.{is_kept_by_set};
-ghost use Rattle.mc_tables.specs.RowsSoFar.{rows_start, any_row_added, line_added, refusal_at};
+ghost use Rattle.mc_tables.specs.RowsSoFar.{rows_start, rows_of_parts, any_row_added, line_added};
+ghost use Rattle.mc_tables.specs.RowsSoFar.{refusal_at};
 ghost use Rattle.mc_tables.specs.SummarySoFar.{summary_with_line};
 ghost use Rattle.mc_tables.specs.Steps.{out_of_memory};
 
@@ -30,12 +31,12 @@ use std::marker::Model;
 /// The greatest number of rows.
 const MAX_ROWS: usize = 65_536;
 
-/// The rows that are kept, what finds a repeated one of the others, and how many rows there are, of
-/// a router whose machine has this byte order.
+/// The rows that are kept, the keys of the others, by which a repeated one is found, and how many rows
+/// there are, of a router whose machine has this byte order.
 #[derive(Debug, Drop)]
 pub struct CacheRowReader {
     order: Order,
-    // the row that is read, and its outgoing vifs
+    // the row that was read last, and its outgoing vifs
     row: CacheRow,
     oifs: Vec<Oif>,
     kept: CacheRows,
@@ -69,7 +70,7 @@ impl CacheRowReader {
         requires empty { numbers.numbers ≡ [] }
         ensures value { result ≡ rows_start order numbers.listed }
     {
-        // Until a row is read.
+        // Overwritten by the first row.
         let none = Addr::from_octets([0, 0, 0, 0]);
         let row = CacheRow {
             group: none,
@@ -108,7 +109,7 @@ impl CacheRowReader {
         Ok(())
     }
 
-    /// The same, and notes the row.
+    /// Reads the row of a line, adds it, and adds it to the summary.
     pub fn add_summarized(
         &mut self,
         line: &Line<'_>,
@@ -135,7 +136,8 @@ impl CacheRowReader {
         summary.add(&self.row, &self.oifs, is_kept)
     }
 
-    /// What a line is refused for that has this fault: an earlier row that repeats one comes first.
+    /// The fault of the text whose line has this fault: an earlier row that repeats another one is
+    /// reported first.
     pub fn earliest_fault(&mut self, line: u32, kind: TableFaultKind) -> TableFault
         ensures memory { kind ≡ Memory → result ≡ out_of_memory }
         ensures first { kind ≢ Memory → result ≢ out_of_memory →
@@ -152,7 +154,7 @@ impl CacheRowReader {
         }
     }
 
-    /// Refuses rows of which one isn't kept and has the source and the group of an earlier line's.
+    /// Refuses rows of which one that isn't kept has the source and the group of an earlier one.
     pub fn check_repeats(&mut self) -> Result<(), TableFault>
         ensures repeats { result ≡ without_repeat self.old.rows.others }
         ensures table { self.new.rows.table ≡ self.old.rows.table }
@@ -163,7 +165,7 @@ impl CacheRowReader {
     }
 }
 
-/// Adds a row that was read, with its outgoing vifs, and answers whether it is kept.
+/// Adds a row that was read, with its outgoing vifs, and returns whether it is kept.
 fn add_read_row(
     kept: &mut CacheRows,
     others: &mut UnlistedRows,
@@ -173,17 +175,15 @@ fn add_read_row(
     line: u32,
 ) -> Result<bool, TableFaultKind>
     requires room { count.old < 65536 }
-    requires few { length oifs.now ≤ 32 }
+    requires at_most_32 { length oifs.now ≤ 32 }
     requires numbered { length kept.old.table.numbered ≤ count.old }
     ensures kept { IfOk result (λ is_kept.
         is_kept ≡ is_kept_by_set kept.old.listed (row_with_oifs row.now oifs.now)) }
     ensures added { OnOk result (any_row_added kept.old.listed
-        (record { table = kept.old.table; others = others.old; count = count.old })
-        (row_with_oifs row.now oifs.now) line
-        ≡ Ok (record { table = kept.new.table; others = others.new; count = count.new })) }
+        (rows_of_parts kept.old others.old count.old) (row_with_oifs row.now oifs.now) line
+        ≡ Ok (rows_of_parts kept.new others.new count.new)) }
     ensures fault { IfErr result (λ fault. fault ≢ Memory → any_row_added kept.old.listed
-        (record { table = kept.old.table; others = others.old; count = count.old })
-        (row_with_oifs row.now oifs.now) line
+        (rows_of_parts kept.old others.old count.old) (row_with_oifs row.now oifs.now) line
         ≡ Err fault) }
     ensures others { OnErr result (others.new ≡ others.old) }
     ensures listed { kept.new.listed ≡ kept.old.listed }
@@ -199,7 +199,7 @@ fn add_read_row(
     Ok(is_kept)
 }
 
-/// Reads the row of a line after so many others.
+/// Reads the row of a line that comes after `count` others, if that isn't too many.
 fn read_row_with_room(
     count: usize,
     line: &Line<'_>,
@@ -208,7 +208,7 @@ fn read_row_with_room(
     oifs: &mut Vec<Oif>,
 ) -> Result<(), TableFaultKind>
     ensures room { OnOk result (count < 65536) }
-    ensures few { OnOk result (length oifs.new.items ≤ 32) }
+    ensures at_most_32 { OnOk result (length oifs.new.items ≤ 32) }
     ensures read { OnOk result
         (row_with_room order count (line_text line.now) ≡ Ok (row_with_oifs row.new oifs.new.items)) }
     ensures fault { IfErr result (λ fault. fault ≢ Memory →

@@ -1,4 +1,4 @@
-//! The rows of a cache by source and group.
+//! The rows of a cache that are kept, by source and group.
 
 ghost use Rattle.std.specs.Prelude.{◌≡◌, ◌≢◌, ◌<◌, ◌≤◌, ◌+◌, ◌||◌, [], length, OnOk, OnErr, IfErr};
 ghost use Rattle.std.specs.Prelude.{IfOk};
@@ -30,14 +30,14 @@ use std::marker::Model;
 /// aren't kept.
 #[derive(Debug)]
 pub struct CacheRows {
-    // by incoming vif
+    // the head of each list is the incoming vif
     entries: FlatOifs<u8>,
     numbers: EntryNumbers,
-    // as their lines come, until they are put in order
+    // in the order of their lines, until they are sorted
     groups: Vec<Addr>,
 }
 
-// Written out, so that whoever lets rows go takes one step, and not one for each of their parts.
+// Written out, so that dropping rows takes one step in a proof, and not one for each part.
 impl Drop for CacheRows {
     fn drop(self) {
         let Self {
@@ -76,7 +76,7 @@ impl Model for CacheRows {
 }
 
 impl CacheRows {
-    /// No rows. Those of the numbers' sources and groups are kept.
+    /// No rows. Rows will be kept of the sources and groups that can have one of these numbers.
     pub fn new(alloc: Global, numbers: EntryNumbers) -> CacheRows
         requires empty { numbers.numbers ≡ [] }
         ensures value { result ≡ record { table = table_of []; listed = numbers.listed; groups = [] } }
@@ -88,11 +88,11 @@ impl CacheRows {
         }
     }
 
-    /// Adds a row with its outgoing vifs if it is kept, and answers whether it is. After an error
-    /// the rows are of no use.
+    /// Adds a row with its outgoing vifs if it is to be kept, and returns whether it is. After an
+    /// error the rows are of no use.
     pub fn add(&mut self, row: &CacheRow, oifs: &[Oif]) -> Result<bool, TableFaultKind>
         requires room { length self.old.table.numbered < 65536 }
-        requires few { length oifs.now ≤ 32 }
+        requires at_most_32 { length oifs.now ≤ 32 }
         ensures kept { IfOk result (λ kept.
             kept ≡ is_kept_by_set self.old.listed (row_with_oifs row.now oifs.now)) }
         ensures added { IfOk result (λ kept. kept ≡ true →
@@ -125,7 +125,7 @@ impl CacheRows {
         Ok(())
     }
 
-    /// Adds an entry if its source and group can have a number, and answers whether they can.
+    /// Adds an entry if its source and group can have a number, and returns whether they can.
     fn add_entry(
         &mut self,
         key: &(Addr, Addr),
@@ -133,7 +133,7 @@ impl CacheRows {
         oifs: &[Oif],
     ) -> Result<bool, TableFaultKind>
         requires room { length self.old.table.numbered < 65536 }
-        requires few { length oifs.now ≤ 32 }
+        requires at_most_32 { length oifs.now ≤ 32 }
         ensures kept { IfOk result (λ kept. kept ≡ set_has_key self.old.listed key.now) }
         ensures added { IfOk result (λ kept. kept ≡ true →
             entry_added self.old.table key.now (record { iif = iif; oifs = oifs.now })
@@ -153,7 +153,7 @@ impl CacheRows {
         }
     }
 
-    /// Adds an entry if its source and group can have a number and have none.
+    /// Adds an entry if its source and group can have a number and don't have one.
     pub fn add_first_entry(
         &mut self,
         key: &(Addr, Addr),
@@ -161,7 +161,7 @@ impl CacheRows {
         oifs: &[Oif],
     ) -> Result<(), TableFaultKind>
         requires room { length self.old.table.numbered < 65536 }
-        requires few { length oifs.now ≤ 32 }
+        requires at_most_32 { length oifs.now ≤ 32 }
         ensures added { OnOk result (self.new
             ≡ with_entry_if_new self.old key.now (record { iif = iif; oifs = oifs.now })) }
         ensures fault { IfErr result (λ fault. fault ≡ Memory) }
@@ -172,8 +172,8 @@ impl CacheRows {
         Ok(())
     }
 
-    /// Adds an entry if its source and group can have a number and have none, and answers what
-    /// became of it.
+    /// Adds an entry if its source and group can have a number and don't have one, and returns
+    /// whether it was added, or why not.
     fn insert_entry(
         &mut self,
         key: &(Addr, Addr),
@@ -181,7 +181,7 @@ impl CacheRows {
         oifs: &[Oif],
     ) -> Result<Inserted, TableFaultKind>
         requires room { length self.old.table.numbered < 65536 }
-        requires few { length oifs.now ≤ 32 }
+        requires at_most_32 { length oifs.now ≤ 32 }
         ensures inserted { IfOk result
             (IsEntryInserted key.now (record { iif = iif; oifs = oifs.now }) self.old self.new) }
         ensures fault { IfErr result (λ fault. fault ≡ Memory) }
@@ -200,7 +200,7 @@ impl CacheRows {
         }
     }
 
-    /// The same rows, with the groups in order.
+    /// The same rows, with their groups sorted.
     pub fn with_sorted_groups(mut self) -> CacheRows
         ensures table { result.table ≡ self.table }
         ensures order { IsSorted nat_cmp result.groups }
@@ -210,7 +210,7 @@ impl CacheRows {
         self
     }
 
-    /// The number of the entry of a source and a group, whose place may be known already.
+    /// The number of the entry of a source and a group, whose place `hint` may give.
     pub fn number_with_hint(&self, source: Addr, group: Addr, hint: &mut usize) -> Option<u32>
         ensures within { IfSome result (λ number. number < length self.now.table.numbered) }
         ensures entry { option_and_then (slice_get self.now.table.numbered) result
@@ -230,7 +230,7 @@ impl CacheRows {
 
     /// Whether a row for every source has this group or the group 0.0.0.0.
     pub fn has_wildcard(&self, group: Addr) -> bool
-        requires valid { IsSorted nat_cmp self.now.groups }
+        requires sorted { IsSorted nat_cmp self.now.groups }
         ensures value { result ≡
             (set.contains self.now.table.wildcards group || set.contains self.now.table.wildcards 0) }
     {
@@ -238,7 +238,7 @@ impl CacheRows {
     }
 
     fn has_group(&self, group: Addr) -> bool
-        requires valid { IsSorted nat_cmp self.now.groups }
+        requires sorted { IsSorted nat_cmp self.now.groups }
         ensures value { result ≡ set.contains self.now.table.wildcards group }
     {
         self.groups.binary_search(&group).is_ok()

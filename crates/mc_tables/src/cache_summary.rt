@@ -1,4 +1,4 @@
-//! What is noted of the rows of a forwarding cache besides its table.
+//! The summary of a forwarding cache: what is kept of its rows besides the table.
 
 ghost use Rattle.std.specs.Prelude.{◌≡◌, IfSome};
 ghost use Rattle.std.specs.FinMap as map;
@@ -14,11 +14,11 @@ use crate::summary_so_far::SummarySoFar;
 use mc_text::Addr;
 use std::marker::Model;
 
-/// Which listed sources and groups have an unresolved row, which row for every source comes first,
-/// and which resolved rows are of sources and groups that aren't listed.
+/// Which listed sources and groups have an unresolved row, the first row for every source of each
+/// group, and which sources and groups that aren't listed have a resolved row.
 #[derive(Debug, Drop)]
 pub struct CacheSummary {
-    // those of unresolved rows have a number
+    // those that have a number have an unresolved row
     unresolved: ListedEntryNumbers,
     first: CacheRows,
     unlisted: u32,
@@ -43,7 +43,7 @@ impl Model for CacheSummary {
 }
 
 impl CacheSummary {
-    /// The notes of all rows.
+    /// The summary when all rows have been read.
     pub(crate) fn of(summary: SummarySoFar) -> CacheSummary
         requires valid { HasValidEntries (finished_summary summary) }
         ensures value { result ≡ finished_summary summary }
@@ -57,8 +57,8 @@ impl CacheSummary {
         }
     }
 
-    /// Whether a source and a group are listed and an unresolved row has them: packets came for
-    /// which the router had no route.
+    /// Whether a source and a group are listed and have an unresolved row: packets came for which the
+    /// router had no route.
     pub fn is_unresolved(&self, source: Addr, group: Addr) -> bool
         ensures { result ≡ set.contains self.now.unresolved (source, group) }
     {
@@ -67,8 +67,8 @@ impl CacheSummary {
             .is_some()
     }
 
-    /// The first resolved row of origin 0.0.0.0 and this group, if that is a listed one, or else
-    /// that of the group 0.0.0.0; and which of the two groups it has.
+    /// The first resolved row for every source (origin 0.0.0.0) of this group, if a listed pair has
+    /// the group, or else that of the group 0.0.0.0; with the one of the two groups that it has.
     pub fn row_for_every_source(&self, group: Addr) -> Option<(Addr, Entry<'_>)>
         ensures row { result ≡ every_source_row self.now group }
         ensures is_valid { IfSome result (λ row. IsValidEntry row.1) }
@@ -84,17 +84,16 @@ impl CacheSummary {
         }
     }
 
-    /// How many resolved rows of an origin other than 0.0.0.0 have a source and a group that aren't
-    /// listed.
+    /// How many resolved rows, other than those for every source, have a source and a group that
+    /// aren't listed.
     pub fn unlisted_count(&self) -> u32
         ensures { result ≡ self.now.unlisted }
     {
         self.unlisted
     }
 
-    /// The groups and sources of those rows, where the notes were to keep all of them, and else of
-    /// the lowest 20, or of all if they are fewer: each as its group and its source, by group and
-    /// then by source.
+    /// The groups and sources of those rows, each pair once, by group and then by source: all of them
+    /// if the reader was to keep all, or else the lowest 20.
     pub fn lowest_unlisted(&self) -> &[(Addr, Addr)]
         ensures { result.now ≡ self.now.lowest }
     {
@@ -102,7 +101,7 @@ impl CacheSummary {
     }
 }
 
-/// The first row for every source of this group, if those of the group are noted.
+/// The first row for every source of this group, if the group is a listed one.
 fn first_for_every_source(first: &CacheRows, group: Addr) -> Option<Entry<'_>>
     ensures { result ≡ map.get first.now.table.entries (0, group) }
 {

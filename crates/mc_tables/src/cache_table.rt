@@ -46,18 +46,18 @@ impl CacheTable {
     /// line first `Unended`, then `TooLarge` where it is a row too many, then its words from the
     /// left, then `RepeatedEntry`. Or `Memory`, at line 0.
     pub fn read(alloc: Global, text: &[u8], order: Order) -> Result<CacheTable, TableFault>
-        // What is read is what the text stands for.
+        // A table that is read is the one that the text denotes.
         ensures found { IfOk result (DenotesCache order text.now) }
-        // What the text stands for is read, unless memory runs out.
+        // A table that the text denotes is read, unless memory runs out.
         ensures only { (table : CacheValue) → DenotesCache order text.now table →
             result ≢ Err out_of_memory → result ≡ Ok table }
-        // Which fault it is, unless memory runs out.
+        // The fault is the first one of the text, unless memory runs out.
         ensures fault { result ≢ Err out_of_memory → result ≡ cache_in order text.now }
     {
         CacheTable::from_text(alloc, text, order)
     }
 
-    /// As `read`, by the one clause from which those of `read` follow.
+    /// Like `read`, with the one clause from which those of `read` follow.
     fn from_text(alloc: Global, text: &[u8], order: Order) -> Result<CacheTable, TableFault>
         ensures { result ≢ Err out_of_memory → result ≡ cache_in order text.now }
     {
@@ -89,7 +89,8 @@ impl CacheTable {
         }
     }
 
-    /// The number of that entry among the table's, which count from 0 in the order of their lines.
+    /// The number of the entry of this source and this group: entries are numbered from 0 in the
+    /// order of their lines.
     pub fn number_of(&self, source: Addr, group: Addr) -> Option<u32>
         ensures within { IfSome result (λ number. number < length self.now.numbered) }
         ensures entry { option_and_then (slice_get self.now.numbered) result
@@ -99,9 +100,9 @@ impl CacheTable {
         self.rows.number_with_hint(source, group, &mut 0)
     }
 
-    /// The same, for whoever asks for the same source and group of many tables of which the rows of
-    /// the same sources and groups are kept: `hint` is where they were found in the last one, or
-    /// any number at first. A right one saves a search.
+    /// Like `number_of`, for a caller that asks many tables for one source and group, where the
+    /// tables keep the rows of the same sources and groups. `hint` is any number at first, and is
+    /// set to the place that was found. A right hint saves a search.
     pub fn number_with_hint(&self, source: Addr, group: Addr, hint: &mut usize) -> Option<u32>
         ensures within { IfSome result (λ number. number < length self.now.numbered) }
         ensures entry { option_and_then (slice_get self.now.numbered) result
@@ -120,7 +121,7 @@ impl CacheTable {
         self.rows.entry_at(number)
     }
 
-    /// Whether a resolved row of source 0.0.0.0 has this group or the group 0.0.0.0.
+    /// Whether a resolved row for every source (origin 0.0.0.0) has this group or the group 0.0.0.0.
     pub fn has_wildcard(&self, group: Addr) -> bool
         ensures found { result ≡
             (set.contains self.now.wildcards group || set.contains self.now.wildcards 0) }

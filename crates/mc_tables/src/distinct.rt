@@ -1,4 +1,4 @@
-//! Whether numbers differ, each from each.
+//! Whether all numbers of a list differ, tested by a hash table and a sort of what collides.
 
 ghost use Rattle.std.specs.Prelude.{◌≡◌, ◌<◌, ◌^◌, true, IfOk, length};
 ghost use Rattle.std.specs.List.Sorted.{IsStrictlyIncreasing};
@@ -6,13 +6,13 @@ ghost use Rattle.mc_tables.specs.Distinct.{AreDistinct, IsPut, slot_of};
 
 use std::alloc::{AllocError, Global};
 
-/// For how many numbers there are slots enough.
+/// The greatest number of numbers that get four slots each.
 const MAX_SLOTTED: usize = 65_536;
 
 /// The slot of a number among so many.
 fn slot_of(number: u64, slots: usize) -> usize
-    requires some { 0 < slots }
-    requires few { slots < 2 ^ 32 }
+    requires nonempty { 0 < slots }
+    requires bounded { slots < 2 ^ 32 }
     ensures slot { result ≡ slot_of slots number }
     ensures within { result < slots }
 {
@@ -20,12 +20,12 @@ fn slot_of(number: u64, slots: usize) -> usize
     ((mixed * slots as u64) >> 32) as usize
 }
 
-/// Puts a number into its slot, or to the others if another number is there. Whether the number
-/// isn't there itself.
+/// Puts a number into its slot, or behind the others if another number has the slot. Returns whether
+/// it is new, as far as its slot shows.
 fn put_in_slot(slots: &mut Vec<u64>, others: &mut Vec<u64>, number: u64) -> Result<bool, AllocError>
-    requires some { 0 < length slots.old.items }
-    requires few { length slots.old.items < 2 ^ 32 }
-    ensures ok { IfOk result (λ new. new ≡ true →
+    requires nonempty { 0 < length slots.old.items }
+    requires bounded { length slots.old.items < 2 ^ 32 }
+    ensures put { IfOk result (λ new. new ≡ true →
         IsPut slots.old.items others.old.items number slots.new.items others.new.items) }
 {
     let slot = slot_of(number, slots.len());
@@ -48,8 +48,8 @@ fn is_ascending(numbers: &[u64]) -> bool
     numbers.is_sorted_by(|x, y| x < y)
 }
 
-/// Whether no two numbers were found that are one. Most have a slot of their own; those that have
-/// not are put in order.
+/// Whether no two of the numbers are equal. Most have a slot of their own; the others are sorted. A
+/// number 0, which looks like an empty slot, may give `false` wrongly.
 pub fn all_distinct(alloc: Global, numbers: &[u64]) -> Result<bool, AllocError>
     ensures { IfOk result (λ apart. apart ≡ true → AreDistinct numbers.now) }
 {

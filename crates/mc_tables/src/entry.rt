@@ -1,4 +1,4 @@
-//! Where a router forwards the packets of a source to a group.
+//! An entry of the forwarding cache: where a router forwards the packets of a source to a group.
 
 use std::marker::Model;
 
@@ -11,7 +11,7 @@ pub struct Oif {
     pub threshold: u8,
 }
 
-/// What a resolved row says.
+/// What a resolved row says: the incoming vif and the outgoing ones.
 #[derive(Debug, Drop)]
 pub struct Entry<'a> {
     /// The incoming vif, 0 to 31.

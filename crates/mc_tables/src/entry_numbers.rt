@@ -1,4 +1,4 @@
-//! The numbers of a cache's sources and groups.
+//! The number of each source and group that has an entry in a cache.
 
 ghost use Rattle.std.specs.Prelude.{◌≡◌, [], ◌<◌, IfOk, None, OnErr, Some};
 ghost use Rattle.std.specs.FinSet as set;
@@ -11,11 +11,11 @@ use std::alloc::{AllocError, Global};
 use std::collections::BTreeMap;
 use std::marker::Model;
 
-/// The number of each source and group that has one: of those that are listed, or of all.
+/// The numbers of sources and groups, of which only the listed ones, or all, can have one.
 #[derive(Debug, Drop)]
 pub struct EntryNumbers {
     listed: Option<ListedEntryNumbers>,
-    // where all are kept
+    // used only if all can have one
     all: BTreeMap<(Addr, Addr), u32>,
 }
 
@@ -32,7 +32,7 @@ impl Model for EntryNumbers {
 }
 
 impl EntryNumbers {
-    /// None has a number, and each can have one.
+    /// No numbers. Each source and group can have one.
     pub fn for_all_pairs(alloc: Global) -> EntryNumbers
         ensures { result ≡ record { listed = None; numbers = [] } }
     {
@@ -42,7 +42,7 @@ impl EntryNumbers {
         }
     }
 
-    /// None has a number, and these can have one.
+    /// No numbers. These sources and groups can have one.
     pub fn for_listed_pairs(alloc: Global, pairs: ListedPairs) -> EntryNumbers
         ensures { result ≡ record { listed = Some (set.from_list pairs); numbers = [] } }
     {
@@ -52,8 +52,8 @@ impl EntryNumbers {
         }
     }
 
-    /// The number of a source and a group, whose place may be known already. It is known
-    /// afterwards, for a table of which the same are kept.
+    /// The number of a source and a group. `hint` is their place among the listed ones, if it is
+    /// known, and is set to it.
     pub fn number_with_hint(&self, key: &(Addr, Addr), hint: &mut usize) -> Option<u32>
         ensures { result ≡ number_of_key self.now.numbers key.now }
     {
@@ -63,7 +63,7 @@ impl EntryNumbers {
         }
     }
 
-    /// Gives a source and a group this number, if they can have one and have none.
+    /// Gives a source and a group this number, if they can have one and don't.
     pub fn add(&mut self, key: &(Addr, Addr), number: u32) -> Result<Inserted, AllocError>
         requires bounded { number < 65536 }
         ensures numbered { IfOk result (IsNumberInserted key.now number self.old self.new) }

@@ -48,7 +48,7 @@ pub enum TableFaultKind {
 }
 
 impl TableFaultKind {
-    /// The fault of this kind at a line. Want of memory has no line.
+    /// The fault of this kind at a line. `Memory` has no line and gets 0.
     pub(crate) fn at(self, line: u32) -> TableFault
         ensures { result ≡ fault_at line self }
     {
@@ -66,7 +66,7 @@ impl TableFaultKind {
 #[derive(Clone, Copy, Debug, PartialEq, Eq, Error)]
 #[error("line {line}: {kind:?}")]
 pub struct TableFault {
-    /// The line, counted from 1, or 0 where no line is meant.
+    /// The line, counted from 1, or 0 if the fault has none.
     pub line: u32,
     /// What is wrong there.
     pub kind: TableFaultKind,

@@ -8,8 +8,8 @@ use crate::entry::Oif;
 use std::alloc::{AllocError, Global};
 use std::marker::Model;
 
-/// Where the outgoing vifs of a list stand among those of all lists, and its head. The head comes
-/// last, so that a list with a small one takes eight bytes: fields lie as they are written.
+/// Where the outgoing vifs of a list are among those of all lists, and its head. The head comes last,
+/// so that a list with a small one takes eight bytes: fields are laid out in the order written.
 #[derive(Clone, Copy, Debug)]
 struct FlatList<H: Copy> {
     /// The place of the first outgoing vif.
@@ -19,13 +19,12 @@ struct FlatList<H: Copy> {
     head: H,
 }
 
-/// Lists of outgoing vifs, which stand one after another. Each has a head, as an incoming vif. The
-/// value in contracts is the heads with their lists, and for how many more lists and outgoing vifs
-/// there is room.
+/// Lists of outgoing vifs, each with a head, such as an incoming vif. The value in contracts is the
+/// heads with their lists, and for how many more lists and outgoing vifs there is room.
 #[derive(Debug, Drop)]
 pub struct FlatOifs<H: Copy> {
     lists: Vec<FlatList<H>>,
-    // those of all lists
+    // the outgoing vifs of all lists, one list after another
     oifs: Vec<Oif>,
 }
 
@@ -56,6 +55,10 @@ impl<H: Copy> FlatOifs<H> {
     }
 
     /// No lists, and room for so many.
+    ///
+    /// # Errors
+    ///
+    /// `AllocError` if memory runs out.
     pub fn with_capacity(alloc: Global, lists: usize) -> Result<FlatOifs<H>, AllocError>
         ensures none { IfOk result (λ s. s.lists ≡ []) }
         ensures room { IfOk result (λ s. lists ≤ s.lists_left) }
@@ -73,7 +76,11 @@ impl<H: Copy> FlatOifs<H> {
         self.lists.len()
     }
 
-    /// Makes room for one list more, of so many outgoing vifs.
+    /// Makes room for one more list, of so many outgoing vifs.
+    ///
+    /// # Errors
+    ///
+    /// `AllocError` if memory runs out.
     pub fn reserve(&mut self, oifs: usize) -> Result<(), AllocError>
         ensures lists { self.new.lists ≡ self.old.lists }
         ensures room { OnOk result (HasRoom self.new oifs) }
@@ -82,7 +89,11 @@ impl<H: Copy> FlatOifs<H> {
         self.oifs.reserve(oifs)
     }
 
-    /// Adds a list behind the others. This can only be refused where there is no room.
+    /// Adds a list behind the others: at most 32 outgoing vifs, and at most 65,536 lists.
+    ///
+    /// # Errors
+    ///
+    /// `AllocError` if there is no room and memory runs out.
     #[tactic(auto, using(crate::proofs::FlatLemmas::lists_of_push))]
     pub fn push(&mut self, head: H, oifs: &[Oif]) -> Result<(), AllocError>
         requires count { length self.old.lists < 65536 }

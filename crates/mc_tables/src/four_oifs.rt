@@ -1,26 +1,25 @@
-//! Outgoing vifs as kernels print them, four at a time: each takes seven bytes, if its threshold has
-//! one digit.
+//! Reads outgoing vifs as kernels print them, four at a time: each takes seven bytes, if its
+//! threshold has one digit.
 
-ghost use Rattle.std.specs.Prelude.{◌≡◌, ℕ, List, ◌++◌, ◌∷◌, ◌+◌, ◌≤◌, IfNone, IfOk, IfSome, Ok};
+ghost use Rattle.std.specs.Prelude.{◌≡◌, ℕ, List, ◌∷◌, ◌+◌, ◌≤◌, IfNone, IfOk, IfSome, Ok};
 ghost use Rattle.std.specs.Prelude.{drop, length, true};
 ghost use Rattle.mc_text.specs.Lines.{words_of};
 ghost use Rattle.mc_tables.specs.CacheReading.{oif_in};
-ghost use Rattle.mc_tables.specs.FourOifs.{StartsWithFourOifs, DenoteAscendingOifs, StartsWithPrintedOif};
+ghost use Rattle.mc_tables.specs.FourOifs.{StartsWithFourOifs, StartsWithPrintedOif, AddsAscendingOifs};
 
 use crate::entry::Oif;
 use crate::table_words::MAX_VIF;
 use std::alloc::AllocError;
 use std::simd::prelude::*;
 
-/// How many bytes are looked at: those of four outgoing vifs, and four behind them, which may be
-/// any.
+/// How many bytes are tested at once: those of four outgoing vifs, and four more, which may be any.
 const LANES: usize = 32;
 
-/// How many bytes four of them take.
+/// How many bytes four outgoing vifs take.
 pub const FOUR_LEN: usize = 28;
 
-/// Whether four outgoing vifs are printed at a line's front. Each byte is in the range of its place,
-/// or is the other one that may stand there: a space for the tens of a vif.
+/// Whether a line begins with four printed outgoing vifs. Each byte is in the range of its place, or
+/// the other byte that is allowed there: a space for the tens of a vif.
 #[inline(always)]
 fn starts_with_four_oifs(line: &[u8]) -> bool
     requires within { LANES ≤ length line.now }
@@ -43,8 +42,8 @@ fn starts_with_four_oifs(line: &[u8]) -> bool
     ((text - least).simd_lt(sizes) | text.simd_eq(others)).all()
 }
 
-/// The outgoing vif that is printed at a place. A space for its tens counts as 0, since it has the
-/// last four bits of that digit.
+/// The outgoing vif that is printed at a place. A space for its tens counts as 0, since its last
+/// four bits are those of the digit 0.
 #[inline(always)]
 fn printed_oif(line: &[u8], at: usize) -> Oif
     requires long { at + 7 ≤ length line.now }
@@ -58,14 +57,12 @@ fn printed_oif(line: &[u8], at: usize) -> Oif
     Oif { vif, threshold }
 }
 
-/// Adds four outgoing vifs, ascending from the next on, if they are printed at a line's front, and
-/// answers the number next to the last.
+/// Adds the four outgoing vifs that a line begins with, if they are printed so and ascend from `next`
+/// on, and returns the number after the last one.
 #[inline(always)]
 pub fn add_four_oifs(line: &[u8], next: u8, oifs: &mut Vec<Oif>) -> Result<Option<u8>, AllocError>
-    ensures added { IfOk result (λ added. IfSome added (λ after.
-        (words : List (List ℕ)) × (four : List Oif)
-        × (words_of line.now ≡ words ++ words_of (drop FOUR_LEN line.now))
-        × (oifs.new.items ≡ oifs.old.items ++ four) × DenoteAscendingOifs next words four after)) }
+    ensures added { IfOk result (λ added. IfSome added
+        (AddsAscendingOifs line.now (drop FOUR_LEN line.now) next oifs.old.items oifs.new.items)) }
     ensures none { IfOk result (λ added. IfNone added (oifs.new.items ≡ oifs.old.items)) }
     ensures long { IfOk result (λ added. IfSome added (λ after. FOUR_LEN ≤ length line.now)) }
 {

@@ -1,25 +1,23 @@
-//! What follows from the definitions alone, for whoever builds on them.
+//! Theorems about the definitions alone, for callers that build on them.
 
-ghost use Rattle.std.specs.Prelude.{◌≡◌, ◌≢◌, ◌≤◌, ◌↔◌, ◌&&◌, Bool, ℕ, List, IsSome, IfSome, Ok, Err, Some};
-ghost use Rattle.std.specs.Prelude.{true};
-ghost use Rattle.std.specs.List.{filter_map, list_any};
+ghost use Rattle.std.specs.Prelude.{◌≡◌, ◌≢◌, ◌≤◌, ◌↔◌, ◌&&◌, Bool, ℕ, List, IsSome, IfSome, Ok, Err};
+ghost use Rattle.std.specs.Prelude.{Some, true};
 ghost use Rattle.std.specs.FinSet as set;
 ghost use Rattle.std.specs.Ordering.{nat_cmp};
-ghost use Rattle.std.specs.FinMap.{FinMap, find, get};
+ghost use Rattle.std.specs.FinMap.{FinMap, get};
 ghost use Rattle.mc_text.specs.declared.text.addr.Order.{Order};
 ghost use Rattle.mc_tables.specs.declared.fault.TableFault.{TableFault};
 ghost use Rattle.mc_tables.specs.VifTable.{VifValue, no_device, DenotesVifs};
 ghost use Rattle.mc_tables.specs.VifLookups.{HasDevice, IsValidVifTable, index_of};
 ghost use Rattle.mc_tables.specs.CacheTable.{CacheValue, IsValidEntry, IsValidCache, RowValue, DenotesCache};
-ghost use Rattle.mc_tables.specs.CacheTable.{key_cmp, same_key};
 ghost use Rattle.mc_tables.specs.VifReading.{vifs_in};
 ghost use Rattle.mc_tables.specs.CacheReading.{cache_in};
 ghost use Rattle.mc_tables.specs.ListedRows.{Listed, is_listed, listed_in, IsListedPart};
-ghost use Rattle.mc_tables.specs.Summary.{every_source_entry, keys_for_every_source, summary_of};
-ghost use Rattle.mc_tables.specs.Summary.{unresolved_key};
+ghost use Rattle.mc_tables.specs.Summary.{summary_of, has_unresolved_row, is_listed_group};
+ghost use Rattle.mc_tables.specs.Summary.{wildcard_entry, first_wildcard_entry};
 ghost use Rattle.mc_tables.specs.SummaryReading.{summary_in, table_without_summary};
 
-/// A text is read as a table exactly where it stands for it.
+/// A text is read as a table exactly if it denotes the table.
 pub fn reading_gives_denoted_table()
     ensures vifs { (text : List ℕ) (vifs : FinMap nat_cmp VifValue) →
         (vifs_in text ≡ Ok vifs) ↔ DenotesVifs text vifs }
@@ -27,7 +25,7 @@ pub fn reading_gives_denoted_table()
         (cache_in order text ≡ Ok table) ↔ DenotesCache order text table }
 {}
 
-/// A text stands for one table at most.
+/// A text denotes at most one table.
 pub fn text_denotes_one_table()
     ensures vifs { (text : List ℕ) (a b : FinMap nat_cmp VifValue) →
         DenotesVifs text a → DenotesVifs text b → a ≡ b }
@@ -35,7 +33,7 @@ pub fn text_denotes_one_table()
         DenotesCache order text a → DenotesCache order text b → a ≡ b }
 {}
 
-/// A table that a text stands for keeps the rules that every look-up tells of its table.
+/// A table that a text denotes keeps the rules that each look-up ensures of its table.
 pub fn denoted_tables_are_valid()
     ensures vifs { (text : List ℕ) (vifs : FinMap nat_cmp VifValue) →
         DenotesVifs text vifs → IsValidVifTable vifs }
@@ -43,15 +41,14 @@ pub fn denoted_tables_are_valid()
         DenotesCache order text table → IsValidCache table }
 {}
 
-/// A device other than `none` has one vif at most.
+/// A device other than `none` has at most one vif.
 pub fn devices_have_one_vif()
     ensures { (text : List ℕ) (vifs : FinMap nat_cmp VifValue) → DenotesVifs text vifs →
         (device : List ℕ) (i j : ℕ) → device ≢ no_device →
         HasDevice vifs i device → HasDevice vifs j device → i ≡ j }
 {}
 
-/// An index is answered for a device exactly if its vif has that device, and the device isn't
-/// `none`.
+/// An index is found for a device exactly if its vif has that device, and the device isn't `none`.
 pub fn index_answered_has_the_device()
     ensures { (text : List ℕ) (vifs : FinMap nat_cmp VifValue) → DenotesVifs text vifs →
         (device : List ℕ) (index : ℕ) → (index_of vifs device ≡ Some index)
@@ -64,15 +61,15 @@ pub fn vif_indexes_are_at_most_31()
         (index : ℕ) → IsSome (get vifs index) → index ≤ 31 }
 {}
 
-/// The vifs of a cache's entries are 0 to 31, the thresholds 1 to 254, and the outgoing vifs
-/// ascend, so that none stands twice.
+/// The vifs of a cache's entries are 0 to 31, the thresholds 1 to 254, and the outgoing vifs ascend,
+/// so that each is there once.
 pub fn entries_ascend_in_range()
     ensures { (order : Order) (text : List ℕ) (table : CacheValue) →
         DenotesCache order text table → (key : ℕ × ℕ) → IfSome (get table.entries key) IsValidEntry }
 {}
 
-/// Of a cache whose listed rows are kept, what is read is the listed part of the whole cache, and
-/// the faults are those of the whole text.
+/// A reader that keeps the listed rows reads the listed part of the whole cache, and its faults are
+/// those of the whole text.
 pub fn listed_table_is_part_of_whole()
     ensures part { (order : Order) (listed : Listed) (text : List ℕ) (part : CacheValue) →
         listed_in order listed text ≡ Ok part → (whole : CacheValue)
@@ -81,22 +78,20 @@ pub fn listed_table_is_part_of_whole()
         (listed_in order listed text ≡ Err fault) ↔ (cache_in order text ≡ Err fault) }
 {}
 
-/// A cache that is read with notes has the table that it has without, and its faults are the same.
+/// A cache that is read with a summary has the table that it has without, and the same faults.
 pub fn summary_changes_no_table()
     ensures { (all : Bool) (order : Order) (listed : List (ℕ × ℕ)) (text : List ℕ) →
         listed_in order (Some listed) text
         ≡ table_without_summary (summary_in all order listed text) }
 {}
 
-/// What the notes of some rows tell of a source and a group: whether they are listed and of an
-/// unresolved row; and of a group that is a listed one, or 0.0.0.0, the first of the rows for every
-/// source that has it.
+/// The summary of some rows says of a source and a group whether they are listed and have an
+/// unresolved row; and of a listed group, or of 0.0.0.0, which row for every source is its first.
 pub fn summary_answers_by_rows()
     ensures unresolved { (all : Bool) (listed : List (ℕ × ℕ)) (rows : List RowValue) (key : ℕ × ℕ) →
         set.contains (summary_of all listed rows).unresolved key
-        ≡ (is_listed (Some listed) key && list_any (same_key key) (filter_map unresolved_key rows)) }
+        ≡ (is_listed (Some listed) key && has_unresolved_row rows key) }
     ensures every_source { (all : Bool) (listed : List (ℕ × ℕ)) (rows : List RowValue) (group : ℕ) →
-        is_listed (Some (keys_for_every_source listed)) (0, group) ≡ true →
-        get (summary_of all listed rows).for_every_source (0, group)
-        ≡ find key_cmp (0, group) (filter_map every_source_entry rows) }
+        is_listed_group listed group ≡ true →
+        wildcard_entry (summary_of all listed rows) group ≡ first_wildcard_entry rows group }
 {}

@@ -1,4 +1,4 @@
-//! The multicast forwarding tables of a Linux router as its kernel shows them: the texts of
+//! Reads the multicast forwarding tables of a Linux router as its kernel prints them: the texts of
 //! `/proc/net/ip_mr_vif` and `/proc/net/ip_mr_cache`.
 #![tactic(auto)]
 

@@ -1,11 +1,10 @@
-//! The lines of a text that comes in pieces.
+//! Splits a text that comes in pieces into lines.
 
-ghost use Rattle.std.specs.Prelude.{◌≡◌, ◌+◌, ◌<◌, ◌≤◌, ◌==◌, [], length, take, IfOk, IfSome};
-ghost use Rattle.std.specs.Prelude.{MatchOption};
+ghost use Rattle.std.specs.Prelude.{◌≡◌, ◌+◌, ◌<◌, ◌≤◌, ◌==◌, [], length, IfOk, IfSome};
 ghost use Rattle.std.specs.Prelude.{position, Some};
 ghost use Rattle.mc_text.specs.LineView.{line_text};
 ghost use Rattle.mc_text.specs.Lines.{max_text};
-ghost use Rattle.mc_tables.specs.LinesSoFar.{lines_start, HasNoLineFeed, with_begun, with_ended};
+ghost use Rattle.mc_tables.specs.LinesSoFar.{lines_start, with_begun, with_ended, TakesToLineFeed};
 ghost use Rattle.mc_tables.specs.LinesSoFar.{IsValidLinesSoFar, line_begun, check_end_of_lines};
 
 use crate::fault::{TableFault, TableFaultKind};
@@ -13,7 +12,7 @@ use mc_text::{Line, MAX_TEXT, find_byte};
 use std::alloc::{AllocError, Global};
 use std::marker::Model;
 
-/// How many lines have ended, how many bytes have come, and those after the last line feed.
+/// How many lines have ended, how many bytes have come, and the bytes after the last line feed.
 #[derive(Debug, Drop)]
 pub struct LineBuffer {
     ended: u32,
@@ -33,7 +32,7 @@ impl Model for LineBuffer {
 }
 
 impl LineBuffer {
-    /// Nothing has come.
+    /// The state before the first piece.
     pub fn new(alloc: Global) -> LineBuffer
         ensures { result ≡ lines_start }
     {
@@ -74,15 +73,11 @@ impl LineBuffer {
         Ok(())
     }
 
-    /// Takes the bytes up to the first line feed, and answers where it stands. With none it takes
-    /// all.
+    /// Takes the bytes up to the first line feed, and returns its place. Without one it takes all.
     pub fn take_to_line_feed(&mut self, rest: &[u8]) -> Result<Option<usize>, AllocError>
         requires bounded { self.old.size + length rest.now ≤ max_text }
         ensures rules { IsValidLinesSoFar self.old }
-        ensures taken { IfOk result (λ place. MatchOption place
-            (HasNoLineFeed rest.now × (self.new ≡ with_begun self.old (length rest.now) rest.now))
-            (λ end. (position (λ b. b == 10) rest.now ≡ Some end)
-            × (self.new ≡ with_begun self.old (end + 1) (take end rest.now)))) }
+        ensures taken { IfOk result (TakesToLineFeed self.old rest.now self.new) }
     {
         match find_byte(b'\n', rest) {
             Some(end) => {
@@ -98,7 +93,7 @@ impl LineBuffer {
         }
     }
 
-    /// Where the first line feed stands, if the bytes are the first of a line.
+    /// The place of the first line feed, if the bytes are the first of a line.
     pub fn whole_line_end(&self, rest: &[u8]) -> Option<usize>
         ensures begun { IfSome result (λ end. self.now.begun ≡ []) }
         ensures end { IfSome result (λ end. position (λ b. b == 10) rest.now ≡ Some end) }
@@ -113,7 +108,7 @@ impl LineBuffer {
 
     /// The line of these bytes, whose line feed comes next.
     pub fn line_of<'a>(&self, bytes: &'a [u8]) -> Line<'a>
-        requires few { self.now.ended < max_text }
+        requires bounded { self.now.ended < max_text }
         requires begun { self.now.begun ≡ [] }
         ensures value { line_text result ≡
             line_begun (with_begun self.now (length bytes.now + 1) bytes.now) }
@@ -125,7 +120,7 @@ impl LineBuffer {
         }
     }
 
-    /// A line of so many bytes has passed, and the next one begins.
+    /// Skips a line of so many bytes and its line feed, of which nothing was taken before.
     pub fn skip_line(&mut self, len: usize)
         requires room { self.old.size + (len + 1) ≤ max_text }
         requires begun { self.old.begun ≡ [] }
@@ -146,7 +141,7 @@ impl LineBuffer {
         }
     }
 
-    /// The next line begins.
+    /// Begins the next line.
     pub fn begin_next_line(&mut self)
         requires bounded { self.old.ended + length self.old.begun < self.old.size }
         ensures change { self.new ≡ with_ended self.old }

@@ -1,4 +1,4 @@
-//! The numbers of the sources and groups that are listed.
+//! The number of each listed source and group that has an entry in a cache.
 
 ghost use Rattle.std.specs.Prelude.{◌≡◌, ℕ, [], ◌<◌, ◌≤◌, ◌++◌, IfNone, IfOk, IfSome, OnErr, OnOk};
 ghost use Rattle.std.specs.Prelude.{Some, false};
@@ -13,23 +13,22 @@ use mc_text::Addr;
 use std::alloc::{AllocError, Global};
 use std::marker::Model;
 
-/// What became of a source and a group that were to get a number.
+/// Whether a source and a group got a number, or why not.
 #[derive(Clone, Copy, Debug, PartialEq, Eq)]
 pub enum Inserted {
-    /// They have it.
+    /// They got it.
     New,
     /// They had one already.
     Repeated,
-    /// They aren't listed, and get none.
+    /// They aren't listed.
     Unlisted,
 }
 
-/// The sources and groups that are listed, by source and then by group, and the number of each that
-/// has one.
+/// The listed sources and groups, and the number of each that has one.
 #[derive(Debug, Drop)]
 pub struct ListedEntryNumbers {
     pairs: ListedPairs,
-    // at the place of a pair one more than its number, or 0; a pair past the end has none
+    // at the place of a pair its number plus one, or 0 if it has none; a pair past the end has none
     numbers: Vec<u32>,
 }
 
@@ -51,7 +50,7 @@ impl Model for ListedEntryNumbers {
 }
 
 impl ListedEntryNumbers {
-    /// These are listed, and none has a number.
+    /// No numbers. These sources and groups are listed.
     pub fn of(alloc: Global, pairs: ListedPairs) -> ListedEntryNumbers
         ensures listed { result.listed ≡ Some (set.from_list pairs) }
         ensures numbers { result.numbers ≡ [] }
@@ -62,8 +61,7 @@ impl ListedEntryNumbers {
         }
     }
 
-    /// The number of a source and a group, whose place may be known already. It is known
-    /// afterwards.
+    /// The number of a source and a group. `hint` is their place, if it is known, and is set to it.
     pub fn number_with_hint(&self, key: &(Addr, Addr), hint: &mut usize) -> Option<u32>
         ensures { result ≡ number_of_key self.now.numbers key.now }
     {
@@ -72,7 +70,7 @@ impl ListedEntryNumbers {
         number_at_place(&self.numbers, place)
     }
 
-    /// Gives a source and a group this number, if they are listed and have none.
+    /// Gives a source and a group this number, if they are listed and don't have one.
     pub fn add(&mut self, key: &(Addr, Addr), number: u32) -> Result<Inserted, AllocError>
         requires bounded { number < 65536 }
         ensures numbered { IfOk result (IsNumberInserted key.now number self.old self.new) }
@@ -101,7 +99,7 @@ fn number_at_place(numbers: &[u32], place: usize) -> Option<u32>
     Some(next - 1)
 }
 
-/// Gives each of so many pairs a place, at which there is no number.
+/// Adds places without a number until there are so many.
 fn ensure_places(numbers: &mut Vec<u32>, count: usize) -> Result<(), AllocError>
     ensures more { (zeros : ℕ) × (numbers.new.items ≡ numbers.old.items ++ replicate zeros 0) }
     ensures room { OnOk result (count ≤ length numbers.new.items) }

@@ -1,4 +1,4 @@
-//! The sources and groups that are listed, and where each of them stands.
+//! The listed sources and groups, and the place of each in their list.
 
 ghost use Rattle.std.specs.Prelude.{◌≡◌, ◌↔◌, ℕ, Contains, IfNone, IfOk, IfSome, false, length};
 ghost use Rattle.std.specs.List.{IsDistinct, list_any};
@@ -10,8 +10,8 @@ use std::alloc::{AllocError, Global};
 use std::marker::Model;
 use std::rc::Rc;
 
-/// Sources and groups that are listed, each once, which the readers of many caches share. Its value
-/// in contracts is their list.
+/// The listed sources and groups, each pair once, which the readers of many caches share. The value in
+/// contracts is the list of pairs.
 #[derive(Debug, Drop)]
 pub struct ListedPairs {
     index: Rc<Index>,
@@ -27,11 +27,11 @@ impl Model for ListedPairs {
 }
 
 impl ListedPairs {
-    /// These are listed.
+    /// Lists these sources and groups.
     ///
     /// # Errors
     ///
-    /// `Memory` where a growth was refused.
+    /// `Memory` if memory runs out.
     pub fn of(alloc: Global, pairs: &[(Addr, Addr)]) -> Result<ListedPairs, Memory>
         ensures { IfOk result (λ listed. (pair : ℕ × ℕ) →
             Contains listed pair ↔ Contains pairs.now pair) }
@@ -42,14 +42,14 @@ impl ListedPairs {
         })
     }
 
-    /// How many they are.
+    /// How many pairs there are.
     pub(crate) fn count(&self) -> usize
         ensures { result ≡ length self.now }
     {
         self.index.count()
     }
 
-    /// The place of a source and a group.
+    /// The place of a source and a group in the list.
     pub(crate) fn place_of(&self, key: &(Addr, Addr)) -> Option<usize>
         ensures found { IfSome result (IsPlaceOf self.now key.now) }
         ensures none { IfNone result (list_any (same_key key.now) self.now ≡ false) }
@@ -58,7 +58,7 @@ impl ListedPairs {
         self.index.place_of(pair_number(key.0, key.1))
     }
 
-    /// The same, where it may be known already.
+    /// Like `place_of`. A right `hint` saves a search.
     pub(crate) fn place_with_hint(&self, key: &(Addr, Addr), hint: usize) -> Option<usize>
         ensures found { IfSome result (IsPlaceOf self.now key.now) }
         ensures none { IfNone result (list_any (same_key key.now) self.now ≡ false) }
@@ -68,7 +68,7 @@ impl ListedPairs {
     }
 }
 
-/// The same pairs, which both share.
+/// The clone shares the pairs.
 impl Clone for ListedPairs {
     ghost is_clone = { λ listed copy. copy ≡ listed };
 

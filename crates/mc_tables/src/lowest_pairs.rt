@@ -1,4 +1,4 @@
-//! The lowest of many pairs of addresses.
+//! Keeps the lowest of many pairs of addresses.
 
 ghost use Rattle.std.specs.Prelude.{◌≡◌, [], OnOk, take};
 ghost use Rattle.mc_tables.specs.SummarySoFar.{put_pair};
@@ -7,10 +7,11 @@ use mc_text::Addr;
 use std::alloc::{AllocError, Global};
 use std::marker::Model;
 
-/// How many are kept at most.
+/// The greatest number of pairs that are kept.
 const MAX_PAIRS: usize = 20;
 
-/// The lowest of the pairs that came, ascending and each once. Its value in contracts is their list.
+/// The lowest of the pairs that were added, ascending and each once. The value in contracts is their
+/// list.
 #[derive(Debug, Drop)]
 pub struct LowestPairs {
     pairs: Vec<(Addr, Addr)>,
@@ -29,7 +30,7 @@ impl Model for LowestPairs {
 }
 
 impl LowestPairs {
-    /// None came.
+    /// No pairs.
     pub fn new(alloc: Global) -> LowestPairs
         ensures { result ≡ [] }
     {
@@ -38,7 +39,7 @@ impl LowestPairs {
         }
     }
 
-    /// One more came. Most are only compared with the greatest that is kept.
+    /// Adds a pair. Most are only compared with the greatest that is kept.
     pub fn add(&mut self, pair: (Addr, Addr)) -> Result<(), AllocError>
         ensures { OnOk result (self.new ≡ take 20 (put_pair pair self.old)) }
     {
@@ -52,7 +53,7 @@ impl LowestPairs {
         Ok(())
     }
 
-    /// Those that are kept.
+    /// The pairs that are kept.
     pub fn into_vec(self) -> Vec<(Addr, Addr)>
         ensures { result.items ≡ self }
     {

@@ -1,5 +1,5 @@
-//! A line whose digits and spaces are looked for at once, so that its words are found without a
-//! look at each byte.
+//! Finds the counters of a row by bit masks of the line's digits and spaces, so that its bytes
+//! aren't tested one by one.
 
 ghost use Rattle.std.specs.Prelude.{◌≡◌, ℕ, ◌<◌, ◌≤◌, ◌==◌, IfSome, drop, length};
 ghost use Rattle.std.specs.Int.{bit_at};
@@ -8,14 +8,14 @@ ghost use Rattle.mc_tables.specs.Counters.{AreLastDigits, AreMarks, HasCounters,
 
 use std::simd::prelude::*;
 
-/// How many bytes are looked at.
+/// How many bytes are marked.
 const LANES: usize = 32;
 
 /// How many bytes a counter may have with the spaces before it.
 const MAX_COUNTER_WIDTH: usize = 20;
 
 /// A line, and which of the bytes at its front are decimal digits and which are spaces. The lowest
-/// bit tells of the first byte.
+/// bit is for the first byte.
 #[derive(Clone, Copy)]
 pub struct MarkedLine<'a> {
     pub bytes: &'a [u8],
@@ -44,7 +44,7 @@ fn space_marks(line: &[u8]) -> u64
         .to_bitmask()
 }
 
-/// How many bits from the lowest on are set.
+/// The length of the run of set bits that begins with the lowest bit.
 #[inline(always)]
 fn front_run_length(marks: u64) -> usize
     ensures { (k : ℕ) → k < result → bit_at marks k ≡ 1 }
@@ -52,7 +52,7 @@ fn front_run_length(marks: u64) -> usize
     marks.trailing_ones() as usize
 }
 
-/// The place of the lowest bit that is set. Where none is, it is past all bits.
+/// The place of the lowest set bit, or 64 if none is set.
 #[inline(always)]
 fn lowest_mark(marks: u64) -> usize
     ensures lowest { (k : ℕ) → k < result → bit_at marks k ≡ 0 }
@@ -61,7 +61,7 @@ fn lowest_mark(marks: u64) -> usize
     marks.trailing_zeros() as usize
 }
 
-/// The digits that have a space behind them.
+/// The digits that have a space after them.
 #[inline(always)]
 fn last_digits(digits: u64, spaces: u64) -> u64
     ensures { AreLastDigits digits spaces result }
@@ -80,7 +80,7 @@ fn without_front(line: &[u8], count: usize) -> &[u8]
 }
 
 impl<'a> MarkedLine<'a> {
-    /// Looks at a line, if it is long enough.
+    /// Marks a line, if it is long enough.
     #[inline(always)]
     pub fn of(line: &'a [u8]) -> Option<MarkedLine<'a>>
         ensures bytes { IfSome result (λ marked. marked.bytes.now ≡ line.now) }
@@ -96,12 +96,12 @@ impl<'a> MarkedLine<'a> {
         })
     }
 
-    /// What stands behind the three counters that are its first words, if each has at most twenty
-    /// bytes with the spaces before it, and all are looked at.
+    /// What follows the three counters that are the line's first words. `None` if one of them has
+    /// more than twenty bytes with the spaces before it, or one isn't marked as a whole.
     #[inline(always)]
     pub fn behind_counters(self) -> Option<&'a [u8]>
-        requires valid { IsMarked self }
-        ensures some { IfSome result (λ after. HasCounters self.entry.bytes.now after.now) }
+        requires marked { IsMarked self }
+        ensures counters { IfSome result (λ after. HasCounters self.entry.bytes.now after.now) }
     {
         let ends = last_digits(self.digits, self.spaces);
         let packets = lowest_mark(ends);

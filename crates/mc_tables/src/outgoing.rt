@@ -6,7 +6,7 @@ ghost use Rattle.std.specs.List.{list_all, position_or_len, slice_split};
 ghost use Rattle.mc_tables.specs.declared.fault.TableFaultKind.TheVariants.{Memory};
 ghost use Rattle.mc_tables.specs.TableWords.{number_in};
 ghost use Rattle.mc_tables.specs.CacheReading.{oif_in, oifs_in};
-ghost use Rattle.mc_tables.specs.OutgoingSteps.{threshold_in, oif_in_turn, has_vif, oifs_with_word};
+ghost use Rattle.mc_tables.specs.OutgoingSteps.{threshold_in, oif_at_colon, has_vif, oifs_with_word};
 
 use crate::entry::Oif;
 use crate::fault::TableFaultKind;
@@ -16,11 +16,11 @@ use mc_text::Words;
 /// The greatest threshold that the kernel shows. It keeps 255 for "not forwarded there".
 pub const MAX_THRESHOLD: u8 = 254;
 
-/// Reads the outgoing vifs, by ascending vif.
+/// Reads the outgoing vifs of some words into `oifs`, by ascending vif.
 #[tactic(auto, using(crate::proofs::EntryLemmas::oifs_in_gives_at_most_32))]
 pub fn read_oifs(words: Words<'_>, oifs: &mut Vec<Oif>) -> Result<(), TableFaultKind>
     requires empty { oifs.old.items ≡ [] }
-    ensures few { OnOk result (length oifs.new.items ≤ 32) }
+    ensures at_most_32 { OnOk result (length oifs.new.items ≤ 32) }
     ensures read { OnOk result (oifs_in words.entry ≡ Ok oifs.new.items) }
     ensures fault { IfErr result (λ fault. fault ≢ Memory → oifs_in words.entry ≡ Err fault) }
 {
@@ -30,7 +30,8 @@ pub fn read_oifs(words: Words<'_>, oifs: &mut Vec<Oif>) -> Result<(), TableFault
     Ok(())
 }
 
-/// Adds the outgoing vif of a word. A kernel prints them by ascending vif.
+/// Adds the outgoing vif of a word at its place. Since a kernel prints them by ascending vif, that is
+/// mostly the end.
 fn add_oif(oifs: &mut Vec<Oif>, word: &[u8]) -> Result<(), TableFaultKind>
     ensures added { OnOk result (oifs_with_word oifs.old.items word.now ≡ Ok oifs.new.items) }
     ensures fault { IfErr result (λ fault. fault ≢ Memory →
@@ -58,9 +59,9 @@ fn oif_of_word(word: &[u8]) -> Result<(u8, u8), TableFaultKind>
     oif_of_parts(vif, threshold)
 }
 
-/// Reads a vif and what stands after its colon.
+/// Reads a vif, and the threshold after its colon.
 fn oif_of_parts(vif: &[u8], after: &[u8]) -> Result<(u8, u8), TableFaultKind>
-    ensures { result ≡ oif_in_turn vif.now (slice_split (λ b. b == 58) after.now) }
+    ensures { result ≡ oif_at_colon vif.now (slice_split (λ b. b == 58) after.now) }
 {
     let vif = number(vif, 0, MAX_VIF).ok_or(TableFaultKind::BadOif)?;
     let threshold = threshold_of_word(after)?;
@@ -77,7 +78,7 @@ fn split_at_colon(word: &[u8]) -> Option<(&[u8], &[u8])>
     Some((&word[..colon], &word[colon + 1..]))
 }
 
-/// The place of the first colon.
+/// The place of the word's first colon.
 fn first_colon(word: &[u8]) -> Option<usize>
     ensures { result ≡ position (λ b. b == 58) word.now }
 {
@@ -95,7 +96,7 @@ fn threshold_of_word(word: &[u8]) -> Result<u8, TableFaultKind>
     }
 }
 
-/// Why a word is no threshold: it has a second colon, or it writes none.
+/// Why a word is no threshold: it has a colon, or it isn't a number from 1 to 254.
 #[tactic(auto, using(crate::proofs::RowWordLemmas::threshold_refusals))]
 fn fault_of_threshold(word: &[u8]) -> TableFaultKind
     requires refused { number_in 1 254 word.now ≡ None }
@@ -108,7 +109,7 @@ fn fault_of_threshold(word: &[u8]) -> TableFaultKind
     }
 }
 
-/// Whether all vifs are less than this one.
+/// Whether all of the vifs are less than this one.
 fn all_below(oifs: &[Oif], vif: u8) -> bool
     ensures { result ≡ list_all (λ other. nat_lt other.vif vif) oifs.now }
 {
@@ -121,7 +122,7 @@ fn has_oif(oifs: &[Oif], vif: u8) -> bool
     oifs.iter().any(|other| other.vif == vif)
 }
 
-/// The first place whose vif is greater.
+/// The place of the first greater vif, or the end.
 fn place_by_vif(oifs: &[Oif], vif: u8) -> usize
     ensures place { result ≡ position_or_len (λ other. nat_lt vif other.vif) oifs.now }
     ensures within { result ≤ length oifs.now }

@@ -1,5 +1,5 @@
-//! A row as kernels print it, read in one pass. Whatever else a line may be is left to who reads
-//! its words one after the other.
+//! Reads a row as kernels print it in one pass. Any other line is read word by word, by
+//! `cache_line`.
 
 ghost use Rattle.std.specs.Prelude.{◌≡◌, ℕ, [], ◌∷◌, ◌++◌, ◌==◌, ◌&&◌, nat_le, not, List, IfOk};
 ghost use Rattle.std.specs.Prelude.{IfSome, Ok, Some, take};
@@ -23,14 +23,14 @@ use crate::table_words::{MAX_VIF, number};
 use mc_text::Order;
 use std::alloc::AllocError;
 
-/// The place of the first byte that is no space.
+/// The place of the first byte that isn't a space.
 fn word_start(line: &[u8]) -> Option<usize>
     ensures { result ≡ position (λ b. not (b == 32)) line.now }
 {
     line.iter().position(|byte| *byte != b' ')
 }
 
-/// The line from its first byte that is no space.
+/// The line from its first byte on that isn't a space.
 #[tactic(auto, using(crate::proofs::PlainRowLemmas::words_of_without_spaces, crate::proofs::PlainRowLemmas::words_of_spaces))]
 fn without_spaces(line: &[u8]) -> &[u8]
     ensures words { words_of result.now ≡ words_of line.now }
@@ -42,14 +42,14 @@ fn without_spaces(line: &[u8]) -> &[u8]
     }
 }
 
-/// The place of the first byte that is no decimal digit.
+/// The place of the first byte that isn't a decimal digit.
 fn digits_end(line: &[u8]) -> Option<usize>
     ensures { result ≡ position (λ b. not (is_ascii_digit b)) line.now }
 {
     line.iter().position(|byte| !byte.is_ascii_digit())
 }
 
-/// The decimal digits that a line begins with, and what stands behind this byte after them.
+/// The decimal digits that a line begins with, and what follows the byte `stop` after them.
 #[tactic(auto, using(crate::proofs::PlainRowLemmas::front_digits_are_decimal))]
 fn digits_before(line: &[u8], stop: u8) -> Option<(&[u8], &[u8])>
     ensures parts { IfSome result (λ parts. line.now ≡ parts.0.now ++ stop ∷ parts.1.now) }
@@ -62,7 +62,7 @@ fn digits_before(line: &[u8], stop: u8) -> Option<(&[u8], &[u8])>
     Some((&line[..end], &line[end + 1..]))
 }
 
-/// The decimal digits that are a line's first word, and what stands behind them.
+/// The decimal digits that are a line's first word, and what follows them.
 #[tactic(auto, using(crate::proofs::PlainRowLemmas::digits_are_first_word))]
 fn digits_at_front(line: &[u8]) -> Option<(&[u8], &[u8])>
     ensures words { IfSome result (λ parts. words_of line.now ≡ parts.0.now ∷ words_of parts.1.now) }
@@ -71,8 +71,8 @@ fn digits_at_front(line: &[u8]) -> Option<(&[u8], &[u8])>
     digits_before(without_spaces(line), b' ')
 }
 
-/// An incoming vif of one digit, which is printed in three bytes, with which a line begins, and
-/// what stands behind it.
+/// The incoming vif of one digit, printed in three bytes, that a line begins with, and what follows
+/// it.
 #[inline(always)]
 #[tactic(auto, using(crate::proofs::PlainRowLemmas::one_digit_iif_is_first_word))]
 fn one_digit_iif_at_front(line: &[u8]) -> Option<(u8, &[u8])>
@@ -87,7 +87,7 @@ fn one_digit_iif_at_front(line: &[u8]) -> Option<(u8, &[u8])>
     Some((iif, &line[3..]))
 }
 
-/// The same of one of two digits.
+/// The incoming vif of two digits that a line begins with, and what follows it.
 #[inline(always)]
 #[tactic(auto, using(crate::proofs::PlainRowLemmas::two_digit_iif_is_first_word))]
 fn two_digit_iif_at_front(line: &[u8]) -> Option<(u8, &[u8])>
@@ -105,7 +105,7 @@ fn two_digit_iif_at_front(line: &[u8]) -> Option<(u8, &[u8])>
     Some((iif, &line[3..]))
 }
 
-/// The incoming vif that is a line's first word, and what stands behind it.
+/// The incoming vif that is a line's first word, and what follows it.
 fn iif_at_front(line: &[u8]) -> Option<(u8, &[u8])>
     ensures { IfSome result (λ found. (word : List ℕ)
         × (words_of line.now ≡ word ∷ words_of found.1.now) × (is_decimal_word word ≡ true)
@@ -122,7 +122,7 @@ fn iif_at_front(line: &[u8]) -> Option<(u8, &[u8])>
     Some((iif, rest))
 }
 
-/// What stands behind the digits of a counter with which a line begins, its space first.
+/// What follows the digits of the counter that a line begins with, its space first.
 #[tactic(auto, using(crate::proofs::PlainRowLemmas::front_digits_are_decimal, crate::proofs::PlainRowLemmas::counter_is_first_word))]
 fn after_digits(line: &[u8]) -> Option<&[u8]>
     ensures { IfSome result (λ after. (counter : List ℕ)
@@ -135,7 +135,7 @@ fn after_digits(line: &[u8]) -> Option<&[u8]>
     Some(&line[end..])
 }
 
-/// What stands behind the counter that is a line's first word.
+/// What follows the counter that is a line's first word.
 fn after_counter(line: &[u8]) -> Option<&[u8]>
     ensures { IfSome result (λ after. (counter : List ℕ)
         × (words_of line.now ≡ counter ∷ words_of after.now) × (is_counter counter ≡ true)) }
@@ -143,8 +143,7 @@ fn after_counter(line: &[u8]) -> Option<&[u8]>
     after_digits(without_spaces(line))
 }
 
-/// What stands behind the three counters that are a line's first words, if they are near its
-/// front.
+/// What follows the three counters that are a line's first words, if they are near its front.
 #[inline(always)]
 fn after_marked_counters(line: &[u8]) -> Option<&[u8]>
     ensures { IfSome result (λ after. HasCounters line.now after.now) }
@@ -152,7 +151,7 @@ fn after_marked_counters(line: &[u8]) -> Option<&[u8]>
     MarkedLine::of(line)?.behind_counters()
 }
 
-/// What stands behind the three counters that are a line's first words.
+/// What follows the three counters that are a line's first words.
 fn after_counters(line: &[u8]) -> Option<&[u8]>
     ensures { IfSome result (λ after. HasCounters line.now after.now) }
 {
@@ -164,7 +163,7 @@ fn after_counters(line: &[u8]) -> Option<&[u8]>
     after_counter(rest)
 }
 
-/// The resolved row that a line begins with, and what stands behind its counters.
+/// The resolved row that a line begins with, and what follows its counters: the outgoing vifs.
 pub fn row_at_front(line: &[u8], order: Order) -> Option<(CacheRow, &[u8])>
     ensures { (oifs : List Oif) → IfSome result (λ found.
         oifs_in (words_of found.1.now) ≡ Ok oifs →
@@ -181,7 +180,7 @@ pub fn row_at_front(line: &[u8], order: Order) -> Option<(CacheRow, &[u8])>
     Some((row, rest))
 }
 
-/// Whether a byte is a decimal digit but 0.
+/// Whether a byte is a decimal digit other than 0.
 #[inline(always)]
 fn is_from_1_to_9(byte: u8) -> bool
     ensures { result ≡ (nat_le 49 byte && nat_le byte 57) }
@@ -189,8 +188,8 @@ fn is_from_1_to_9(byte: u8) -> bool
     (b'1'..=b'9').contains(&byte)
 }
 
-/// An outgoing vif of one digit with a threshold of one, with which a line begins, and what stands
-/// behind it.
+/// The outgoing vif of one digit, with a threshold of one digit, that a line begins with, and what
+/// follows it.
 #[inline(always)]
 #[tactic(auto, using(crate::proofs::PlainRowLemmas::one_digit_oif_is_first_word))]
 fn one_digit_oif_at_front(line: &[u8]) -> Option<(Oif, &[u8])>
@@ -211,8 +210,8 @@ fn one_digit_oif_at_front(line: &[u8]) -> Option<(Oif, &[u8])>
     Some((Oif { vif, threshold }, &line[7..]))
 }
 
-/// An outgoing vif of two digits with a threshold of one, with which a line begins, and what stands
-/// behind it.
+/// The outgoing vif of two digits, with a threshold of one digit, that a line begins with, and what
+/// follows it.
 #[inline(always)]
 #[tactic(auto, using(crate::proofs::PlainRowLemmas::two_digit_oif_is_first_word))]
 fn two_digit_oif_at_front(line: &[u8]) -> Option<(Oif, &[u8])>
@@ -236,8 +235,8 @@ fn two_digit_oif_at_front(line: &[u8]) -> Option<(Oif, &[u8])>
     Some((Oif { vif, threshold }, &line[7..]))
 }
 
-/// The outgoing vif that a line begins with, and what stands behind it. Most are written with one
-/// digit or two, and a threshold of one.
+/// The outgoing vif that a line begins with, and what follows it. Most have one or two digits, and a
+/// threshold of one digit.
 #[tactic(auto, using(crate::proofs::PlainRowLemmas::vif_in_range))]
 fn oif_at_front(line: &[u8]) -> Option<(Oif, &[u8])>
     ensures word { IfSome result (λ found. (word : List ℕ)
@@ -259,11 +258,11 @@ fn oif_at_front(line: &[u8]) -> Option<(Oif, &[u8])>
     Some((Oif { vif, threshold }, rest))
 }
 
-/// Reads the outgoing vifs of which a line is made, if they ascend. Whether they were read.
+/// Reads the outgoing vifs that a line consists of, if they ascend, and returns whether it did.
 #[tactic(auto, using(crate::proofs::PlainRowLemmas::greater_oif_is_appended, crate::proofs::OifLemmas::oifs_in_by_steps))]
 pub fn read_ascending_oifs(line: &[u8], oifs: &mut Vec<Oif>) -> Result<bool, AllocError>
     requires empty { oifs.old.items ≡ [] }
-    ensures ok { IfOk result (λ read. read ≡ true →
+    ensures read { IfOk result (λ read. read ≡ true →
         oifs_in (words_of line.now) ≡ Ok oifs.new.items) }
 {
     let mut rest = line;

@@ -1,4 +1,4 @@
-//! Reading the rows of a table from pieces of its text.
+//! Reads the rows of a table from pieces of its text.
 
 ghost use Rattle.std.specs.Prelude.{◌≡◌, ◌≢◌, ◌+◌, ◌<◌, ◌≤◌, ◌==◌, ℕ, List, [], ◌++◌, length, drop};
 ghost use Rattle.std.specs.Prelude.{position, Some, Result, Ok, Err, OnOk, IfOk, IfErr};
@@ -13,25 +13,25 @@ use crate::fault::{TableFault, TableFaultKind};
 use crate::line_buffer::LineBuffer;
 use mc_text::Line;
 
-/// The rows of a table, each of which is read beside the earlier ones.
+/// The rows of a table, to which those of further lines are added.
 pub trait TableRows {
-    // the table that they make
+    // the table of the rows
     ghost Table: { Type 0 };
 
     // the first word of its header
     ghost header: { List ℕ };
 
-    // the row of a line more, or the first fault
+    // the rows with that of one more line, or the first fault
     ghost step: { Self → LineText → Result Self TableFault };
 
     // the table of these rows and those of the lines after them
     ghost table: { Self → List LineText → Result Table TableFault };
 
-    // what they keep
+    // the rules that the rows keep
     ghost is_valid: { Self → Type 0 };
 
-    /// Adds the row of a line after so many lines, the first of which is the header. The fault that
-    /// is answered may be that of an earlier row. After an error the rows are of no use.
+    /// Adds the row of the line that comes after `ended` others. The first line is the header. The
+    /// fault may be that of an earlier row. After an error the rows are of no use.
     fn add_line(&mut self, ended: u32, line: &Line<'_>) -> Result<(), TableFault>
         ensures added { OnOk result
             (line_after header (step self.old) self.old ended (line_text line.now) ≡ Ok self.new) }
@@ -40,7 +40,7 @@ pub trait TableRows {
         ensures is_valid { OnOk result (is_valid self.old → is_valid self.new) };
 }
 
-/// Reads the lines that end in a piece.
+/// Reads the lines that end in a piece, and buffers the start of the next one.
 pub fn read_piece<R: TableRows>(
     lines: &mut LineBuffer,
     rows: &mut R,
@@ -66,11 +66,11 @@ pub fn read_piece<R: TableRows>(
     'lines: while !rest.is_empty() {
         match lines.whole_line_end(rest) {
             Some(end) => {
-                read_whole(lines, rows, rest, end)?;
+                read_whole_line(lines, rows, rest, end)?;
                 rest = &rest[end + 1..];
             }
             None => {
-                let taken = read_begun(lines, rows, rest)?;
+                let taken = read_begun_line(lines, rows, rest)?;
                 rest = &rest[taken..];
             }
         }
@@ -78,8 +78,8 @@ pub fn read_piece<R: TableRows>(
     Ok(())
 }
 
-/// Reads the line that ends here, of which nothing came before.
-fn read_whole<R: TableRows>(
+/// Reads a line that lies in this piece as a whole, up to its line feed at `end`.
+fn read_whole_line<R: TableRows>(
     lines: &mut LineBuffer,
     rows: &mut R,
     rest: &[u8],
@@ -102,15 +102,15 @@ fn read_whole<R: TableRows>(
     Ok(())
 }
 
-/// Reads what a line that has begun goes on with, and answers how many bytes that is: those up to
-/// its line feed, or all.
-fn read_begun<R: TableRows>(
+/// Reads more of a line that has begun, and returns how many bytes it took: those up to the line
+/// feed and it, or all.
+fn read_begun_line<R: TableRows>(
     lines: &mut LineBuffer,
     rows: &mut R,
     rest: &[u8],
 ) -> Result<usize, TableFault>
     requires steps { ReadsInSteps R.table R.step }
-    requires some { 0 < length rest.now }
+    requires nonempty { 0 < length rest.now }
     requires room { lines.old.size + length rest.now ≤ max_text }
     ensures reads { (more : List ℕ) → IfOk result (λ taken.
         read_after R.header (R.table rows.old) lines.old (rest.now ++ more)

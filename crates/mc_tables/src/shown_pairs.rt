@@ -1,4 +1,4 @@
-//! The pairs of addresses that notes keep: all that came, or the lowest.
+//! The pairs of addresses that a summary shows: all that were added, or the lowest.
 
 ghost use Rattle.std.specs.Prelude.{◌≡◌, [], OnOk};
 ghost use Rattle.mc_tables.specs.Summary.{in_order};
@@ -9,13 +9,13 @@ use mc_text::Addr;
 use std::alloc::{AllocError, Global};
 use std::marker::Model;
 
-/// All pairs that came, or the lowest of them.
+/// All pairs that were added, or the lowest of them.
 #[derive(Debug, Drop)]
 pub struct ShownPairs {
     all: bool,
-    // where all are kept, as they came: they are put in order once, when none comes any more
+    // used only if all are kept: in the order in which they were added, until they are sorted at last
     every: Vec<(Addr, Addr)>,
-    // where they aren't
+    // used only if the lowest are kept
     lowest: LowestPairs,
 }
 
@@ -33,7 +33,7 @@ impl Model for ShownPairs {
 }
 
 impl ShownPairs {
-    /// None came.
+    /// No pairs.
     pub fn new(alloc: Global, all: bool) -> ShownPairs
         ensures { result ≡ record { all = all; pairs = [] } }
     {
@@ -44,7 +44,7 @@ impl ShownPairs {
         }
     }
 
-    /// One more came.
+    /// Adds a pair.
     pub fn add(&mut self, pair: (Addr, Addr)) -> Result<(), AllocError>
         ensures { OnOk result (self.new ≡ with_pair pair self.old) }
     {
@@ -55,7 +55,7 @@ impl ShownPairs {
         self.lowest.add(pair)
     }
 
-    /// Those that are kept, ascending and each once.
+    /// The pairs that are kept, ascending and each once.
     pub fn into_vec(self) -> Vec<(Addr, Addr)>
         ensures { result.items ≡ self.pairs }
     {
@@ -68,7 +68,7 @@ impl ShownPairs {
     }
 }
 
-/// Pairs in order, each once.
+/// The pairs in ascending order, each once.
 fn sorted_without_repeats(mut pairs: Vec<(Addr, Addr)>) -> Vec<(Addr, Addr)>
     ensures { result.items ≡ in_order pairs.items }
 {

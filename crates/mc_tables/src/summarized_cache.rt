@@ -1,13 +1,13 @@
-//! A forwarding cache with what is noted of its rows.
+//! A forwarding cache with its summary.
 
 use crate::cache_summary::CacheSummary;
 use crate::cache_table::CacheTable;
 
-/// The table of the rows that are kept, and the notes of all rows.
+/// The table of the rows that are kept, and the summary of all rows.
 #[derive(Debug, Drop)]
 pub struct SummarizedCache {
     /// The table.
     pub table: CacheTable,
-    /// The notes.
+    /// The summary.
     pub summary: CacheSummary,
 }

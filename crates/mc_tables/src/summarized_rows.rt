@@ -1,4 +1,4 @@
-//! The rows of a cache of which the listed ones are kept, with notes of all.
+//! Reads the rows of a cache line by line, keeps the listed ones, and summarizes all.
 
 ghost use Rattle.std.specs.Prelude.{◌≡◌, ◌≢◌, OnOk, IfErr, Ok, Err};
 ghost use Rattle.mc_text.specs.LineView.{line_text};
@@ -25,7 +25,7 @@ use mc_text::{Line, Order};
 use std::alloc::Global;
 use std::marker::Model;
 
-/// The rows so far, and the notes of them.
+/// The rows so far, and their summary.
 #[derive(Debug, Drop)]
 pub struct SummarizedRows {
     rows: CacheRowReader,
@@ -54,8 +54,8 @@ impl Model for SummarizedRows {
 }
 
 impl SummarizedRows {
-    /// No rows. Those of these sources and groups are kept, and of the others all are noted or the
-    /// lowest.
+    /// No rows. Those of these sources and groups will be kept. Of the others the summary will have
+    /// all sources and groups if `all`, or else the lowest.
     pub fn new(alloc: Global, order: Order, listed: SummaryPairs, all: bool) -> SummarizedRows
         ensures { result ≡ summary_rows_start all order listed }
     {
@@ -66,7 +66,8 @@ impl SummarizedRows {
         }
     }
 
-    /// Refuses a text that ends here: a row that repeats one, and then its last line.
+    /// Refuses a text that ends here if a row repeats an earlier one, or else if its last line hasn't
+    /// ended.
     pub fn check_end(&mut self, lines: &LineBuffer) -> Result<(), TableFault>
         ensures end { result ≡ rows_end lines.now self.old.rows }
         ensures table { self.new.rows.rows.table ≡ self.old.rows.rows.table }
@@ -76,7 +77,7 @@ impl SummarizedRows {
         check_end(lines, &mut self.rows)
     }
 
-    /// The table of the rows that are kept, and the notes.
+    /// The table of the rows that are kept, and the summary.
     pub fn into_summarized(self) -> SummarizedCache
         requires table { IsValidCache self.rows.rows.table }
         requires summary { HasValidEntries (finished_summary self.summary) }
@@ -107,7 +108,8 @@ impl TableRows for SummarizedRows {
 
     ghost table = { summary_from };
 
-    ghost is_valid = { λ so_far. IsValidCache so_far.rows.rows.table × HasValidEntries (finished_summary so_far.summary) };
+    ghost is_valid = { λ so_far. IsValidCache so_far.rows.rows.table
+        × HasValidEntries (finished_summary so_far.summary) };
 
     fn add_line(&mut self, ended: u32, line: &Line<'_>) -> Result<(), TableFault> {
         if ended == 0 {

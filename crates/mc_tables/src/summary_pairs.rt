@@ -1,4 +1,4 @@
-//! The sources and groups that are listed, and the rows for every source that concern them.
+//! The listed sources and groups, and the keys of the rows for every source that concern them.
 
 ghost use Rattle.std.specs.Prelude.{◌≡◌, ◌↔◌, ℕ, ◌∷◌, Contains, IfOk};
 ghost use Rattle.std.specs.FinSet as set;
@@ -10,14 +10,14 @@ use mc_text::{Addr, Memory};
 use std::alloc::{AllocError, Global};
 use std::marker::Model;
 
-/// Sources and groups that are listed, each once, which the readers of many caches share, as
-/// `ListedPairs`, for readers that note rows too. Its value in contracts is their list.
+/// The listed sources and groups for a `SummaryReader`, each pair once. Clones share them, as those
+/// of `ListedPairs` do. The value in contracts is the list of pairs.
 #[derive(Debug, Drop)]
 pub struct SummaryPairs {
     pairs: ListedPairs,
-    // the same once more, since each reader keeps two
+    // the same pairs, since each reader keeps two
     pairs_copy: ListedPairs,
-    // 0.0.0.0 with each of their groups, and with the group 0.0.0.0
+    // the source 0.0.0.0 with each of their groups, and with the group 0.0.0.0
     for_every_source: ListedPairs,
 }
 
@@ -37,11 +37,11 @@ impl Model for SummaryPairs {
 }
 
 impl SummaryPairs {
-    /// These are listed.
+    /// Lists these sources and groups.
     ///
     /// # Errors
     ///
-    /// `Memory` where a growth was refused.
+    /// `Memory` if memory runs out.
     pub fn of(alloc: Global, pairs: &[(Addr, Addr)]) -> Result<SummaryPairs, Memory>
         ensures { IfOk result (λ listed. (pair : ℕ × ℕ) →
             Contains listed pair ↔ Contains pairs.now pair) }
@@ -55,7 +55,7 @@ impl SummaryPairs {
         })
     }
 
-    /// The pairs, twice, and those of rows for every source.
+    /// The pairs, twice, and the keys of rows for every source.
     pub(crate) fn into_lists(self) -> (ListedPairs, ListedPairs, ListedPairs)
         ensures pairs { result.0 ≡ self }
         ensures pairs_copy { result.1 ≡ self }
@@ -71,7 +71,7 @@ impl SummaryPairs {
     }
 }
 
-/// The same pairs, which both share.
+/// The clone shares the pairs.
 impl Clone for SummaryPairs {
     ghost is_clone = { λ listed copy. copy ≡ listed };
 
@@ -84,7 +84,7 @@ impl Clone for SummaryPairs {
     }
 }
 
-/// The origin 0.0.0.0 with each group of these, and with the group 0.0.0.0.
+/// The source 0.0.0.0 with each group of these pairs, and with the group 0.0.0.0.
 fn pairs_for_every_source(
     alloc: Global,
     pairs: &[(Addr, Addr)],

@@ -1,4 +1,4 @@
-//! Reading the forwarding cache, with notes of its rows, from pieces of its text.
+//! Reads the forwarding cache and a summary of its rows from pieces of its text.
 
 ghost use Rattle.std.specs.Prelude.{◌≡◌, ◌≢◌, ◌+◌, ◌<◌, ◌≤◌, ℕ, List, [], ◌++◌, length, None, Some};
 ghost use Rattle.std.specs.Prelude.{Err, OnOk, IfErr, IfSome};
@@ -17,8 +17,8 @@ use mc_text::Order;
 use std::alloc::Global;
 use std::marker::Model;
 
-/// A reader of `/proc/net/ip_mr_cache` that reads as `CacheReader` of listed sources and groups
-/// does, and notes besides what explains how packets of those are forwarded.
+/// A reader of `/proc/net/ip_mr_cache` that reads like `CacheReader`, and besides summarizes what
+/// explains how packets of the listed sources and groups are forwarded.
 #[derive(Debug, Drop)]
 pub struct SummaryReader {
     lines: LineBuffer,
@@ -50,12 +50,12 @@ impl Model for SummaryReader {
 }
 
 impl SummaryReader {
-    /// A reader that was fed nothing, for a router whose machine has this byte order. It keeps the
-    /// rows of these sources and groups, and notes what concerns them; and of the rows of others the
-    /// sources and groups of all, or of the lowest.
+    /// A reader that has been fed nothing, for a router whose machine has this byte order. It keeps
+    /// the rows of these sources and groups and summarizes what concerns them. Of the rows of others
+    /// the summary has all sources and groups if `all`, or else the lowest 20.
     pub fn new(alloc: Global, order: Order, listed: SummaryPairs, all: bool) -> SummaryReader
         ensures start { result ≡ summary_start all order listed }
-        // A text of any bytes ends with what the whole text is read as.
+        // Whatever text it is fed, reading ends with what the whole text is read as.
         ensures reads { (text : List ℕ) → length text ≤ max_text →
             summary_if result text ≡ summary_in all order listed text }
     {
@@ -73,7 +73,7 @@ impl SummaryReader {
     /// Those of `CacheReader::feed`.
     #[tactic(auto, using(crate::proofs::SummaryLemmas::summary_reads_in_steps))]
     pub fn feed(&mut self, piece: &[u8]) -> Result<(), TableFault>
-        // Whatever bytes come then, reading ends as it would have with this piece before them.
+        // Whatever bytes follow, reading ends as if they came in one piece with these.
         ensures goes_on { (more : List ℕ) → result ≢ Err out_of_memory →
             self.old.lines.size + length (piece.now ++ more) ≤ max_text →
             summary_if self.new more ≡ summary_if self.old (piece.now ++ more) }
@@ -83,7 +83,7 @@ impl SummaryReader {
         ensures too_large { self.old.fault ≡ None →
             max_text < self.old.lines.size + length piece.now →
             result ≡ Err (fault_at 0 TooLarge) }
-        // After a fault each call answers it again.
+        // After a fault each call returns it again.
         ensures again { IfSome self.old.fault (λ fault. (result ≡ Err fault)
             × (self.new ≡ self.old)) }
     {
@@ -99,7 +99,7 @@ impl SummaryReader {
         }
     }
 
-    /// The table and the notes, if the text ends here.
+    /// The table and the summary, if the text ends here.
     ///
     /// # Errors
     ///

@@ -1,4 +1,4 @@
-//! What is noted of the rows of a cache while they come.
+//! The summary of a cache's rows while they are read.
 
 ghost use Rattle.std.specs.Prelude.{◌≡◌, ◌<◌, ◌≤◌, ◌+◌, [], length, OnOk, IfErr, IfOk, None, Some};
 ghost use Rattle.std.specs.Prelude.{if◌then◌else◌, is_some, map, slice_get};
@@ -9,7 +9,8 @@ ghost use Rattle.mc_tables.specs.FlatRows.{row_with_oifs};
 ghost use Rattle.mc_tables.specs.ListedRows.{set_has_key, is_kept_by_set};
 ghost use Rattle.mc_tables.specs.Summary.{keys_for_every_source};
 ghost use Rattle.mc_tables.specs.SummarySoFar.{empty_summary, summary_with_row};
-ghost use Rattle.mc_tables.specs.SummarySoFar.{summary_with_unresolved, summary_with_every_source, summary_with_unlisted};
+ghost use Rattle.mc_tables.specs.SummarySoFar.{summary_with_unresolved, summary_with_every_source};
+ghost use Rattle.mc_tables.specs.SummarySoFar.{summary_with_unlisted};
 
 use crate::cache_row::CacheRow;
 use crate::cache_rows::CacheRows;
@@ -23,11 +24,11 @@ use mc_text::Addr;
 use std::alloc::Global;
 use std::marker::Model;
 
-/// The listed sources and groups of unresolved rows, the first rows for every source, and how many
-/// resolved rows are of other sources and groups, with all of those or the lowest.
+/// The listed sources and groups of unresolved rows, the first rows for every source, how many
+/// resolved rows have other sources and groups, and all of those or the lowest.
 #[derive(Debug, Drop)]
 pub struct SummarySoFar {
-    // those of unresolved rows have a number
+    // those that have a number have an unresolved row
     unresolved: ListedEntryNumbers,
     first: CacheRows,
     unlisted: u32,
@@ -56,8 +57,8 @@ impl Model for SummarySoFar {
 }
 
 impl SummarySoFar {
-    /// No rows. Of the unresolved ones those of the first list are noted, of those for every source
-    /// those of the second, and of the others all or the lowest.
+    /// The summary of no rows. It will have the unresolved rows of the first list, the rows for every
+    /// source of the second one, and all other sources and groups if `all`, or else the lowest.
     pub fn new(
         alloc: Global,
         listed: ListedPairs,
@@ -79,13 +80,14 @@ impl SummarySoFar {
         }
     }
 
-    /// Notes a row with its outgoing vifs, which is kept or not.
+    /// Adds a row with its outgoing vifs. `kept` is whether the table keeps the row.
     pub fn add(&mut self, row: &CacheRow, oifs: &[Oif], kept: bool) -> Result<(), TableFaultKind>
         requires kept { kept ≡ is_kept_by_set self.old.listed (row_with_oifs row.now oifs.now) }
         requires room { length self.old.first.table.numbered < 65536 }
         requires unlisted { self.old.unlisted < 65536 }
-        requires few { length oifs.now ≤ 32 }
-        ensures summarized { OnOk result (self.new ≡ summary_with_row self.old (row_with_oifs row.now oifs.now)) }
+        requires at_most_32 { length oifs.now ≤ 32 }
+        ensures summarized { OnOk result
+            (self.new ≡ summary_with_row self.old (row_with_oifs row.now oifs.now)) }
         ensures fault { IfErr result (λ fault. fault ≡ Memory) }
         ensures listed { self.new.listed ≡ self.old.listed }
         ensures first { length self.new.first.table.numbered
@@ -119,7 +121,7 @@ impl SummarySoFar {
         oifs: &[Oif],
     ) -> Result<(), TableFaultKind>
         requires room { length self.old.first.table.numbered < 65536 }
-        requires few { length oifs.now ≤ 32 }
+        requires at_most_32 { length oifs.now ≤ 32 }
         ensures summarized { OnOk result (self.new ≡ summary_with_every_source self.old
             (Some (key.now, record { iif = iif; oifs = oifs.now }))) }
         ensures fault { IfErr result (λ fault. fault ≡ Memory) }
@@ -145,7 +147,7 @@ impl SummarySoFar {
     }
 
     /// The sources and groups of unresolved rows, which have a number; the first rows for every
-    /// source; and of the others how many rows there are, and which pairs are kept.
+    /// source; how many rows are of others, and the pairs that are kept of these.
     pub fn into_parts(self) -> (ListedEntryNumbers, CacheRows, u32, Vec<(Addr, Addr)>)
         ensures unresolved { set.from_list (map (λ p. p.0) result.0.numbers) ≡ self.unresolved }
         ensures first { result.1 ≡ self.first }

@@ -1,4 +1,4 @@
-//! The rows of a cache that are not kept, by what finds a repeated one.
+//! The rows of a cache that aren't kept: the key and the line of each, by which a repeated one is found.
 
 ghost use Rattle.std.specs.Prelude.{◌≡◌, [], ◌∷◌, ◌++◌, true, OnOk, OnErr, IfErr};
 ghost use Rattle.std.specs.List.Sorted.{IsSorted};
@@ -15,11 +15,12 @@ use std::marker::Model;
 /// A row's source and group, and its line.
 type UnlistedRow = ((Addr, Addr), u32);
 
-/// Rows by what finds a repeated one, in the order of their lines until they are looked through.
+/// The source, the group and the line of each row, in the order of their lines until they are
+/// searched for a repeated one.
 #[derive(Debug, Drop)]
 pub struct UnlistedRows {
     rows: Vec<UnlistedRow>,
-    // the source and the group of each as one number, which is compared faster than a row
+    // the source and the group of each row as one number, which is compared faster than a row
     keys: Vec<u64>,
 }
 
@@ -36,7 +37,7 @@ impl Model for UnlistedRows {
 }
 
 impl UnlistedRows {
-    /// None.
+    /// No rows.
     pub fn new(alloc: Global) -> UnlistedRows
         ensures { result ≡ [] }
     {
@@ -46,7 +47,7 @@ impl UnlistedRows {
         }
     }
 
-    /// Adds one.
+    /// Adds a row.
     pub fn add(&mut self, source: Addr, group: Addr, line: u32) -> Result<(), TableFaultKind>
         ensures added { OnOk result (self.new ≡ self.old ++ ((source, group), line) ∷ []) }
         ensures fault { IfErr result (λ fault. fault ≡ Memory) }
@@ -58,7 +59,7 @@ impl UnlistedRows {
         Ok(())
     }
 
-    /// Refuses rows of which one has the source and the group of an earlier line's.
+    /// Refuses rows of which one has the source and the group of an earlier one.
     pub fn check_repeats(&mut self) -> Result<(), TableFault>
         ensures { result ≡ without_repeat self.old }
     {
@@ -66,7 +67,7 @@ impl UnlistedRows {
         if all_distinct(alloc, &self.keys).unwrap_or(false) {
             return Ok(());
         }
-        // Of those that are repeated the lines are needed too.
+        // Only a repeated row needs its line.
         self.rows.sort_unstable();
         match first_repeat_of_sorted(self.rows.as_slice()) {
             Some(line) => Err(TableFaultKind::RepeatedEntry.at(line)),
@@ -75,10 +76,10 @@ impl UnlistedRows {
     }
 }
 
-/// The first line whose row repeats an earlier one, where the rows stand by source and group, and
-/// then by line.
+/// The first line whose row repeats an earlier one. The rows are sorted by source and group, and then
+/// by line.
 fn first_repeat_of_sorted(rows: &[UnlistedRow]) -> Option<u32>
-    requires valid { IsSorted row_cmp rows.now }
+    requires sorted { IsSorted row_cmp rows.now }
     ensures value { result ≡ first_repeat rows.now }
 {
     let mut first = None;
@@ -90,14 +91,14 @@ fn first_repeat_of_sorted(rows: &[UnlistedRow]) -> Option<u32>
     first
 }
 
-/// Whether a row has the source and the group of one of an earlier line.
+/// Whether a row has the source and the group of another one whose line is earlier.
 fn repeats(row: &UnlistedRow, earlier: &UnlistedRow) -> bool
     ensures { result ≡ repeats row.now earlier.now }
 {
     earlier.0 == row.0 && earlier.1 < row.1
 }
 
-/// The lesser of a line and of one that may be there.
+/// The lesser of a line and of another one, if there is one.
 fn lesser_or(line: u32, other: Option<u32>) -> u32
     ensures { result ≡ lesser_or line other }
 {

@@ -1,4 +1,4 @@
-//! A virtual interface, as the kernel's table has it.
+//! A virtual interface of the kernel's multicast routing.
 
 ghost use Rattle.std.specs.Prelude.{◌≡◌, ◌≤◌, length};
 ghost use Rattle.mc_tables.specs.VifTable.{is_tunnel, is_register};
@@ -23,7 +23,7 @@ impl Model for DeviceName {
 }
 
 impl DeviceName {
-    /// The name of at most 15 bytes.
+    /// A name of at most 15 bytes.
     pub fn new(name: &[u8]) -> DeviceName
         requires bounded { length name.now ≤ 15 }
         ensures value { result ≡ name.now }
@@ -36,7 +36,7 @@ impl DeviceName {
         }
     }
 
-    /// Its bytes.
+    /// The name's bytes.
     pub fn as_bytes(&self) -> &[u8]
         ensures { result.now ≡ self.now }
     {

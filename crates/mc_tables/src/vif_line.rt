@@ -18,7 +18,7 @@ use crate::vif_row::VifRow;
 use mc_text::{Words, is_device_name};
 use std::str;
 
-/// The four words that count, by what they are.
+/// The four counters of a line.
 #[derive(Clone, Copy)]
 pub struct CounterWords<'a> {
     pub bytes_in: &'a [u8],
@@ -27,7 +27,7 @@ pub struct CounterWords<'a> {
     pub packets_out: &'a [u8],
 }
 
-/// The words of a line, by what they are.
+/// The nine words of a line.
 #[derive(Clone, Copy)]
 pub struct VifWords<'a> {
     pub index: &'a [u8],
@@ -38,7 +38,7 @@ pub struct VifWords<'a> {
     pub remote: &'a [u8],
 }
 
-/// Reads a vif and its index.
+/// Reads the vif of a line and its index.
 #[tactic(auto, using(crate::proofs::VifLemmas::vif_needs_nine_words))]
 pub fn vif_of_line(line: &[u8]) -> Result<VifRow, TableFaultKind>
     ensures { result ≡ vif_in_words (words_of line.now) }
@@ -47,7 +47,7 @@ pub fn vif_of_line(line: &[u8]) -> Result<VifRow, TableFaultKind>
     vif_of_words(&words)
 }
 
-/// The line's words, if there are nine.
+/// The words of a line, if there are nine.
 fn vif_words<'a>(line: &'a [u8]) -> Option<VifWords<'a>>
     ensures found { IfSome result (λ words. words_of line.now ≡ vif_word_list words) }
     ensures only { IfNone result (length (words_of line.now) ≢ 9) }
@@ -112,10 +112,10 @@ fn flags_of_word(word: &[u8]) -> Result<u32, TableFaultKind>
     hexadecimal(word).ok_or(TableFaultKind::BadFlags)
 }
 
-/// The number that one to eight hexadecimal digits write.
+/// The value of one to eight hexadecimal digits.
 fn hexadecimal(digits: &[u8]) -> Option<u32>
-    requires some { 1 ≤ length digits.now }
-    requires few { length digits.now ≤ 8 }
+    requires nonempty { 1 ≤ length digits.now }
+    requires at_most_8 { length digits.now ≤ 8 }
     requires digits { IsTrue (list_all is_ascii_hexdigit digits.now) }
     ensures value { result ≡ Some (digits_value 16 digits.now) }
 {
@@ -123,7 +123,7 @@ fn hexadecimal(digits: &[u8]) -> Option<u32>
     u32::from_str_radix(text, 16).ok()
 }
 
-/// The address's value isn't used.
+/// Refuses a word that isn't an address. Its value isn't used.
 fn check_address(word: &[u8]) -> Result<(), TableFaultKind>
     ensures { result ≡ demand (is_hexadecimal 8 8 word.now) BadAddress }
 {

@@ -1,4 +1,4 @@
-//! Reading the table of virtual interfaces from pieces of its text.
+//! Reads the table of virtual interfaces from pieces of its text.
 
 ghost use Rattle.std.specs.Prelude.{◌≡◌, ◌≢◌, ◌+◌, ◌<◌, ◌≤◌, ℕ, List, [], ◌++◌, length, None, Some};
 ghost use Rattle.std.specs.Prelude.{Ok, Err, OnOk, IfErr, IfSome};
@@ -37,10 +37,10 @@ impl Model for VifReader {
 }
 
 impl VifReader {
-    /// A reader that was fed nothing.
+    /// A reader that has been fed nothing.
     pub fn new(alloc: Global) -> VifReader
         ensures start { result ≡ vifs_start }
-        // A text of any bytes ends with what the whole text is read as.
+        // Whatever text it is fed, reading ends with what the whole text is read as.
         ensures reads { (text : List ℕ) → length text ≤ max_text →
             vifs_if result text ≡ vifs_in text }
     {
@@ -55,11 +55,11 @@ impl VifReader {
     ///
     /// # Errors
     ///
-    /// `TooLarge` at line 0 where the text has more than 16,777,216 bytes now; else the first fault
-    /// of the lines that have ended; or `Memory`. Each later call answers the same.
+    /// `TooLarge` at line 0 if the text has more than 16,777,216 bytes now; else the first fault of
+    /// the lines that have ended; or `Memory`. Each later call returns the same fault.
     #[tactic(auto, using(crate::proofs::VifPieceLemmas::vifs_read_in_steps))]
     pub fn feed(&mut self, piece: &[u8]) -> Result<(), TableFault>
-        // Whatever bytes come then, reading ends as it would have with this piece before them.
+        // Whatever bytes follow, reading ends as if they came in one piece with these.
         ensures goes_on { (more : List ℕ) → result ≢ Err out_of_memory →
             self.old.lines.size + length (piece.now ++ more) ≤ max_text →
             vifs_if self.new more ≡ vifs_if self.old (piece.now ++ more) }
@@ -69,7 +69,7 @@ impl VifReader {
         ensures too_large { self.old.fault ≡ None →
             max_text < self.old.lines.size + length piece.now →
             result ≡ Err (fault_at 0 TooLarge) }
-        // After a fault each call answers it again.
+        // After a fault each call returns it again.
         ensures again { IfSome self.old.fault (λ fault. (result ≡ Err fault)
             × (self.new ≡ self.old)) }
     {
@@ -89,7 +89,8 @@ impl VifReader {
     ///
     /// # Errors
     ///
-    /// The fault that was answered before, or that of the text's end.
+    /// The fault that `feed` returned, or else `Unended` if the last line has no line feed, or
+    /// `NoHeader` at line 1 for an empty text.
     pub fn finish(self) -> Result<VifTable, TableFault>
         ensures { result ≡ vifs_if self [] }
     {

@@ -1,4 +1,4 @@
-//! The rows of a table of vifs.
+//! The rows of a table of vifs while its lines are read.
 
 ghost use Rattle.std.specs.Prelude.{◌≡◌, ◌≢◌, [], OnOk, IfErr, Ok, Err};
 ghost use Rattle.mc_text.specs.LineView.{line_text};
@@ -40,7 +40,7 @@ impl VifRows {
         }
     }
 
-    /// Adds the row of a line.
+    /// Reads the row of a line and adds it.
     fn add_row(&mut self, line: &Line<'_>) -> Result<(), TableFaultKind>
         ensures added { OnOk result (vif_added self.old (line_text line.now) ≡ Ok self.new) }
         ensures fault { IfErr result (λ fault. fault ≢ Memory →

@@ -59,18 +59,18 @@ impl VifTable {
     /// line first `Unended`, then its words from the left, then `RepeatedIndex`, then
     /// `RepeatedDevice`. Or `Memory`, at line 0.
     pub fn read(alloc: Global, text: &[u8]) -> Result<VifTable, TableFault>
-        // What is read is what the text stands for.
+        // A table that is read is the one that the text denotes.
         ensures found { IfOk result (DenotesVifs text.now) }
-        // What the text stands for is read, unless memory runs out.
+        // A table that the text denotes is read, unless memory runs out.
         ensures only { (vifs : map.FinMap nat_cmp VifValue) → DenotesVifs text.now vifs →
             result ≢ Err out_of_memory → result ≡ Ok vifs }
-        // Which fault it is, unless memory runs out.
+        // The fault is the first one of the text, unless memory runs out.
         ensures fault { result ≢ Err out_of_memory → result ≡ vifs_in text.now }
     {
         VifTable::from_text(alloc, text)
     }
 
-    /// As `read`, by the one clause from which those of `read` follow.
+    /// Like `read`, with the one clause from which those of `read` follow.
     fn from_text(alloc: Global, text: &[u8]) -> Result<VifTable, TableFault>
         ensures { result ≢ Err out_of_memory → result ≡ vifs_in text.now }
     {
@@ -89,7 +89,7 @@ impl VifTable {
         }
     }
 
-    /// The vif of an index.
+    /// The vif with this index.
     pub fn vif(&self, index: u8) -> Option<&Vif>
         ensures found { option_copied result ≡ map.get self.now index }
         // The indexes of the table's vifs are 0 to 31.
@@ -119,7 +119,7 @@ impl VifTable {
     }
 }
 
-/// Reads a line after the earlier vifs.
+/// Reads a line that comes after those of the `earlier` vifs.
 #[tactic(auto, unfolding(crate::specs::VifReading::vif_in_line))]
 pub(crate) fn read_new_vif(earlier: &[VifRow], line: &Line<'_>) -> Result<VifRow, TableFaultKind>
     ensures { result ≡ vif_in_line earlier.now (line_text line.now) }

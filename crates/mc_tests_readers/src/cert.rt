@@ -1,5 +1,5 @@
-//! What no clause says and no run of the program shows: a text that is too long, and certificates as
-//! they are written after others that were read.
+//! Tests of `mc_cert` that neither a clause nor a run of the program covers: a text that is too long,
+//! lack of memory, and certificates that are read and written again.
 
 mod limits;
 mod memory;

@@ -1,6 +1,6 @@
-//! What the program doesn't show of source filters: their modes and lists, and that each call gives its
-//! answer where there is memory. `rt try --test --fail-alloc N`, for N from 1 on, refuses one growth after
-//! the other: a call is then made again, and a filter is as it was.
+//! Tests of source filters that no run of the program covers: their modes and lists, and what a call
+//! leaves when memory runs out. `rt try --test --fail-alloc N` refuses the Nth growth: the filter is then
+//! as it was before, and the call is repeated.
 
 use mc_filter::*;
 use mc_igmp::{Record, ReportList};
@@ -9,7 +9,7 @@ use std::alloc::Global;
 use std::process::Abort;
 use std::test::Fail;
 
-// Reports of one record, of each group of 239.1.2.0/24 one after the other. With A, B and C for
+// Reports of one record each, for the groups 239.1.2.0 to 239.1.2.10 in turn. With A, B and C for
 // 10.0.0.1, 10.0.0.2 and 10.0.0.3 they are: none; INCLUDE AB, INCLUDE BC; EXCLUDE AB, EXCLUDE BC;
 // EXCLUDE AB, EXCLUDE BC, INCLUDE B; INCLUDE B, EXCLUDE BC, EXCLUDE AB; INCLUDE A, EXCLUDE AB;
 // EXCLUDE AB, INCLUDE A; EXCLUDE A, INCLUDE A; INCLUDE A, EXCLUDE A; EXCLUDE AB, type 9 A; INCLUDE BAB.
@@ -50,7 +50,7 @@ fn are_sources(sources: &[Addr], digits: &[u8]) -> bool {
     sources.len() == digits.len()
 }
 
-// Whether the filter is the one that is written so.
+// Whether the filter is this one, written as in FILTERS.
 fn is_filter(filter: &Filter, wanted: &str) -> bool {
     match wanted.as_bytes() {
         [b'I', digits @ ..] => filter.mode() == Mode::Include
@@ -61,7 +61,7 @@ fn is_filter(filter: &Filter, wanted: &str) -> bool {
     }
 }
 
-// Whether the filter admits of the sources from 1 to 4 those that the one admits which is written so.
+// Whether the filter admits the same of the sources 1 to 4 as this one, written as in FILTERS.
 fn admits_as(filter: &Filter, wanted: &str) -> bool {
     let [mode, listed @ ..] = wanted.as_bytes() else {
         return false;
@@ -75,14 +75,14 @@ fn admits_as(filter: &Filter, wanted: &str) -> bool {
     true
 }
 
-// What a filter shows.
+// The mode and the sources of a filter.
 #[derive(Drop)]
 struct FilterSnapshot {
     mode: Mode,
     sources: Vec<Addr>,
 }
 
-// Merges a record. Where a growth is refused the filter is as it was, and the merge can be asked for again.
+// Merges a record. If memory runs out the filter is as it was before, and the merge is repeated.
 fn merge_or_unchanged(
     rt: &impl Abort,
     filter: &mut Filter,
@@ -110,7 +110,7 @@ fn merge_with_retry(
     merge_or_unchanged(rt, filter, group_record, &before)
 }
 
-// The filter of each record of a group, one merged after the other.
+// The filter of a group's records, merged one after the other.
 fn merged_filter(
     rt: &impl Abort,
     alloc: Global,
@@ -126,7 +126,7 @@ fn merged_filter(
     Ok(filter)
 }
 
-// The filter of all records of a group, at the second try where a growth is refused.
+// The filter of a group's records, merged by one call, which is repeated if memory runs out.
 fn wants_with_retry(alloc: Global, list: &ReportList, group: Addr) -> Result<Filter, Memory> {
     match wants_of(alloc, list, group) {
         Ok(filter) => Ok(filter),
@@ -134,7 +134,7 @@ fn wants_with_retry(alloc: Global, list: &ReportList, group: Addr) -> Result<Fil
     }
 }
 
-// Merges the records of a group, one after the other and all at once.
+// Merges the records of a group, one after the other and by one call.
 fn check_group(
     rt: &impl Abort,
     alloc: Global,
@@ -153,9 +153,9 @@ fn check_group(
     Ok(())
 }
 
-// Sources of the groups above that are asked of together, in whatever order and the last one twice: the
-// last numbers of the source and of the group, and whether some record admits it, as the filters above say.
-// Group 11 has no record.
+// Sources and groups that are queried together, in any order and the last one twice: the last numbers of
+// the source and of the group, and whether a record admits the source, as FILTERS says. Group 11 has no
+// record.
 const QUERIES: [([u8; 2], bool); 13] = [
     ([1, 11], false),
     ([2, 10], true),
@@ -181,7 +181,7 @@ fn pair(last: [u8; 2]) -> (Addr, Addr) {
     )
 }
 
-// Asks of one after the other.
+// Queries one after the other.
 fn check_each_query(rt: &impl Abort, list: &ReportList) {
     for (last, wanted) in &QUERIES {
         let (source, group) = pair(*last);
@@ -200,7 +200,7 @@ fn queried_pairs(alloc: Global) -> Result<Vec<(Addr, Addr)>, Memory> {
     Ok(pairs)
 }
 
-// What one walk over the list answers of these sources and groups.
+// What one walk over the list finds for these sources and groups.
 fn channel_answers(
     alloc: Global,
     pairs: &[(Addr, Addr)],
@@ -209,7 +209,7 @@ fn channel_answers(
     Channels::of(alloc, pairs)?.wanted(alloc, list)
 }
 
-// Whether the answers are those that are wanted.
+// Whether the answers are those of QUERIES.
 fn are_expected(channel_answers: &[bool]) -> bool {
     for (answer, (_, wanted)) in channel_answers.iter().zip(&QUERIES) {
         if answer != wanted {
@@ -219,7 +219,7 @@ fn are_expected(channel_answers: &[bool]) -> bool {
     channel_answers.len() == QUERIES.len()
 }
 
-// Asks of sources of many groups in one walk over the list, and of none.
+// Queries the sources of many groups in one walk over the list, and then none.
 fn check_channels(rt: &impl Abort, alloc: Global, list: &ReportList) -> Result<(), Memory> {
     assert!(rt; are_expected(&channel_answers(alloc, &queried_pairs(alloc)?, list)?));
     assert!(rt; channel_answers(alloc, &[], list)?.is_empty());

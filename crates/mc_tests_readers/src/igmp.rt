@@ -1,5 +1,5 @@
-//! What the program doesn't show of messages and lists: the records as they stand in a list, and what
-//! a message alone is.
+//! Tests of messages and report lists that no run of the program covers: the records of a list in their
+//! order, and single messages.
 
 use mc_igmp::*;
 use mc_text::{Addr, MAX_TEXT, Memory};
@@ -23,9 +23,9 @@ const LIST: &[u8] = b"1101ecfe0000000002000000\n\
 1700f7faef010203\n\
 22004d5b0000000102010000EF010203deadbeef\n";
 
-// What the list's records say, each by a letter for its group (S is 232.1.1.1, A is 239.1.2.3 and B is
-// 239.1.2.4), one for its kind (I for Include, E for Exclude, U for Unknown(7)), and the last numbers of
-// its sources in 10.0.0.0/24.
+// The list's records, each as a letter for its group (S is 232.1.1.1, A is 239.1.2.3 and B is 239.1.2.4),
+// one for its kind (I for Include, E for Exclude, U for Unknown(7)), and the last numbers of its sources
+// in 10.0.0.0/24.
 const RECORDS: &str = "SI9;AE56;SE5;AE67;AE6;AE;AE5;AI5;BE;AE;AU;AE";
 
 // Whether the sources are those with these last numbers.
@@ -39,8 +39,8 @@ fn are_sources(mut sources: Sources<'_>, digits: &[u8]) -> bool {
     sources.next().is_none()
 }
 
-// Whether the kind and the group are those of these letters.
-fn is_about(kind: Kind, group: Addr, group_letter: u8, kind_letter: u8) -> bool {
+// Whether the kind and the group are those of these letters, where C is for Change(3).
+fn has_kind_and_group(kind: Kind, group: Addr, group_letter: u8, kind_letter: u8) -> bool {
     let is_kind = match kind {
         Kind::Include => kind_letter == b'I',
         Kind::Exclude => kind_letter == b'E',
@@ -55,18 +55,18 @@ fn is_about(kind: Kind, group: Addr, group_letter: u8, kind_letter: u8) -> bool 
     is_kind && group.octets() == octets
 }
 
-// Whether the record says what these letters and numbers stand for.
+// Whether the record is the one that these letters and numbers denote.
 fn is_record(group_record: &Record<'_>, given: &[u8]) -> bool {
     match given {
         [group, kind, digits @ ..] => {
-            is_about(group_record.kind, group_record.group, *group, *kind)
+            has_kind_and_group(group_record.kind, group_record.group, *group, *kind)
                 && are_sources(group_record.sources.iter(), digits)
         }
         _ => false,
     }
 }
 
-// The list has those records, and no other.
+// The list has the records of RECORDS and no others.
 fn check_records(rt: &impl Abort, list: &ReportList) {
     let mut given = RECORDS.split(';');
     for group_record in list.records() {
@@ -92,7 +92,7 @@ fn read_byte_by_byte(alloc: Global, text: &[u8]) -> Result<Result<ReportList, Li
     Ok(reader.finish())
 }
 
-// In pieces it is read as at once: its records, and the fault of a line that isn't the last.
+// A list that is fed byte by byte has the same records, or the same fault, as one that is read at once.
 #[test]
 fn list_is_read_in_pieces(rt: HostRuntime) -> Result<(), Fail> {
     check_records(&rt, &read_byte_by_byte(rt.alloc(), LIST)??);
@@ -109,8 +109,7 @@ fn list_is_read_in_pieces(rt: HostRuntime) -> Result<(), Fail> {
     Ok(())
 }
 
-// A list that is read to its end by a reader that was fed it in two pieces. Once a growth is refused, each
-// later call answers that.
+// The list, fed to a reader in two pieces. Once memory has run out, each later call returns that.
 fn read_in_two_pieces(rt: &impl Abort, alloc: Global) -> Result<ReportList, ListFault> {
     let (front, rest) = LIST.split_at(100);
     let mut reader = ListReader::new(alloc);
@@ -125,7 +124,7 @@ fn read_in_two_pieces(rt: &impl Abort, alloc: Global) -> Result<ReportList, List
     reader.finish()
 }
 
-// The same, by another reader where a growth is refused.
+// The same, by a second reader if memory runs out.
 fn read_with_retry(rt: &impl Abort, alloc: Global) -> Result<ReportList, ListFault> {
     match read_in_two_pieces(rt, alloc) {
         Err(fault) if fault.kind == ListFaultKind::Memory => read_in_two_pieces(rt, alloc),
@@ -139,7 +138,7 @@ fn list_in_pieces_after_a_refused_growth(rt: HostRuntime) -> Result<(), Fail> {
     Ok(())
 }
 
-// After the fault of a line the rest is taken, and the fault is answered at the end.
+// After a line with a fault the rest is still taken, and the fault is returned at the end.
 #[test]
 fn list_with_a_fault_in_pieces(rt: HostRuntime) -> Result<(), Fail> {
     let mut reader = ListReader::new(rt.alloc());
@@ -155,7 +154,7 @@ fn list_with_a_fault_in_pieces(rt: HostRuntime) -> Result<(), Fail> {
     Ok(())
 }
 
-// Records that were forgotten are not among those of the list.
+// Records that were forgotten aren't in the list.
 #[test]
 fn records_are_forgotten(rt: HostRuntime) -> Result<(), Fail> {
     let mut reader = ListReader::new(rt.alloc());
@@ -168,7 +167,7 @@ fn records_are_forgotten(rt: HostRuntime) -> Result<(), Fail> {
     Ok(())
 }
 
-// Whether the bytes are no message, for this reason.
+// Whether the bytes are refused with this fault.
 fn is_refused_with(bytes: &[u8], fault: MessageFault) -> bool {
     matches!(Message::parse(bytes), Err(given) if given == fault)
 }
@@ -178,7 +177,7 @@ fn is_other_type(bytes: &[u8], message_type: u8) -> bool {
     matches!(Message::parse(bytes), Ok(Message::Other(given)) if given == message_type)
 }
 
-// Whether the message is a report whose one record says this.
+// Whether the message is a report of one record, the one that these letters and numbers denote.
 fn is_report_of(bytes: &[u8], given: &[u8]) -> bool {
     match Message::parse(bytes) {
         Ok(Message::Report(mut records)) => match records.next() {
@@ -189,9 +188,9 @@ fn is_report_of(bytes: &[u8], given: &[u8]) -> bool {
     }
 }
 
-// Messages that are none: seven bytes, a wrong checksum twice, and a report without its one record and
-// without its second one, and a cut report of version 2. Then a query and a leave; reports of versions 1
-// and 2, and one with a byte after it; and one of a change.
+// Refused are seven bytes, a wrong checksum twice, a report without its one record, one without its second
+// record, and a cut report of version 2. Parsed are a query and a leave; reports of versions 1 and 2, and
+// one with a byte after it; and one of a change.
 #[test]
 fn messages_are_parsed(rt: HostRuntime) {
     let second = MessageFault::Truncated(2);
@@ -219,7 +218,7 @@ fn messages_are_parsed(rt: HostRuntime) {
     assert!(rt; is_report_of(b"\x22\0\xe9\xf9\0\0\0\x01\x03\0\0\0\xef\x01\x02\x03", b"AC"));
 }
 
-// What is printed of a message's fault.
+// A message's fault is printed so.
 fn check_printed(
     rt: &impl Abort,
     alloc: Global,

@@ -1,6 +1,6 @@
-//! The tests of the crates below the domain: of texts, IGMP messages, source filters, forwarding
-//! tables, topologies and certificates, a module for each crate. They stand apart from what they
-//! test, since a crate with tests is proved twice.
+//! Tests of the crates that read texts: of devices and bundles, IGMP messages, source filters,
+//! forwarding tables, topologies and certificates, a module for each crate. They are in a crate of
+//! their own, since a crate with tests is proved twice.
 #![tactic(auto)]
 
 #[cfg(test)]

@@ -1,4 +1,4 @@
-//! What the program doesn't show of a router's forwarding tables.
+//! Tests of `mc_tables` that no run of the program covers.
 
 mod faults;
 mod memory;

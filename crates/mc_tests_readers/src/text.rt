@@ -1,5 +1,5 @@
-//! What no clause says and no run of the program shows: worked values, the greatest bundles, and
-//! devices that fail.
+//! Tests of `mc_text` that neither a clause nor a run of the program covers: worked values, the
+//! largest bundles, and devices that fail.
 
 mod bundle_writes;
 mod bundles;

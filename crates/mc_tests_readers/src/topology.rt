@@ -1,5 +1,5 @@
-//! What no clause says and no run of the program shows: a text that is too long, lack of memory, and
-//! look-ups.
+//! Tests of `mc_topology` that neither a clause nor a run of the program covers: a text that is too
+//! long, lack of memory, and look-ups.
 
 mod limits;
 mod memory;

@@ -1,4 +1,4 @@
--- Addresses and their octets, and the two calls that read them: of dotted texts and of digits.
+-- Addresses, their octets, and the two texts that they are read from.
 use Rattle.std.proofs.Common.{◌≡◌, ℕ, ◌<◌, List, [], ◌∷◌, length, get_or, Ok}
 use Rattle.std.proofs.Common.{refl, sym, ap, ◌∙◌, arith}
 use Rattle.std.specs.Int.{w32, from_be_bytes}
@@ -15,7 +15,7 @@ use Rattle.mc_text.specs.declared.text.addr.Order.TheVariants.{Little, Big}
 use Rattle.mc_text.specs.Addr.{IsAddr, octets_of, dotted}
 use Rattle.mc_text.specs.AddressWord.{printed_octets}
 
--- where four numbers are bytes, what is read at any place is one
+-- if four numbers are below 256, so is the one at each place
 four_octets_below_256 : (a b c d k : ℕ) → a < 256 → b < 256 → c < 256 → d < 256
     → get_or (a ∷ b ∷ c ∷ d ∷ []) k 0 < 256
 four_octets_below_256 a b c d k p q r s = grind arith
@@ -24,17 +24,17 @@ four_octets_below_256 a b c d k p q r s = grind arith
 pub octets_of-below_256 : (a k : ℕ) → get_or (octets_of a) k 0 < 256
 octets_of-below_256 a k = four_octets_below_256 _ _ _ _ k (omega arith) (omega arith) (omega arith) (omega arith)
 
--- the address of four octets has them
+-- the octets of the address of four octets are these
 pub octets_of-from_be_bytes : (octets : List ℕ) → length octets ≡ 4 → ((k : ℕ) → get_or octets k 0 < 256)
     → octets_of (from_be_bytes w32 octets) ≡ octets
 octets_of-from_be_bytes octets four fit = be_bytes_4 octets _ four fit refl
 
--- and is one of 32 bits
+-- the address of four octets is below 2^32
 pub from_be_bytes-below_2_32 : (octets : List ℕ) → ((k : ℕ) → get_or octets k 0 < 256)
     → IsAddr (from_be_bytes w32 octets)
 from_be_bytes-below_2_32 octets fit = omega (arith, fit 0, fit 1, fit 2, fit 3)
 
--- a dotted text is that of the address of its octets
+-- a dotted text of octets is that of their address
 pub dotted-from_be_bytes : (text octets : List ℕ) → IsDotted text octets
     → text ≡ dotted (from_be_bytes w32 octets)
 dotted-from_be_bytes text octets d =
@@ -46,7 +46,7 @@ dotted-from_be_bytes text octets d =
 pub IsDotted-dotted : (a : ℕ) → IsDotted (dotted a) (octets_of a)
 IsDotted-dotted a = IsDotted-ipv4_text (octets_of a) refl (octets_of-below_256 a)
 
--- a text spells one address
+-- a dotted text of octets is that of one address, the one with these octets
 pub from_be_bytes-dotted : (text octets : List ℕ) (a : ℕ) → IsAddr a → IsDotted text octets → text ≡ dotted a
     → from_be_bytes w32 octets ≡ a
 from_be_bytes-dotted text octets a fits d e =
@@ -55,12 +55,12 @@ from_be_bytes-dotted text octets a fits d e =
     (record { octets = octets_of a }) d own in
     ap (λ (x : Ipv4Addr). from_be_bytes w32 x.octets) same ∙ from_be_bytes-to_be_bytes_4 a fits
 
--- what digits are decoded to are bytes
+-- digits are decoded to bytes
 pub decode_of-below_256 : (word octets : List ℕ) → decode_of word ≡ Ok octets → (k : ℕ)
     → get_or octets k 0 < 256
 decode_of-below_256 word octets e = (decode_of-ok word octets e).3
 
--- a word's bytes are four, in either order
+-- a word has four bytes, in either order
 pub length-printed_octets : (order : Order) (a : ℕ) → length (printed_octets order a) ≡ 4
 length-printed_octets Little a = refl
 length-printed_octets Big a = refl

@@ -1,4 +1,4 @@
--- The digits of an address word.
+-- The digits of an address word, and their values by the table.
 use Rattle.std.proofs.Common.{◌≡◌, ℕ, zero, suc, ◌+◌, ◌<◌, ◌&&◌, Bool, true, List, []}
 use Rattle.std.proofs.Common.{◌∷◌, length, get_or, Ok, refl, ap, ◌∙◌, arith}
 use Rattle.std.specs.Prelude.{nat_eq}
@@ -9,12 +9,12 @@ use Rattle.hex.proofs.HexLemmas.{decode_of-ok}
 use Rattle.mc_text.specs.declared.text.address_digits.TheConstants.{VALUES}
 use Rattle.mc_text.specs.AddressWord.{hex_value_or_16}
 
--- each value of a list is that of its place, counted from c
+-- each value of the list is that of the byte which is its place, counted from c
 abbrev has_values_from : ℕ → List ℕ → Bool
 has_values_from c [] = true
 has_values_from c (v ∷ vs) = nat_eq v (hex_value_or_16 c) && has_values_from (c + 1) vs
 
--- so what stands at a place is its value
+-- the value at a place of such a list is that of the byte
 value_in_has_values_from : (c : ℕ) (vs : List ℕ) (k place : ℕ) → has_values_from c vs ≡ true → k < length vs
     → place ≡ k + c → get_or vs k 0 ≡ hex_value_or_16 place
 value_in_has_values_from c [] k place e less is = absurd (omega (arith, less))
@@ -26,15 +26,15 @@ value_in_has_values_from c (v ∷ vs) (suc k) place e less is =
     let p = and_parts (nat_eq v (hex_value_or_16 c)) _ e in
     value_in_has_values_from (c + 1) vs k place p.1 (omega (arith, less)) (omega (arith, is))
 
--- and so has the table of values
+-- the table has the value of each byte
 has_values_from-VALUES : has_values_from 0 VALUES.now ≡ true
 has_values_from-VALUES = refl
 
--- so each byte has its value there
+-- the table's value at a byte is the value of that digit
 pub hex_value_of_table : (c : ℕ) → c < 256 → get_or VALUES.now c 0 ≡ hex_value_or_16 c
 hex_value_of_table c less = value_in_has_values_from 0 VALUES.now c c has_values_from-VALUES less (omega arith)
 
--- a word of eight bytes is those at its eight places
+-- a word of eight bytes is the list of those at its eight places
 eight_bytes_by_place : (word : List ℕ) → length word ≡ 8
     → word ≡ get_or word 0 0 ∷ get_or word 1 0 ∷ get_or word 2 0 ∷ get_or word 3 0
     ∷ get_or word 4 0 ∷ get_or word 5 0 ∷ get_or word 6 0 ∷ get_or word 7 0 ∷ []

@@ -1,4 +1,4 @@
--- The function that reads an address finds what the relation says, and every address so written.
+-- Reading an address: the functions agree with the relations.
 use Rattle.std.proofs.Common.{◌≡◌, ℕ, ◌^◌, ◌<◌, ◌==◌, true, ltb, List, [], ◌∷◌, ◌++◌, length}
 use Rattle.std.proofs.Common.{get_or, append_assoc, arith, Some, Result, Ok, Err, refl, sym, ap}
 use Rattle.std.proofs.Common.{◌∙◌}
@@ -29,7 +29,7 @@ use Rattle.mc_text.proofs.BundleWords.{HasNoByte, HasNoByte-decimal}
 abbrev split_at_dots : List ℕ → List (List ℕ)
 split_at_dots text = slice_split (λ b. b == 46) text
 
--- what stands before a dot is the first of the parts between dots
+-- the bytes before the first dot are the first part
 split_at_dots-append_dot : (xs ys : List ℕ) → HasNoByte 46 xs → split_at_dots (xs ++ 46 ∷ ys) ≡ xs ∷ split_at_dots ys
 split_at_dots-append_dot [] ys none = refl
 split_at_dots-append_dot (x ∷ xs) ys none = rw (none.0, split_at_dots-append_dot xs ys none.1) refl
@@ -39,7 +39,7 @@ split_at_dots-without_dot : (xs : List ℕ) → HasNoByte 46 xs → split_at_dot
 split_at_dots-without_dot [] none = refl
 split_at_dots-without_dot (x ∷ xs) none = rw (none.0, split_at_dots-without_dot xs none.1) refl
 
--- a number that is written before a dot, and those after it
+-- the number before a dot is the first, and those after the dot follow
 numbers_between_dots-decimal : (n : ℕ) (rest : List ℕ) → n < 256
     → numbers_between_dots (decimal n ++ 46 ∷ rest) ≡ n ∷ numbers_between_dots rest
 numbers_between_dots-decimal n rest small =
@@ -47,7 +47,7 @@ numbers_between_dots-decimal n rest small =
     let number = split_at_dots-append_dot (decimal n) rest (HasNoByte-decimal 46 refl n wide) in
     rw (number, (decimal_is_IsNumeral n wide).1) refl
 
--- the numbers of a dotted text are those that it was written of
+-- the numbers of a dotted text are those that it writes
 numbers_between_dots-dotted_text : (a b c d : ℕ) → a < 256 → b < 256 → c < 256 → d < 256
     → numbers_between_dots (dotted_text a b c d) ≡ a ∷ b ∷ c ∷ d ∷ []
 numbers_between_dots-dotted_text a b c d a-fits b-fits c-fits d-fits =
@@ -67,7 +67,7 @@ list_all-below_256 : (octets : List ℕ) → list_all (λ n. ltb n 256) octets �
 list_all-below_256 [] all k = omega arith
 list_all-below_256 (x ∷ xs) all k = grind (arith, nat_tests, list_all-below_256 xs)
 
--- what is read is written so
+-- the text is the dotted text of the address that is read
 pub address_of_text-sound : (text : List ℕ) (a : ℕ) → address_of_text text ≡ Some a
     → IsAddr a × (text ≡ dotted a)
 unfolding address_of_text
@@ -76,7 +76,7 @@ address_of_text-sound text a e =
     let same = (bytes_eq-Decides (ipv4_text octets) text).0 in
     grind (arith, nat_tests, list_all-below_256 octets, from_be_bytes-below_2_32 octets, octets_of-from_be_bytes octets, same)
 
--- what is written so is read
+-- the dotted text of an address is read as that address
 pub address_of_text-complete : (text : List ℕ) (a : ℕ) → IsAddr a → text ≡ dotted a
     → address_of_text text ≡ Some a
 unfolding address_of_text
@@ -92,20 +92,20 @@ pub dotted-injective : (a b : ℕ) → IsAddr a → IsAddr b → dotted a ≡ do
 dotted-injective a b fits-a fits-b e = same_Some a b (sym (address_of_text-complete (dotted a) a fits-a refl)
     ∙ address_of_text-complete (dotted a) b fits-b e)
 
--- ---- a kernel's words
+-- ---- address words
 
--- the octets in the address's order are those of the address
+-- the printed octets, put in the address's order, are its octets
 octets_in_order-printed_octets : (order : Order) (a : ℕ)
     → octets_in_order order (printed_octets order a) ≡ octets_of a
 octets_in_order-printed_octets Big a = refl
 octets_in_order-printed_octets Little a = reverse-reverse (octets_of a)
 
--- four bytes from last to first are bytes
+-- four bytes, reversed, are bytes
 reverse-below_256 : (octets : List ℕ) → length octets ≡ 4 → ((k : ℕ) → get_or octets k 0 < 256)
     → (k : ℕ) → get_or (reverse octets) k 0 < 256
 reverse-below_256 octets four fit k = grind (arith, get_or-reverse, get_or_past, length-reverse)
 
--- the address of four octets is printed by them
+-- the printed octets of the address that is read from four octets are these
 printed_octets-from_octets_in_order : (order : Order) (octets : List ℕ) (a : ℕ) → length octets ≡ 4
     → ((k : ℕ) → get_or octets k 0 < 256) → from_be_bytes w32 (octets_in_order order octets) ≡ a
     → IsAddr a × (octets ≡ printed_octets order a)
@@ -116,7 +116,7 @@ printed_octets-from_octets_in_order order octets a four fit e =
     let own = octets_of-from_be_bytes octets four fit in
     grind (arith, from_be_bytes-below_2_32 octets fit, own, small, back, reverse-reverse octets)
 
--- what is read of four octets is an address that is printed by them
+-- what is read from octets is an address with these printed octets
 address_of_octets-sound : {E : Type 0} (order : Order) (decoded : Result (List ℕ) E) (a : ℕ)
     → ((octets : List ℕ) → decoded ≡ Ok octets → (k : ℕ) → get_or octets k 0 < 256)
     → address_of_octets order decoded ≡ Some a
@@ -125,13 +125,13 @@ address_of_octets-sound order (Ok octets) a fit e =
     grind (arith, nat_tests, printed_octets-from_octets_in_order order octets a, fit octets refl)
 address_of_octets-sound order (Err f) a fit e = absurd cc
 
--- what is read is shown so
+-- the word shows the address that is read
 pub address_of_word-sound : (order : Order) (word : List ℕ) (a : ℕ)
     → address_of_word order word ≡ Some a → IsAddr a × IsAddressWord order word a
 unfolding address_of_word
 address_of_word-sound order word a e = address_of_octets-sound order (decode_of word) a (decode_of-below_256 word) e
 
--- what is shown so is read
+-- a word that shows an address is read as that address
 pub address_of_word-complete : (order : Order) (word : List ℕ) (a : ℕ) → IsAddr a
     → IsAddressWord order word a → address_of_word order word ≡ Some a
 unfolding address_of_word

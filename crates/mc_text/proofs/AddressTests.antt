@@ -1,4 +1,4 @@
--- The tests of an address say what the relations do.
+-- The computable tests of an address agree with the relations.
 use Rattle.std.proofs.Common.{◌≡◌, ℕ, true, arith}
 use Rattle.std.proofs.lemmas.Bool.Decides.{nat_tests}
 use Rattle.mc_text.specs.Addr.{IsSource, IsForwardedGroup, is_source, is_forwarded_group}

@@ -1,5 +1,5 @@
--- The first bytes of a text decide what bundle it is read as: those of the greatest bundle, and of
--- the longest line after it.
+-- The first bytes of a text, as many as the greatest bundle and the longest line have, decide what
+-- bundle it is read as.
 use Rattle.std.proofs.Common.{◌≡◌, ℕ, zero, suc, ◌+◌, ◌-◌, ◌<◌, ◌≤◌, Bool, true, false, List, []}
 use Rattle.std.proofs.Common.{◌∷◌}
 use Rattle.std.proofs.Common.{cond, length, take, drop, Option, Some, None, Result, Ok, Err}
@@ -18,7 +18,7 @@ use Rattle.mc_text.specs.BundleReading.{BundlePlace, line_at, cut_line, parse_pa
 use Rattle.mc_text.specs.BundleReading.{part_room, is_too_large, part_for_line, end_for_line}
 use Rattle.mc_text.specs.BundleReading.{next_part_from, with_parts_after, parts_from, bundle_of}
 
--- the first of the first items are the first
+-- the first n of the first m items are the first n, if n is at most m
 take-take_le : {A : Type 0} (n m : ℕ) (xs : List A) → n ≤ m → take n (take m xs) ≡ take n xs
 take-take_le zero m xs within = refl
 take-take_le (suc n) zero xs within = absurd (omega (arith, within))
@@ -28,7 +28,7 @@ take-take_le (suc n) (suc m) (x ∷ xs) within =
 
 -- ---- a part
 
--- a part and the bytes after it, of which only so many are kept
+-- a part, and the bytes after it cut to k
 abbrev truncated_part : ℕ → Result (List ℕ × List ℕ) BundleFault → Result (List ℕ × List ℕ) BundleFault
 truncated_part k (Ok found) = Ok (found.0, take k found.1)
 truncated_part k (Err e) = Err e
@@ -59,18 +59,18 @@ part_bytes_at-truncated_by size k rest false is =
       drop-take (size + 1) k rest,
     ) (part_or_fault-truncated k (slice_index rest size == 10) (take size rest) (drop (size + 1) rest))
 
--- a part that is whole before the cut is read as without it
+-- a part that ends before the cut is read as without the cut
 part_bytes_at-truncated : (size k : ℕ) (rest : List ℕ)
     → part_bytes_at size (take (size + 1 + k) rest) ≡ truncated_part k (part_bytes_at size rest)
 part_bytes_at-truncated size k rest = part_bytes_at-truncated_by size k rest (nat_le (length rest) size) refl
 
 -- ---- a place
 
--- the room that is left, and a line more
+-- the bytes that may matter: the room that is left, and a line
 abbrev readable_bytes : ℕ → ℕ
 readable_bytes room = room + 96
 
--- the place with no more bytes than may matter
+-- the place, with its bytes cut to those that may matter
 abbrev truncated : BundlePlace → BundlePlace
 truncated p = record { parts = p.parts; room = p.room; rest = take (readable_bytes p.room) p.rest }
 
@@ -153,7 +153,7 @@ end_or_fault-truncated : (ended : Bool) → end_or_fault ended ≡ truncated_res
 end_or_fault-truncated true = refl
 end_or_fault-truncated false = refl
 
--- at the last line, whose bytes are within the room
+-- the end is read alike, if its line is within the room
 end_for_line-truncated : (p : BundlePlace) (line after : List ℕ) (full : Bool) → length line < 96
     → nat_lt p.room 4 ≡ full
     → end_for_line (truncated p) (take (readable_bytes p.room - (length line + 1)) after)
@@ -192,7 +192,7 @@ drop-take_le n k xs within =
     let whole : n + (k - n) ≡ k = omega (arith, within) in
     subst (λ j. drop n (take j xs) ≡ take (k - n) (drop n xs)) whole (drop-take n (k - n) xs)
 
--- what follows a line
+-- the part or the end after a line that was read
 abbrev part_or_end_after : BundlePlace → Result (List ℕ × List ℕ) BundleFault
     → Result (Option (PartText × BundlePlace)) BundleFault
 part_or_end_after p line =
@@ -224,7 +224,7 @@ part_or_end_after-truncated p (Some n) is =
     (end_or_part-truncated p (take n p.rest) (drop (n + 1) p.rest)
     (bytes_eq (take n p.rest) (codes "end")) (omega (arith, size, short))))
 
--- a place with the bytes that may matter is read as the place with all
+-- a place with its bytes cut to those that may matter is read as with all
 next_part_from-truncated : (p : BundlePlace) → next_part_from (truncated p) ≡ truncated_result (next_part_from p)
 unfolding next_part_from line_at
 next_part_from-truncated p =
@@ -233,7 +233,7 @@ next_part_from-truncated p =
 
 -- ---- the whole
 
--- what is read at a place, and then from the place after it on
+-- the part that was read at a place, and those after it
 abbrev found_and_parts_after : ℕ → Result (Option (PartText × BundlePlace)) BundleFault
     → Result (List PartText) BundleFault
 found_and_parts_after n found =
@@ -276,7 +276,7 @@ parts_if_magic-truncated : (magic : Bool) (rest : List ℕ)
 parts_if_magic-truncated true rest = parts_from-truncated 1538 268435439 rest
 parts_if_magic-truncated false rest = refl
 
--- what a bundle is read as, its first 268,435,552 bytes decide
+-- a text is read as its first 268,435,552 bytes are
 pub bundle_of-take : (text : List ℕ) → bundle_of (take 268435552 text) ≡ bundle_of text
 unfolding bundle_of
 bundle_of-take text =

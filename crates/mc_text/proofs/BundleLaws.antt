@@ -1,5 +1,5 @@
--- A bundle as a whole: what is read is written so, and what is written so is read; and what a loop
--- that reads part after part has read so far.
+-- A bundle as a whole: the reading function agrees with the relation. And a loop that reads part after
+-- part gives the same as the function.
 use Rattle.std.proofs.Common.{true, arith, ◌≡◌, ◌≢◌, ℕ, zero, suc, ◌+◌, ◌-◌, ◌<◌, ◌≤◌, List, []}
 use Rattle.std.proofs.Common.{◌∷◌, ◌++◌, length, take, Option, Some, None, Result, Ok, Err, refl}
 use Rattle.std.proofs.Common.{sym, ap, subst, ◌∙◌, append_assoc}
@@ -22,7 +22,7 @@ use Rattle.mc_text.proofs.BundlePlaces.{HasPart, IsLastLine, next_part_from-soun
 abbrev pub parts_at : BundlePlace → Result (List PartText) BundleFault
 parts_at place = parts_from place.parts place.room place.rest
 
--- they are the part there and those after it
+-- the parts from a place on are the part there and those after it
 parts_from-next : (n room : ℕ) (rest : List ℕ) (found : Result (Option (PartText × BundlePlace)) BundleFault)
     → next_part_from (record { parts = n; room = room; rest = rest }) ≡ found
     → parts_from n room rest ≡ (found >>= λ f. with_parts_after f parts_at)
@@ -36,13 +36,13 @@ parts_from-next (suc n) room rest (Err fault) at = rw at refl
 
 -- ---- a loop over the parts
 
--- each part leaves fewer that may come
+-- each part leaves fewer parts that may come
 pub next_part_from-fewer_parts : (place : BundlePlace) (part : PartText) (next : BundlePlace)
     → next_part_from place ≡ Ok (Some (part, next)) → next.parts < place.parts
 next_part_from-fewer_parts place part next e = omega (arith, (next_part_from-sound place (Some (part, next)) e).counted)
 
 module _ (front : List PartText) (place : BundlePlace) (total : Result (List PartText) BundleFault) where
-  -- a part that is read moves from what comes to what was read
+  -- after one more part the parts that were read and those to come are the same in all
   pub read_parts_more : (part : PartText) (next : BundlePlace) → next_part_from place ≡ Ok (Some (part, next))
       → with_front front (parts_at place) ≡ total
       → with_front (front ++ part ∷ []) (parts_at next) ≡ total
@@ -50,14 +50,14 @@ module _ (front : List PartText) (place : BundlePlace) (total : Result (List Par
       sym (with_front-more front (part ∷ []) (parts_at next))
       ∙ ap (with_front front) (sym (parts_from-next place.parts place.room place.rest _ e)) ∙ so_far
 
-  -- at the end what was read is the whole
+  -- at the end the parts that were read are all
   pub read_parts_all : next_part_from place ≡ Ok None → with_front front (parts_at place) ≡ total
       → total ≡ Ok front
   read_parts_all e so_far =
       sym so_far ∙ ap (with_front front) (parts_from-next place.parts place.room place.rest _ e)
       ∙ ap (λ (ps : List PartText). Ok ps) (append-nil front)
 
-  -- a fault at a place is one of reading the whole
+  -- a fault at a place is the fault of the whole
   pub read_parts_fault : (fault : BundleFault) → (¬ IsMemory fault → next_part_from place ≡ Err fault)
       → with_front front (parts_at place) ≡ total → ¬ IsMemory fault → total ≡ Err fault
   read_parts_fault fault h so_far not_oom =
@@ -65,7 +65,7 @@ module _ (front : List PartText) (place : BundlePlace) (total : Result (List Par
 
 -- ---- the parts of a place
 
--- these parts and the line `end` stand at the place, within what may still come
+-- the bytes at the place are these parts and the line `end`, within the limits of the place
 record HasParts (place : BundlePlace) (parts : List PartText) : Type 0 where
   names : AllByRecursion (λ part. IsPartName part.name) parts
   sizes : AllByRecursion (λ part. length part.bytes ≤ max_part) parts
@@ -73,13 +73,13 @@ record HasParts (place : BundlePlace) (parts : List PartText) : Type 0 where
   size : length (flat_map part_spelling parts ++ codes "end\n") ≤ place.room
   spelled : place.rest ≡ flat_map part_spelling parts ++ codes "end\n"
 
--- how much a part and those after it take
+-- the length of a part and those after it
 length-parts_cons : (part : PartText) (parts : List PartText)
     → length (flat_map part_spelling (part ∷ parts) ++ codes "end\n")
     ≡ length (part_spelling part) + length (flat_map part_spelling parts ++ codes "end\n")
 length-parts_cons part parts = simp length-append (omega arith)
 
--- what is read at a place and after it stands there
+-- the bytes at a place are the parts that are read from there on
 parts_at-sound : (n : ℕ) (place : BundlePlace) (found : Option (PartText × BundlePlace)) (parts : List PartText)
     → place.parts ≡ n → next_part_from place ≡ Ok found → with_parts_after found parts_at ≡ Ok parts
     → HasParts place parts
@@ -97,7 +97,7 @@ parts_at-sound (suc n) place (Some (part, next)) parts is at e =
     subst (HasParts place) (ok_injective (part ∷ others.0) parts others.2)
     (grind (arith, length-parts_cons part others.0, append_assoc))
 
--- the parts that stand at a place are read
+-- the parts at a place are read
 parts_at-complete : (place : BundlePlace) (parts : List PartText) → HasParts place parts
     → parts_at place ≡ Ok parts
 parts_at-complete place [] h = parts_from-next place.parts place.room place.rest _
@@ -116,7 +116,7 @@ parts_at-complete place (part ∷ parts) h =
 
 -- ---- the whole text
 
--- what is read as a bundle is one of these parts
+-- a text is a bundle of the parts that are read
 pub bundle_of-sound : (text : List ℕ) (parts : List PartText) → bundle_of text ≡ Ok parts
     → IsBundle text parts
 unfolding bundle_of
@@ -128,7 +128,7 @@ bundle_of-sound text parts e =
     let all = parts_at-sound max_parts _ found.0 parts refl found.1 found.2 in
     grind (arith, take-append-drop 17 text)
 
--- a bundle of these parts is read as them
+-- a bundle is read as its parts
 pub bundle_of-complete : (text : List ℕ) (parts : List PartText) → IsBundle text parts
     → bundle_of text ≡ Ok parts
 unfolding bundle_of
@@ -138,17 +138,17 @@ bundle_of-complete text parts h = rw h.spelled (parts_at-complete (record {
   rest = flat_map part_spelling parts ++ codes "end\n";
 }) parts (grind arith))
 
--- a text is the bundle of one list of parts at most
+-- a text is the bundle of at most one list of parts
 pub bundle_has_unique_parts : (text : List ℕ) (ps qs : List PartText) → IsBundle text ps → IsBundle text qs
     → ps ≡ qs
 bundle_has_unique_parts text ps qs p q = ok_injective ps qs (sym (bundle_of-complete text ps p) ∙ bundle_of-complete text qs q)
 
--- what a reader that gives what reading gives has found
+-- a result that is the reading function's is a bundle of the text
 pub bundle_of-result_is_bundle : (text : List ℕ) (r : Result (List PartText) BundleFault)
     → Gives (λ parts. parts) r (bundle_of text) → IfOk r (IsBundle text)
 bundle_of-result_is_bundle text r h = grind (arith, bundle_of-sound text)
 
--- a bundle's parts are what such a reader answers
+-- such a result is the bundle's parts, unless memory runs out
 pub bundle_of-result_is_parts : (text : List ℕ) (r : Result (List PartText) BundleFault)
     → Gives (λ parts. parts) r (bundle_of text)
     → (parts : List PartText) → IsBundle text parts → r ≢ Err faults.Memory → r ≡ Ok parts

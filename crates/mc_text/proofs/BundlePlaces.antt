@@ -1,4 +1,4 @@
--- The places of a bundle: a part and the place after it, or the end.
+-- The places of a bundle: a part with the place after it, or the end.
 use Rattle.std.proofs.Common.{arith, ◌≡◌, ℕ, suc, ◌+◌, ◌<◌, ◌≤◌, Bool, true, false, cond, List, ◌∷◌, ◌++◌}
 use Rattle.std.proofs.Common.{length, Option, Some, None, Ok, Err, refl, sym, append_assoc}
 use Rattle.std.specs.Prelude.{codes}
@@ -20,7 +20,7 @@ use Rattle.mc_text.proofs.BundleWords.{parse_part_line-complete, HasNoByte-part_
 
 -- ---- a part's bytes
 
--- what is read as a part's bytes stands there, with its line feed and the bytes after it
+-- the bytes that are read as a part's are at the front, before a line feed and the rest
 part_bytes_at-sound : (size : ℕ) (rest : List ℕ) (taken : List ℕ × List ℕ)
     → part_bytes_at size rest ≡ Ok taken
     → (length taken.0 ≡ size) × (rest ≡ taken.0 ++ (codes "\n" ++ taken.1))
@@ -28,7 +28,7 @@ unfolding part_bytes_at
 part_bytes_at-sound size rest taken e =
     grind (arith, nat_tests, length-take size rest, split_at_byte 10 rest size)
 
--- a part's bytes that stand there are read
+-- bytes at the front, before a line feed, are read as a part's
 pub part_bytes_at-complete : (bytes after : List ℕ)
     → part_bytes_at (length bytes) (bytes ++ (codes "\n" ++ after)) ≡ Ok (bytes, after)
 unfolding part_bytes_at
@@ -39,7 +39,7 @@ part_bytes_at-complete bytes after =
 
 -- ---- places
 
--- a place, the part at it, and the place after it
+-- the part is at the place, and `next` is the place after it
 pub record HasPart (place : BundlePlace) (part : PartText) (next : BundlePlace) : Type 0 where
   pub named : IsPartName part.name
   -- the part is small enough
@@ -49,29 +49,29 @@ pub record HasPart (place : BundlePlace) (part : PartText) (next : BundlePlace) 
   pub room : place.room ≡ length (part_spelling part) + next.room
   pub rest : place.rest ≡ part_spelling part ++ next.rest
 
--- the last line stands here, and nothing after it
+-- the last line is at the place, and nothing follows it
 pub record IsLastLine (place : BundlePlace) : Type 0 where
   pub room : 4 ≤ place.room
   pub rest : place.rest ≡ codes "end\n"
 
--- what was found at a place stands there
+-- the part is at the place with the place after it, or the end is
 abbrev pub IsPartOrEnd : BundlePlace → Option (PartText × BundlePlace) → Type 0
 IsPartOrEnd place None = IsLastLine place
 IsPartOrEnd place (Some found) = HasPart place found.0 found.1
 
--- how many bytes a part takes with its line
+-- the length of a part with its line
 length-part_spelling : (part : PartText)
     → length (part_spelling part) ≡ part_room (part_line part.name (length part.bytes))
     (length part.bytes)
 length-part_spelling part = simp length-append (omega arith)
 
--- a part in front of other bytes, cut at its line or as a whole
+-- a part before other bytes, with its line cut off or as a whole
 append-line_and_bytes : (line bytes after : List ℕ)
     → line ++ (codes "\n" ++ (bytes ++ (codes "\n" ++ after)))
     ≡ ((line ++ codes "\n") ++ (bytes ++ codes "\n")) ++ after
 append-line_and_bytes line bytes after = sym (simp append_assoc)
 
--- a part's line and bytes, which are not too large, are the part at a place
+-- a part line and bytes that are not too large are read as the part at the place
 part_for_line-has_part : (place : BundlePlace) (line name bytes back after : List ℕ) (size : ℕ) → IsPartName name
     → line ≡ part_line name size → length bytes ≡ size → back ≡ bytes ++ (codes "\n" ++ after)
     → is_too_large place line size ≡ false → place.rest ≡ line ++ (codes "\n" ++ back)
@@ -83,7 +83,7 @@ part_for_line-has_part place line name bytes back after size named spelled long 
     rw (spelled, ← long) (length-part_spelling part) in
     grind (arith, nat_tests, append-line_and_bytes line bytes after)
 
--- a part that is read stands there
+-- the part that is read for a line is at the place
 part_for_line-sound : (place : BundlePlace) (line after : List ℕ) (header : List ℕ × ℕ)
     (found : Option (PartText × BundlePlace)) → parse_part_line line ≡ Some header → IsLine place.rest line after
     → part_for_line place line after (Some header) ≡ Ok found → IsPartOrEnd place found
@@ -91,14 +91,14 @@ part_for_line-sound place line after header found header-is cut e =
     let bytes = part_bytes_at-sound header.1 after in
     grind (arith, nat_tests, bytes, parse_part_line-sound line header header-is, part_for_line-has_part place line header.0)
 
--- an end that is read stands there
+-- the end that is read for a line is at the place
 end_for_line-sound : (place : BundlePlace) (after : List ℕ) (found : Option (PartText × BundlePlace))
     → place.rest ≡ codes "end" ++ (codes "\n" ++ after) → end_for_line place after ≡ Ok found
     → IsPartOrEnd place found
 end_for_line-sound place after found rest e =
     grind (arith, nat_tests, nil_from_length after)
 
--- what a line says stands there
+-- what is read for a line, a part or the end, is at the place
 end_or_part-sound : (place : BundlePlace) (cut : List ℕ × List ℕ) (ends : Bool) (header : Option (List ℕ × ℕ))
     (found : Option (PartText × BundlePlace)) → bytes_eq cut.0 (codes "end") ≡ ends
     → parse_part_line cut.0 ≡ header → IsLine place.rest cut.0 cut.1
@@ -108,7 +108,7 @@ end_or_part-sound place cut ends header found ended header-is line e =
     let end = (bytes_eq-Decides cut.0 (codes "end")).0 in
     grind (arith, end_for_line-sound place cut.1 found, part_for_line-sound place cut.0 cut.1, end)
 
--- what is read at a place stands there
+-- what is read at a place is there
 pub next_part_from-sound : (place : BundlePlace) (found : Option (PartText × BundlePlace)) → next_part_from place ≡ Ok found
     → IsPartOrEnd place found
 unfolding next_part_from
@@ -116,12 +116,12 @@ next_part_from-sound place found e =
     let cut = bind_ok (line_at place.rest) _ found e in
     end_or_part-sound place cut.0 _ _ found refl refl (line_at-sound place.rest cut.0 cut.1) cut.2
 
--- what stands at a place is read
+-- the end at a place is read
 pub next_part_from-at_end : (place : BundlePlace) → IsLastLine place → next_part_from place ≡ Ok None
 unfolding next_part_from line_at
 next_part_from-at_end place h = rw (h.rest, le-ltb _ _ h.room) refl
 
--- a part's line is short enough
+-- a part's line is shorter than the greatest line
 length-part_line : (name : List ℕ) (size : ℕ) → IsPartName name → size ≤ max_part
     → length (part_line name size) < max_line
 length-part_line name size h small =
@@ -129,7 +129,7 @@ length-part_line name size h small =
     length-decimal-le 8 size (omega arith) (omega arith) (omega arith) in
     simp length-append (omega (arith, h.short, digits))
 
--- a part that stands there is read
+-- the part at a place is read
 pub next_part_from-at_part : (place : BundlePlace) (part : PartText) (next : BundlePlace) → HasPart place part next
     → next_part_from place ≡ Ok (Some (part, next))
 unfolding next_part_from
@@ -148,14 +148,14 @@ next_part_from-at_part place part next h =
 
 -- ---- faults at a place
 
--- a line that can't be read is the place's fault,
+-- a fault of the line at a place is the fault of the place
 pub next_part_from-line_fault : (place : BundlePlace) (fault : BundleFault)
     → (¬ IsMemory fault → line_at place.rest ≡ Err fault)
     → ¬ IsMemory fault → next_part_from place ≡ Err fault
 unfolding next_part_from
 next_part_from-line_fault place fault h not_oom = rw (h not_oom) refl
 
--- and so is what is wrong with the end
+-- a fault of the end at a place is the fault of the place
 pub next_part_from-end_fault : (place : BundlePlace) (line after : List ℕ) (fault : BundleFault)
     → line_at place.rest ≡ Ok (line, after) → bytes_eq line (codes "end") ≡ true
     → (¬ IsMemory fault → end_for_line place after ≡ Err fault)

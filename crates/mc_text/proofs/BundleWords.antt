@@ -1,4 +1,4 @@
--- The words and the lines of a bundle: what is read is written so, and what is written so is read.
+-- The words and the lines of a bundle: the reading functions agree with the relations.
 use Rattle.std.proofs.Common.{arith, ◌≡◌, ℕ, zero, suc, ◌+◌, ◌^◌, ◌<◌, Bool, true, false, eqb, List}
 use Rattle.std.proofs.Common.{[], ◌∷◌, ◌++◌, length, get_or, take, drop, Option, Some, None, refl}
 use Rattle.std.proofs.Common.{subst, ◌-◌, Ok, min}
@@ -22,35 +22,35 @@ use Rattle.std.proofs.lemmas.List.Quantifiers.{position-Some}
 use Rattle.std.proofs.lemmas.Slice.Eq.{bytes_eq-Decides}
 use Rattle.mc_text.proofs.StepLemmas.{ok_injective}
 
--- no byte of the text is this one
+-- the text doesn't have this byte
 abbrev pub HasNoByte : ℕ → List ℕ → Type 0
 HasNoByte c [] = Unit {0}
 HasNoByte c (x ∷ xs) = (eqb x c ≡ false) × HasNoByte c xs
 
--- a byte that two texts lack is not in both together
+-- two texts without a byte, joined, are without it
 pub HasNoByte-append : (c : ℕ) (xs ys : List ℕ) → HasNoByte c xs → HasNoByte c ys → HasNoByte c (xs ++ ys)
 HasNoByte-append c [] ys p q = q
 HasNoByte-append c (x ∷ xs) ys p q = (p.0, HasNoByte-append c xs ys p.1 q)
 
--- where every byte passes a test that this one doesn't, it is not among them
+-- a text whose bytes all pass a test doesn't have a byte that fails it
 pub HasNoByte-from_list_all : (p : ℕ → Bool) (c : ℕ) → p c ≡ false → (xs : List ℕ)
     → list_all p xs ≡ true → HasNoByte c xs
 HasNoByte-from_list_all p c fails [] h = tt
 HasNoByte-from_list_all p c fails (x ∷ xs) h =
     (grind (arith, nat_tests), HasNoByte-from_list_all p c fails xs (grind arith))
 
--- the first place of a byte that stands behind a text without it
+-- the first place of a byte, after a text without it, is that text's length
 position_or_len-append_byte : (c : ℕ) (xs ys : List ℕ) → HasNoByte c xs
     → position_or_len (λ b. eqb b c) (xs ++ c ∷ ys) ≡ length xs
 position_or_len-append_byte c [] ys h = grind (arith, nat_tests)
 position_or_len-append_byte c (x ∷ xs) ys h = rw h.0 (omega (arith, position_or_len-append_byte c xs ys h.1))
 
--- the place of a byte that stands behind a text without it
+-- the same, as an optional place
 pub position-append_byte : (c : ℕ) (xs ys : List ℕ) → HasNoByte c xs
     → position (λ b. eqb b c) (xs ++ c ∷ ys) ≡ Some (length xs)
 position-append_byte c xs ys h = grind (arith, nat_tests, position_or_len-append_byte, length-append)
 
--- a text is what stands before a byte, the byte, and what stands after it
+-- a text is the bytes before a byte, that byte, and the bytes after it
 pub split_at_byte : (c : ℕ) (text : List ℕ) (n : ℕ) → n < length text → eqb (get_or text n 0) c ≡ true
     → text ≡ take n text ++ c ∷ drop (n + 1) text
 split_at_byte c text n within here =
@@ -58,17 +58,17 @@ split_at_byte c text n within here =
 
 -- ---- names
 
--- what passes the test is a name
+-- what passes the test is a part's name
 pub IsPartName-from_test : (name : List ℕ) → is_part_name name ≡ true → IsPartName name
 IsPartName-from_test name h =
     grind (arith, nat_tests, AllPass-from_list_all is_name_byte name)
 
--- a name passes the test
+-- a part's name passes the test
 pub is_part_name-complete : (name : List ℕ) → IsPartName name → is_part_name name ≡ true
 is_part_name-complete name h =
     grind (arith, nat_tests, list_all-from_AllPass is_name_byte name h.bytes)
 
--- what is refused as a name fails the test
+-- what isn't accepted as a name fails the test
 pub is_part_name-false : (name : List ℕ)
     → (IsPartName name → (let none : Option (List ℕ) = None in none ≡ Some name))
     → is_part_name name ≡ false
@@ -82,13 +82,13 @@ HasNoByte-name c fails name h = HasNoByte-from_list_all is_name_byte c fails nam
 
 -- ---- lengths
 
--- the number of a length is written by its word
+-- the number of a length is written as its word
 pub decimal-of_digits_value : (word : List ℕ) → is_length word ≡ true → digits_value 10 word < 2 ^ 64
     → decimal (digits_value 10 word) ≡ word
 decimal-of_digits_value word h small =
     grind (arith, nat_tests, decimal-digits_value decimal_numerals word)
 
--- a number in decimal is a length
+-- a number in decimal is a length's word
 pub is_length-decimal : (n : ℕ) → n < 2 ^ 64 → is_length (decimal n) ≡ true
 is_length-decimal zero small = rw (decimal_digit 0 (omega arith)) refl
 is_length-decimal (suc n) small =
@@ -103,21 +103,21 @@ pub HasNoByte-decimal : (c : ℕ) → is_ascii_digit c ≡ false → (n : ℕ) �
 HasNoByte-decimal c fails n small =
     HasNoByte-from_list_all is_ascii_digit c fails (decimal n) (digits_decimal decimal_numerals n small)
 
--- ---- what a line says
+-- ---- part lines
 
--- words that are a part's name and its length
+-- the words are a part's name and its length
 abbrev IsNameAndLength : List ℕ → List ℕ × ℕ → Type 0
 IsNameAndLength words header = header.1 < 2 ^ 64
     → IsPartName header.0 × (words ≡ header.0 ++ (codes " " ++ decimal header.1))
 
--- what two words say stands in them
+-- words that are read as a name and a length are these
 cut_words-sound : (words : List ℕ) (o : Option ℕ) (header : List ℕ × ℕ) → position (λ b. eqb b 32) words ≡ o
     → cut_words words o ≡ Some header → IsNameAndLength words header
 cut_words-sound words o header at e =
     let space = position-Some (λ b. eqb b 32) words in
     grind (arith, nat_tests, IsPartName-from_test, space, split_at_byte, decimal-of_digits_value)
 
--- what a line says stands in it
+-- a line that is read as a name and a length is that part's line
 pub parse_part_line-sound : (line : List ℕ) (header : List ℕ × ℕ) → parse_part_line line ≡ Some header → header.1 < 2 ^ 64
     → IsPartName header.0 × (line ≡ part_line header.0 header.1)
 unfolding parse_part_line parse_name_and_length
@@ -125,7 +125,7 @@ parse_part_line-sound line header e small =
     let front = (bytes_eq-Decides (take 5 line) (codes "part ")).0 in
     grind (arith, cut_words-sound (drop 5 line) _ header refl, take-append-drop 5 line, front)
 
--- a part's line says its name and length
+-- a part's line is read as its name and length
 pub parse_part_line-complete : (name : List ℕ) (size : ℕ) → IsPartName name → size < 2 ^ 64
     → parse_part_line (part_line name size) ≡ Some (name, size)
 unfolding parse_part_line parse_name_and_length
@@ -137,14 +137,14 @@ parse_part_line-complete name size h small =
     let named = is_part_name-complete name h in
     grind (arith, at, front, back, value, named, is_length-decimal size small)
 
--- ---- where a line ends
+-- ---- the ends of lines
 
--- a line with its line feed, and the bytes after it
+-- the bytes are a line, its line feed, and the bytes after it
 pub record IsLine (rest line after : List ℕ) : Type 0 where
   pub parts : rest ≡ line ++ (codes "\n" ++ after)
   pub short : length line < max_line
 
--- where no line feed is in sight no line is read
+-- without a line feed no line is read
 cut_line-none : (rest : List ℕ) (cut : List ℕ × List ℕ) → cut_line rest None ≡ Ok cut → ⊥
 cut_line-none rest cut e = grind (arith, nat_tests)
 
@@ -162,13 +162,13 @@ cut_line-sound rest (Some n) cut at e =
       short = omega (arith, short, length-take n rest);
     })
 
--- what is read as a line stands there
+-- the line that is read is at the front
 pub line_at-sound : (rest : List ℕ) (cut : List ℕ × List ℕ) → line_at rest ≡ Ok cut
     → IsLine rest cut.0 cut.1
 unfolding line_at
 line_at-sound rest cut e = cut_line-sound rest _ cut refl e
 
--- a line that stands there is read
+-- the line at the front is read
 pub line_at-complete : (line after : List ℕ) → HasNoByte 10 line → length line < max_line
     → line_at (line ++ (codes "\n" ++ after)) ≡ Ok (line, after)
 unfolding line_at
@@ -181,7 +181,7 @@ line_at-complete line after h short =
     let back = drop-append-add line (10 ∷ after) 1 in
     rw (front, at, take_at line (10 ∷ after) (length line) refl, back) refl
 
--- the line that the code finds, which looks among the next 96 bytes or those that are left
+-- the line that the code finds, which searches the next 96 bytes or those that are left
 pub line_at-cut_line : (rest : List ℕ) (cut : ℕ) (o : Option ℕ) → cut ≡ min (length rest) 96
     → o ≡ position (λ b. eqb b 10) (take cut rest) → line_at rest ≡ cut_line rest o
 unfolding line_at

@@ -18,7 +18,7 @@ use Rattle.mc_text.specs.DigitPairs.{byte_of_pair, bytes_of_pairs}
 
 -- ---- one pair
 
--- a digit with a value below 16 reads as that
+-- a digit with a value below 16 is read as that value
 digit_or_error-Ok : (c i : ℕ) (o : Option ℕ) → unwrap_or o 16 < 16
     → digit_or_error c i o ≡ Ok (unwrap_or o 16)
 digit_or_error-Ok c i (Some v) h = refl
@@ -34,9 +34,9 @@ pair_value-Ok a b i byte high low is =
 pub is_hex_digit-false : (c : ℕ) → 16 ≤ hex_value_or_16 c → is_hex_digit c ≡ false
 is_hex_digit-false c h = grind arith
 
--- ---- what a lane becomes
+-- ---- operators on lanes
 
--- an operator with a splat, of lanes that were computed one by one
+-- an operator applied to lanes and a splat is applied to each lane
 pub zip2-splat_lane : (h : ℕ → ℕ → ℕ) (f : ℕ → ℕ) (y : ℕ) (v : List ℕ) {a : List ℕ} → length v ≡ 32
     → a ≡ map f v → zip2 h a (replicate 32 y) ≡ map (λ x. h (f x) y) v
 zip2-splat_lane h f y v long is =
@@ -61,7 +61,7 @@ lane_shift_left a b = a * 2 ^ b % 256
 abbrev pub digit_lane : ℕ → ℕ
 digit_lane b = bit_or (lane_below (lane_minus b 48) 10) (lane_below (lane_minus (bit_or b 32) 97) 6)
 
--- so its top bit tells
+-- so the top bits are the tests
 map-top_bit_digit_lane : (v : List ℕ) → Each1 (Fits w8) v → map (top 7) (map digit_lane v) ≡ map is_hex_digit v
 map-top_bit_digit_lane [] fits = refl
 map-top_bit_digit_lane (b ∷ v) fits =
@@ -94,7 +94,7 @@ mask-all_digits v lanes fits is =
 
 -- ---- the values of lanes
 
--- the smaller of two lanes
+-- lanes selected by which is the smaller are the smaller ones
 pub select-smaller_lane : (f g : ℕ → ℕ) (v : List ℕ) {a b : List ℕ} → a ≡ map f v → b ≡ map g v
     → sel_l (map (top 7) (zip2 lane_below a b)) a b ≡ map (λ x. cond (top 7 (lane_below (f x) (g x))) (f x) (g x)) v
 select-smaller_lane f g v first second =
@@ -136,7 +136,7 @@ abbrev pair_lanes : List ℕ → List ℕ
 pair_lanes (high ∷ low ∷ rest) = pair_lane high low ∷ pair_lanes rest
 pair_lanes _ = []
 
--- the first of each pair, and the second
+-- the numbers of the first lanes of pairs, and of the second lanes
 abbrev pub even_lanes : List ℕ
 even_lanes = 0 ∷ 2 ∷ 4 ∷ 6 ∷ 8 ∷ 10 ∷ 12 ∷ 14 ∷ 16 ∷ 18 ∷ 20 ∷ 22 ∷ 24 ∷ 26 ∷ 28 ∷ 30 ∷ []
 
@@ -177,7 +177,7 @@ zip2-pair_lane v values long digits is =
 
 -- ---- the bytes of pairs
 
--- digits decode to the bytes of their pairs, from any place on
+-- digits are decoded to the bytes of their pairs, whatever the number of the first
 decode_pairs-digits : (i n : ℕ) (s : List ℕ) → length s ≡ 2 * n → list_all is_hex_digit s ≡ true
     → decode_pairs i s ≡ Ok (bytes_of_pairs s)
 unfolding decode_pairs
@@ -191,7 +191,7 @@ decode_pairs-digits i (suc n) (a ∷ b ∷ s) even digits =
     decode_pairs-ok_pair i a b (byte_of_pair a b) s pair
     ∙ ap (cons_byte (byte_of_pair a b)) (decode_pairs-digits (i + 2) n s (omega arith) q.1)
 
--- and from the first on
+-- digits are decoded to the bytes of their pairs
 pub decode_of-digits : (n : ℕ) (s : List ℕ) → length s ≡ 2 * n → list_all is_hex_digit s ≡ true
     → decode_of s ≡ Ok (bytes_of_pairs s)
 decode_of-digits n s even digits = decode_of-even s (omega arith) ∙ decode_pairs-digits 0 n s even digits
@@ -199,7 +199,7 @@ decode_of-digits n s even digits = decode_of-even s (omega arith) ∙ decode_pai
 suc_suc-double : (n : ℕ) → suc (suc (2 * n)) ≡ 2 * suc n
 suc_suc-double n = omega arith
 
--- of the first pairs only
+-- the first bytes of pairs are the bytes of the first pairs
 pub take-bytes_of_pairs : (n : ℕ) (s : List ℕ) → take n (bytes_of_pairs s) ≡ bytes_of_pairs (take (2 * n) s)
 take-bytes_of_pairs zero s = refl
 take-bytes_of_pairs (suc n) [] = ap (λ k. bytes_of_pairs (take k [])) (suc_suc-double n)
@@ -208,7 +208,7 @@ take-bytes_of_pairs (suc n) (a ∷ b ∷ s) =
     ap (λ l. byte_of_pair a b ∷ l) (take-bytes_of_pairs n s)
     ∙ ap (λ k. bytes_of_pairs (take k (a ∷ b ∷ s))) (suc_suc-double n)
 
--- of pairs one after another
+-- the bytes of two lists of pairs, joined
 pub bytes_of_pairs-append : (n : ℕ) (s t : List ℕ) → length s ≡ 2 * n → bytes_of_pairs (s ++ t) ≡ bytes_of_pairs s ++ bytes_of_pairs t
 bytes_of_pairs-append n [] t even = refl
 bytes_of_pairs-append n (a ∷ []) t even = absurd (omega arith)
@@ -223,7 +223,7 @@ length-bytes_of_pairs n (a ∷ []) even = absurd (omega arith)
 length-bytes_of_pairs zero (a ∷ b ∷ s) even = absurd (omega arith)
 length-bytes_of_pairs (suc n) (a ∷ b ∷ s) even = ap suc (length-bytes_of_pairs n s (omega arith))
 
--- what passes whole passes in front, and two parts that pass do together
+-- if all items pass a test, the first n do
 pub list_all-take : (passes : ℕ → Bool) (n : ℕ) (s : List ℕ) → list_all passes s ≡ true
     → list_all passes (take n s) ≡ true
 list_all-take passes zero s all = refl

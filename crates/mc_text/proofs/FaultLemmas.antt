@@ -1,4 +1,4 @@
--- The faults of a bundle's text are those of its framing.
+-- The faults of reading a bundle are framing faults.
 use Rattle.std.proofs.Common.{Bool, ◌≡◌, ℕ, zero, suc, true, false, cond, List, Option, Some, None}
 use Rattle.std.proofs.Common.{Result, Ok, Err, refl, inl, inr}
 use Rattle.std.specs.Prelude.{IfErr, ◌⊎◌, position, take, drop, ◌==◌, ◌-◌}
@@ -12,14 +12,14 @@ use Rattle.mc_text.specs.BundleReading.{part_for_line, end_for_line, next_part_f
 use Rattle.mc_text.specs.BundleReading.{bundle_of}
 use Rattle.mc_text.specs.Steps.{◌>>=◌}
 
--- a fault of two steps is one of either
+-- a fault of two steps is a framing fault, if those of each are
 bind-framing_fault : {A B : Type 0} (read : Result A BundleFault) (next : A → Result B BundleFault)
     → IfErr read IsFramingFault → ((x : A) → IfErr (next x) IsFramingFault)
     → IfErr (read >>= next) IsFramingFault
 bind-framing_fault (Ok x) next first second = second x
 bind-framing_fault (Err fault) next first second = first
 
--- a fault under a test is one of either branch
+-- a fault under a test is a framing fault, if those of both branches are
 cond-framing_fault : {A : Type 0} (b : Bool) (x y : Result A BundleFault) → IfErr x IsFramingFault
     → IfErr y IsFramingFault → IfErr (cond b x y) IsFramingFault
 cond-framing_fault true x y first second = first
@@ -64,7 +64,7 @@ bundle_of-framing_fault : (text : List ℕ) → IfErr (bundle_of text) IsFraming
 unfolding bundle_of
 bundle_of-framing_fault text = search (cond-framing_fault, parts_from-framing_fault)
 
--- what a bundle is read as ends with one of them, or for want of memory
+-- a fault of a reader of bundles is a framing fault, or memory ran out
 pub bundle_of-result_fault : (text : List ℕ) (read : Result (List PartText) BundleFault)
     → Gives (λ parts. parts) read (bundle_of text)
     → IfErr read (λ fault. IsFramingFault fault ⊎ (fault ≡ faults.Memory))

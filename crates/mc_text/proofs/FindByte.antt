@@ -1,11 +1,11 @@
--- A search for a byte ends where the byte first stands.
+-- A search for a byte ends at its first place.
 use Rattle.std.proofs.Common.{◌≡◌, ℕ, List, Option, None, Some, length, eqb, refl, arith, le_refl}
 use Rattle.std.specs.Prelude.{position}
 use Rattle.std.proofs.lemmas.Bool.{false_from_ne_true, lt-ltb, le-ltb}
 use Rattle.std.proofs.lemmas.List.Sums.{position_or_len_is}
 use Rattle.memchr.specs.Find.{IsFirstByte, is_byte}
 
--- what the search answers is the first place, or none where the byte stands nowhere
+-- a result at which the byte is first, or none if the text doesn't have it, is its first place
 pub position-first_byte : (byte : ℕ) (text : List ℕ) (found : Option ℕ)
     → IsFirstByte (is_byte byte) text found → found ≡ position (λ b. eqb b byte) text
 position-first_byte byte text None nowhere =

@@ -1,4 +1,4 @@
--- Numbers and the guesses of their places.
+-- The slots of an index, and a search in it.
 use Rattle.std.proofs.Common.{◌≡◌, ℕ, ◌+◌, ◌<◌, ◌≤◌, Option, Result, List, length, get_or, take}
 use Rattle.std.proofs.Common.{sym, ap, subst, ◌∙◌, inl, inr, arith}
 use Rattle.std.specs.Prelude.{◌≢◌, ◌↔◌, eqb, slice_set, IfNone, Ok, Err}
@@ -15,17 +15,17 @@ use Rattle.std.proofs.lemmas.List.Sorted.{Contains-permutation, IsPermutation-sy
 use Rattle.std.proofs.lemmas.Map.Keys.{non_decreasing_from_sorted, sorted_from_strictly_increasing}
 use Rattle.mc_text.specs.Index.{slot_in}
 
--- of so many slots those of the numbers are marked
+-- among `slots` slots those of the numbers are marked
 abbrev pub AreMarkedInSlots : (slots : ℕ) (marks numbers : List ℕ) → Type 0
 AreMarkedInSlots slots marks numbers = All (λ number. get_or marks (slot_in slots number) 0 ≢ 0) numbers
 
--- a number whose slot isn't marked is none of them
+-- a number whose slot isn't marked is not among the numbers
 pub contains-unmarked_slot : (slots : ℕ) (marks numbers : List ℕ) (number : ℕ) → AreMarkedInSlots slots marks numbers
     → get_or marks (slot_in slots number) 0 ≡ 0 → ¬ Contains numbers number
 contains-unmarked_slot slots marks numbers number marked empty = λ among.
     All-contains (λ n. get_or marks (slot_in slots n) 0 ≢ 0) numbers number marked among empty
 
--- a slot that is marked stays so where one is marked
+-- a marked slot stays marked when another one is marked
 slice_set-stays_marked : (marks : List ℕ) (slot mark at : ℕ) → slot < length marks → mark ≢ 0
     → get_or marks at 0 ≢ 0 → get_or (slice_set marks slot mark) at 0 ≢ 0
 slice_set-stays_marked marks slot mark at within some marked =
@@ -35,7 +35,7 @@ slice_set-stays_marked marks slot mark at within some marked =
       | inr other ↦ λ e. marked (sym (get_or-set_other marks slot at mark 0 other) ∙ e)
     ]
 
--- so one more has a slot that is
+-- with the slot of one more number marked, the slots of one more are marked
 pub marked_in_slots_more : (slots : ℕ) (marks numbers : List ℕ) (i mark slot d : ℕ)
     → AreMarkedInSlots slots marks (take i numbers) → i < length numbers
     → slot ≡ slot_in slots (get_or numbers i d) → slot < length marks → mark ≢ 0
@@ -49,13 +49,13 @@ marked_in_slots_more slots marks numbers i mark slot d marked below is within so
     (λ e. some (sym (get_or-set_same marks slot mark 0 within)
     ∙ ap (λ k. get_or (slice_set marks slot mark) k 0) is ∙ e)))
 
--- at last they are all
+-- in the end the slots of all numbers are marked
 pub marked_in_slots_all : (slots : ℕ) (marks numbers : List ℕ) (i : ℕ) → length numbers ≤ i
     → AreMarkedInSlots slots marks (take i numbers) → AreMarkedInSlots slots marks numbers
 marked_in_slots_all slots marks numbers i past marked =
     subst (AreMarkedInSlots slots marks) (take_all i numbers past) marked
 
--- what a search in ascending numbers doesn't find is none of them
+-- a number that the search in ascending numbers doesn't find is not among them
 pub contains-not_found : (numbers : List ℕ) (number : ℕ) (r : Result ℕ ℕ) (place : Option ℕ)
     → IsStrictlyIncreasing numbers → IsBinarySearchResult (λ n. nat_cmp n number) numbers r
     → place ≡ result_ok r → IfNone place (¬ Contains numbers number)
@@ -72,7 +72,7 @@ contains-not_found numbers number (Err i) place up search is =
       | inr above ↦ omega (arith, found.2 among.0 above among.1, own)
     ])
 
--- each once and in order, they are the same numbers
+-- sorted and without duplicates they are the same numbers
 pub contains-dedup_sorted : (numbers sorted kept : List ℕ) → IsPermutation numbers sorted
     → kept ≡ dedup eqb sorted → (number : ℕ) → Contains kept number ↔ Contains numbers number
 contains-dedup_sorted numbers sorted kept moved is number = (

@@ -1,4 +1,4 @@
--- The lines of a text and the words of a line: what stands between line feeds, and between spaces.
+-- The lines of a text, between line feeds, and the words of a line, between spaces.
 use Rattle.std.proofs.Common.{◌≡◌, ◌≢◌, ℕ, ◌+◌, ◌<◌, ◌≤◌, Bool, true, false, not, eqb, cond, List}
 use Rattle.std.proofs.Common.{[], ◌∷◌, length, take, drop, get_or, Option, Some, None, unwrap_or}
 use Rattle.std.proofs.Common.{refl, sym, ap, ◌∙◌, arith, append_assoc, length-take}
@@ -18,18 +18,18 @@ use Rattle.mc_text.specs.Lines.{numbered, lines_from, lines_of, join_lines, HasN
 use Rattle.mc_text.specs.Lines.{OnlyLastMayBeUnended}
 use Rattle.mc_text.specs.Lines.{words_of}
 
--- a text with a byte is not empty
+-- the length of a nonempty text is not zero, as a test
 length-not_zero : (text : List ℕ) → 0 < length text → eqb (length text) 0 ≡ false
 length-not_zero text some = grind (arith, nat_tests)
 
--- where the byte is found, the first part ends there
+-- if the byte is found, the first part ends there
 slice_split-found : (c : ℕ) (text : List ℕ) (end : ℕ) → position (λ b. eqb b c) text ≡ Some end
     → slice_split (λ b. eqb b c) text ≡ take end text
     ∷ slice_split (λ b. eqb b c) (drop (end + 1) text)
 slice_split-found c text end found =
     grind (arith, nat_tests, slice_split_first (λ b. eqb b c) text 0)
 
--- where it is not found, the text is one part
+-- if it isn't found, the text is one part
 slice_split-not_found : (c : ℕ) (text : List ℕ) → position (λ b. eqb b c) text ≡ None
     → slice_split (λ b. eqb b c) text ≡ text ∷ []
 slice_split-not_found c text none =
@@ -45,7 +45,7 @@ numbered-more : (n : ℕ) (part : List ℕ) (parts : List (List ℕ)) → 0 < le
     ∷ numbered (n + 1) parts
 numbered-more n part parts some = grind arith
 
--- where a line feed stands at `end`, and none before it, the first line ends there
+-- if the first line feed is at `end`, the first line ends there
 pub lines_from-line_feed : (n : ℕ) (text : List ℕ) (end : ℕ) → position (λ b. eqb b 10) text ≡ Some end
     → lines_from n text ≡ record { number = n; bytes = take end text; ended = true }
     ∷ lines_from (n + 1) (drop (end + 1) text)
@@ -54,17 +54,17 @@ lines_from-line_feed n text end found =
     ap (numbered n) (slice_split-found 10 text end found)
     ∙ numbered-more n (take end text) _ (omega (arith, more))
 
--- where there is no line feed the text is one line that none ends
+-- if there is no line feed, the text is one line that none ends
 pub lines_from-no_line_feed : (n : ℕ) (text : List ℕ) → position (λ b. eqb b 10) text ≡ None
     → 0 < length text → lines_from n text ≡ record { number = n; bytes = text; ended = false } ∷ []
 lines_from-no_line_feed n text none some = rw (slice_split-not_found 10 text none, length-not_zero text some) refl
 
--- a last part with a byte is a line that none ends
+-- a nonempty last part is a line that none ends
 numbered-last : (n b : ℕ) (part : List ℕ) → numbered n ((b ∷ part) ∷ [])
     ≡ record { number = n; bytes = b ∷ part; ended = false } ∷ []
 numbered-last n b part = rw (length-not_zero (b ∷ part) (omega arith)) refl
 
--- the lines of parts make their text
+-- the lines of parts join to their text
 join_lines-numbered : (n : ℕ) (parts : List (List ℕ))
     → join_lines (numbered n parts) ≡ join_with_byte 10 parts
 join_lines-numbered n [] = refl
@@ -73,27 +73,27 @@ join_lines-numbered n ((b ∷ part) ∷ []) = simp (numbered-last, append-nil)
 join_lines-numbered n (part ∷ next ∷ more) =
     let rest = join_lines-numbered (n + 1) (next ∷ more) in simp (flat_map-cons, append_assoc, rest)
 
--- the lines of a text make it
+-- the lines of a text join to it
 pub join_lines-lines_of : (text : List ℕ) → join_lines (lines_of text) ≡ text
 join_lines-lines_of text =
     join_lines-numbered 1 (slice_split (λ b. eqb b 10) text) ∙ join_with_byte-slice_split 10 text
 
--- a part between line feeds has none
+-- the part has no line feed
 abbrev IsWithoutLineFeed : List ℕ → Type 0
 IsWithoutLineFeed part = AllByRecursion (λ b. b ≢ 10) part
 
--- a byte before the first part, or a line feed before it, leaves the parts whole
+-- another byte before the first part, or a line feed before it, leaves the parts without line feeds
 split-without_line_feed : (b : ℕ) (parts : List (List ℕ)) (t : Bool) → eqb b 10 ≡ t
     → AllByRecursion IsWithoutLineFeed parts
     → AllByRecursion IsWithoutLineFeed (cond t ([] ∷ parts) (onto_first b parts))
 split-without_line_feed b parts t e whole = grind (arith, nat_tests)
 
--- the parts between line feeds have none
+-- the parts between line feeds have no line feed
 slice_split-without_line_feed : (text : List ℕ) → AllByRecursion IsWithoutLineFeed (slice_split (λ b. eqb b 10) text)
 slice_split-without_line_feed [] = (tt, tt)
 slice_split-without_line_feed (b ∷ text) = split-without_line_feed b _ (eqb b 10) refl (slice_split-without_line_feed text)
 
--- the lines of parts have no line feed within
+-- the lines of such parts have no line feed
 numbered-no_line_feed : (n : ℕ) (parts : List (List ℕ)) → AllByRecursion IsWithoutLineFeed parts
     → AllByRecursion HasNoLineFeed (numbered n parts)
 numbered-no_line_feed n [] whole = tt
@@ -102,7 +102,7 @@ numbered-no_line_feed n ((b ∷ part) ∷ []) whole = rw (numbered-last n b part
 numbered-no_line_feed n (part ∷ next ∷ more) whole =
     (whole.0, numbered-no_line_feed (n + 1) (next ∷ more) whole.1)
 
--- nor have those of a text
+-- the lines of a text have no line feed
 pub lines_of-no_line_feed : (text : List ℕ) → AllByRecursion HasNoLineFeed (lines_of text)
 lines_of-no_line_feed text = numbered-no_line_feed 1 _ (slice_split-without_line_feed text)
 
@@ -115,13 +115,13 @@ numbered-only_last_unended n (part ∷ [] ∷ []) = tt
 numbered-only_last_unended n (part ∷ (b ∷ next) ∷ []) = rw (numbered-last (n + 1) b next) (refl, omega arith)
 numbered-only_last_unended n (part ∷ next ∷ third ∷ more) = (refl, numbered-only_last_unended (n + 1) (next ∷ third ∷ more))
 
--- and so it is of a text
+-- only the last line of a text may be unended
 pub lines_of-only_last_unended : (text : List ℕ) → OnlyLastMayBeUnended (lines_of text)
 lines_of-only_last_unended text = numbered-only_last_unended 1 (slice_split (λ b. eqb b 10) text)
 
 -- ---- words
 
--- whether a byte is none of a space
+-- whether a byte is not a space
 abbrev is_in_word : ℕ → Bool
 is_in_word b = not (eqb b 32)
 
@@ -131,13 +131,13 @@ words_of-drop_space : (b : ℕ) (line : List ℕ) (t : Bool) → eqb b 32 ≡ t
     → words_of (drop (position_or_len is_in_word (b ∷ line)) (b ∷ line)) ≡ words_of (b ∷ line)
 words_of-drop_space b line t e later = grind (arith, nat_tests)
 
--- spaces before a word don't matter
+-- spaces before a line change no word
 words_of-drop_spaces : (line : List ℕ)
     → words_of (drop (position_or_len is_in_word line) line) ≡ words_of line
 words_of-drop_spaces [] = refl
 words_of-drop_spaces (b ∷ line) = words_of-drop_space b line (eqb b 32) refl (words_of-drop_spaces line)
 
--- the first word of a line that begins with one: up to the next space, or to the end
+-- the first word of a line that begins with a word ends at the next space, or at the line's end
 words_of-at_word : (line : List ℕ) (o : Option ℕ) → position (λ b. eqb b 32) line ≡ o → 0 < length line
     → eqb (get_or line 0 0) 32 ≡ false
     → words_of line ≡ take (unwrap_or o (length line)) line
@@ -154,7 +154,8 @@ words_of-at_word line (Some end) at some begins =
     let word = length-not_zero (take end line) (omega (arith, space.0, length-take end line)) in
     rw (slice_split-found 32 line end at, rest, word) refl
 
--- the first word of a line: from the first byte that is no space up to the next space, or the end
+-- the first word of a line begins at the first byte that isn't a space, and ends at the next space or at
+-- the line's end
 pub words_of-word : (line from : List ℕ) (start end : ℕ)
     → position (λ b. not (eqb b 32)) line ≡ Some start → from ≡ drop start line
     → end ≡ unwrap_or (position (λ b. eqb b 32) from) (length from)
@@ -168,7 +169,7 @@ words_of-word line from start end found from-is end-is =
     rw (← skipped, (cond_some _ _ _ found).1, ← from-is, end-is)
     (words_of-at_word from _ refl some begins)
 
--- a line in which nothing but spaces stands has no word
+-- a line of spaces alone has no word
 pub words_of-spaces : (line : List ℕ) → position (λ b. not (eqb b 32)) line ≡ None
     → words_of line ≡ []
 words_of-spaces line none =

@@ -1,4 +1,4 @@
--- Reading a number: the function finds what the relation says, and digit by digit finds it too.
+-- Reading a number: the function agrees with the relation, and so does reading digit by digit.
 use Rattle.std.proofs.Common.{◌≡◌, ℕ, ◌≤◌, min, true, List, length, Some, unwrap_or, arith, rules}
 use Rattle.std.proofs.Common.{◌+◌, ◌*◌, ◌^◌, ◌<◌, [], ◌∷◌, drop, slice_index_or, sym, ◌∙◌}
 use Rattle.std.specs.Prelude.{IsTrue}
@@ -11,25 +11,25 @@ use Rattle.std.proofs.lemmas.Str.Parse.{IsNumeralModel, numerals_by_value}
 use Rattle.mc_text.specs.Number.{IsDecimal, is_decimal, number_up_to}
 use Rattle.std.proofs.lemmas.List.{at_drop_more, at_drop_all}
 
--- what passes the test for digits is std's numerals
+-- the words that pass the test for digits are std's numerals
 pub decimal_numerals : IsNumeralModel (λ ds. list_all is_ascii_digit ds ≡ true) (digits_value 10)
 decimal_numerals = numerals_by_value (λ ds. list_all is_ascii_digit ds ≡ true) (search rules)
 
--- what is read is written so
+-- the word writes the number that is read
 pub number_up_to-sound : (max : ℕ) (word : List ℕ) (n : ℕ) → number_up_to max word ≡ Some n
     → IsDecimal word n × (n ≤ max)
 unfolding number_up_to
 number_up_to-sound max word n e =
     grind (arith, nat_tests, decimal_numerals.to word)
 
--- what is written so is read
+-- a word that writes a number in range is read as that number
 pub number_up_to-complete : (max : ℕ) (word : List ℕ) (n : ℕ) → IsDecimal word n → n ≤ max
     → number_up_to max word ≡ Some n
 unfolding number_up_to
 number_up_to-complete max word n writes small =
     let digits = decimal_numerals.from word writes.0.1 in grind (arith, nat_tests)
 
--- the number of digits, or max where they write a greater one
+-- the number that the digits write, or `max` if that is greater
 pub number_or_greatest : (max : ℕ) (word : List ℕ) → is_decimal word ≡ true
     → unwrap_or (number_up_to max word) max ≡ min (digits_value 10 word) max
 unfolding number_up_to
@@ -37,7 +37,7 @@ number_or_greatest max word digits = grind (arith, nat_tests)
 
 -- ---- digit by digit
 
--- after this number the rest is read as the whole word is
+-- the whole word is read as the rest is, after this number
 pub record IsReadUpTo (word : List ℕ) (number : ℕ) (rest : List ℕ) : Type 0 where
   pub value : digits_value_after 10 number rest ≡ digits_value 10 word
   pub digits : list_all is_ascii_digit rest ≡ list_all is_ascii_digit word
@@ -49,7 +49,7 @@ digits_value_after-grows number (digit ∷ digits) =
     omega (arith, digits_value_after-grows (number * 10 + digit_value digit) digits)
 
 module _ (word : List ℕ) (number place : ℕ) (so_far : IsReadUpTo word number (drop place word)) where
-  -- one digit on
+  -- the same with one more digit read
   pub is_read_up_to_more : place < length word → IsTrue (is_ascii_digit (slice_index_or word place 0))
       → IsReadUpTo word (number * 10 + digit_value (slice_index_or word place 0))
       (drop (place + 1) word)
@@ -61,7 +61,7 @@ module _ (word : List ℕ) (number place : ℕ) (so_far : IsReadUpTo word number
         ∙ so_far.digits);
   }
 
-  -- a number of 64 bits has a digit here, and is no smaller than what it makes
+  -- if the word writes a number of 64 bits, the next byte is a digit, and with it the number still fits
   pub number-below_2_64 : (n : ℕ) → place < length word → IsDecimal word n → n < 2 ^ 64
       → IsTrue (is_ascii_digit (slice_index_or word place 0))
       × (number * 10 + digit_value (slice_index_or word place 0) < 2 ^ 64)
@@ -76,7 +76,7 @@ module _ (word : List ℕ) (number place : ℕ) (so_far : IsReadUpTo word number
         omega (arith, value, grown, small),
       )
 
-  -- at the end it is the word's number
+  -- at the word's end the number is the one that the word writes
   pub is_read_up_to_all : length word ≤ place → 0 < length word → IsDecimal word number
   is_read_up_to_all ended some =
       let digits = sym so_far.digits ∙ at_drop_all (list_all is_ascii_digit) word place ended in

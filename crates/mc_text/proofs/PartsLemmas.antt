@@ -17,7 +17,7 @@ use Rattle.mc_text.specs.BundleReading.{line_at, part_bytes_at}
 use Rattle.mc_text.proofs.BundleWords.{HasNoByte, line_at-complete}
 use Rattle.mc_text.proofs.BundlePlaces.{part_bytes_at-complete}
 
--- what was read into a buffer after what it had
+-- the bytes of a buffer after a read behind its first n bytes
 pub take-filled_buffer : (xs ys rest : List ℕ) (n more : ℕ) → n ≤ length xs → more ≤ length ys
     → take (n + more) (take n xs ++ (ys ++ rest)) ≡ take n xs ++ take more ys
 take-filled_buffer xs ys rest n more within fits =
@@ -26,13 +26,13 @@ take-filled_buffer xs ys rest n more within fits =
     ∙ take-append-add (take n xs) (ys ++ rest) more
     ∙ ap (λ l. take n xs ++ l) (take-append-le more ys rest fits)
 
--- which is no more than the buffer has
+-- they are no more than the buffer has
 pub length-filled_buffer : (xs ys rest : List ℕ) (n more : ℕ) → n ≤ length xs → more ≤ length ys
     → n + more ≤ length (take n xs ++ (ys ++ rest))
 length-filled_buffer xs ys rest n more within fits =
     simp length-append (omega (arith, length-take n xs))
 
--- the front of a text that was read up to a size, or up to its end
+-- the bytes that were read, up to a size or to the text's end, are its first bytes
 pub take-read_bytes : (text taken later : List ℕ) (size : ℕ) → text ≡ taken ++ later
     → length taken ≤ size → (length taken < size → later ≡ []) → take size text ≡ taken
 take-read_bytes text taken later size is within end = elim (cases_Bool (ltb (length taken) size)) [
@@ -45,7 +45,7 @@ take-read_bytes text taken later size is within end = elim (cases_Bool (ltb (len
       ap (take size) is ∙ ap (λ n. take n (taken ++ later)) same ∙ take-append_seam taken later
 ]
 
--- another first line is none
+-- a first line other than the magic is read as the fault `NoMagic`
 pub reads_as-no_magic : (old new : Option (List ℕ)) (buffer : List ℕ) (n : ℕ) → length buffer ≡ 17
     → n ≤ length buffer → Consumes old new (take n buffer) → (n < length buffer → IsAtEnd new)
     → bytes_eq (take n buffer) (codes "mcaudit bundle 1\n") ≡ false
@@ -60,24 +60,24 @@ reads_as-no_magic (Some text) (Some later) buffer n size within taken end other 
 
 -- ---- lines
 
--- a byte that isn't in a text has no place there
+-- the search for a byte that a text doesn't have ends at the text's length
 position_or_len-absent_byte : (c : ℕ) (xs : List ℕ) → HasNoByte c xs
     → position_or_len (λ b. eqb b c) xs ≡ length xs
 position_or_len-absent_byte c [] h = refl
 position_or_len-absent_byte c (x ∷ xs) h = rw h.0 (omega (arith, position_or_len-absent_byte c xs h.1))
 
--- so no line ends there
+-- a line feed that a text doesn't have has no place there
 position-absent_byte : (xs : List ℕ) → HasNoByte 10 xs → position (λ b. eqb b 10) xs ≡ None
 position-absent_byte xs without = grind (arith, nat_tests, position_or_len-absent_byte 10 xs without)
 
--- where the input is at its end, and no line feed came, there is no end
+-- fewer than 96 bytes without a line feed, to the input's end, are read as the fault `NoEnd`
 line_at-no_end : (text : List ℕ) → HasNoByte 10 text → length text < 96 → line_at text ≡ Err faults.NoEnd
 unfolding line_at
 line_at-no_end text without short =
     let whole : take 96 text ≡ text = take_all 96 text (omega arith) in
     rw (whole, position-absent_byte text without, lt-ltb (length text) 96 short) refl
 
--- and where 96 bytes came without one
+-- 96 bytes without a line feed are read as the fault `BadPartLine`
 line_at-too_long : (taken later : List ℕ) → HasNoByte 10 taken → length taken ≡ 96
     → line_at (taken ++ later) ≡ Err faults.BadPartLine
 unfolding line_at
@@ -107,7 +107,7 @@ reads_as-line_too_long view (Some text) None taken first without long = absurd f
 reads_as-line_too_long view (Some text) (Some later) taken first without long =
     ap line_at first ∙ line_at-too_long taken later without long
 
--- a line that a line feed ends
+-- bytes without a line feed, and then one, are read as a line
 pub reads_as-line : {X : Type 0} (view : X → List ℕ) (old mid new : Option (List ℕ)) (x : X)
     (taken : List ℕ) → view x ≡ taken → Consumes old mid taken → Consumes mid new (10 ∷ [])
     → HasNoByte 10 taken → length taken < 96 → ReadsAs view old new (Ok x) line_at
@@ -118,9 +118,9 @@ reads_as-line view (Some text) (Some between) (Some later) x taken is first seco
     ap line_at (first ∙ ap (λ l. taken ++ l) second) ∙ line_at-complete taken later without short
     ∙ ap (λ (t : List ℕ). Ok (t, later)) (sym is)
 
--- ---- what is left of a part
+-- ---- the rest of a part
 
--- too little is left
+-- a text that ends within the rest of a part, or before its line feed, is truncated
 rest_of_part-truncated : (left : ℕ) (text : List ℕ) → length text ≤ left
     → rest_of_part left text ≡ Err faults.Truncated
 unfolding part_bytes_at
@@ -138,7 +138,7 @@ reads_as-rest_truncated (Some text) (Some between) (Some later) left bytes more 
     first ∙ ap (λ l. bytes ++ l) (second ∙ ap (λ l. more ++ l) end ∙ append-nil more) in
     rest_of_part-truncated left text (rw whole (omega (arith, less, length-append bytes more)))
 
--- the rest stands there
+-- the rest of a part with its line feed is read
 pub reads_as-rest : (old mid new : Option (List ℕ)) (left : ℕ) (bytes : List ℕ) (u : Unit {0})
     → Consumes old mid bytes → Consumes mid new (10 ∷ []) → length bytes ≡ left
     → ReadsAs {X = Unit {0}} {Y = Unit {0}} (λ x. x) old new (Ok u) (rest_of_part left)
@@ -150,7 +150,7 @@ reads_as-rest (Some text) (Some between) (Some later) left bytes u first second 
     ap (rest_of_part left) whole ∙ ap (λ n. rest_of_part n (bytes ++ (10 ∷ later))) (sym long)
     ∙ ap (λ r. r >>= λ found. Ok (tt, found.1)) (part_bytes_at-complete bytes later)
 
--- another byte than a line feed stands after it
+-- another byte than a line feed after the rest of a part is a fault
 rest_of_part-other_byte : (bytes later : List ℕ) (b : ℕ) → eqb b 10 ≡ false
     → rest_of_part (length bytes) (bytes ++ b ∷ later) ≡ Err faults.BadPartLine
 unfolding part_bytes_at
@@ -171,6 +171,6 @@ reads_as-rest_other_byte (Some text) (Some between) (Some later) left bytes b fi
     ap (rest_of_part left) whole ∙ ap (λ n. rest_of_part n (bytes ++ (b ∷ later))) (sym long)
     ∙ rest_of_part-other_byte bytes later b other
 
--- a number is another one, as a test
+-- the test whether two distinct numbers are equal is false
 pub eqb-of_distinct : (a b : ℕ) → (a ≡ b → ⊥) → eqb a b ≡ false
 eqb-of_distinct a b other = grind (arith, nat_tests)

@@ -1,4 +1,4 @@
--- How many bytes of an input are read at most.
+-- The most bytes of an input that are read.
 use Rattle.std.proofs.Common.{◌≡◌, ℕ, ◌+◌, ◌≤◌, true, List, ◌++◌, length, take, Option, ap}
 use Rattle.std.proofs.Common.{arith, length-take}
 use Rattle.std.specs.Prelude.{codes, IsErr, Result, Ok, Err}
@@ -13,7 +13,7 @@ use Rattle.mc_text.specs.declared.bundle.bundle_fault.BundleFault.{BundleFault}
 use Rattle.mc_text.specs.declared.bundle.stage.OpenPart.{OpenPart}
 use Rattle.mc_text.proofs.PartsLemmas.{length-filled_buffer}
 
--- known bytes, and then some more
+-- reading known bytes, and then up to a limit, stays within a limit
 pub consumes_up_to-after_consumes : (a b c : Option (List ℕ)) (xs : List ℕ) (n most : ℕ) → Consumes a b xs
     → ConsumesUpTo n b c → length xs + n ≤ most → ConsumesUpTo most a c
 consumes_up_to-after_consumes a b c xs n most first more within = (
@@ -22,7 +22,7 @@ consumes_up_to-after_consumes a b c xs n most first more within = (
   Consumes-trans a b c xs more.0 first more.2,
 )
 
--- what was read into a buffer after what it had is within its size
+-- reading into a buffer after the bytes that it has stays within its size
 pub consumes_up_to-filled_buffer : (a b c : Option (List ℕ)) (xs ys rest : List ℕ) (n more : ℕ) → n ≤ length xs
     → more ≤ length ys → Consumes a b (take n xs) → Consumes b c (take more ys)
     → ConsumesUpTo (length (take n xs ++ (ys ++ rest))) a c
@@ -38,7 +38,7 @@ consumes_up_to-filled_buffer a b c xs ys rest n more within fits first second = 
   Consumes-trans a b c (take n xs) (take more ys) first second,
 )
 
--- some bytes, and then some after which a number may come
+-- reading up to a limit, and then within others, stays within the sum
 pub consumes_within-after_consumes_up_to : (a b c : Option (List ℕ)) (n most after : ℕ) → ConsumesUpTo n a b
     → ConsumesWithin most after b c → ConsumesWithin (n + most) after a c
 consumes_within-after_consumes_up_to a b c n most after first more = (
@@ -51,7 +51,7 @@ consumes_within-after_consumes_up_to a b c n most after first more = (
 pub length-end_line : (line : List ℕ) → bytes_eq line (codes "end") ≡ true → length line ≡ 3
 length-end_line line is = ap length ((bytes_eq-Decides line (codes "end")).0 is)
 
--- after a fault nothing more comes
+-- after a fault no more bytes may come
 pub consumes_within-fault : (r : Result (Option OpenPart) BundleFault) (a b c : Option (List ℕ))
     (m n most : ℕ) → IsErr r → ConsumesUpTo m a b → ConsumesUpTo n b c → m + n ≤ most
     → ConsumesWithin most (max_to_come_after r) a c

@@ -1,4 +1,4 @@
--- What reading a bundle part by part says of the whole bundle.
+-- Reading a bundle part by part gives the parts of the whole bundle.
 use Rattle.std.proofs.Common.{◌≡◌, ℕ, zero, suc, ◌+◌, ◌-◌, ◌≤◌, Bool, true, false, cond, eqb, List}
 use Rattle.std.proofs.Common.{[], ◌∷◌, ◌++◌, length, take, drop, Option, Some, None, Result, Ok, Err}
 use Rattle.std.proofs.Common.{refl, sym, ap, ◌∙◌, arith, inl, inr, leb, get_or, append_assoc}
@@ -25,11 +25,11 @@ use Rattle.mc_text.specs.PartsReading.{prepend_parts, part_and_rest, parts_of_op
 
 -- ---- a line
 
--- what was opened, and the parts after it
+-- the parts from an opened one on
 abbrev parts_after_line : Option OpenPart × List ℕ → Result (List PartText) BundleFault
 parts_after_line o = parts_of_opened o.0 o.1
 
--- the end is read alike
+-- the end is read alike part by part and as a whole
 end_for_line-opened_end : (small none : Bool) (after : List ℕ)
     (P : Option (PartText × BundlePlace) → Result (List PartText) BundleFault) → P None ≡ Ok []
     → (cond small (Err faults.TooLarge) (cond none (Ok None) (Err faults.AfterEnd)) >>= P)
@@ -39,7 +39,7 @@ end_for_line-opened_end true none after P ends = refl
 end_for_line-opened_end false true after P ends = ends
 end_for_line-opened_end false false after P ends = refl
 
--- a part whose bytes were read is followed by the others
+-- a part's bytes, and then the parts after it, are the part and its others
 part_bytes-then_parts : (n room : ℕ) (name : List ℕ) (parts : ℕ) (found : Result (List ℕ × List ℕ) BundleFault)
     → ((found >>= λ f. let part : PartText = record { name = name; bytes = f.0 } in
     let next : BundlePlace = record { parts = parts; room = room; rest = f.1 } in
@@ -50,11 +50,11 @@ part_bytes-then_parts : (n room : ℕ) (name : List ℕ) (parts : ℕ) (found : 
 part_bytes-then_parts n room name parts (Ok f) = refl
 part_bytes-then_parts n room name parts (Err fault) = refl
 
--- one less than one more
+-- one less than the successor of a number is the number
 suc-minus_one : (n : ℕ) → suc n - 1 ≡ n
 suc-minus_one n = omega arith
 
--- a part's line is read alike
+-- a part's line is read alike part by part and as a whole
 part_for_line-opened_part : (n room : ℕ) (line after text : List ℕ) (header : Option (List ℕ × ℕ))
     → (part_for_line (record { parts = suc n; room = room; rest = text }) line after header
     >>= λ o. with_parts_after o (λ place. parts_from n place.room place.rest))
@@ -69,14 +69,14 @@ part_for_line-opened_part n room line after text (Some s) =
           (sym (suc-minus_one n)))
     ]
 
--- and where no more parts may come it is refused
+-- if no more parts may come, a part's line is refused
 part_for_line-no_part_left : (room : ℕ) (line after text : List ℕ) (header : Option (List ℕ × ℕ))
     → (part_for_line (record { parts = 0; room = room; rest = text }) line after header >>= λ _. Ok [])
     ≡ ((opened_part 0 room line header >>= λ part. Ok (Some part, after)) >>= parts_after_line)
 part_for_line-no_part_left room line after text None = refl
 part_for_line-no_part_left room line after text (Some s) = refl
 
--- the place's line, whatever comes
+-- a line is read alike, be it a part's or the end's
 end_or_part-opened_by_line : (parts room : ℕ) (text : List ℕ) (cut : List ℕ × List ℕ)
     (P : Option (PartText × BundlePlace) → Result (List PartText) BundleFault) → P None ≡ Ok []
     → (part_for_line (record { parts = parts; room = room; rest = text }) cut.0 cut.1 (parse_part_line cut.0)
@@ -91,7 +91,7 @@ end_or_part-opened_by_line parts room text cut P ends same = elim (cases_Bool (b
   | inr other ↦ rw other same
 ]
 
--- a cut that was made or not
+-- the same for the result of cutting a line
 line_at-opened_by_line : (parts room : ℕ) (text : List ℕ) (cut : Result (List ℕ × List ℕ) BundleFault)
     (P : Option (PartText × BundlePlace) → Result (List PartText) BundleFault) → P None ≡ Ok []
     → ((c : List ℕ × List ℕ)
@@ -104,7 +104,7 @@ line_at-opened_by_line : (parts room : ℕ) (text : List ℕ) (cut : Result (Lis
 line_at-opened_by_line parts room text (Err fault) P ends same = refl
 line_at-opened_by_line parts room text (Ok c) P ends same = end_or_part-opened_by_line parts room text c P ends (same c)
 
--- the parts from a line on are what it opens, and those after it
+-- the parts from a line on are the one that it opens and those after it
 pub parts_from-opened_at : (parts room : ℕ) (text : List ℕ)
     → parts_from parts room text ≡ (opened_at parts room text >>= parts_after_line)
 unfolding parts_from next_part_from
@@ -118,18 +118,18 @@ parts_from-opened_at (suc n) room text =
 
 -- ---- the next part
 
--- nothing before the others
+-- no parts, prepended, change nothing
 pub prepend_parts-nil : (read : Result (List PartText) BundleFault) → prepend_parts [] read ≡ read
 prepend_parts-nil (Ok parts) = refl
 prepend_parts-nil (Err fault) = refl
 
--- nothing before what follows
+-- the same after a step
 prepend_parts-nil_each : (r : Result (Option OpenPart × List ℕ) BundleFault)
     → (r >>= parts_after_line) ≡ (r >>= λ o. prepend_parts [] (parts_after_line o))
 prepend_parts-nil_each (Ok o) = sym (prepend_parts-nil (parts_after_line o))
 prepend_parts-nil_each (Err fault) = refl
 
--- at the start
+-- at the start all parts are those from the first line on
 bundle_of-opened_next : (text : List ℕ) (left : ℕ) → bundle_of text
     ≡ (opened_next true left max_parts (max_bundle - 17) text >>= λ o. prepend_parts [] (parts_after_line o))
 unfolding bundle_of
@@ -140,24 +140,24 @@ bundle_of-opened_next text left =
       | inr other ↦ rw other refl
     ]
 
--- the bytes of a part are the first ones
+-- the bytes of a part are the first `left` of the text
 pub part_bytes_at-take : (left : ℕ) (text : List ℕ) (found : List ℕ × List ℕ)
     → part_bytes_at left text ≡ Ok found → found.0 ≡ take left text
 unfolding part_bytes_at
 part_bytes_at-take left text found e = grind (arith, nat_tests)
 
--- a part before the others
+-- one part, prepended after a step
 prepend_parts-one : (part : PartText) (r : Result (Option OpenPart × List ℕ) BundleFault)
     → ((r >>= parts_after_line) >>= λ others. Ok (part ∷ others))
     ≡ (r >>= λ o. prepend_parts (part ∷ []) (parts_after_line o))
 prepend_parts-one part (Ok o) = refl
 prepend_parts-one part (Err fault) = refl
 
--- the bytes after a part
+-- the bytes after a part, with the part dropped
 abbrev skipped_part : List ℕ × List ℕ → Result (Unit {0} × List ℕ) BundleFault
 skipped_part f = Ok (tt, f.1)
 
--- in a part
+-- in a part, the current part and the rest are it and the parts from the next line on
 rest_of_part-opened_at : (name done : List ℕ) (left parts room : ℕ) (text : List ℕ)
     (found : Result (List ℕ × List ℕ) BundleFault) → part_bytes_at left text ≡ found
     → (found >>= λ f. parts_from parts room f.1 >>= λ others.
@@ -179,9 +179,9 @@ part_and_rest-opened_next : (name done : List ℕ) (left parts room : ℕ) (text
 part_and_rest-opened_next name done left parts room text =
     rest_of_part-opened_at name done left parts room text (part_bytes_at left text) refl
 
--- ---- what an input told
+-- ---- results of reading
 
--- an answer, where the input tells its bytes
+-- a result `Ok`, if the input's bytes are known
 pub reads_as-ok : {X Y : Type 0} (view : X → Y) (old new : Option (List ℕ))
     (answer : Result X BundleFault) (read : List ℕ → Result (Y × List ℕ) BundleFault)
     (text : List ℕ) (x : X) → ReadsAs view old new answer read → old ≡ Some text → answer ≡ Ok x
@@ -194,7 +194,7 @@ reads_as-ok view (Some other) (Some later) (Ok y) read text x reads remaining is
     (later, refl, ap read (sym same) ∙ reads ∙ ap (λ z. Ok (view z, later)) value)
 reads_as-ok view (Some other) new (Err fault) read text x reads remaining is = absurd cc
 
--- and a fault
+-- a fault, if the input's bytes are known
 reads_as-fault : {X Y : Type 0} (view : X → Y) (other : List ℕ) (new : Option (List ℕ))
     (fault : BundleFault) (read : List ℕ → Result (Y × List ℕ) BundleFault)
     → ReadsAs view (Some other) new (Err fault) read → fault ≢ faults.Read → read other ≡ Err fault
@@ -213,14 +213,14 @@ reads_as-err view (Some other) new (Err own) read text fault reads remaining is 
     ap read (sym same)
     ∙ reads_as-fault view other new own read reads (λ e. there (sym value ∙ e)) ∙ ap Err value
 
--- ---- where reading stands
+-- ---- the state of reading
 
--- what is there
+-- an option that has a value is `Some` of it
 some_from_is_some : {A : Type 0} (o : Option A) → IsSome o → (x : A) × (o ≡ Some x)
 some_from_is_some None there = absurd cc
 some_from_is_some (Some x) there = (x, refl)
 
--- the parts to come are what comes next, and those after it, at the start and in a part
+-- at the start and in a part, the parts from the current one on are it, the next one and those after it
 pub parts_from_current-opened_next : (s : PartsState) (start : Bool) (done text : List ℕ) → IsValidPartsState s
     → ((s.stage ≡ stages.Start) × (start ≡ true)) ⊎ ((s.stage ≡ stages.Part) × (start ≡ false))
     → parts_from_current s done text
@@ -234,7 +234,7 @@ parts_from_current-opened_next s start done text rules (inr (is, at)) =
 
 -- ---- reading a part's bytes
 
--- known bytes that were read
+-- a known text is the bytes that were read from it and the remaining ones
 pub split-from_Consumes : (old new : Option (List ℕ)) (taken text : List ℕ) → Consumes old new taken
     → old ≡ Some text → (later : List ℕ) × (new ≡ Some later) × (text ≡ taken ++ later)
 split-from_Consumes None new taken text first remaining = absurd cc
@@ -243,7 +243,7 @@ split-from_Consumes (Some other) (Some later) taken text first remaining =
     let same : text ≡ other = cc in
     (later, refl, same ∙ first)
 
--- at the end no byte is left
+-- at the input's end, with nothing read, the text is empty
 pub text-nil_at_end : (old new : Option (List ℕ)) (taken text : List ℕ) → Consumes old new taken
     → old ≡ Some text → taken ≡ [] → IsAtEnd new → text ≡ []
 text-nil_at_end None new taken text first remaining none end = absurd cc
@@ -252,7 +252,7 @@ text-nil_at_end (Some other) (Some later) taken text first remaining none end =
     let same : text ≡ other = cc in
     same ∙ first ∙ ap (λ t. t ++ later) none ∙ end
 
--- so the part is cut off
+-- a part's bytes at the end of the text are truncated
 part_bytes_at-nil : (left : ℕ) → part_bytes_at left [] ≡ Err faults.Truncated
 unfolding part_bytes_at
 part_bytes_at-nil left = rw (le-leb 0 left (omega arith)) refl
@@ -263,11 +263,11 @@ parts_from_current-truncated s done text rules is none =
     let name = some_from_is_some s.name (rules.named is) in
     rw (is, name.1, none, part_bytes_at-nil s.left) refl
 
--- bytes in front of a part's
+-- a part's bytes, with some bytes prepended
 abbrev prepend_bytes : List ℕ → List ℕ × List ℕ → Result (List ℕ × List ℕ) BundleFault
 prepend_bytes taken f = Ok (taken ++ f.0, f.1)
 
--- tests and pieces that are alike
+-- prepending bytes commutes with the tests of reading a part
 cond-prepend_bytes : (short feed : Bool) (taken : List ℕ) (f : List ℕ × List ℕ)
     → cond short (Err faults.Truncated) (cond feed (prepend_bytes taken f) (Err faults.BadPartLine))
     ≡ (cond short (Err faults.Truncated) (cond feed (Ok f) (Err faults.BadPartLine))
@@ -276,7 +276,7 @@ cond-prepend_bytes true feed taken f = refl
 cond-prepend_bytes false true taken f = refl
 cond-prepend_bytes false false taken f = refl
 
--- a part's bytes with some in front
+-- the bytes of a part of which the first ones were taken, with these prepended
 part_bytes_at-prepend_bytes : (taken later : List ℕ) (m : ℕ)
     → part_bytes_at (length taken + m) (taken ++ later)
     ≡ (part_bytes_at m later >>= prepend_bytes taken)
@@ -294,7 +294,7 @@ part_bytes_at-prepend_bytes taken later m =
     (cond-prepend_bytes (leb (length later) m) (eqb (get_or later m 0) 10) taken
     (take m later, drop (m + 1) later))
 
--- what was read of a part stands before its rest
+-- reading bytes of a part moves them from the text to the bytes that were read
 part_and_rest-moved : (name done taken : List ℕ) (parts room : ℕ)
     (found : Result (List ℕ × List ℕ) BundleFault)
     → ((found >>= prepend_bytes taken) >>= λ f.
@@ -318,7 +318,7 @@ part_and_rest-read_more name done taken later m parts room =
     (part_bytes_at-prepend_bytes taken later m)
     ∙ part_and_rest-moved name done taken parts room (part_bytes_at m later)
 
--- so the parts to come stay as they were
+-- after a read within the current part, the parts from it on are the same
 pub parts_from_current-read_more : (s : PartsState) (done taken later : List ℕ) (remaining : Option (List ℕ)) (failed : ℕ)
     (borrows : List GName) → IsValidPartsState s → s.stage ≡ stages.Part → length taken ≤ s.left
     → parts_from_current s done (taken ++ later)

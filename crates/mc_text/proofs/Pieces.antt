@@ -1,4 +1,4 @@
--- A text that is written piece by piece, and the bundle that is written part by part.
+-- Writing a text piece by piece, and a bundle part by part.
 use Rattle.std.proofs.Common.{arith, ◌≡◌, ℕ, zero, suc, ◌+◌, ◌<◌, ◌≤◌, List, [], ◌∷◌, ◌++◌, length}
 use Rattle.std.proofs.Common.{get_or, take, drop, refl, sym, ap, ◌∙◌, append_assoc, Result}
 use Rattle.std.specs.Prelude.{Option, OnErr, codes}
@@ -16,10 +16,10 @@ use Rattle.mc_text.specs.Bundle.{PartText, IsPartName, part_spelling, bundle_spe
 use Rattle.mc_text.specs.Device.{AppendsProperPrefix}
 use Rattle.mc_text.specs.BundleView.{part_text, part_texts}
 
--- ---- a list's pieces
+-- ---- the pieces of a list
 
 module _ {X : Type 0} (f : X → List ℕ) (xs : List X) (i : ℕ) (d : X) where
-  -- the pieces up to one, which is the last of them
+  -- the pieces of the first i + 1 items are those of the first i and the next
   flat_map-take_more : i < length xs
       → flat_map f (take (i + 1) xs) ≡ flat_map f (take i xs) ++ f (get_or xs i d)
   flat_map-take_more within = rw (take_more xs i d within) (simp (flat_map-append, append-nil))
@@ -33,7 +33,7 @@ module _ {X : Type 0} (f : X → List ℕ) (xs : List X) (i : ℕ) (d : X) where
 
 -- ---- what was written
 
--- the front was written, and a part of the text after it
+-- a front that was written, and then a proper prefix of the rest, are a proper prefix of the whole
 pub appends_prefix-after_front : (a b c : Option (List ℕ)) (front text rest whole : List ℕ) → Appends a b front
     → AppendsProperPrefix b c text → whole ≡ front ++ (text ++ rest) → AppendsProperPrefix a c whole
 appends_prefix-after_front a b c front text rest whole first (k, short, taken) is =
@@ -43,11 +43,11 @@ appends_prefix-after_front a b c front text rest whole first (k, short, taken) i
     rw (is, take-append-add front (text ++ rest) k, part) refl in
     (length front + k, omega arith, rw cut (Appends-trans a b c front (take k text) first taken))
 
--- what holds anyway holds of an error
+-- a fact holds of an error, if it holds
 pub OnErr-from : {X E : Type 0} (r : Result X E) (P : Type 0) → P → OnErr r P
 OnErr-from r P p = grind arith
 
--- what a last call leaves, where its text ends the whole
+-- if the last call fails, what was written is a proper prefix of the whole
 pub appends_prefix-last : {X E : Type 0} (r : Result X E) (a b c : Option (List ℕ))
     (front text whole : List ℕ) → Appends a b front → OnErr r (AppendsProperPrefix b c text)
     → whole ≡ front ++ text → OnErr r (AppendsProperPrefix a c whole)
@@ -56,13 +56,13 @@ appends_prefix-last r a b c front text whole first h is = on_err_weaker r (λ cu
 
 -- ---- the bundle of the parts
 
--- the parts are small and named, and the bundle of them has this size
+-- the parts are named and within the limits, and `total` is the size of their bundle
 pub record IsSizeSoFar (texts : List PartText) (total : ℕ) : Type 0 where
   pub size : total ≡ 21 + length (flat_map part_spelling texts)
   pub sizes : AllByRecursion (λ part. length part.bytes ≤ max_part) texts
   pub names : AllByRecursion (λ part. IsPartName part.name) texts
 
--- parts of which one is too long are not within the limits
+-- parts of which one is too large are not within the limits
 pub part_too_large : (parts : List Part) (i : ℕ) (d : Part) → i < length parts
     → max_part < length (get_or parts i d).bytes.now
     → AllByRecursion (λ part. length part.bytes ≤ max_part) (part_texts parts) → ⊥
@@ -71,11 +71,11 @@ part_too_large (part ∷ parts) zero d within wide small = omega (arith, wide, s
 part_too_large (part ∷ parts) (suc i) d within wide small =
     part_too_large parts i d (omega arith) wide small.1
 
--- how a part in memory is spelled
+-- the bytes of a part in memory, with its line
 abbrev pub spelled : Part → List ℕ
 spelled part = part_spelling (part_text part)
 
--- the first line, and the first parts
+-- the first line of a bundle and these parts
 abbrev pub front_of_bundle : List Part → List ℕ
 front_of_bundle parts = codes "mcaudit bundle 1\n" ++ flat_map spelled parts
 
@@ -84,19 +84,19 @@ pub bundle_spelling-front_of_bundle : (parts : List Part)
     → bundle_spelling (part_texts parts) ≡ front_of_bundle parts ++ codes "end\n"
 bundle_spelling-front_of_bundle parts = rw (flat_map-map part_spelling part_text parts) refl
 
--- a text cut before and after one piece, with another text after it
+-- a text with another after it, cut before and after one piece
 append-piece_then_last : (before text after last : List ℕ)
     → (before ++ (text ++ after)) ++ last ≡ before ++ (text ++ (after ++ last))
 append-piece_then_last before text after last = simp append_assoc
 
 module _ (parts : List Part) (i : ℕ) (part : Part) where
-  -- the front that one more part makes
+  -- the front with one more part
   pub front_of_bundle_more : i < length parts → part ≡ get_or parts i part
       → front_of_bundle (take i parts) ++ spelled part ≡ front_of_bundle (take (i + 1) parts)
   front_of_bundle_more within is = rw (flat_map-take_more spelled parts i part within, ← is)
       (append_assoc (codes "mcaudit bundle 1\n") (flat_map spelled (take i parts)) (spelled part))
 
-  -- what stands before a part, the part, and what stands after it
+  -- a bundle is the bytes before a part, the part, and the bytes after it
   pub bundle_spelling-split_at_part : i < length parts → part ≡ get_or parts i part
       → bundle_spelling (part_texts parts) ≡ front_of_bundle (take i parts)
       ++ (spelled part ++ (flat_map spelled (drop (i + 1) parts) ++ codes "end\n"))

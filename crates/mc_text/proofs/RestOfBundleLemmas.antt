@@ -1,4 +1,4 @@
--- What reading a bundle part by part says of the parts that come after the present one.
+-- Reading a bundle part by part: the parts after the current one.
 use Rattle.std.proofs.Common.{◌≡◌, ℕ, ◌+◌, ◌≤◌, List, [], ◌∷◌, ◌++◌, length, take, Option, Some, None}
 use Rattle.std.proofs.Common.{Result, Ok, Err, refl, sym, ap, ◌∙◌, arith}
 use Rattle.std.specs.Io.KnownBytes.{Consumes}
@@ -16,7 +16,7 @@ use Rattle.mc_text.specs.PartsLimits.{ConsumesWithin, max_to_come}
 use Rattle.mc_text.specs.RestOfBundle.{rest_of_bundle, rest_at_stage, rest_after_part, Advances}
 use Rattle.mc_text.proofs.PartsMeaning.{part_bytes_at-take, prepend_parts-nil}
 
--- ---- the present part before the others
+-- ---- the current part before the others
 
 part_and_rest-prepend : (name done : List ℕ) (left parts room : ℕ) (text : List ℕ)
     (found : Result (List ℕ × List ℕ) BundleFault) → part_bytes_at left text ≡ found
@@ -44,12 +44,12 @@ parts_at_stage-prepend stages.Part s done text = current_and_rest-prepend s.name
 parts_at_stage-prepend stages.End s done text = refl
 parts_at_stage-prepend stages.Failed s done text = refl
 
--- all parts are those that are passed, and the others
+-- the parts from the current one on are it and those after it
 pub parts_from_current-prepend : (s : PartsState) (done text : List ℕ)
     → parts_from_current s done text ≡ prepend_parts (current_part s done text) (rest_of_bundle s text)
 parts_from_current-prepend s done text = parts_at_stage-prepend s.stage s done text
 
--- ---- what is so of all parts is so of the others
+-- ---- facts of all parts as facts of the others
 
 append-left_injective : (xs : List PartText) (ys zs : List PartText) → xs ++ ys ≡ xs ++ zs → ys ≡ zs
 append-left_injective [] ys zs e = e
@@ -64,24 +64,24 @@ prepend_parts-injective xs (Ok ys) (Err fault) e = absurd cc
 prepend_parts-injective xs (Err fault) (Ok zs) e = absurd cc
 prepend_parts-injective xs (Err fault) (Err other) e = let same : fault ≡ other = cc in ap Err same
 
--- the others are what comes now
+-- if a part was opened, the parts that were to come after the current one come now
 pub rest_of_bundle-opened : (s : PartsState) (done text : List ℕ) (r : Result (List PartText) BundleFault)
     → parts_from_current s done text ≡ prepend_parts (current_part s done text) r → rest_of_bundle s text ≡ r
 rest_of_bundle-opened s done text r e =
     prepend_parts-injective (current_part s done text) (rest_of_bundle s text) r (sym (parts_from_current-prepend s done text) ∙ e)
 
--- there are none
+-- at the end no parts come after the current one
 pub rest_of_bundle-ended : (s : PartsState) (done text : List ℕ)
     → parts_from_current s done text ≡ Ok (current_part s done text) → rest_of_bundle s text ≡ Ok []
 rest_of_bundle-ended s done text e =
     rest_of_bundle-opened s done text (Ok []) (e ∙ ap Ok (sym (append-nil (current_part s done text))))
 
--- or they are refused
+-- a fault is the fault of the parts after the current one
 pub rest_of_bundle-fault : (s : PartsState) (done text : List ℕ) (fault : BundleFault)
     → parts_from_current s done text ≡ Err fault → rest_of_bundle s text ≡ Err fault
 rest_of_bundle-fault s done text fault e = rest_of_bundle-opened s done text (Err fault) e
 
--- in a part that has a name that part is passed
+-- in a part, the current part has its name and the bytes read and to come
 pub parts_from_current-in_part : (s : PartsState) (name done text : List ℕ) → s.stage ≡ stages.Part
     → s.name ≡ Some name → parts_from_current s done text
     ≡ prepend_parts (record { name = name; bytes = done ++ take s.left text } ∷ []) (rest_of_bundle s text)
@@ -90,9 +90,9 @@ parts_from_current-in_part s name done text is named =
     rw (is, named) refl in
     parts_from_current-prepend s done text ∙ ap (λ ps. prepend_parts ps (rest_of_bundle s text)) passes
 
--- ---- how much is read
+-- ---- the number of bytes read
 
--- what two calls read is no more than may come before the first
+-- two calls together read no more than may come before the first
 pub consumes_within-trans : (a b c : Option (List ℕ)) (most between after : ℕ) → ConsumesWithin most between a b
     → ConsumesWithin between after b c → ConsumesWithin most after a c
 consumes_within-trans a b c most between after first more = (

@@ -1,5 +1,5 @@
--- An address is the number of 32 bits whose most significant octet is its first, so that addresses
--- are ordered by their octets as the numbers are.
+-- IPv4 addresses. An address is a number of 32 bits, with its first octet as the most significant
+-- one: addresses are ordered by their octets, as the numbers are.
 use Rattle.std.specs.Prelude.{◌≢◌, ℕ, ◌+◌, ◌*◌, ◌/◌, ◌<◌, ◌≤◌, ◌^◌, ◌==◌, ◌&&◌, not, nat_lt, nat_le}
 use Rattle.std.specs.Prelude.{Bool, List}
 use Rattle.std.specs.Int.{w32, to_be_bytes}
@@ -20,7 +20,7 @@ dotted a = ipv4_text (octets_of a)
 abbrev pub IsForwardedGroup : ℕ → Type 0
 IsForwardedGroup a = (224 * 2 ^ 24 + 2 ^ 8 ≤ a) × (a < 240 * 2 ^ 24)
 
--- the same as a test
+-- the same as a computable test
 abbrev pub is_forwarded_group : ℕ → Bool
 is_forwarded_group a = nat_le (224 * 2 ^ 24 + 2 ^ 8) a && nat_lt a (240 * 2 ^ 24)
 
@@ -33,7 +33,7 @@ first_octet a = a / 2 ^ 24
 abbrev pub IsSource : ℕ → Type 0
 IsSource a = (1 ≤ first_octet a) × (first_octet a ≤ 223) × (first_octet a ≢ 127)
 
--- the same as a test
+-- the same as a computable test
 abbrev pub is_source : ℕ → Bool
 is_source a =
     (nat_le 1 (first_octet a) && nat_le (first_octet a) 223) && not (first_octet a == 127)

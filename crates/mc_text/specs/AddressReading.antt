@@ -27,9 +27,9 @@ address_if_dotted text octets =
 unfoldable pub address_of_text : List ℕ → Option ℕ
 address_of_text text = address_if_dotted text (numbers_between_dots text)
 
--- ---- a kernel's words
+-- ---- address words
 
--- the address's octets, where the digits have them in this order
+-- the address's octets, first to last, of octets in printed order
 abbrev pub octets_in_order : Order → List ℕ → List ℕ
 octets_in_order Big octets = octets
 octets_in_order Little octets = reverse octets

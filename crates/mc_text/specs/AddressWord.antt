@@ -1,5 +1,5 @@
--- How a kernel shows an address: the eight hexadecimal digits of the four network-order bytes,
--- which its machine takes as one number (`%08X` of `mfc_mcastgrp` and `mfc_origin` in
+-- How a kernel prints an address: as eight hexadecimal digits of the four network-order bytes, read
+-- as one number in the byte order of its machine (`%08X` of `mfc_mcastgrp` and `mfc_origin` in
 -- net/ipv4/ipmr.c).
 use Rattle.std.specs.Prelude.{◌≡◌, ℕ, List, reverse, Ok}
 use Rattle.hex.specs.Hex.{decode_of}
@@ -9,7 +9,7 @@ use Rattle.mc_text.specs.Addr.{octets_of}
 use Rattle.std.specs.Prelude.{unwrap_or}
 use Rattle.hex.specs.Hex.{hex_digit_value}
 
--- the bytes as the digits have them from left to right: first to last on a big-endian machine, last
+-- the octets in the order in which the digits write them: first to last on a big-endian machine, last
 -- to first on a little-endian one
 abbrev pub printed_octets : Order → ℕ → List ℕ
 printed_octets Big a = octets_of a

@@ -30,8 +30,8 @@ max_part = 16777216
 abbrev pub max_bundle : ℕ
 max_bundle = 268435456
 
--- How many bytes of a text decide what bundle it is read as: those of the greatest bundle, and of
--- the longest line after it.
+-- the number of bytes at the front of a text that decide how it is read: those of the greatest
+-- bundle, and of the longest line after it
 abbrev pub max_input : ℕ
 max_input = 268435552
 
@@ -39,7 +39,7 @@ max_input = 268435552
 abbrev pub max_parts : ℕ
 max_parts = 1538
 
--- a part without where it lies in memory
+-- the name and the bytes of a part
 pub record PartText : Type 0 where
   pub name : List ℕ
   pub bytes : List ℕ
@@ -48,14 +48,13 @@ pub record PartText : Type 0 where
 abbrev pub is_name_byte : ℕ → Bool
 is_name_byte b = is_ascii_alphanumeric b || (b == 45) || (b == 95) || (b == 46) || (b == 47)
 
--- 1 to 64 of them
+-- a part's name: 1 to 64 of these bytes
 pub record IsPartName (name : List ℕ) : Type 0 where
   pub some : 1 ≤ length name
   pub short : length name ≤ max_name
   pub bytes : AllPass is_name_byte name
 
--- The line of a part, without its line feed. The length is in decimal without a needless leading
--- zero.
+-- the line of a part, without its line feed; the length is in decimal without a leading zero
 abbrev pub part_line : List ℕ → ℕ → List ℕ
 part_line name size = codes "part " ++ (name ++ (codes " " ++ decimal size))
 
@@ -69,7 +68,7 @@ abbrev pub bundle_spelling : List PartText → List ℕ
 bundle_spelling parts =
     codes "mcaudit bundle 1\n" ++ (flat_map part_spelling parts ++ codes "end\n")
 
--- A part has at most 16,777,216 bytes, and a bundle 268,435,456 bytes and 1,538 parts.
+-- a part has at most 16,777,216 bytes, and a bundle at most 268,435,456 bytes and 1,538 parts
 pub record AreWithinLimits (parts : List PartText) : Type 0 where
   pub sizes : AllByRecursion (λ part. length part.bytes ≤ max_part) parts
   pub count : length parts ≤ max_parts
@@ -81,11 +80,11 @@ pub record IsBundle (text : List ℕ) (parts : List PartText) : Type 0 where
   pub limits : AreWithinLimits parts
   pub spelled : text ≡ bundle_spelling parts
 
--- whether the fault is a write that failed, as a bundle that is too large is not
+-- whether the fault is a failed write
 abbrev pub is_write : BundleFault → Bool
 is_write faults.Write = true
 is_write _ = false
 
--- a bundle of these parts was written
+-- a bundle of these parts was appended to the output
 abbrev pub AppendsBundle : Option (List ℕ) → Option (List ℕ) → List PartText → Type 0
 AppendsBundle old new parts = (text : List ℕ) × IsBundle text parts × Appends old new text

@@ -1,4 +1,4 @@
--- Which faults a bundle's text brings, and which an input that it is read from.
+-- The faults of a bundle's text, and those of reading it from an input.
 use Rattle.mc_text.specs.declared.bundle.bundle_fault.BundleFault.{BundleFault}
 use Rattle.mc_text.specs.declared.bundle.bundle_fault.BundleFault.TheVariants as faults
 
@@ -10,7 +10,7 @@ IsFramingFault faults.Write = ⊥
 IsFramingFault faults.Failed = ⊥
 IsFramingFault fault = Unit {0}
 
--- what the input gives is no bundle, or the input failed
+-- the bytes of the input are no bundle, or the input failed
 abbrev pub IsInputFault : BundleFault → Type 0
 IsInputFault faults.Read = Unit {0}
 IsInputFault fault = IsFramingFault fault

@@ -1,4 +1,4 @@
--- Reading a bundle from the front, with the first fault that is met.
+-- Reading a bundle from the front, up to its first fault.
 use Rattle.std.specs.Prelude.{ℕ, zero, suc, ◌+◌, ◌-◌, ◌==◌, ◌&&◌, ◌||◌, nat_lt, nat_le, not}
 use Rattle.std.specs.Prelude.{Bool, List, [], ◌∷◌, length, take, drop, slice_index, position, codes}
 use Rattle.std.specs.Prelude.{Option, Some, None, Result, Ok, Err, if◌then◌else◌}
@@ -13,19 +13,19 @@ use Rattle.mc_text.specs.Steps.{◌>>=◌}
 use Rattle.mc_text.specs.Bundle.{PartText, is_name_byte, max_name, max_line, max_part, max_bundle}
 use Rattle.mc_text.specs.Bundle.{max_parts}
 
--- lack of memory, which says nothing of reading
+-- memory ran out, whatever the text is
 abbrev pub IsMemory : BundleFault → Type 0
 IsMemory faults.Memory = Unit {0}
 IsMemory fault = ⊥
 
--- What a function answered, seen by view, is what reading gives, unless memory ran out.
+-- the function's result, with `view` applied, is the result of reading, unless memory ran out
 abbrev pub Gives : {X Y : Type 0} → (X → Y) → Result X BundleFault → Result Y BundleFault → Type 0
 Gives = Steps.Gives IsMemory
 
 -- ---- lines
 
--- The bytes before the line feed, which stands here, and those after it. With none in sight it is
--- decided by whether the input has a whole line's bytes left.
+-- the bytes before the line feed at a place, and those after it; without a line feed the fault
+-- depends on whether a whole line's bytes are left
 abbrev pub cut_line : List ℕ → Option ℕ → Result (List ℕ × List ℕ) BundleFault
 cut_line rest (Some n) = Ok (take n rest, drop (n + 1) rest)
 cut_line rest None =
@@ -40,32 +40,32 @@ abbrev pub is_part_name : List ℕ → Bool
 is_part_name name =
     nat_le 1 (length name) && nat_le (length name) max_name && list_all is_name_byte name
 
--- one digit or more, and no needless leading zero
+-- one digit or more, without a leading zero but for the number 0
 abbrev pub is_length : List ℕ → Bool
 is_length word =
     is_decimal word && ((length word == 1) || not (slice_index word 0 == 48))
 
--- the name and the length that two words say, if they are a name and a length
+-- the name and the length that two words are, if the first is a name and the second a length
 abbrev pub name_and_length : List ℕ → List ℕ → Option (List ℕ × ℕ)
 name_and_length name word =
     if is_part_name name && is_length word then Some (name, digits_value 10 word) else None
 
--- the same of the words before and after a space, which stands here
+-- the same of the words before and after the space at a place
 abbrev pub cut_words : List ℕ → Option ℕ → Option (List ℕ × ℕ)
 cut_words words None = None
 cut_words words (Some n) = name_and_length (take n words) (drop (n + 1) words)
 
--- the name and the length that a part line says after its `part `, parted by its first space
+-- the name and the length in a part line, without its `part `, separated by the first space
 unfoldable pub parse_name_and_length : List ℕ → Option (List ℕ × ℕ)
 parse_name_and_length words = cut_words words (position (λ b. b == 32) words)
 
--- the name and the length that a line says, if it is a part line
+-- the name and the length in a line, if it is a part line
 unfoldable pub parse_part_line : List ℕ → Option (List ℕ × ℕ)
 parse_part_line line = if bytes_eq (take 5 line) (codes "part ") then parse_name_and_length (drop 5 line) else None
 
 -- ---- places
 
--- where reading stands: how many parts and how many bytes may still come, and the bytes that do
+-- a place in a bundle: how many parts and how many bytes may still come, and the bytes that follow
 pub record BundlePlace : Type 0 where
   pub parts : ℕ
   pub room : ℕ
@@ -78,7 +78,7 @@ part_bytes_at size rest =
     else if slice_index rest size == 10 then Ok (take size rest, drop (size + 1) rest)
     else Err faults.BadPartLine
 
--- the line and the part, each with its line feed, take this room
+-- the bytes of a part and its line, each with its line feed
 abbrev pub part_room : List ℕ → ℕ → ℕ
 part_room line size = length line + 1 + (size + 1)
 
@@ -87,12 +87,12 @@ abbrev pub is_too_large : BundlePlace → List ℕ → ℕ → Bool
 is_too_large place line size =
     (place.parts == 0) || nat_lt max_part size || nat_lt place.room (part_room line size)
 
--- the place after a part that takes this room, where these bytes come
+-- the place after a part of this size in all, with the bytes that follow it
 abbrev pub place_after : BundlePlace → ℕ → List ℕ → BundlePlace
 place_after place taken rest =
     record { parts = place.parts - 1; room = place.room - taken; rest = rest }
 
--- the part whose line says this name and length, and the place after it
+-- the part whose line has this name and length, and the place after it
 abbrev pub part_for_line : BundlePlace → List ℕ → List ℕ → Option (List ℕ × ℕ)
     → Result (Option (PartText × BundlePlace)) BundleFault
 part_for_line place line after None = Err faults.BadPartLine

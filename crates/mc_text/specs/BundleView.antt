@@ -1,4 +1,4 @@
--- A part, and a place of a bundle, as contracts see them.
+-- The values in contracts of a part and of a place in a bundle.
 use Rattle.mc_text.specs.declared.bundle.part.Part.{Part}
 use Rattle.mc_text.specs.declared.bundle.bundle.BundlePlace.{BundlePlace}
 use Rattle.mc_text.specs.Bundle.{PartText}

@@ -2,8 +2,8 @@
 use Rattle.std.specs.Prelude.{ℕ, ◌==◌, ◌||◌, ◌&&◌, not, nat_le, Bool, List, length}
 use Rattle.std.specs.List.{list_all}
 
--- a byte that a device's name may have: no tab, line feed or the like (0x09 to 0x0D), no space, `/`
--- or `:`
+-- a byte that a device's name may have: not 0x09 to 0x0D (tab, line feed and the like), space, `/` or
+-- `:`
 abbrev pub is_device_name_byte : ℕ → Bool
 is_device_name_byte b = not ((nat_le 9 b && nat_le b 13) || ((b == 32) || ((b == 47) || (b == 58))))
 

@@ -1,10 +1,10 @@
--- Where a number is looked for first. Only the contracts of private functions speak of it.
+-- The slots of an index, which only contracts of private functions use.
 use Rattle.std.specs.Prelude.{◌≢◌, ℕ, ◌<◌, ◌-◌, ◌*◌, ◌/◌, ◌%◌, List, length, get_or, bit_and}
 use Rattle.std.specs.List.{All}
 use Rattle.std.specs.List.Sorted.{IsStrictlyIncreasing}
 
--- the slot of a number among so many, a power of two: of the upper 16 bits of its product with a
--- large odd number as many as tell the slots apart
+-- the slot of a number among `slots`, a power of two: its product with a large odd number modulo 2^64,
+-- of which the upper 16 bits are taken modulo the number of slots
 abbrev pub slot_in : (slots number : ℕ) → ℕ
 slot_in slots number =
     bit_and (number * 11400714819323198485 % 18446744073709551616 / 281474976710656) (slots - 1)

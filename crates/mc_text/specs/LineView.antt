@@ -1,4 +1,4 @@
--- A line as contracts see it.
+-- The value in contracts of a line.
 use Rattle.mc_text.specs.declared.text.lines.Line.{Line}
 use Rattle.mc_text.specs.Lines.{LineText}
 

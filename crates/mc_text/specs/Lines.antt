@@ -1,5 +1,4 @@
--- The lines of a text: what stands between its line feeds, numbered from 1; and the words of a
--- line.
+-- The lines of a text, which line feeds separate, numbered from 1; and the words of a line.
 use Rattle.std.specs.Prelude.{◌≢◌, ℕ, ◌+◌, ◌<◌, ◌==◌, IsTrue, MatchBool, Bool, true, false, List}
 use Rattle.std.specs.Prelude.{[], ◌∷◌, ◌++◌, length, if◌then◌else◌}
 use Rattle.std.specs.List.{slice_split, flat_map, AllByRecursion}
@@ -9,14 +8,14 @@ use Rattle.std.specs.Prelude.{not, filter}
 abbrev pub max_text : ℕ
 max_text = 16777216
 
--- a line without where it lies in memory
+-- the number and the bytes of a line, and whether a line feed ends it
 pub record LineText : Type 0 where
   pub number : ℕ
   pub bytes : List ℕ
   pub ended : Bool
 
--- Of the parts between line feeds each but the last is a line that one ends. What stands after the
--- last line feed is a line that none ends, if it is not empty.
+-- The lines of the parts between line feeds. Each but the last is a line that a line feed ends. The
+-- last is a line that none ends, if it is not empty.
 abbrev pub numbered : ℕ → List (List ℕ) → List LineText
 numbered n [] = []
 numbered n (part ∷ []) =
@@ -35,11 +34,11 @@ lines_of text = lines_from 1 text
 abbrev pub spelling : LineText → List ℕ
 spelling line = if line.ended then line.bytes ++ 10 ∷ [] else line.bytes
 
--- the text that the lines make
+-- the text that the lines join to
 abbrev pub join_lines : List LineText → List ℕ
 join_lines lines = flat_map spelling lines
 
--- a line feed never stands within a line
+-- the line contains no line feed
 abbrev pub HasNoLineFeed : LineText → Type 0
 HasNoLineFeed line = AllByRecursion (λ b. b ≢ 10) line.bytes
 

@@ -1,8 +1,7 @@
 -- A source and a group as one number.
 use Rattle.std.specs.Prelude.{ℕ, ◌+◌, ◌*◌, ◌/◌, ◌%◌, ◌^◌}
 
--- The source is the upper half, so that the numbers ascend as the pairs do: by source, and then by
--- group.
+-- The source is the upper half, so that numbers are ordered as the pairs: by source, and then by group.
 abbrev pub pair_number : ℕ × ℕ → ℕ
 pair_number pair = pair.0 * 2 ^ 32 + pair.1
 

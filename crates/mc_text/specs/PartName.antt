@@ -1,10 +1,10 @@
--- A part's name in memory: its bytes with zeros after them, and their number.
+-- A part's name in memory: its bytes, followed by zeros, and their number.
 use Rattle.std.specs.Prelude.{◌≡◌, ℕ, ◌≤◌, List, length, take}
 use Rattle.mc_text.specs.declared.bundle.part_name.PartName.TheInside.{Inside}
 use Rattle.mc_text.specs.Bundle.{IsPartName, max_name}
 use Rattle.std.specs.Prelude.{◌-◌, ◌++◌, replicate}
 
--- How the bytes of a name lie in memory: with zeros up to 64.
+-- the bytes of a name, followed by zeros up to 64
 abbrev pub padded : List ℕ → List ℕ
 padded name = name ++ replicate (max_name - length name) 0
 
@@ -12,13 +12,13 @@ padded name = name ++ replicate (max_name - length name) 0
 abbrev pub name_of : Inside → List ℕ
 name_of a = take a.length a.bytes
 
--- they are a name, and zeros stand after them
+-- the bytes are a name, followed by zeros
 pub record IsNameInside (a : Inside) : Type 0 where
   pub name : IsPartName (name_of a)
   pub within : a.length ≤ max_name
   pub full : length a.bytes ≡ max_name
   pub zeros : a.bytes ≡ padded (name_of a)
 
--- how a name lies in memory
+-- the fields of a name in memory
 abbrev pub inside_of : List ℕ → Inside
 inside_of name = record { bytes = padded name; length = length name }

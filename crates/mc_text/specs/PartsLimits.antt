@@ -1,4 +1,4 @@
--- Reading a bundle part by part: how many bytes are read at most.
+-- The most bytes that reading a bundle part by part reads.
 use Rattle.std.specs.Prelude.{ℕ, ◌+◌, ◌≤◌, Bool, List, length, Option, Some, None, Result, Ok, Err}
 use Rattle.std.specs.Prelude.{if◌then◌else◌}
 use Rattle.std.specs.Io.KnownBytes.{Consumes}
@@ -9,17 +9,17 @@ use Rattle.mc_text.specs.declared.bundle.stage.OpenPart.{OpenPart}
 use Rattle.mc_text.specs.Bundle.{max_line}
 use Rattle.mc_text.specs.PartsReading.{PartsState}
 
--- no more was read than the one number has before the other
+-- as many bytes were read as `most` less `after` at most
 abbrev pub ConsumesWithin : ℕ → ℕ → Option (List ℕ) → Option (List ℕ) → Type 0
 ConsumesWithin most after remaining left =
     (bytes : List ℕ) × (length bytes + after ≤ most) × Consumes remaining left bytes
 
--- what comes before a line: the first line, or the rest of a part with its line feed
+-- the number of bytes before a line: of the first line, or of the rest of a part with its line feed
 abbrev pub bytes_before_line : Bool → ℕ → ℕ
 bytes_before_line start left = if start then 17 else left + 1
 
--- The most that may come: what is left of the part with its line feed, what the bundle has room
--- for, and a line.
+-- the most bytes that may come: the rest of the part with its line feed, the room of the bundle, and a
+-- line
 abbrev pub max_to_come_in : OpenPart → ℕ
 max_to_come_in part = part.size + 1 + (part.room + max_line)
 
@@ -29,7 +29,7 @@ max_to_come_after (Ok (Some part)) = max_to_come_in part
 max_to_come_after (Ok None) = 0
 max_to_come_after (Err fault) = 0
 
--- the same where reading stands
+-- the same at a stage of reading
 abbrev pub max_to_come_at : Stage → PartsState → ℕ
 max_to_come_at stages.Start state = 17 + (state.room + max_line)
 max_to_come_at stages.Part state = state.left + 1 + (state.room + max_line)

@@ -1,4 +1,4 @@
--- Reading a bundle part by part from an input: what the bytes that the input still gives are.
+-- Reading a bundle part by part from an input: what its remaining bytes are read as.
 use Rattle.std.specs.Prelude.{◌≡◌, ℕ, ◌-◌, ◌≤◌, ◌==◌, nat_lt, Bool, true, false, List, [], ◌∷◌}
 use Rattle.std.specs.Prelude.{◌++◌, length, take, drop, codes}
 use Rattle.std.specs.Prelude.{IsSome, Option, Some, None, Result, Ok, Err, if◌then◌else◌}
@@ -14,14 +14,13 @@ use Rattle.mc_text.specs.Bundle.{PartText, max_part, max_parts, max_bundle}
 use Rattle.mc_text.specs.BundleReading.{line_at, parse_part_line, part_bytes_at, is_too_large}
 use Rattle.mc_text.specs.BundleReading.{part_room, parts_from, bundle_of}
 
--- whether the fault is a read that failed
+-- whether the fault is a failed read
 abbrev pub is_read : BundleFault → Bool
 is_read faults.Read = true
 is_read fault = false
 
--- What a function answered, seen by view, and the bytes that the input gives after it, are what
--- reading those before it gives. An input that failed says nothing of them, nor does one that
--- doesn't tell its bytes.
+-- The function's result, with `view` applied, and the bytes that remain after it are what `read` gives
+-- of the bytes before it. Nothing is claimed if the input failed, or if its bytes are unknown.
 abbrev pub ReadsAs : {X Y : Type 0} → (X → Y) → Option (List ℕ) → Option (List ℕ)
     → Result X BundleFault → (List ℕ → Result (Y × List ℕ) BundleFault) → Type 0
 ReadsAs view None new answer read = Unit {0}
@@ -36,11 +35,11 @@ magic_of text =
     if bytes_eq (take 17 text) (codes "mcaudit bundle 1\n") then Ok (tt, drop 17 text)
     else Err faults.NoMagic
 
--- the rest of a part, of which so many bytes are left, and its line feed
+-- the rest of a part, `left` bytes, and its line feed
 abbrev pub rest_of_part : ℕ → List ℕ → Result (Unit {0} × List ℕ) BundleFault
 rest_of_part left text = part_bytes_at left text >>= λ found. Ok (tt, found.1)
 
--- the part whose line says this name and length, where so many parts and bytes may come
+-- the part that a line with this name and length opens, where so many parts and bytes may come
 abbrev pub opened_part : ℕ → ℕ → List ℕ → Option (List ℕ × ℕ) → Result OpenPart BundleFault
 opened_part parts room line None = Err faults.BadPartLine
 opened_part parts room line (Some header) =
@@ -53,7 +52,7 @@ opened_part parts room line (Some header) =
       room = room - part_room line header.1;
     })
 
--- the end
+-- what the line `end` opens: nothing, if no byte follows it
 abbrev pub opened_end : ℕ → List ℕ → Result (Option OpenPart × List ℕ) BundleFault
 opened_end room after =
     if nat_lt room 4 then Err faults.TooLarge
@@ -70,7 +69,7 @@ opened_by_line parts room cut =
 abbrev pub opened_at : ℕ → ℕ → List ℕ → Result (Option OpenPart × List ℕ) BundleFault
 opened_at parts room text = line_at text >>= opened_by_line parts room
 
--- what comes before the line of the next part: the first line, or the rest of the present part
+-- what comes before the line of the next part: the first line, or the rest of the current part
 abbrev pub skipped_before_next : Bool → ℕ → List ℕ → Result (Unit {0} × List ℕ) BundleFault
 skipped_before_next start left text = if start then magic_of text else rest_of_part left text
 
@@ -81,8 +80,8 @@ opened_next start left parts room text =
 
 -- ---- the parts that are still to come
 
--- where reading stands: at the start, in a part, past the end or after a fault; how many parts and
--- bytes may come; the present part with what is left of it; and the input
+-- The state of reading: the stage (at the start, in a part, past the end or after a fault), how many
+-- parts and bytes may still come, the current part with its bytes left, and the input.
 pub record PartsState : Type 0 where
   pub stage : Stage
   pub parts : ℕ
@@ -94,7 +93,7 @@ pub record PartsState : Type 0 where
   pub failed : ℕ
   pub borrows : List GName
 
--- the same of its fields, in their order
+-- the state with these fields, in their order
 abbrev pub parts_state : Stage → ℕ → ℕ → Option (List ℕ) → ℕ → ℕ → Option (List ℕ) → ℕ → List GName
     → PartsState
 parts_state stage parts room name size left remaining failed borrows = record {
@@ -109,7 +108,7 @@ parts_state stage parts room name size left remaining failed borrows = record {
   borrows = borrows;
 }
 
--- the present part, of which these bytes were read and so many are left at the front of the text,
+-- the current part, of which the bytes `done` were read and `left` more come at the front of the text,
 -- and the parts after it
 abbrev pub part_and_rest : List ℕ → List ℕ → ℕ → ℕ → ℕ → List ℕ
     → Result (List PartText) BundleFault
@@ -119,13 +118,14 @@ part_and_rest name done left parts room text =
     let part : PartText = record { name = name; bytes = done ++ found.0 } in
     Ok (part ∷ others)
 
--- The parts that the text says, where these bytes of the present part were read before it.
+-- the current part, if there is one, and those after it
 abbrev pub current_and_rest : Option (List ℕ) → List ℕ → ℕ → ℕ → ℕ → List ℕ
     → Result (List PartText) BundleFault
 current_and_rest None done left parts room text = Err faults.Failed
 current_and_rest (Some name) done left parts room text =
     part_and_rest name done left parts room text
 
+-- the parts from the current one on, at a stage
 abbrev pub parts_at_stage : Stage → PartsState → List ℕ → List ℕ
     → Result (List PartText) BundleFault
 parts_at_stage stages.Start state done text = bundle_of text
@@ -134,10 +134,12 @@ parts_at_stage stages.Part state done text =
 parts_at_stage stages.End state done text = Ok []
 parts_at_stage stages.Failed state done text = Err faults.Failed
 
+-- The parts from the current one on, if this text comes and the bytes `done` of the current part were
+-- read before it: at the start all parts of the bundle, and past the end none.
 abbrev pub parts_from_current : PartsState → List ℕ → List ℕ → Result (List PartText) BundleFault
 parts_from_current state done text = parts_at_stage state.stage state done text
 
--- the present part, which is passed
+-- the part of this name, if there is a name
 abbrev pub part_if_named : Option (List ℕ) → List ℕ → List PartText
 part_if_named None bytes = []
 part_if_named (Some name) bytes = record { name = name; bytes = bytes } ∷ []
@@ -146,15 +148,16 @@ abbrev pub current_part_at_stage : Stage → PartsState → List ℕ → List �
 current_part_at_stage stages.Part state done text = part_if_named state.name (done ++ take state.left text)
 current_part_at_stage stage state done text = []
 
+-- the current part, if there is one, as a list
 abbrev pub current_part : PartsState → List ℕ → List ℕ → List PartText
 current_part state done text = current_part_at_stage state.stage state done text
 
--- parts before others
+-- these parts before those that were read
 abbrev pub prepend_parts : List PartText → Result (List PartText) BundleFault
     → Result (List PartText) BundleFault
 prepend_parts parts read = read >>= λ others. Ok (parts ++ others)
 
--- what is known of where reading stands
+-- the invariant of the state of reading
 pub record IsValidPartsState (state : PartsState) : Type 0 where
   pub start : state.stage ≡ stages.Start
       → (state.parts ≡ max_parts) × (state.room ≡ max_bundle - 17)
@@ -162,7 +165,7 @@ pub record IsValidPartsState (state : PartsState) : Type 0 where
   pub left : state.left ≤ state.size
   pub size : state.size ≤ max_part
 
--- the parts after a line that opened one, or was the end
+-- the parts from a line on: that of a part, which was opened, or `end`
 abbrev pub parts_of_opened : Option OpenPart → List ℕ → Result (List PartText) BundleFault
 parts_of_opened None later = Ok []
 parts_of_opened (Some part) later =

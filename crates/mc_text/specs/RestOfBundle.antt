@@ -1,5 +1,5 @@
--- Reading a bundle part by part: the parts that come after the present one.
-use Rattle.std.specs.Prelude.{◌≡◌, ℕ, List, [], ◌∷◌, Option, Some, None, Result, Ok, Err}
+-- Reading a bundle part by part: the parts after the current one.
+use Rattle.std.specs.Prelude.{◌≡◌, ℕ, List, [], ◌∷◌, ◌++◌, Option, Some, None, Result, Ok, Err}
 use Rattle.mc_text.specs.declared.bundle.bundle_fault.BundleFault.{BundleFault}
 use Rattle.mc_text.specs.declared.bundle.bundle_fault.BundleFault.TheVariants as faults
 use Rattle.mc_text.specs.declared.bundle.stage.Stage.{Stage}
@@ -7,10 +7,30 @@ use Rattle.mc_text.specs.declared.bundle.stage.Stage.TheVariants as stages
 use Rattle.mc_text.specs.Steps.{◌>>=◌}
 use Rattle.mc_text.specs.Bundle.{PartText}
 use Rattle.mc_text.specs.BundleReading.{part_bytes_at, parts_from, bundle_of}
-use Rattle.mc_text.specs.PartsReading.{PartsState, prepend_parts}
+use Rattle.mc_text.specs.PartsReading.{PartsState, prepend_parts, parts_from_current, current_part}
 use Rattle.mc_text.specs.PartsLimits.{ConsumesWithin, max_to_come}
 
--- those after a part that has a name
+-- The current part was skipped: with it before them, the parts from the new one on are those that were
+-- to come.
+abbrev pub SkipsCurrentPart : PartsState → PartsState → (done text : List ℕ) → Type 0
+SkipsCurrentPart old new done text =
+    (later : List ℕ) × (new.remaining ≡ Some later)
+    × (parts_from_current old done text
+    ≡ prepend_parts (current_part old done text) (parts_from_current new [] later))
+
+-- These bytes of the current part were read: with them after those read before, the parts stay the same.
+abbrev pub ReadsOfPart : PartsState → PartsState → (done text bytes : List ℕ) → Type 0
+ReadsOfPart old new done text bytes =
+    (later : List ℕ) × (new.remaining ≡ Some later)
+    × (parts_from_current old done text ≡ parts_from_current new (done ++ bytes) later)
+
+-- These bytes of the current part were read, as above, and they are the next ones of the text.
+abbrev pub ReadsNextOfPart : PartsState → PartsState → (done text bytes : List ℕ) → Type 0
+ReadsNextOfPart old new done text bytes =
+    (later : List ℕ) × (new.remaining ≡ Some later) × (text ≡ bytes ++ later)
+    × (parts_from_current old done text ≡ parts_from_current new (done ++ bytes) later)
+
+-- the parts after the current one, in a part
 abbrev pub rest_after_part : Option (List ℕ) → PartsState → List ℕ → Result (List PartText) BundleFault
 rest_after_part None state text = Err faults.Failed
 rest_after_part (Some name) state text =
@@ -22,19 +42,19 @@ rest_at_stage stages.Part state text = rest_after_part state.name state text
 rest_at_stage stages.End state text = Ok []
 rest_at_stage stages.Failed state text = Err faults.Failed
 
--- the parts after the present one, if this text comes
+-- the parts after the current one, if this text comes; at the start, all parts
 abbrev pub rest_of_bundle : PartsState → List ℕ → Result (List PartText) BundleFault
 rest_of_bundle state text = rest_at_stage state.stage state text
 
--- A part of which this holds was passed: those that were to come are it, and those that are to come
--- now.
+-- A part that satisfies `Holds` was read: the parts that were to come are that part, and those that are
+-- to come now.
 abbrev pub ReadsPart : PartsState → PartsState → (PartText → Type 0) → Type 0
 ReadsPart old new Holds =
     (text : List ℕ) → old.remaining ≡ Some text →
     (later : List ℕ) × (part : PartText) × (new.remaining ≡ Some later)
     × (rest_of_bundle old text ≡ prepend_parts (part ∷ []) (rest_of_bundle new later)) × Holds part
 
--- Reading goes on over the same input, and no more was read than may come.
+-- reading went on over the same input, and no more was read than might come
 abbrev pub Advances : PartsState → PartsState → Type 0
 Advances old new =
     (new.borrows ≡ old.borrows) × ConsumesWithin (max_to_come old) (max_to_come new) old.remaining new.remaining

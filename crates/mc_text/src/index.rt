@@ -1,4 +1,4 @@
-//! Numbers that are looked for again and again.
+//! An index of numbers, for repeated lookups.
 
 ghost use Rattle.std.specs.Prelude.{◌≡◌, ◌≢◌, ◌↔◌, ℕ, ◌<◌, Contains, IfOk, IfNone, IfSome};
 ghost use Rattle.std.specs.Prelude.{length, get_or, true};
@@ -9,17 +9,17 @@ use crate::memory::Memory;
 use std::alloc::Global;
 use std::marker::Model;
 
-/// What a number is multiplied by: 2^64 by the golden ratio (D. E. Knuth, The Art of Computer
+/// The multiplier of the hash: 2^64 divided by the golden ratio (D. E. Knuth, The Art of Computer
 /// Programming, volume 3, section 6.4).
 const HASH_MULTIPLIER: u64 = 0x9E37_79B9_7F4A_7C15;
 
-/// How many slots there are for each number.
+/// The number of slots for each number.
 const SLOTS_PER_NUMBER: usize = 32;
 
-/// How many slots there are at most: as many as 16 bits tell apart.
+/// The greatest number of slots: as many as 16 bits can number.
 const MAX_SLOTS: usize = 65_536;
 
-/// The slot of a number, of so many.
+/// The slot of a number, among `slots`.
 fn slot_of(number: u64, slots: usize) -> usize
     requires positive { 0 < slots }
     ensures within { result < slots }
@@ -28,7 +28,7 @@ fn slot_of(number: u64, slots: usize) -> usize
     (number.wrapping_mul(HASH_MULTIPLIER) >> 48) as usize & (slots - 1)
 }
 
-/// The number of slots for so many numbers: a power of two.
+/// The number of slots for `count` numbers: a power of two.
 fn slots_for(count: usize) -> usize
     ensures { 0 < result }
 {
@@ -38,14 +38,14 @@ fn slots_for(count: usize) -> usize
         .next_power_of_two()
 }
 
-/// One more than a place, or another number but 0.
+/// The mark of a place, which is never 0: one more than the place modulo 65,536.
 fn mark_of(place: usize) -> u32
     ensures { result ≢ 0 }
 {
     (place % 65_536) as u32 + 1
 }
 
-/// Slots of which that of each number is marked. Of two numbers of one slot the later marks it.
+/// The slots, with a mark at that of each number. If two numbers share a slot, the later one marks it.
 fn marks_of(alloc: Global, numbers: &[u64]) -> Result<Vec<u32>, Memory>
     ensures some { IfOk result (λ marks. 0 < length marks.items) }
     ensures each { IfOk result (λ marks. AreMarked marks.items numbers.now) }
@@ -58,14 +58,13 @@ fn marks_of(alloc: Global, numbers: &[u64]) -> Result<Vec<u32>, Memory>
     Ok(marks)
 }
 
-/// Numbers, ascending and each once, with a guess of where each is. A guess is verified before they
-/// are searched by halves, so that a number is mostly found, or known to be none of them, at once,
-/// and in `log n` steps whatever the numbers are. Its value in contracts is the list of the numbers.
+/// Distinct numbers in ascending order, with a guess of the place of each. A guess is checked before
+/// the binary search, so that most lookups take one step, and each takes `log n` steps at most,
+/// whatever the numbers are. Its value in contracts is the list of the numbers.
 #[derive(Debug, Drop)]
 pub struct Index {
     numbers: Vec<u64>,
-    // at the slot of a number one more than the place where one of this slot stands, and 0 at a
-    // slot of none
+    // for each slot the mark of the place of a number of that slot, or 0 if there is none
     marks: Vec<u32>,
 }
 
@@ -81,11 +80,11 @@ impl Model for Index {
 }
 
 impl Index {
-    /// An index of numbers.
+    /// An index of these numbers, which may be in any order and repeat.
     ///
     /// # Errors
     ///
-    /// `Memory` where a growth was refused.
+    /// `Memory` if an allocation is refused.
     pub fn of(alloc: Global, mut numbers: Vec<u64>) -> Result<Index, Memory>
         ensures { IfOk result (λ index. (number : ℕ) →
             Contains index number ↔ Contains numbers.items number) }
@@ -96,14 +95,14 @@ impl Index {
         Ok(Index { numbers, marks })
     }
 
-    /// How many numbers there are.
+    /// The number of distinct numbers.
     pub fn count(&self) -> usize
         ensures { result ≡ length self.now }
     {
         self.numbers.len()
     }
 
-    /// Whether a number stands at a place.
+    /// Whether the number is at this place.
     fn is_number_at(&self, number: u64, place: usize) -> bool
         ensures place { result ≡ true →
             (place < length self.now) × (get_or self.now place 0 ≡ number) }
@@ -112,7 +111,7 @@ impl Index {
         self.numbers.get(place) == Some(&number)
     }
 
-    /// The place of a number.
+    /// The place of the number among all in ascending order, counted from 0.
     pub fn place_of(&self, number: u64) -> Option<usize>
         ensures found { IfSome result (λ place.
             (place < length self.now) × (get_or self.now place 0 ≡ number)) }
@@ -130,7 +129,7 @@ impl Index {
         self.numbers.binary_search(&number).ok()
     }
 
-    /// The same, where the place may be known already. A right one saves a search.
+    /// As `place_of`, with a guess of the place. A right guess saves the search.
     pub fn place_with_hint(&self, number: u64, hint: usize) -> Option<usize>
         ensures found { IfSome result (λ place.
             (place < length self.now) × (get_or self.now place 0 ≡ number)) }

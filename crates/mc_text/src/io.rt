@@ -1,4 +1,4 @@
-//! The devices that bytes come from and go to, and reading and writing whole texts.
+//! Inputs and outputs of bytes, and functions that read and write whole texts.
 
 mod device;
 mod faulty;

@@ -1,4 +1,4 @@
-//! What follows from the definitions alone, for whoever builds on them.
+//! Laws of addresses, lines and numbers, which follow from the definitions alone.
 
 ghost use Rattle.std.specs.Prelude.{◌≡◌, ◌≢◌, ◌≤◌, ◌↔◌, ℕ, List, Some};
 ghost use Rattle.std.specs.Cmp.Lexicographic.{slice_cmp};
@@ -14,24 +14,23 @@ ghost use Rattle.mc_text.specs.declared.text.addr.Order.{Order};
 
 use crate::text::{Addr, MAX_TEXT};
 
-/// The bytes of the lines, each with its line feed if it has one, are the text.
+/// The lines of a text, each with its line feed if it has one, join to the text.
 pub fn lines_join_to_their_text()
     ensures { (text : List ℕ) → join_lines (lines_of text) ≡ text }
 {}
 
-/// The greatest text that is read as lines is that of the definition: 16,777,216 bytes.
+/// `MAX_TEXT` is the greatest length of a text in the definitions, 16,777,216 bytes.
 pub fn greatest_text_is_max_text()
     ensures { MAX_TEXT ≡ max_text }
 {}
 
-/// No line has a line feed within, and each but the last is ended by one.
+/// No line contains a line feed, and a line feed ends each line but perhaps the last.
 pub fn lines_end_at_line_feeds()
     ensures within { (text : List ℕ) → AllByRecursion HasNoLineFeed (lines_of text) }
     ensures ended { (text : List ℕ) → OnlyLastMayBeUnended (lines_of text) }
 {}
 
-/// Addresses are ordered by their octets, of which the first counts most. Their numbers are ordered
-/// so too.
+/// Addresses are ordered by their octets, the first octet first, and so are their numbers.
 pub fn addresses_are_ordered_by_octets()
     ensures order { (a b : ℕ) → IsAddr a → IsAddr b
         → ⟦<Addr as Ord>⟧.cmp a b ≡ slice_cmp nat_cmp (octets_of a) (octets_of b) }
@@ -39,14 +38,14 @@ pub fn addresses_are_ordered_by_octets()
         → nat_cmp a b ≡ slice_cmp nat_cmp (octets_of a) (octets_of b) }
 {}
 
-/// Reading finds the address that a dotted text writes, and two addresses with one text are one.
+/// A dotted text is read as the address that it writes. No two addresses have the same text.
 pub fn dotted_texts_are_read()
     ensures read { (text : List ℕ) (a : ℕ)
         → (address_of_text text ≡ Some a) ↔ (IsAddr a × (text ≡ dotted a)) }
     ensures one { (a b : ℕ) → IsAddr a → IsAddr b → dotted a ≡ dotted b → a ≡ b }
 {}
 
-/// Reading finds the address that a word shows, and two addresses that one word shows are one.
+/// An address word is read as the address that it shows. No word shows two addresses.
 pub fn address_words_are_read()
     ensures read { (order : Order) (word : List ℕ) (a : ℕ)
         → (address_of_word order word ≡ Some a) ↔ (IsAddr a × IsAddressWord order word a) }
@@ -54,7 +53,7 @@ pub fn address_words_are_read()
         → IsAddressWord order word a → IsAddressWord order word b → a ≡ b }
 {}
 
-/// Reading finds the number that a word writes, if it is in range.
+/// A word is read as the number that it writes in decimal, if that is in range.
 pub fn decimal_numbers_are_read()
     ensures { (max : ℕ) (word : List ℕ) (n : ℕ)
         → (number_up_to max word ≡ Some n) ↔ (IsDecimal word n × (n ≤ max)) }

@@ -1,11 +1,11 @@
-//! Want of memory.
+//! The fault of an allocation that is refused.
 
 ghost use Rattle.std.specs.Prelude.{◌≡◌, codes, Some};
 
 use std::alloc::{AllocError, AllocFailed};
 use std::fmt;
 
-/// Memory ran out: a growth was refused in the call that answers this.
+/// Memory ran out: the call that returns this had an allocation refused.
 #[derive(Clone, Copy, Debug, PartialEq, Eq)]
 pub struct Memory;
 

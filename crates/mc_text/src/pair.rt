@@ -1,4 +1,4 @@
-//! A source and a group as one number, which is compared and looked for faster than both.
+//! A source and a group as one number, which is faster to compare and to look up than the pair.
 
 ghost use Rattle.std.specs.Prelude.{◌≡◌, IfOk, map};
 ghost use Rattle.mc_text.specs.Pair.{pair_number, pair_of};
@@ -7,8 +7,8 @@ use crate::memory::Memory;
 use crate::text::Addr;
 use std::alloc::Global;
 
-/// The number of a source and a group, of which the source is the upper half: numbers ascend as the
-/// pairs do, by source and then by group.
+/// The number of a source and a group, with the source in the upper half. Numbers are ordered as the
+/// pairs are, by source and then by group.
 pub fn pair_number(source: Addr, group: Addr) -> u64
     ensures number { result ≡ pair_number (source, group) }
     ensures pair { pair_of result ≡ (source, group) }
@@ -16,11 +16,11 @@ pub fn pair_number(source: Addr, group: Addr) -> u64
     u64::from(source.to_bits()) * (1 << 32) + u64::from(group.to_bits())
 }
 
-/// The number of each source and group.
+/// The number of each pair, in their order.
 ///
 /// # Errors
 ///
-/// `Memory` where a growth was refused.
+/// `Memory` if an allocation is refused.
 pub fn pair_numbers(alloc: Global, pairs: &[(Addr, Addr)]) -> Result<Vec<u64>, Memory>
     ensures numbers { IfOk result (λ numbers. numbers.items ≡ map pair_number pairs.now) }
     ensures pairs { IfOk result (λ numbers. map pair_of numbers.items ≡ pairs.now) }

@@ -1,4 +1,4 @@
--- In a travel's last flight each copy came by a way.
+-- In a travel's last flight each copy came by a path.
 use Rattle.std.proofs.Common.{◌≡◌, ◌≢◌, ℕ, ◌+◌, inl, inr, Bool, true, false, List, [], ◌∷◌, ◌++◌}
 use Rattle.std.proofs.Common.{map, cond, ◌==◌, length, Option, Some, None, refl, ap, sym, ◌∙◌, ap₂}
 use Rattle.std.proofs.Common.{subst, arith, eqb-true}
@@ -17,7 +17,8 @@ use Rattle.mc_theory.proofs.ListLemmas.{distinct_append-disjoint}
 use Rattle.mc_theory.proofs.AppendSplits.{append_split-cases}
 use Rattle.mc_theory.proofs.RunInvariant.{map-append'}
 use Rattle.mc_theory.proofs.CopyOrigins.{StepGrows, all_heard-start}
-use Rattle.mc_theory.proofs.WalkBack.{IsRooted, is_rooted-run_of_travel, is_rooted-start, in-first_copy_on, walk_ends-travel}
+use Rattle.mc_theory.proofs.WalkBack.{IsRooted, is_rooted-run_of_travel, is_rooted-start}
+use Rattle.mc_theory.proofs.WalkBack.{in-first_copy_on, walk_ends-travel}
 use Rattle.mc_theory.proofs.Paths.{hop_of_sent_on, is_hop-of_sent_on, run-preserves}
 
 -- ---- the source's copy is the first, and each other one was sent on
@@ -27,7 +28,8 @@ pub record StartsWithSourceCopy (n : Net) (t : ℕ) (cs : List Copy) : Type 0 wh
   pub head : cs ≡ source_copy n t ∷ others
   pub sent : (c : Copy) → In c others → c.sender ≢ None
 
-starts_with_source_copy-grows : (n : Net) (t : ℕ) (f g : Flight) → StepGrows n f g → StartsWithSourceCopy n t f.carried →
+starts_with_source_copy-grows : (n : Net) (t : ℕ) (f g : Flight) → StepGrows n f g →
+    StartsWithSourceCopy n t f.carried →
     StartsWithSourceCopy n t g.carried
 starts_with_source_copy-grows n t f g (inr e) h = subst (StartsWithSourceCopy n t) (sym e) h
 starts_with_source_copy-grows n t f g (inl s) h = record {
@@ -41,19 +43,22 @@ starts_with_source_copy-grows n t f g (inl s) h = record {
   ];
 }
 
-pub starts_with_source_copy-run : (n : Net) (t : ℕ) (ps : List Pick) → StartsWithSourceCopy n t (run n ps (start n t)).carried
-starts_with_source_copy-run n t ps = run-preserves n (StartsWithSourceCopy n t) (starts_with_source_copy-grows n t) ps (start n t) (all_heard-start n t)
+pub starts_with_source_copy-run : (n : Net) (t : ℕ) (ps : List Pick) →
+    StartsWithSourceCopy n t (run n ps (start n t)).carried
+starts_with_source_copy-run n t ps = run-preserves n (StartsWithSourceCopy n t)
+    (starts_with_source_copy-grows n t) ps (start n t) (all_heard-start n t)
     (record { others = []; head = refl; sent = λ c h e. absurd h })
 
 -- a copy that nobody sent is the source's
-source_copy-from_no_sender : (n : Net) (t : ℕ) (cs : List Copy) (c : Copy) → StartsWithSourceCopy n t cs → In c cs →
+source_copy-from_no_sender : (n : Net) (t : ℕ) (cs : List Copy) (c : Copy) →
+    StartsWithSourceCopy n t cs → In c cs →
     c.sender ≡ None → source_copy n t ≡ c
 source_copy-from_no_sender n t cs c h c_in e = elim (subst (λ xs. In c xs) h.head c_in) [
   | inl q ↦ q
   | inr k ↦ absurd (h.sent c k e)
 ]
 
--- ---- copies came by ways
+-- ---- copies came by paths
 
 pub copy_equal-from_some : (o : Option Copy) (b d : Copy) → o ≡ Some b → o ≡ Some d → b ≡ d
 copy_equal-from_some o b d p q = let both : Some b ≡ Some d = sym p ∙ q in cc
@@ -80,21 +85,25 @@ came_by_hops-walk_step n t cs c d ds (Some i) q r c_in from on up =
       ap₂ (λ (l : ℕ) (ls : List ℕ). l ∷ ls) lan up.2,
     )
 
-pub came_by_hops-from_walk : (n : Net) (t : ℕ) (cs : List Copy) (c : Copy) (ds : List Copy) → IsRooted n t cs →
+pub came_by_hops-from_walk : (n : Net) (t : ℕ) (cs : List Copy) (c : Copy) (ds : List Copy) →
+    IsRooted n t cs →
     In c cs → IsWalkBack n cs c ds → CameByHopsOfWalk n cs c ds
 came_by_hops-from_walk n t cs c [] r c_in back = ([], back, refl)
-came_by_hops-from_walk n t cs c (d ∷ ds) r c_in back = came_by_hops-walk_step n t cs c d ds c.sender refl r c_in back.0
+came_by_hops-from_walk n t cs c (d ∷ ds) r c_in back =
+    came_by_hops-walk_step n t cs c d ds c.sender refl r c_in back.0
     back.1 (came_by_hops-from_walk n t cs d ds r (in-first_copy_on cs d.lan d back.1) back.2)
 
-pub row_equal-from_exact : (row : Row) (v w : ℕ) (ps qs : List (ℕ × ℕ)) → row ≡ Exact v ps → row ≡ Exact w qs →
+pub row_equal-from_exact : (row : Row) (v w : ℕ) (ps qs : List (ℕ × ℕ)) → row ≡ Exact v ps →
+    row ≡ Exact w qs →
     (v ≡ w) × (ps ≡ qs)
 row_equal-from_exact row v w ps qs p q = let both : Exact v ps ≡ Exact w qs = sym p ∙ q in (cc, cc)
 
--- a hop by the sender of a copy has the LAN and the threshold that it was sent on by
+-- the hop of a copy's sender has the LAN that the copy was sent on from, and a threshold that it passed
 hop_fields-from_sent_on : (n : Net) (b c : Copy) (h : Hop) → IsNet n → IsHop n h →
     (s : IsSentOn n b c (h.router, h.vif)) → (h.from ≡ b.lan) × (h.threshold ≡ s.threshold)
 hop_fields-from_sent_on n b c h net hop s =
-    let same = row_equal-from_exact (n.row h.router) hop.incoming s.incoming hop.pairs s.pairs hop.row s.row in
+    let same = row_equal-from_exact (n.row h.router) hop.incoming s.incoming hop.pairs s.pairs
+        hop.row s.row in
     let takes = ap (n.placed h.router) (sym same.0) ∙ hop.takes in
     let pair = subst (λ ps. In (h.vif, h.threshold) ps) same.1 hop.pair in
     let one = equal-from_same_image (λ (p : ℕ × ℕ). p.0) (h.vif, h.threshold) (h.vif, s.threshold) s.pairs
@@ -103,7 +112,7 @@ hop_fields-from_sent_on n b c h net hop s =
       ap (λ (p : ℕ × ℕ). p.1) one,
     )
 
--- the hops by which a copy came are a way, and it has the TTL that they leave
+-- the hops by which a copy came are a path, and it has the TTL that they leave
 pub is_path-from_came_by_hops : (n : Net) (t : ℕ) (cs : List Copy) (hs : List Hop) (c : Copy) → IsNet n →
     IsRooted n t cs → StartsWithSourceCopy n t cs → In c cs → CameByHops n cs c hs
     → IsPath n n.source hs c.lan × PassesHops t hs × (c.ttl + length hs ≡ t)
@@ -126,12 +135,13 @@ is_path-from_came_by_hops n t cs (h ∷ hs) c net r head c_in came_by_hops =
       omega (arith, ttl, sent, up.2),
     )
 
--- ---- of a travel
+-- ---- the copies of a travel's flight
 
 pub is_rooted-from_travel : (n : Net) (count t : ℕ) (numbers : List ℕ) (last : Bool) (is : List ℕ)
     (x : Finding) → IsTravel n count numbers last is (start n t) x →
     IsRooted n t (run n (handles is) (start n t)).carried
-is_rooted-from_travel n count t numbers last is x travel = is_rooted-run_of_travel n count t numbers last is (start n t) x
+is_rooted-from_travel n count t numbers last is x travel =
+    is_rooted-run_of_travel n count t numbers last is (start n t) x
     (all_heard-start n t) (is_rooted-start n t) travel
 
 pub came_by_hops : (n : Net) (count t : ℕ) (numbers : List ℕ) (last : Bool) (is : List ℕ) (x : Finding)
@@ -152,7 +162,8 @@ pub is_path-from_travel : (n : Net) (count t : ℕ) (numbers : List ℕ) (last :
     → IsPath n n.source hs c.lan × PassesHops t hs × (c.ttl + length hs ≡ t)
 is_path-from_travel n count t numbers last is x c hs net travel c_in by =
     is_path-from_came_by_hops n t (run n (handles is) (start n t)).carried hs c net
-    (is_rooted-from_travel n count t numbers last is x travel) (starts_with_source_copy-run n t (handles is)) c_in by
+    (is_rooted-from_travel n count t numbers last is x travel)
+        (starts_with_source_copy-run n t (handles is)) c_in by
 
 -- ---- first copies, and the first double one
 
@@ -165,7 +176,8 @@ lan-first_copy_on_step c cs l b false q e ih = ih e
 
 pub lan-first_copy_on : (cs : List Copy) (l : ℕ) (b : Copy) → first_copy_on cs l ≡ Some b → b.lan ≡ l
 lan-first_copy_on [] l b e = absurd cc
-lan-first_copy_on (c ∷ cs) l b e = lan-first_copy_on_step c cs l b (c.lan == l) refl e (lan-first_copy_on cs l b)
+lan-first_copy_on (c ∷ cs) l b e =
+    lan-first_copy_on_step c cs l b (c.lan == l) refl e (lan-first_copy_on cs l b)
 
 pub in-first_double : (cs : List Copy) (c : Copy) → IsFirstDouble cs c → In c cs
 in-first_double cs c d = subst (λ xs. In c xs) (sym d.split) (in-append_right c d.earlier
@@ -178,7 +190,7 @@ first_double-not_earlier cs ds d zs e once again =
     let apart = subst Distinct (ap lans e ∙ map-append' lan ds (d ∷ zs)) once in
     distinct_append-disjoint (lans ds) (lans (d ∷ zs)) apart d.lan again (inl refl)
 
--- there is one
+-- a LAN that carried a copy has a first one
 pub first_double-unique : (cs : List Copy) (c d : Copy) → IsFirstDouble cs c → IsFirstDouble cs d → c ≡ d
 first_double-unique cs c d p q = elim
     (append_split-cases p.earlier c p.later q.earlier d q.later (sym p.split ∙ q.split)) [

@@ -29,7 +29,8 @@ need_of_copy-source n all (suc k) = refl
 -- the entry that an earlier copy has
 entry_at-upstream_copy : (n : Net) (all done : List Copy) (b : Copy) → Distinct (lans done) → In b done →
     entry_on (map (entry_of_copy n all) done) b.lan ≡ Some (entry_of_copy n all b)
-entry_at-upstream_copy n all done b apart b_in = entry_on-of_member (map (entry_of_copy n all) done) (entry_of_copy n all b)
+entry_at-upstream_copy n all done b apart b_in =
+    entry_on-of_member (map (entry_of_copy n all) done) (entry_of_copy n all b)
     (subst Distinct (sym (lans-of_entries n all done)) apart) (in-map (entry_of_copy n all) b done b_in)
 
 need_of_copy-sent_on : (n : Net) (all done : List Copy) (b c : Copy) (i : Interface) → IsNet n →
@@ -41,7 +42,8 @@ need_of_copy-sent_on n all done b c i net apart apart' b_in b_done low s =
     let entry : entry_at (map (entry_of_copy n all) done) (from_lan n (Some i)) ≡ Some
     (entry_of_copy n all b) =
     ap (λ (x : Row). entry_at (map (entry_of_copy n all) done) (taken_from n i.0 x)) s.row ∙
-    (ap (entry_at (map (entry_of_copy n all) done)) s.from ∙ entry_at-upstream_copy n all done b apart' b_done)
+    (ap (entry_at (map (entry_of_copy n all) done)) s.from ∙
+        entry_at-upstream_copy n all done b apart' b_done)
     in
     let threshold : threshold_of i.1 (row_pairs (n.row i.0)) ≡ s.threshold =
     ap (λ (x : Row). threshold_of i.1 (row_pairs x)) s.row ∙
@@ -81,7 +83,8 @@ entry_after-entry_of_copy n all done c net apart apart' within low comes =
 entries_after-ranked_entries : (n : Net) (all done cs : List Copy) → done ++ cs ≡ all → IsNet n →
     Distinct (lans all) → ((b : Copy) → In b all → b.ttl ≤ 255) → AreInSendingOrder n done cs →
     entries_after n (map (entry_of_copy n all) done) cs ≡ map (entry_of_copy n all) all
-entries_after-ranked_entries n all done [] e net apart low order = ap (map (entry_of_copy n all)) (by done ∙ e)
+entries_after-ranked_entries n all done [] e net apart low order =
+    ap (map (entry_of_copy n all)) (by done ∙ e)
   where
     by : {A : Type 0} (xs : List A) → xs ≡ xs ++ []
     by [] = refl
@@ -112,7 +115,8 @@ pub is_tree-from_clean_run : (n : Net) (ps : List Pick) → IsNet n → InRange 
 is_tree-from_clean_run n ps net range whole done clean =
     let f = run n ps (start n 255) in
     let r = run_invariant-run n 255 [] ps (start n 255) net range (run_invariant-start n 255 net) clean in
-    let inv : RunInvariant n 255 [] f = subst (λ (x : List Interface). RunInvariant n 255 x f) (r.2 whole) r.1 in
+    let inv : RunInvariant n 255 [] f =
+        subst (λ (x : List Interface). RunInvariant n 255 x f) (r.2 whole) r.1 in
     let same = entries_after-ranked_entries n f.carried [] f.carried refl net inv.clean.once inv.low
     (is_in_order-of_run n ps (start n 255) (all_heard-start n 255) (in_sending_order-start n 255)) in
     subst (IsTree n) (sym same) (is_tree-ranked_entries n f net inv done)

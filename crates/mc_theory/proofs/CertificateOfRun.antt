@@ -97,14 +97,16 @@ need_of_copy-child n cs k r v h incoming pairs c apart vifs c_in row from pair =
 -- ---- a complete clean run
 
 -- what heard a copy was handled, unless it is the copy's sender
-handled-when_none_waits : (n : Net) (f : Flight) (c : Copy) (r v : ℕ) → RunInvariant n 255 [] f → f.waiting ≡ [] →
+handled-when_none_waits : (n : Net) (f : Flight) (c : Copy) (r v : ℕ) → RunInvariant n 255 [] f →
+    f.waiting ≡ [] →
     In c f.carried → n.placed r v ≡ Some c.lan → c.sender ≢ Some (r, v) →
     Handled n f.carried r v c.ttl
 handled-when_none_waits n f c r v i done c_in on other = elim (i.all c r v c_in on other)
     [ inl z ↦ absurd z | inr (inl w) ↦ absurd (waiting_interfaces-none f (r, v) done w) | inr (inr a) ↦ a ]
 
--- what a live pair of a reached LAN's reader sent
-sends-by_live_pair : (n : Net) (f : Flight) (c : Copy) (r v h : ℕ) → RunInvariant n 255 [] f → f.waiting ≡ [] →
+-- what a live pair sent of a router that takes from a reached LAN
+sends-by_live_pair : (n : Net) (f : Flight) (c : Copy) (r v h : ℕ) → RunInvariant n 255 [] f →
+    f.waiting ≡ [] →
     In c f.carried → Feeds n (entry_of_copy n f.carried c) r v h → Sends n f.carried r c.ttl v
 sends-by_live_pair n f c r v h i done c_in feeds =
     let low = i.low c c_in in
@@ -135,7 +137,8 @@ lans-of_entries n cs (d ∷ ds) = ap (λ ls. d.lan ∷ ls) (lans-of_entries n cs
 property_of_entry-from_copies : (n : Net) (f : Flight) (e : Entry) (P : Entry → Type 0) →
     In e (ranked_entries n f.carried) → ((c : Copy) → In c f.carried → P (entry_of_copy n f.carried c)) →
     P e
-property_of_entry-from_copies n f e P h g = let c = in-map_cases (entry_of_copy n f.carried) e f.carried h in subst P c.2
+property_of_entry-from_copies n f e P h g = let c =
+    in-map_cases (entry_of_copy n f.carried) e f.carried h in subst P c.2
     (g c.0 c.1)
 
 pub is_tree-ranked_entries : (n : Net) (f : Flight) → IsNet n → RunInvariant n 255 [] f → f.waiting ≡ [] →
@@ -148,7 +151,8 @@ is_tree-ranked_entries n f net i done = record {
   no_wildcard = λ e r v h wild. property_of_entry-from_copies n f e (λ e. n.placed r v ≢ Some e.lan) h
       (λ c c_in on. (handled-when_none_waits n f c r v i done c_in on
       (λ q. open-sent n f c r v i c_in q wild)).not_open wild);
-  no_stray = λ p r v h p_in. property_of_entry-from_copies n f p (λ p. Feeds n p r v h → IsSome (n.placed r v)) p_in
+  no_stray = λ p r v h p_in. property_of_entry-from_copies n f p (λ p. Feeds n p r v h →
+      IsSome (n.placed r v)) p_in
       (λ c c_in feeds. (let d = sends-by_live_pair n f c r v h i done c_in feeds in is-some (n.placed r v)
       d.0.lan d.2));
   tree = λ p r v h q p_in. property_of_entry-from_copies n f p (λ p. Feeds n p r v h → n.placed r v ≡ Some q →

@@ -12,7 +12,8 @@ use Rattle.mc_theory.specs.Flights.{start, Pick, picked_index, apply_pick, run, 
 use Rattle.mc_theory.specs.Flights.Pick.{Handles, Loses}
 use Rattle.mc_theory.specs.Certificates.{Entry, lans, interface_count_of_named_lans}
 use Rattle.mc_theory.proofs.ListLemmas.{in-map, in-map_cases, in-flat_map_cases, distinct-flat_map}
-use Rattle.mc_theory.proofs.PlacedInterfaces.{placed-member_of_interfaces, distinct-interfaces, in_placed_interfaces-of_lan}
+use Rattle.mc_theory.proofs.PlacedInterfaces.{placed-member_of_interfaces, distinct-interfaces}
+use Rattle.mc_theory.proofs.PlacedInterfaces.{in_placed_interfaces-of_lan}
 use Rattle.mc_theory.proofs.SafeFlights.{CopiesFitEntries}
 
 -- ---- of distinct numbers in a list, the sum is no more than that of the list
@@ -21,7 +22,7 @@ abbrev pub total : {A : Type 0} → (A → ℕ) → List A → ℕ
 total g [] = 0
 total g (x ∷ xs) = g x + total g xs
 
--- the list without one place of x
+-- the list without one x
 total-split_at_member : {A : Type 0} (g : A → ℕ) (x : A) (ys : List A) → In x ys →
     (zs : List A) × (total g ys ≡ g x + total g zs) × ((z : A) → In z ys → (x ≡ z) ⊎ In z zs)
 total-split_at_member g x [] h = absurd h
@@ -82,7 +83,8 @@ hearer_count-push n (d ∷ cs) c = omega (arith, hearer_count-push n cs c)
 abbrev pub HandledCountIs : Net → ℕ → Flight → Type 0
 HandledCountIs n k f = hearer_count n f.carried ≡ k + length f.waiting
 
-handled_count-put : (n : Net) (k : ℕ) (c : Copy) (f : Flight) → HandledCountIs n k f → HandledCountIs n k (put n c f)
+handled_count-put : (n : Net) (k : ℕ) (c : Copy) (f : Flight) → HandledCountIs n k f →
+    HandledCountIs n k (put n c f)
 handled_count-put n k c f h = omega (
   arith,
   hearer_count-push n f.carried c,
@@ -93,10 +95,12 @@ handled_count-put n k c f h = omega (
 handled_count-leave : (n : Net) (k s : ℕ) (i : Interface) (o : Option ℕ) (f : Flight) → HandledCountIs n k f →
     HandledCountIs n k (leave n s i o f)
 handled_count-leave n k s i None f h = h
-handled_count-leave n k s i (Some l) f h = handled_count-put n k (record { lan = l; ttl = s; sender = Some i })
+handled_count-leave n k s i (Some l) f h =
+    handled_count-put n k (record { lan = l; ttl = s; sender = Some i })
     f h
 
-handled_count-cond : (n : Net) (k : ℕ) (b : Bool) (f g : Flight) → HandledCountIs n k f → HandledCountIs n k g →
+handled_count-cond : (n : Net) (k : ℕ) (b : Bool) (f g : Flight) → HandledCountIs n k f →
+    HandledCountIs n k g →
     HandledCountIs n k (cond b f g)
 handled_count-cond n k true f g h z = h
 handled_count-cond n k false f g h z = z
@@ -141,7 +145,8 @@ pub handled_count-pick : (n : Net) (k : ℕ) (p : Pick) (f : Flight) → picked_
 handled_count-pick n k (Handles i) f lt h = handled_count-step n k i f lt h
 handled_count-pick n k (Loses i) f lt h = omega (arith, length-remove f.waiting i lt)
 
-pub handled_count-run : (n : Net) (k : ℕ) (ps : List Pick) (f : Flight) → InRange n ps f → HandledCountIs n k f →
+pub handled_count-run : (n : Net) (k : ℕ) (ps : List Pick) (f : Flight) → InRange n ps f →
+    HandledCountIs n k f →
     HandledCountIs n (k + length ps) (run n ps f)
 handled_count-run n k [] f range h = omega arith
 handled_count-run n k (p ∷ ps) f range h = omega (
@@ -165,7 +170,8 @@ length_filter-at_most p (x ∷ xs) = filter-le_step p x xs (p x) (length_filter-
     filter-le_step p x xs true h = omega arith
     filter-le_step p x xs false h = omega arith
 
-hearer_count-at_most_interfaces : (n : Net) (cs : List Copy) → hearer_count n cs ≤ total (λ l. length (interfaces n l))
+hearer_count-at_most_interfaces : (n : Net) (cs : List Copy) →
+    hearer_count n cs ≤ total (λ l. length (interfaces n l))
     (lans cs)
 hearer_count-at_most_interfaces n [] = omega arith
 hearer_count-at_most_interfaces n (c ∷ cs) = omega (
@@ -174,7 +180,7 @@ hearer_count-at_most_interfaces n (c ∷ cs) = omega (
   length_filter-at_most (λ (i : Interface). not (is_sender c.sender i)) (interfaces n c.lan),
 )
 
--- the lans of the copies are named
+-- the LANs of the copies are named
 lans-of_copies_are_named : (es : List Entry) (t : ℕ) (f : Flight) → CopiesFitEntries es t f → (l : ℕ) →
     In l (lans f.carried) → In l (map (λ (e : Entry). e.lan) es)
 lans-of_copies_are_named es t f named l h =
@@ -197,14 +203,15 @@ copies-at_most_entries es t f d named =
       length-map' (λ (e : Entry). e.lan) es,
     )
 
-pub hearer_count-at_most_named : (n : Net) (es : List Entry) (t : ℕ) (f : Flight) → Distinct (lans f.carried) →
+pub hearer_count-at_most_named : (n : Net) (es : List Entry) (t : ℕ) (f : Flight) →
+    Distinct (lans f.carried) →
     CopiesFitEntries es t f → hearer_count n f.carried ≤ interface_count_of_named_lans n es
 hearer_count-at_most_named n es t f d named =
     let h = total-at_most_of_superset (λ l. length (interfaces n l)) (lans f.carried)
     (map (λ (e : Entry). e.lan) es) d (lans-of_copies_are_named es t f named) in
     omega (arith, h, hearer_count-at_most_interfaces n f.carried, total-interface_counts n es)
 
--- ---- without a certificate: the interfaces of distinct LANs are apart
+-- ---- without a certificate: distinct LANs have no interface in common
 
 total-interface_lengths : (n : Net) (ls : List ℕ) → total (λ l. length (interfaces n l)) ls ≡ length
     (flat_map (interfaces n) ls)
@@ -239,7 +246,8 @@ total-at_most_placed n ls d =
 
 pub hearer_count-at_most_placed : (n : Net) (f : Flight) → Distinct (lans f.carried) →
     hearer_count n f.carried ≤ length (placed_interfaces n)
-hearer_count-at_most_placed n f d = omega (arith, hearer_count-at_most_interfaces n f.carried, total-at_most_placed n (lans f.carried) d)
+hearer_count-at_most_placed n f d =
+    omega (arith, hearer_count-at_most_interfaces n f.carried, total-at_most_placed n (lans f.carried) d)
 
 -- a clean run has no more steps than there are placed vifs
 pub steps-at_most_placed : (n : Net) (k : ℕ) (f : Flight) → HandledCountIs n k f → Distinct (lans f.carried) →

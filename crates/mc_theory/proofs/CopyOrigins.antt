@@ -38,7 +38,8 @@ append-append (x ∷ xs) ys zs = ap (λ ws. x ∷ ws) (append-append xs ys zs)
 grows-none : (n : Net) (b : Copy) (cs : List Copy) → GrowsByCopiesSentOn n b cs cs
 grows-none n b cs = ([], append-nil_right cs, λ c h. absurd h)
 
-grows-more : (n : Net) (b : Copy) (cs ds es : List Copy) → GrowsByCopiesSentOn n b cs ds → GrowsByCopiesSentOn n b ds es →
+grows-more : (n : Net) (b : Copy) (cs ds es : List Copy) → GrowsByCopiesSentOn n b cs ds →
+    GrowsByCopiesSentOn n b ds es →
     GrowsByCopiesSentOn n b cs es
 grows-more n b cs ds es g h = (
   g.0 ++ h.0,
@@ -129,7 +130,8 @@ StepGrows n f g = ((b : Copy) × In b f.carried × GrowsByCopiesSentOn n b f.car
     (g.carried ≡ f.carried)
 
 grows-handle : (n : Net) (i : ℕ) (o : Option Waiting) (f : Flight) → slice_get f.waiting i ≡ o →
-    AllHeard n f → StepGrows n f (handle n o (without_waiting i f)) × AllHeard n (handle n o (without_waiting i f))
+    AllHeard n f → StepGrows n f (handle n o (without_waiting i f)) ×
+        AllHeard n (handle n o (without_waiting i f))
 grows-handle n i None f e heard = (inr refl, λ w h. heard w (in-remove w f.waiting i h))
 grows-handle n i (Some w) f e heard =
     let b = heard w (slice_get-in f.waiting i w e) in
@@ -163,7 +165,8 @@ in_sending_order-append n earlier (c ∷ cs) ds h news = (
       (λ d k. subst (λ xs. IsSentOnFromSome n xs d) (sym (append-append earlier (c ∷ []) cs)) (news d k)),
 )
 
-sent_on_from_some-new_copy : (n : Net) (cs : List Copy) (b c : Copy) → In b cs → SentOnFrom n b c → IsSentOnFromSome n cs c
+sent_on_from_some-new_copy : (n : Net) (cs : List Copy) (b c : Copy) → In b cs → SentOnFrom n b c →
+    IsSentOnFromSome n cs c
 sent_on_from_some-new_copy n cs b c b_in s i q =
     let both : ◌≡◌ {A = Option Interface} (Some s.0) (Some i) = sym s.1 ∙ q in
     let same : s.0 ≡ i = cc in
@@ -173,13 +176,16 @@ pub in_sending_order-grows : (n : Net) (f g : Flight) → StepGrows n f g → Ar
     AreInSendingOrder n [] g.carried
 in_sending_order-grows n f g (inr e) h = subst (AreInSendingOrder n []) (sym e) h
 in_sending_order-grows n f g (inl s) h = subst (AreInSendingOrder n []) (sym s.2.1)
-    (in_sending_order-append n [] f.carried s.2.0 h (λ c k. sent_on_from_some-new_copy n f.carried s.0 c s.1 (s.2.2 c k)))
+    (in_sending_order-append n [] f.carried s.2.0
+        h (λ c k. sent_on_from_some-new_copy n f.carried s.0 c s.1 (s.2.2 c k)))
 
 -- of every run, with losses or without
-pub is_in_order-of_run : (n : Net) (ps : List Pick) (f : Flight) → AllHeard n f → AreInSendingOrder n [] f.carried →
+pub is_in_order-of_run : (n : Net) (ps : List Pick) (f : Flight) → AllHeard n f →
+    AreInSendingOrder n [] f.carried →
     AreInSendingOrder n [] (run n ps f).carried
 is_in_order-of_run n [] f heard h = h
-is_in_order-of_run n (Handles i ∷ ps) f heard h = let g = grows-step n i f heard in is_in_order-of_run n ps (step n i f)
+is_in_order-of_run n (Handles i ∷ ps) f heard h = let g =
+    grows-step n i f heard in is_in_order-of_run n ps (step n i f)
     g.1 (in_sending_order-grows n f (step n i f) g.0 h)
 is_in_order-of_run n (Loses i ∷ ps) f heard h = is_in_order-of_run n ps (without_waiting i f)
     (λ w k. heard w (in-remove w f.waiting i k)) h
@@ -189,4 +195,5 @@ all_heard-start n t w h = heard-put n (source_copy n t) (record
     { carried = []; waiting = []; strays = [] }) w h (λ u z. absurd z)
 
 pub in_sending_order-start : (n : Net) (t : ℕ) → AreInSendingOrder n [] (start n t).carried
-in_sending_order-start n t = ((λ i q. absurd (let z : ◌≡◌ {A = Option Interface} None (Some i) = q in cc)), tt)
+in_sending_order-start n t =
+    ((λ i q. absurd (let z : ◌≡◌ {A = Option Interface} None (Some i) = q in cc)), tt)

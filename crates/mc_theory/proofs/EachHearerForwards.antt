@@ -8,7 +8,8 @@ use Rattle.mc_theory.specs.Lists.{In}
 use Rattle.mc_theory.specs.Nets.{Net, IsNet, Row, Interface}
 use Rattle.mc_theory.specs.Nets.Row.{Exact, Open, NoRow}
 use Rattle.mc_theory.specs.Flights.{Copy, Waiting, Flight, is_sender, hearers, waits_at, put, leave}
-use Rattle.mc_theory.specs.Flights.{send, sends, handle_by_row, handle, without_waiting, source_copy, start, run}
+use Rattle.mc_theory.specs.Flights.{send, sends, handle_by_row, handle, without_waiting}
+use Rattle.mc_theory.specs.Flights.{source_copy, start, run}
 use Rattle.mc_theory.specs.Flights.{Pick, InRange, IsLossless, step}
 use Rattle.mc_theory.specs.Flights.Pick.{Handles, Loses}
 use Rattle.mc_theory.specs.Certificates.{lans}
@@ -20,11 +21,12 @@ use Rattle.mc_theory.proofs.RunInvariant.{in_hearers, is_sender-true, is_sender-
 use Rattle.mc_theory.proofs.StepInvariant.{slice_get-none, in_carried-sends}
 use Rattle.mc_theory.proofs.CopyOrigins.{StepGrows, all_heard-start}
 use Rattle.mc_theory.proofs.Paths.{run-preserves}
-use Rattle.mc_theory.proofs.CameByHops.{starts_with_source_copy-run, lan_equal-from_some, row_equal-from_exact}
+use Rattle.mc_theory.proofs.CameByHops.{starts_with_source_copy-run, lan_equal-from_some}
+use Rattle.mc_theory.proofs.CameByHops.{row_equal-from_exact}
 
 -- ---- each interface of a carrying LAN but the sender waits, or its copy was handled
 
--- what comes of a copy with TTL t at (r, v) stands among the carried copies
+-- what comes of a copy with TTL t at (r, v) is among the carried copies
 abbrev pub IsForwarded : Net → List Copy → ℕ → ℕ → ℕ → Type 0
 IsForwarded n cs r v t = (pairs : List (ℕ × ℕ)) (k h l : ℕ) → n.row r ≡ Exact v pairs →
     In (k, h) pairs → h < t → n.placed r k ≡ Some l
@@ -48,7 +50,8 @@ is_forwarded-more n cs ds r v t more done pairs k h l row pair lt on =
     let d = done pairs k h l row pair lt on in
     (d.0, more d.0 d.1, d.2, d.3)
 
-wait_or_forwarded-put : (n : Net) (w : Waiting) (c : Copy) (f : Flight) → IsNet n → HearersWaitOrForwarded n (IsWaitingOr w) f →
+wait_or_forwarded-put : (n : Net) (w : Waiting) (c : Copy) (f : Flight) → IsNet n →
+    HearersWaitOrForwarded n (IsWaitingOr w) f →
     HearersWaitOrForwarded n (IsWaitingOr w) (put n c f)
 wait_or_forwarded-put n w c f net all d r v d_in on other = elim (in-push_cases d f.carried c d_in) [
   | inl k ↦ elim (all d r v k on other) [
@@ -66,12 +69,14 @@ wait_or_forwarded-put n w c f net all d r v d_in on other = elim (in-push_cases 
 ]
 
 wait_or_forwarded-leave : (n : Net) (w : Waiting) (t : ℕ) (i : Interface) (o : Option ℕ) (f : Flight) →
-    IsNet n → HearersWaitOrForwarded n (IsWaitingOr w) f → HearersWaitOrForwarded n (IsWaitingOr w) (leave n t i o f)
+    IsNet n → HearersWaitOrForwarded n (IsWaitingOr w) f →
+        HearersWaitOrForwarded n (IsWaitingOr w) (leave n t i o f)
 wait_or_forwarded-leave n w t i None f net all = all
 wait_or_forwarded-leave n w t i (Some l) f net all = wait_or_forwarded-put n w
     (record { lan = l; ttl = t; sender = Some i }) f net all
 
-wait_or_forwarded-cond : (n : Net) (w : Waiting) (test : Bool) (f g : Flight) → HearersWaitOrForwarded n (IsWaitingOr w) f →
+wait_or_forwarded-cond : (n : Net) (w : Waiting) (test : Bool) (f g : Flight) →
+    HearersWaitOrForwarded n (IsWaitingOr w) f →
     HearersWaitOrForwarded n (IsWaitingOr w) g → HearersWaitOrForwarded n (IsWaitingOr w) (cond test f g)
 wait_or_forwarded-cond n w true f g all more = all
 wait_or_forwarded-cond n w false f g all more = more
@@ -83,7 +88,7 @@ wait_or_forwarded-sends n w r t (p ∷ ps) f net all = wait_or_forwarded-sends n
     (wait_or_forwarded-cond n w (nat_lt p.1 t) (leave n (t - 1) (r, p.0) (n.placed r p.0) f) f
     (wait_or_forwarded-leave n w (t - 1) (r, p.0) (n.placed r p.0) f net all) all)
 
--- ---- what a handling sends stands
+-- ---- what a handling sends stays carried
 
 -- a copy on LAN l that lost one of TTL t
 abbrev SentOnto : List Copy → ℕ → ℕ → Type 0
@@ -121,8 +126,9 @@ sent_onto-sends n r t l k h (p ∷ ps) f (inr z) lt on = sent_onto-sends n r t l
 
 -- ---- a step
 
--- once w's copy was handled, all are attended
-wait_or_forwarded-after_handling : (n : Net) (w : Waiting) (f : Flight) → HearersWaitOrForwarded n (IsWaitingOr w) f →
+-- once w's copy was handled, every hearer waits or was handled
+wait_or_forwarded-after_handling : (n : Net) (w : Waiting) (f : Flight) →
+    HearersWaitOrForwarded n (IsWaitingOr w) f →
     IsForwarded n f.carried w.router w.vif w.ttl → HearersWaitOrForwarded n IsWaiting f
 wait_or_forwarded-after_handling n w f all done c r v c_in on other = elim (all c r v c_in on other) [
   | inl (inl z) ↦ inl z
@@ -132,7 +138,8 @@ wait_or_forwarded-after_handling n w f all done c r v c_in on other = elim (all 
 
 wait_or_forwarded-exact_row : (n : Net) (w : Waiting) (incoming : ℕ) (all : List (ℕ × ℕ)) (test : Bool)
     (f : Flight) → (incoming == w.vif) ≡ test → IsNet n → n.row w.router ≡ Exact incoming all →
-    HearersWaitOrForwarded n (IsWaitingOr w) f → HearersWaitOrForwarded n IsWaiting (cond test (sends n w.router w.ttl all f) f)
+    HearersWaitOrForwarded n (IsWaitingOr w) f →
+        HearersWaitOrForwarded n IsWaiting (cond test (sends n w.router w.ttl all f) f)
 wait_or_forwarded-exact_row n w incoming all true f q net row a = wait_or_forwarded-after_handling n w
     (sends n w.router w.ttl all f) (wait_or_forwarded-sends n w w.router w.ttl all f net a)
     (λ pairs k h l row' pair lt on. (let same = row_equal-from_exact (n.row w.router) w.vif incoming pairs all
@@ -146,9 +153,11 @@ wait_or_forwarded-row : (n : Net) (w : Waiting) (row : Row) (f : Flight) → n.r
     HearersWaitOrForwarded n (IsWaitingOr w) f → HearersWaitOrForwarded n IsWaiting (handle_by_row n w row f)
 wait_or_forwarded-row n w (Exact incoming all) f e net a = wait_or_forwarded-exact_row n w incoming all
     (incoming == w.vif) f refl net e a
-wait_or_forwarded-row n w Open f e net a = wait_or_forwarded-after_handling n w f a (λ pairs k h l row pair lt on.
+wait_or_forwarded-row n w Open f e net a =
+    wait_or_forwarded-after_handling n w f a (λ pairs k h l row pair lt on.
     absurd (let z : Open ≡ Exact w.vif pairs = sym e ∙ row in cc))
-wait_or_forwarded-row n w NoRow f e net a = wait_or_forwarded-after_handling n w f a (λ pairs k h l row pair lt on.
+wait_or_forwarded-row n w NoRow f e net a =
+    wait_or_forwarded-after_handling n w f a (λ pairs k h l row pair lt on.
     absurd (let z : NoRow ≡ Exact w.vif pairs = sym e ∙ row in cc))
 
 wait_or_forwarded-without : (n : Net) (f : Flight) (i : ℕ) (w : Waiting) → slice_get f.waiting i ≡ Some w →
@@ -159,15 +168,18 @@ wait_or_forwarded-without n f i w e all c r v c_in on other = elim (all c r v c_
 ]
 
 wait_or_forwarded-handle : (n : Net) (f : Flight) (i : ℕ) (o : Option Waiting) → slice_get f.waiting i ≡ o →
-    i < length f.waiting → IsNet n → HearersWaitOrForwarded n IsWaiting f → HearersWaitOrForwarded n IsWaiting (handle n o (without_waiting i f))
+    i < length f.waiting → IsNet n → HearersWaitOrForwarded n IsWaiting f →
+        HearersWaitOrForwarded n IsWaiting (handle n o (without_waiting i f))
 wait_or_forwarded-handle n f i None e lt net all = absurd (slice_get-none f.waiting i lt e)
-wait_or_forwarded-handle n f i (Some w) e lt net all = wait_or_forwarded-row n w (n.row w.router) (without_waiting i f) refl
+wait_or_forwarded-handle n f i (Some w) e lt net all =
+    wait_or_forwarded-row n w (n.row w.router) (without_waiting i f) refl
     net (wait_or_forwarded-without n f i w e all)
 
 wait_or_forwarded-run : (n : Net) (ps : List Pick) (f : Flight) → IsNet n → InRange n ps f →
     IsLossless ps → HearersWaitOrForwarded n IsWaiting f → HearersWaitOrForwarded n IsWaiting (run n ps f)
 wait_or_forwarded-run n [] f net range whole all = all
-wait_or_forwarded-run n (Handles i ∷ ps) f net range whole all = wait_or_forwarded-run n ps (step n i f) net range.1
+wait_or_forwarded-run n (Handles i ∷ ps) f net range whole all =
+    wait_or_forwarded-run n ps (step n i f) net range.1
     whole (wait_or_forwarded-handle n f i (slice_get f.waiting i) refl range.0 net all)
 wait_or_forwarded-run n (Loses i ∷ ps) f net range whole all = absurd whole
 
@@ -180,9 +192,9 @@ wait_or_forwarded-start n t net c r v c_in on other = elim c_in [
   | inr z ↦ absurd z
 ]
 
--- ---- along a way
+-- ---- along a path
 
--- each copy comes of another one, and has no more than TTL t
+-- each copy was sent on from another one, and has at most TTL t
 record HaveOrigins (n : Net) (t : ℕ) (cs : List Copy) : Type 0 where
   base : (c : Copy) → In c cs → IsSentOnFromSome n cs c
   low : (c : Copy) → In c cs → c.ttl ≤ t
@@ -209,7 +221,8 @@ have_origins-grows n t f g (inl s) b = subst (HaveOrigins n t) (sym s.2.1) (reco
 })
 
 have_origins-run : (n : Net) (t : ℕ) (ps : List Pick) → HaveOrigins n t (run n ps (start n t)).carried
-have_origins-run n t ps = run-preserves n (HaveOrigins n t) (have_origins-grows n t) ps (start n t) (all_heard-start n t)
+have_origins-run n t ps =
+    run-preserves n (HaveOrigins n t) (have_origins-grows n t) ps (start n t) (all_heard-start n t)
     (record {
       base = λ c h i q. elim h [
         | inl e ↦ absurd (let z : ◌≡◌ {A = Option Interface} None (Some i) =
@@ -219,11 +232,11 @@ have_origins-run n t ps = run-preserves n (HaveOrigins n t) (have_origins-grows 
       low = λ c h. elim h [ inl e ↦ omega (arith, ap (λ (x : Copy). x.ttl) e) | inr z ↦ absurd z ];
     })
 
--- A copy on LAN l with at least TTL t that the reader at (r, v) hears.
+-- A copy on LAN l with at least TTL t that the interface (r, v) hears.
 abbrev HeardBy : List Copy → ℕ → ℕ → ℕ → ℕ → Type 0
 HeardBy cs l t r v = (b : Copy) × In b cs × (b.lan ≡ l) × (t ≤ b.ttl) × (b.sender ≢ Some (r, v))
 
--- where the reader sent the copy itself, it heard one before
+-- where (r, v) sent the copy itself, it heard one before
 heard_by-step : (n : Net) (t : ℕ) (cs : List Copy) (c : Copy) (r v : ℕ) (pairs : List (ℕ × ℕ))
     (test : Bool) → is_sender c.sender (r, v) ≡ test → HaveOrigins n t cs → In c cs →
     n.row r ≡ Exact v pairs → n.placed r v ≡ Some c.lan →
@@ -255,7 +268,7 @@ heard_by-some_copy n t (suc k) cs c r v pairs e s c_in row on = heard_by-step n 
     (λ b b_in lan q. subst (λ l. HeardBy cs l b.ttl r v) lan
     (heard_by-some_copy n t k cs b r v pairs (omega (arith, q, e)) s b_in row (on ∙ ap Some (sym lan))))
 
--- a copy on LAN l, no more hops on its way than k
+-- a copy on LAN l that lost at most k TTLs
 abbrev CarriedWithinHops : List Copy → ℕ → ℕ → ℕ → Type 0
 CarriedWithinHops cs t k l = (c : Copy) × In c cs × (c.lan ≡ l) × (t ≤ c.ttl + k)
 
@@ -280,7 +293,8 @@ carried_within_hops-path : (n : Net) (t : ℕ) (cs : List Copy) (hs : List Hop) 
     c.sender ≢ Some (r, v) → IsForwarded n cs r v c.ttl) → IsPath n n.source hs l → PassesHops t hs →
     CarriedWithinHops cs t (length hs) l
 carried_within_hops-path n t cs [] l s first done path p = (source_copy n t, first, path, omega arith)
-carried_within_hops-path n t cs (h ∷ hs) l s first done path p = subst (CarriedWithinHops cs t (length (h ∷ hs))) path.0
+carried_within_hops-path n t cs (h ∷ hs) l s first done path p =
+    subst (CarriedWithinHops cs t (length (h ∷ hs))) path.0
     (carried_within_hops-hop n t cs h (length hs) s done path.1 p.0
     (carried_within_hops-path n t cs hs h.from s first done path.2 p.1))
 

@@ -1,10 +1,11 @@
--- What is told of an event is what its step did.
+-- The counts of an event are what its step did.
 use Rattle.std.proofs.Common.{◌≡◌, ℕ, suc, ◌+◌, ◌-◌, Bool, true, false, cond, not, ◌&&◌, ◌==◌}
 use Rattle.std.proofs.Common.{nat_lt, List, [], ◌∷◌, length, slice_get, Option, Some, None}
 use Rattle.std.proofs.Common.{is_some, ap, ◌∙◌, arith, length-append}
 use Rattle.mc_theory.specs.Nets.{Net, Row, Interface}
 use Rattle.mc_theory.specs.Nets.Row.{Exact, Open, NoRow}
-use Rattle.mc_theory.specs.Flights.{Copy, Waiting, Flight, leave, sends, handle_by_row, handle, without_waiting}
+use Rattle.mc_theory.specs.Flights.{Copy, Waiting, Flight, leave, sends, handle_by_row, handle}
+use Rattle.mc_theory.specs.Flights.{without_waiting}
 use Rattle.mc_theory.specs.Flights.{step}
 use Rattle.mc_theory.specs.Events.Outcome.{OtherVif, Sent}
 use Rattle.mc_theory.specs.Events.{onto_lan_count, astray_count, outcome_by_row, event_of, copies_in}

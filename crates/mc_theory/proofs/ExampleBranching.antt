@@ -1,9 +1,10 @@
--- The networks of specs/Worked.antt with a third router, on which more is computed.
+-- More networks like those of specs/ExampleNetworks.antt, with a third router.
 use Rattle.std.proofs.Common.{ℕ, ◌||◌, ◌==◌, List, [], ◌∷◌, ◌++◌, Some}
 use Rattle.mc_theory.specs.Nets.{Net}
 use Rattle.mc_theory.specs.Nets.Row.{Exact}
 use Rattle.mc_theory.specs.Certificates.{Entry}
-use Rattle.mc_theory.specs.ExampleNetworks.{network, entry, onward, line_with_third_router, line_places, line_entries}
+use Rattle.mc_theory.specs.ExampleNetworks.{network, entry, onward, line_with_third_router}
+use Rattle.mc_theory.specs.ExampleNetworks.{line_places, line_entries}
 
 -- r3 forwards from l1 to l1, by two vifs
 abbrev pub onto_itself : ℕ → Net

@@ -1,4 +1,4 @@
--- The worked networks that keep the headline.
+-- The example networks that keep the headline.
 use Rattle.std.proofs.Common.{◌≡◌, ℕ, ◌||◌, ◌==◌, [], ◌∷◌, Some, inl, inr, refl, ap}
 use Rattle.std.proofs.Common.{arith, eqb-true}
 use Rattle.std.proofs.lemmas.Bool.{or_cases}
@@ -26,7 +26,8 @@ line-wants : WantsBelow (line 3) 3
 line-wants l h = let e = eqb-true l 2 h in omega (arith, e)
 
 line-net : IsNet (line 3)
-line-net = network-is_net 2 line_places line_rows (λ l. l == 2) 3 refl (onward-distinct_vifs, (onward-distinct_vifs, tt))
+line-net = network-is_net 2 line_places line_rows (λ l. l == 2) 3 refl
+    (onward-distinct_vifs, (onward-distinct_vifs, tt))
 
 line-accepted : IsAccepted (line 3) line_entries
 unfolding below
@@ -50,7 +51,8 @@ unfolding below
 diamond-accepted = (first_reason-none_iff_accepted diamond 4 diamond_entries diamond-net diamond-wants).0 refl
 
 pub diamond-headline_holds : HeadlineHolds diamond 4
-diamond-headline_holds = headline_holds-from_accepted diamond diamond_entries diamond-net (omega arith) diamond-accepted
+diamond-headline_holds =
+    headline_holds-from_accepted diamond diamond_entries diamond-net (omega arith) diamond-accepted
 
 closed_diamond-net : IsNet closed_diamond
 closed_diamond-net = network-is_net 4 diamond_places ((3, onward) ∷ diamond_rows) (λ l. l == 3) 3 refl
@@ -106,19 +108,20 @@ twins-wants : WantsBelow twins 2
 twins-wants l h = let e = eqb-true l 1 h in omega (arith, e)
 
 -- the twins where r2 doesn't send
-one-twin-accepted : IsAccepted (take_out (1, 1) twins) twins_entries
+one_twin-accepted : IsAccepted (take_out (1, 1) twins) twins_entries
 unfolding below
-one-twin-accepted = (first_reason-none_iff_accepted (take_out (1, 1) twins) 2 twins_entries
+one_twin-accepted = (first_reason-none_iff_accepted (take_out (1, 1) twins) 2 twins_entries
     (is_net-take_out twins (1, 1) twins-net) twins-wants).0 refl
 
-pub one-twin-headline_holds : HeadlineHolds (take_out (1, 1) twins) 2
-one-twin-headline_holds = headline_holds-from_accepted (take_out (1, 1) twins) twins_entries (is_net-take_out twins (1, 1) twins-net)
-    (omega arith) one-twin-accepted
+pub one_twin-headline_holds : HeadlineHolds (take_out (1, 1) twins) 2
+one_twin-headline_holds = headline_holds-from_accepted (take_out (1, 1) twins) twins_entries
+    (is_net-take_out twins (1, 1) twins-net)
+    (omega arith) one_twin-accepted
 
--- a packet with TTL 2 doesn't get through there
-pub one-twin-stops_ttl_2 : IsReachedWithTtl (take_out (1, 1) twins) 2 1 → ⊥
-one-twin-stops_ttl_2 r =
-    let e = entry-at_path_end (take_out (1, 1) twins) twins_entries 2 one-twin-accepted.is_tree
+-- without r2 a packet with TTL 2 doesn't get through
+pub one_twin-stops_ttl_2 : IsReachedWithTtl (take_out (1, 1) twins) 2 1 → ⊥
+one_twin-stops_ttl_2 r =
+    let e = entry-at_path_end (take_out (1, 1) twins) twins_entries 2 one_twin-accepted.is_tree
     (omega arith) r.0 1 r.1 r.2 in
     let least = need_at_most-from_passes 2 r.0 (omega arith) r.2 in
     elim e.1 [

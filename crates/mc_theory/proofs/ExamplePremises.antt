@@ -15,13 +15,14 @@ use Rattle.mc_theory.specs.ExampleNetworks.{line_entries}
 abbrev net_with_repeated_vif : Net
 net_with_repeated_vif = line_with ((0, Exact 0 ((1, 1) ∷ (1, 1) ∷ [])) ∷ (1, onward) ∷ []) 3
 
-a-repeated-vif-is-accepted : first_reason net_with_repeated_vif 3 line_entries ≡ None
+first_reason-repeated_vif : first_reason net_with_repeated_vif 3 line_entries ≡ None
 unfolding below
-a-repeated-vif-is-accepted = refl
+first_reason-repeated_vif = refl
 
-a-repeated-vif-duplicates : IsTravel net_with_repeated_vif 3 [] false (0 ∷ []) (start net_with_repeated_vif 3) (Duplicate 1)
+is_travel-repeated_vif : IsTravel net_with_repeated_vif 3 [] false (0 ∷ []) (start net_with_repeated_vif 3)
+    (Duplicate 1)
 unfolding below interfaces
-a-repeated-vif-duplicates = (refl, refl, refl)
+is_travel-repeated_vif = (refl, refl, refl)
 
 -- ---- a vif above 31: the list is accepted, and l2 is never reached
 
@@ -29,13 +30,13 @@ abbrev net_with_vif_40 : Net
 net_with_vif_40 = network 3 ((0, 0, 0) ∷ (0, 1, 1) ∷ (1, 40, 1) ∷ (1, 1, 2) ∷ [])
     ((0, onward) ∷ (1, Exact 40 ((1, 1) ∷ [])) ∷ []) (λ l. l == 2) 3
 
-a-great-vif-is-accepted : first_reason net_with_vif_40 3 line_entries ≡ None
+first_reason-vif_40 : first_reason net_with_vif_40 3 line_entries ≡ None
 unfolding below
-a-great-vif-is-accepted = refl
+first_reason-vif_40 = refl
 
-a-great-vif-misses : IsTravel net_with_vif_40 3 [] false (0 ∷ []) (start net_with_vif_40 3) (Missed 2)
+is_travel-vif_40 : IsTravel net_with_vif_40 3 [] false (0 ∷ []) (start net_with_vif_40 3) (Missed 2)
 unfolding below interfaces
-a-great-vif-misses = (refl, refl, refl)
+is_travel-vif_40 = (refl, refl, refl)
 
 -- ---- a TTL above 255: a pair that is dead up to 255 sends, onto a LAN that no entry names
 
@@ -43,10 +44,11 @@ abbrev net_with_dead_pair : Net
 net_with_dead_pair = network 3 ((0, 0, 0) ∷ (0, 1, 1) ∷ (1, 0, 1) ∷ (1, 1, 2) ∷ [])
     ((0, onward) ∷ (1, Exact 0 ((1, 254) ∷ [])) ∷ []) (λ l. l == 1) 3
 
-a-dead-pair-is-accepted : first_reason net_with_dead_pair 3 (l0_entry ∷ l1_entry ∷ []) ≡ None
+first_reason-net_with_dead_pair : first_reason net_with_dead_pair 3 (l0_entry ∷ l1_entry ∷ []) ≡ None
 unfolding below
-a-dead-pair-is-accepted = refl
+first_reason-net_with_dead_pair = refl
 
-a-dead-pair-sends-at-256 : copy_count_on (run net_with_dead_pair (handles (0 ∷ 0 ∷ [])) (start net_with_dead_pair 256)).carried 2 ≡ 1
+copy_count_on-dead_pair_at_ttl_256 : copy_count_on
+    (run net_with_dead_pair (handles (0 ∷ 0 ∷ [])) (start net_with_dead_pair 256)).carried 2 ≡ 1
 unfolding below interfaces
-a-dead-pair-sends-at-256 = refl
+copy_count_on-dead_pair_at_ttl_256 = refl

@@ -1,4 +1,4 @@
--- Worked runs: what LANs carried in every order, and after losses.
+-- Runs in the example networks: what LANs carried in every order, and after losses.
 use Rattle.std.proofs.Common.{◌≡◌, ℕ, List, [], ◌∷◌, map, refl}
 use Rattle.mc_theory.specs.Lists.{below}
 use Rattle.mc_theory.specs.Nets.{Net, interfaces}
@@ -22,50 +22,51 @@ lans_of_branching = 0 ∷ 1 ∷ 2 ∷ 3 ∷ []
 
 -- ---- the branching has three complete orders, and all come to the same end
 
-the-branching-in-one-order : EndsWith (branching 3) 3 (handles (0 ∷ 0 ∷ 0 ∷ [])) lans_of_branching
+ends_with-branching_first_order : EndsWith (branching 3) 3 (handles (0 ∷ 0 ∷ 0 ∷ [])) lans_of_branching
     (1 ∷ 1 ∷ 1 ∷ 1 ∷ [])
 unfolding below interfaces
-the-branching-in-one-order = (refl, refl)
+ends_with-branching_first_order = (refl, refl)
 
-the-branching-in-another-order : EndsWith (branching 3) 3 (handles (0 ∷ 1 ∷ 0 ∷ [])) lans_of_branching
+ends_with-branching_second_order : EndsWith (branching 3) 3 (handles (0 ∷ 1 ∷ 0 ∷ [])) lans_of_branching
     (1 ∷ 1 ∷ 1 ∷ 1 ∷ [])
 unfolding below interfaces
-the-branching-in-another-order = (refl, refl)
+ends_with-branching_second_order = (refl, refl)
 
-the-branching-in-a-third-order : EndsWith (branching 3) 3 (handles (1 ∷ 0 ∷ 0 ∷ [])) lans_of_branching
+ends_with-branching_third_order : EndsWith (branching 3) 3 (handles (1 ∷ 0 ∷ 0 ∷ [])) lans_of_branching
     (1 ∷ 1 ∷ 1 ∷ 1 ∷ [])
 unfolding below interfaces
-the-branching-in-a-third-order = (refl, refl)
+ends_with-branching_third_order = (refl, refl)
 
 -- with TTL 2 all but l2, whose need is 3
-a-low-ttl-in-one-order : EndsWith (branching 3) 2 (handles (0 ∷ 0 ∷ 0 ∷ [])) lans_of_branching
+ends_with-low_ttl_first_order : EndsWith (branching 3) 2 (handles (0 ∷ 0 ∷ 0 ∷ [])) lans_of_branching
     (1 ∷ 1 ∷ 0 ∷ 1 ∷ [])
 unfolding below interfaces
-a-low-ttl-in-one-order = (refl, refl)
+ends_with-low_ttl_first_order = (refl, refl)
 
-a-low-ttl-in-another-order : EndsWith (branching 3) 2 (handles (0 ∷ 1 ∷ 0 ∷ [])) lans_of_branching
+ends_with-low_ttl_second_order : EndsWith (branching 3) 2 (handles (0 ∷ 1 ∷ 0 ∷ [])) lans_of_branching
     (1 ∷ 1 ∷ 0 ∷ 1 ∷ [])
 unfolding below interfaces
-a-low-ttl-in-another-order = (refl, refl)
+ends_with-low_ttl_second_order = (refl, refl)
 
-a-low-ttl-in-a-third-order : EndsWith (branching 3) 2 (handles (1 ∷ 0 ∷ 0 ∷ [])) lans_of_branching
+ends_with-low_ttl_third_order : EndsWith (branching 3) 2 (handles (1 ∷ 0 ∷ 0 ∷ [])) lans_of_branching
     (1 ∷ 1 ∷ 0 ∷ 1 ∷ [])
 unfolding below interfaces
-a-low-ttl-in-a-third-order = (refl, refl)
+ends_with-low_ttl_third_order = (refl, refl)
 
 -- ---- losses
 
-the-line-loses-its-first-copy : EndsWith (line 3) 3 (Loses 0 ∷ []) lans_of_line (1 ∷ 0 ∷ 0 ∷ [])
+ends_with-line_and_loss : EndsWith (line 3) 3 (Loses 0 ∷ []) lans_of_line (1 ∷ 0 ∷ 0 ∷ [])
 unfolding below interfaces
-the-line-loses-its-first-copy = (refl, refl)
+ends_with-line_and_loss = (refl, refl)
 
-the-branching-loses-one-branch : EndsWith (branching 3) 3 (Loses 0 ∷ Handles 0 ∷ []) lans_of_branching
+ends_with-branching_and_loss : EndsWith (branching 3) 3 (Loses 0 ∷ Handles 0 ∷ []) lans_of_branching
     (1 ∷ 0 ∷ 0 ∷ 1 ∷ [])
 unfolding below interfaces
-the-branching-loses-one-branch = (refl, refl)
+ends_with-branching_and_loss = (refl, refl)
 
--- the loss of the second way's copy hides the fault
-the-shortcut-loses-its-copy : copy_count_on (run (line_with_shortcut 3) (Loses 1 ∷ Handles 0 ∷ Handles 0 ∷ [])
+-- the loss of the second path's copy hides the fault
+copy_count_on-shortcut_and_loss : copy_count_on
+    (run (line_with_shortcut 3) (Loses 1 ∷ Handles 0 ∷ Handles 0 ∷ [])
     (start (line_with_shortcut 3) 3)).carried 2 ≡ 1
 unfolding below interfaces
-the-shortcut-loses-its-copy = refl
+copy_count_on-shortcut_and_loss = refl

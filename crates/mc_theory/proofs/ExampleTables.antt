@@ -16,7 +16,8 @@ are_placements_bounded k (p ∷ ps) = nat_lt p.0 k && (nat_lt p.1 32 && are_plac
 placed_by_table_step : (k : ℕ) (p : Placement) (ps : List Placement) (r v l : ℕ) (b : Bool) →
     ((p.0 == r) && (p.1 == v)) ≡ b → are_placements_bounded k (p ∷ ps) ≡ true →
     cond b (Some p.2) (placed_by_table ps r v) ≡ Some l →
-    (are_placements_bounded k ps ≡ true → placed_by_table ps r v ≡ Some l → (r < k) × (v < 32)) → (r < k) × (v < 32)
+    (are_placements_bounded k ps ≡ true → placed_by_table ps r v ≡ Some l → (r < k) × (v < 32)) →
+        (r < k) × (v < 32)
 placed_by_table_step k p ps r v l true e low h ih =
     let at = and_parts (p.0 == r) (p.1 == v) e in
     let both = and_parts (nat_lt p.0 k) (nat_lt p.1 32 && are_placements_bounded k ps) low in
@@ -31,7 +32,8 @@ placed_by_table_step k p ps r v l false e low h ih =
 placed_by_table-bounded : (k : ℕ) (ps : List Placement) (r v l : ℕ) → are_placements_bounded k ps ≡ true →
     placed_by_table ps r v ≡ Some l → (r < k) × (v < 32)
 placed_by_table-bounded k [] r v l low h = absurd cc
-placed_by_table-bounded k (p ∷ ps) r v l low h = placed_by_table_step k p ps r v l ((p.0 == r) && (p.1 == v)) refl low h
+placed_by_table-bounded k (p ∷ ps) r v l low h =
+    placed_by_table_step k p ps r v l ((p.0 == r) && (p.1 == v)) refl low h
     (placed_by_table-bounded k ps r v l)
 
 -- a row has one pair at most for each outgoing vif
@@ -49,9 +51,11 @@ row_by_table_step : (t : ℕ × Row) (ts : List (ℕ × Row)) (r : ℕ) (b : Boo
 row_by_table_step t ts r true h k = h
 row_by_table_step t ts r false h k = k
 
-row_by_table-distinct_vifs : (ts : List (ℕ × Row)) (r : ℕ) → HaveDistinctVifs ts → HasDistinctVifs (row_by_table ts r)
+row_by_table-distinct_vifs : (ts : List (ℕ × Row)) (r : ℕ) → HaveDistinctVifs ts →
+    HasDistinctVifs (row_by_table ts r)
 row_by_table-distinct_vifs [] r h = tt
-row_by_table-distinct_vifs (t ∷ ts) r h = row_by_table_step t ts r (t.0 == r) h.0 (row_by_table-distinct_vifs ts r h.1)
+row_by_table-distinct_vifs (t ∷ ts) r h =
+    row_by_table_step t ts r (t.0 == r) h.0 (row_by_table-distinct_vifs ts r h.1)
 
 pub network-is_net : (k : ℕ) (places : List Placement) (rows : List (ℕ × Row)) (wants : ℕ → Bool) (ttl : ℕ) →
     are_placements_bounded k places ≡ true → HaveDistinctVifs rows → IsNet (network k places rows wants ttl)

@@ -1,4 +1,4 @@
--- Worked travels: what is seen, and the finding, are computed.
+-- Travels in the example networks: events and findings are computed.
 use Rattle.std.proofs.Common.{◌≡◌, ℕ, true, false, List, [], ◌∷◌, refl}
 use Rattle.mc_theory.specs.Lists.{below}
 use Rattle.mc_theory.specs.Nets.{interfaces}
@@ -15,7 +15,7 @@ use Rattle.mc_theory.proofs.ExampleBranching.{onto_itself}
 abbrev sent_event : ℕ → ℕ → ℕ → ℕ → Event
 sent_event r v t copies = record { router = r; vif = v; ttl = t; outcome = Sent copies 0 }
 
--- it took one that came by another vif than the expected one
+-- the copy came by another vif than the expected one
 abbrev other_vif_event : ℕ → ℕ → ℕ → Event
 other_vif_event r v t = record { router = r; vif = v; ttl = t; outcome = OtherVif }
 
@@ -31,100 +31,111 @@ abbrev four_first_picks : List ℕ
 four_first_picks = 0 ∷ 0 ∷ 0 ∷ 0 ∷ []
 
 -- at TTL 2 r2 doesn't send on, since 1 isn't greater than its threshold 1
-too-low-a-ttl-misses-l2 : IsTravel (line 2) 3 [] false two_first_picks (start (line 2) 2) (Missed 2)
+is_travel-line_at_ttl_2 : IsTravel (line 2) 3 [] false two_first_picks (start (line 2) 2) (Missed 2)
 unfolding below interfaces
-too-low-a-ttl-misses-l2 = (refl, refl, (refl, refl, refl))
+is_travel-line_at_ttl_2 = (refl, refl, (refl, refl, refl))
 
-events-of-a-too-low-ttl : events (line 2) two_first_picks (start (line 2) 2) ≡ sent_event 0 0 2 1 ∷ sent_event 1 0 1 0
+events-line_at_ttl_2 : events (line 2) two_first_picks (start (line 2) 2) ≡ sent_event 0 0 2 1 ∷
+    sent_event 1 0 1 0
     ∷ []
 unfolding below interfaces
-events-of-a-too-low-ttl = refl
+events-line_at_ttl_2 = refl
 
-at-255-the-line-is-clean : IsTravel (line 2) 3 [] false two_first_picks (start (line 2) 255) Clean
+is_travel-line_at_ttl_255 : IsTravel (line 2) 3 [] false two_first_picks (start (line 2) 255) Clean
 unfolding below interfaces
-at-255-the-line-is-clean = (refl, refl, (refl, refl, refl))
+is_travel-line_at_ttl_255 = (refl, refl, (refl, refl, refl))
 
 -- and makes the line's certificate
-line-copies-make-its-certificate : entries_of (line 3) (run (line 3) (handles two_first_picks)
+entries_of-line_copies : entries_of (line 3) (run (line 3) (handles two_first_picks)
     (start (line 3) 255)).carried ≡ line_entries
 unfolding below interfaces
-line-copies-make-its-certificate = refl
+entries_of-line_copies = refl
 
--- ---- a second way to l2
+-- ---- a second path to l2
 
-the-shortcut-duplicates : IsTravel (line_with_shortcut 3) 3 [] false three_first_picks (start (line_with_shortcut 3) 3)
+is_travel-shortcut : IsTravel (line_with_shortcut 3) 3 [] false three_first_picks
+    (start (line_with_shortcut 3) 3)
     (Duplicate 2)
 unfolding below interfaces
-the-shortcut-duplicates = (refl, refl, (refl, refl, (refl, refl, refl)))
+is_travel-shortcut = (refl, refl, (refl, refl, (refl, refl, refl)))
 
-events-of-the-shortcut : events (line_with_shortcut 3) three_first_picks (start (line_with_shortcut 3) 3) ≡ sent_event 0 0 3 1
+events-shortcut : events (line_with_shortcut 3) three_first_picks (start (line_with_shortcut 3) 3)
+    ≡ sent_event 0 0 3 1
     ∷ sent_event 2 0 3 1 ∷ sent_event 1 0 2 1 ∷ []
 unfolding below interfaces
-events-of-the-shortcut = refl
+events-shortcut = refl
 
-the-shortcut-duplicates-at-255 : IsTravel (line_with_shortcut 3) 3 [] false three_first_picks
+is_travel-shortcut_at_ttl_255 : IsTravel (line_with_shortcut 3) 3 [] false three_first_picks
     (start (line_with_shortcut 3) 255) (Duplicate 2)
 unfolding below interfaces
-the-shortcut-duplicates-at-255 = (refl, refl, (refl, refl, (refl, refl, refl)))
+is_travel-shortcut_at_ttl_255 = (refl, refl, (refl, refl, (refl, refl, refl)))
 
--- a picker of the number 1, and then of the first
+-- a picker that chooses number 1, and then always the first
 abbrev one_then_first_picks : List ℕ
 one_then_first_picks = 1 ∷ 0 ∷ 0 ∷ 0 ∷ []
 
-the-shortcut-duplicates-by-numbers : IsTravel (line_with_shortcut 3) 3 (1 ∷ []) false one_then_first_picks
+is_travel-shortcut_by_numbers : IsTravel (line_with_shortcut 3) 3 (1 ∷ []) false one_then_first_picks
     (start (line_with_shortcut 3) 3) (Duplicate 2)
 unfolding below interfaces
-the-shortcut-duplicates-by-numbers = (refl, refl, (refl, refl, (refl, refl, (refl, refl, refl))))
+is_travel-shortcut_by_numbers = (refl, refl, (refl, refl, (refl, refl, (refl, refl, refl))))
 
-events-of-the-shortcut-by-numbers : events (line_with_shortcut 3) one_then_first_picks (start (line_with_shortcut 3) 3) ≡ sent_event 2 0
+events-shortcut_by_numbers : events (line_with_shortcut 3) one_then_first_picks
+    (start (line_with_shortcut 3) 3) ≡ sent_event 2 0
     3 1 ∷ sent_event 0 0 3 1 ∷ other_vif_event 1 1 2 ∷ sent_event 1 0 2 1 ∷ []
 unfolding below interfaces
-events-of-the-shortcut-by-numbers = refl
+events-shortcut_by_numbers = refl
 
--- a picker of the last
+-- a picker that always chooses the last
 abbrev last_picks : List ℕ
 last_picks = 1 ∷ 1 ∷ 0 ∷ 0 ∷ []
 
-the-shortcut-duplicates-by-last : IsTravel (line_with_shortcut 3) 3 [] true last_picks (start (line_with_shortcut 3) 3)
+is_travel-shortcut_by_last : IsTravel (line_with_shortcut 3) 3 [] true last_picks
+    (start (line_with_shortcut 3) 3)
     (Duplicate 2)
 unfolding below interfaces
-the-shortcut-duplicates-by-last = (refl, refl, (refl, refl, (refl, refl, (refl, refl, refl))))
+is_travel-shortcut_by_last = (refl, refl, (refl, refl, (refl, refl, (refl, refl, refl))))
 
-events-of-the-shortcut-by-last : events (line_with_shortcut 3) last_picks (start (line_with_shortcut 3) 3) ≡ sent_event 2 0 3 1
+events-shortcut_by_last : events (line_with_shortcut 3) last_picks (start (line_with_shortcut 3) 3)
+    ≡ sent_event 2 0 3 1
     ∷ other_vif_event 1 1 2 ∷ sent_event 0 0 3 1 ∷ sent_event 1 0 2 1 ∷ []
 unfolding below interfaces
-events-of-the-shortcut-by-last = refl
+events-shortcut_by_last = refl
 
--- ---- a way back to l0
+-- ---- a path back to l0
 
-the-line-with-loop-loops : IsTravel (line_with_loop 3) 3 [] false four_first_picks (start (line_with_loop 3) 4) (Loop 0)
+is_travel-line_with_loop : IsTravel (line_with_loop 3) 3 [] false four_first_picks
+    (start (line_with_loop 3) 4) (Loop 0)
 unfolding below interfaces
-the-line-with-loop-loops = (refl, refl, (refl, refl, (refl, refl, (refl, refl, refl))))
+is_travel-line_with_loop = (refl, refl, (refl, refl, (refl, refl, (refl, refl, refl))))
 
-events-of-the-line-with-loop : events (line_with_loop 3) four_first_picks (start (line_with_loop 3) 4) ≡ sent_event 0 0 4 1
+events-line_with_loop : events (line_with_loop 3) four_first_picks (start (line_with_loop 3) 4)
+    ≡ sent_event 0 0 4 1
     ∷ other_vif_event 2 1 4 ∷ sent_event 1 0 3 1 ∷ sent_event 2 0 2 1 ∷ []
 unfolding below interfaces
-events-of-the-line-with-loop = refl
+events-line_with_loop = refl
 
 -- with one TTL less the copy ends before it comes back
-a-low-ttl-ends-before-the-loop : IsTravel (line_with_loop 3) 3 [] false four_first_picks (start (line_with_loop 3) 3)
+is_travel-line_with_loop_at_ttl_3 : IsTravel (line_with_loop 3) 3 [] false four_first_picks
+    (start (line_with_loop 3) 3)
     Clean
 unfolding below interfaces
-a-low-ttl-ends-before-the-loop = (refl, refl, (refl, refl, (refl, refl, (refl, refl, refl))))
+is_travel-line_with_loop_at_ttl_3 = (refl, refl, (refl, refl, (refl, refl, (refl, refl, refl))))
 
-events-of-the-loop-with-a-low-ttl : events (line_with_loop 3) four_first_picks (start (line_with_loop 3) 3) ≡ sent_event 0 0 3 1
+events-line_with_loop_at_ttl_3 : events (line_with_loop 3) four_first_picks (start (line_with_loop 3) 3)
+    ≡ sent_event 0 0 3 1
     ∷ other_vif_event 2 1 3 ∷ sent_event 1 0 2 1 ∷ sent_event 2 0 1 0 ∷ []
 unfolding below interfaces
-events-of-the-loop-with-a-low-ttl = refl
+events-line_with_loop_at_ttl_3 = refl
 
--- ---- a way from l1 onto l1
+-- ---- a path from l1 back to l1
 
-two-vifs-on-a-lan-loop : IsTravel (onto_itself 3) 3 [] false three_first_picks (start (onto_itself 3) 3)
+is_travel-onto_itself : IsTravel (onto_itself 3) 3 [] false three_first_picks (start (onto_itself 3) 3)
     (Loop 1)
 unfolding below interfaces
-two-vifs-on-a-lan-loop = (refl, refl, (refl, refl, (refl, refl, refl)))
+is_travel-onto_itself = (refl, refl, (refl, refl, (refl, refl, refl)))
 
-events-of-two-vifs-on-a-lan : events (onto_itself 3) three_first_picks (start (onto_itself 3) 3) ≡ sent_event 0 0
+events-onto_itself : events (onto_itself 3) three_first_picks (start (onto_itself 3) 3)
+    ≡ sent_event 0 0
     3 1 ∷ sent_event 1 0 2 1 ∷ sent_event 2 1 2 1 ∷ []
 unfolding below interfaces
-events-of-two-vifs-on-a-lan = refl
+events-onto_itself = refl

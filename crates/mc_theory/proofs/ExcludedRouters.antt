@@ -1,5 +1,5 @@
--- A run without the routers that are left out is one of the whole net, in which the copies that wait
--- at them stay where they are.
+-- A run without the excluded routers is one of the whole net, in which the copies that wait at them
+-- stay where they are.
 use Rattle.std.proofs.Common.{◌≡◌, ℕ, zero, suc, ◌-◌, ◌<◌, ◌≤◌, Bool, true, false, cond, not, ◌&&◌}
 use Rattle.std.proofs.Common.{nat_lt, ◌==◌, List, [], ◌∷◌, ◌++◌, map, filter, length, remove}
 use Rattle.std.proofs.Common.{slice_get, Option, Some, None, refl, ap, ap₂, sym, ◌∙◌, subst, arith}
@@ -97,14 +97,15 @@ index_in_whole-exists_step p x xs (suc i) true e lt ih = index_in_whole-next p x
 index_in_whole-exists : {A : Type 0} (p : A → Bool) (xs : List A) (i : ℕ) → i < length (filter p xs) →
     IndexInWholeList p xs i
 index_in_whole-exists p [] i lt = absurd (omega arith)
-index_in_whole-exists p (x ∷ xs) i lt = index_in_whole-exists_step p x xs i (p x) refl lt (index_in_whole-exists p xs)
+index_in_whole-exists p (x ∷ xs) i lt =
+    index_in_whole-exists_step p x xs i (p x) refl lt (index_in_whole-exists p xs)
 
--- ---- flights that go alongside: the part's, and the whole's
+-- ---- corresponding flights: the part's, and the whole's
 
 abbrev is_at_included_router : (ℕ → Bool) → Waiting → Bool
 is_at_included_router excluded w = not (excluded w.router)
 
-record Alongside (excluded : ℕ → Bool) (f g : Flight) : Type 0 where
+record Correspond (excluded : ℕ → Bool) (f g : Flight) : Type 0 where
   pub carried : g.carried ≡ f.carried
   pub strays : g.strays ≡ f.strays
   pub waiting : f.waiting ≡ filter (is_at_included_router excluded) g.waiting
@@ -123,81 +124,84 @@ hearers-without_excluded excluded n m c leaves =
     let K : Interface → Bool = λ i. not (excluded i.0) in
     let A : Interface → Bool = λ i. is_lan (n.placed i.0 i.1) c.lan in
     let B : Interface → Bool = λ i. is_lan (m.placed i.0 i.1) c.lan in
-    filter_filter-merge K S A B (router_vif_pairs 32 n.routers) (λ i. is_lan-without_excluded excluded n m i c.lan (excluded i.0) leaves
+    filter_filter-merge K S A B
+        (router_vif_pairs 32 n.routers) (λ i. is_lan-without_excluded excluded n m i c.lan
+        (excluded i.0) leaves
     refl) ∙ ap (λ k. filter K (filter S (filter B (router_vif_pairs 32 k)))) leaves.routers
 
-put-alongside : (excluded : ℕ → Bool) (n m : Net) (c : Copy) (f g : Flight) →
-    ExcludesRouters excluded n m → Alongside excluded f g →
-    Alongside excluded (put n c f) (put m c g)
-put-alongside excluded n m c f g leaves v = record {
+put-correspond : (excluded : ℕ → Bool) (n m : Net) (c : Copy) (f g : Flight) →
+    ExcludesRouters excluded n m → Correspond excluded f g →
+    Correspond excluded (put n c f) (put m c g)
+put-correspond excluded n m c f g leaves v = record {
   carried = ap (λ cs. cs ++ c ∷ []) v.carried;
   strays = v.strays;
-  waiting = ap₂ (λ us ws. us ++ ws) v.waiting (ap (map (waits_at c.ttl)) (hearers-without_excluded excluded n m
+  waiting = ap₂ (λ us ws. us ++ ws) v.waiting
+      (ap (map (waits_at c.ttl)) (hearers-without_excluded excluded n m
       c leaves) ∙ sym (filter-map (is_at_included_router excluded) (waits_at c.ttl) (hearers m c))) ∙
       sym (filter-append (is_at_included_router excluded) g.waiting (map (waits_at c.ttl) (hearers m c)));
 }
 
-stray-alongside : (excluded : ℕ → Bool) (i : Interface) (f g : Flight) → Alongside excluded f g →
-    Alongside excluded (stray i f) (stray i g)
-stray-alongside excluded i f g v = record {
+stray-correspond : (excluded : ℕ → Bool) (i : Interface) (f g : Flight) → Correspond excluded f g →
+    Correspond excluded (stray i f) (stray i g)
+stray-correspond excluded i f g v = record {
   carried = v.carried;
   strays = ap (λ is. is ++ i ∷ []) v.strays;
   waiting = v.waiting;
 }
 
-leave-alongside : (excluded : ℕ → Bool) (n m : Net) (t : ℕ) (i : Interface) (o : Option ℕ)
-    (f g : Flight) → ExcludesRouters excluded n m → Alongside excluded f g →
-    Alongside excluded (leave n t i o f) (leave m t i o g)
-leave-alongside excluded n m t i None f g leaves v = stray-alongside excluded i f g v
-leave-alongside excluded n m t i (Some l) f g leaves v = put-alongside excluded n m
+leave-correspond : (excluded : ℕ → Bool) (n m : Net) (t : ℕ) (i : Interface) (o : Option ℕ)
+    (f g : Flight) → ExcludesRouters excluded n m → Correspond excluded f g →
+    Correspond excluded (leave n t i o f) (leave m t i o g)
+leave-correspond excluded n m t i None f g leaves v = stray-correspond excluded i f g v
+leave-correspond excluded n m t i (Some l) f g leaves v = put-correspond excluded n m
     (record { lan = l; ttl = t; sender = Some i }) f g leaves v
 
-cond-alongside : (excluded : ℕ → Bool) (b : Bool) (f g f' g' : Flight) → Alongside excluded f g →
-    Alongside excluded f' g' → Alongside excluded (cond b f f') (cond b g g')
-cond-alongside excluded true f g f' g' v w = v
-cond-alongside excluded false f g f' g' v w = w
+cond-correspond : (excluded : ℕ → Bool) (b : Bool) (f g f' g' : Flight) → Correspond excluded f g →
+    Correspond excluded f' g' → Correspond excluded (cond b f f') (cond b g g')
+cond-correspond excluded true f g f' g' v w = v
+cond-correspond excluded false f g f' g' v w = w
 
-send-alongside : (excluded : ℕ → Bool) (n m : Net) (r t : ℕ) (p : ℕ × ℕ) (f g : Flight) →
-    ExcludesRouters excluded n m → excluded r ≡ false → Alongside excluded f g →
-    Alongside excluded (send n r t p f) (send m r t p g)
-send-alongside excluded n m r t p f g leaves known v = cond-alongside excluded (nat_lt p.1 t)
+send-correspond : (excluded : ℕ → Bool) (n m : Net) (r t : ℕ) (p : ℕ × ℕ) (f g : Flight) →
+    ExcludesRouters excluded n m → excluded r ≡ false → Correspond excluded f g →
+    Correspond excluded (send n r t p f) (send m r t p g)
+send-correspond excluded n m r t p f g leaves known v = cond-correspond excluded (nat_lt p.1 t)
     (leave n (t - 1) (r, p.0) (n.placed r p.0) f) (leave m (t - 1) (r, p.0) (m.placed r p.0) g) f g
-    (subst (λ o. Alongside excluded (leave n (t - 1) (r, p.0) (n.placed r p.0) f)
+    (subst (λ o. Correspond excluded (leave n (t - 1) (r, p.0) (n.placed r p.0) f)
     (leave m (t - 1) (r, p.0) o g)) (leaves.placed r p.0 known)
-    (leave-alongside excluded n m (t - 1) (r, p.0) (n.placed r p.0) f g leaves v)) v
+    (leave-correspond excluded n m (t - 1) (r, p.0) (n.placed r p.0) f g leaves v)) v
 
-sends-alongside : (excluded : ℕ → Bool) (n m : Net) (r t : ℕ) (ps : List (ℕ × ℕ)) (f g : Flight) →
-    ExcludesRouters excluded n m → excluded r ≡ false → Alongside excluded f g →
-    Alongside excluded (sends n r t ps f) (sends m r t ps g)
-sends-alongside excluded n m r t [] f g leaves known v = v
-sends-alongside excluded n m r t (p ∷ ps) f g leaves known v = sends-alongside excluded n m r t ps
+sends-correspond : (excluded : ℕ → Bool) (n m : Net) (r t : ℕ) (ps : List (ℕ × ℕ)) (f g : Flight) →
+    ExcludesRouters excluded n m → excluded r ≡ false → Correspond excluded f g →
+    Correspond excluded (sends n r t ps f) (sends m r t ps g)
+sends-correspond excluded n m r t [] f g leaves known v = v
+sends-correspond excluded n m r t (p ∷ ps) f g leaves known v = sends-correspond excluded n m r t ps
     (send n r t p f) (send m r t p g) leaves known
-    (send-alongside excluded n m r t p f g leaves known v)
+    (send-correspond excluded n m r t p f g leaves known v)
 
-row-alongside : (excluded : ℕ → Bool) (n m : Net) (w : Waiting) (row : Row) (f g : Flight) →
-    ExcludesRouters excluded n m → excluded w.router ≡ false → Alongside excluded f g →
-    Alongside excluded (handle_by_row n w row f) (handle_by_row m w row g)
-row-alongside excluded n m w Open f g leaves known v = stray-alongside excluded (w.router, w.vif) f
+row-correspond : (excluded : ℕ → Bool) (n m : Net) (w : Waiting) (row : Row) (f g : Flight) →
+    ExcludesRouters excluded n m → excluded w.router ≡ false → Correspond excluded f g →
+    Correspond excluded (handle_by_row n w row f) (handle_by_row m w row g)
+row-correspond excluded n m w Open f g leaves known v = stray-correspond excluded (w.router, w.vif) f
     g v
-row-alongside excluded n m w NoRow f g leaves known v = v
-row-alongside excluded n m w (Exact incoming pairs) f g leaves known v = cond-alongside excluded
+row-correspond excluded n m w NoRow f g leaves known v = v
+row-correspond excluded n m w (Exact incoming pairs) f g leaves known v = cond-correspond excluded
     (incoming == w.vif) (sends n w.router w.ttl pairs f) (sends m w.router w.ttl pairs g) f g
-    (sends-alongside excluded n m w.router w.ttl pairs f g leaves known v) v
+    (sends-correspond excluded n m w.router w.ttl pairs f g leaves known v) v
 
-handle-alongside : (excluded : ℕ → Bool) (n m : Net) (w : Waiting) (f g : Flight) →
-    ExcludesRouters excluded n m → excluded w.router ≡ false → Alongside excluded f g →
-    Alongside excluded (handle n (Some w) f) (handle m (Some w) g)
-handle-alongside excluded n m w f g leaves known v =
-    subst (λ row. Alongside excluded (handle_by_row n w (n.row w.router) f) (handle_by_row m w row g))
+handle-correspond : (excluded : ℕ → Bool) (n m : Net) (w : Waiting) (f g : Flight) →
+    ExcludesRouters excluded n m → excluded w.router ≡ false → Correspond excluded f g →
+    Correspond excluded (handle n (Some w) f) (handle m (Some w) g)
+handle-correspond excluded n m w f g leaves known v =
+    subst (λ row. Correspond excluded (handle_by_row n w (n.row w.router) f) (handle_by_row m w row g))
     (leaves.row w.router known)
-    (row-alongside excluded n m w (n.row w.router) f g leaves known v)
+    (row-correspond excluded n m w (n.row w.router) f g leaves known v)
 
 -- ---- what happens to a copy of the part happens to it in the whole
 
-without-alongside : (excluded : ℕ → Bool) (f g : Flight) (i : ℕ) → Alongside excluded f g →
+without-correspond : (excluded : ℕ → Bool) (f g : Flight) (i : ℕ) → Correspond excluded f g →
     (s : IndexInWholeList (is_at_included_router excluded) g.waiting i) →
-    Alongside excluded (without_waiting i f) (without_waiting s.place g)
-without-alongside excluded f g i v s = record {
+    Correspond excluded (without_waiting i f) (without_waiting s.place g)
+without-correspond excluded f g i v s = record {
   carried = v.carried;
   strays = v.strays;
   waiting = ap (λ ws. remove ws i) v.waiting ∙ sym s.left;
@@ -207,88 +211,92 @@ not-true : (b : Bool) → not b ≡ true → b ≡ false
 not-true true e = absurd cc
 not-true false e = refl
 
-step-alongside : (excluded : ℕ → Bool) (n m : Net) (f g : Flight) (i : ℕ) (o : Option Waiting) →
-    ExcludesRouters excluded n m → i < length f.waiting → Alongside excluded f g →
+step-correspond : (excluded : ℕ → Bool) (n m : Net) (f g : Flight) (i : ℕ) (o : Option Waiting) →
+    ExcludesRouters excluded n m → i < length f.waiting → Correspond excluded f g →
     (s : IndexInWholeList (is_at_included_router excluded) g.waiting i) → slice_get f.waiting i ≡ o →
-    Alongside excluded (step n i f) (step m s.place g)
-step-alongside excluded n m f g i None leaves lt v s e = absurd (slice_get-none f.waiting i lt e)
-step-alongside excluded n m f g i (Some w) leaves lt v s e =
+    Correspond excluded (step n i f) (step m s.place g)
+step-correspond excluded n m f g i None leaves lt v s e = absurd (slice_get-none f.waiting i lt e)
+step-correspond excluded n m f g i (Some w) leaves lt v s e =
     let there : slice_get (filter (is_at_included_router excluded) g.waiting) i ≡ Some w =
     ap (λ ws. slice_get ws i) (sym v.waiting) ∙ e in
     let kept = in-filter_cases (is_at_included_router excluded) w g.waiting (slice_get-in
     (filter (is_at_included_router excluded) g.waiting) i w there) in
-    let h = handle-alongside excluded n m w (without_waiting i f) (without_waiting s.place g) leaves
-    (not-true (excluded w.router) kept.1) (without-alongside excluded f g i v s) in
-    subst (λ o. Alongside excluded (handle n o (without_waiting i f)) (handle m (slice_get g.waiting s.place)
-    (without_waiting s.place g))) (sym e) (subst (λ o. Alongside excluded (handle n (Some w) (without_waiting i f))
+    let h = handle-correspond excluded n m w (without_waiting i f) (without_waiting s.place g) leaves
+    (not-true (excluded w.router) kept.1) (without-correspond excluded f g i v s) in
+    subst (λ o. Correspond excluded (handle n o (without_waiting i f)) (handle m (slice_get g.waiting s.place)
+    (without_waiting s.place g))) (sym e)
+        (subst (λ o. Correspond excluded (handle n (Some w) (without_waiting i f))
     (handle m o (without_waiting s.place g))) (sym (s.found ∙ there)) h)
 
--- the whole's picks that go alongside the part's
-record HasPicksAlongside (excluded : ℕ → Bool) (n m : Net) (ps : List Pick) (f g : Flight) : Type 0
+-- the whole's picks that correspond to the part's
+record HasCorrespondingPicks (excluded : ℕ → Bool) (n m : Net) (ps : List Pick) (f g : Flight) : Type 0
   where
     pub picks : List Pick
     pub in_range : InRange m picks g
-    pub alongside : Alongside excluded (run n ps f) (run m picks g)
+    pub flights : Correspond excluded (run n ps f) (run m picks g)
     pub lossless : IsLossless ps → IsLossless picks
 
-in_range-of_included : (excluded : ℕ → Bool) (f g : Flight) (i : ℕ) → Alongside excluded f g →
+in_range-of_included : (excluded : ℕ → Bool) (f g : Flight) (i : ℕ) → Correspond excluded f g →
     i < length f.waiting → i < length (filter (is_at_included_router excluded) g.waiting)
 in_range-of_included excluded f g i v lt = subst (λ ws. i < length ws) v.waiting lt
 
-run-alongside : (excluded : ℕ → Bool) (n m : Net) (ps : List Pick) (f g : Flight) →
-    ExcludesRouters excluded n m → InRange n ps f → Alongside excluded f g →
-    HasPicksAlongside excluded n m ps f g
-run-alongside excluded n m [] f g leaves range v = record {
+run-correspond : (excluded : ℕ → Bool) (n m : Net) (ps : List Pick) (f g : Flight) →
+    ExcludesRouters excluded n m → InRange n ps f → Correspond excluded f g →
+    HasCorrespondingPicks excluded n m ps f g
+run-correspond excluded n m [] f g leaves range v = record {
   picks = [];
   in_range = tt;
-  alongside = v;
+  flights = v;
   lossless = λ h. h;
 }
-run-alongside excluded n m (Handles i ∷ ps) f g leaves range v =
-    let s = index_in_whole-exists (is_at_included_router excluded) g.waiting i (in_range-of_included excluded f g i v range.0) in
-    let a = step-alongside excluded n m f g i (slice_get f.waiting i) leaves range.0 v s refl in
-    let r = run-alongside excluded n m ps (step n i f) (step m s.place g) leaves range.1 a in
+run-correspond excluded n m (Handles i ∷ ps) f g leaves range v =
+    let s = index_in_whole-exists (is_at_included_router excluded) g.waiting i
+        (in_range-of_included excluded f g i v range.0) in
+    let a = step-correspond excluded n m f g i (slice_get f.waiting i) leaves range.0 v s refl in
+    let r = run-correspond excluded n m ps (step n i f) (step m s.place g) leaves range.1 a in
     record {
       picks = Handles s.place ∷ r.picks;
       in_range = (s.in_range, r.in_range);
-      alongside = r.alongside;
+      flights = r.flights;
       lossless = r.lossless;
     }
-run-alongside excluded n m (Loses i ∷ ps) f g leaves range v =
-    let s = index_in_whole-exists (is_at_included_router excluded) g.waiting i (in_range-of_included excluded f g i v range.0) in
-    let a = without-alongside excluded f g i v s in
-    let r = run-alongside excluded n m ps (without_waiting i f) (without_waiting s.place g) leaves range.1 a in
+run-correspond excluded n m (Loses i ∷ ps) f g leaves range v =
+    let s = index_in_whole-exists (is_at_included_router excluded) g.waiting i
+        (in_range-of_included excluded f g i v range.0) in
+    let a = without-correspond excluded f g i v s in
+    let r = run-correspond excluded n m ps (without_waiting i f) (without_waiting s.place g) leaves
+        range.1 a in
     record {
       picks = Loses s.place ∷ r.picks;
       in_range = (s.in_range, r.in_range);
-      alongside = r.alongside;
+      flights = r.flights;
       lossless = λ h. absurd h;
     }
 
-start-alongside : (excluded : ℕ → Bool) (n m : Net) (t : ℕ) → ExcludesRouters excluded n m →
-    Alongside excluded (start n t) (start m t)
-start-alongside excluded n m t leaves =
+start-correspond : (excluded : ℕ → Bool) (n m : Net) (t : ℕ) → ExcludesRouters excluded n m →
+    Correspond excluded (start n t) (start m t)
+start-correspond excluded n m t leaves =
     let none : Flight = record { carried = []; waiting = []; strays = [] } in
-    subst (λ l. Alongside excluded (start n t) (put m
+    subst (λ l. Correspond excluded (start n t) (put m
     (record { lan = l; ttl = t; sender = None }) none)) leaves.source
-    (put-alongside excluded n m (source_copy n t) none none leaves
+    (put-correspond excluded n m (source_copy n t) none none leaves
     (record { carried = refl; strays = refl; waiting = refl }))
 
 pub same_copies_and_strays-in_whole_net : (excluded : ℕ → Bool) (part whole : Net) (t : ℕ) (ps : List Pick) →
     ExcludesRouters excluded part whole → InRange part ps (start part t) →
     HasSameCopiesAndStrays part whole t ps
 same_copies_and_strays-in_whole_net excluded part whole t ps leaves range =
-    let r = run-alongside excluded part whole ps (start part t) (start whole t) leaves range
-    (start-alongside excluded part whole t leaves) in
+    let r = run-correspond excluded part whole ps (start part t) (start whole t) leaves range
+    (start-correspond excluded part whole t leaves) in
     record {
       picks = r.picks;
       in_range = r.in_range;
-      carried = r.alongside.carried;
-      strays = r.alongside.strays;
+      carried = r.flights.carried;
+      strays = r.flights.strays;
       lossless = r.lossless;
     }
 
--- ---- what goes wrong
+-- ---- faults of the part are faults of the whole
 
 pub not_right-from_unclean_run : (excluded : ℕ → Bool) (part whole : Net) (t : ℕ) (ps : List Pick) →
     ExcludesRouters excluded part whole → part.ttl ≤ t → t ≤ 255 → InRange part ps (start part t) →
@@ -316,9 +324,11 @@ pub not_right-from_unclean_travel : (excluded : ℕ → Bool) (part whole : Net)
     (last : Bool) (is : List ℕ) (x : Finding) → ExcludesRouters excluded part whole → part.ttl ≤ t →
     t ≤ 255 → IsTravel part count numbers last is (start part t) x → IsSecondCopyOrStray x →
     IsRight whole → ⊥
-not_right-from_unclean_travel excluded part whole count t numbers last is x leaves low high travel unclean right =
+not_right-from_unclean_travel excluded part whole count t numbers last is x leaves low high travel
+    unclean right =
     let f = run part (handles is) (start part t) in
     not_right-from_unclean_run excluded part whole t (handles is) leaves low high
     (in_range-travel part count numbers last is (start part t) x travel)
-    (λ clean. end_finding-not_unclean part count f.carried f.waiting x (sym (finding-of_clean_flight part count f clean) ∙
+    (λ clean. end_finding-not_unclean part count f.carried f.waiting x
+        (sym (finding-of_clean_flight part count f clean) ∙
     finding-at_travel_end part count numbers last is (start part t) x travel) unclean) right

@@ -1,4 +1,4 @@
--- A travel's finding says what its last flight shows.
+-- A travel's finding is what its last flight shows.
 use Rattle.std.proofs.Common.{◌≡◌, ℕ, zero, suc, ◌<◌, inl, inr, Bool, true, false}
 use Rattle.std.proofs.Common.{cond, List, [], ◌∷◌, ◌++◌, length, Option, Some, None, is_some}
 use Rattle.std.proofs.Common.{refl, ap, sym, ◌∙◌, subst, arith}
@@ -6,14 +6,16 @@ use Rattle.mc_theory.specs.Lists.{In, Distinct, below}
 use Rattle.mc_theory.specs.Nets.{Net, Interface, WantsBelow}
 use Rattle.mc_theory.specs.Flights.{Copy, Waiting, Flight, start, run}
 use Rattle.mc_theory.specs.Certificates.{lans, IsClean}
-use Rattle.mc_theory.specs.Findings.{Finding, first_copy_on, first_double, walk_visits, missed, missed_finding}
+use Rattle.mc_theory.specs.Findings.{Finding, first_copy_on, first_double, walk_visits, missed}
+use Rattle.mc_theory.specs.Findings.{missed_finding}
 use Rattle.mc_theory.specs.Findings.{end_finding, stray_finding, double_finding, IsTravel}
 use Rattle.mc_theory.specs.Findings.{WalkEnds, AllWalksEnd, handles}
 use Rattle.mc_theory.specs.Findings.Finding.{Duplicate, Loop}
 use Rattle.mc_theory.specs.FindingMeaning.{FirstDoubleWalk, Shows}
 use Rattle.mc_theory.proofs.ListLemmas.{in-append_right, in-below, distinct-append}
 use Rattle.mc_theory.proofs.RunInvariant.{map-append'}
-use Rattle.mc_theory.proofs.Travels.{in_lans-from_first_copy_on, first_copy_on-from_in_lans, first_double-none, missed-none, missed-some}
+use Rattle.mc_theory.proofs.Travels.{in_lans-from_first_copy_on, first_copy_on-from_in_lans}
+use Rattle.mc_theory.proofs.Travels.{first_double-none, missed-none, missed-some}
 use Rattle.mc_theory.proofs.Travels.{finding-at_travel_end}
 use Rattle.mc_theory.proofs.WalkBack.{walk_ends-travel}
 
@@ -108,7 +110,8 @@ first_double-some_step earlier d cs c true q once h ih =
       subst (λ xs. Distinct (lans xs)) (append-nil_right earlier) once,
     )
 first_double-some_step earlier d cs c false q once h ih =
-    let none : In d.lan (lans earlier) → ⊥ = λ k. (let y = first_copy_on-from_in_lans earlier d.lan k in absurd cc) in
+    let none : In d.lan (lans earlier) → ⊥ =
+        λ k. (let y = first_copy_on-from_in_lans earlier d.lan k in absurd cc) in
     let r = ih (distinct_lans-push earlier d once none) h in (
       d ∷ r.0,
       r.1,
@@ -184,7 +187,8 @@ shows-double n f c x test ends m q h =
     by n f c x false m w d same h = subst (Shows n f) (some_injective-finding (Duplicate c.lan) x h)
         (d, λ z. (let k = (w.visited c.lan).1 (subst (λ xs. In c.lan (lans xs)) same z) in absurd cc))
 
-shows-by_first_double : (n : Net) (count : ℕ) (f : Flight) (x : Finding) (o : Option Copy) → WantsBelow n count →
+shows-by_first_double : (n : Net) (count : ℕ) (f : Flight) (x : Finding) (o : Option Copy) →
+    WantsBelow n count →
     AllWalksEnd n f.carried → first_double [] f.carried ≡ o → double_finding n count f o ≡ Some x →
     Shows n f x
 shows-by_first_double n count f x None small ends q h = shows-stray n count f f.strays x small
@@ -192,10 +196,12 @@ shows-by_first_double n count f x None small ends q h = shows-stray n count f f.
 shows-by_first_double n count f x (Some c) small ends q h = shows-double n f c x
     (walk_visits n f.carried c.lan (length f.carried) c.sender) ends refl q h
 
-pub shows-travel_finding : (n : Net) (count t : ℕ) (numbers : List ℕ) (last : Bool) (is : List ℕ) (x : Finding) →
+pub shows-travel_finding : (n : Net) (count t : ℕ) (numbers : List ℕ) (last : Bool) (is : List ℕ)
+    (x : Finding) →
     WantsBelow n count → IsTravel n count numbers last is (start n t) x →
     Shows n (run n (handles is) (start n t)) x
 shows-travel_finding n count t numbers last is x small travel =
     let f = run n (handles is) (start n t) in
-    shows-by_first_double n count f x (first_double [] f.carried) small (walk_ends-travel n count t numbers last is x travel) refl
+    shows-by_first_double n count f x (first_double [] f.carried) small
+        (walk_ends-travel n count t numbers last is x travel) refl
     (finding-at_travel_end n count numbers last is (start n t) x travel)

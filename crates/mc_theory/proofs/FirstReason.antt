@@ -1,4 +1,4 @@
--- No reason is left exactly where the list is accepted.
+-- There is no reason to refuse a list exactly where it is accepted.
 use Rattle.std.proofs.Common.{◌≡◌, ◌≢◌, ℕ, ◌+◌, ◌<◌, ◌≤◌, max, inl, inr, Bool, true, false, cond}
 use Rattle.std.proofs.Common.{not, ◌&&◌, ◌||◌, ◌==◌, nat_lt, List, [], ◌∷◌, map, Option, Some, None}
 use Rattle.std.proofs.Common.{IsSome, is_some, refl, ap, sym, ◌∙◌, subst, arith, eqb-true, eq-eqb}
@@ -50,7 +50,8 @@ first_of-none_each f [] e x h = absurd h
 first_of-none_each f (y ∷ xs) e x (inl q) = ap f (sym q) ∙ (then-none (f y) (first_of f xs) e).0
 first_of-none_each f (y ∷ xs) e x (inr h) = first_of-none_each f xs (then-none (f y) (first_of f xs) e).1 x h
 
-first_of-from_none_each : {A : Type 0} (f : A → Option Reason) (xs : List A) → ((x : A) → In x xs → f x ≡ None) →
+first_of-from_none_each : {A : Type 0} (f : A → Option Reason) (xs : List A) →
+    ((x : A) → In x xs → f x ≡ None) →
     first_of f xs ≡ None
 first_of-from_none_each f [] h = refl
 first_of-from_none_each f (x ∷ xs) h = then-from_none (f x) (first_of f xs) (h x (inl refl))
@@ -128,7 +129,7 @@ not_is_some-from_none : {A : Type 0} (o : Option A) → o ≡ None → not (is_s
 not_is_some-from_none None e = refl
 not_is_some-from_none (Some x) e = absurd cc
 
--- an entry that is found nowhere
+-- an entry that isn't found
 entry_on-from_absent : (es : List Entry) (l : ℕ) (o : Option Entry) → entry_on es l ≡ o →
     ((d : Entry) → In d es → d.lan ≢ l) → entry_on es l ≡ None
 entry_on-from_absent es l None e h = e
@@ -172,7 +173,8 @@ twice-from_distinct earlier (e ∷ es) apart h = then-from_none (unless (not (is
 
 -- ---- the source
 
-entry_equal-from_fields : (e : Entry) (l r k : ℕ) (o : Option Interface) → e.lan ≡ l → e.rank ≡ r → e.need ≡ k →
+entry_equal-from_fields : (e : Entry) (l r k : ℕ) (o : Option Interface) → e.lan ≡ l → e.rank ≡ r →
+    e.need ≡ k →
     e.forwarder ≡ o → e ≡ record { lan = l; rank = r; need = k; forwarder = o }
 entry_equal-from_fields e l r k o p q s t = λ i. record { lan = p i; rank = q i; need = s i; forwarder = t i }
 
@@ -183,7 +185,8 @@ source_entry-from_test n es (Some d) q e =
     let found = entry_on-some es n.source d q in
     let a = and_parts (d.rank == 0) ((d.need == 1) && not (is_some d.forwarder)) e in
     let b = and_parts (d.need == 1) (not (is_some d.forwarder)) a.1 in
-    subst (λ (x : Entry). In x es) (entry_equal-from_fields d n.source 0 1 None found.1 (eqb-true d.rank 0 a.0)
+    subst (λ (x : Entry). In x es)
+        (entry_equal-from_fields d n.source 0 1 None found.1 (eqb-true d.rank 0 a.0)
     (eqb-true d.need 1 b.0) (none-from_not_is_some d.forwarder b.1)) found.0
 
 others_fed-from_test : (n : Net) (e : Entry) → ((e.lan == n.source) || is_some e.forwarder) ≡ true →
@@ -261,7 +264,8 @@ is_child-from_no_reason es p r v h q (Some d) z e =
       },
     )
 
-no_wildcard-from_no_reason : (n : Net) (es : List Entry) (e : Entry) (r v : ℕ) → IsNet n → Distinct (map lan es) →
+no_wildcard-from_no_reason : (n : Net) (es : List Entry) (e : Entry) (r v : ℕ) → IsNet n →
+    Distinct (map lan es) →
     first_of (λ r. row_reason n es r (n.row r)) (below n.routers) ≡ None → In e es →
     n.row r ≡ Open → n.placed r v ≡ Some e.lan → ⊥
 no_wildcard-from_no_reason n es e r v net apart none e_in wild on =
@@ -283,7 +287,8 @@ entry_at-some : (es : List Entry) (o : Option ℕ) (p : Entry) → entry_at es o
 entry_at-some es None p e = absurd cc
 entry_at-some es (Some l) p e = let f = entry_on-some es l p e in (f.0, ap Some (sym f.1))
 
-feeds-from_exact_row : (n : Net) (es : List Entry) (r v incoming : ℕ) (pairs : List (ℕ × ℕ)) (o : Option Entry)
+feeds-from_exact_row : (n : Net) (es : List Entry) (r v incoming : ℕ) (pairs : List (ℕ × ℕ))
+    (o : Option Entry)
     → n.row r ≡ Exact incoming pairs → entry_at es (n.placed r incoming) ≡ o →
     feeds_from v pairs o ≡ true → (p : Entry) × (h : ℕ) × In p es × Feeds n p r v h
 feeds-from_exact_row n es r v incoming pairs None row q e = absurd cc
@@ -337,7 +342,7 @@ is_fed-from_feeds n es l (Some i) apart h =
     and_from (row_feeds n es i.0 i.1 (n.row i.0)) (is_lan (n.placed i.0 i.1) l) feeds
     (is_lan-from_equal (n.placed i.0 i.1) l f.4)
 
--- ---- what wants
+-- ---- wanting LANs are served
 
 is_served-from_no_reason : (n : Net) (es : List Entry) (l : ℕ) (o : Option Entry) → entry_on es l ≡ o →
     need_reason n.ttl l o ≡ None → (e : Entry) × In e es × (e.lan ≡ l) × (e.need ≤ n.ttl)
@@ -351,14 +356,15 @@ is_served-from_no_reason n es l (Some e) q h =
           (unless-true (not (nat_lt n.ttl e.need)) (Low l) h)),
     )
 
-need_reason-from_served : (n : Net) (es : List Entry) (l : ℕ) → Distinct (map lan es) → (e : Entry) → In e es →
+need_reason-from_served : (n : Net) (es : List Entry) (l : ℕ) → Distinct (map lan es) →
+    (e : Entry) → In e es →
     e.lan ≡ l → e.need ≤ n.ttl → need_reason n.ttl l (entry_on es l) ≡ None
 need_reason-from_served n es l apart e e_in on le =
     let entry : entry_on es l ≡ Some e = ap (entry_on es) (sym on) ∙ entry_on-of_member es e apart e_in in
     ap (need_reason n.ttl l) entry ∙ unless-from_true (not (nat_lt n.ttl e.need)) (Low l)
     (not_from_false (nat_lt n.ttl e.need) (le-ltb n.ttl e.need le))
 
--- ---- both ways
+-- ---- both directions
 
 abbrev first_router_reason : Net → List Entry → Option Reason
 first_router_reason n es = first_of (λ r. row_reason n es r (n.row r)) (below n.routers)
@@ -425,11 +431,13 @@ onto_reason-from_tree n es p r pair (Some l) q tree p_in feeds =
     (unless-from_true (c.0.need == max p.need (p.rank + pair.1 + 1)) (WrongNeed l)
     (eq-eqb c.0.need (max p.need (p.rank + pair.1 + 1)) c.3.need)))
 
-pairs_reason-from_tree : (n : Net) (es : List Entry) (r incoming : ℕ) (pairs : List (ℕ × ℕ)) (o : Option Entry)
+pairs_reason-from_tree : (n : Net) (es : List Entry) (r incoming : ℕ) (pairs : List (ℕ × ℕ))
+    (o : Option Entry)
     → n.row r ≡ Exact incoming pairs → entry_at es (n.placed r incoming) ≡ o → IsTree n es →
     pairs_reason n es r pairs o ≡ None
 pairs_reason-from_tree n es r incoming pairs None row q tree = refl
-pairs_reason-from_tree n es r incoming pairs (Some p) row q tree = first_of-from_none_each (pair_reason n es p r) pairs
+pairs_reason-from_tree n es r incoming pairs (Some p) row q tree =
+    first_of-from_none_each (pair_reason n es p r) pairs
     (λ pair pair_in. cond_none-from_branch (is_live p.rank pair.1)
     (onto_reason es p r pair (n.placed r pair.0)) (λ live.
     let f = entry_at-some es (n.placed r incoming) p q in
@@ -455,7 +463,8 @@ row_reason-from_tree : (n : Net) (es : List Entry) (r : ℕ) (row : Row) → n.r
     row_reason n es r row ≡ None
 row_reason-from_tree n es r (Exact incoming pairs) q tree = pairs_reason-from_tree n es r incoming pairs
     (entry_at es (n.placed r incoming)) q refl tree
-row_reason-from_tree n es r Open q tree = first_of-from_none_each (λ v. unless (not (is_some (entry_at es (n.placed r v))))
+row_reason-from_tree n es r Open q tree =
+    first_of-from_none_each (λ v. unless (not (is_some (entry_at es (n.placed r v))))
     (Wildcard r v)) (below 32) (λ v _. unless-from_true (not (is_some (entry_at es (n.placed r v))))
     (Wildcard r v) (not_is_some-from_none (entry_at es (n.placed r v))
     (entry_at-none_at_open_row n es r v (entry_at es (n.placed r v)) refl q tree)))
@@ -468,14 +477,16 @@ first_reason-from_accepted n count es acc =
     then-from_none (twice [] es) (unless (has_source n es) BadSource then first_router_reason n es
     then first_unfed_reason n es then first_of (lan_reason n es) (below count))
     (twice-from_distinct [] es t.one_entry (λ d e k z. absurd k))
-    (then-from_none (unless (has_source n es) BadSource) (first_router_reason n es then first_unfed_reason n es
+    (then-from_none (unless (has_source n es) BadSource)
+        (first_router_reason n es then first_unfed_reason n es
     then first_of (lan_reason n es) (below count))
     (unless-from_true (has_source n es) BadSource (and_from (is_source_entry (entry_on es n.source))
     (list_all (λ (e : Entry). (e.lan == n.source) || is_some e.forwarder) es)
     (ap is_source_entry (entry_on-of_member es (source_entry_of n) t.one_entry t.source_entry))
     (list_all-from_each (λ (e : Entry). (e.lan == n.source) || is_some e.forwarder) es
     (λ e e_in. others_fed_test-from_fed n e (t.others_fed e e_in)))))
-    (then-from_none (first_router_reason n es) (first_unfed_reason n es then first_of (lan_reason n es) (below count))
+    (then-from_none (first_router_reason n es)
+        (first_unfed_reason n es then first_of (lan_reason n es) (below count))
     (first_of-from_none_each (λ r. row_reason n es r (n.row r)) (below n.routers)
     (λ r _. row_reason-from_tree n es r (n.row r) refl t))
     (then-from_none (first_unfed_reason n es) (first_of (lan_reason n es) (below count))

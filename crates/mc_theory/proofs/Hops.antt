@@ -18,7 +18,9 @@ use Rattle.mc_theory.specs.Hops.{IsPathPart}
 use Rattle.mc_theory.proofs.CertificateOfRun.{threshold_of-of_member}
 use Rattle.mc_theory.proofs.WalkBack.{in-first_copy_on, walk_ends-travel, first_sender_on}
 use Rattle.mc_theory.proofs.Paths.{hop_of_sent_on, is_hop-of_sent_on}
-use Rattle.mc_theory.proofs.CameByHops.{copy_equal-from_some, lan_equal-from_some, lan-first_copy_on, came_by_hops-from_walk, is_rooted-from_travel, came_by_hops}
+use Rattle.mc_theory.proofs.CameByHops.{copy_equal-from_some, lan_equal-from_some}
+use Rattle.mc_theory.proofs.CameByHops.{lan-first_copy_on, came_by_hops-from_walk}
+use Rattle.mc_theory.proofs.CameByHops.{is_rooted-from_travel, came_by_hops}
 use Rattle.mc_theory.proofs.CameByHops.{in-first_double, first_double-unique}
 
 -- ---- the hop of a sender
@@ -45,7 +47,8 @@ hop_by-is_hop n h net hop =
       threshold = k;
       onto = h.onto;
     } in
-    ap (hop_from_lan n (h.router, h.vif) h.onto) (from_lan-is_hop n h hop) ∙ ap (λ k. Some (above k)) threshold
+    ap (hop_from_lan n (h.router, h.vif) h.onto) (from_lan-is_hop n h hop) ∙
+        ap (λ k. Some (above k)) threshold
 
 -- the hop that a copy was sent by is found by its sender, and by its LAN
 pub hop_by-sent_by_hop : (n : Net) (c : Copy) (h : Hop) (i : Interface) → IsNet n → IsSentByHop n c h →
@@ -58,10 +61,12 @@ hop_by-sent_by_hop n c h i net sent q =
 hop_equal-from_some : (o : Option Hop) (h g : Hop) → o ≡ Some h → o ≡ Some g → h ≡ g
 hop_equal-from_some o h g p q = let both : Some h ≡ Some g = sym p ∙ q in cc
 
--- there is one
-pub sent_by_hop-unique : (n : Net) (c : Copy) (h g : Hop) → IsNet n → IsSentByHop n c h → IsSentByHop n c g → h ≡ g
+-- each copy that an interface sent has such a hop
+pub sent_by_hop-unique : (n : Net) (c : Copy) (h g : Hop) → IsNet n → IsSentByHop n c h →
+    IsSentByHop n c g → h ≡ g
 sent_by_hop-unique n c h g net p q = hop_equal-from_some (hop_by n (h.router, h.vif) c.lan) h g
-    (hop_by-sent_by_hop n c h (h.router, h.vif) net p p.0) (hop_by-sent_by_hop n c g (h.router, h.vif) net q p.0)
+    (hop_by-sent_by_hop n c h (h.router, h.vif) net p p.0)
+        (hop_by-sent_by_hop n c g (h.router, h.vif) net q p.0)
 
 pub is_hop-unique : (n : Net) (h g : Hop) → IsNet n → IsHop n h → IsHop n g → h.router ≡ g.router →
     h.vif ≡ g.vif → h ≡ g
@@ -81,7 +86,7 @@ pub sent_by_hop-from_came_from_lan : (n : Net) (cs : List Copy) (l : ℕ) (c : C
 sent_by_hop-from_came_from_lan n cs l c h [] x = x.0
 sent_by_hop-from_came_from_lan n cs l c h (g ∷ hs) x = x.0
 
--- and the hops are a way
+-- and the hops are a path
 pub is_path-from_came_from_lan : (n : Net) (cs : List Copy) (l : ℕ) (c : Copy) (hs : List Hop) →
     CameFromLan n cs l c hs → IsPath n l hs c.lan
 is_path-from_came_from_lan n cs l c [] x = absurd x
@@ -91,8 +96,9 @@ is_path-from_came_from_lan n cs l c (h ∷ g ∷ hs) x =
     let up = is_path-from_came_from_lan n cs l b.0 (g ∷ hs) b.2 in
     (x.0.1, x.0.2, subst (IsPath n l (g ∷ hs)) (lan-first_copy_on cs h.from b.0 b.1) up)
 
--- A copy that came by a LAN came from it, by no more hops.
-pub came_from_lan-from_came_by_hops : (n : Net) (cs : List Copy) (l : ℕ) (c : Copy) (hs : List Hop) → CameByHops n cs c hs →
+-- A copy whose hops pass a LAN came from that LAN, by no more hops.
+pub came_from_lan-from_came_by_hops : (n : Net) (cs : List Copy) (l : ℕ) (c : Copy) (hs : List Hop) →
+    CameByHops n cs c hs →
     In l (map (λ (h : Hop). h.from) hs)
     → (h : Hop) × (ks : List Hop) × CameFromLan n cs l c (h ∷ ks) × (length (h ∷ ks) ≤ length hs)
 came_from_lan-from_came_by_hops n cs l c [] by k = absurd k
@@ -107,21 +113,25 @@ came_from_lan-from_came_by_hops n cs l c (h ∷ hs) by k =
     ]
 
 -- what two hops that a copy was sent by have in common, of any domain: the LAN that they take from
-from_lan-same_for_sent_by_hop : (n : Net) (c : Copy) (h g : Hop) → IsSentByHop n c h → IsSentByHop n c g → h.from ≡ g.from
-from_lan-same_for_sent_by_hop n c h g p q = lan_equal-from_some (from_lan n c.sender) h.from g.from (from_lan-sent_by_hop n c h p)
+from_lan-same_for_sent_by_hop : (n : Net) (c : Copy) (h g : Hop) → IsSentByHop n c h → IsSentByHop n c g →
+    h.from ≡ g.from
+from_lan-same_for_sent_by_hop n c h g p q =
+    lan_equal-from_some (from_lan n c.sender) h.from g.from (from_lan-sent_by_hop n c h p)
     (from_lan-sent_by_hop n c g q)
 
 -- so the first copy of that LAN is one
-first_copy-same_for_sent_by_hop : (n : Net) (cs : List Copy) (c : Copy) (h g : Hop) (b d : Copy) → IsSentByHop n c h →
+first_copy-same_for_sent_by_hop : (n : Net) (cs : List Copy) (c : Copy) (h g : Hop) (b d : Copy) →
+    IsSentByHop n c h →
     IsSentByHop n c g → first_copy_on cs h.from ≡ Some b → first_copy_on cs g.from ≡ Some d → b ≡ d
-first_copy-same_for_sent_by_hop n cs c h g b d p q on on' = copy_equal-from_some (first_copy_on cs h.from) b d on
+first_copy-same_for_sent_by_hop n cs c h g b d p q on on' =
+    copy_equal-from_some (first_copy_on cs h.from) b d on
     (ap (first_copy_on cs) (from_lan-same_for_sent_by_hop n c h g p q) ∙ on')
 
 absurd-sent_without_sender : (n : Net) (c : Copy) (h : Hop) → IsSentByHop n c h → c.sender ≡ None → ⊥
 absurd-sent_without_sender n c h sent e =
     let both : ◌≡◌ {A = Option Interface} (Some (h.router, h.vif)) None = sym sent.0 ∙ e in cc
 
--- The hops by which it came from a LAN are no more than all by which it came, which come by the LAN.
+-- The hops by which a copy came from a LAN are no more than all by which it came, and these pass the LAN.
 pub hops_from_lan-within_all_hops : (n : Net) (cs : List Copy) (l : ℕ) (c : Copy) (hs ks : List Hop) →
     CameFromLan n cs l c hs → CameByHops n cs c ks
     → (length hs ≤ length ks) × In l (map (λ (h : Hop). h.from) ks)
@@ -140,7 +150,7 @@ hops_from_lan-within_all_hops n cs l c (h ∷ j ∷ hs) (g ∷ ks) x by =
     (subst (λ y. CameFromLan n cs l y (j ∷ hs)) same b.2) d.2 in
     (omega (arith, up.0), inr up.1)
 
--- ---- all by which a copy came, and from a LAN: one
+-- ---- the hops by which a copy came, in all and from a LAN, are unique
 
 pub came_by_hops-unique : (n : Net) (cs : List Copy) (c : Copy) (hs ks : List Hop) → IsNet n →
     CameByHops n cs c hs → CameByHops n cs c ks → hs ≡ ks
@@ -174,7 +184,7 @@ came_from_lan-unique n cs l c (h ∷ j ∷ hs) (g ∷ k ∷ ks) net x y =
     (came_from_lan-unique n cs l d.0 (j ∷ hs) (k ∷ ks) net
     (subst (λ z. CameFromLan n cs l z (j ∷ hs)) same b.2) d.2)
 
--- ---- they are few
+-- ---- there are fewer hops than carried copies
 
 is_walk_back-unique : (n : Net) (cs : List Copy) (c : Copy) (ds es : List Copy) → IsWalkBack n cs c ds →
     IsWalkBack n cs c es → ds ≡ es
@@ -220,7 +230,7 @@ came_by_hops-fewer_than_copies n count t numbers last is x c hs travel c_in by =
     let short = w.short in
     omega (arith, own.2, same, short)
 
--- and those from a LAN no more.
+-- and so are those from a LAN.
 pub came_from_lan-fewer_than_copies : (n : Net) (count t : ℕ) (numbers : List ℕ) (last : Bool) (is : List ℕ)
     (x : Finding) (l : ℕ) (c : Copy) (hs : List Hop) →
     IsTravel n count numbers last is (start n t) x →
@@ -234,14 +244,14 @@ came_from_lan-fewer_than_copies n count t numbers last is x l c hs travel c_in f
     let short = came_by_hops-fewer_than_copies n count t numbers last is x c by.0 travel c_in by.1 in
     omega (arith, within.0, short)
 
--- ---- they are found one after the other, from the last
+-- ---- the hops are found one after the other, from the last
 
 hop_sent-sent_by_hop : (n : Net) (c : Copy) (h : Hop) → IsNet n → IsSentByHop n c h →
     hop_sent n c.sender c.lan ≡ Some h
 hop_sent-sent_by_hop n c h net sent = ap (λ (x : Option Interface). hop_sent n x c.lan) sent.0 ∙
     hop_by-sent_by_hop n c h (h.router, h.vif) net sent sent.0
 
--- where as many are looked for, or more
+-- where the bound on their number is large enough
 pub hops_back-came_by_hops : (n : Net) (cs : List Copy) (k : ℕ) (c : Copy) (hs : List Hop) → IsNet n →
     CameByHops n cs c hs → length hs ≤ k → hops_back n cs k c.lan c.sender ≡ hs
 hops_back-came_by_hops n cs zero c [] net by few = refl
@@ -284,7 +294,8 @@ hops_until-came_from_lan n cs l (suc k) c (h ∷ g ∷ hs) net x few =
 -- ---- a loop
 
 -- A loop's first double copy came from its own LAN.
-pub came_from_lan-from_loop : (n : Net) (count t : ℕ) (numbers : List ℕ) (last : Bool) (is : List ℕ) (x : Finding)
+pub came_from_lan-from_loop : (n : Net) (count t : ℕ) (numbers : List ℕ) (last : Bool) (is : List ℕ)
+    (x : Finding)
     (l : ℕ) (c : Copy) → IsTravel n count numbers last is (start n t) x →
     Shows n (run n (handles is) (start n t)) (Loop l) →
     IsFirstDouble (run n (handles is) (start n t)).carried c →
@@ -302,7 +313,7 @@ came_from_lan-from_loop n count t numbers last is x l c travel shows first_doubl
 
 -- ---- the walk back, hop by hop
 
--- one hop more
+-- the walk goes on by one more hop
 pub is_path_part-push : (n : Net) (cs : List Copy) (c : Copy) (hs : List Hop) (b : Copy) (h : Hop)
     (d : Copy) → IsPathPart n cs c hs b → IsSentByHop n b h → first_copy_on cs h.from ≡ Some d →
     IsPathPart n cs c (hs ++ h ∷ []) d
@@ -311,7 +322,7 @@ is_path_part-push n cs c (g ∷ hs) b h d part sent on =
     let up = part.1 in
     (part.0, (up.0, up.1, is_path_part-push n cs up.0 hs b h d up.2 sent on))
 
--- it has come to the source's copy
+-- the walk has come to the source's copy
 pub came_by_hops-from_whole_path_part : (n : Net) (cs : List Copy) (c : Copy) (hs : List Hop) (b : Copy) →
     IsPathPart n cs c hs b → b.sender ≡ None → CameByHops n cs c hs
 came_by_hops-from_whole_path_part n cs c [] b e none = ap (λ (x : Copy). x.sender) e ∙ none
@@ -320,8 +331,9 @@ came_by_hops-from_whole_path_part n cs c (h ∷ hs) b part none =
     let sent = part.0 in
     (sent.0, sent.1, sent.2, (up.0, up.1, came_by_hops-from_whole_path_part n cs up.0 hs b up.2 none))
 
--- what is left is the rest of all hops by which the copy came
-pub came_by_hops-path_part_and_rest : (n : Net) (cs : List Copy) (c : Copy) (hs : List Hop) (b : Copy) (ks : List Hop) →
+-- the hops that are left are the rest of all by which the copy came
+pub came_by_hops-path_part_and_rest : (n : Net) (cs : List Copy) (c : Copy) (hs : List Hop) (b : Copy)
+    (ks : List Hop) →
     IsPathPart n cs c hs b → CameByHops n cs b ks → CameByHops n cs c (hs ++ ks)
 came_by_hops-path_part_and_rest n cs c [] b ks e by = subst (λ x. CameByHops n cs x ks) (sym e) by
 came_by_hops-path_part_and_rest n cs c (h ∷ hs) b ks part by =
@@ -329,12 +341,14 @@ came_by_hops-path_part_and_rest n cs c (h ∷ hs) b ks part by =
     let sent = part.0 in
     (sent.0, sent.1, sent.2, (up.0, up.1, came_by_hops-path_part_and_rest n cs up.0 hs b ks up.2 by))
 
--- and of those from a LAN, if none of the hops so far takes from it
-pub came_from_lan-path_part_and_rest : (n : Net) (cs : List Copy) (l : ℕ) (c : Copy) (hs : List Hop) (b : Copy)
+-- and the rest of those from a LAN, if none of the hops so far takes from it
+pub came_from_lan-path_part_and_rest : (n : Net) (cs : List Copy) (l : ℕ) (c : Copy)
+    (hs : List Hop) (b : Copy)
     (k : Hop) (ks : List Hop) → IsPathPart n cs c hs b →
     (In l (map (λ (h : Hop). h.from) hs) → ⊥) → CameFromLan n cs l b (k ∷ ks) →
     CameFromLan n cs l c (hs ++ k ∷ ks)
-came_from_lan-path_part_and_rest n cs l c [] b k ks e apart from = subst (λ x. CameFromLan n cs l x (k ∷ ks)) (sym e)
+came_from_lan-path_part_and_rest n cs l c [] b k ks e apart from =
+    subst (λ x. CameFromLan n cs l x (k ∷ ks)) (sym e)
     from
 came_from_lan-path_part_and_rest n cs l c (h ∷ []) b k ks part apart from =
     let up = part.1 in (
@@ -346,16 +360,19 @@ came_from_lan-path_part_and_rest n cs l c (h ∷ g ∷ hs) b k ks part apart fro
     let up = part.1 in (
       part.0,
       (λ e. apart (inl e)),
-      (up.0, up.1, came_from_lan-path_part_and_rest n cs l up.0 (g ∷ hs) b k ks up.2 (λ j. apart (inr j)) from),
+      (up.0, up.1, came_from_lan-path_part_and_rest n cs l up.0 (g ∷ hs) b k ks
+          up.2 (λ j. apart (inr j)) from),
     )
 
 -- the next hop takes from the LAN
-pub came_from_lan-path_part_and_hop : (n : Net) (cs : List Copy) (l : ℕ) (c : Copy) (hs : List Hop) (b : Copy) (h : Hop)
+pub came_from_lan-path_part_and_hop : (n : Net) (cs : List Copy) (l : ℕ) (c : Copy) (hs : List Hop)
+    (b : Copy) (h : Hop)
     → IsPathPart n cs c hs b → (In l (map (λ (h : Hop). h.from) hs) → ⊥) → IsSentByHop n b h →
     h.from ≡ l → CameFromLan n cs l c (hs ++ h ∷ [])
-came_from_lan-path_part_and_hop n cs l c hs b h part apart sent e = came_from_lan-path_part_and_rest n cs l c hs b h [] part apart (sent, e)
+came_from_lan-path_part_and_hop n cs l c hs b h part apart sent e =
+    came_from_lan-path_part_and_rest n cs l c hs b h [] part apart (sent, e)
 
--- it has come to a carried copy
+-- the walk has come to a carried copy
 pub end_of_path_part-in_copies : (n : Net) (cs : List Copy) (c : Copy) (hs : List Hop) (b : Copy) → In c cs →
     IsPathPart n cs c hs b → In b cs
 end_of_path_part-in_copies n cs c [] b c_in e = subst (λ x. In x cs) e c_in
@@ -363,7 +380,7 @@ end_of_path_part-in_copies n cs c (h ∷ hs) b c_in part =
     let up = part.1 in
     end_of_path_part-in_copies n cs up.0 hs b (in-first_copy_on cs h.from up.0 up.1) up.2
 
--- ---- of a travel
+-- ---- the hops of a travel's copies
 
 -- the hop that a copy was sent by, and the first copy of the LAN that it takes from
 abbrev pub SentFromFirst : Net → List Copy → Copy → Interface → Type 0
@@ -386,7 +403,7 @@ length-append : (hs ks : List Hop) → length (hs ++ ks) ≡ length hs + length 
 length-append [] ks = omega arith
 length-append (h ∷ hs) ks = let rest = length-append hs ks in omega (arith, rest)
 
--- and it is shorter than the carried copies
+-- the walk has fewer hops than there are carried copies
 pub is_path_part-fewer_than_copies : (n : Net) (count t : ℕ) (numbers : List ℕ) (last : Bool) (is : List ℕ)
     (x : Finding) (c : Copy) (hs : List Hop) (b : Copy) →
     IsTravel n count numbers last is (start n t) x →
@@ -395,13 +412,14 @@ pub is_path_part-fewer_than_copies : (n : Net) (count t : ℕ) (numbers : List �
     length hs < length (run n (handles is) (start n t)).carried
 is_path_part-fewer_than_copies n count t numbers last is x c hs b travel c_in part =
     let cs = (run n (handles is) (start n t)).carried in
-    let by = came_by_hops n count t numbers last is x b travel (end_of_path_part-in_copies n cs c hs b c_in part) in
+    let by = came_by_hops n count t numbers last is x b travel
+        (end_of_path_part-in_copies n cs c hs b c_in part) in
     let all = came_by_hops-path_part_and_rest n cs c hs b by.0 part by.1 in
     let short = came_by_hops-fewer_than_copies n count t numbers last is x c (hs ++ by.0) travel c_in all in
     let long = length-append hs by.0 in
     omega (arith, short, long)
 
--- the hops that are found from its copy
+-- the hops that are found from a copy
 pub came_by_hops-hops_back : (n : Net) (count t : ℕ) (numbers : List ℕ) (last : Bool) (is : List ℕ)
     (x : Finding) (c : Copy) → IsNet n → IsTravel n count numbers last is (start n t) x →
     In c (run n (handles is) (start n t)).carried →

@@ -1,4 +1,4 @@
--- In a travel of the first waiting copy each time a LAN's first copy came as short a way as any.
+-- In a travel that handles the first waiting copy each time a LAN's first copy came by a shortest path.
 use Rattle.std.proofs.Common.{◌≡◌, ℕ, ◌+◌, ◌-◌, ◌<◌, ◌≤◌, ◌⊎◌, inl, inr, Bool, true}
 use Rattle.std.proofs.Common.{false, cond, ◌==◌, nat_lt, List, [], ◌∷◌, ◌++◌, map, length, remove}
 use Rattle.std.proofs.Common.{slice_get, Option, Some, None, refl, ap, sym, ◌∙◌, subst, arith}
@@ -8,7 +8,8 @@ use Rattle.mc_theory.specs.Lists.{In}
 use Rattle.mc_theory.specs.Nets.{Net, IsNet, Row, Interface}
 use Rattle.mc_theory.specs.Nets.Row.{Exact, Open, NoRow}
 use Rattle.mc_theory.specs.Flights.{Copy, Waiting, Flight, hearers, waits_at, put, leave, send}
-use Rattle.mc_theory.specs.Flights.{sends, handle_by_row, handle, without_waiting, step, start, run, source_copy}
+use Rattle.mc_theory.specs.Flights.{sends, handle_by_row, handle, without_waiting, step, start}
+use Rattle.mc_theory.specs.Flights.{run, source_copy}
 use Rattle.mc_theory.specs.Certificates.{IsClean}
 use Rattle.mc_theory.specs.Findings.{Finding, first_copy_on, choice, numbers_left, IsTravel, handles}
 use Rattle.mc_theory.specs.Paths.{Hop, IsPath, PassesHops}
@@ -25,7 +26,7 @@ use Rattle.mc_theory.proofs.CameByHops.{copy_equal-from_some, lan_equal-from_som
 
 -- ---- what each step of a travel keeps
 
--- P, of the numbers that are left and the flight
+-- what a step keeps: P, of the numbers that are left and of the flight
 abbrev pub IsKeptByStep : Net → ℕ → Bool → (List ℕ → Flight → Type 0) → Type 0
 IsKeptByStep n t last P = (numbers : List ℕ) (f : Flight) (i : ℕ) →
     i ≡ choice (length f.waiting) numbers last → i < length f.waiting → RunInvariant n t [] f →
@@ -162,7 +163,8 @@ ttl_level-row n w Open f v = record {
 }
 ttl_level-row n w NoRow f v = v
 
-ttl_level-lowered_to_first : (f : Flight) (s : ℕ) (w : Waiting) → slice_get f.waiting 0 ≡ Some w → HasTtlLevel s f →
+ttl_level-lowered_to_first : (f : Flight) (s : ℕ) (w : Waiting) → slice_get f.waiting 0 ≡ Some w →
+    HasTtlLevel s f →
     HasTtlLevel w.ttl (without_waiting 0 f)
 ttl_level-lowered_to_first f s w e v =
     let high = v.high w (slice_get-in f.waiting 0 w e) in
@@ -215,15 +217,16 @@ ttl_level-start n t =
       ];
     }
 
--- ---- along a way
+-- ---- along a path
 
--- a LAN so many hops from the source carried a copy that lost no more, or one waits that lost less
+-- a LAN at the end of these hops carried a copy that lost no more TTL, or one waits that lost less
 abbrev IsCarriedOrComing : ℕ → Flight → ℕ → ℕ → Type 0
 IsCarriedOrComing t f l k = ((c : Copy) × In c f.carried × (c.lan ≡ l) × (t ≤ c.ttl + k)) ⊎
     ((w : Waiting) × In w f.waiting × (t < w.ttl + k))
 
--- what waits where LAN c.lan's copy came has its TTL
-ttl-of_waiting_hearer : (n : Net) (t : ℕ) (f : Flight) (c : Copy) (r v : ℕ) → RunInvariant n t [] f → In c f.carried →
+-- a copy that waits on c's LAN has the TTL of c
+ttl-of_waiting_hearer : (n : Net) (t : ℕ) (f : Flight) (c : Copy) (r v : ℕ) → RunInvariant n t [] f →
+    In c f.carried →
     n.placed r v ≡ Some c.lan → In (r, v) (waiting_interfaces f) →
     (w : Waiting) × In w f.waiting × (w.ttl ≡ c.ttl)
 ttl-of_waiting_hearer n t f c r v inv c_in on h =
@@ -236,7 +239,8 @@ ttl-of_waiting_hearer n t f c r v inv c_in on h =
     lan in
     (w.0, w.1, sym d.3 ∙ ap (λ (x : Copy). x.ttl) same)
 
-carried_or_coming-hop : (n : Net) (t : ℕ) (f : Flight) (h : Hop) (hs : List Hop) (c : Copy) → RunInvariant n t [] f →
+carried_or_coming-hop : (n : Net) (t : ℕ) (f : Flight) (h : Hop) (hs : List Hop) (c : Copy) →
+    RunInvariant n t [] f →
     IsPath n n.source (h ∷ hs) h.onto → length hs + h.threshold < t → In c f.carried →
     c.lan ≡ h.from → t ≤ c.ttl + length hs → IsCarriedOrComing t f h.onto (length (h ∷ hs))
 carried_or_coming-hop n t f h hs c inv path lt c_in lan le =
@@ -256,20 +260,22 @@ carried_or_coming-hop n t f h hs c inv path lt c_in lan le =
 carried_or_coming-path : (n : Net) (t : ℕ) (f : Flight) (hs : List Hop) (l : ℕ) → RunInvariant n t [] f →
     IsPath n n.source hs l → PassesHops t hs → IsCarriedOrComing t f l (length hs)
 carried_or_coming-path n t f [] l inv path p = inl (source_copy n t, inv.first, path, omega arith)
-carried_or_coming-path n t f (h ∷ hs) l inv path p = elim (carried_or_coming-path n t f hs h.from inv path.2 p.1) [
-  | inl c ↦ subst (λ x. IsCarriedOrComing t f x (length (h ∷ hs))) path.0 (carried_or_coming-hop n t f h hs c.0 inv
+carried_or_coming-path n t f (h ∷ hs) l inv path p =
+    elim (carried_or_coming-path n t f hs h.from inv path.2 p.1) [
+  | inl c ↦ subst (λ x. IsCarriedOrComing t f x (length (h ∷ hs))) path.0
+      (carried_or_coming-hop n t f h hs c.0 inv
       (refl, path.1, path.2) p.0 c.1 c.2 c.3)
   | inr w ↦ inr (w.0, w.1, let lt = w.2 in omega (arith, lt))
 ]
 
 -- ---- the least ranks
 
--- a LAN's first copy lost no more than a packet loses by any way that gets there
+-- a LAN's first copy lost no more than a packet loses on any path that gets there
 abbrev pub HaveLeastRanks : Net → ℕ → Flight → Type 0
 HaveLeastRanks n t f = (l : ℕ) (c : Copy) (hs : List Hop) → first_copy_on f.carried l ≡ Some c →
     IsPath n n.source hs l → PassesHops t hs → t ≤ c.ttl + length hs
 
--- what a LAN's only copy of a clean flight is stays its first copy
+-- the only copy of a LAN in a clean flight stays its first copy
 first_copy_on-after_growth : (f g : Flight) (n : Net) (b : Copy) (l : ℕ) → IsClean f → StepGrows n f g →
     In b f.carried → b.lan ≡ l → first_copy_on g.carried l ≡ Some b
 first_copy_on-after_growth f g n b l clean grows b_in lan =
@@ -294,7 +300,7 @@ have_least_ranks-step n t f inv level l c hs on path p = elim (carried_or_coming
       omega (arith, lt, high, behind))
 ]
 
--- what a travel of the first waiting copy keeps
+-- what a travel keeps that handles the first waiting copy each time
 abbrev FifoInvariant : Net → ℕ → List ℕ → Flight → Type 0
 FifoInvariant n t numbers f = (numbers ≡ []) × ((s : ℕ) × HasTtlLevel s f) × HaveLeastRanks n t f
 
@@ -302,7 +308,8 @@ fifo_invariant-step : (n : Net) (t : ℕ) → IsKeptByStep n t false (FifoInvari
 fifo_invariant-step n t numbers f i e lt inv p =
     let first : i ≡ 0 = e ∙ ap (λ xs. choice (length f.waiting) xs false) p.0 in
     let level = ttl_level-step n f p.1.0 p.1.1 in
-    let after : FifoInvariant n t [] (step n 0 f) = (refl, (level.0, level.1), have_least_ranks-step n t f inv level) in
+    let after : FifoInvariant n t [] (step n 0 f) =
+        (refl, (level.0, level.1), have_least_ranks-step n t f inv level) in
     subst (λ xs. FifoInvariant n t xs (step n i f)) (ap numbers_left (sym p.0))
     (subst (λ k. FifoInvariant n t [] (step n k f)) (sym first) after)
 
@@ -321,5 +328,6 @@ pub first_copy-has_least_rank : (n : Net) (count t : ℕ) (is : List ℕ) (x : F
     first_copy_on (run n (handles is) (start n t)).carried l ≡ Some c → IsPath n n.source hs l →
     PassesHops t hs → t ≤ c.ttl + length hs
 first_copy-has_least_rank n count t is x l c hs net travel on path p =
-    (kept_by_travel n count t [] false is x (FifoInvariant n t) net (fifo_invariant-step n t) (fifo_invariant-start n t)
+    (kept_by_travel n count t [] false is x (FifoInvariant n t) net (fifo_invariant-step n t)
+        (fifo_invariant-start n t)
     travel).1.2 l c hs on path p

@@ -13,7 +13,7 @@ use Rattle.mc_theory.proofs.Paths.{need_at_most-from_passes, passes_hops-from_ne
 use Rattle.mc_theory.proofs.ReachedLans.{entry-unique_on_lan}
 use Rattle.mc_theory.proofs.CameByHops.{is_path-from_travel}
 
--- a LAN's ways in a tree have one need
+-- all paths of a tree to one LAN have the same need
 pub reached_with_ttl-iff_need_in_tree : (n : Net) (es : List Entry) (hs : List Hop) (l t : ℕ) → IsTree n es →
     IsPath n n.source hs l → PassesHops 255 hs → 1 ≤ t → t ≤ 255 → IsReachedWithTtl n t l ↔ (need hs ≤ t)
 reached_with_ttl-iff_need_in_tree n es hs l t tree path through low high = (
@@ -28,7 +28,8 @@ reached_with_ttl-iff_need_in_tree n es hs l t tree path through low high = (
 abbrev pub HasEntryWithNeed : Net → List Copy → Copy → List Hop → Type 0
 HasEntryWithNeed n cs c hs = (e : Entry) × In e (entries_of n cs) × (e.lan ≡ c.lan) × (e.need ≡ need hs)
 
-pub has_entry_with_need-travel : (n : Net) (count : ℕ) (numbers : List ℕ) (last : Bool) (is : List ℕ) (c : Copy)
+pub has_entry_with_need-travel : (n : Net) (count : ℕ) (numbers : List ℕ) (last : Bool)
+    (is : List ℕ) (c : Copy)
     (hs : List Hop) → IsNet n → IsTravel n count numbers last is (start n 255) Clean →
     In c (run n (handles is) (start n 255)).carried →
     CameByHops n (run n (handles is) (start n 255)).carried c hs →
@@ -40,7 +41,8 @@ has_entry_with_need-travel n count numbers last is c hs net travel c_in by =
     let e = entry-at_path_end n (entries_of n cs) 255 tree (omega arith) hs c.lan path.0 path.1 in
     (e.0, e.1, e.2, e.4)
 
-pub reached_with_ttl-iff_need : (n : Net) (count : ℕ) (numbers : List ℕ) (last : Bool) (is : List ℕ) (c : Copy)
+pub reached_with_ttl-iff_need : (n : Net) (count : ℕ) (numbers : List ℕ) (last : Bool)
+    (is : List ℕ) (c : Copy)
     (hs : List Hop) (t : ℕ) → IsNet n → IsTravel n count numbers last is (start n 255) Clean →
     In c (run n (handles is) (start n 255)).carried →
     CameByHops n (run n (handles is) (start n 255)).carried c hs → 1 ≤ t → t ≤ 255 →

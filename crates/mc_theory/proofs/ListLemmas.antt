@@ -1,4 +1,4 @@
--- Elements of lists.
+-- Membership in lists, and lists without repetition.
 use Rattle.std.proofs.Common.{◌≡◌, ℕ, zero, suc, ◌<◌, ◌⊎◌, inl, inr, Bool, true, false, cond, List}
 use Rattle.std.proofs.Common.{[], ◌∷◌, ◌++◌, map, filter, flat_map, remove, slice_get, Some, refl}
 use Rattle.std.proofs.Common.{ap, sym, ◌∙◌, subst, arith}
@@ -139,7 +139,7 @@ distinct-map f same (x ∷ xs) d = (
   distinct-map f same xs d.1,
 )
 
--- two elements of one image are one
+-- two elements with one image are equal
 pub equal-from_same_image : {A B : Type 0} (f : A → B) (x y : A) (xs : List A) → Distinct (map f xs) →
     In x xs → In y xs → f x ≡ f y → x ≡ y
 equal-from_same_image f x y [] d h k e = absurd h
@@ -170,7 +170,7 @@ in-remove x (y ∷ xs) zero h = inr h
 in-remove x (y ∷ xs) (suc i) (inl e) = inl e
 in-remove x (y ∷ xs) (suc i) (inr h) = inr (in-remove x xs i h)
 
--- an element is the one taken away, or is left
+-- an element is the one that was taken away, or one that is left
 pub in-remove_cases : {A : Type 0} (x : A) (xs : List A) (i : ℕ) (w : A) → slice_get xs i ≡ Some w →
     In x xs → In x (remove xs i) ⊎ (w ≡ x)
 in-remove_cases x [] i w e h = absurd h

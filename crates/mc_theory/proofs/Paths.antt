@@ -1,4 +1,4 @@
--- Who gets through by a way, which ways a tree has, and that carried copies came by ways.
+-- Which packets get through by a path, which paths a tree has, and that carried copies came by paths.
 use Rattle.std.proofs.Common.{◌≡◌, ℕ, zero, suc, ◌+◌, ◌≤◌, ◌↔◌, max, inl, inr, List, [], ◌∷◌}
 use Rattle.std.proofs.Common.{length, Option, Some, None, refl, ap, sym, ◌∙◌, subst, arith}
 use Rattle.std.proofs.lemmas.Bool.{cases_eq}
@@ -13,7 +13,7 @@ use Rattle.mc_theory.proofs.ListLemmas.{in-append_cases, in-map_cases, in-remove
 use Rattle.mc_theory.proofs.CopyOrigins.{AllHeard, StepGrows, grows-step, all_heard-start}
 use Rattle.mc_theory.proofs.ReachedLans.{entry-unique_on_lan}
 
--- ---- who gets through
+-- ---- which packets get through
 
 pub need_at_most-from_passes : (t : ℕ) (hs : List Hop) → 1 ≤ t → PassesHops t hs → need hs ≤ t
 need_at_most-from_passes t [] low p = low
@@ -33,9 +33,9 @@ pub need-at_least_one : (hs : List Hop) → 1 ≤ need hs
 need-at_least_one [] = omega arith
 need-at_least_one (h ∷ hs) = let rest = need-at_least_one hs in omega (arith, rest)
 
--- ---- the ways of a tree
+-- ---- the paths of a tree
 
--- a way that gets through leads to a named LAN, as its entry says
+-- a path that a packet gets through leads to a named LAN, as its entry says
 pub entry-at_path_end : (n : Net) (es : List Entry) (t : ℕ) → IsTree n es → t ≤ 255 → (hs : List Hop)
     (l : ℕ) → IsPath n n.source hs l → PassesHops t hs
     → (e : Entry) × In e es × (e.lan ≡ l) × (e.rank ≡ length hs) × (e.need ≡ need hs)
@@ -57,12 +57,14 @@ entry-at_path_end n es t tree high (h ∷ hs) l path p =
     let least : e.0.need ≡ need (h ∷ hs) = omega (arith, e.3.need, up.3, up.4) in
     (e.0, e.1, e.2 ∙ path.0, rank, least)
 
--- a way to an entry's LAN, as the entry says
+-- a path to an entry's LAN, as the entry says
 abbrev pub HasPathToEntry : Net → Entry → Type 0
 HasPathToEntry n e = (hs : List Hop) × IsPath n n.source hs e.lan × (length hs ≡ e.rank) × (need hs ≡ e.need)
 
-path_to_entry-by_forwarder : (n : Net) (es : List Entry) (e : Entry) (o : Option Interface) → e.forwarder ≡ o →
-    IsTree n es → In e es → ((p : Entry) → In p es → e.rank ≡ p.rank + 1 → HasPathToEntry n p) → HasPathToEntry n e
+path_to_entry-by_forwarder : (n : Net) (es : List Entry) (e : Entry) (o : Option Interface) →
+    e.forwarder ≡ o →
+    IsTree n es → In e es → ((p : Entry) → In p es → e.rank ≡ p.rank + 1 → HasPathToEntry n p) →
+        HasPathToEntry n e
 path_to_entry-by_forwarder n es e None q tree e_in up = elim (cases_eq e.lan n.source) [
   | inl z ↦ (let same : source_entry_of n ≡ e = entry-unique_on_lan n es (source_entry_of n) e tree
       tree.source_entry e_in (sym z) in subst (HasPathToEntry n) same ([], refl, refl, refl))
@@ -93,14 +95,17 @@ path_to_entry-by_forwarder n es e (Some i) q tree e_in up =
     let w = up fed.0 fed.2 rank in
     (hop ∷ w.0, (refl, is, w.1), omega (arith, rank, w.2), omega (arith, least, w.2, w.3))
 
-pub path_to_entry-by_rank : (n : Net) (es : List Entry) (k : ℕ) (e : Entry) → IsTree n es → In e es → e.rank ≡ k →
+pub path_to_entry-by_rank : (n : Net) (es : List Entry) (k : ℕ) (e : Entry) → IsTree n es → In e es →
+    e.rank ≡ k →
     HasPathToEntry n e
-path_to_entry-by_rank n es zero e tree e_in rank = path_to_entry-by_forwarder n es e e.forwarder refl tree e_in
+path_to_entry-by_rank n es zero e tree e_in rank =
+    path_to_entry-by_forwarder n es e e.forwarder refl tree e_in
     (λ p p_in q. absurd (omega arith))
-path_to_entry-by_rank n es (suc k) e tree e_in rank = path_to_entry-by_forwarder n es e e.forwarder refl tree e_in
+path_to_entry-by_rank n es (suc k) e tree e_in rank =
+    path_to_entry-by_forwarder n es e e.forwarder refl tree e_in
     (λ p p_in q. path_to_entry-by_rank n es k p tree p_in (omega arith))
 
--- ---- the ways of copies
+-- ---- the paths of copies
 
 -- the hop of an interface that sent c on from b
 abbrev pub hop_of_sent_on : Copy → Copy → Interface → ℕ → Hop
@@ -134,12 +139,13 @@ run-preserves n P keep (Handles i ∷ ps) f heard p =
 run-preserves n P keep (Loses i ∷ ps) f heard p = run-preserves n P keep ps (without_waiting i f)
     (λ w k. heard w (in-remove w f.waiting i k)) p
 
--- each of these copies has a way to its LAN, by which it got through
+-- each of these copies has a path to its LAN by which it got through
 abbrev AreReachedByPaths : Net → ℕ → List Copy → Type 0
 AreReachedByPaths n t cs = (c : Copy) → In c cs → (hs : List Hop) × IsPath n n.source hs c.lan ×
     PassesHops t hs × (c.ttl + length hs ≡ t)
 
-are_reached_by_paths-grows : (n : Net) (t : ℕ) (f g : Flight) → StepGrows n f g → AreReachedByPaths n t f.carried →
+are_reached_by_paths-grows : (n : Net) (t : ℕ) (f g : Flight) → StepGrows n f g →
+    AreReachedByPaths n t f.carried →
     AreReachedByPaths n t g.carried
 are_reached_by_paths-grows n t f g (inr e) all = subst (AreReachedByPaths n t) (sym e) all
 are_reached_by_paths-grows n t f g (inl s) all = subst (AreReachedByPaths n t) (sym s.2.1) (λ c h. elim
@@ -160,7 +166,8 @@ pub reached_with_ttl-from_carried : (n : Net) (t : ℕ) (ps : List Pick) (l : �
     In l (lans (run n ps (start n t)).carried)
     → (hs : List Hop) × IsPath n n.source hs l × PassesHops t hs
 reached_with_ttl-from_carried n t ps l h =
-    let all = run-preserves n (AreReachedByPaths n t) (are_reached_by_paths-grows n t) ps (start n t) (all_heard-start n t)
+    let all = run-preserves n (AreReachedByPaths n t) (are_reached_by_paths-grows n t) ps (start n t)
+        (all_heard-start n t)
     (λ c k. elim k [
       | inl e ↦ ([], ap (λ (x : Copy). x.lan) e, tt, omega (arith, ap (λ (x : Copy). x.ttl) e))
       | inr z ↦ absurd z

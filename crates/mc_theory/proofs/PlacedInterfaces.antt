@@ -2,7 +2,8 @@
 use Rattle.std.proofs.Common.{◌≡◌, ℕ, ◌<◌, true, map, Option, Some, None, is_some, ap, sym, ◌∙◌}
 use Rattle.std.proofs.Common.{eqb-true, eq-eqb, refl}
 use Rattle.mc_theory.specs.Lists.{In, Distinct, below}
-use Rattle.mc_theory.specs.Nets.{Net, IsNet, Interface, is_lan, router_vif_pairs, interfaces, placed_interfaces}
+use Rattle.mc_theory.specs.Nets.{Net, IsNet, Interface, is_lan, router_vif_pairs, interfaces}
+use Rattle.mc_theory.specs.Nets.{placed_interfaces}
 use Rattle.mc_theory.proofs.ListLemmas.{in-map, in-map_cases, in-filter, in-filter_cases, in-flat_map}
 use Rattle.mc_theory.proofs.ListLemmas.{in-below, distinct-filter, distinct-map, distinct-flat_map}
 use Rattle.mc_theory.proofs.ListLemmas.{distinct-below}
@@ -30,7 +31,8 @@ pub in-interfaces : (n : Net) (r v l : ℕ) → IsNet n → n.placed r v ≡ Som
     In (r, v) (interfaces n l)
 unfolding interfaces
 in-interfaces n r v l net e = in-filter (λ (i : Interface). is_lan (n.placed i.0 i.1) l) (r, v)
-    (router_vif_pairs 32 n.routers) (in-router_vif_pairs 32 n.routers r v (net.router r v l e) (net.vif r v l e))
+    (router_vif_pairs 32 n.routers)
+        (in-router_vif_pairs 32 n.routers r v (net.router r v l e) (net.vif r v l e))
     (is_lan-from_equal (n.placed r v) l e)
 
 pub placed-member_of_interfaces : (n : Net) (i : Interface) (l : ℕ) → In i (interfaces n l) →

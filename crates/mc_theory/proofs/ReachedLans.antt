@@ -12,7 +12,8 @@ use Rattle.mc_theory.specs.Certificates.{IsRight, IsSafe}
 use Rattle.mc_theory.proofs.ListLemmas.{in-map, in-map_cases, equal-from_same_image}
 use Rattle.mc_theory.proofs.RunInvariant.{interface_of_waiting, waiting_interfaces, RunInvariant}
 use Rattle.mc_theory.proofs.SafeFlights.{IsSafeFlight, safe-start, safe-run, safe-lossless}
-use Rattle.mc_theory.proofs.CopyAndStepBounds.{handled_count-run, handled_count-start, copies-at_most_entries, hearer_count-at_most_named}
+use Rattle.mc_theory.proofs.CopyAndStepBounds.{handled_count-run, handled_count-start}
+use Rattle.mc_theory.proofs.CopyAndStepBounds.{copies-at_most_entries, hearer_count-at_most_named}
 
 -- no LAN's copy was sent by the incoming interface of its sender
 pub sender-not_the_incoming_vif : (n : Net) (t : ℕ) (out : List Interface) (f : Flight) (c : Copy) (r v : ℕ)
@@ -27,10 +28,11 @@ sender-not_the_incoming_vif n t out f c r v pairs i c_in row on e =
     s.base_in c_in cc in
     omega (arith, s.ttl, ap (λ (x : Copy). x.ttl) copy)
 
--- entries of one LAN are one
+-- entries of one LAN are equal
 pub entry-unique_on_lan : (n : Net) (es : List Entry) (d e : Entry) → IsTree n es → In d es → In e es →
     d.lan ≡ e.lan → d ≡ e
-entry-unique_on_lan n es d e tree h k q = equal-from_same_image (λ (e : Entry). e.lan) d e es tree.one_entry h k q
+entry-unique_on_lan n es d e tree h k q =
+    equal-from_same_image (λ (e : Entry). e.lan) d e es tree.one_entry h k q
 
 pub waiting_interfaces-none : (f : Flight) (i : Interface) → f.waiting ≡ [] → In i (waiting_interfaces f) → ⊥
 waiting_interfaces-none f i e h = subst (λ (ws : List Waiting). In i (map interface_of_waiting ws)) e h
@@ -47,7 +49,8 @@ child_lan_carried n es t f p e r v h tree s done p_in feeds on hot h_p =
     let rank : q.0.rank ≡ p.rank = ap (λ (e : Entry). e.rank) same in
     let from : n.placed r feeds.incoming ≡ Some c.0.lan = feeds.from ∙ ap Some (sym c.2) in
     let lt : h < c.0.ttl = omega (arith, q.2.ttl, rank) in
-    elim (s.inv.all c.0 r feeds.incoming c.1 from (sender-not_the_incoming_vif n t [] f c.0 r feeds.incoming feeds.pairs
+    elim (s.inv.all c.0 r feeds.incoming c.1 from
+        (sender-not_the_incoming_vif n t [] f c.0 r feeds.incoming feeds.pairs
     s.inv c.1 feeds.row from)) [
       | inl z ↦ absurd z
       | inr (inl w) ↦ absurd (waiting_interfaces-none f (r, feeds.incoming) done w)
@@ -57,7 +60,8 @@ child_lan_carried n es t f p e r v h tree s done p_in feeds on hot h_p =
           subst (λ x. In x (lans f.carried)) l (in-map (λ (c : Copy). c.lan) d.0 f.carried d.1))
     ]
 
-entry_lan_carried-by_forwarder : (n : Net) (es : List Entry) (t : ℕ) (f : Flight) (e : Entry) (o : Option Interface) →
+entry_lan_carried-by_forwarder : (n : Net) (es : List Entry) (t : ℕ) (f : Flight) (e : Entry)
+    (o : Option Interface) →
     e.forwarder ≡ o → IsTree n es → IsSafeFlight n es t [] f → f.waiting ≡ [] → In e es → e.need ≤ t
     → ((p : Entry) → In p es → e.rank ≡ p.rank + 1 → p.need ≤ t → In p.lan (lans f.carried)) →
     In e.lan (lans f.carried)
@@ -79,12 +83,15 @@ entry_lan_carried-by_forwarder n es t f e (Some i) q tree s done e_in need up =
 entry_lan_carried : (n : Net) (es : List Entry) (t : ℕ) (f : Flight) (k : ℕ) (e : Entry) → IsTree n es →
     IsSafeFlight n es t [] f → f.waiting ≡ [] → In e es → e.rank ≡ k → e.need ≤ t →
     In e.lan (lans f.carried)
-entry_lan_carried n es t f zero e tree s done e_in rank need = entry_lan_carried-by_forwarder n es t f e e.forwarder refl tree s done
+entry_lan_carried n es t f zero e tree s done e_in rank need =
+    entry_lan_carried-by_forwarder n es t f e e.forwarder refl tree s done
     e_in need (λ p p_in q m. absurd (omega arith))
-entry_lan_carried n es t f (suc k) e tree s done e_in rank need = entry_lan_carried-by_forwarder n es t f e e.forwarder refl tree s
+entry_lan_carried n es t f (suc k) e tree s done e_in rank need =
+    entry_lan_carried-by_forwarder n es t f e e.forwarder refl tree s
     done e_in need (λ p p_in q m. entry_lan_carried n es t f k p tree s done p_in (omega arith) m)
 
-pub is_delivered-from_safe : (n : Net) (es : List Entry) (t : ℕ) (f : Flight) → IsTree n es → IsSafeFlight n es t [] f →
+pub is_delivered-from_safe : (n : Net) (es : List Entry) (t : ℕ) (f : Flight) → IsTree n es →
+    IsSafeFlight n es t [] f →
     f.waiting ≡ [] → IsDelivered es t f
 is_delivered-from_safe n es t f tree s done l = (
   (λ h. let c = in-map_cases (λ (c : Copy). c.lan) l f.carried h in let e =
@@ -107,7 +114,8 @@ is_safe-from_tree n es t ps net tree low high range =
       steps = omega (arith, count, hearer_count-at_most_named n es t f s.inv.clean.once s.named);
     }
 
-pub is_delivered-from_lossless_run : (n : Net) (es : List Entry) (t : ℕ) (ps : List Pick) → IsNet n → IsTree n es →
+pub is_delivered-from_lossless_run : (n : Net) (es : List Entry) (t : ℕ) (ps : List Pick) → IsNet n →
+    IsTree n es →
     1 ≤ t → t ≤ 255 → InRange n ps (start n t) → IsLossless ps →
     (run n ps (start n t)).waiting ≡ [] → IsDelivered es t (run n ps (start n t))
 is_delivered-from_lossless_run n es t ps net tree low high range whole done =

@@ -1,4 +1,4 @@
--- The order of entries is of no account.
+-- The order of entries doesn't matter.
 use Rattle.std.proofs.Common.{◌≡◌, ℕ, zero, suc, ◌+◌, ◌<◌, inl, inr, Bool, true, false, cond}
 use Rattle.std.proofs.Common.{◌==◌, List, [], ◌∷◌, map, length, Contains, slice_index_or, refl}
 use Rattle.std.proofs.Common.{sym, ◌∙◌, arith}
@@ -47,14 +47,16 @@ contains-from_in x [] h = absurd h
 contains-from_in x (y ∷ xs) (inl e) = (0, omega arith, e)
 contains-from_in x (y ∷ xs) (inr h) = let k = contains-from_in x xs h in (suc k.0, omega (arith, k.1), k.2)
 
-in-from_slice_index : {A : Type 0} (x d : A) (xs : List A) (k : ℕ) → k < length xs → slice_index_or xs k d ≡ x →
+in-from_slice_index : {A : Type 0} (x d : A) (xs : List A) (k : ℕ) → k < length xs →
+    slice_index_or xs k d ≡ x →
     In x xs
 in-from_slice_index x d [] k lt e = absurd (omega arith)
 in-from_slice_index x d (y ∷ xs) zero lt e = inl e
 in-from_slice_index x d (y ∷ xs) (suc k) lt e = inr (in-from_slice_index x d xs k (omega (arith, lt)) e)
 
 in-from_permutation : {A : Type 0} (xs ys : List A) (x : A) → IsPermutation xs ys → In x xs → In x ys
-in-from_permutation xs ys x p h = let k = Contains-permutation xs ys x p (contains-from_in x xs h) in in-from_slice_index x
+in-from_permutation xs ys x p h = let k =
+    Contains-permutation xs ys x p (contains-from_in x xs h) in in-from_slice_index x
     x ys k.0 k.1 k.2
 
 -- ---- a permutation of an accepted list is a reordering
@@ -83,5 +85,6 @@ is_reordering-from_permutation es fs h apart = record {
 
 pub is_accepted-permutation : (n : Net) (es fs : List Entry) → IsPermutation es fs → IsAccepted n es →
     IsAccepted n fs
-is_accepted-permutation n es fs h acc = is_accepted-reordering n es fs (is_reordering-from_permutation es fs h acc.is_tree.one_entry)
+is_accepted-permutation n es fs h acc =
+    is_accepted-reordering n es fs (is_reordering-from_permutation es fs h acc.is_tree.one_entry)
     acc

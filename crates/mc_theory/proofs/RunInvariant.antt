@@ -43,7 +43,7 @@ pub record SentByInterface (n : Net) (f : Flight) (c : Copy) (r v : ℕ) : Type 
   pub onto : n.placed r v ≡ Some c.lan
   pub gone : In (r, incoming) (waiting_interfaces f) → ⊥
 
--- what the pair (k, h) of r sends for TTL t stands in the carried copies
+-- what the pair (k, h) of r sends for TTL t is among the carried copies
 abbrev pub Sends : Net → List Copy → ℕ → ℕ → ℕ → Type 0
 Sends n cs r t k = (d : Copy) × In d cs × (n.placed r k ≡ Some d.lan) × (d.sender ≡ Some (r, k)) ×
     (d.ttl + 1 ≡ t)
@@ -69,7 +69,7 @@ pub record RunInvariant (n : Net) (t : ℕ) (out : List Interface) (f : Flight) 
 
 -- ---- who hears a copy
 
--- interfaces with the same parts are one
+-- interfaces with the same parts are equal
 pub interface_equal-from_parts : (i j : Interface) → i.0 ≡ j.0 → i.1 ≡ j.1 → i ≡ j
 interface_equal-from_parts i j p q = let pair : ℕ → ℕ → Interface = λ a b. (a, b) in ap₂ pair p q
 
@@ -111,7 +111,8 @@ pub distinct-hearers : (n : Net) (c : Copy) → Distinct (hearers n c)
 distinct-hearers n c = distinct-filter (λ (i : Interface). not (is_sender c.sender i))
     (interfaces n c.lan) (distinct-interfaces n c.lan)
 
-pub map_interface-waits_at : (t : ℕ) (is : List Interface) → map interface_of_waiting (map (waits_at t) is) ≡ is
+pub map_interface-waits_at : (t : ℕ) (is : List Interface) →
+    map interface_of_waiting (map (waits_at t) is) ≡ is
 map_interface-waits_at t [] = refl
 map_interface-waits_at t (i ∷ is) = ap (λ js. i ∷ js) (map_interface-waits_at t is)
 
@@ -122,8 +123,10 @@ map-append' f (x ∷ xs) ys = ap (λ zs. f x ∷ zs) (map-append' f xs ys)
 
 -- ---- putting a copy
 
-pub waiting_interfaces-put : (n : Net) (c : Copy) (f : Flight) → waiting_interfaces (put n c f) ≡ waiting_interfaces f ++ hearers n c
-waiting_interfaces-put n c f = map-append' interface_of_waiting f.waiting (map (waits_at c.ttl) (hearers n c)) ∙
+pub waiting_interfaces-put : (n : Net) (c : Copy) (f : Flight) →
+    waiting_interfaces (put n c f) ≡ waiting_interfaces f ++ hearers n c
+waiting_interfaces-put n c f =
+    map-append' interface_of_waiting f.waiting (map (waits_at c.ttl) (hearers n c)) ∙
     ap (λ is. waiting_interfaces f ++ is) (map_interface-waits_at c.ttl (hearers n c))
 
 pub lans-put : (n : Net) (c : Copy) (f : Flight) → lans (put n c f).carried ≡ lans f.carried ++
@@ -133,8 +136,9 @@ lans-put n c f = map-append' (λ (c : Copy). c.lan) f.carried (c ∷ [])
 some_injective : (a b : ℕ) → Some a ≡ Some b → a ≡ b
 some_injective a b e = cc
 
--- a place that waits after the put waited before, or is on the new copy's LAN
-waiting_interfaces-put_cases : (n : Net) (c : Copy) (f : Flight) (i : Interface) → In i (waiting_interfaces (put n c f)) →
+-- an interface that waits after the put waited before, or is on the new copy's LAN
+waiting_interfaces-put_cases : (n : Net) (c : Copy) (f : Flight) (i : Interface) →
+    In i (waiting_interfaces (put n c f)) →
     In i (waiting_interfaces f) ⊎ (n.placed i.0 i.1 ≡ Some c.lan)
 waiting_interfaces-put_cases n c f i h = elim (in-append_cases i (waiting_interfaces f) (hearers n c)
     (subst (λ is. In i is) (waiting_interfaces-put n c f) h)) [
@@ -153,7 +157,7 @@ waiting_interfaces-put_new : (n : Net) (c : Copy) (f : Flight) (i : Interface) �
 waiting_interfaces-put_new n c f i h = subst (λ is. In i is) (sym (waiting_interfaces-put n c f))
     (in-append_right i (waiting_interfaces f) (hearers n c) h)
 
--- a base's incoming interface is on another LAN than a new copy
+-- the incoming interface of what a copy was sent on from is on another LAN than a new copy
 pub not_waiting-put : (n : Net) (c : Copy) (f : Flight) (b : Copy) (r v : ℕ) → In b f.carried →
     (In c.lan (lans f.carried) → ⊥) → n.placed r v ≡ Some b.lan → (In (r, v) (waiting_interfaces f) → ⊥) →
     In (r, v) (waiting_interfaces (put n c f)) → ⊥
@@ -163,8 +167,10 @@ not_waiting-put n c f b r v b_in new on gone h = elim (waiting_interfaces-put_ca
       (in-map (λ (c : Copy). c.lan) b f.carried b_in))
 ]
 
--- what was sent was so in another flight too that has its base and in which nothing waits there
-pub sent_by_interface-in_other_flight : (n : Net) (f g : Flight) (c : Copy) (r v : ℕ) → (s : SentByInterface n f c r v) →
+-- what was sent in one flight was sent in another, too, that has what it was sent on from and in which
+-- nothing waits there
+pub sent_by_interface-in_other_flight : (n : Net) (f g : Flight) (c : Copy) (r v : ℕ) →
+    (s : SentByInterface n f c r v) →
     In s.base g.carried → (In (r, s.incoming) (waiting_interfaces g) → ⊥) → SentByInterface n g c r v
 sent_by_interface-in_other_flight n f g c r v s base_in gone = record {
   base = s.base;
@@ -222,7 +228,8 @@ run_invariant-put n t out f c r v net i from sent new = record {
     | inr q ↦ absurd
         (let z : c.sender ≡ d.sender = ap (λ (x : Copy). x.sender) q in cc)
   ];
-  once = subst Distinct (sym (waiting_interfaces-put n c f)) (distinct-append (waiting_interfaces f) (hearers n c) i.once
+  once = subst Distinct (sym (waiting_interfaces-put n c f))
+      (distinct-append (waiting_interfaces f) (hearers n c) i.once
       (distinct-hearers n c) (λ p h k.
       let w = in-map_cases interface_of_waiting p f.waiting h in
       let o = i.heard w.0 w.1 in
@@ -237,7 +244,8 @@ run_invariant-put n t out f c r v net i from sent new = record {
         (ap (λ (x : Copy). x.sender) z ∙ e) in
         let interface_of_waiting : ◌≡◌ {A = Interface} (r, v) (q, u) = cc in
         subst (λ (p : Interface). SentByInterface n (put n c f) d p.0 p.1) interface_of_waiting
-        (subst (λ (x : Copy). SentByInterface n (put n c f) x r v) z (sent_by_interface-put n c f c r v new sent)))
+        (subst (λ (x : Copy). SentByInterface n (put n c f) x r v) z
+            (sent_by_interface-put n c f c r v new sent)))
   ];
   all = λ d q u h on other. elim (in-push_cases d f.carried c h) [
     | inl k ↦ elim (i.all d q u k on other) [

@@ -1,4 +1,4 @@
--- Under a certificate each step is clean, and each copy is where its LAN's entry says.
+-- Under a certificate each step is clean, and each copy is as its LAN's entry says.
 use Rattle.std.proofs.Common.{◌≡◌, ℕ, ◌+◌, ◌-◌, ◌<◌, ◌≤◌, inl, inr, Bool, true, false, cond, ◌==◌}
 use Rattle.std.proofs.Common.{nat_lt, List, [], ◌∷◌, length, slice_get, Option, Some, None, IsSome}
 use Rattle.std.proofs.Common.{refl, ap, sym, ◌∙◌, subst, arith, eqb-true, ltb-true}
@@ -11,10 +11,13 @@ use Rattle.mc_theory.specs.Flights.Pick.{Handles, Loses}
 use Rattle.mc_theory.specs.Certificates.{Entry, Feeds, IsTree, FitsEntry, lans, IsClean, source_entry_of}
 use Rattle.mc_theory.proofs.ListLemmas.{in-push_cases, in-map_cases, slice_get-in, equal-from_same_image}
 use Rattle.mc_theory.proofs.RunInvariant.{RunInvariant}
-use Rattle.mc_theory.proofs.StepInvariant.{run_invariant-start, run_invariant-without, SendingInvariant, sending_invariant-start, sending_invariant-put, copy_sent_by}
-use Rattle.mc_theory.proofs.StepInvariant.{run_invariant-send, run_invariant-step, run_invariant-loss, slice_get-none}
+use Rattle.mc_theory.proofs.StepInvariant.{run_invariant-start, run_invariant-without}
+use Rattle.mc_theory.proofs.StepInvariant.{SendingInvariant, sending_invariant-start}
+use Rattle.mc_theory.proofs.StepInvariant.{sending_invariant-put, copy_sent_by}
+use Rattle.mc_theory.proofs.StepInvariant.{run_invariant-send, run_invariant-step}
+use Rattle.mc_theory.proofs.StepInvariant.{run_invariant-loss, slice_get-none}
 
--- each carried copy is where its LAN's entry says
+-- each carried copy is as its LAN's entry says
 abbrev pub CopiesFitEntries : List Entry → ℕ → Flight → Type 0
 CopiesFitEntries es t f = (c : Copy) → In c f.carried → (e : Entry) × In e es × FitsEntry t e c
 
@@ -22,7 +25,7 @@ is_some-not_none : {A : Type 0} (o : Option A) → IsSome o → o ≡ None → �
 is_some-not_none None h e = absurd cc
 is_some-not_none (Some x) h e = absurd cc
 
--- a base's entry feeds by each pair that sends
+-- the entry of the LAN that a row takes from feeds by each pair that sends
 pub feeds-from_sent_pair : (n : Net) (t : ℕ) (out : List Interface) (r v s : ℕ) (all : List (ℕ × ℕ))
     (b : Copy) (p : ℕ × ℕ) (ps : List (ℕ × ℕ)) (f : Flight) (e : Entry) → t ≤ 255 →
     SendingInvariant n t out r v s all b (p ∷ ps) f → FitsEntry t e b → p.1 < s → Feeds n e r p.0 p.1
@@ -37,7 +40,8 @@ feeds-from_sent_pair n t out r v s all b p ps f e le m fits lt = record {
 
 safe-leave : (n : Net) (es : List Entry) (t : ℕ) (out : List Interface) (r v s : ℕ)
     (all : List (ℕ × ℕ)) (b : Copy) (p : ℕ × ℕ) (ps : List (ℕ × ℕ)) (f : Flight) (o : Option ℕ) →
-    IsNet n → IsTree n es → t ≤ 255 → SendingInvariant n t out r v s all b (p ∷ ps) f → CopiesFitEntries es t f → p.1 < s →
+    IsNet n → IsTree n es → t ≤ 255 → SendingInvariant n t out r v s all b (p ∷ ps) f →
+        CopiesFitEntries es t f → p.1 < s →
     n.placed r p.0 ≡ o
     → IsClean (leave n (s - 1) (r, p.0) o f) × CopiesFitEntries es t (leave n (s - 1) (r, p.0) o f)
 safe-leave n es t out r v s all b p ps f None net tree le m named lt on =
@@ -94,7 +98,8 @@ safe-exact : (n : Net) (es : List Entry) (t : ℕ) (out : List Interface) (f : F
     (w : Waiting) (incoming : ℕ) (all : List (ℕ × ℕ)) (test : Bool) → (incoming == w.vif) ≡ test →
     IsNet n → IsTree n es → t ≤ 255 → RunInvariant n t out f → CopiesFitEntries es t f →
     slice_get f.waiting i ≡ Some w → n.row w.router ≡ Exact incoming all
-    → IsClean (cond test (sends n w.router w.ttl all (without_waiting i f)) (without_waiting i f)) × CopiesFitEntries es t
+    → IsClean (cond test (sends n w.router w.ttl all (without_waiting i f)) (without_waiting i f)) ×
+        CopiesFitEntries es t
     (cond test (sends n w.router w.ttl all (without_waiting i f)) (without_waiting i f))
 safe-exact n es t out f i w incoming all true q net tree le v named e row =
     let m = sending_invariant-start n t out f i w all net v e (row ∙ ap (λ (x : ℕ). Exact x all)
@@ -106,7 +111,8 @@ safe-exact n es t out f i w incoming all false q net tree le v named e row =
 safe-row : (n : Net) (es : List Entry) (t : ℕ) (out : List Interface) (f : Flight) (i : ℕ)
     (w : Waiting) (row : Row) → n.row w.router ≡ row → IsNet n → IsTree n es → t ≤ 255 →
     RunInvariant n t out f → CopiesFitEntries es t f → slice_get f.waiting i ≡ Some w
-    → IsClean (handle_by_row n w row (without_waiting i f)) × CopiesFitEntries es t (handle_by_row n w row (without_waiting i f))
+    → IsClean (handle_by_row n w row (without_waiting i f)) ×
+        CopiesFitEntries es t (handle_by_row n w row (without_waiting i f))
 safe-row n es t out f i w (Exact incoming all) q net tree le v named e =
     safe-exact n es t out f i w incoming all (incoming == w.vif) refl net tree le v named e q
 safe-row n es t out f i w Open q net tree le v named e =

@@ -17,12 +17,15 @@ use Rattle.mc_theory.specs.Paths.{Hop, IsHop, IsPath, PassesHops, need}
 use Rattle.mc_theory.specs.Paths.{CameByHops, row_without_vif, take_out, IsSpareInterface}
 use Rattle.mc_theory.proofs.ListLemmas.{in-append_right, in-push_cases, in-map, in-map_cases}
 use Rattle.mc_theory.proofs.ListLemmas.{in-filter, in-filter_cases, distinct-append, distinct_append-disjoint}
-use Rattle.mc_theory.proofs.RunInvariant.{RunInvariant, interface_equal-from_parts, is_sender-true, is_sender-from_equal, map-append'}
+use Rattle.mc_theory.proofs.RunInvariant.{RunInvariant, interface_equal-from_parts, is_sender-true}
+use Rattle.mc_theory.proofs.RunInvariant.{is_sender-from_equal, map-append'}
 use Rattle.mc_theory.proofs.StepInvariant.{sending_invariant-start}
 use Rattle.mc_theory.proofs.CertificateOfRun.{first_copy_on-of_member}
 use Rattle.mc_theory.proofs.WalkBack.{in-first_copy_on, first_copy_on-append}
 use Rattle.mc_theory.proofs.Paths.{need_at_most-from_passes, passes_hops-from_need, need-at_least_one}
-use Rattle.mc_theory.proofs.CameByHops.{StartsWithSourceCopy, starts_with_source_copy-run, copy_equal-from_some, lan_equal-from_some, lan-first_copy_on, in-first_double}
+use Rattle.mc_theory.proofs.CameByHops.{StartsWithSourceCopy, starts_with_source_copy-run}
+use Rattle.mc_theory.proofs.CameByHops.{copy_equal-from_some, lan_equal-from_some}
+use Rattle.mc_theory.proofs.CameByHops.{lan-first_copy_on, in-first_double}
 use Rattle.mc_theory.proofs.CameByHops.{is_rooted-from_travel, came_by_hops, is_path-from_travel}
 use Rattle.mc_theory.proofs.LeastRanks.{IsKeptByStep, kept_by_travel, first_copy-has_least_rank}
 
@@ -40,7 +43,8 @@ record HasNotSentByPairs (r : ℕ) (ps : List (ℕ × ℕ)) (f : Flight) : Type 
   apart : Distinct (vifs ps)
   fresh : (c : Copy) (v : ℕ) → In c f.carried → c.sender ≡ Some (r, v) → In v (vifs ps) → ⊥
 
-not_sent_by_pairs-rest : (r : ℕ) (p : ℕ × ℕ) (ps : List (ℕ × ℕ)) (f : Flight) → HasNotSentByPairs r (p ∷ ps) f →
+not_sent_by_pairs-rest : (r : ℕ) (p : ℕ × ℕ) (ps : List (ℕ × ℕ)) (f : Flight) →
+    HasNotSentByPairs r (p ∷ ps) f →
     HasNotSentByPairs r ps f
 not_sent_by_pairs-rest r p ps f s = record {
   once = s.once;
@@ -76,7 +80,8 @@ not_sent_by_pairs-leave n r t p ps (Some l) f s =
     }
 
 not_sent_by_pairs-cond : (n : Net) (r t : ℕ) (p : ℕ × ℕ) (ps : List (ℕ × ℕ)) (o : Option ℕ) (test : Bool)
-    (f : Flight) → HasNotSentByPairs r (p ∷ ps) f → HasNotSentByPairs r ps (cond test (leave n t (r, p.0) o f) f)
+    (f : Flight) → HasNotSentByPairs r (p ∷ ps) f →
+        HasNotSentByPairs r ps (cond test (leave n t (r, p.0) o f) f)
 not_sent_by_pairs-cond n r t p ps o true f s = not_sent_by_pairs-leave n r t p ps o f s
 not_sent_by_pairs-cond n r t p ps o false f s = not_sent_by_pairs-rest r p ps f s
 
@@ -101,7 +106,8 @@ distinct_senders-exact_row n t f i w incoming all false q net v e row once = onc
 distinct_senders-row : (n : Net) (t : ℕ) (f : Flight) (i : ℕ) (w : Waiting) (row : Row) →
     n.row w.router ≡ row → IsNet n → RunInvariant n t [] f → slice_get f.waiting i ≡ Some w →
     Distinct (senders f.carried) → Distinct (senders (handle_by_row n w row (without_waiting i f)).carried)
-distinct_senders-row n t f i w (Exact incoming all) q net v e once = distinct_senders-exact_row n t f i w incoming all
+distinct_senders-row n t f i w (Exact incoming all) q net v e once =
+    distinct_senders-exact_row n t f i w incoming all
     (incoming == w.vif) refl net v e q once
 distinct_senders-row n t f i w Open q net v e once = once
 distinct_senders-row n t f i w NoRow q net v e once = once
@@ -110,7 +116,8 @@ distinct_senders-handle : (n : Net) (t : ℕ) (f : Flight) (i : ℕ) (o : Option
     slice_get f.waiting i ≡ o → IsNet n → RunInvariant n t [] f → Distinct (senders f.carried) →
     Distinct (senders (handle n o (without_waiting i f)).carried)
 distinct_senders-handle n t f i None e net v once = once
-distinct_senders-handle n t f i (Some w) e net v once = distinct_senders-row n t f i w (n.row w.router) refl net v e
+distinct_senders-handle n t f i (Some w) e net v once =
+    distinct_senders-row n t f i w (n.row w.router) refl net v e
     once
 
 pub distinct_senders-travel : (n : Net) (count t : ℕ) (numbers : List ℕ) (last : Bool) (is : List ℕ)
@@ -133,8 +140,9 @@ earlier_copy-of_first_double cs c d =
     let here = subst (λ xs. first_copy_on xs a.0.lan ≡ Some a.0) (sym d.split) stays in
     (a.0, subst (λ l. first_copy_on cs l ≡ Some a.0) a.2 here, a.1)
 
--- their senders are two
-pub first_and_double-other_senders : (cs : List Copy) (c a : Copy) → Distinct (senders cs) → IsFirstDouble cs c →
+-- their senders differ
+pub first_and_double-other_senders : (cs : List Copy) (c a : Copy) → Distinct (senders cs) →
+    IsFirstDouble cs c →
     first_copy_on cs c.lan ≡ Some a → a.sender ≢ c.sender
 first_and_double-other_senders cs c a once d on e =
     let b = earlier_copy-of_first_double cs c d in
@@ -159,10 +167,12 @@ some-from_not_none (Some i) h = (i, refl)
 -- an interface sent the double copy
 first_double-has_sender : (n : Net) (t : ℕ) (cs : List Copy) (c : Copy) → StartsWithSourceCopy n t cs →
     IsFirstDouble cs c → (i : Interface) × (c.sender ≡ Some i)
-first_double-has_sender n t cs c h d = some-from_not_none c.sender (h.sent c (first_double-not_at_head d.earlier d.later h.others
+first_double-has_sender n t cs c h d =
+    some-from_not_none c.sender (h.sent c (first_double-not_at_head d.earlier d.later h.others
     c (source_copy n t) d.again (sym d.split ∙ h.head)))
 
-pub is_spare_interface-exists : (n : Net) (count t : ℕ) (numbers : List ℕ) (last : Bool) (is : List ℕ) (x : Finding)
+pub is_spare_interface-exists : (n : Net) (count t : ℕ) (numbers : List ℕ) (last : Bool) (is : List ℕ)
+    (x : Finding)
     (c : Copy) → IsTravel n count numbers last is (start n t) x →
     IsFirstDouble (run n (handles is) (start n t)).carried c
     → (i : Interface) × (hs : List Hop) × IsSpareInterface n (run n (handles is) (start n t)) c i hs
@@ -171,11 +181,13 @@ is_spare_interface-exists n count t numbers last is x c travel d =
     let i = first_double-has_sender n t cs c (starts_with_source_copy-run n t (handles is)) d in
     let a = earlier_copy-of_first_double cs c d in
     let path = came_by_hops n count t numbers last is x a.0 travel (in-first_copy_on cs c.lan a.0 a.1) in
-    (i.0, path.0, record { first_double = d; sender = i.1; first = a.0; first_on = a.1; came_by_hops = path.1 })
+    (i.0, path.0, record { first_double = d; sender = i.1; first = a.0; first_on = a.1;
+        came_by_hops = path.1 })
 
--- ---- hops that stand without the interface
+-- ---- hops that are left without the interface
 
-row_without_vif-keeps_pair : (i : Interface) (r v h incoming : ℕ) (pairs : List (ℕ × ℕ)) (row : Row) (test : Bool) →
+row_without_vif-keeps_pair : (i : Interface) (r v h incoming : ℕ) (pairs : List (ℕ × ℕ)) (row : Row)
+    (test : Bool) →
     (r == i.0) ≡ test → ◌≢◌ {A = Interface} (r, v) i → row ≡ Exact incoming pairs →
     In (v, h) pairs
     → (left : List (ℕ × ℕ)) × (cond test (row_without_vif i.1 row) row ≡ Exact incoming left) ×
@@ -204,8 +216,7 @@ is_hop-take_out n i h other hop =
       sends = hop.sends;
     }
 
--- A first copy's way stands, where interface i is placed on LAN l, whose first copy a it didn't
--- send.
+-- A first copy's path is left, where interface i is placed on LAN l, whose first copy a it didn't send.
 is_path-take_out : (n : Net) (i : Interface) (l m : ℕ) (cs : List Copy) (a b : Copy) (hs : List Hop) →
     n.placed i.0 i.1 ≡ Some l → first_copy_on cs l ≡ Some a → a.sender ≢ Some i →
     first_copy_on cs b.lan ≡ Some b → CameByHops n cs b hs → IsPath n n.source hs m →
@@ -227,17 +238,17 @@ is_path-take_out n i l m cs a b (h ∷ hs) on first other b_on came_by_hops path
           path.2,
     )
 
--- ---- another way
+-- ---- another path
 
--- js serves as ks does, to which a hop can be added
+-- js can replace ks, at whose front a hop can be added
 abbrev IsClosedUnderHops : (List Hop → List Hop → Type 0) → Type 0
 IsClosedUnderHops R = R [] [] × ((k : Hop) (ks js : List Hop) → R ks js → R (k ∷ ks) (k ∷ js))
 
--- a way without i to LAN m that serves as this one does
+-- a path without i to LAN m that can replace this one
 abbrev pub HasPathWithout : Net → Interface → (List Hop → List Hop → Type 0) → List Hop → ℕ → Type 0
 HasPathWithout n i R ks m = (js : List Hop) × IsPath (take_out i n) n.source js m × R ks js
 
--- a way to LAN l that serves as each other does
+-- a path to LAN l that can replace each other one
 abbrev HasBestPathWithout : Net → Interface → (List Hop → List Hop → Type 0) → ℕ → Type 0
 HasBestPathWithout n i R l = (n.placed i.0 i.1 ≡ Some l) × ((hs : List Hop) ×
     IsPath (take_out i n) n.source hs l ×
@@ -245,7 +256,8 @@ HasBestPathWithout n i R l = (n.placed i.0 i.1 ≡ Some l) × ((hs : List Hop) �
 
 path_without-hop : (n : Net) (i : Interface) (R : List Hop → List Hop → Type 0) (l : ℕ) (k : Hop)
     (ks : List Hop) (m : ℕ) (test : Bool) → is_sender (Some (k.router, k.vif)) i ≡ test →
-    IsClosedUnderHops R → HasBestPathWithout n i R l → IsPath n n.source (k ∷ ks) m → HasPathWithout n i R ks k.from →
+    IsClosedUnderHops R → HasBestPathWithout n i R l → IsPath n n.source (k ∷ ks) m →
+        HasPathWithout n i R ks k.from →
     HasPathWithout n i R (k ∷ ks) m
 path_without-hop n i R l k ks m true q serves best path up =
     let both = is_sender-true (Some (k.router, k.vif)) i q in
@@ -262,7 +274,8 @@ path_without-hop n i R l k ks m false q serves best path up =
     (let y = is_sender-from_equal (Some (k.router, k.vif)) i (ap Some e) in absurd cc) in
     (k ∷ up.0, (path.0, is_hop-take_out n i k mine path.1, up.1), serves.1 k ks up.0 up.2)
 
-path_without-any : (n : Net) (i : Interface) (R : List Hop → List Hop → Type 0) (l : ℕ) → IsClosedUnderHops R →
+path_without-any : (n : Net) (i : Interface) (R : List Hop → List Hop → Type 0) (l : ℕ) →
+    IsClosedUnderHops R →
     HasBestPathWithout n i R l → (ks : List Hop) (m : ℕ) → IsPath n n.source ks m → HasPathWithout n i R ks m
 path_without-any n i R l serves best [] m path = ([], path, serves.0)
 path_without-any n i R l serves best (k ∷ ks) m path = path_without-hop n i R l k ks m
@@ -271,8 +284,9 @@ path_without-any n i R l serves best (k ∷ ks) m path = path_without-hop n i R 
 
 -- ---- the remedy
 
--- the way of the first copy stands without the double copy's sender
-pub is_path-without_spare : (n : Net) (count t : ℕ) (numbers : List ℕ) (last : Bool) (is : List ℕ) (x : Finding)
+-- the path of the first copy is left without the double copy's sender
+pub is_path-without_spare : (n : Net) (count t : ℕ) (numbers : List ℕ) (last : Bool) (is : List ℕ)
+    (x : Finding)
     (c : Copy) (i : Interface) (hs : List Hop) → IsNet n →
     IsTravel n count numbers last is (start n t) x →
     IsSpareInterface n (run n (handles is) (start n t)) c i hs →
@@ -283,9 +297,11 @@ is_path-without_spare n count t numbers last is x c i hs net travel s =
     let on = (r.base c (in-first_double cs c s.first_double) i s.sender).2.onto in
     let lan = lan-first_copy_on cs c.lan s.first s.first_on in
     let first_in = in-first_copy_on cs c.lan s.first s.first_on in
-    let path = is_path-from_travel n count t numbers last is x s.first hs net travel first_in s.came_by_hops in
+    let path = is_path-from_travel n count t numbers last is x s.first hs net travel first_in
+        s.came_by_hops in
     let once = distinct_senders-travel n count t numbers last is x net travel in
-    let other : s.first.sender ≢ Some i = λ e. first_and_double-other_senders cs c s.first once s.first_double s.first_on
+    let other : s.first.sender ≢ Some i =
+        λ e. first_and_double-other_senders cs c s.first once s.first_double s.first_on
     (e ∙ sym s.sender) in (
       on,
       is_path-take_out n i c.lan c.lan cs s.first s.first hs on s.first_on other
@@ -293,7 +309,7 @@ is_path-without_spare n count t numbers last is x c i hs net travel s =
           (subst (IsPath n n.source hs) lan path.0),
     )
 
--- instead of each way there is one without it
+-- instead of each path there is one without the interface
 pub path_without-spare : (n : Net) (count t : ℕ) (numbers : List ℕ) (last : Bool) (is : List ℕ)
     (x : Finding) (c : Copy) (i : Interface) (hs : List Hop) → IsNet n →
     IsTravel n count numbers last is (start n t) x →
@@ -307,14 +323,15 @@ path_without-spare n count t numbers last is x c i hs net travel s =
 abbrev pub IsAsGoodPath : ℕ → List Hop → List Hop → Type 0
 IsAsGoodPath t ks js = PassesHops t ks → PassesHops t js × (length js ≤ length ks)
 
-as_good_path-more : (t : ℕ) (k : Hop) (ks js : List Hop) → IsAsGoodPath t ks js → IsAsGoodPath t (k ∷ ks) (k ∷ js)
+as_good_path-more : (t : ℕ) (k : Hop) (ks js : List Hop) → IsAsGoodPath t ks js →
+    IsAsGoodPath t (k ∷ ks) (k ∷ js)
 as_good_path-more t k ks js good p =
     let j = good p.1 in
     let le = j.1 in
     let lt = p.0 in
     ((omega (arith, le, lt), j.0), omega (arith, le))
 
--- the first copy's way is as good as any
+-- the first copy's path is as good as any
 as_good_path-of_first_copy : (n : Net) (count high : ℕ) (is : List ℕ) (x : Finding) (c : Copy) (i : Interface)
     (hs : List Hop) (t : ℕ) → IsNet n → IsTravel n count [] false is (start n high) x →
     IsSpareInterface n (run n (handles is) (start n high)) c i hs → need hs ≤ t → t ≤ high →
@@ -322,14 +339,15 @@ as_good_path-of_first_copy : (n : Net) (count high : ℕ) (is : List ℕ) (x : F
 as_good_path-of_first_copy n count high is x c i hs t net travel s least le ks path p =
     let cs = (run n (handles is) (start n high)).carried in
     let first_in = in-first_copy_on cs c.lan s.first s.first_on in
-    let ttl = (is_path-from_travel n count high [] false is x s.first hs net travel first_in s.came_by_hops).2 in
+    let ttl = (is_path-from_travel n count high [] false is x s.first hs net travel first_in
+        s.came_by_hops).2 in
     let low = need-at_least_one hs in
     let needed = need_at_most-from_passes t ks (omega (arith, low, least)) p in
     let rank = first_copy-has_least_rank n count high is x c.lan s.first ks net travel s.first_on path
     (passes_hops-from_need high ks (omega (arith, needed, le))) in
     (passes_hops-from_need t hs least, omega (arith, ttl, rank))
 
--- and one that is as good, if the first copy was the first by its rank, too
+-- and one that is as good, if the first copy has the least rank, too
 pub path_without-as_good : (n : Net) (count high : ℕ) (is : List ℕ) (x : Finding) (c : Copy)
     (i : Interface) (hs : List Hop) (t : ℕ) → IsNet n →
     IsTravel n count [] false is (start n high) x →
@@ -338,7 +356,8 @@ pub path_without-as_good : (n : Net) (count high : ℕ) (is : List ℕ) (x : Fin
 path_without-as_good n count high is x c i hs t net travel s least le =
     let on = is_path-without_spare n count high [] false is x c i hs net travel s in
     let good = as_good_path-of_first_copy n count high is x c i hs t net travel s least le in
-    path_without-any n i (IsAsGoodPath t) c.lan ((λ p. (tt, omega arith)), as_good_path-more t) (on.0, (hs, on.1, good))
+    path_without-any n i (IsAsGoodPath t) c.lan ((λ p. (tt, omega arith)), as_good_path-more t)
+        (on.0, (hs, on.1, good))
 
 -- ---- the domain without it
 

@@ -16,8 +16,11 @@ use Rattle.mc_theory.proofs.ListLemmas.{in-append_left, in-push_cases, in-push, 
 use Rattle.mc_theory.proofs.ListLemmas.{distinct_append-disjoint, slice_get-in, in-remove, in-remove_cases}
 use Rattle.mc_theory.proofs.ListLemmas.{map-remove, slice_get-map_some, distinct-remove}
 use Rattle.mc_theory.proofs.ListLemmas.{distinct-not_in_remove, equal-from_same_image}
-use Rattle.mc_theory.proofs.RunInvariant.{interface_of_waiting, waiting_interfaces, SentByInterface, Sends, Handled, RunInvariant, in_hearers}
-use Rattle.mc_theory.proofs.RunInvariant.{distinct-hearers, map_interface-waits_at, lans-put, heard-put, run_invariant-put}
+use Rattle.mc_theory.proofs.RunInvariant.{interface_of_waiting, waiting_interfaces}
+use Rattle.mc_theory.proofs.RunInvariant.{SentByInterface, Sends, Handled, RunInvariant}
+use Rattle.mc_theory.proofs.RunInvariant.{in_hearers}
+use Rattle.mc_theory.proofs.RunInvariant.{distinct-hearers, map_interface-waits_at, lans-put}
+use Rattle.mc_theory.proofs.RunInvariant.{heard-put, run_invariant-put}
 use Rattle.mc_theory.proofs.RunInvariant.{sent_by_interface-in_other_flight, not_waiting-put}
 
 append-not_nil : {A : Type 0} (xs : List A) (x : A) → xs ++ x ∷ [] ≡ [] → ⊥
@@ -25,7 +28,8 @@ append-not_nil [] x e = absurd cc
 append-not_nil (y ∷ xs) x e = absurd cc
 
 vif_equal-from_exact : (r q v k : ℕ) → ◌≡◌ {A = Option Interface} (Some (r, v)) (Some (q, k)) → v ≡ k
-vif_equal-from_exact r q v k e = let z : ◌≡◌ {A = Interface} (r, v) (q, k) = cc in ap (λ (x : Interface). x.1) z
+vif_equal-from_exact r q v k e = let z : ◌≡◌ {A = Interface} (r, v) (q, k) =
+    cc in ap (λ (x : Interface). x.1) z
 
 pub slice_get-none : {A : Type 0} (xs : List A) (i : ℕ) → i < length xs → slice_get xs i ≡ None → ⊥
 slice_get-none [] i lt e = omega arith
@@ -61,29 +65,36 @@ run_invariant-start n t net = record {
 -- ---- a waiting copy is taken away
 
 pub not_waiting-without : (n : Net) (t : ℕ) (out : List Interface) (f : Flight) (i : ℕ) (w : Waiting) →
-    RunInvariant n t out f → slice_get f.waiting i ≡ Some w → In (interface_of_waiting w) (waiting_interfaces (without_waiting i f)) → ⊥
-not_waiting-without n t out f i w v e h = distinct-not_in_remove (waiting_interfaces f) i (interface_of_waiting w) v.once
+    RunInvariant n t out f → slice_get f.waiting i ≡ Some w →
+        In (interface_of_waiting w) (waiting_interfaces (without_waiting i f)) → ⊥
+not_waiting-without n t out f i w v e h =
+    distinct-not_in_remove (waiting_interfaces f) i (interface_of_waiting w) v.once
     (slice_get-map_some interface_of_waiting f.waiting i w e) (subst (λ is. In (interface_of_waiting w) is)
     (map-remove interface_of_waiting f.waiting i) h)
 
-length-without : (f : Flight) (i : ℕ) (p : Interface) → In p (waiting_interfaces (without_waiting i f)) → In p (waiting_interfaces f)
+length-without : (f : Flight) (i : ℕ) (p : Interface) → In p (waiting_interfaces (without_waiting i f)) →
+    In p (waiting_interfaces f)
 length-without f i p h = in-remove p (waiting_interfaces f) i (subst (λ is. In p is)
     (map-remove interface_of_waiting f.waiting i) h)
 
 pub run_invariant-without : (n : Net) (t : ℕ) (out : List Interface) (f : Flight) (i : ℕ) (w : Waiting) →
-    RunInvariant n t out f → slice_get f.waiting i ≡ Some w → RunInvariant n t (interface_of_waiting w ∷ out) (without_waiting i f)
+    RunInvariant n t out f → slice_get f.waiting i ≡ Some w →
+        RunInvariant n t (interface_of_waiting w ∷ out) (without_waiting i f)
 run_invariant-without n t out f i w v e = record {
   first = v.first;
   only = v.only;
-  once = subst Distinct (sym (map-remove interface_of_waiting f.waiting i)) (distinct-remove (waiting_interfaces f) i v.once);
+  once = subst Distinct (sym (map-remove interface_of_waiting f.waiting i))
+      (distinct-remove (waiting_interfaces f) i v.once);
   heard = λ u h. v.heard u (in-remove u f.waiting i h);
-  sent = λ c r k h q. (let s = v.sent c r k h q in sent_by_interface-in_other_flight n f (without_waiting i f) c r k s s.base_in
+  sent = λ c r k h q. (let s = v.sent c r k h q in
+      sent_by_interface-in_other_flight n f (without_waiting i f) c r k s s.base_in
       (λ z. s.gone (length-without f i (r, s.incoming) z)));
   all = λ c r k h on other. elim (v.all c r k h on other) [
     | inl z ↦ inl (inr z)
     | inr (inl z) ↦ elim (in-remove_cases (r, k) (waiting_interfaces f) i (interface_of_waiting w)
         (slice_get-map_some interface_of_waiting f.waiting i w e) z) [
-          | inl y ↦ inr (inl (subst (λ is. In (r, k) is) (sym (map-remove interface_of_waiting f.waiting i)) y))
+          | inl y ↦ inr (inl (subst (λ is. In (r, k) is) (sym (map-remove interface_of_waiting f.waiting i))
+              y))
           | inr q ↦ inl (inl q)
         ]
     | inr (inr z) ↦ inr (inr z)
@@ -125,7 +136,8 @@ run_invariant-handled n t out r v s f b i b_in on ttl h = record {
 
 -- ---- the sends of one handling
 
-pub record SendingInvariant (n : Net) (t : ℕ) (out : List Interface) (r v s : ℕ) (all : List (ℕ × ℕ)) (b : Copy)
+pub record SendingInvariant (n : Net) (t : ℕ) (out : List Interface) (r v s : ℕ)
+    (all : List (ℕ × ℕ)) (b : Copy)
     (ps : List (ℕ × ℕ)) (f : Flight) : Type 0 where
   pub inv : RunInvariant n t ((r, v) ∷ out) f
   pub row : n.row r ≡ Exact v all
@@ -139,8 +151,9 @@ pub record SendingInvariant (n : Net) (t : ℕ) (out : List Interface) (r v s : 
   pub fresh : (c : Copy) (k : ℕ) → In c f.carried → c.sender ≡ Some (r, k) →
       In k (map (λ (p : ℕ × ℕ). p.0) ps) → ⊥
 
--- a pair that is passed over
-pub sending_invariant-skip_pair : (n : Net) (t : ℕ) (out : List Interface) (r v s : ℕ) (all : List (ℕ × ℕ)) (b : Copy)
+-- a pair that sends nothing
+pub sending_invariant-skip_pair : (n : Net) (t : ℕ) (out : List Interface) (r v s : ℕ)
+    (all : List (ℕ × ℕ)) (b : Copy)
     (p : ℕ × ℕ) (ps : List (ℕ × ℕ)) (f : Flight) → SendingInvariant n t out r v s all b (p ∷ ps) f →
     SendingInvariant n t out r v s all b ps f
 sending_invariant-skip_pair n t out r v s all b p ps f m = record {
@@ -160,7 +173,8 @@ abbrev pub copy_sent_by : ℕ → ℕ → ℕ × ℕ → ℕ → Copy
 copy_sent_by s r p l = record { lan = l; ttl = s - 1; sender = Some (r, p.0) }
 
 -- a pair that sends onto a LAN that carried nothing
-pub sending_invariant-put : (n : Net) (t : ℕ) (out : List Interface) (r v s : ℕ) (all : List (ℕ × ℕ)) (b : Copy)
+pub sending_invariant-put : (n : Net) (t : ℕ) (out : List Interface) (r v s : ℕ)
+    (all : List (ℕ × ℕ)) (b : Copy)
     (p : ℕ × ℕ) (ps : List (ℕ × ℕ)) (f : Flight) (l : ℕ) → IsNet n →
     SendingInvariant n t out r v s all b (p ∷ ps) f → p.1 < s → n.placed r p.0 ≡ Some l →
     (In l (lans f.carried) → ⊥) → SendingInvariant n t out r v s all b ps (put n (copy_sent_by s r p l) f)
@@ -250,15 +264,17 @@ in_carried-cond false f g d h z = z
 
 pub in_carried-send : (n : Net) (r s : ℕ) (p : ℕ × ℕ) (f : Flight) (d : Copy) → In d f.carried →
     In d (send n r s p f).carried
-in_carried-send n r s p f d h = in_carried-cond (nat_lt p.1 s) (leave n (s - 1) (r, p.0) (n.placed r p.0) f) f d
+in_carried-send n r s p f d h =
+    in_carried-cond (nat_lt p.1 s) (leave n (s - 1) (r, p.0) (n.placed r p.0) f) f d
     (in_carried-leave n (s - 1) (r, p.0) (n.placed r p.0) f d) h
 
 pub in_carried-sends : (n : Net) (r s : ℕ) (ps : List (ℕ × ℕ)) (f : Flight) (d : Copy) → In d f.carried →
     In d (sends n r s ps f).carried
 in_carried-sends n r s [] f d h = h
-in_carried-sends n r s (p ∷ ps) f d h = in_carried-sends n r s ps (send n r s p f) d (in_carried-send n r s p f d h)
+in_carried-sends n r s (p ∷ ps) f d h =
+    in_carried-sends n r s ps (send n r s p f) d (in_carried-send n r s p f d h)
 
--- one pair, in a clean flight: the rest may go on, and what it sends stands
+-- one pair, in a clean flight: the rest may go on, and what it sends stays carried
 run_invariant-leave : (n : Net) (t : ℕ) (out : List Interface) (r v s : ℕ) (all : List (ℕ × ℕ)) (b : Copy)
     (p : ℕ × ℕ) (ps : List (ℕ × ℕ)) (f : Flight) (o : Option ℕ) → IsNet n →
     SendingInvariant n t out r v s all b (p ∷ ps) f → p.1 < s → n.placed r p.0 ≡ o →
@@ -268,7 +284,8 @@ run_invariant-leave : (n : Net) (t : ℕ) (out : List Interface) (r v s : ℕ) (
 run_invariant-leave n t out r v s all b p ps f None net m lt on clean =
     absurd (append-not_nil f.strays (r, p.0) clean.none_stray)
 run_invariant-leave n t out r v s all b p ps f (Some l) net m lt on clean = (
-  sending_invariant-put n t out r v s all b p ps f l net m lt on (clean-put n (copy_sent_by s r p l) f clean).1,
+  sending_invariant-put n t out r v s all b p ps f l net m lt on
+      (clean-put n (copy_sent_by s r p l) f clean).1,
   (copy_sent_by s r p l, in-push f.carried (copy_sent_by s r p l), on, refl, time s p.1 lt),
 )
   where
@@ -287,7 +304,8 @@ run_invariant-cond n t out r v s all b p ps f true e net m clean =
     clean in
     (k.0, λ lt. k.1)
 run_invariant-cond n t out r v s all b p ps f false e net m clean =
-    (sending_invariant-skip_pair n t out r v s all b p ps f m, λ lt. absurd (let z = ltb-false p.1 s e in omega arith))
+    (sending_invariant-skip_pair n t out r v s all b p ps f m,
+        λ lt. absurd (let z = ltb-false p.1 s e in omega arith))
 
 pub run_invariant-send : (n : Net) (t : ℕ) (out : List Interface) (r v s : ℕ) (all : List (ℕ × ℕ)) (b : Copy)
     (p : ℕ × ℕ) (ps : List (ℕ × ℕ)) (f : Flight) → IsNet n → SendingInvariant n t out r v s all b (p ∷ ps) f →
@@ -350,7 +368,8 @@ sending_invariant-start n t out f i w all net v e row =
 
 -- the one that waited first at w's interface
 handled-step : (n : Net) (t : ℕ) (out : List Interface) (f g : Flight) (i : ℕ) (w : Waiting) →
-    RunInvariant n t out f → slice_get f.waiting i ≡ Some w → RunInvariant n t (interface_of_waiting w ∷ out) g →
+    RunInvariant n t out f → slice_get f.waiting i ≡ Some w →
+        RunInvariant n t (interface_of_waiting w ∷ out) g →
     ((d : Copy) → In d f.carried → In d g.carried) → Handled n g.carried w.router w.vif w.ttl →
     RunInvariant n t out g
 handled-step n t out f g i w v e u more h =
@@ -366,7 +385,8 @@ run_invariant-exact_row n t out f i w incoming all true q net v e row clean =
     let vif : incoming ≡ w.vif = eqb-true incoming w.vif q in
     let row' : n.row w.router ≡ Exact w.vif all = row ∙ ap (λ (x : ℕ). Exact x all) vif in
     let m = sending_invariant-start n t out f i w all net v e row' in
-    let k = run_invariant-sends n t out w.router w.vif w.ttl all m.0 all (without_waiting i f) net m.1 clean in
+    let k = run_invariant-sends n t out w.router w.vif w.ttl all m.0 all (without_waiting i f) net
+        m.1 clean in
     handled-step n t out f (sends n w.router w.ttl all (without_waiting i f)) i w v e k.0
     (λ d h. in_carried-sends n w.router w.ttl all (without_waiting i f) d h) (record {
       not_open = λ o. absurd (let z : Open ≡ Exact w.vif all = sym o ∙ row' in cc);
@@ -383,7 +403,8 @@ run_invariant-exact_row n t out f i w incoming all false q net v e row clean =
 
 run_invariant-row : (n : Net) (t : ℕ) (out : List Interface) (f : Flight) (i : ℕ) (w : Waiting) (row : Row) →
     n.row w.router ≡ row → IsNet n → RunInvariant n t out f → slice_get f.waiting i ≡ Some w →
-    IsClean (handle_by_row n w row (without_waiting i f)) → RunInvariant n t out (handle_by_row n w row (without_waiting i f))
+    IsClean (handle_by_row n w row (without_waiting i f)) →
+        RunInvariant n t out (handle_by_row n w row (without_waiting i f))
 run_invariant-row n t out f i w (Exact incoming all) q net v e clean =
     run_invariant-exact_row n t out f i w incoming all (incoming == w.vif) refl net v e q clean
 run_invariant-row n t out f i w Open q net v e clean = absurd (append-not_nil f.strays (w.router, w.vif)
@@ -398,13 +419,15 @@ run_invariant-handle : (n : Net) (t : ℕ) (out : List Interface) (f : Flight) (
     slice_get f.waiting i ≡ o → i < length f.waiting → IsNet n → RunInvariant n t out f →
     IsClean (handle n o (without_waiting i f)) → RunInvariant n t out (handle n o (without_waiting i f))
 run_invariant-handle n t out f i None e lt net v clean = absurd (slice_get-none f.waiting i lt e)
-run_invariant-handle n t out f i (Some w) e lt net v clean = run_invariant-row n t out f i w (n.row w.router) refl net v
+run_invariant-handle n t out f i (Some w) e lt net v clean =
+    run_invariant-row n t out f i w (n.row w.router) refl net v
     e clean
 
 -- a step in range whose flight is clean keeps the invariant
 pub run_invariant-step : (n : Net) (t : ℕ) (out : List Interface) (f : Flight) (i : ℕ) → IsNet n →
     i < length f.waiting → RunInvariant n t out f → IsClean (step n i f) → RunInvariant n t out (step n i f)
-run_invariant-step n t out f i net lt v clean = run_invariant-handle n t out f i (slice_get f.waiting i) refl lt net v
+run_invariant-step n t out f i net lt v clean =
+    run_invariant-handle n t out f i (slice_get f.waiting i) refl lt net v
     clean
 
 -- ---- an earlier flight of a clean one is clean
@@ -438,7 +461,8 @@ InvariantAfter n t ps out f = (lost : List Interface) × RunInvariant n t lost f
 
 -- a copy is lost
 pub run_invariant-loss : (n : Net) (t : ℕ) (out : List Interface) (f : Flight) (i : ℕ) →
-    i < length f.waiting → RunInvariant n t out f → (lost : List Interface) × RunInvariant n t lost (without_waiting i f)
+    i < length f.waiting → RunInvariant n t out f →
+        (lost : List Interface) × RunInvariant n t lost (without_waiting i f)
 run_invariant-loss n t out f i lt v = by n t out f i lt v (slice_get f.waiting i) refl
   where
     by : (n : Net) (t : ℕ) (out : List Interface) (f : Flight) (i : ℕ) → i < length f.waiting →
@@ -451,7 +475,8 @@ run_invariant-loss n t out f i lt v = by n t out f i lt v (slice_get f.waiting i
 pub run_invariant-run : (n : Net) (t : ℕ) (out : List Interface) (ps : List Pick) (f : Flight) → IsNet n →
     InRange n ps f → RunInvariant n t out f → IsClean (run n ps f) → InvariantAfter n t ps out (run n ps f)
 run_invariant-run n t out [] f net range v h = (out, v, λ _. refl)
-run_invariant-run n t out (Handles i ∷ ps) f net range v h = run_invariant-run n t out ps (step n i f) net range.1
+run_invariant-run n t out (Handles i ∷ ps) f net range v h =
+    run_invariant-run n t out ps (step n i f) net range.1
     (run_invariant-step n t out f i net range.0 v (clean-run n ps (step n i f) h)) h
 run_invariant-run n t out (Loses i ∷ ps) f net range v h =
     let l = run_invariant-loss n t out f i range.0 v in

@@ -60,7 +60,7 @@ need-append_right : (hs : List Hop) (h : Hop) (ks : List Hop) → need (h ∷ ks
 need-append_right [] h ks = omega arith
 need-append_right (g ∷ hs) h ks = let rest = need-append_right hs h ks in omega (arith, rest)
 
--- and no other
+-- only a packet below the need is stopped
 pub need_above-from_stopped : (t : ℕ) (hs : List Hop) (h : Hop) (left : ℕ) → IsStopped t hs h left →
     t < need hs
 need_above-from_stopped t hs h left s =
@@ -97,7 +97,7 @@ is_stopped-unique t hs h left g more p q = elim
 
 -- ---- it is found hop by hop
 
--- what is known of the hop that `stopping_hop` finds, if it finds one
+-- what holds of the hop that `stopping_hop` finds, if it finds one
 abbrev pub IsCorrectStop : ℕ → List Hop → Option (Hop × ℕ) → Type 0
 IsCorrectStop t hs None = PassesHops t hs
 IsCorrectStop t hs (Some stop) = IsStopped t hs stop.0 stop.1
@@ -135,7 +135,8 @@ pub not_passing-when_stopped : (t : ℕ) (hs : List Hop) (h : Hop) (left : ℕ) 
     PassesHops t hs → ⊥
 not_passing-when_stopped t hs h left s p = not_passing-at_stopping_hop t hs h left s hs s.after s.split p
 
-no_stop-from_passes : (t : ℕ) (hs : List Hop) (o : Option (Hop × ℕ)) → IsCorrectStop t hs o → PassesHops t hs →
+no_stop-from_passes : (t : ℕ) (hs : List Hop) (o : Option (Hop × ℕ)) → IsCorrectStop t hs o →
+    PassesHops t hs →
     o ≡ None
 no_stop-from_passes t hs None d p = refl
 no_stop-from_passes t hs (Some stop) d p = absurd (not_passing-when_stopped t hs stop.0 stop.1 d p)

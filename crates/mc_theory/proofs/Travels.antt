@@ -8,13 +8,15 @@ use Rattle.mc_theory.specs.Nets.{Net, IsNet, Interface, WantsBelow, placed_inter
 use Rattle.mc_theory.specs.Flights.{Copy, Waiting, Flight, start, step, run, InRange, IsLossless}
 use Rattle.mc_theory.specs.Certificates.{Entry, IsTree, IsServed, IsAccepted, IsRight, lans}
 use Rattle.mc_theory.specs.Certificates.{IsClean}
-use Rattle.mc_theory.specs.Findings.{Finding, first_copy_on, first_double, walk_visits, missed, missed_finding}
+use Rattle.mc_theory.specs.Findings.{Finding, first_copy_on, first_double, walk_visits, missed}
+use Rattle.mc_theory.specs.Findings.{missed_finding}
 use Rattle.mc_theory.specs.Findings.{end_finding, stray_finding, double_finding, finding, choice}
 use Rattle.mc_theory.specs.Findings.{numbers_left, IsTravel, IsTravelUnfinished, handles}
 use Rattle.mc_theory.specs.Findings.Finding.{Clean, Duplicate, Loop, Stray, Missed}
 use Rattle.mc_theory.proofs.ListLemmas.{in-append_left, in-push, in-push_cases, in-map, in-map_cases}
 use Rattle.mc_theory.proofs.ListLemmas.{in-below}
-use Rattle.mc_theory.proofs.CopyAndStepBounds.{HandledCountIs, handled_count-start, handled_count-step, hearer_count-at_most_placed}
+use Rattle.mc_theory.proofs.CopyAndStepBounds.{HandledCountIs, handled_count-start}
+use Rattle.mc_theory.proofs.CopyAndStepBounds.{handled_count-step, hearer_count-at_most_placed}
 use Rattle.mc_theory.specs.CertificateOfCopies.{entries_of}
 use Rattle.mc_theory.proofs.SafeFlights.{safe-lossless}
 use Rattle.mc_theory.proofs.ReachedLans.{is_delivered-from_safe}
@@ -31,9 +33,11 @@ in_lans-from_first_copy_on_step : (c : Copy) (cs : List Copy) (l : ℕ) (b : Boo
 in_lans-from_first_copy_on_step c cs l true q h ih = inl (eqb-true c.lan l q)
 in_lans-from_first_copy_on_step c cs l false q h ih = inr (ih h)
 
-pub in_lans-from_first_copy_on : (cs : List Copy) (l : ℕ) → is_some (first_copy_on cs l) ≡ true → In l (lans cs)
+pub in_lans-from_first_copy_on : (cs : List Copy) (l : ℕ) → is_some (first_copy_on cs l) ≡ true →
+    In l (lans cs)
 in_lans-from_first_copy_on [] l h = absurd cc
-in_lans-from_first_copy_on (c ∷ cs) l h = in_lans-from_first_copy_on_step c cs l (c.lan == l) refl h (in_lans-from_first_copy_on cs l)
+in_lans-from_first_copy_on (c ∷ cs) l h =
+    in_lans-from_first_copy_on_step c cs l (c.lan == l) refl h (in_lans-from_first_copy_on cs l)
 
 first_copy_on-from_in_lans_step : (c : Copy) (cs : List Copy) (l : ℕ) (b : Bool) → (c.lan == l) ≡ b →
     In l (lans (c ∷ cs)) → (In l (lans cs) → is_some (first_copy_on cs l) ≡ true) →
@@ -42,9 +46,11 @@ first_copy_on-from_in_lans_step c cs l true q h ih = refl
 first_copy_on-from_in_lans_step c cs l false q (inl e) ih = absurd (eqb-false c.lan l q e)
 first_copy_on-from_in_lans_step c cs l false q (inr h) ih = ih h
 
-pub first_copy_on-from_in_lans : (cs : List Copy) (l : ℕ) → In l (lans cs) → is_some (first_copy_on cs l) ≡ true
+pub first_copy_on-from_in_lans : (cs : List Copy) (l : ℕ) → In l (lans cs) →
+    is_some (first_copy_on cs l) ≡ true
 first_copy_on-from_in_lans [] l h = absurd h
-first_copy_on-from_in_lans (c ∷ cs) l h = first_copy_on-from_in_lans_step c cs l (c.lan == l) refl h (first_copy_on-from_in_lans cs l)
+first_copy_on-from_in_lans (c ∷ cs) l h =
+    first_copy_on-from_in_lans_step c cs l (c.lan == l) refl h (first_copy_on-from_in_lans cs l)
 
 -- ---- the first double copy
 
@@ -69,7 +75,8 @@ first_double-none_step : (earlier : List Copy) (c : Copy) (cs : List Copy) (b : 
     is_some (first_copy_on earlier c.lan) ≡ b → cond b (Some c) (first_double (earlier ++ c ∷ []) cs) ≡ None →
     (In c.lan (lans earlier) → ⊥) × (first_double (earlier ++ c ∷ []) cs ≡ None)
 first_double-none_step earlier c cs true q h = absurd cc
-first_double-none_step earlier c cs false q h = ((λ z. let y = first_copy_on-from_in_lans earlier c.lan z in absurd cc), h)
+first_double-none_step earlier c cs false q h =
+    ((λ z. let y = first_copy_on-from_in_lans earlier c.lan z in absurd cc), h)
 
 pub first_double-none : (earlier cs : List Copy) → first_double earlier cs ≡ None →
     Distinct (lans cs) × ((l : ℕ) → In l (lans earlier) → In l (lans cs) → ⊥)
@@ -88,7 +95,8 @@ first_double-none earlier (c ∷ cs) h =
 first_double-from_distinct_step : (earlier : List Copy) (c : Copy) (cs : List Copy) (b : Bool) →
     is_some (first_copy_on earlier c.lan) ≡ b → (In c.lan (lans earlier) → ⊥) →
     first_double (earlier ++ c ∷ []) cs ≡ None → cond b (Some c) (first_double (earlier ++ c ∷ []) cs) ≡ None
-first_double-from_distinct_step earlier c cs true q no_copy h = absurd (no_copy (in_lans-from_first_copy_on earlier c.lan q))
+first_double-from_distinct_step earlier c cs true q no_copy h =
+    absurd (no_copy (in_lans-from_first_copy_on earlier c.lan q))
 first_double-from_distinct_step earlier c cs false q no_copy h = h
 
 first_double-from_distinct : (earlier cs : List Copy) → Distinct (lans cs) →
@@ -135,7 +143,7 @@ missed-some n cs [] l h = absurd cc
 missed-some n cs (x ∷ ls) l h = missed-some_step n cs x ls l (n.wants x) (is_some (first_copy_on cs x))
     refl refl h (missed-some n cs ls l)
 
--- ---- what findings say
+-- ---- what findings mean
 
 -- no finding: clean, and something waits
 pub finding-none : (n : Net) (count : ℕ) (f : Flight) → finding n count f ≡ None →
@@ -268,25 +276,29 @@ pub finding-at_travel_end : (n : Net) (count : ℕ) (numbers : List ℕ) (last :
     (f : Flight) (x : Finding) → IsTravel n count numbers last is f x →
     finding n count (run n (handles is) f) ≡ Some x
 finding-at_travel_end n count numbers last [] f x h = h
-finding-at_travel_end n count numbers last (i ∷ is) f x h = finding-at_travel_end n count (numbers_left numbers) last is
+finding-at_travel_end n count numbers last (i ∷ is) f x h =
+    finding-at_travel_end n count (numbers_left numbers) last is
     (step n i f) x h.2
 
 pub is_lossless-handles : (is : List ℕ) → IsLossless (handles is)
 is_lossless-handles [] = tt
 is_lossless-handles (i ∷ is) = is_lossless-handles is
 
-pub not_right-from_fault_finding : (n : Net) (count : ℕ) (t : ℕ) (numbers : List ℕ) (last : Bool) (is : List ℕ)
+pub not_right-from_fault_finding : (n : Net) (count : ℕ) (t : ℕ) (numbers : List ℕ) (last : Bool)
+    (is : List ℕ)
     (x : Finding) → IsNet n → WantsBelow n count → n.ttl ≤ t → t ≤ 255 →
     IsTravel n count numbers last is (start n t) x → x ≢ Clean → IsRight n → ⊥
 not_right-from_fault_finding n count t numbers last is x net small low high travel other right =
     let ps = handles is in
     let f = run n ps (start n t) in
     let r = right t ps low high (in_range-travel n count numbers last is (start n t) x travel) in
-    let e = end_finding-not_clean n count f.carried f.waiting x (sym (finding-of_clean_flight n count f r.clean) ∙
+    let e = end_finding-not_clean n count f.carried f.waiting x
+        (sym (finding-of_clean_flight n count f r.clean) ∙
     finding-at_travel_end n count numbers last is (start n t) x travel) other in
     e.1.2 (r.served (is_lossless-handles is) e.0 e.1.0 e.1.1)
 
-length_bounded-travel_step : (n : Net) (count k : ℕ) (numbers : List ℕ) (last : Bool) (is : List ℕ) (f : Flight)
+length_bounded-travel_step : (n : Net) (count k : ℕ) (numbers : List ℕ) (last : Bool) (is : List ℕ)
+    (f : Flight)
     (x : Finding) → HandledCountIs n k f → k ≤ length (placed_interfaces n) →
     IsTravel n count numbers last is f x → k + length is ≤ length (placed_interfaces n)
 length_bounded-travel_step n count k numbers last [] f x c le h = omega arith
@@ -299,7 +311,7 @@ length_bounded-travel_step n count k numbers last (i ∷ is) f x c le h =
     (handled_count-step n k i f lt c) (omega (arith, c, b, some.1)) h.2 in
     omega (arith, ih)
 
--- a travel under way: a next event is one of those, too
+-- an unfinished travel: its next event is one of those, too
 length_bounded-travel_so_far_step : (n : Net) (count k : ℕ) (numbers : List ℕ) (last : Bool) (is : List ℕ)
     (f : Flight) → HandledCountIs n k f → k ≤ length (placed_interfaces n) →
     IsTravelUnfinished n count numbers last is f → k + length is ≤ length (placed_interfaces n)
@@ -315,13 +327,15 @@ length_bounded-travel_so_far_step n count k numbers last (i ∷ is) f c le h =
 
 pub length_bounded-travel_so_far : (n : Net) (count t : ℕ) (numbers : List ℕ) (last : Bool) (is : List ℕ) →
     IsTravelUnfinished n count numbers last is (start n t) → length is ≤ length (placed_interfaces n)
-length_bounded-travel_so_far n count t numbers last is path = let h = length_bounded-travel_so_far_step n count 0 numbers last is
+length_bounded-travel_so_far n count t numbers last is path = let h =
+    length_bounded-travel_so_far_step n count 0 numbers last is
     (start n t) (handled_count-start n t) (omega arith) path in omega (arith, h)
 
 pub length_bounded-travel : (n : Net) (count : ℕ) (t : ℕ) (numbers : List ℕ) (last : Bool) (is : List ℕ)
     (x : Finding) → IsNet n → IsTravel n count numbers last is (start n t) x →
     length is ≤ length (placed_interfaces n)
-length_bounded-travel n count t numbers last is x net travel = let h = length_bounded-travel_step n count 0 numbers last is
+length_bounded-travel n count t numbers last is x net travel = let h =
+    length_bounded-travel_step n count 0 numbers last is
     (start n t) x (handled_count-start n t) (omega arith) travel in omega (arith, h)
 
 pub is_accepted-from_clean_travels : (n : Net) (count : ℕ) (numbers : List ℕ) (last : Bool) (is : List ℕ)
@@ -342,14 +356,17 @@ is_accepted-from_clean_travels n count numbers last is numbers' last' js net sma
     b.2
 
 -- a clean travel at 255 makes a tree
-pub is_tree-from_clean_travel : (n : Net) (count : ℕ) (numbers : List ℕ) (last : Bool) (is : List ℕ) → IsNet n →
+pub is_tree-from_clean_travel : (n : Net) (count : ℕ) (numbers : List ℕ) (last : Bool) (is : List ℕ) →
+    IsNet n →
     IsTravel n count numbers last is (start n 255) Clean →
     IsTree n (entries_of n (run n (handles is) (start n 255)).carried)
 is_tree-from_clean_travel n count numbers last is net travel =
     let f = run n (handles is) (start n 255) in
-    let a = is_clean-from_clean_finding n count f (finding-at_travel_end n count numbers last is (start n 255) Clean
+    let a = is_clean-from_clean_finding n count f
+        (finding-at_travel_end n count numbers last is (start n 255) Clean
     travel) in
-    is_tree-from_clean_run n (handles is) net (in_range-travel n count numbers last is (start n 255) Clean travel)
+    is_tree-from_clean_run n (handles is) net
+        (in_range-travel n count numbers last is (start n 255) Clean travel)
     (is_lossless-handles is) a.1 a.0
 
 is-clean : (x : Finding) → (x ≢ Clean → ⊥) → x ≡ Clean
@@ -359,7 +376,7 @@ is-clean (Loop l) h = absurd (h (λ e. cc))
 is-clean (Stray r v) h = absurd (h (λ e. cc))
 is-clean (Missed l) h = absurd (h (λ e. cc))
 
--- under a tree the needs tell the finding at the flow's TTL
+-- under a tree the needs decide the finding at the flow's TTL
 pub is_clean-iff_served : (n : Net) (count : ℕ) (es : List Entry) (numbers : List ℕ) (last : Bool)
     (is : List ℕ) (x : Finding) → IsNet n → WantsBelow n count → 1 ≤ n.ttl → n.ttl ≤ 255 →
     IsTree n es → IsTravel n count numbers last is (start n n.ttl) x → (x ≡ Clean) ↔ IsServed n es

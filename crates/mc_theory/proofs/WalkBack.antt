@@ -17,12 +17,12 @@ use Rattle.mc_theory.proofs.CertificateOfRun.{first_copy_on-of_member}
 use Rattle.mc_theory.proofs.CopyAndStepBounds.{total-at_most_of_superset, total-of_ones}
 use Rattle.mc_theory.proofs.Travels.{finding-none}
 
--- the copy's base is its LAN's first copy
+-- the copy was sent on from a LAN's first copy
 abbrev pub IsSentOnFromFirst : Net → List Copy → Copy → Type 0
 IsSentOnFromFirst n cs c = (i : Interface) → c.sender ≡ Some i →
     (b : Copy) × (first_copy_on cs b.lan ≡ Some b) × IsSentOn n b c i
 
--- each copy of a flight has such a base, and no more than TTL t
+-- each copy of a flight was sent on from such a copy, and has at most TTL t
 pub record IsRooted (n : Net) (t : ℕ) (cs : List Copy) : Type 0 where
   pub base : (c : Copy) → In c cs → IsSentOnFromFirst n cs c
   pub low : (c : Copy) → In c cs → c.ttl ≤ t
@@ -38,7 +38,8 @@ first_copy_on-append_step c cs ds l b false e ih = ih e
 pub first_copy_on-append : (cs ds : List Copy) (l : ℕ) (b : Copy) → first_copy_on cs l ≡ Some b →
     first_copy_on (cs ++ ds) l ≡ Some b
 first_copy_on-append [] ds l b e = absurd cc
-first_copy_on-append (c ∷ cs) ds l b e = first_copy_on-append_step c cs ds l b (c.lan == l) e (first_copy_on-append cs ds l b)
+first_copy_on-append (c ∷ cs) ds l b e =
+    first_copy_on-append_step c cs ds l b (c.lan == l) e (first_copy_on-append cs ds l b)
 
 in-first_copy_on_step : (c : Copy) (cs : List Copy) (l : ℕ) (b : Copy) (test : Bool) →
     cond test (Some c) (first_copy_on cs l) ≡ Some b → (first_copy_on cs l ≡ Some b → In b cs) → In b (c ∷ cs)
@@ -61,7 +62,8 @@ is_rooted-step n t f g clean (inl s) r = subst (IsRooted n t) (sym s.2.1) (recor
         let both : ◌≡◌ {A = Option Interface} (Some z.0) (Some i) = sym z.1 ∙ q in
         let same : z.0 ≡ i = cc in (
           s.0,
-          first_copy_on-append f.carried s.2.0 s.0.lan s.0 (first_copy_on-of_member s.0 f.carried clean.once s.1),
+          first_copy_on-append f.carried s.2.0 s.0.lan s.0
+              (first_copy_on-of_member s.0 f.carried clean.once s.1),
           subst (IsSentOn n s.0 c) same z.2,
         ))
   ];
@@ -72,7 +74,8 @@ is_rooted-step n t f g clean (inl s) r = subst (IsRooted n t) (sym s.2.1) (recor
   ];
 })
 
-pub is_rooted-run_of_travel : (n : Net) (count t : ℕ) (numbers : List ℕ) (last : Bool) (is : List ℕ) (f : Flight)
+pub is_rooted-run_of_travel : (n : Net) (count t : ℕ) (numbers : List ℕ) (last : Bool) (is : List ℕ)
+    (f : Flight)
     (x : Finding) → AllHeard n f → IsRooted n t f.carried → IsTravel n count numbers last is f x →
     IsRooted n t (run n (handles is) f).carried
 is_rooted-run_of_travel n count t numbers last [] f x heard r travel = r
@@ -93,7 +96,7 @@ is_rooted-start n t = record {
 
 -- ---- in rooted copies walks end
 
--- The walk back from c: its copies, all of the carried ones, each once and with a greater TTL.
+-- The walk back from c: its copies are carried ones, each with a greater TTL than the one before.
 pub record WalkOfCopy (n : Net) (cs : List Copy) (c : Copy) : Type 0 where
   pub walk : List Copy
   pub back : IsWalkBack n cs c walk
@@ -139,7 +142,7 @@ walk_of_copy-by_ttl n t zero cs c e r c_in = walk_of_copy-by_sender n t zero cs 
 walk_of_copy-by_ttl n t (suc k) cs c e r c_in = walk_of_copy-by_sender n t (suc k) cs c c.sender refl e r c_in
     (λ b b_in q. walk_of_copy-by_ttl n t k cs b (omega (arith, q, e)) r b_in)
 
--- the walk is shorter than the carried copies
+-- the walk has fewer copies than were carried
 walk-fewer_than_copies : (n : Net) (cs : List Copy) (c : Copy) → In c cs → (w : WalkOfCopy n cs c) →
     length w.walk < length cs
 walk-fewer_than_copies n cs c c_in w =
@@ -150,10 +153,11 @@ walk-fewer_than_copies n cs c c_in w =
     let all = total-of_ones cs in
     omega (arith, h, one, all)
 
--- ---- and meets tells what they come by
+-- ---- `walk_visits` decides which LANs they pass
 
 first_sender_on_step : (c : Copy) (cs : List Copy) (l : ℕ) (b : Copy) (test : Bool) →
-    cond test (Some c) (first_copy_on cs l) ≡ Some b → (first_copy_on cs l ≡ Some b → sender_on cs l ≡ b.sender)
+    cond test (Some c) (first_copy_on cs l) ≡ Some b →
+        (first_copy_on cs l ≡ Some b → sender_on cs l ≡ b.sender)
     → cond test c.sender (sender_on cs l) ≡ b.sender
 first_sender_on_step c cs l b true e ih = let same : c ≡ b = cc in ap (λ (x : Copy). x.sender) same
 first_sender_on_step c cs l b false e ih = ih e
@@ -191,7 +195,8 @@ pub walk_ends-travel : (n : Net) (count t : ℕ) (numbers : List ℕ) (last : Bo
     (run n (handles is) (start n t)).carried
 walk_ends-travel n count t numbers last is x travel c c_in =
     let cs = (run n (handles is) (start n t)).carried in
-    let r = is_rooted-run_of_travel n count t numbers last is (start n t) x (all_heard-start n t) (is_rooted-start n t)
+    let r = is_rooted-run_of_travel n count t numbers last is (start n t) x (all_heard-start n t)
+        (is_rooted-start n t)
     travel in
     let low = r.low c c_in in
     let w = walk_of_copy-by_ttl n t (t - c.ttl) cs c (omega (arith, low)) r c_in in

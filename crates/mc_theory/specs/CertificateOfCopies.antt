@@ -5,8 +5,8 @@ use Rattle.std.specs.Prelude.{ℕ, ◌+◌, ◌-◌, max, ◌==◌, if◌then◌
 use Rattle.std.specs.Prelude.{List, [], ◌∷◌, ◌++◌, Option, Some, None}
 use Rattle.mc_theory.specs.Nets.{Net, Row, Interface}
 use Rattle.mc_theory.specs.Nets.Row.{Exact, Open, NoRow}
-use Rattle.mc_theory.specs.Flights.{Copy}
-use Rattle.mc_theory.specs.Certificates.{Entry}
+use Rattle.mc_theory.specs.Flights.{Copy, Flight}
+use Rattle.mc_theory.specs.Certificates.{Entry, IsAccepted}
 use Rattle.mc_theory.specs.Reasons.{entry_at}
 use Rattle.mc_theory.specs.Findings.{from_lan}
 
@@ -20,7 +20,7 @@ row_pairs (Exact incoming pairs) = pairs
 row_pairs Open = []
 row_pairs NoRow = []
 
--- what a copy needs that comes of this entry's LAN, over a pair with this threshold
+-- what a copy needs that comes from this entry's LAN over a pair with this threshold
 abbrev pub need_over : ℕ → Option Entry → ℕ
 need_over threshold None = 1
 need_over threshold (Some p) = max p.need (p.rank + threshold + 1)
@@ -50,3 +50,7 @@ entries_after n es (c ∷ cs) = entries_after n (es ++ entry_after n es c ∷ []
 -- the entries of the carried copies
 abbrev pub entries_of : Net → List Copy → List Entry
 entries_of n cs = entries_after n [] cs
+
+-- The entries of the flight's carried copies certify the flow.
+abbrev pub IsCertifiedBy : Net → Flight → Type 0
+IsCertifiedBy n f = IsAccepted n (entries_of n f.carried)

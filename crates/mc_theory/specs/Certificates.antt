@@ -4,7 +4,7 @@ use Rattle.std.specs.Prelude.{Option, Some, None, IsSome, ◌↔◌}
 use Rattle.mc_theory.specs.Lists.{In, Distinct}
 use Rattle.mc_theory.specs.Nets.{Net, Interface, interfaces}
 use Rattle.mc_theory.specs.Nets.Row.{Exact, Open}
-use Rattle.mc_theory.specs.Flights.{Copy, Flight, Pick, IsLossless, EveryRun}
+use Rattle.mc_theory.specs.Flights.{Copy, Flight, Pick, start, run, IsLossless, EveryRun}
 
 -- ---- entries
 
@@ -17,13 +17,13 @@ pub record Entry : Type 0 where
   pub need : ℕ
   pub forwarder : Option Interface
 
--- A pair with this threshold, which takes from a LAN of this rank, sends packets of some TTL t: a
--- copy comes to it with TTL t - rank, which is greater than the threshold for some t up to 255,
--- the greatest TTL that there is.
+-- A pair with this threshold, whose row takes from a LAN of this rank, sends packets of some TTL t: a
+-- copy comes to it with TTL t - rank, which is greater than the threshold for some t up to 255, the
+-- greatest TTL that there is.
 abbrev pub IsLive : ℕ → ℕ → Type 0
 IsLive rank threshold = rank + threshold + 1 ≤ 255
 
--- whether it does
+-- whether the pair is live
 abbrev pub is_live : ℕ → ℕ → Bool
 is_live rank threshold = nat_lt (rank + threshold) 255
 
@@ -47,7 +47,7 @@ pub record IsChild (p : Entry) (r v h : ℕ) (e : Entry) : Type 0 where
   pub rank : e.rank ≡ p.rank + 1
   pub need : e.need ≡ max p.need (p.rank + h + 1)
 
--- ---- the conditions (own choice: what has to hold so that every order comes to the same end)
+-- ---- the conditions (our own choice: what has to hold so that every order comes to the same end)
 
 -- The entries are the tree that the domain's live pairs make, from the source on. A LAN is named
 -- if an entry has it. All conditions but the last:
@@ -90,10 +90,18 @@ pub record IsReordering (es others : List Entry) : Type 0 where
   pub to : (e : Entry) → In e es → In e others
   pub from : (e : Entry) → In e others → In e es
 
+-- The list names LAN l, with need k.
+abbrev pub IsNamedWithNeed : List Entry → (l k : ℕ) → Type 0
+IsNamedWithNeed es l k = (e : Entry) × In e es × (e.lan ≡ l) × (e.need ≡ k)
+
 -- ---- what holds of a run
 
 abbrev pub lans : List Copy → List ℕ
 lans cs = map (λ c. c.lan) cs
+
+-- LAN l carries a copy in the run of a packet with TTL t by these picks.
+abbrev pub CarriesCopy : Net → (t : ℕ) → List Pick → (l : ℕ) → Type 0
+CarriesCopy n t ps l = In l (lans (run n ps (start n t)).carried)
 
 -- no LAN carried two copies, and none left the known domain
 pub record IsClean (f : Flight) : Type 0 where
@@ -141,7 +149,7 @@ pub record IsRightAt (n : Net) (t : ℕ) (ps : List Pick) (f : Flight) : Type 0 
   pub served : IsLossless ps → f.waiting ≡ [] →
       (l : ℕ) → n.wants l ≡ true → In l (lans f.carried)
 
--- The flow is right: this holds of every packet sent with at least its TTL, in every order. No
--- certificate is spoken of here.
+-- The flow is right: this holds of every packet sent with at least its TTL, in every order. It doesn't
+-- depend on a certificate.
 abbrev pub IsRight : Net → Type 0
 IsRight n = EveryRun n n.ttl (IsRightAt n)

@@ -19,12 +19,13 @@ pub record IsSentOn (n : Net) (b c : Copy) (i : Interface) : Type 0 where
   pub ttl : c.ttl + 1 ≡ b.ttl
   pub onto : n.placed i.0 i.1 ≡ Some c.lan
 
--- If an interface sent the copy, it sent it on from one of these.
+-- If an interface sent the copy, it sent it on from one of the earlier ones.
 abbrev pub IsSentOnFromSome : Net → List Copy → Copy → Type 0
 IsSentOnFromSome n earlier c = (i : Interface) → c.sender ≡ Some i →
     (b : Copy) × In b earlier × IsSentOn n b c i
 
--- Each of these copies comes of one that stands before it.
+-- Each of these copies was sent on from one before it in the list.
 abbrev pub AreInSendingOrder : Net → List Copy → List Copy → Type 0
 AreInSendingOrder n earlier [] = ⊤
-AreInSendingOrder n earlier (c ∷ cs) = IsSentOnFromSome n earlier c × AreInSendingOrder n (earlier ++ c ∷ []) cs
+AreInSendingOrder n earlier (c ∷ cs) =
+    IsSentOnFromSome n earlier c × AreInSendingOrder n (earlier ++ c ∷ []) cs

@@ -1,4 +1,4 @@
--- What is seen of a handling: which interface took a copy with which TTL, and what came of it.
+-- What a handling shows: which interface took a copy with which TTL, and what came of it.
 use Rattle.std.specs.Prelude.{ℕ, not, ◌&&◌, nat_lt, ◌==◌, if◌then◌else◌, List, [], ◌∷◌, slice_get}
 use Rattle.std.specs.Prelude.{Option, Some, None, is_some}
 use Rattle.mc_theory.specs.Lists.{count_of}
@@ -9,7 +9,7 @@ use Rattle.mc_theory.specs.Flights.{Waiting, Flight, step}
 pub data Outcome : Type 0 where
   -- the router's row isn't followed
   Open : Outcome
-  -- it has none
+  -- the router has no row
   NoRow : Outcome
   -- the copy came in by another vif than the expected one
   OtherVif : Outcome
@@ -22,23 +22,25 @@ pub record Event : Type 0 where
   pub ttl : ℕ
   pub outcome : Outcome
 
--- how many pairs send a copy that came with TTL t, onto a LAN
+-- how many pairs of router r send a copy that came with TTL t onto a LAN
 abbrev pub onto_lan_count : Net → ℕ → ℕ → List (ℕ × ℕ) → ℕ
 onto_lan_count n r t pairs = count_of (λ p. nat_lt p.1 t && is_some (n.placed r p.0)) pairs
 
--- and how many send it out of the known domain
+-- how many pairs send it out of the known domain
 abbrev pub astray_count : Net → ℕ → ℕ → List (ℕ × ℕ) → ℕ
 astray_count n r t pairs = count_of (λ p. nat_lt p.1 t && not (is_some (n.placed r p.0))) pairs
+
+-- what comes of pairs that send a copy that came with TTL t
+abbrev pub outcome_of_sending : Net → (r t : ℕ) → List (ℕ × ℕ) → Outcome
+outcome_of_sending n r t pairs = Sent (onto_lan_count n r t pairs) (astray_count n r t pairs)
 
 abbrev pub outcome_by_row : Net → Waiting → Row → Outcome
 outcome_by_row n w open_row = Open
 outcome_by_row n w no_row = NoRow
 outcome_by_row n w (Exact incoming pairs) =
-    if incoming == w.vif
-    then Sent (onto_lan_count n w.router w.ttl pairs) (astray_count n w.router w.ttl pairs)
-    else OtherVif
+    if incoming == w.vif then outcome_of_sending n w.router w.ttl pairs else OtherVif
 
--- what is seen of the handling of a waiting copy
+-- the event of a waiting copy's handling
 abbrev pub event_of : Net → Waiting → Event
 event_of n w = record {
   router = w.router;
@@ -47,12 +49,12 @@ event_of n w = record {
   outcome = outcome_by_row n w (n.row w.router);
 }
 
--- at the head of a list, if there is one
+-- puts the waiting copy's event, if there is one, before others
 abbrev pub prepend_event : Net → Option Waiting → List Event → List Event
 prepend_event n None es = es
 prepend_event n (Some w) es = event_of n w ∷ es
 
--- what is seen of a run without loss, whose picks these are
+-- the events of a run without loss, whose picks these are
 abbrev pub events : Net → List ℕ → Flight → List Event
 events n [] f = []
 events n (i ∷ is) f = prepend_event n (slice_get f.waiting i) (events n is (step n i f))

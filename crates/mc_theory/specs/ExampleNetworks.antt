@@ -1,11 +1,12 @@
 -- Small networks as values, on which the definitions are computed and what they promise is judged
 -- by hand. Routers r1 to r4 are 0 to 3, LANs l0 to l3 are 0 to 3, and the source sends on l0.
-use Rattle.std.specs.Prelude.{ℕ, Bool, cond, ◌&&◌, ◌||◌, ◌==◌, List, [], ◌∷◌, ◌++◌, Option}
+use Rattle.std.specs.Prelude.{ℕ, zero, suc, Bool, cond, ◌&&◌, ◌||◌, ◌==◌, List, [], ◌∷◌, ◌++◌, Option}
 use Rattle.std.specs.Prelude.{Some, None}
 use Rattle.mc_theory.specs.Nets.{Net, Row, Interface}
 use Rattle.mc_theory.specs.Nets.Row.{Exact, Open, NoRow}
-use Rattle.mc_theory.specs.Flights.{Copy, Flight}
+use Rattle.mc_theory.specs.Flights.{Copy, Flight, start, run}
 use Rattle.mc_theory.specs.Certificates.{Entry}
+use Rattle.mc_theory.specs.Findings.{handles}
 use Rattle.mc_theory.specs.Paths.{Hop}
 
 -- ---- networks from tables
@@ -48,7 +49,16 @@ copy lan ttl sender = record { lan = lan; ttl = ttl; sender = sender }
 abbrev pub finished_flight : List Copy → Flight
 finished_flight copies = record { carried = copies; waiting = []; strays = [] }
 
--- in by vif 0, out by vif 1 with threshold 1
+-- so many picks of the first waiting copy
+abbrev pub fifo_picks : ℕ → List ℕ
+fifo_picks zero = []
+fifo_picks (suc k) = 0 ∷ fifo_picks k
+
+-- the flight of a packet with TTL 255 after these
+abbrev pub fifo_flight : Net → ℕ → Flight
+fifo_flight n k = run n (handles (fifo_picks k)) (start n 255)
+
+-- the row that takes by vif 0 and sends by vif 1, with threshold 1
 abbrev pub onward : Row
 onward = Exact 0 ((1, 1) ∷ [])
 
@@ -85,7 +95,7 @@ line ttl = line_with line_rows ttl
 abbrev pub line_end : Flight
 line_end = finished_flight (copy 0 3 None ∷ copy 1 2 (Some (0, 1)) ∷ copy 2 1 (Some (1, 1)) ∷ [])
 
--- r2 sends by its vif 2 too, which no LAN is known of
+-- r2 sends by its vif 2 too, which is placed on no LAN
 abbrev pub line_with_a_leak : Net
 line_with_a_leak = line_with ((0, onward) ∷ (1, Exact 0 ((1, 1) ∷ (2, 1) ∷ [])) ∷ []) 3
 
@@ -93,7 +103,7 @@ line_with_a_leak = line_with ((0, onward) ∷ (1, Exact 0 ((1, 1) ∷ (2, 1) ∷
 abbrev pub line_with_an_open_row : Net
 line_with_an_open_row = line_with ((0, onward) ∷ (1, Open) ∷ []) 3
 
--- in by vif 0, out by vif 1 and by vif 0 too
+-- the row that takes by vif 0 and sends by vif 1 and by vif 0
 abbrev pub sends_back : Row
 sends_back = Exact 0 ((0, 1) ∷ (1, 1) ∷ [])
 
@@ -101,7 +111,7 @@ sends_back = Exact 0 ((0, 1) ∷ (1, 1) ∷ [])
 abbrev pub line_that_sends_back : Net
 line_that_sends_back = line_with ((0, sends_back) ∷ (1, onward) ∷ []) 3
 
--- a line from which r2 is left out, with this row of r1
+-- the line without r2, with this row of r1
 abbrev pub r1_alone : Row → Net
 r1_alone row = network 2 ((0, 0, 0) ∷ (0, 1, 1) ∷ []) ((0, row) ∷ []) (λ l. l == 2) 3
 
@@ -156,7 +166,7 @@ abbrev pub closed_diamond_end : Flight
 closed_diamond_end = finished_flight (copy 0 4 None ∷ copy 1 3 (Some (0, 1)) ∷ copy 2 3 (Some (1, 1))
     ∷ copy 3 2 (Some (2, 1)) ∷ copy 3 2 (Some (3, 1)) ∷ [])
 
--- the way by r1 and r3
+-- the path by r1 and r3
 abbrev pub upper_path : List Hop
 upper_path = onward_hop 1 2 3 ∷ onward_hop 0 0 1 ∷ []
 

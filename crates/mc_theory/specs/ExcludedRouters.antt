@@ -1,5 +1,5 @@
--- Routers whose tables aren't known. A net without them has no interface of theirs, so no copy waits
--- there, and what a packet does at the others it does in the whole net too.
+-- Excluded routers, whose tables aren't known. A net without them has none of their interfaces, so no
+-- copy waits there, and what a packet does at the other routers it does in the whole net too.
 use Rattle.std.specs.Prelude.{◌≡◌, ℕ, Bool, true, false, List, None, ⊤}
 use Rattle.mc_theory.specs.Nets.{Net}
 use Rattle.mc_theory.specs.Flights.{Pick, IsLossless, InRange, start, run}
@@ -19,7 +19,7 @@ pub record ExcludesRouters (excluded : ℕ → Bool) (part whole : Net) : Type 0
 
 -- By picks of waiting copies of the whole net the same comes of a packet as by these of the part: the
 -- same copies were carried and the same strays are there, in the same order. If none was lost there,
--- none was lost here. (The copies that wait at the routers left out aren't picked.)
+-- none was lost here. (The copies that wait at the excluded routers aren't picked.)
 pub record HasSameCopiesAndStrays (part whole : Net) (t : ℕ) (ps : List Pick) : Type 0 where
   pub picks : List Pick
   pub in_range : InRange whole picks (start whole t)
@@ -27,7 +27,7 @@ pub record HasSameCopiesAndStrays (part whole : Net) (t : ℕ) (ps : List Pick) 
   pub strays : (run whole picks (start whole t)).strays ≡ (run part ps (start part t)).strays
   pub lossless : IsLossless ps → IsLossless picks
 
--- It says that a LAN carried two copies, or that one left the known domain.
+-- The finding is that a LAN carried two copies, or that one left the known domain.
 abbrev pub IsSecondCopyOrStray : Finding → Type 0
 IsSecondCopyOrStray Clean = ⊥
 IsSecondCopyOrStray (Duplicate l) = ⊤

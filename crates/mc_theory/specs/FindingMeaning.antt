@@ -1,4 +1,4 @@
--- What each finding says of the flight that a travel ends with.
+-- What each finding means for the flight that a travel ends with.
 use Rattle.std.specs.Prelude.{◌≡◌, ℕ, ◌<◌, true, List, [], ◌∷◌, ◌++◌}
 use Rattle.mc_theory.specs.Lists.{In, Distinct}
 use Rattle.mc_theory.specs.Nets.{Net, Interface}
@@ -23,15 +23,15 @@ pub record FirstDoubleWalk (n : Net) (f : Flight) (l : ℕ) : Type 0 where
   pub walk : List Copy
   pub back : IsWalkBack n f.carried copy walk
 
--- The flight shows what the finding says.
+-- The flight shows the finding.
 abbrev pub Shows : Net → Flight → Finding → Type 0
 -- Nothing waits, no LAN carried two copies, there is no stray, and each wanting LAN carried one.
 Shows n f Clean =
     IsClean f × (f.waiting ≡ [])
     × ((l : ℕ) → n.wants l ≡ true → In l (lans f.carried))
--- The LAN carried a second copy, and the walk back from that copy doesn't come by the LAN;
+-- The LAN carried a second copy, and the walk back from that copy doesn't pass the LAN.
 Shows n f (Duplicate l) = (d : FirstDoubleWalk n f l) × (In l (lans d.walk) → ⊥)
--- or it does.
+-- The LAN carried a second copy, and the walk back from that copy passes the LAN.
 Shows n f (Loop l) = (d : FirstDoubleWalk n f l) × In l (lans d.walk)
 -- No LAN carried two copies, and this is the first stray.
 Shows n f (Stray r v) =

@@ -1,5 +1,5 @@
--- What a flight shows, and a travel: the run that a picker's choices make, up to the first flight
--- that shows something. All of it is our own choice; a travel loses no copy.
+-- Findings, and travels: a travel is the run that a picker's choices make, up to the first flight that
+-- shows a finding. All of it is our own choice; a travel loses no copy.
 use Rattle.std.specs.Prelude.{IsTrue, ◌↔◌}
 use Rattle.std.specs.Prelude.{◌≡◌, ℕ, zero, suc, ◌-◌, ◌<◌, ◌%◌, Bool, false, ◌||◌, ◌==◌}
 use Rattle.std.specs.Prelude.{if◌then◌else◌, List, [], ◌∷◌, ◌++◌, length, Option, Some, None}
@@ -8,7 +8,7 @@ use Rattle.mc_theory.specs.Lists.{In, below}
 use Rattle.mc_theory.specs.Certificates.{lans}
 use Rattle.mc_theory.specs.Nets.{Net, Row, Interface}
 use Rattle.mc_theory.specs.Nets.Row.{Exact, Open, NoRow}
-use Rattle.mc_theory.specs.Flights.{Copy, Waiting, Flight, Pick, step}
+use Rattle.mc_theory.specs.Flights.{Copy, Waiting, Flight, Pick, start, step, run}
 use Rattle.mc_theory.specs.Flights.Pick.{Handles}
 
 pub data Finding : Type 0 where
@@ -17,7 +17,7 @@ pub data Finding : Type 0 where
   Clean : Finding
   -- a LAN carried a second copy
   Duplicate : (lan : ℕ) → Finding
-  -- a LAN carried a second copy that came of its own first one
+  -- a LAN carried a second copy that came from the LAN itself
   Loop : (lan : ℕ) → Finding
   -- a copy left the known domain, here
   Stray : (router vif : ℕ) → Finding
@@ -62,28 +62,27 @@ abbrev pub sender_on : List Copy → ℕ → Option Interface
 sender_on [] l = None
 sender_on (c ∷ cs) l = if c.lan == l then c.sender else sender_on cs l
 
--- what follows a LAN on the walk, if there is one
+-- whether a LAN of the walk is LAN l, or the walk passes l after it
 abbrev pub is_lan_or : ℕ → (ℕ → Bool) → Option ℕ → Bool
 is_lan_or l next None = false
 is_lan_or l next (Some p) = (p == l) || next p
 
--- Whether the walk back from a sender's copy, over at most so many LANs, comes by LAN l. The
--- copy's own LAN doesn't count, unless the walk comes back to it. In the flight of a travel the
--- walk ends at the source's copy before it has gone over as many LANs as there are carried
--- copies.
+-- Whether the walk back from a sender's copy, over at most so many LANs, passes LAN l. The copy's own
+-- LAN doesn't count, unless the walk comes back to it. In the flight of a travel the walk ends at the
+-- source's copy before it has passed as many LANs as there are carried copies.
 abbrev pub walk_visits : Net → List Copy → ℕ → ℕ → Option Interface → Bool
 walk_visits n cs l zero x = false
 walk_visits n cs l (suc k) x = is_lan_or l (λ p. walk_visits n cs l k (sender_on cs p)) (from_lan n x)
 
 -- The walk back from a copy ends at the source's copy, over fewer LANs than there are carried
--- copies. It comes by the LANs that `walk_visits` tells.
+-- copies. It passes the LANs of which `walk_visits` says so.
 pub record WalkEnds (n : Net) (cs : List Copy) (c : Copy) : Type 0 where
   pub walk : List Copy
   pub back : IsWalkBack n cs c walk
   pub short : length walk < length cs
   pub visited : (l : ℕ) → IsTrue (walk_visits n cs l (length cs) c.sender) ↔ In l (lans walk)
 
--- This holds of each of these copies.
+-- The walk back from each of these copies ends.
 abbrev pub AllWalksEnd : Net → List Copy → Type 0
 AllWalksEnd n cs = (c : Copy) → In c cs → WalkEnds n cs c
 
@@ -149,7 +148,7 @@ numbers_left (x ∷ xs) = xs
 abbrev pub after_choice : Choices → Choices
 after_choice c = record { numbers = numbers_left c.numbers; last = c.last }
 
--- From flight f on these picks are the picker's choices, no flight on the way shows anything, and
+-- From flight f on these picks are the picker's choices, no flight before the last shows anything, and
 -- the last one shows x.
 abbrev pub IsTravel : Net → ℕ → List ℕ → Bool → List ℕ → Flight → Finding → Type 0
 IsTravel n count numbers last [] f x = finding n count f ≡ Some x
@@ -158,7 +157,7 @@ IsTravel n count numbers last (i ∷ is) f x =
     × (i ≡ choice (length f.waiting) numbers last)
     × IsTravel n count (numbers_left numbers) last is (step n i f) x
 
--- The same of a travel under way, whose last flight may show something or nothing yet.
+-- The same of an unfinished travel: its last flight may show something or nothing yet.
 abbrev pub IsTravelUnfinished : Net → ℕ → List ℕ → Bool → List ℕ → Flight → Type 0
 IsTravelUnfinished n count numbers last [] f = ⊤
 IsTravelUnfinished n count numbers last (i ∷ is) f =
@@ -170,3 +169,19 @@ IsTravelUnfinished n count numbers last (i ∷ is) f =
 abbrev pub handles : List ℕ → List Pick
 handles [] = []
 handles (i ∷ is) = Handles i ∷ handles is
+
+-- ---- what holds of travels, of a packet with TTL t and wanting LANs numbered below the count
+
+-- Where a travel finds x, P holds of its last flight, whatever the picker chooses.
+abbrev pub OnFinding : Net → (count t : ℕ) → Finding → (Flight → Type 0) → Type 0
+OnFinding n count t x P = (numbers : List ℕ) (last : Bool) (is : List ℕ) →
+    IsTravel n count numbers last is (start n t) x → P (run n (handles is) (start n t))
+
+-- P holds of each travel's last flight, whatever the travel finds.
+abbrev pub OnTravel : Net → (count t : ℕ) → (Flight → Type 0) → Type 0
+OnTravel n count t P = (x : Finding) → OnFinding n count t x P
+
+-- P holds of each travel's last flight, if the first waiting copy was handled each time (FIFO).
+abbrev pub OnFifoTravel : Net → (count t : ℕ) → (Flight → Type 0) → Type 0
+OnFifoTravel n count t P = (is : List ℕ) (x : Finding) →
+    IsTravel n count [] false is (start n t) x → P (run n (handles is) (start n t))

@@ -1,7 +1,7 @@
--- A packet's copies on their way: which LANs carried one, where one waits for a router, and which
--- left the known domain. One step is one router interface handling one waiting copy whole, or the
+-- A packet's copies: which LANs carried one, where one waits for a router, and which left the known
+-- domain. One step is one router interface handling one waiting copy whole, or the
 -- loss of that copy; a run is a list of such steps, in any order.
-use Rattle.std.specs.Prelude.{ℕ, ◌-◌, ◌<◌, ◌≤◌, Bool, false, not, ◌&&◌, nat_lt, ◌==◌, if◌then◌else◌}
+use Rattle.std.specs.Prelude.{◌≡◌, ℕ, ◌-◌, ◌<◌, ◌≤◌, Bool, false, not, ◌&&◌, nat_lt, ◌==◌, if◌then◌else◌}
 use Rattle.std.specs.Prelude.{List, [], ◌∷◌, ◌++◌, map, filter, length, remove, slice_get, Option}
 use Rattle.std.specs.Prelude.{Some, None, ⊤}
 use Rattle.mc_theory.specs.Lists.{count_of}
@@ -24,7 +24,7 @@ pub record Waiting : Type 0 where
   pub ttl : ℕ
 
 -- The three lists grow at their ends. A stray is where a copy left the known domain: the
--- interface that it left by, or at which it met a row that isn't followed.
+-- interface that it left by, or at which it came to a row that isn't followed.
 pub record Flight : Type 0 where
   pub carried : List Copy
   pub waiting : List Waiting
@@ -81,7 +81,7 @@ sends n r t (p ∷ ps) f = sends n r t ps (send n r t p f)
 -- What a router's row does with a copy that waited and was taken away. By an exact row it is
 -- forwarded only if it came in by the expected vif (RFC 7761, section 4.2; `ip_mr_forward`), and
 -- then by every pair, also one of the incoming vif, as the kernel does. A row that isn't followed
--- makes a stray (own choice). No row: nothing.
+-- makes a stray (our own choice). No row: nothing.
 abbrev pub handle_by_row : Net → Waiting → Row → Flight → Flight
 handle_by_row n w Open f = stray (w.router, w.vif) f
 handle_by_row n w NoRow f = f
@@ -138,6 +138,12 @@ abbrev pub IsLossless : List Pick → Type 0
 IsLossless [] = ⊤
 IsLossless (Handles i ∷ ps) = IsLossless ps
 IsLossless (Loses i ∷ ps) = ⊥
+
+-- The picks are a run of a packet with TTL t that lost no copy and is complete: none waits any more.
+pub record IsCompleteRun (n : Net) (t : ℕ) (ps : List Pick) : Type 0 where
+  pub in_range : InRange n ps (start n t)
+  pub lossless : IsLossless ps
+  pub none_waits : (run n ps (start n t)).waiting ≡ []
 
 -- P holds of every run: for each TTL t of a packet from `least` to 255, and each order ps in
 -- which its copies are handled or lost, P t ps holds of the flight that it ends with. The run is

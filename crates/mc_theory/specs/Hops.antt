@@ -1,5 +1,5 @@
--- The walk back from a copy as it is followed: hop by hop, from the rows of the domain and the
--- first copies of LANs; and where a packet stops, hop by hop. All of it is our own choice.
+-- The walk back from a copy, followed hop by hop from the rows of the domain and the first copies of
+-- LANs, and the hop at which a packet stops. All of it is our own choice.
 use Rattle.std.specs.Prelude.{◌≡◌, ℕ, zero, suc, ◌-◌, nat_lt, ◌==◌, if◌then◌else◌, List, [], ◌∷◌}
 use Rattle.std.specs.Prelude.{length, Option, Some, None}
 use Rattle.mc_theory.specs.Nets.{Net, Interface}
@@ -22,7 +22,7 @@ hop_from_lan n i onto (Some from) = Some (record {
 abbrev pub hop_by : Net → Interface → ℕ → Option Hop
 hop_by n i onto = hop_from_lan n i onto (from_lan n (Some i))
 
--- the hop of what this sender sent onto a LAN; the source needs none
+-- the hop by which this sender sent onto a LAN; the source has none
 abbrev pub hop_sent : Net → Option Interface → ℕ → Option Hop
 hop_sent n None onto = None
 hop_sent n (Some i) onto = hop_by n i onto
@@ -41,18 +41,35 @@ hops_back n cs zero onto x = []
 hops_back n cs (suc k) onto x =
     hop_then (λ h. hops_back n cs k h.from (sender_on cs h.from)) (hop_sent n x onto)
 
--- the same, which ends where a hop takes from LAN l
+-- the same hops, up to the first that takes from LAN l
 abbrev pub hops_until : Net → List Copy → ℕ → ℕ → ℕ → Option Interface → List Hop
 hops_until n cs l zero onto x = []
 hops_until n cs l (suc k) onto x =
     hop_then (λ h. if h.from == l then [] else hops_until n cs l k h.from (sender_on cs h.from))
     (hop_sent n x onto)
 
+-- The hops back from copy c, one of these carried copies, to the source's LAN, and to LAN l. In the
+-- flight of a travel there are fewer than carried copies.
+abbrev pub hops_of_copy : Net → List Copy → Copy → List Hop
+hops_of_copy n cs c = hops_back n cs (length cs) c.lan c.sender
+
+abbrev pub hops_of_copy_until : Net → List Copy → (l : ℕ) → Copy → List Hop
+hops_of_copy_until n cs l c = hops_until n cs l (length cs) c.lan c.sender
+
+-- The hop by which interface i sent copy c is found by its interface and the copy's LAN, and the LAN
+-- that it takes from has a first copy among the carried ones.
+pub record IsHopFound (n : Net) (cs : List Copy) (c : Copy) (i : Interface) : Type 0 where
+  pub hop : Hop
+  pub first : Copy
+  pub found : hop_by n i c.lan ≡ Some hop
+  pub sent : IsSentByHop n c hop
+  pub first_on : first_copy_on cs hop.from ≡ Some first
+
 -- ---- a part of the walk
 
--- The walk back from copy c over these hops has come to copy b: each hop but the first is the one
--- that the first copy of the LAN was sent by that the hop before takes from, and b is the first
--- copy of the LAN that the last takes from.
+-- The walk back from copy c over these hops has come to copy b. Each hop but the first sent the first
+-- copy of the LAN that the hop before takes from, and b is the first copy of the LAN that the last
+-- takes from.
 abbrev pub IsPathPart : Net → List Copy → Copy → List Hop → Copy → Type 0
 IsPathPart n cs c [] b = c ≡ b
 IsPathPart n cs c (h ∷ hs) b =
@@ -60,7 +77,7 @@ IsPathPart n cs c (h ∷ hs) b =
 
 -- ---- where a packet stops
 
--- what stopped it before, or else this hop, to which it comes with what is left of its TTL
+-- the hop that stopped the packet before, or else this one, if it stops what is left of the TTL
 abbrev pub first_stop_or_here : Hop → ℕ → Option (Hop × ℕ) → Option (Hop × ℕ)
 first_stop_or_here h left (Some stop) = Some stop
 first_stop_or_here h left None = if nat_lt h.threshold left then None else Some (h, left)

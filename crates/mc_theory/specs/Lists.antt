@@ -1,5 +1,4 @@
--- Words on lists: what is in one, whether it repeats itself, how many pass a test, and the numbers
--- below a bound.
+-- Lists: membership, repetition, how many elements pass a test, and the numbers below a bound.
 use Rattle.std.specs.Prelude.{◌≡◌, ℕ, zero, suc, ◌⊎◌, Bool, if◌then◌else◌, List, [], ◌∷◌, ◌++◌, ⊤}
 
 -- x is an element
@@ -7,7 +6,7 @@ abbrev pub In : {A : Type 0} → A → List A → Type 0
 In x [] = ⊥
 In x (y ∷ ys) = (y ≡ x) ⊎ In x ys
 
--- no element stands twice
+-- no element occurs twice
 abbrev pub Distinct : {A : Type 0} → List A → Type 0
 Distinct [] = ⊤
 Distinct (x ∷ xs) = (In x xs → ⊥) × Distinct xs

@@ -1,5 +1,5 @@
--- A domain as the packets of one flow meet it: which vif stands on which LAN, which row each
--- router has for the flow, and which LANs want it. A flow is a source and a group. Routers and
+-- A domain for the packets of one flow: which vif is placed on which LAN, which row each router has for
+-- the flow, and which LANs want it. A flow is a source and a group. Routers and
 -- LANs are numbered from 0.
 use Rattle.std.specs.Prelude.{◌≡◌, ℕ, ◌<◌, Bool, true, false, ◌==◌, List, map, filter, flat_map}
 use Rattle.std.specs.Prelude.{Option, Some, None, is_some}
@@ -17,8 +17,8 @@ pub data Row : Type 0 where
   -- pairs of an outgoing vif and its threshold.
   Exact : (incoming : ℕ) → (pairs : List (ℕ × ℕ)) → Row
   -- No such row, but a resolved one for every source: of the group, (*,G), or of every group,
-  -- (*,*). What it would do isn't followed (own choice: it counts as a way out of the known
-  -- domain, whichever vif the packet came in by).
+  -- (*,*). What it would do isn't followed (our own choice: it counts as leading out of
+  -- the known domain, whichever vif the packet came in by).
   Open : Row
   -- Neither.
   NoRow : Row
@@ -55,8 +55,8 @@ interfaces n l = filter (λ i. is_lan (n.placed i.0 i.1) l) (router_vif_pairs 32
 abbrev pub placed_interfaces : Net → List Interface
 placed_interfaces n = filter (λ i. is_some (n.placed i.0 i.1)) (router_vif_pairs 32 n.routers)
 
--- What every domain keeps. All that is proved of flights rests on these three facts and, where a
--- law says so, on `WantsBelow` and on a TTL of 1 to 255.
+-- What holds of every domain. All that is proved of flights rests on these three facts and, where a law
+-- says so, on `WantsBelow` and on a TTL of 1 to 255.
 pub record IsNet (n : Net) : Type 0 where
   -- a placed vif belongs to a router of the domain
   pub router : (r v l : ℕ) → n.placed r v ≡ Some l → r < n.routers

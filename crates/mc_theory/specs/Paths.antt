@@ -1,15 +1,16 @@
--- Ways of a flow's packets over the rows of the domain: which LANs they lead to, and which packets
--- get through. A way is told backwards, its last hop first.
-use Rattle.std.specs.Prelude.{◌≡◌, ◌≢◌, ℕ, ◌+◌, ◌<◌, ◌≤◌, max, not, ◌==◌, if◌then◌else◌, List, []}
+-- Paths of a flow's packets over the rows of the domain: which LANs they lead to, and which packets get
+-- through. A path is a list of hops from its last to its first.
+use Rattle.std.specs.Prelude.{◌≡◌, ◌≢◌, ◌↔◌, ℕ, ◌+◌, ◌<◌, ◌≤◌, max, not, ◌==◌, if◌then◌else◌, List, []}
 use Rattle.std.specs.Prelude.{◌∷◌, ◌++◌, filter, length, map, Some, None, ⊤}
 use Rattle.mc_theory.specs.Lists.{In}
 use Rattle.mc_theory.specs.Nets.{Net, Row, Interface}
 use Rattle.mc_theory.specs.Nets.Row.{Exact, Open, NoRow}
-use Rattle.mc_theory.specs.Flights.{Copy, Flight}
+use Rattle.mc_theory.specs.Flights.{Copy, Flight, Pick, IsCompleteRun}
+use Rattle.mc_theory.specs.Certificates.{CarriesCopy}
 use Rattle.mc_theory.specs.Findings.{first_copy_on}
 use Rattle.mc_theory.specs.FindingMeaning.{IsFirstDouble}
 
--- ---- ways
+-- ---- paths
 
 -- A router takes a copy from a LAN and sends it onto another by a vif, above a threshold.
 pub record Hop : Type 0 where
@@ -19,7 +20,8 @@ pub record Hop : Type 0 where
   pub threshold : ℕ
   pub onto : ℕ
 
--- Its exact row takes from the one LAN, and has a pair of the vif, which is placed on the other.
+-- The hop is one of the domain: its router's exact row takes from the one LAN, and has a pair of the
+-- vif, which is placed on the other.
 pub record IsHop (n : Net) (h : Hop) : Type 0 where
   pub incoming : ℕ
   pub pairs : List (ℕ × ℕ)
@@ -33,7 +35,11 @@ abbrev pub IsPath : Net → ℕ → List Hop → ℕ → Type 0
 IsPath n a [] b = a ≡ b
 IsPath n a (h ∷ hs) b = (h.onto ≡ b) × IsHop n h × IsPath n a hs h.from
 
--- ---- who gets through
+-- One of these hops takes from LAN l.
+abbrev pub PassesLan : ℕ → List Hop → Type 0
+PassesLan l hs = In l (map (λ (h : Hop). h.from) hs)
+
+-- ---- which packets get through
 
 -- A packet sent with TTL t gets through: at each hop its TTL, which is less by the hops before, is
 -- greater than the threshold.
@@ -41,7 +47,7 @@ abbrev pub PassesHops : ℕ → List Hop → Type 0
 PassesHops t [] = ⊤
 PassesHops t (h ∷ hs) = (length hs + h.threshold < t) × PassesHops t hs
 
--- the least TTL with which one gets through
+-- the least TTL with which a packet gets through
 abbrev pub need : List Hop → ℕ
 need [] = 1
 need (h ∷ hs) = max (need hs) (length hs + h.threshold + 1)
@@ -56,15 +62,20 @@ pub record IsStopped (t : ℕ) (hs : List Hop) (h : Hop) (left : ℕ) : Type 0 w
   pub ttl : left + length before ≡ t
   pub stops : left ≤ h.threshold
 
--- Some way leads from the source's LAN to LAN l, the time to live aside;
+-- Some path leads from the source's LAN to LAN l, whatever TTL it needs.
 abbrev pub IsReached : Net → ℕ → Type 0
 IsReached n l = (hs : List Hop) × IsPath n n.source hs l
 
--- and one by which packets sent with TTL t get through.
+-- Some path leads there by which packets sent with TTL t get through.
 abbrev pub IsReachedWithTtl : Net → ℕ → ℕ → Type 0
 IsReachedWithTtl n t l = (hs : List Hop) × IsPath n n.source hs l × PassesHops t hs
 
--- ---- the way of a copy
+-- The least TTL with which LAN l is reached is k: a TTL from 1 to 255 reaches it exactly if it is at
+-- least k.
+abbrev pub IsLeastReachingTtl : Net → (l k : ℕ) → Type 0
+IsLeastReachingTtl n l k = (t : ℕ) → 1 ≤ t → t ≤ 255 → IsReachedWithTtl n t l ↔ (k ≤ t)
+
+-- ---- the path of a copy
 
 -- Copy c came by these hops from the source's LAN: the first is its own sender's, from a LAN whose
 -- first copy came by the rest.
@@ -78,8 +89,8 @@ CameByHops n cs c (h ∷ hs) =
 abbrev pub IsSentByHop : Net → Copy → Hop → Type 0
 IsSentByHop n c h = (c.sender ≡ Some (h.router, h.vif)) × (h.onto ≡ c.lan) × IsHop n h
 
--- Copy c came by these hops from LAN l, and by l nowhere in between: the first is the one that it
--- was sent by, from l itself, or from another LAN, whose first copy came from l by the rest.
+-- Copy c came by these hops from LAN l, without passing l in between: the first is the one that it was
+-- sent by, from l itself, or from another LAN, whose first copy came from l by the rest.
 abbrev pub CameFromLan : Net → List Copy → ℕ → Copy → List Hop → Type 0
 CameFromLan n cs l c [] = ⊥
 CameFromLan n cs l c (h ∷ []) = IsSentByHop n c h × (h.from ≡ l)
@@ -106,6 +117,16 @@ take_out i n = record {
   ttl = n.ttl;
 }
 
+-- Each LAN that a packet with TTL t reaches in the first domain it reaches in the second.
+abbrev pub KeepsReach : Net → Net → (t : ℕ) → Type 0
+KeepsReach n after t = (l : ℕ) → IsReachedWithTtl n t l → IsReachedWithTtl after t l
+
+-- Each LAN that carries a copy in some run of a packet with TTL t in the first domain carries one in
+-- each complete run in the second that loses none.
+abbrev pub KeepsDelivery : Net → Net → (t : ℕ) → Type 0
+KeepsDelivery n after t = (ps qs : List Pick) (l : ℕ) →
+    IsCompleteRun after t qs → CarriesCopy n t ps l → CarriesCopy after t qs l
+
 -- Interface i sent the flight's first double copy c, and the first copy of its LAN came by these
 -- hops.
 pub record IsSpareInterface (n : Net) (f : Flight) (c : Copy) (i : Interface) (hs : List Hop) : Type 0 where
@@ -117,8 +138,8 @@ pub record IsSpareInterface (n : Net) (f : Flight) (c : Copy) (i : Interface) (h
 
 -- ---- two copies of a LAN
 
--- The LAN's first copy and its second, the flight's first double one, came by two ways: the last
--- hops are by two senders, and the second way doesn't come by the LAN before its end.
+-- The LAN's first copy and its second, the flight's first double one, came by two paths: their last hops
+-- are by two senders, and the second path doesn't pass the LAN before its end.
 pub record ReachedByTwoPaths (n : Net) (cs : List Copy) (l : ℕ) : Type 0 where
   pub first : Copy
   pub second : Copy
@@ -132,11 +153,11 @@ pub record ReachedByTwoPaths (n : Net) (cs : List Copy) (l : ℕ) : Type 0 where
   pub second_path : List Hop
   pub second_came : CameByHops n cs second second_path
   pub second_leads : IsPath n n.source second_path l
-  pub not_before : In l (map (λ h. h.from) second_path) → ⊥
+  pub not_before : ¬ PassesLan l second_path
 
--- Its second copy came from the LAN itself: the walk back from that copy to the LAN is a way that
--- leads back to it, and the last hop's interface sent the copy. There are fewer hops than carried
--- copies.
+-- A LAN's second copy came from the LAN itself: the walk back from that copy to the LAN is a path that
+-- leads from the LAN back to it, and the last hop's interface sent the copy. There are fewer hops than
+-- carried copies.
 pub record LoopedBack (n : Net) (cs : List Copy) (l : ℕ) : Type 0 where
   pub second : Copy
   pub first_double : IsFirstDouble cs second

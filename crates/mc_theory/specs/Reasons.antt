@@ -1,6 +1,5 @@
--- Why a list of entries is refused: the first reason, in the order in which the conditions are
--- looked at. The order is our own choice; that no reason is left exactly where the list is
--- accepted is proved.
+-- Why a list of entries is refused: the first reason, in the order in which the conditions are checked.
+-- The order is our own choice. It is proved that there is no reason exactly where the list is accepted.
 use Rattle.std.specs.Prelude.{ℕ, ◌+◌, max, Bool, true, false, not, ◌&&◌, ◌||◌, nat_lt, ◌==◌}
 use Rattle.std.specs.Prelude.{if◌then◌else◌, List, [], ◌∷◌, ◌++◌, Option, Some, None, is_some}
 use Rattle.std.specs.List.{list_all, list_any}
@@ -35,9 +34,9 @@ pub data Reason : Type 0 where
   -- served: it is named, with a need above the flow's TTL
   Low : (lan : ℕ) → Reason
 
--- ---- words
+-- ---- combinators
 
--- the first, or else the second
+-- the first reason, or else the second
 infixr 30 ◌then◌
 abbrev pub ◌then◌ : Option Reason → Option Reason → Option Reason
 (Some x) then y = Some x
@@ -48,7 +47,7 @@ abbrev pub unless : Bool → Reason → Option Reason
 unless true x = None
 unless false x = Some x
 
--- the first that f gives, in the list's order
+-- the first reason that f gives, in the list's order
 abbrev pub first_of : {A : Type 0} → (A → Option Reason) → List A → Option Reason
 first_of f [] = None
 first_of f (x ∷ xs) = f x then first_of f xs
@@ -63,7 +62,7 @@ abbrev pub entry_at : List Entry → Option ℕ → Option Entry
 entry_at es None = None
 entry_at es (Some l) = entry_on es l
 
--- ---- one entry: the first of these whose LAN an earlier entry names
+-- ---- one entry: the first entry whose LAN an earlier one names
 
 abbrev pub twice : List Entry → List Entry → Option Reason
 twice earlier [] = None
@@ -84,7 +83,7 @@ has_source n es =
 
 -- ---- no wildcard, no stray and tree, of one router
 
--- the pair of router r, which takes from entry p and sends onto LAN q, with q's entry
+-- a pair of router r, whose row takes from entry p, that sends onto LAN q, by q's entry
 abbrev pub child_reason : Entry → ℕ → ℕ × ℕ → ℕ → Option Entry → Option Reason
 child_reason p r pair q None = Some (Extra r pair.0 q)
 child_reason p r pair q (Some e) =
@@ -92,12 +91,12 @@ child_reason p r pair q (Some e) =
     then unless (e.rank == p.rank + 1) (WrongRank q)
     then unless (e.need == max p.need (p.rank + pair.1 + 1)) (WrongNeed q)
 
--- a live pair, by where its vif is placed
+-- a live pair, by the LAN on which its vif is placed
 abbrev pub onto_reason : List Entry → Entry → ℕ → ℕ × ℕ → Option ℕ → Option Reason
 onto_reason es p r pair None = Some (Stray r pair.0)
 onto_reason es p r pair (Some q) = child_reason p r pair q (entry_on es q)
 
--- a pair: only a live one is looked at
+-- a pair: only a live one is checked
 abbrev pub pair_reason : Net → List Entry → Entry → ℕ → ℕ × ℕ → Option Reason
 pair_reason n es p r pair =
     if is_live p.rank pair.1

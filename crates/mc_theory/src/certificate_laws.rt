@@ -1,4 +1,4 @@
-//! What an accepted list says of every run, and which flows have one.
+//! What holds of every run where a list of entries is accepted, and which flows have such a list.
 
 ghost use Rattle.std.specs.Prelude.{◌≡◌, ◌↔◌, ◌≤◌, ℕ, List, None, length};
 ghost use Rattle.std.specs.List.Sorted.{IsPermutation};
@@ -48,14 +48,14 @@ pub fn certificate_exists_iff_flow_is_right()
         → ((es : List Entry) × IsAccepted n es) ↔ IsRight n }
 {}
 
-/// No reason is left exactly where the list is accepted.
+/// There is no reason to refuse a list exactly where it is accepted.
 pub fn no_reason_iff_accepted()
     ensures { (n : Net) (count : ℕ) (es : List Entry) → IsNet n → WantsBelow n count
         → (first_reason n count es ≡ None) ↔ IsAccepted n es }
 {}
 
-/// The order of entries is of no account: a list with the same entries meets the same conditions,
-/// and a permutation of an accepted list is accepted.
+/// The order of entries doesn't matter: a list with the same entries meets the same conditions, and a
+/// permutation of an accepted list is accepted.
 pub fn order_of_entries_does_not_matter()
     ensures tree { (n : Net) (es others : List Entry) → IsReordering es others
         → IsTree n es → IsTree n others }

@@ -1,10 +1,10 @@
 //! What the routers of a domain do with the copies of one flow's packets, what certifies the
 //! flow, and why a certificate covers every order in which routers handle copies.
 //!
-//! The definitions stand in `specs/`, to be read in this order: `Nets`, `Flights`, `Headline`,
-//! `Certificates`, `Reasons`, `Events`, `Findings`, `Shown`, `Origins`, `Made`, `Ways`, `Hops`,
-//! `LeftOut`; `Worked` has small networks to try them on. Nothing here runs: each function below is a law
-//! about them.
+//! The definitions are in `specs/`, to be read in this order: `Nets`, `Flights`, `Headline`,
+//! `Certificates`, `Reasons`, `Events`, `Findings`, `FindingMeaning`, `CopyOrigins`,
+//! `CertificateOfCopies`, `Paths`, `Hops`, `ExcludedRouters`; `ExampleNetworks` has small networks to try
+//! them on. Nothing here runs: each function below is a law about them.
 
 #![tactic(auto)]
 

@@ -10,7 +10,7 @@ use Rattle.mc_topology.specs.declared.read.bounds.LexState.{LexState}
 use Rattle.mc_topology.specs.Bounds.{after_byte, is_outside, is_skipped_in_header, nesting_after, header_after, is_mark}
 use Rattle.mc_topology.specs.Bounds.{with_byte, initial_scan, is_bounded}
 
--- behind so many bytes the rest is scanned as the whole text is
+-- after this many bytes, scanning the rest from this scan is scanning the whole text
 pub record IsScannedTo (text : List ℕ) (scan : Scan) (place : ℕ) : Type 0 where
   pub same : fold with_byte scan (drop place text) ≡ fold with_byte initial_scan text
   pub nested : scan.nesting ≤ place
@@ -18,7 +18,7 @@ pub record IsScannedTo (text : List ℕ) (scan : Scan) (place : ℕ) : Type 0 wh
   pub cheap : scan.compared ≤ place * 16777216
   pub few : scan.marks ≤ place
 
--- a number that a byte may make greater by one
+-- a number that a byte increases by one at most,
 if-le_one_more : (b : Bool) (n m : ℕ) → m ≤ n + 1 → (if b then m else n) ≤ n + 1
 if-le_one_more true n m h = h
 if-le_one_more false n m h = omega arith
@@ -36,28 +36,28 @@ nested_if-le_one_more : (b d : Bool) (n : ℕ) → (if b then n + 1 else if d th
 nested_if-le_one_more true d n = omega arith
 nested_if-le_one_more false d n = if_sub-le_one_more d n
 
-header_after-le_one_more : (part : LinePart) (header : ℕ) (place : LexState) (c : ℕ)
-    → header_after part header place c ≤ header + 1
-header_after-le_one_more Margin header place c = if-le_one_more (c == 91) header 1 (omega arith)
-header_after-le_one_more Header header place c = kept (is_skipped_in_header place c) header
+header_after-le_one_more : (part : LinePart) (header : ℕ) (state : LexState) (c : ℕ)
+    → header_after part header state c ≤ header + 1
+header_after-le_one_more Margin header state c = if-le_one_more (c == 91) header 1 (omega arith)
+header_after-le_one_more Header header state c = kept (is_skipped_in_header state c) header
   where
     kept : (b : Bool) (n : ℕ) → (if b then n else n + 1) ≤ n + 1
     kept true n = omega arith
     kept false n = omega arith
-header_after-le_one_more Rest header place c = omega arith
+header_after-le_one_more Rest header state c = omega arith
 
--- what a byte adds at most
+-- how much a byte increases each number of a scan at most
 pub with_byte-growth : (scan : Scan) (c : ℕ) → ((with_byte scan c).nesting ≤ scan.nesting + 1)
     × ((with_byte scan c).header ≤ scan.header + 1)
     × ((with_byte scan c).compared ≤ scan.compared + scan.header)
     × ((with_byte scan c).marks ≤ scan.marks + 1)
 unfolding with_byte
 with_byte-growth scan c =
-    let place = after_byte scan.place c in
-    let outside = is_outside place in (
+    let state = after_byte scan.state c in
+    let outside = is_outside state in (
       if-le_one_more outside scan.nesting (nesting_after scan.nesting c)
           (nested_if-le_one_more (c == 91 || c == 123) (c == 93 || c == 125) scan.nesting),
-      header_after-le_one_more scan.part scan.header place c,
+      header_after-le_one_more scan.part scan.header state c,
       if_add-le (outside && c == 61) scan.compared scan.header,
       if-le_one_more (outside && is_mark c) scan.marks (scan.marks + 1) (omega arith),
     )
@@ -81,7 +81,7 @@ IsScannedTo-all : (text : List ℕ) (scan : Scan) (place : ℕ) → IsScannedTo 
 IsScannedTo-all text scan place is ended =
     sym (at_drop_all (λ rest. fold with_byte scan rest) text place ended) ∙ is.same
 
--- the test of a scan of the whole text
+-- the bounds are tested by the scan of the whole text
 pub is_bounded-all : (text : List ℕ) (scan : Scan) (place : ℕ) → IsScannedTo text scan place
     → length text ≤ place
     → is_bounded text ≡ (nat_le scan.marks 131072 && nat_le scan.compared 268435456)

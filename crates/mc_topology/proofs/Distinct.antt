@@ -1,4 +1,4 @@
--- Lists of which no two places hold items of one key, and items that are added at their end.
+-- Lists without two items of the same key, and items that are added at their end.
 use Rattle.std.proofs.Common.{◌≡◌, ℕ, zero, suc, ◌⊎◌, inl, inr, Bool, true, false, ◌||◌, List, []}
 use Rattle.std.proofs.Common.{◌∷◌, ◌++◌, length, Some, refl, sym, ap, ◌∙◌, arith}
 use Rattle.std.specs.Prelude.{slice_get}
@@ -22,7 +22,7 @@ module _ {X : Type 0} where
   slice_get-append_next [] ys x = refl
   slice_get-append_next (y ∷ xs) ys x = slice_get-append_next xs ys x
 
-  -- what stands at a place is of the old list, or is the item that was added
+  -- an item of the longer list is one of the old list, or the added one
   slice_get-push : (xs : List X) (y : X) (i : ℕ) (x : X) → slice_get (xs ++ y ∷ []) i ≡ Some x
       → (slice_get xs i ≡ Some x) ⊎ ((i ≡ length xs) × (x ≡ y))
   slice_get-push [] y zero x e = inr (refl, cc)

@@ -1,4 +1,4 @@
--- A small topology, read as the definitions say: they compute. The text is that of the tests, with
+-- A small topology, read by computing the definitions. The text is that of the tests, with
 -- the quotes of TOML's literal texts.
 use Rattle.std.proofs.Common.{◌≡◌, ℕ, List, [], ◌∷◌, ◌++◌, codes, Ok, refl}
 use Rattle.std.specs.Fmt.{digits}

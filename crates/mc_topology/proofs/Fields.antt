@@ -1,4 +1,4 @@
--- What stands under a key is read, and what is read stands there.
+-- What is read under a key is the key's value, and the key's value is read.
 use Rattle.std.proofs.Common.{◌≡◌, ℕ, ℤ, ◌≤◌, Bool, true, false, cond, List, [], length, codes}
 use Rattle.std.proofs.Common.{Option, Some, None, Ok, Err, nat_le, le-leb, refl, sym, ap, ◌∙◌}
 use Rattle.std.specs.Option.{ok_or}
@@ -18,7 +18,7 @@ use Rattle.mc_topology.specs.Routers.{order_of}
 use Rattle.mc_topology.specs.Denotation.{IsTable, AreRows, DenotesOrder, order_text}
 use Rattle.mc_topology.proofs.Steps.{bind_ok, test_ok, ok_or_ok, ok_injective}
 
--- a value that answers as a text is one, and so for the other types
+-- a value that is taken as a text is one, and so for the other types
 string-from_as_str : (d : Data) (s : List ℕ) → as_str d ≡ Some s → d ≡ string s
 string-from_as_str (string t) s e = cc
 string-from_as_str (integer z) s e = absurd cc
@@ -61,7 +61,7 @@ table-from_as_table (table ns) ms e = cc
 pub string-from_text_of : (d : Data) (text : List ℕ) → text_of d ≡ Ok text → d ≡ string text
 string-from_text_of d text e = string-from_as_str d text (ok_or_ok (as_str d) BadKind text e)
 
--- a text that is read under a key stands there
+-- a text that is read under a key is the key's
 pub HasText-from_text_at : (key : List ℕ) (ms : Members) (text : List ℕ) → text_at key ms ≡ Ok text
     → get_member key ms ≡ Some (string text)
 unfolding text_at
@@ -69,13 +69,13 @@ HasText-from_text_at key ms text e =
     let a = bind_ok (at_key key ms) text_of text e in
     ok_or_ok (get_member key ms) MissingKey a.0 a.1 ∙ ap Some (string-from_text_of a.0 text a.2)
 
--- and a text that stands there is read
+-- and the key's text is read
 pub text_at-from_HasText : (key : List ℕ) (ms : Members) (text : List ℕ)
     → get_member key ms ≡ Some (string text) → text_at key ms ≡ Ok text
 unfolding text_at
 text_at-from_HasText key ms text e = rw e refl
 
--- a whole number that is read under a key stands there
+-- a whole number that is read under a key is the key's
 pub HasNumber-from_number_at : (key : List ℕ) (ms : Members) (z : ℤ) → number_at key ms ≡ Ok z
     → get_member key ms ≡ Some (integer z)
 unfolding number_at
@@ -84,7 +84,7 @@ HasNumber-from_number_at key ms z e =
     ok_or_ok (get_member key ms) MissingKey a.0 a.1
     ∙ ap Some (integer-from_as_integer a.0 z (ok_or_ok (as_integer a.0) BadKind z a.2))
 
--- and a whole number that stands there is read
+-- and the key's whole number is read
 pub number_at-from_HasNumber : (key : List ℕ) (ms : Members) (z : ℤ) → get_member key ms ≡ Some (integer z)
     → number_at key ms ≡ Ok z
 unfolding number_at
@@ -184,7 +184,7 @@ rows_at-from_AreRows key most ms rows is few =
 
 -- ---- byte orders
 
--- a text that is compared with both orders' texts is that of the order that is answered
+-- a text that is compared with both orders' texts is that of the resulting order
 order_text-from_tests : (b c : Bool) (text : List ℕ) (order : Order) → bytes_eq text (codes "little") ≡ b
     → bytes_eq text (codes "big") ≡ c
     → cond b (Ok Little) (cond c (Ok Big) (Err BadKind)) ≡ Ok order → text ≡ order_text order

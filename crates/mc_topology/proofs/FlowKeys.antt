@@ -1,4 +1,4 @@
--- Flows that are kept by source and group.
+-- Flows that a map keeps by source and group.
 use Rattle.std.proofs.Common.{◌≡◌, ℕ, Bool, false, ◌&&◌, List, [], ◌∷◌, ◌++◌, map}
 use Rattle.std.proofs.Common.{is_some, refl, sym, ap, ◌∙◌}
 use Rattle.std.specs.Prelude.{◌==◌}
@@ -12,7 +12,7 @@ use Rattle.mc_topology.specs.Flows.{has_flow}
 use Rattle.mc_topology.specs.Topology.{flow_key}
 use Rattle.mc_topology.proofs.Keyed.{nat_eq-flip, list_any-map_row, is_some_lookup-any_row, None-from_is_some_false}
 
--- two sources and groups are the same
+-- two pairs of a source and a group are the same
 abbrev pub same_pair : ℕ × ℕ → ℕ × ℕ → Bool
 same_pair x y = (x.0 == y.0) && (x.1 == y.1)
 
@@ -32,7 +32,7 @@ is_some-lookup_flow es source group kept =
     ∙ sym (list_any-map_row flow_key (λ (f : Flow). (f.source == source) && (f.group == group)) test
     (same_pair-flow_key source group) (values_of es))
 
--- a flow with a new key goes last
+-- a flow with a new key is added last
 insert_entry-new_flow : {S : Type 0} (m : IndexMap (ℕ × ℕ) Flow S) (f : Flow)
     → keys_of m.entries ≡ map flow_key (values_of m.entries)
     → has_flow f.source f.group (values_of m.entries) ≡ false
@@ -42,7 +42,7 @@ insert_entry-new_flow m f kept new =
     (None-from_is_some_false (lookup (same_pair (flow_key f)) m.entries)
     (is_some-lookup_flow m.entries f.source f.group kept ∙ new))
 
--- so the flows are the old ones and it
+-- so the flows are the old ones and this one
 pub values_of-insert_new_flow : {S : Type 0} (m : IndexMap (ℕ × ℕ) Flow S) (f : Flow)
     → keys_of m.entries ≡ map flow_key (values_of m.entries)
     → has_flow f.source f.group (values_of m.entries) ≡ false

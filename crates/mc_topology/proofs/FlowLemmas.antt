@@ -32,15 +32,15 @@ ttl_of-high (pos n) high =
     grind (arith, nat_tests, h)
 ttl_of-high (negsuc n) high = refl
 
--- ---- what a test of the order tells
+-- ---- tests of a number's range
 
--- an order that is less or equal says that no number is greater
+-- if the test that x is less or equal passes, it is
 le-from_is_le : (x y : ℤ) (r : Ordering) → r ≡ int_cmp x y → is_le r ≡ true → x ≤ℤ y
 le-from_is_le x y Less e is = let below : x <ℤ y = int_ranked x y Less e in omega (arith, ints)
 le-from_is_le x y Equal e is = let same : x ≡ y = int_ranked x y Equal e in omega (arith, ints)
 le-from_is_le x y Greater e is = absurd cc
 
--- and one that is neither says that the second is less
+-- and if it fails, y is less
 lt-from_not_is_le : (x y : ℤ) (r : Ordering) → r ≡ int_cmp x y → is_le r ≡ false → y <ℤ x
 lt-from_not_is_le x y Less e is = absurd cc
 lt-from_not_is_le x y Equal e is = absurd cc

@@ -1,4 +1,4 @@
--- A row with a new name or address goes last, section by section.
+-- A row with a new name or address is added last, section by section.
 use Rattle.std.proofs.Common.{◌≡◌, ℕ, false, List, [], ◌∷◌, ◌++◌, map}
 use Rattle.std.specs.Prelude.{◌==◌, nat_eq, String, string_bytes}
 use Rattle.std.specs.Str.{bytes_eq}
@@ -31,7 +31,7 @@ nat_eq-source_row address e = nat_eq-flip address e.0
 
 -- ---- rows that are added
 
--- a LAN with a new name goes last,
+-- a LAN with a new name is added last,
 pub lan_names-insert_new : {A : Type 0} (ks : List (String A)) (k : String A) (old : List (List ℕ))
     (name : List ℕ)
     → map string_bytes ks ≡ old → string_bytes k ≡ name → has_lan name old ≡ false

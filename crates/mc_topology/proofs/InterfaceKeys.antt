@@ -20,7 +20,7 @@ pub is_interface_of-interface_row : (k : InterfaceKey) (e : InterfaceKey × ℕ)
 is_interface_of-interface_row k e =
     rw (nat_eq-flip k.router e.0.router, bytes_eq-flip k.device.items e.0.device.items) refl
 
--- an interface with a new router and device goes last
+-- an interface with a new router and device is added last
 pub interface_rows-insert_new : {S : Type 0} (m : IndexMap InterfaceKey ℕ S) (k : InterfaceKey) (lan : ℕ)
     (old : List InterfaceRow) → map interface_row m.entries ≡ old
     → has_interface k.router k.device.items old ≡ false
@@ -33,7 +33,7 @@ interface_rows-insert_new m k lan old kept new =
     (is_interface_of-interface_row k) unknown in
     rw (← kept) pushed
 
--- a device whose name is longer than those that are kept has no interface
+-- a device whose name is longer than any interface's has no interface
 pub lan_of_interface-long_device : (rows : List InterfaceRow) (router : ℕ) (device : List ℕ) (o : Option ℕ)
     → HaveShortDevices rows → 15 < length device → lan_of_interface router device rows ≡ o
     → lan_of_interface router device rows ≡ None

@@ -1,4 +1,4 @@
--- The LAN on which the interface of a router and a device lies.
+-- The LAN of the interface with a router and a device.
 use Rattle.std.proofs.Common.{◌≡◌, ℕ, zero, suc, ◌<◌, ◌≤◌, Bool, true, false, cond}
 use Rattle.std.proofs.Common.{List, [], ◌∷◌, length, Option, Some, None, refl, sym}
 use Rattle.std.proofs.Common.{ap, subst, ◌∙◌, arith}
@@ -13,7 +13,7 @@ use Rattle.mc_topology.proofs.Keys.{is_interface_of-Decides}
 abbrev pub interface_row_of : ℕ → List ℕ → ℕ → InterfaceRow
 interface_row_of router device lan = record { router = router; device = device; lan = lan }
 
--- the look-up's answer at the first interface, by whether it is the one
+-- the look-up's result at the first interface, by whether it is the one
 lan_of_interface-first : (router : ℕ) (device : List ℕ) (i : InterfaceRow) (more : List InterfaceRow) (b : Bool)
     → is_interface_of router device i ≡ b
     → lan_of_interface router device (i ∷ more)
@@ -21,7 +21,7 @@ lan_of_interface-first : (router : ℕ) (device : List ℕ) (i : InterfaceRow) (
 lan_of_interface-first router device i more true e = rw e refl
 lan_of_interface-first router device i more false e = rw e refl
 
--- the first of the interfaces is the one, or a later one is found
+-- the interface that is found is the first, or a later one
 IsIn-first_interface : (router : ℕ) (device : List ℕ) (i : InterfaceRow) (more : List InterfaceRow) (lan : ℕ)
     (b : Bool) → is_interface_of router device i ≡ b
     → (lan_of_interface router device more ≡ Some lan → IsIn more (interface_row_of router device lan))
@@ -46,7 +46,7 @@ IsIn-from_lan_of_interface (i ∷ more) router device lan e =
     IsIn-first_interface router device i more lan (is_interface_of router device i) refl
     (λ h. IsIn-from_lan_of_interface more router device lan h) e
 
--- the rest of the interfaces have keys of their own too
+-- the rest of the interfaces have distinct keys too
 AreDistinctBy-rest : (i : InterfaceRow) (more : List InterfaceRow)
     → AreDistinctBy interface_key (i ∷ more) → AreDistinctBy interface_key more
 AreDistinctBy-rest i more distinct m n x y at_m at_n k =
@@ -65,7 +65,7 @@ lan_of_interface-later interfaces i n x true at distinct e later =
 lan_of_interface-later interfaces i n x false at distinct e later =
     lan_of_interface-first x.router x.device i interfaces false at ∙ later
 
--- a row is found, where no two have one key
+-- a row is found, where no two have the same key
 pub lan_of_interface-listed_row : (interfaces : List InterfaceRow) (n : ℕ) (x : InterfaceRow)
     → AreDistinctBy interface_key interfaces → slice_get interfaces n ≡ Some x
     → lan_of_interface x.router x.device interfaces ≡ Some x.lan
@@ -86,7 +86,7 @@ lan_of_interface-below_length t router device (Some lan) is e =
     let row = IsIn-from_lan_of_interface t.interfaces router device lan e in
     (is.valid_interfaces row.0 (interface_row_of router device lan) row.1).lan
 
--- a router that the topology hasn't has no interface
+-- a router that the topology doesn't have has no interface
 pub lan_of_interface-no_router : (t : TopologyValue) (router : ℕ) (device : List ℕ) (o : Option ℕ)
     → IsValidTopology t → lan_of_interface router device t.interfaces ≡ o → length t.routers ≤ router
     → o ≡ None

@@ -1,5 +1,5 @@
--- Rows that are kept by their keys: a look-up by key finds what a search of the rows finds, and a
--- row with a new key goes last.
+-- Rows that a map keeps by their keys: a look-up by key finds what a search of the rows finds, and a
+-- row with a new key is added last.
 use Rattle.std.proofs.Common.{◌≡◌, ℕ, Bool, true, false, List, [], ◌∷◌, ◌++◌, map}
 use Rattle.std.proofs.Common.{Option, Some, None, option_map, is_some, refl, sym, ap, ◌∙◌}
 use Rattle.std.specs.Prelude.{◌==◌, find, position}
@@ -18,12 +18,12 @@ use Rattle.indexmap.proofs.CallerLemmas.{insert_entry-new}
 
 -- ---- tests
 
--- two tests of one fact are one
+-- two tests of equivalent facts have the same result
 test_eq-from_iff : {P Q : Type 0} (r s : Bool) → Decides r P → Decides s Q → (P → Q) → (Q → P) → r ≡ s
 test_eq-from_iff r s decides_p decides_q to from =
     same_from_decides r s decides_p (λ e. from (decides_q.0 e), λ p. decides_q.1 (to p))
 
--- a test of two texts or of two numbers is the same either way
+-- a test of two texts or of two numbers is symmetric
 pub bytes_eq-flip : (a b : List ℕ) → bytes_eq a b ≡ bytes_eq b a
 bytes_eq-flip a b =
     test_eq-from_iff (bytes_eq a b) (bytes_eq b a) (bytes_eq-Decides a b) (bytes_eq-Decides b a)
@@ -52,7 +52,7 @@ module _ {K R : Type 0} (row : K → R) (test : K → Bool) (same : R → Bool)
   pub position-map_row : (ks : List K) → position test ks ≡ position same (map row ks)
   position-map_row ks = rw (position_or_len-map_row ks, length-map ks row) refl
 
--- a new key goes last
+-- a new key is added last
 pub rows-insert_new_key : {K R : Type 0} (row : K → R) (eq : K → K → Bool) (same : R → Bool) (ks : List K)
     (k : K) → ((j : K) → eq k j ≡ same (row j))
     → list_any same (map row ks) ≡ false → map row (insert_key eq ks k) ≡ map row ks ++ row k ∷ []
@@ -60,7 +60,7 @@ rows-insert_new_key row eq same ks k agree new =
     let none = list_any-map_row row (eq k) same agree ks ∙ new in
     rw none (map-append row ks (k ∷ []))
 
--- ---- keys with what is kept of each
+-- ---- keys with their values
 
 module _ {K V R : Type 0} (row : K × V → R) (test : K → Bool) (same : R → Bool)
     (agree : (e : K × V) → test e.0 ≡ same (row e)) where
@@ -100,12 +100,12 @@ module _ {K V R : Type 0} (row : K × V → R) (test : K → Bool) (same : R →
   pub position-keys_of : (es : List (K × V)) → position test (keys_of es) ≡ position same (map row es)
   position-keys_of es = rw (position_or_len-keys_of es, length-keys_of es, length-map es row) refl
 
--- an option that has nothing is none
+-- an option without a value is none
 pub None-from_is_some_false : {V : Type 0} (o : Option V) → is_some o ≡ false → o ≡ None
 None-from_is_some_false None e = refl
 None-from_is_some_false (Some v) e = absurd cc
 
--- an entry with a new key goes last
+-- an entry with a new key is added last
 pub rows-insert_new_entry : {K V R S : Type 0} (row : K × V → R) (eq : K → K → Bool) (same : R → Bool)
     (m : IndexMap K V S) (k : K) (v : V) → ((e : K × V) → eq k e.0 ≡ same (row e))
     → list_any same (map row m.entries) ≡ false

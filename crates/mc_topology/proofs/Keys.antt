@@ -1,4 +1,4 @@
--- The tests by which the rows of a section are told apart.
+-- The tests of whether two rows of a section have the same key.
 use Rattle.std.proofs.Common.{◌≡◌, ℕ, ◌&&◌, Bool, List, refl, ap}
 use Rattle.std.specs.Prelude.{◌==◌}
 use Rattle.std.specs.Bool.{Decides}
@@ -11,15 +11,15 @@ use Rattle.mc_topology.specs.SectionRows.{RouterRow, InterfaceRow, SourceRow}
 use Rattle.mc_topology.specs.Lookup.{is_interface_of}
 use Rattle.mc_topology.specs.Topology.{lan_key, router_key, interface_key, source_key, flow_key}
 
--- two LANs have one name
+-- two LANs have the same name
 abbrev pub same_lan : List ℕ → List ℕ → Bool
 same_lan y x = bytes_eq y x
 
--- exactly if they have one key, and so for the rows of the other sections
+-- exactly if they have the same key, and so for the rows of the other sections
 pub same_lan-Decides : (y x : List ℕ) → Decides (same_lan y x) (lan_key y ≡ lan_key x)
 same_lan-Decides y x = bytes_eq-Decides y x
 
--- two routers have one name
+-- two routers have the same name
 abbrev pub same_router : RouterRow → RouterRow → Bool
 same_router y x = bytes_eq y.name x.name
 
@@ -27,11 +27,11 @@ pub same_router-Decides : (y x : RouterRow)
     → Decides (same_router y x) (router_key y ≡ router_key x)
 same_router-Decides y x = bytes_eq-Decides y.name x.name
 
--- two interfaces have one router and one device
+-- two interfaces have the same router and device
 abbrev pub same_interface : InterfaceRow → InterfaceRow → Bool
 same_interface y x = is_interface_of x.router x.device y
 
--- an interface is that of a router and a device exactly if it has their key
+-- an interface has this router and this device exactly if it has their key
 pub is_interface_of-Decides : (router : ℕ) (device : List ℕ) (i : InterfaceRow)
     → Decides (is_interface_of router device i) (interface_key i ≡ (router, device))
 is_interface_of-Decides router device i = (
@@ -50,7 +50,7 @@ pub same_interface-Decides : (y x : InterfaceRow)
     → Decides (same_interface y x) (interface_key y ≡ interface_key x)
 same_interface-Decides y x = is_interface_of-Decides x.router x.device y
 
--- two sources have one address
+-- two sources have the same address
 abbrev pub same_source : SourceRow → SourceRow → Bool
 same_source y x = y.address == x.address
 
@@ -58,7 +58,7 @@ pub same_source-Decides : (y x : SourceRow)
     → Decides (same_source y x) (source_key y ≡ source_key x)
 same_source-Decides y x = unsigned_Decides y.address x.address
 
--- two flows have one source and one group
+-- two flows have the same source and group
 abbrev pub same_flow : Flow → Flow → Bool
 same_flow y x = (y.source == x.source) && (y.group == x.group)
 

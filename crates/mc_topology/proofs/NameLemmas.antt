@@ -1,4 +1,4 @@
--- Names and numbers undo each other.
+-- Look-ups by name and by number are inverse.
 use Rattle.std.proofs.Common.{◌≡◌, ℕ, ◌<◌, ◌≤◌, nat_le, not, codes, Bool, true, false, List, []}
 use Rattle.std.proofs.Common.{◌∷◌, length, get_or, Option, Some, None, option_map, refl, ap, subst}
 use Rattle.std.proofs.Common.{◌∙◌, arith}
@@ -17,7 +17,7 @@ use Rattle.mc_topology.specs.Lookup.{router_no_of}
 use Rattle.mc_topology.specs.Topology.{AreDistinctBy, lan_key, router_key}
 
 module _ {X : Type 0} where
-  -- the place of an item that no earlier one is taken for
+  -- the place of an item that passes a test which no earlier one passes
   position-first_match : (p : X → Bool) (xs : List X) (k : ℕ) (x : X) → slice_get xs k ≡ Some x → p x ≡ true
       → ((j : ℕ) → j < k → p (get_or xs j x) ≡ false) → position p xs ≡ Some k
   position-first_match p xs k x e passes before =
@@ -27,7 +27,7 @@ module _ {X : Type 0} where
       (λ _. ap p (get_or_from_slice_get xs k x x e) ∙ passes) in
       rw (is, lt-ltb k (length xs) within) refl
 
-  -- the place of an item by its name, where no two have one
+  -- the place of an item by its name, where no two have the same
   position-distinct_name : (name_of : X → List ℕ) (xs : List X) (k : ℕ) (x : X) → AreDistinctBy name_of xs
       → slice_get xs k ≡ Some x → position (λ y. bytes_eq (name_of y) (name_of x)) xs ≡ Some k
   position-distinct_name name_of xs k x distinct e =
@@ -43,7 +43,7 @@ module _ {X : Type 0} where
 
 -- ---- LANs
 
--- the number of a LAN's name is the LAN's, where no two LANs have one name
+-- the number of a LAN's name is the LAN's, where no two LANs have the same name
 pub index_of-lan_name : (lans : List (List ℕ)) (lan : ℕ) (name : List ℕ) → AreDistinctBy lan_key lans
     → slice_get lans lan ≡ Some name → index_of name lans ≡ Some lan
 index_of-lan_name lans lan name distinct e = position-distinct_name lan_key lans lan name distinct e
@@ -70,14 +70,14 @@ router_no_of-below_length [] router name e = absurd cc
 router_no_of-below_length (r ∷ routers) router name e =
     (position-Some (λ y. bytes_eq y.name name) (r ∷ routers) router r e).0
 
--- a router whose name is told
+-- a router, by its name
 router-from_its_name : (o : Option RouterRow) (name : List ℕ)
     → option_map (λ (r : RouterRow). r.name) o ≡ Some name → (r : RouterRow) × (o ≡ Some r)
     × (r.name ≡ name)
 router-from_its_name None name e = absurd cc
 router-from_its_name (Some r) name e = (r, refl, cc)
 
--- the number of a router's name is the router's, where no two have one name
+-- the number of a router's name is the router's, where no two have the same name
 pub router_no_of-router_name : (routers : List RouterRow) (router : ℕ) (name : List ℕ)
     → AreDistinctBy router_key routers
     → option_map (λ (r : RouterRow). r.name) (slice_get routers router) ≡ Some name

@@ -1,4 +1,4 @@
--- What `read` promises, from what it gives.
+-- The clauses of `read`, from the result that it computes.
 use Rattle.std.proofs.Common.{◌≡◌, ◌≢◌, ℕ, ◌≤◌, Bool, true, false, List, length, None, Result, Ok}
 use Rattle.std.proofs.Common.{Err, le-leb, refl, sym, ◌∙◌}
 use Rattle.std.specs.Prelude.{IfOk, IsUtf8}
@@ -24,26 +24,26 @@ use Rattle.mc_topology.specs.Topology.{TopologyValue}
 use Rattle.mc_topology.proofs.Steps.{ok_injective}
 use Rattle.mc_topology.proofs.TopologyTexts.{parse_unbounded_topology-from_denotes, parse_topology-denotes, parse_topology-from_denotes}
 
--- what was read stands there
+-- a text that is read denotes what is read
 denotes-from_parse_topology : (text : List ℕ) (r : Result TopologyValue TopologyFault) → r ≡ parse_topology text
     → IfOk r (DenotesTopology text)
 denotes-from_parse_topology text (Ok t) gives = (parse_topology-denotes text t (sym gives)).denotes
 denotes-from_parse_topology text (Err fault) gives = tt
 
--- the same of an answer that lack of memory may stand in place of
+-- the same of a result that `Memory` may replace
 pub denotes-unless_out_of_memory : (text : List ℕ) (r : Result TopologyValue TopologyFault)
     → (r ≢ Err out_of_memory → r ≡ parse_topology text) → IfOk r (DenotesTopology text)
 denotes-unless_out_of_memory text (Ok t) gives = denotes-from_parse_topology text (Ok t) (gives (λ e. absurd cc))
 denotes-unless_out_of_memory text (Err fault) gives = tt
 
--- a text within the bounds that stands for a topology is read as that, unless memory runs out
+-- a text within the bounds that denotes a topology is read as that, unless memory runs out
 pub Ok-unless_out_of_memory : (text : List ℕ) (r : Result TopologyValue TopologyFault)
     → (r ≢ Err out_of_memory → r ≡ parse_topology text) → (t : TopologyValue) → DenotesTopology text t
     → is_bounded text ≡ true → r ≢ Err out_of_memory → r ≡ Ok t
 Ok-unless_out_of_memory text r gives t is bounded other =
     gives other ∙ parse_topology-from_denotes text t (record { denotes = is; bounded = bounded })
 
--- a text stands for one topology at most
+-- a text denotes one topology at most
 pub DenotesTopology-unique : (text : List ℕ) (t u : TopologyValue) → DenotesTopology text t
     → DenotesTopology text u → t ≡ u
 DenotesTopology-unique text t u is_t is_u =
@@ -51,7 +51,7 @@ DenotesTopology-unique text t u is_t is_u =
 
 -- ---- refusals
 
--- by what the test for UTF-8 answers
+-- by the result of the test for UTF-8
 document_of-NotToml_by_cases : (text : List ℕ) (b : Bool) → is_utf8 text ≡ b → length text ≤ 16777216
     → is_bounded text ≡ true
     → (IsUtf8 text → parse_document text ≡ None) → document_of text ≡ Err NotToml
@@ -146,7 +146,7 @@ pub topology_in-Ok : (ms : Members) (lans : List (List ℕ)) (routers : List Rou
 topology_in-Ok ms lans routers interfaces sources flows version at_lans at_routers found =
     topology_in-split ms lans routers version at_lans at_routers ∙ rw found refl
 
--- or its first fault lies there
+-- or their first fault
 pub topology_in-Err : (ms : Members) (lans : List (List ℕ)) (routers : List RouterRow)
     (fault : TopologyFault)
     → check_version ms ≡ Ok tt → lans_in ms ≡ Ok lans → routers_in ms ≡ Ok routers

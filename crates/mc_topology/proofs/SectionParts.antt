@@ -1,5 +1,4 @@
--- A part of a section that is read stands for its value, and a part that stands for a value is
--- read as that.
+-- A row of a section that is read denotes its value, and a row that denotes a value is read as that.
 use Rattle.std.proofs.Common.{◌≡◌, ℕ, ℤ, pos, negsuc, ◌+◌, ◌≤◌, Bool, true, false, not}
 use Rattle.std.proofs.Common.{List, [], ◌∷◌, ◌++◌, length, codes, Option, Some, None, Result, Ok}
 use Rattle.std.proofs.Common.{nat_le, ◌&&◌, le-leb, refl, sym, ap, subst, ◌∙◌, arith, append_assoc}
@@ -100,9 +99,9 @@ ttl_of-in_range : (n : ℕ) → 1 ≤ n → n ≤ 255 → ttl_of (pos n) ≡ Ok 
 unfolding ttl_of
 ttl_of-in_range n low high = rw (le-leb 1 n low, le-leb n 255 high) refl
 
--- ---- the parts of the sections
+-- ---- the rows of the sections
 
--- a value that is read as a LAN is one, and no earlier LAN has its name
+-- a value that is read as a LAN denotes it, and no earlier LAN has its name
 pub lan_name_of-denotes : (earlier : List (List ℕ)) (d : Data) (name : List ℕ) → lan_name_of earlier d ≡ Ok name
     → DenotesLan d name × (has_lan name earlier ≡ false)
 unfolding lan_name_of
@@ -125,7 +124,7 @@ pub lan_name_of-from_denotes : (earlier : List (List ℕ)) (d : Data) (name : Li
 unfolding lan_name_of
 lan_name_of-from_denotes earlier d name is new = rw (is.text, is.fits, new) refl
 
--- a value that is read as a router is one, and no earlier router has its name
+-- a value that is read as a router denotes it, and no earlier router has its name
 pub router_of-denotes : (earlier : List RouterRow) (d : Data) (r : RouterRow)
     → router_of earlier d ≡ Ok r → DenotesRouter d r × (has_router r.name earlier ≡ false)
 unfolding router_of
@@ -165,7 +164,7 @@ router_of-from_denotes earlier d r is new =
       new,
     ) refl
 
--- a value that is read as an interface is one, and no earlier one has its router and device
+-- a value that is read as an interface denotes it, and no earlier one has its router and device
 pub interface_of-denotes : (lans : List (List ℕ)) (routers : List RouterRow)
     (earlier : List InterfaceRow) (d : Data) (i : InterfaceRow)
     → interface_of lans routers earlier d ≡ Ok i → DenotesInterface lans routers d i
@@ -219,7 +218,7 @@ interface_of-from_denotes lans routers earlier d i is new =
     )
     refl
 
--- a value that is read as a source is one, and no earlier source has its address
+-- a value that is read as a source denotes it, and no earlier source has its address
 pub source_of-denotes : (lans : List (List ℕ)) (earlier : List SourceRow) (d : Data) (s : SourceRow)
     → source_of lans earlier d ≡ Ok s → DenotesSource lans d s
     × (has_source s.address earlier ≡ false)
@@ -265,7 +264,7 @@ source_of-from_denotes lans earlier d s is new =
     )
     refl
 
--- a value that is read as a flow is one, and no earlier flow has its source and group
+-- a value that is read as a flow denotes it, and no earlier flow has its source and group
 pub flow_of-denotes : (sources : List SourceRow) (earlier : List Flow) (d : Data) (f : Flow)
     → flow_of sources earlier d ≡ Ok f → DenotesFlow sources d f
     × (has_flow f.source f.group earlier ≡ false)
@@ -322,12 +321,12 @@ flow_of-from_denotes sources earlier d f is new =
     )
     refl
 
--- ---- all parts of a section
+-- ---- all rows of a section
 
 module _ {X K : Type 0} (section : Section) (one : List X → Data → Result X TopologyFaultKind)
     (Denotation : Data → X → Type 0) (key : X → K) (test : X → X → Bool)
     (same : (y x : X) → Decides (test y x) (key y ≡ key x)) where
-  -- what is read of the rows stands in them, and stays of different keys
+  -- rows that are read denote what is read, and the keys stay distinct
   pub each_row-denotes : ((earlier : List X) (d : Data) (x : X) → one earlier d ≡ Ok x → Denotation d x
       × (list_any (λ y. test y x) earlier ≡ false))
       → (earlier : List X) (ds : List Data) (ys : List X) → AreDistinctBy key earlier
@@ -352,7 +351,7 @@ module _ {X K : Type 0} (section : Section) (one : List X → Data → Result X 
       (AreDistinctBy-push key test same earlier a.0 distinct taken.1) a.2 in
       (a.0 ∷ xs, is ∙ append_assoc earlier (a.0 ∷ []) xs, (taken.0, denoted), apart)
 
-  -- what stands in the rows, of different keys, is read
+  -- and what the rows denote, with distinct keys, is read
   pub each_row-from_denotes : ((earlier : List X) (d : Data) (x : X) → Denotation d x
       → list_any (λ y. test y x) earlier ≡ false → one earlier d ≡ Ok x)
       → (earlier : List X) (ds : List Data) (xs : List X) → EachDenotes Denotation ds xs

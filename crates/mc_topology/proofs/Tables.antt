@@ -1,4 +1,4 @@
--- What stands in a table and in a list that TOML's reader gave.
+-- The values in a table and in a list of TOML's reader.
 use Rattle.std.proofs.Common.{◌≡◌, ℕ, List, [], ◌∷◌, map, refl, ap, String, Global, string_bytes}
 use Rattle.std.proofs.Common.{Bool, ◌&&◌, ◌||◌, Bor}
 use Rattle.std.specs.List.{list_all, list_any}
@@ -13,7 +13,7 @@ pub rows_in-view : (values : List Value) → rows_in (items_view values) ≡ map
 rows_in-view [] = refl
 rows_in-view (v ∷ values) = ap (λ (ds : List _). view v ∷ ds) (rows_in-view values)
 
--- a test of each text that references lead to
+-- a test of texts behind references is that of the texts
 pub list_any-now : (p : List ℕ → Bool) (texts : List (Bor (List ℕ)))
     → list_any (λ k. p k.now) texts ≡ list_any p (map (λ k. k.now) texts)
 list_any-now p [] = refl
@@ -23,7 +23,7 @@ list_any-now p (t ∷ texts) = ap (λ (b : Bool). p t.now || b) (list_any-now p 
 abbrev is_known_key : List (List ℕ) → List ℕ → Bool
 is_known_key known key = list_any (λ k. bytes_eq k key) known
 
--- a test of each key of a table, with the known keys behind references
+-- the test of a table's keys, with the known keys behind references
 pub has_only-now : (known : List (Bor (List ℕ))) (es : List (String Global × Value))
     → list_all (λ key. list_any (λ k. bytes_eq k.now (string_bytes key)) known) (keys_of es)
     ≡ has_only (map (λ k. k.now) known) (members_view es)

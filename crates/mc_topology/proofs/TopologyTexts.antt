@@ -1,5 +1,4 @@
--- A text that is read stands for what is read, and a text that stands for a topology is read as
--- that.
+-- A text that is read denotes what is read, and a text that denotes a topology is read as that.
 use Rattle.std.proofs.Common.{◌≡◌, ◌&&◌, ℕ, pos, ◌<◌, ◌≤◌, Bool, true, false, cond, eqb, List, [], ◌∷◌}
 use Rattle.std.proofs.Common.{length, codes, Result, Ok, Err, nat_le, le-leb, refl, sym, ap, subst}
 use Rattle.std.proofs.Common.{◌∙◌, arith}
@@ -55,7 +54,7 @@ use Rattle.mc_topology.proofs.Steps.{bind_ok, refusal_ok, test_ok, ok_or_ok, ok_
 module _ {X K : Type 0} (name : Section) (word : List ℕ) (most : ℕ)
     (one : List X → Data → Result X TopologyFaultKind) (Denotation : Data → X → Type 0) (key : X → K)
     (test : X → X → Bool) (same : (y x : X) → Decides (test y x) (key y ≡ key x)) where
-  -- where a section is read, its rows stand for what is read
+  -- a section that is read denotes what is read
   section-denotes : ((earlier : List X) (d : Data) (x : X) → one earlier d ≡ Ok x → Denotation d x
       × (list_any (λ y. test y x) earlier ≡ false)) → (ms : Members) (xs : List X)
       → (locate_fault name 0 (rows_at word most ms) >>= each_row name one []) ≡ Ok xs
@@ -73,7 +72,7 @@ module _ {X K : Type 0} (name : Section) (word : List ℕ) (most : ℕ)
         distinct = distinct;
       }
 
-  -- and what the rows of a section stand for is read
+  -- and what a section denotes is read
   section-from_denotes : ((earlier : List X) (d : Data) (x : X) → Denotation d x
       → list_any (λ y. test y x) earlier ≡ false → one earlier d ≡ Ok x)
       → (ms : Members) (xs : List X) → DenotesSection word most Denotation key ms xs
@@ -82,7 +81,7 @@ module _ {X K : Type 0} (name : Section) (word : List ℕ) (most : ℕ)
       rw (rows_at-from_AreRows word most ms s.rows s.list s.few)
       (each_row-from_denotes name one Denotation key test same again [] s.rows xs s.each_row s.distinct)
 
--- the routers, in the one direction and the other,
+-- the routers, in both directions,
 routers_in-denotes : (ms : Members) (rs : List RouterRow) → routers_in ms ≡ Ok rs
     → DenotesSection (codes "router") 256 DenotesRouter router_key ms rs
 unfolding routers_in
@@ -138,7 +137,7 @@ sources_in-from_denotes lans ms ss s =
 
 -- ---- LANs
 
--- where the LANs are read, their list stands for what is read
+-- a list of LANs that is read denotes what is read
 lans_in-denotes : (ms : Members) (lans : List (List ℕ)) → lans_in ms ≡ Ok lans → DenotesLans ms lans
 unfolding lans_in lan_rows
 lans_in-denotes ms lans e =
@@ -162,7 +161,7 @@ lans_in-denotes ms lans e =
       distinct = distinct;
     }
 
--- and what their list stands for is read
+-- and what the list denotes is read
 lans_in-from_denotes : (ms : Members) (lans : List (List ℕ)) → DenotesLans ms lans → lans_in ms ≡ Ok lans
 unfolding lans_in lan_rows
 lans_in-from_denotes ms lans s =
@@ -183,7 +182,7 @@ length-EachDenotes Denotation [] (x ∷ xs) s = absurd s
 length-EachDenotes Denotation (d ∷ ds) [] s = absurd s
 length-EachDenotes Denotation (d ∷ ds) (x ∷ xs) s = omega (arith, length-EachDenotes Denotation ds xs s.1)
 
--- where the flows are read, their list stands for what is read, one flow at least
+-- a list of flows that is read denotes what is read, at least one flow
 flows_in-denotes : (sources : List SourceRow) (ms : Members) (fs : List Flow)
     → flows_in sources ms ≡ Ok fs
     → DenotesSection (codes "flow") 4096 (DenotesFlow sources) flow_key ms fs × (0 < length fs)
@@ -215,7 +214,7 @@ flows_in-denotes sources ms fs e =
       omega (arith, long, ap length same, length-EachDenotes (DenotesFlow sources) a.0 fs denoted'),
     )
 
--- and what their list stands for is read, if it is one flow at least
+-- and what the list denotes is read, if it is at least one flow
 flows_in-from_denotes : (sources : List SourceRow) (ms : Members) (fs : List Flow)
     → DenotesSection (codes "flow") 4096 (DenotesFlow sources) flow_key ms fs → 0 < length fs
     → flows_in sources ms ≡ Ok fs
@@ -250,7 +249,7 @@ check_version-from_HasNumber : (ms : Members) → has_only top_keys ms ≡ true 
 unfolding check_version
 check_version-from_HasNumber ms keys one = rw (keys, number_at-from_HasNumber (codes "version") ms (pos 1) one) refl
 
--- where a table is read, the document stands for what is read
+-- a table that is read denotes what is read
 pub topology_in-denotes : (ms : Members) (t : TopologyValue) → topology_in ms ≡ Ok t
     → DenotesDocument ms t
 unfolding topology_in
@@ -282,7 +281,7 @@ topology_in-denotes ms t e =
       some_flow = flow.1;
     })
 
--- and what the document stands for is read
+-- and what a table denotes is read
 topology_in-from_denotes : (ms : Members) (t : TopologyValue) → DenotesDocument ms t → topology_in ms ≡ Ok t
 unfolding topology_in
 topology_in-from_denotes ms t is =
@@ -299,7 +298,7 @@ topology_in-from_denotes ms t is =
 
 -- ---- the text
 
--- a text that means a topology stands for it
+-- a text that is read without the bounds denotes what is read
 pub parse_unbounded_topology-denotes : (text : List ℕ) (t : TopologyValue) → parse_unbounded_topology text ≡ Ok t
     → DenotesTopology text t
 unfolding parse_unbounded_topology table_of parse_toml require_utf8
@@ -318,7 +317,7 @@ parse_unbounded_topology-denotes text t e =
       denotes = topology_in-denotes a.0 t a.2;
     }
 
--- a text that stands for a topology means it
+-- and what a text denotes is read without the bounds
 pub parse_unbounded_topology-from_denotes : (text : List ℕ) (t : TopologyValue) → DenotesTopology text t
     → parse_unbounded_topology text ≡ Ok t
 unfolding parse_unbounded_topology table_of parse_toml require_utf8
@@ -334,7 +333,7 @@ and_true : (b : Bool) → (b && true) ≡ b
 and_true true = refl
 and_true false = refl
 
--- a text within the bounds is read as what it means
+-- a text within the bounds is read as without them
 parse_topology-bounded : (text : List ℕ) → is_bounded text ≡ true → parse_topology text ≡ parse_unbounded_topology text
 unfolding parse_topology document_of parse_unbounded_topology table_of
 parse_topology-bounded text bounded = rw (bounded, and_true (nat_le (length text) 16777216)) refl
@@ -359,12 +358,12 @@ parse_topology-denotes_by_cases true text t is e = record {
 }
 parse_topology-denotes_by_cases false text t is e = absurd (parse_topology-unbounded text t is e)
 
--- a text that is read is within the bounds, and stands for what is read
+-- a text that is read is within the bounds, and denotes what is read
 pub parse_topology-denotes : (text : List ℕ) (t : TopologyValue) → parse_topology text ≡ Ok t
     → DenotesBoundedTopology text t
 parse_topology-denotes text t e = parse_topology-denotes_by_cases (is_bounded text) text t refl e
 
--- a text within the bounds that stands for a topology is read as that
+-- a text within the bounds that denotes a topology is read as that
 pub parse_topology-from_denotes : (text : List ℕ) (t : TopologyValue) → DenotesBoundedTopology text t
     → parse_topology text ≡ Ok t
 parse_topology-from_denotes text t is = parse_topology-bounded text is.bounded ∙ parse_unbounded_topology-from_denotes text t is.denotes

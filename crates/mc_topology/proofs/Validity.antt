@@ -1,4 +1,4 @@
--- What a text stands for keeps the rules of a topology.
+-- What a text denotes is a valid topology.
 use Rattle.std.proofs.Common.{◌≡◌, ℕ, zero, suc, ◌<◌, IsTrue, Bool, true, false, cond, List, []}
 use Rattle.std.proofs.Common.{◌∷◌, length, Some, Ok, subst, arith, option_map}
 use Rattle.std.specs.Prelude.{◌==◌, slice_get, find}
@@ -18,7 +18,7 @@ use Rattle.mc_topology.proofs.TopologyTexts.{length-EachDenotes, topology_in-den
 
 -- ---- sources and flows
 
--- the LAN of the first source with the address, where each source has a LAN below the most
+-- the LAN of the first source with the address is below a bound, where each source's LAN is
 lan_of_source-first_below : (s : SourceRow) (ss : List SourceRow) (address lan most : ℕ) (b : Bool)
     → s.lan < most → (lan_of_source address ss ≡ Some lan → lan < most)
     → option_map (λ (x : SourceRow). x.lan) (cond b (Some s) (find (λ x. x.address == address) ss))
@@ -38,7 +38,7 @@ lan_of_source-below_length lans (d ∷ ds) (x ∷ ss) address lan s e =
     lan_of_source-first_below x ss address lan (length lans) (x.address == address)
     (index_of-below_length lans x.lan s.0.lan_name s.0.lan) (λ h. lan_of_source-below_length lans ds ss address lan s.1 h) e
 
--- the row of a value
+-- the row that denotes the value at a place
 denoting_row : {X : Type 0} (Denotation : Data → X → Type 0) (ds : List Data) (xs : List X) (n : ℕ) (x : X)
     → EachDenotes Denotation ds xs → slice_get xs n ≡ Some x → (d : Data) × Denotation d x
 denoting_row Denotation [] [] n x s e = absurd cc
@@ -49,7 +49,7 @@ denoting_row Denotation (d ∷ ds) (y ∷ xs) zero x s e =
     (d, subst (Denotation d) same s.0)
 denoting_row Denotation (d ∷ ds) (y ∷ xs) (suc n) x s e = denoting_row Denotation ds xs n x s.1 e
 
--- each row with what the value that it stands for keeps
+-- what holds of each value that a row denotes holds of all of them
 EachDenotes-implies : {X : Type 0} (Denotation : Data → X → Type 0) (Keeps : X → Type 0)
     → ((d : Data) (x : X) → Denotation d x → Keeps x)
     → (ds : List Data) (xs : List X) (n : ℕ) (x : X) → EachDenotes Denotation ds xs
@@ -58,7 +58,7 @@ EachDenotes-implies Denotation Keeps keeps ds xs n x s e =
     let row = denoting_row Denotation ds xs n x s e in
     keeps row.0 x row.1
 
--- an interface that a row stands for is one among those of the topology
+-- an interface that a row denotes is valid in the topology
 IsValidInterface-from_denotes : (t : TopologyValue) (d : Data) (i : InterfaceRow)
     → DenotesInterface t.lans t.routers d i → IsValidInterface t i
 IsValidInterface-from_denotes t d i is =
@@ -68,7 +68,7 @@ IsValidInterface-from_denotes t d i is =
       lan = index_of-below_length t.lans i.lan is.lan_name is.lan;
     }
 
--- a source that a row stands for is one on the LANs
+-- a source that a row denotes is valid on the LANs
 IsValidSource-from_denotes : (lans : List (List ℕ)) (d : Data) (s : SourceRow) → DenotesSource lans d s
     → IsValidSource lans s
 IsValidSource-from_denotes lans d s is =
@@ -78,7 +78,7 @@ IsValidSource-from_denotes lans d s is =
       lan = index_of-below_length lans s.lan is.lan_name is.lan;
     }
 
--- a flow that a row stands for is one on the LANs, as its source is
+-- a flow that a row denotes is valid on the LANs, as its source is
 IsValidFlow-from_denotes : (lans : List (List ℕ)) (sources : List SourceRow) (f : Flow) (d : Data)
     → DenotesFlow sources d f → ((address lan : ℕ) → lan_of_source address sources ≡ Some lan
     → lan < length lans) → IsValidFlow lans f
@@ -94,7 +94,7 @@ IsValidFlow-from_denotes lans sources f d is within =
 
 -- ---- the whole
 
--- what a document stands for is a topology
+-- what a table denotes is a valid topology,
 IsValidTopology-from_document : (ms : Members) (t : TopologyValue) → DenotesDocument ms t → IsValidTopology t
 IsValidTopology-from_document ms t is =
     record {
@@ -125,10 +125,10 @@ IsValidTopology-from_document ms t is =
           at);
     }
 
--- a text that stands for a topology
+-- and so is what a text denotes,
 pub IsValidTopology-from_denotes : (text : List ℕ) (t : TopologyValue) → DenotesTopology text t → IsValidTopology t
 IsValidTopology-from_denotes text t is = IsValidTopology-from_document is.document t is.denotes
 
--- a table that is read gives a topology
+-- and what is read of a table
 pub IsValidTopology-from_topology_in : (ms : Members) (t : TopologyValue) → topology_in ms ≡ Ok t → IsValidTopology t
 IsValidTopology-from_topology_in ms t e = IsValidTopology-from_document ms t (topology_in-denotes ms t e)

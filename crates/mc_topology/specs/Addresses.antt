@@ -5,7 +5,7 @@ use Rattle.mc_text.specs.AddressReading.{address_of_text}
 use Rattle.mc_topology.specs.declared.fault.TopologyFaultKind.{TopologyFaultKind}
 use Rattle.mc_topology.specs.declared.fault.TopologyFaultKind.TheVariants.{BadAddress}
 
--- an address that passes
+-- an address that passes a test, else BadAddress
 abbrev pub checked_address : (ℕ → Bool) → Option ℕ → Result ℕ TopologyFaultKind
 checked_address p None = Err BadAddress
 checked_address p (Some a) = if p a then Ok a else Err BadAddress

@@ -1,4 +1,4 @@
--- Steps that may be refused, and how a call answers them.
+-- The results of steps that may fail, and how a call's result agrees with them.
 use Rattle.std.specs.Prelude.{◌≡◌, ℕ, ◌+◌, List, [], ◌∷◌, ◌++◌, length, Result, Ok, Err}
 use Rattle.std.specs.Prelude.{ℕ, List, codes}
 use Rattle.mc_topology.specs.declared.fault.Section.{Section}
@@ -11,21 +11,21 @@ use Rattle.mc_topology.specs.declared.fault.TopologyFaultKind.{TopologyFaultKind
 use Rattle.mc_topology.specs.declared.fault.TopologyFaultKind.TheVariants.{Memory}
 use Rattle.mc_topology.specs.declared.fault.TopologyFault.{TopologyFault}
 
--- the fault of a step of this part of a section
+-- the result of a step, with its fault placed in the row of a section with this number
 abbrev pub locate_fault : {A : Type 0} → Section → ℕ → Result A TopologyFaultKind → Result A TopologyFault
 locate_fault section number (Ok x) = Ok x
 locate_fault section number (Err kind) = Err (record { section = section; number = number; kind = kind })
 
--- what a call that takes no memory answers, seen by view
+-- a call's result is that of the step, seen by view
 abbrev pub ResultsAgree : {X Y E : Type 0} → (X → Y) → Result X E → Result Y E → Type 0
 ResultsAgree view (Ok x) step = step ≡ Ok (view x)
 ResultsAgree view (Err e) step = step ≡ Err e
 
--- the fault that may stand in place of any answer of a call that takes memory
+-- the fault that a call which takes memory may give in place of any result
 abbrev pub out_of_memory : TopologyFault
 out_of_memory = record { section = Top; number = 0; kind = Memory }
 
--- The values of the parts of a section, each read beside those before it, or the first fault.
+-- The values of the rows of a section, each read beside those before it, or the first fault.
 unfoldable pub each_row : {D X : Type 0} → Section → (List X → D → Result X TopologyFaultKind)
     → List X → List D → Result (List X) TopologyFault
 each_row section one earlier [] = Ok earlier

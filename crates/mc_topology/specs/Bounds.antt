@@ -1,6 +1,6 @@
--- What a text may have before it is read as TOML, so that reading it takes little time and memory: each
--- table and each value has a mark of its own, and each pair is compared with the header above it. What is
--- a comment, a string and a header, TOML 1.0.0 says in "Comment", "String" and "Table".
+-- The bounds of a text that is read as TOML, so that reading takes little time and memory: each table and
+-- each value has a mark of its own, and each pair is compared with the header above it. Comments, strings
+-- and headers are those of TOML 1.0.0, sections "Comment", "String" and "Table".
 use Rattle.std.specs.Prelude.{ℕ, ◌+◌, ◌-◌, ◌==◌, ◌&&◌, ◌||◌, nat_le, Bool, true, false, List, codes}
 use Rattle.std.specs.Prelude.{fold, if◌then◌else◌}
 use Rattle.std.specs.List.{list_any}
@@ -18,24 +18,24 @@ use Rattle.mc_topology.specs.declared.read.bounds.Scan.{Scan}
 abbrev pub after_outside_byte : ℕ → LexState
 after_outside_byte c = if c == 35 then Comment else if c == 34 || c == 39 then OneQuote c else Outside
 
--- a backslash takes the next byte with it in a string between `"`, and none between `'`
+-- a backslash escapes the next byte in a string between `"`, and none in one between `'`
 abbrev pub begins_escape : ℕ → ℕ → Bool
 begins_escape quote c = c == 92 && quote == 34
 
--- A string on one line ends at its quote. (With its line as well, where TOML has no more to say: then the
--- text is none, and is refused for that.)
+-- a single-line string ends at its quote; it ends with its line as well, where the text is no TOML and is
+-- refused for that
 abbrev pub after_one_line_byte : ℕ → ℕ → LexState
 after_one_line_byte quote c =
     if c == quote || c == 10 then Outside else if begins_escape quote c then OneLineEscape else OneLine quote
 
--- a string of lines ends behind three of its quotes or more in a row
+-- a multi-line string ends after three or more of its quotes in a row
 abbrev pub after_multi_line_byte : ℕ → ℕ → ℕ → LexState
 after_multi_line_byte quote quotes c =
     if c == quote then (if nat_le 3 quotes then MultiLine quote quotes else MultiLine quote (quotes + 1))
     else if nat_le 3 quotes then after_outside_byte c
     else if begins_escape quote c then MultiLineEscape else MultiLine quote 0
 
--- where a text goes on behind a byte
+-- the state after a byte
 unfoldable pub after_byte : LexState → ℕ → LexState
 after_byte Outside c = after_outside_byte c
 after_byte Comment c = if c == 10 then Outside else Comment
@@ -62,25 +62,25 @@ is_outside MultiLineEscape = false
 abbrev pub is_blank : ℕ → Bool
 is_blank c = (c == 9 || c == 10) || (c == 13 || c == 32)
 
--- The part of its line that a byte makes: a header begins with a `[` that is the first on its line, but
--- for blanks and a byte order mark.
+-- the part of the line after a byte that doesn't end it: a header begins with a `[` that is the first on
+-- its line, but for blanks and a byte order mark
 abbrev pub part_with_byte : LinePart → ℕ → LinePart
 part_with_byte Margin c =
     if c == 91 then Header else if is_blank c || nat_le 128 c then Margin else Rest
 part_with_byte Header c = Header
 part_with_byte Rest c = Rest
 
--- the part behind a byte: a line within brackets has no header
+-- the part of the line after a byte: a line within brackets has no header
 abbrev pub part_after : LinePart → ℕ → Bool → ℕ → LinePart
 part_after part nesting outside c =
     if outside && c == 10 then (if nesting == 0 then Margin else Rest) else part_with_byte part c
 
--- the brackets that are open behind a byte outside of strings and comments
+-- how many brackets are open after a byte outside of strings and comments
 abbrev pub nesting_after : ℕ → ℕ → ℕ
 nesting_after nesting c =
     if c == 91 || c == 123 then nesting + 1 else if c == 93 || c == 125 then nesting - 1 else nesting
 
--- a comment, or a blank outside of strings, is no part of a header
+-- a byte of a comment, or a blank outside of strings, isn't counted in a header
 abbrev pub is_skipped_in_header : LexState → ℕ → Bool
 is_skipped_in_header Outside c = is_blank c
 is_skipped_in_header Comment c = true
@@ -91,36 +91,36 @@ is_skipped_in_header OneLineEscape c = false
 is_skipped_in_header (MultiLine quote quotes) c = false
 is_skipped_in_header MultiLineEscape c = false
 
--- how many bytes the last header has behind a byte
+-- how many bytes the last header has after a byte
 abbrev pub header_after : LinePart → ℕ → LexState → ℕ → ℕ
-header_after Margin header place c = if c == 91 then 1 else header
-header_after Header header place c = if is_skipped_in_header place c then header else header + 1
-header_after Rest header place c = header
+header_after Margin header state c = if c == 91 then 1 else header
+header_after Header header state c = if is_skipped_in_header state c then header else header + 1
+header_after Rest header state c = header
 
 -- ---- marks
 
--- what a table or a value begins with or has beside it
+-- a byte that a table or a value begins with or has beside it
 abbrev pub is_mark : ℕ → Bool
 is_mark c = list_any (λ mark. mark == c) (codes ".,={[")
 
 abbrev pub with_state : Scan → LexState → ℕ → Scan
-with_state scan place c = let outside = is_outside place in record {
-  place = place;
+with_state scan state c = let outside = is_outside state in record {
+  state = state;
   part = part_after scan.part scan.nesting outside c;
   nesting = if outside then nesting_after scan.nesting c else scan.nesting;
-  header = header_after scan.part scan.header place c;
+  header = header_after scan.part scan.header state c;
   compared = if outside && c == 61 then scan.compared + scan.header else scan.compared;
   marks = if outside && is_mark c then scan.marks + 1 else scan.marks;
 }
 
--- what a text has had with a byte more
+-- the scan with the next byte
 unfoldable pub with_byte : Scan → ℕ → Scan
-with_byte scan c = with_state scan (after_byte scan.place c) c
+with_byte scan c = with_state scan (after_byte scan.state c) c
 
--- before the first byte
+-- the scan before the first byte
 abbrev pub initial_scan : Scan
 initial_scan =
-    record { place = Outside; part = Margin; nesting = 0; header = 0; compared = 0; marks = 0 }
+    record { state = Outside; part = Margin; nesting = 0; header = 0; compared = 0; marks = 0 }
 
 -- Outside of strings and comments there are at most 131,072 of the marks `.`, `,`, `=`, `{` and `[`, and
 -- at most 268,435,456 bytes are compared: for each `=` those of the last header above it.

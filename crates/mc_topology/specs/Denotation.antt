@@ -1,4 +1,4 @@
--- What a text stands for: the rules of a topology, over the table that TOML's reader gives.
+-- The topology that a text denotes: the rules of docs/FORMATS.md, over the table that TOML's reader gives.
 use Rattle.std.specs.Prelude.{◌≡◌, ℕ, pos, ◌<◌, ◌≤◌, List, [], ◌∷◌, length, codes, IsTrue, IsUtf8}
 use Rattle.std.specs.Prelude.{Option, Some, None}
 use Rattle.toml.specs.Data.{Data, string, integer, array, table, Items, Members, get_member}
@@ -22,25 +22,25 @@ use Rattle.mc_topology.specs.Topology.{interface_key, source_key, flow_key}
 
 -- ---- tables
 
--- under the key stands this text
+-- the key has this text
 abbrev pub HasText : List ℕ → Members → List ℕ → Type 0
 HasText key ms text = get_member key ms ≡ Some (string text)
 
--- under the key stands this whole number
+-- the key has this whole number
 abbrev pub HasNumber : List ℕ → Members → ℕ → Type 0
 HasNumber key ms n = get_member key ms ≡ Some (integer (pos n))
 
--- under the key stands a list of these values, or nothing, which is the empty list
+-- the key has a list of these values, or is missing and they are none
 abbrev pub AreRows : Option Data → List Data → Type 0
 AreRows None rows = rows ≡ []
 AreRows (Some d) rows = (items : Items) × (d ≡ array items) × (rows ≡ rows_in items)
 
--- a table with no other keys than these
+-- a table with no other keys than the known ones
 pub record IsTable (known : List (List ℕ)) (d : Data) (ms : Members) : Type 0 where
   pub members : d ≡ table ms
   pub keys : IsTrue (has_only known ms)
 
--- each row stands for its value
+-- each row denotes its value
 abbrev pub EachDenotes : {X : Type 0} → (Data → X → Type 0) → List Data → List X → Type 0
 EachDenotes Denotation [] [] = Unit {0}
 EachDenotes Denotation [] (x ∷ xs) = ⊥
@@ -113,7 +113,7 @@ pub record DenotesFlow (sources : List SourceRow) (d : Data) (f : Flow) : Type 0
 
 -- ---- the whole
 
--- a list of at most 1,024 names, no two of them one, which has to be there
+-- a list of at most 1,024 names, no two of them the same; the key is required
 pub record DenotesLans (ms : Members) (lans : List (List ℕ)) : Type 0 where
   pub items : Items
   pub list : get_member (codes "lans") ms ≡ Some (array items)
@@ -121,7 +121,7 @@ pub record DenotesLans (ms : Members) (lans : List (List ℕ)) : Type 0 where
   pub each_row : EachDenotes DenotesLan (rows_in items) lans
   pub distinct : AreDistinctBy lan_key lans
 
--- a list of at most so many rows, no two of one key, which may be missing
+-- a list of at most `most` rows, no two with the same key; it may be missing
 pub record DenotesSection {X K : Type 0} (name : List ℕ) (most : ℕ) (Denotation : Data → X → Type 0)
     (key : X → K) (ms : Members) (xs : List X) : Type 0 where
   pub rows : List Data
@@ -142,7 +142,7 @@ pub record DenotesDocument (ms : Members) (t : TopologyValue) : Type 0 where
   pub flows : DenotesSection (codes "flow") 4096 (DenotesFlow t.sources) flow_key ms t.flows
   pub some_flow : 0 < length t.flows
 
--- a text of at most 16,777,216 bytes that TOML's reader takes
+-- a text of at most 16,777,216 bytes in UTF-8 that TOML's reader accepts
 pub record DenotesTopology (text : List ℕ) (t : TopologyValue) : Type 0 where
   pub document : Members
   pub few : length text ≤ 16777216
@@ -150,7 +150,7 @@ pub record DenotesTopology (text : List ℕ) (t : TopologyValue) : Type 0 where
   pub reads : parse_document text ≡ Some document
   pub denotes : DenotesDocument document t
 
--- The same of a text that is within the bounds, so that it is read as TOML.
+-- the same of a text that is within the bounds, so that it is read as TOML
 pub record DenotesBoundedTopology (text : List ℕ) (t : TopologyValue) : Type 0 where
   pub denotes : DenotesTopology text t
   pub bounded : IsTrue (is_bounded text)

@@ -1,4 +1,4 @@
--- What stands under the keys of a table.
+-- The values of a table by their keys.
 use Rattle.std.specs.Prelude.{ℕ, ℤ, nat_le, length, Bool, List, [], ◌∷◌, Option, Some, None, Result}
 use Rattle.std.specs.Prelude.{Ok, Err, ok_or, if◌then◌else◌}
 use Rattle.std.specs.List.{list_all, list_any}
@@ -15,7 +15,7 @@ abbrev pub keys_in : Members → List (List ℕ)
 keys_in no_members = []
 keys_in (member key d ms) = key ∷ keys_in ms
 
--- the table has no other key than these
+-- the table has no other keys than the known ones
 abbrev pub has_only : List (List ℕ) → Members → Bool
 has_only known ms = list_all (λ key. list_any (λ k. bytes_eq k key) known) (keys_in ms)
 
@@ -34,13 +34,13 @@ number_of d = ok_or (as_integer d) BadKind
 abbrev pub list_of : Data → Result (List Data) TopologyFaultKind
 list_of d = ok_or (as_array d) BadKind >>= λ items. Ok (rows_in items)
 
--- a table that has no other key than these
+-- a table that has no other keys than the known ones
 unfoldable pub known_table : List (List ℕ) → Data → Result Members TopologyFaultKind
 known_table known d =
     ok_or (as_table d) BadKind >>= λ ms.
     if has_only known ms then Ok ms else Err UnknownKey
 
--- the value under a key that has to be there
+-- the value under a required key
 abbrev pub at_key : List ℕ → Members → Result Data TopologyFaultKind
 at_key key ms = ok_or (get_member key ms) MissingKey
 
@@ -53,12 +53,12 @@ number_at key ms = at_key key ms >>= number_of
 unfoldable pub list_at : List ℕ → Members → Result (List Data) TopologyFaultKind
 list_at key ms = at_key key ms >>= list_of
 
--- the text under a key that may be missing
+-- the text under an optional key
 abbrev pub text_or_none : Option Data → Result (Option (List ℕ)) TopologyFaultKind
 text_or_none None = Ok None
 text_or_none (Some d) = text_of d >>= λ text. Ok (Some text)
 
--- the list under a key that may be missing, and then is empty
+-- the list under an optional key; empty where the key is missing
 abbrev pub list_or_empty : Option Data → Result (List Data) TopologyFaultKind
 list_or_empty None = Ok []
 list_or_empty (Some d) = list_of d
@@ -69,7 +69,7 @@ optional_text_at key ms = text_or_none (get_member key ms)
 unfoldable pub optional_list_at : List ℕ → Members → Result (List Data) TopologyFaultKind
 optional_list_at key ms = list_or_empty (get_member key ms)
 
--- at most this many parts under a key that may be missing
+-- at most `most` rows under an optional key
 unfoldable pub rows_at : List ℕ → ℕ → Members → Result (List Data) TopologyFaultKind
 rows_at key most ms = do
   rows ← optional_list_at key ms

@@ -45,7 +45,7 @@ flow_of_values sources earlier source_text group_text number = do
 
 -- A flow. It has to be a table (else BadKind) of no other keys (UnknownKey). Then the keys:
 -- `source`, `group` and `ttl`, in this order, each have to be there (MissingKey) and to be a text,
--- and `ttl` a whole number (BadKind). Then the values are judged, as `flow_of_values` says.
+-- and `ttl` a whole number (BadKind). Then the values are checked, by `flow_of_values`.
 unfoldable pub flow_of : List SourceRow → List Flow → Data → Result Flow TopologyFaultKind
 flow_of sources earlier d = do
   table ← known_table flow_keys d
@@ -54,7 +54,7 @@ flow_of sources earlier d = do
   number ← number_at (codes "ttl") table
   flow_of_values sources earlier source_text group_text number
 
--- The list has to be a list (else BadKind), then of one flow at least (NoFlow), and then of at most
+-- The rows have to be a list (else BadKind), then of at least one flow (NoFlow), and then of at most
 -- 4,096 (TooMany).
 unfoldable pub flow_rows : Members → Result (List Data) TopologyFaultKind
 flow_rows ms = do

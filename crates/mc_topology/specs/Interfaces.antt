@@ -31,7 +31,7 @@ interface_of_values lans routers earlier router_name device lan_name = do
 
 -- An interface. It has to be a table (else BadKind) of no other keys (UnknownKey). Then the keys:
 -- `router`, `device` and `lan`, in this order, each have to be there (MissingKey) and to be a text
--- (BadKind). Then the values are judged, as `interface_of_values` says.
+-- (BadKind). Then the values are checked, by `interface_of_values`.
 unfoldable pub interface_of : List (List ℕ) → List RouterRow → List InterfaceRow → Data
     → Result InterfaceRow TopologyFaultKind
 interface_of lans routers earlier d = do

@@ -1,5 +1,5 @@
--- What is looked up in the rows of a topology, whatever text they were read of: a router by its
--- name, and an interface by its router and device.
+-- Look-ups in the rows of a topology, whatever text they were read from: a router by its name, and an
+-- interface by its router and device.
 use Rattle.std.specs.Prelude.{ℕ, ◌≤◌, ◌==◌, ◌&&◌, List, find, position, length, Bool, Option, option_map}
 use Rattle.std.specs.List.{All, list_any}
 use Rattle.std.specs.Str.{bytes_eq}
@@ -14,15 +14,15 @@ has_router name routers = list_any (λ r. bytes_eq r.name name) routers
 abbrev pub router_no_of : List ℕ → List RouterRow → Option ℕ
 router_no_of name routers = position (λ r. bytes_eq r.name name) routers
 
--- the interface is that of a router and a device
+-- the interface has this router and this device
 abbrev pub is_interface_of : ℕ → List ℕ → InterfaceRow → Bool
 is_interface_of router device i = (i.router == router) && bytes_eq i.device device
 
--- a router has an interface of the device
+-- an interface has this router and this device
 abbrev pub has_interface : ℕ → List ℕ → List InterfaceRow → Bool
 has_interface router device interfaces = list_any (is_interface_of router device) interfaces
 
--- the LAN on which the interface of a router and a device lies
+-- the LAN of the interface with this router and this device
 abbrev pub lan_of_interface : ℕ → List ℕ → List InterfaceRow → Option ℕ
 lan_of_interface router device interfaces =
     option_map (λ i. i.lan) (find (is_interface_of router device) interfaces)

@@ -6,7 +6,7 @@ use Rattle.std.specs.Str.{bytes_eq}
 use Rattle.mc_text.specs.Bundle.{is_name_byte as is_part_byte}
 use Rattle.mc_text.specs.DeviceName.{is_device_name}
 
--- a letter, a digit, `-`, `_` or `.`: what the name of a bundle's part may have, but for `/`
+-- a letter, a digit, `-`, `_` or `.`: the bytes of a bundle part's name, but for `/`
 abbrev pub is_name_byte : ℕ → Bool
 is_name_byte b = is_part_byte b && not (b == 47)
 

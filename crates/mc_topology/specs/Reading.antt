@@ -1,4 +1,4 @@
--- The topology that a text stands for, or its first fault, in the order in which a text is judged.
+-- The topology that a text denotes, or its first fault, in the order in which a text is checked.
 use Rattle.std.specs.Prelude.{ℕ, pos, nat_le, List, [], ◌∷◌, length, codes, Result, Ok, Err, ok_or}
 use Rattle.std.specs.Prelude.{◌&&◌, if◌then◌else◌}
 use Rattle.std.specs.Ordering.{int_eq}
@@ -22,11 +22,11 @@ use Rattle.mc_topology.specs.Sources.{sources_in}
 use Rattle.mc_topology.specs.Flows.{flows_in}
 use Rattle.mc_topology.specs.Topology.{TopologyValue}
 
--- a text is UTF-8 (else NotToml)
+-- a text in UTF-8 (else NotToml)
 unfoldable pub require_utf8 : List ℕ → Result (List ℕ) TopologyFaultKind
 require_utf8 text = if is_utf8 text then Ok text else Err NotToml
 
--- the table that a text in UTF-8 is (else NotToml)
+-- the table of a text that is UTF-8 and TOML (else NotToml)
 unfoldable pub parse_toml : List ℕ → Result Members TopologyFaultKind
 parse_toml text = require_utf8 text >>= λ t. ok_or (parse_document t) NotToml
 
@@ -34,7 +34,7 @@ parse_toml text = require_utf8 text >>= λ t. ok_or (parse_document t) NotToml
 unfoldable pub table_of : List ℕ → Result Members TopologyFaultKind
 table_of text = if nat_le (length text) 16777216 then parse_toml text else Err TooMany
 
--- the same of a text that has to be bounded too (else TooMany), before it is read as TOML
+-- the same of a text that has to be within the bounds too (else TooMany), before it is read as TOML
 unfoldable pub document_of : List ℕ → Result Members TopologyFaultKind
 document_of text =
     if nat_le (length text) 16777216 && is_bounded text then parse_toml text else Err TooMany
@@ -54,8 +54,8 @@ check_version ms =
     if int_eq version (pos 1) then Ok tt else Err BadVersion)
     else Err UnknownKey
 
--- the topology of a table: the top at the number 0, and then the sections in this order, each with
--- those that it names
+-- the topology of a table: the keys and the version, at `top` 0, and then the sections in this order,
+-- each with those that it names
 unfoldable pub topology_in : Members → Result TopologyValue TopologyFault
 topology_in ms = do
   version ← locate_fault Top 0 (check_version ms)
@@ -92,6 +92,6 @@ interfaces_and_flows_in lans routers ms = do
 unfoldable pub parse_topology : List ℕ → Result TopologyValue TopologyFault
 parse_topology text = locate_fault Top 0 (document_of text) >>= topology_in
 
--- the same without the bounds: what a text stands for, whatever it takes to read it
+-- the same without the bounds: what a text denotes, whatever it takes to read it
 unfoldable pub parse_unbounded_topology : List ℕ → Result TopologyValue TopologyFault
 parse_unbounded_topology text = locate_fault Top 0 (table_of text) >>= topology_in

@@ -1,4 +1,4 @@
--- What the rows of a topology's sections stand for.
+-- The values of the rows of a topology's sections.
 use Rattle.std.specs.Prelude.{◌≡◌, ℕ, Bool, true, false, List, refl, String, string_bytes}
 use Rattle.std.specs.Coded.{Coded, code_by, coded×, coded_bool, coded_ℕ, coded_list}
 use Rattle.mc_text.specs.declared.text.addr.Order.{Order}
@@ -9,25 +9,25 @@ pub record RouterRow : Type 0 where
   pub name : List ℕ
   pub order : Order
 
--- a device of the router with this number, on the LAN with this number
+-- a device of a router, on a LAN, both by their numbers
 pub record InterfaceRow : Type 0 where
   pub router : ℕ
   pub device : List ℕ
   pub lan : ℕ
 
--- the address of a host that sends, on the LAN with this number
+-- the address of a host that sends, on a LAN, by its number
 pub record SourceRow : Type 0 where
   pub address : ℕ
   pub lan : ℕ
 
--- rows of keys with what is kept of each
+-- the row of a map's entry
 abbrev pub router_row : {A : Type 0} → String A × Order → RouterRow
 router_row e = record { name = string_bytes e.0; order = e.1 }
 
 abbrev pub source_row : ℕ × ℕ → SourceRow
 source_row e = record { address = e.0; lan = e.1 }
 
--- a row is stored as the tuple of its fields
+-- a row is coded as the tuple of its fields
 abbrev pub is_big : Order → Bool
 is_big Little = false
 is_big Big = true

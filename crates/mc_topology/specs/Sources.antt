@@ -38,7 +38,7 @@ source_of_values lans earlier text lan_name = do
 
 -- A source. It has to be a table (else BadKind) of no other keys (UnknownKey). Then the keys:
 -- `address` and `lan`, in this order, each have to be there (MissingKey) and to be a text
--- (BadKind). Then the values are judged, as `source_of_values` says.
+-- (BadKind). Then the values are checked, by `source_of_values`.
 unfoldable pub source_of : List (List ℕ) → List SourceRow → Data
     → Result SourceRow TopologyFaultKind
 source_of lans earlier d = do

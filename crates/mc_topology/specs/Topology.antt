@@ -18,14 +18,14 @@ pub record TopologyValue : Type 0 where
   pub sources : List SourceRow
   pub flows : List Flow
 
--- the name of a LAN, and of a router; empty for a number that the topology hasn't
+-- the name of a LAN, and of a router; empty for a number that the topology doesn't have
 abbrev pub lan_name : TopologyValue → ℕ → List ℕ
 lan_name t lan = unwrap_or (slice_get t.lans lan) []
 
 abbrev pub router_name : TopologyValue → ℕ → List ℕ
 router_name t router = unwrap_or (option_map (λ r. r.name) (slice_get t.routers router)) []
 
--- What tells two rows of a section apart: the name of a LAN and of a router,
+-- the key of a row, by which no two rows of its section agree: the name of a LAN and of a router,
 abbrev pub lan_key : List ℕ → List ℕ
 lan_key name = name
 
@@ -44,14 +44,19 @@ source_key s = s.address
 abbrev pub flow_key : Flow → ℕ × ℕ
 flow_key f = (f.source, f.group)
 
--- no two places of the list hold items of one key
+-- no two places of the list have items with the same key
 abbrev pub AreDistinctBy : {X K : Type 0} → (X → K) → List X → Type 0
 AreDistinctBy {X} {K} key xs =
     (i j : ℕ) (x y : X) → slice_get xs i ≡ Some x → slice_get xs j ≡ Some y → key x ≡ key y → i ≡ j
 
--- an item stands in the list
+-- an item is in the list
 abbrev pub IsIn : {X : Type 0} → List X → X → Type 0
 IsIn xs x = (n : ℕ) × (slice_get xs n ≡ Some x)
+
+-- the topology has an interface of this router and this device, on this LAN
+abbrev pub HasInterface : TopologyValue → ℕ → List ℕ → ℕ → Type 0
+HasInterface t router device lan =
+    IsIn t.interfaces (record { router = router; device = device; lan = lan })
 
 -- a device of one of the routers, on one of the LANs
 pub record IsValidInterface (t : TopologyValue) (i : InterfaceRow) : Type 0 where
@@ -75,10 +80,10 @@ pub record IsValidFlow (lans : List (List ℕ)) (f : Flow) : Type 0 where
   pub ttl_from : 1 ≤ f.ttl
   pub ttl_to : f.ttl ≤ 255
 
--- What every topology keeps: at most 1,024 LANs and 256 routers, each with a name that is one, no
--- two of one name; at most 8,192 interfaces, each as above, no two of one router and one device;
--- at most 4,096 sources, each as above, no two of one address; and 1 to 4,096 flows, each as above,
--- no two of one source and one group.
+-- The rules of a topology: at most 1,024 LANs and 256 routers, each with a valid name, no two with
+-- the same name; at most 8,192 interfaces, each as above, no two with the same router and device; at
+-- most 4,096 sources, each as above, no two with the same address; and 1 to 4,096 flows, each as
+-- above, no two with the same source and group.
 pub record IsValidTopology (t : TopologyValue) : Type 0 where
   pub few_lans : length t.lans ≤ 1024
   pub few_routers : length t.routers ≤ 256
@@ -100,7 +105,7 @@ pub record IsValidTopology (t : TopologyValue) : Type 0 where
       → IsValidSource t.lans s
   pub valid_flows : (n : ℕ) (f : Flow) → slice_get t.flows n ≡ Some f → IsValidFlow t.lans f
 
--- a topology is stored as the tuple of its fields, and so is a flow
+-- a topology is coded as the tuple of its fields, and so is a flow
 abbrev pub flow_code : Coded Flow
 flow_code =
     code_by (ℕ × (ℕ × (ℕ × ℕ))) (coded× coded_ℕ (coded× coded_ℕ (coded× coded_ℕ coded_ℕ)))

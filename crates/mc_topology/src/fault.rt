@@ -8,7 +8,7 @@ use std::alloc::{AllocError, AllocFailed};
 use std::fmt;
 use thiserror::Error;
 
-/// The part of a topology that a fault lies in.
+/// The section of a topology that a fault is in.
 #[derive(Clone, Copy, Debug, PartialEq, Eq)]
 pub enum Section {
     /// The text as a whole, its keys and its version.
@@ -47,9 +47,9 @@ pub enum TopologyFaultKind {
     NotToml,
     /// (2) The version isn't 1 (`top`, 0).
     BadVersion,
-    /// (3) A key isn't there.
+    /// (3) A required key is missing.
     MissingKey,
-    /// (4) A key stands there that has no meaning.
+    /// (4) A table has a key that no rule gives a meaning.
     UnknownKey,
     /// (5) A value is of the wrong type, or an order is neither `little` nor `big`.
     BadKind,
@@ -57,11 +57,12 @@ pub enum TopologyFaultKind {
     BadName,
     /// (7) An earlier LAN or router has the name, or an earlier source the address.
     RepeatedName,
-    /// (8) No router, LAN or source has the name or address.
+    /// (8) No router or LAN has the name, or no source the address.
     UnknownName,
     /// (9) An earlier interface has the router and the device.
     RepeatedInterface,
-    /// (10) A text isn't the address of a source or of a forwarded group.
+    /// (10) A text isn't the address that it has to be: of a host that may send, or of a group that
+    /// routers forward.
     BadAddress,
     /// (11) A time to live isn't 1 to 255.
     BadTtl,
@@ -69,15 +70,15 @@ pub enum TopologyFaultKind {
     NoFlow,
     /// (13) An earlier flow has the source and the group.
     RepeatedFlow,
-    /// (14) The text has too many bytes, or would take too much to be read as TOML (`top`, 0), or a
-    /// section has too many parts (its number 0).
+    /// (14) The text has too many bytes, or would take too much time or memory to read as TOML (`top`,
+    /// 0), or a section has too many rows (its number 0).
     TooMany,
     /// (15) Memory ran out (`top`, 0).
     Memory,
 }
 
 impl TopologyFaultKind {
-    /// The fault of this kind in the part of a section with this number, counted from 1, or in the
+    /// The fault of this kind in the row of a section with this number, counted from 1, or in the
     /// section as a whole, with the number 0.
     pub(crate) fn at(self, section: Section, number: u32) -> TopologyFault
         ensures { result ≡ record { section = section; number = number; kind = self } }
@@ -90,19 +91,19 @@ impl TopologyFaultKind {
     }
 }
 
-/// The first fault of a topology.
+/// The first fault of a topology's text, and its place.
 #[derive(Clone, Copy, Debug, PartialEq, Eq, Error)]
 #[error("{section} {number}: {kind:?}")]
 pub struct TopologyFault {
     /// The section.
     pub section: Section,
-    /// The table or LAN of the section, counted from 1, or 0 where the section as a whole is meant.
+    /// The row of the section, counted from 1, or 0 for the section as a whole.
     pub number: u32,
     /// What is wrong there.
     pub kind: TopologyFaultKind,
 }
 
-/// What a step of reading gives, whose fault lies in the part of a section with this number.
+/// The result of a step, with its fault placed in the row of a section with this number.
 pub(crate) fn locate_fault<T>(
     section: Section,
     number: u32,

@@ -1,4 +1,4 @@
-//! A flow.
+//! A flow of a topology.
 
 use crate::number::LanNo;
 use mc_text::Addr;
@@ -11,7 +11,7 @@ pub(crate) const MAX_FLOWS: usize = 4096;
 pub struct Flow {
     /// The address of the source.
     pub source: Addr,
-    /// The LAN on which the source is.
+    /// The LAN of the source.
     pub lan: LanNo,
     /// The address of the group.
     pub group: Addr,

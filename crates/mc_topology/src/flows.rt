@@ -1,4 +1,4 @@
-//! The flows of a topology, each told apart by its source and its group.
+//! The flows of a topology, by source and group.
 
 ghost use Rattle.std.specs.Prelude.{◌≡◌, ◌++◌, ◌<◌, [], ◌∷◌, false, length, slice_get, Some, IfErr};
 ghost use Rattle.std.specs.Prelude.{OnOk};
@@ -63,7 +63,7 @@ impl Flows {
         &self.flows[flow as usize]
     }
 
-    /// Adds a flow whose source and group no flow has.
+    /// Adds a flow, whose source and group no other has.
     pub(crate) fn push(&mut self, flow: Flow) -> Result<(), TopologyFault>
         requires absent { has_flow flow.source flow.group self.old ≡ false }
         ensures added { OnOk result (self.new ≡ self.old ++ flow ∷ []) }

@@ -1,14 +1,14 @@
-//! An interface.
+//! An interface of a topology.
 
 use crate::number::{LanNo, RouterNo};
 use std::marker::Model;
 
-/// An interface of a topology: a device of a router, and the LAN on which it lies.
+/// An interface of a topology: a device of a router, on a LAN.
 #[derive(Debug, Drop)]
 pub struct Interface<'a> {
     /// The router.
     pub router: RouterNo,
-    /// The name of the device.
+    /// The name of the device, 1 to 15 bytes.
     pub device: &'a [u8],
     /// The LAN.
     pub lan: LanNo,

@@ -19,7 +19,7 @@ pub(crate) const MAX_INTERFACES: usize = 8192;
 /// The greatest length of a device's name, in bytes.
 pub(crate) const MAX_DEVICE_NAME: usize = 15;
 
-/// What tells interfaces apart: the router and the device.
+/// The key of an interface: its router and its device.
 #[derive(Debug, PartialEq, Eq, Hash, Drop)]
 pub(crate) struct InterfaceKey {
     router: RouterNo,
@@ -27,7 +27,7 @@ pub(crate) struct InterfaceKey {
 }
 
 impl InterfaceKey {
-    /// The key of a router and a device. There is none for a name of more than 15 bytes.
+    /// The key of a router and a device. None for a name of more than 15 bytes.
     pub(crate) fn new(router: RouterNo, device: &[u8]) -> Option<InterfaceKey>
         ensures { MatchOption result (15 < length device.now)
             (λ key. (key.router ≡ router) × (key.device.items ≡ device.now)
@@ -74,7 +74,7 @@ impl Interfaces {
         self.lans.len()
     }
 
-    /// The LAN on which the interface of a router and a device lies.
+    /// The LAN of the interface with this router and this device.
     pub(crate) fn lan_of(&self, router: RouterNo, device: &[u8]) -> Option<LanNo>
         ensures { result ≡ lan_of_interface router device.now self.now }
     {
@@ -105,7 +105,7 @@ impl Interfaces {
         }
     }
 
-    /// Adds an interface with a key that no interface has.
+    /// Adds an interface, whose key no other has.
     pub(crate) fn push(&mut self, key: InterfaceKey, lan: LanNo) -> Result<(), TopologyFault>
         requires new { has_interface key.router key.device.items self.old ≡ false }
         requires short { length key.device.items ≤ 15 }

@@ -59,11 +59,11 @@ impl Lans {
         ensures number { result ≡ index_of name.now self.now }
         ensures listed { IfSome result (λ lan. lan < length self.now) }
     {
-        let place = self.names.get_index_of(name)?;
-        Some(LanNo(place as u32))
+        let index = self.names.get_index_of(name)?;
+        Some(LanNo(index as u32))
     }
 
-    /// The name of a LAN.
+    /// The name of the LAN with this number.
     pub(crate) fn name(&self, lan: LanNo) -> &str
         requires known { lan < length self.now }
         ensures item { slice_get self.now lan ≡ Some result.now }
@@ -72,7 +72,7 @@ impl Lans {
         name.as_str()
     }
 
-    /// Adds a LAN whose name no LAN has.
+    /// Adds a LAN, whose name no other has.
     pub(crate) fn push(&mut self, alloc: Global, name: &str) -> Result<(), TopologyFault>
         requires absent { has_lan name.now self.old ≡ false }
         ensures added { OnOk result (self.new ≡ self.old ++ name.now ∷ []) }

@@ -1,4 +1,4 @@
-//! What follows from the definitions alone, for whoever builds on them.
+//! Theorems over the definitions alone, for crates that use them.
 
 ghost use Rattle.std.specs.Prelude.{◌≡◌, ◌↔◌, ℕ, List, Some, Ok, option_map, slice_get};
 ghost use Rattle.std.specs.Ordering.{nat_cmp};
@@ -6,12 +6,12 @@ ghost use Rattle.mc_topology.specs.Names.{index_of};
 ghost use Rattle.mc_topology.specs.Reading.{parse_topology, parse_unbounded_topology};
 ghost use Rattle.mc_topology.specs.Lookup.{router_no_of};
 ghost use Rattle.mc_topology.specs.Denotation.{DenotesTopology, DenotesBoundedTopology};
-ghost use Rattle.mc_topology.specs.Topology.{TopologyValue, IsIn, IsValidTopology, lan_of_interface};
+ghost use Rattle.mc_topology.specs.Topology.{HasInterface, TopologyValue, IsValidTopology, lan_of_interface};
 
 use crate::number::{LanNo, RouterNo};
 
-/// A text means a topology exactly where it stands for it, so a text stands for one topology at
-/// most. Reading gives it exactly where the text is within the bounds too.
+/// Reading gives a topology exactly where the text denotes it and is within the bounds, and without the
+/// bounds exactly where the text denotes it; so a text denotes one topology at most.
 pub fn read_gives_the_denoted_topology()
     ensures unbounded { (text : List ℕ) (t : TopologyValue) →
         ((parse_unbounded_topology text ≡ Ok t) ↔ DenotesTopology text t) }
@@ -21,14 +21,14 @@ pub fn read_gives_the_denoted_topology()
         DenotesTopology text u → t ≡ u }
 {}
 
-/// What a text stands for keeps the rules of a topology. Of each topology in memory the clauses
-/// `rules` of `lans`, `routers`, `interfaces`, `sources` and `flows` say so.
+/// What a text denotes is a valid topology. Each topology in memory is valid too, by the clauses
+/// `rules` of `lans`, `routers`, `interfaces`, `sources` and `flows`.
 pub fn denoted_topology_is_valid()
     ensures { (text : List ℕ) (t : TopologyValue) → DenotesTopology text t → IsValidTopology t }
 {}
 
-/// The number of a LAN's name is the LAN's number, and the name of that number is the name:
-/// `lan_no` and `lan_name` undo each other.
+/// `lan_no` and `lan_name` are inverse: the number of a LAN's name is the LAN's, and the name of a
+/// name's number is that name.
 pub fn lan_numbers_and_names_are_inverse()
     ensures number_of_name { (t : TopologyValue) (lan : ℕ) (name : List ℕ) → IsValidTopology t →
         slice_get t.lans lan ≡ Some name → index_of name t.lans ≡ Some lan }
@@ -36,8 +36,8 @@ pub fn lan_numbers_and_names_are_inverse()
         index_of name t.lans ≡ Some lan → slice_get t.lans lan ≡ Some name }
 {}
 
-/// The number of a router's name is the router's number, and the name of that number is the name:
-/// `router_no` and `router_name` undo each other.
+/// `router_no` and `router_name` are inverse: the number of a router's name is the router's, and the
+/// name of a name's number is that name.
 pub fn router_numbers_and_names_are_inverse()
     ensures number_of_name { (t : TopologyValue) (router : ℕ) (name : List ℕ) → IsValidTopology t →
         option_map (λ r. r.name) (slice_get t.routers router) ≡ Some name →
@@ -47,13 +47,11 @@ pub fn router_numbers_and_names_are_inverse()
         option_map (λ r. r.name) (slice_get t.routers router) ≡ Some name }
 {}
 
-/// The look-up by router and device finds exactly the rows of the interfaces: `lan_of_device`
-/// answers a LAN where there is a row of the router, the device and this LAN, and nothing where
-/// there is none.
+/// `lan_of_device` gives a LAN exactly where the topology has an interface of the router and the device
+/// on this LAN.
 pub fn interfaces_are_found_by_router_and_device()
     ensures { (t : TopologyValue) (router lan : ℕ) (device : List ℕ) → IsValidTopology t →
-        ((lan_of_interface router device t.interfaces ≡ Some lan) ↔
-        IsIn t.interfaces (record { router = router; device = device; lan = lan })) }
+        ((lan_of_interface router device t.interfaces ≡ Some lan) ↔ HasInterface t router device lan) }
 {}
 
 /// LANs and routers are ordered by their numbers.

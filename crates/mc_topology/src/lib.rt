@@ -1,5 +1,5 @@
-//! The operator's topology, in TOML: the LANs and routers of a domain by name, which interface lies
-//! on which LAN, the sources and the flows.
+//! The operator's topology, in TOML: the LANs and routers of a domain by name, the LAN of each
+//! interface and of each source, and the flows.
 #![tactic(auto)]
 
 mod fault;

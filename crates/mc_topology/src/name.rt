@@ -20,7 +20,7 @@ fn has_name_bytes(text: &str) -> bool
     text.as_bytes().iter().all(|byte| is_name_byte(*byte))
 }
 
-/// Whether the text can be the name of a LAN or of a router: 1 to 32 letters, digits, `-`, `_` or
+/// Whether the text can be the name of a LAN or of a router: 1 to 32 ASCII letters, digits, `-`, `_` or
 /// `.`.
 #[tactic(auto, using(std::proofs::lemmas::Bool::Decides::nat_tests), unfolding(crate::specs::Names::is_name))]
 pub fn is_name(text: &str) -> bool
@@ -32,7 +32,8 @@ pub fn is_name(text: &str) -> bool
     has_name_bytes(text)
 }
 
-/// Whether the text can be a device's: a device's name, and not `none`.
+/// Whether the text can be the name of an interface's device: a device's name, and not `none`, which the
+/// kernel writes for a vif without a device.
 #[tactic(auto, unfolding(crate::specs::Names::is_device))]
 pub(crate) fn is_device(text: &str) -> bool
     ensures { result ≡ is_device text.now }

@@ -1,4 +1,4 @@
-//! Reading a topology: the text as a whole, its keys and version, and then its sections in order.
+//! Reads a topology: the text as TOML, its keys and version, and then its sections in order.
 
 mod address;
 mod bounds;
@@ -38,7 +38,7 @@ use sources::sources_in;
 use std::alloc::Global;
 use toml::Table;
 
-/// The table that a text is, if it is within the bounds.
+/// Parses a text as TOML, if it is within the bounds.
 #[tactic(auto, unfolding(crate::specs::Reading::document_of, crate::specs::Reading::parse_toml, crate::specs::Reading::require_utf8))]
 fn document_of(alloc: Global, text: &[u8]) -> Result<Table, TopologyFault>
     ensures found { IfOk result (λ table. document_of text.now ≡ Ok (table_view table)) }
@@ -65,7 +65,7 @@ fn has_only_top_keys(table: &Table) -> bool
     )
 }
 
-/// Looks at the keys and the version.
+/// Checks the keys and the version.
 #[tactic(auto, unfolding(crate::specs::Reading::check_version))]
 fn check_version(table: &Table) -> Result<(), TopologyFaultKind>
     ensures { result ≡ check_version (table_view table.now) }
@@ -80,7 +80,7 @@ fn check_version(table: &Table) -> Result<(), TopologyFaultKind>
     Ok(())
 }
 
-/// The sources, and the flows, each from one of them.
+/// Reads the sources, and the flows, each from one of the sources.
 #[tactic(auto, unfolding(crate::specs::Reading::sources_and_flows_in))]
 fn sources_and_flows_in(
     alloc: Global,
@@ -96,7 +96,7 @@ fn sources_and_flows_in(
     Ok((sources, flows))
 }
 
-/// The interfaces, the sources and the flows.
+/// Reads the interfaces, the sources and the flows.
 #[tactic(auto, unfolding(crate::specs::Reading::interfaces_and_flows_in))]
 fn interfaces_and_flows_in(
     alloc: Global,

@@ -60,11 +60,11 @@ impl Routers {
         ensures number { result ≡ router_no_of name.now self.now }
         ensures listed { IfSome result (λ router. router < length self.now) }
     {
-        let place = self.orders.get_index_of(name)?;
-        Some(RouterNo(place as u32))
+        let index = self.orders.get_index_of(name)?;
+        Some(RouterNo(index as u32))
     }
 
-    /// The name of a router.
+    /// The name of the router with this number.
     pub(crate) fn name(&self, router: RouterNo) -> &str
         requires known { router < length self.now }
         ensures item { option_map (λ r. r.name) (slice_get self.now router) ≡ Some result.now }
@@ -74,7 +74,7 @@ impl Routers {
         name.as_str()
     }
 
-    /// The byte order of a router's machine.
+    /// The byte order of the router's machine.
     pub(crate) fn order(&self, router: RouterNo) -> Order
         requires known { router < length self.now }
         ensures item { option_map (λ r. r.order) (slice_get self.now router) ≡ Some result }
@@ -82,7 +82,7 @@ impl Routers {
         self.orders[router.0 as usize]
     }
 
-    /// Adds a router whose name no router has.
+    /// Adds a router, whose name no other has.
     pub(crate) fn push(
         &mut self,
         alloc: Global,

@@ -1,4 +1,4 @@
-//! A source.
+//! A source of a topology.
 
 ghost use Rattle.std.specs.Prelude.{◌≡◌};
 
@@ -6,7 +6,7 @@ use crate::number::LanNo;
 use mc_text::Addr;
 use std::marker::Model;
 
-/// A source of a topology: a host that sends, and the LAN on which it is.
+/// A source of a topology: a host that sends, on a LAN.
 #[derive(Clone, Copy, Debug, PartialEq, Eq)]
 pub struct Source {
     /// The address of the host.

@@ -75,7 +75,7 @@ impl Sources {
         }
     }
 
-    /// Adds a source whose address no source has.
+    /// Adds a source, whose address no other has.
     pub(crate) fn push(&mut self, source: Source) -> Result<(), TopologyFault>
         requires absent { has_source source.address self.old ≡ false }
         ensures added { OnOk result (self.new ≡ self.old ++ source ∷ []) }

@@ -1,4 +1,4 @@
-//! A topology and what it answers.
+//! A topology, read from its text, and its look-ups.
 
 ghost use Rattle.std.specs.Prelude.{◌≡◌, ◌<◌, ◌≤◌, length, Some, None, IfSome, IsTrue, option_map};
 ghost use Rattle.std.specs.Prelude.{slice_get};
@@ -33,7 +33,7 @@ pub struct Topology {
     flows: Flows,
 }
 
-// Written out, so that whoever lets a topology go takes one step, and not one for each of its parts.
+// Written out, so that dropping a topology is one step in a caller's proof, and not one for each field.
 impl Drop for Topology {
     fn drop(self) {
         let Self {
@@ -78,7 +78,7 @@ impl Topology {
     ghost use Rattle.mc_topology.specs.Denotation.{DenotesTopology};
     ghost use Rattle.mc_topology.specs.Topology.{TopologyValue};
 
-    /// The topology of its sections.
+    /// The topology with these sections.
     pub(crate) fn new(
         lans: Lans,
         routers: Routers,
@@ -111,21 +111,26 @@ impl Topology {
     }
 
     /// Reads a topology: at most 16,777,216 bytes of TOML, 1,024 LANs, 256 routers, 8,192
-    /// interfaces, 4,096 sources and 1 to 4,096 flows. Before it is read as TOML, a text is refused
-    /// as `TooMany`, at `top` 0, if that would take much time or memory: outside of strings and
-    /// comments it has at most 131,072 of the marks `.`, `,`, `=`, `{` and `[`, and the bytes of the
-    /// header above each `=` come to at most 268,435,456 together. The sections are judged in the
-    /// order of `Section`, the parts of a section from the front, and the first rule that is broken
-    /// is answered with its place. Of a table the keys are judged first, and then the values.
-    /// `Memory`, at `top` 0, where a growth was refused.
+    /// interfaces, 4,096 sources and 1 to 4,096 flows.
+    ///
+    /// A text that would take much time or memory to parse is refused before it is read as TOML:
+    /// outside of strings and comments it may have at most 131,072 of the marks `.`, `,`, `=`, `{`
+    /// and `[`, and the headers above each `=` may have at most 268,435,456 bytes together.
+    ///
+    /// # Errors
+    ///
+    /// The first rule that the text breaks, with its place. The sections are checked in the order of
+    /// `Section`, the rows of a section from the first one, and of a row the keys before the values.
+    /// `TooMany`, at `top` 0, where the text is beyond a bound, and `Memory`, at `top` 0, where an
+    /// allocation failed.
     pub fn read(alloc: Global, text: &[u8]) -> Result<Topology, TopologyFault>
-        // What is read is what the text stands for.
+        // What is read is what the text denotes.
         ensures found { IfOk result (DenotesTopology text.now) }
-        // A text that stands for a topology and is within the bounds is read as that, unless memory
-        // runs out.
+        // A text that denotes a topology and is within the bounds is read as that, unless memory runs
+        // out.
         ensures only { (t : TopologyValue) → DenotesTopology text.now t →
             IsTrue (is_bounded text.now) → result ≢ Err out_of_memory → result ≡ Ok t }
-        // Which fault it is, unless memory runs out.
+        // The fault is the first one of the text, unless memory runs out.
         ensures fault { result ≢ Err out_of_memory → result ≡ parse_topology text.now }
     {
         parse_topology(alloc, text)
@@ -179,8 +184,8 @@ impl Topology {
         self.routers.order(router)
     }
 
-    /// The LAN on which the interface of a router and a device lies. None where the topology names
-    /// no interface of the router and the device.
+    /// The LAN of the interface with this router and this device. None where the topology has no such
+    /// interface.
     pub fn lan_of_device(&self, router: RouterNo, device: &[u8]) -> Option<LanNo>
         ensures lan { result ≡ lan_of_interface router device.now self.now.interfaces }
         ensures listed { IfSome result (λ lan. lan < length self.now.lans) }
@@ -216,7 +221,7 @@ impl Topology {
         self.flows.flow(flow)
     }
 
-    /// The name of a router.
+    /// The name of the router with this number.
     pub fn router_name(&self, router: RouterNo) -> &str
         requires known { router < length self.now.routers }
         ensures name { option_map (λ r. r.name) (slice_get self.now.routers router) ≡
@@ -227,7 +232,7 @@ impl Topology {
         self.routers.name(router)
     }
 
-    /// The name of a LAN.
+    /// The name of the LAN with this number.
     pub fn lan_name(&self, lan: LanNo) -> &str
         requires known { lan < length self.now.lans }
         ensures name { slice_get self.now.lans lan ≡ Some result.now }
@@ -237,7 +242,7 @@ impl Topology {
         self.lans.name(lan)
     }
 
-    /// The name of a router, empty where the topology has no such number.
+    /// The name of the router with this number; empty where the topology has no such router.
     pub fn router_name_or_empty(&self, router: RouterNo) -> &str
         ensures { result.now ≡ router_name self.now router }
     {
@@ -248,7 +253,7 @@ impl Topology {
         }
     }
 
-    /// The name of a LAN, empty where the topology has no such number.
+    /// The name of the LAN with this number; empty where the topology has no such LAN.
     pub fn lan_name_or_empty(&self, lan: LanNo) -> &str
         ensures { result.now ≡ lan_name self.now lan }
     {

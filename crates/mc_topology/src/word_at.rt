@@ -1,4 +1,4 @@
-//! A word with the place that it is said of, by the names of a topology.
+//! Texts of a word and a place of the topology, by the place's name.
 
 ghost use Rattle.std.specs.Prelude.{◌≡◌, ◌++◌, Some, codes, decimal};
 ghost use Rattle.mc_topology.specs.Topology.{lan_name, router_name};
@@ -12,12 +12,12 @@ use std::fmt;
 pub struct WordAtLan<'t> {
     /// The word.
     pub word: &'t str,
-    /// The name.
+    /// The name of the LAN.
     pub lan: &'t str,
 }
 
 impl<'t> WordAtLan<'t> {
-    /// The word with the name of this LAN, which is empty where the topology hasn't the number.
+    /// The word with the name of this LAN; empty where the topology has no such LAN.
     pub fn new(word: &'t str, topology: &'t Topology, lan: LanNo) -> Self
         ensures word { result.word.now ≡ word.now }
         ensures lan { result.lan.now ≡ lan_name topology.now lan }
@@ -35,7 +35,7 @@ impl<'t> fmt::Display for WordAtLan<'t> {
     }
 }
 
-/// A word with the name of a router and its vif, as `Stray r3 1`.
+/// A word with the name of a router and a vif of it, as `Stray r3 1`.
 #[derive(Clone, Copy, Drop)]
 pub struct WordAtVif<'t> {
     /// The word.
@@ -47,8 +47,8 @@ pub struct WordAtVif<'t> {
 }
 
 impl<'t> WordAtVif<'t> {
-    /// The word with the name of this router, which is empty where the topology hasn't the number, and this
-    /// vif of it.
+    /// The word with the name of this router and a vif of it; the name is empty where the topology has no
+    /// such router.
     pub fn new(word: &'t str, topology: &'t Topology, router: RouterNo, vif: u8) -> Self
         ensures word { result.word.now ≡ word.now }
         ensures router { result.router.now ≡ router_name topology.now router }

@@ -1,4 +1,4 @@
-//! Certificates of a byte more than the greatest one. The program takes no such file.
+//! Certificates that are one byte too long. The program takes no such file.
 
 use super::network::{NETWORK, VERSION_ONE, VERSION_TWO};
 use crate::topology::network::with_topology;
@@ -7,7 +7,7 @@ use mc_topology::Topology;
 use std::alloc::{AllocError, Global};
 use std::test::Fail;
 
-/// A certificate, and spaces behind it.
+/// A certificate, and spaces after it up to one byte too many.
 fn too_long(alloc: Global, certificate: &str) -> Result<Vec<u8>, AllocError> {
     let mut text = Vec::with_capacity(alloc, 16_777_217)?;
     text.extend_from_slice(certificate.as_bytes())?;
@@ -15,7 +15,7 @@ fn too_long(alloc: Global, certificate: &str) -> Result<Vec<u8>, AllocError> {
     Ok(text)
 }
 
-/// Whether a text has too many bytes, over a topology.
+/// Whether a text has too many bytes for a certificate of this topology.
 fn is_refused_for_topology(alloc: Global, topology: &Topology, text: &[u8]) -> bool {
     let fault = CertFault {
         place: At::Top,
@@ -24,7 +24,7 @@ fn is_refused_for_topology(alloc: Global, topology: &Topology, text: &[u8]) -> b
     Certificate::read(alloc, text, topology).err() == Some(fault)
 }
 
-/// The same, over the network.
+/// The same for the topology of NETWORK.
 fn is_refused(alloc: Global, text: &[u8]) -> bool {
     let found = with_topology(alloc, NETWORK.as_bytes(), |topology| {
         is_refused_for_topology(alloc, topology, text)

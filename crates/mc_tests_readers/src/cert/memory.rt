@@ -1,5 +1,5 @@
-//! Want of memory: what is written of a certificate is asked for again. With every growth granted this test
-//! writes it once. `rt try --test --fail-alloc N`, for N from 1 on, refuses one growth after the other.
+//! Lack of memory: a certificate is written, and written again if memory runs out. `rt try --test
+//! --fail-alloc N` refuses the Nth growth.
 
 ghost use Rattle.mc_cert.specs.Certificate.{BelongsTo};
 
@@ -19,7 +19,7 @@ const TEXT: &str = concat!(
     r#"[{"lan":"l0","need":1,"rank":0}]],"version":2}"#
 );
 
-/// Whether the certificate is written so, at the second try where a growth is refused.
+/// Whether the certificate is written as TEXT, by a second call if memory runs out.
 fn is_written_with_retry(
     alloc: Global,
     topology: &Topology,
@@ -33,9 +33,9 @@ fn is_written_with_retry(
     }
 }
 
-/// The same of the certificate that the text stands for.
+/// The same for the certificate that TEXT denotes.
 fn is_rewritten(alloc: Global, topology: &Topology) -> Result<bool, Fail> {
-    texts_stand_for_certificates();
+    denoted_certificate_belongs_to_topology();
     match Certificate::read(alloc, TEXT.as_bytes(), topology) {
         Ok(certificate) => Ok(is_written_with_retry(alloc, topology, &certificate)?),
         Err(fault) => Err(fault.into()),

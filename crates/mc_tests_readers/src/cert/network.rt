@@ -1,5 +1,5 @@
-//! A small network and its certificate in both versions: a source on l0, r1 from l0 to l1, r2 from
-//! l1 to l2.
+//! A small network and its certificate in both versions: a source on l0, r1 between l0 and l1, and r2
+//! between l1 and l2.
 
 pub(super) const NETWORK: &str = r#"version = 1
 lans = ["l0", "l1", "l2"]
@@ -8,7 +8,7 @@ source = [{address = "10.0.0.5", lan = "l0"}]
 flow = [{source = "10.0.0.5", group = "239.1.2.3", ttl = 3}]
 "#;
 
-/// The same network with a second flow, which goes the same way.
+/// The same network with a second flow from the same source.
 pub(super) const TWO_FLOWS: &str = r#"version = 1
 lans = ["l0", "l1", "l2"]
 router = [{name = "r1"}, {name = "r2"}]

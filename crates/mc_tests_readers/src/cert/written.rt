@@ -1,4 +1,4 @@
-//! Certificates as they are written after others that were read.
+//! Tests of certificates that are read and written again.
 
 ghost use Rattle.mc_cert.specs.Certificate.{BelongsTo};
 
@@ -10,7 +10,7 @@ use std::alloc::{AllocError, Global};
 use std::process::Abort;
 use std::test::Fail;
 
-/// Whether a text is that of a certificate.
+/// Whether a certificate is written as this text.
 fn is_written(alloc: Global, topology: &Topology, certificate: &Certificate, wanted: &str) -> bool
     requires { BelongsTo topology.now certificate.now }
 {
@@ -20,16 +20,16 @@ fn is_written(alloc: Global, topology: &Topology, certificate: &Certificate, wan
     }
 }
 
-/// Whether the certificate that a text stands for is written as this one, over a topology.
+/// Whether the certificate that a text denotes over a topology is written as `wanted`.
 fn is_rewritten_over(alloc: Global, topology: &Topology, text: &str, wanted: &str) -> bool {
-    texts_stand_for_certificates();
+    denoted_certificate_belongs_to_topology();
     match Certificate::read(alloc, text.as_bytes(), topology) {
         Ok(certificate) => is_written(alloc, topology, &certificate, wanted),
         Err(_) => false,
     }
 }
 
-/// The same, over the topology of a network.
+/// The same over the topology of a network's text.
 fn is_rewritten(alloc: Global, network: &str, text: &str, wanted: &str) -> bool {
     let found = with_topology(alloc, network.as_bytes(), |topology| {
         is_rewritten_over(alloc, topology, text, wanted)
@@ -37,7 +37,7 @@ fn is_rewritten(alloc: Global, network: &str, text: &str, wanted: &str) -> bool 
     matches!(found, Ok(true))
 }
 
-/// Certificates of the network, each after a comment, and how each is written.
+/// Certificates of NETWORK: of each block a comment, a text, and how its certificate is written.
 const OF_ONE_FLOW: &str = r#"# version 1
 {"flows":[{"group":"239.1.2.3","reached":[{"lan":"l0","need":1,"rank":0},{"lan":"l1","need":2,"rank":1,"router":"r1","vif":1},{"lan":"l2","need":3,"rank":2,"router":"r2","vif":1}],"source":"10.0.0.5"}],"version":1}
 {"flows":[{"group":"239.1.2.3","source":"10.0.0.5","tree":0}],"trees":[[{"lan":"l0","need":1,"rank":0},{"lan":"l1","need":2,"rank":1,"router":"r1","vif":1},{"lan":"l2","need":3,"rank":2,"router":"r2","vif":1}]],"version":2}
@@ -50,7 +50,7 @@ const OF_ONE_FLOW: &str = r#"# version 1
 {"flows":[{"group":"239.1.2.3","reached":[],"source":"10.0.0.5"}],"version":1}
 {"flows":[{"group":"239.1.2.3","source":"10.0.0.5","tree":0}],"trees":[[]],"version":2}"#;
 
-/// The same of two flows.
+/// The same for TWO_FLOWS.
 const OF_TWO_FLOWS: &str = r#"# equal lists of two flows are one tree
 {"flows":[{"group":"239.1.2.3","reached":[{"lan":"l0","need":1,"rank":0}],"source":"10.0.0.5"},{"group":"239.1.2.4","reached":[{"lan":"l0","need":1,"rank":0}],"source":"10.0.0.5"}],"version":1}
 {"flows":[{"group":"239.1.2.3","source":"10.0.0.5","tree":0},{"group":"239.1.2.4","source":"10.0.0.5","tree":0}],"trees":[[{"lan":"l0","need":1,"rank":0}]],"version":2}
@@ -79,8 +79,8 @@ const OF_TWO_FLOWS: &str = r#"# equal lists of two flows are one tree
 {"flows":[{"group":"239.1.2.3","source":"10.0.0.5","tree":0},{"group":"239.1.2.4","source":"10.0.0.5","tree":1}],"trees":[[{"lan":"l0","need":1,"rank":0},{"lan":"l2","need":255,"rank":255,"router":"r2","vif":31}],[{"lan":"l2","need":255,"rank":255,"router":"r2","vif":31},{"lan":"l0","need":1,"rank":0}]],"version":2}
 {"flows":[{"group":"239.1.2.3","source":"10.0.0.5","tree":0},{"group":"239.1.2.4","source":"10.0.0.5","tree":1}],"trees":[[{"lan":"l0","need":1,"rank":0},{"lan":"l2","need":255,"rank":255,"router":"r2","vif":31}],[{"lan":"l2","need":255,"rank":255,"router":"r2","vif":31},{"lan":"l0","need":1,"rank":0}]],"version":2}"#;
 
-/// Each certificate of the blocks is written so.
-fn check(rt: &impl Abort, alloc: Global, network: &str, blocks: &str) {
+/// Each certificate of the blocks is written as its block says.
+fn check_blocks(rt: &impl Abort, alloc: Global, network: &str, blocks: &str) {
     for block in blocks.split("\n\n") {
         let (_, texts) = block.split_once('\n').expect(rt, "a comment");
         let (text, wanted) = texts.split_once('\n').expect(rt, "two texts");
@@ -90,8 +90,8 @@ fn check(rt: &impl Abort, alloc: Global, network: &str, blocks: &str) {
 
 #[test]
 fn certificates_are_written_in_version_two(rt: HostRuntime) {
-    check(&rt, rt.alloc(), NETWORK, OF_ONE_FLOW);
-    check(&rt, rt.alloc(), TWO_FLOWS, OF_TWO_FLOWS);
+    check_blocks(&rt, rt.alloc(), NETWORK, OF_ONE_FLOW);
+    check_blocks(&rt, rt.alloc(), TWO_FLOWS, OF_TWO_FLOWS);
 }
 
 /// A network of the greatest number of flows.
@@ -111,7 +111,7 @@ fn many_flows(alloc: Global) -> Result<String, AllocError> {
     Ok(text)
 }
 
-/// Their certificate: one tree of the greatest number of entries.
+/// The certificate of those flows: one tree of the greatest number of entries.
 fn one_tree(alloc: Global) -> Result<String, AllocError> {
     let mut text = String::from_str(
         alloc,

@@ -1,4 +1,4 @@
-//! Texts past the greatest file, faults that no text brings, and vectors that are given back.
+//! Texts of more than the greatest size, and the fault when memory runs out.
 
 use mc_tables::{CacheTable, TableFault, TableFaultKind, VifTable};
 use mc_text::Order;
@@ -6,7 +6,7 @@ use std::alloc::{AllocError, Global};
 use std::process::Abort;
 use std::test::Fail;
 
-/// The answers of both readers to a text that has neither table.
+/// Both readers refuse a text with this fault.
 fn check_both_readers(rt: &impl Abort, alloc: Global, text: &[u8], wanted: TableFault) {
     assert!(rt; VifTable::read(alloc, text).err() == Some(wanted));
     assert!(rt; CacheTable::read(alloc, text, Order::Little).err() == Some(wanted));
@@ -22,7 +22,7 @@ fn oversized_tables_are_refused(rt: HostRuntime) -> Result<(), Fail> {
     Ok(())
 }
 
-/// A refused growth has no line.
+/// The fault of a refused growth has no line.
 fn check_memory(rt: &impl Abort, alloc: Global, fault: TableFault) -> Result<(), AllocError> {
     let (line, kind) = (0, TableFaultKind::Memory);
     assert!(rt; fault == TableFault { line, kind });

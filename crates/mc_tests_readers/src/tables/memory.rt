@@ -1,6 +1,6 @@
-//! Want of memory: each reader answers it, at line 0, in place of a table. With every growth
-//! granted these tests read each text once, and look things up in what was read.
-//! `rt try --test --fail-alloc N`, for N from 1 on, refuses one growth after the other: the text is then read again.
+//! Lack of memory: each reader returns it, at line 0, in place of a table. Each text is read and its
+//! table is searched. `rt try --test --fail-alloc N` refuses the Nth growth: the text is then read
+//! again.
 
 use mc_tables::{CacheTable, Oif, TableFault, TableFaultKind, VifTable};
 use mc_text::{Addr, Order};
@@ -8,7 +8,7 @@ use std::alloc::Global;
 use std::process::Abort;
 use std::test::Fail;
 
-/// Vifs with all that a line may have, their indexes in no order.
+/// Vifs with each form that a word may have, their indexes in no order.
 const VIFS: &[u8] = b"Interface      BytesIn  PktsIn  BytesOut PktsOut Flags Local    Remote
 31 pimreg            -1 -00000000000000000007 18446744073709551615 0 f0000004 00000000 00000000
  0 eth0           1200      12         0       0 00000 0100000A 00000000
@@ -23,8 +23,8 @@ const VIFS: &[u8] = b"Interface      BytesIn  PktsIn  BytesOut PktsOut Flags Loc
 ";
 
 /// Rows of 239.1.2.3 for 10.0.0.1 to 10.0.0.13, and rows of 239.1.0.1 to 239.1.0.13 for every
-/// source; and behind these rows for one source, for every source and unresolved ones, in an order and
-/// with a count of -1 that no kernel prints.
+/// source; then mixed rows for one source, for every source and unresolved ones, in an order and with a
+/// counter of -1 that no kernel prints.
 const ROWS: &[u8] = b"Group
 030201EF 0100000A 0 0 0 0 5:1 4:1 3:1 2:1 1:1
 030201EF 0200000A 0 0 0 0 5:1 4:1 3:1 2:1 1:1
@@ -61,7 +61,7 @@ const ROWS: &[u8] = b"Group
 3C0008EF 0500000A -1         0        0        0
 ";
 
-/// Whether a growth was refused. What then is answered names no line.
+/// Whether memory ran out. Such a fault has line 0.
 pub(super) fn is_out_of_memory(rt: &impl Abort, fault: TableFault) -> bool {
     if fault.kind == TableFaultKind::Memory {
         assert_eq!(rt; fault.line, 0);
@@ -70,7 +70,7 @@ pub(super) fn is_out_of_memory(rt: &impl Abort, fault: TableFault) -> bool {
     false
 }
 
-/// The vifs, at the second try where a growth is refused.
+/// The vifs, read again if memory runs out.
 fn vifs_with_retry(rt: &impl Abort, alloc: Global) -> Result<VifTable, TableFault> {
     match VifTable::read(alloc, VIFS) {
         Err(fault) if is_out_of_memory(rt, fault) => VifTable::read(alloc, VIFS),
@@ -78,7 +78,7 @@ fn vifs_with_retry(rt: &impl Abort, alloc: Global) -> Result<VifTable, TableFaul
     }
 }
 
-/// The rows, at the second try where a growth is refused.
+/// The rows, read again if memory runs out.
 fn rows_with_retry(rt: &impl Abort, alloc: Global) -> Result<CacheTable, TableFault> {
     match CacheTable::read(alloc, ROWS, Order::Little) {
         Err(fault) if is_out_of_memory(rt, fault) => CacheTable::read(alloc, ROWS, Order::Little),
@@ -86,7 +86,7 @@ fn rows_with_retry(rt: &impl Abort, alloc: Global) -> Result<CacheTable, TableFa
     }
 }
 
-/// The devices of the vifs from 0 on. Vif 2 is a tunnel, and none of them a register.
+/// The devices of the vifs 0 to 8. Vif 2 is a tunnel, and none of them is a register interface.
 const DEVICES: &str = "eth0 none a.name_of15byte eth3 eth4 eth5 eth6 none eth8";
 
 /// Whether the table has this vif.
@@ -107,7 +107,7 @@ pub(super) fn has_vif(
     }
 }
 
-/// What the table of those vifs answers.
+/// The table has those vifs and no others.
 fn check_vifs(rt: &impl Abort, table: &VifTable) {
     for (index, device) in (0..9).zip(DEVICES.split(' ')) {
         assert!(rt;
@@ -166,7 +166,7 @@ pub(super) fn has_wildcard_row(table: &CacheTable, group: [u8; 4]) -> bool {
     table.has_wildcard(Addr::from_octets(group))
 }
 
-/// What the table answers of the rows behind the others.
+/// The table has the mixed rows.
 fn check_mixed_rows(rt: &impl Abort, table: &CacheTable) {
     let ascending = [oif(0, 1), oif(7, 3), oif(31, 254)];
     assert!(rt; has_entry(table, 5, [239, 1, 2, 4], 31, &ascending));

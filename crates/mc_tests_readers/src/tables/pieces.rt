@@ -1,6 +1,6 @@
-//! Tables whose texts are fed in pieces, cut inside lines and inside words. With every growth
-//! granted each text is read once. `rt try --test --fail-alloc N`, for N from 1 on, refuses one
-//! growth after the other: the reader answers that again, and the text is then read by another one.
+//! Tables whose texts are fed in pieces, cut inside lines and inside words. `rt try --test
+//! --fail-alloc N` refuses the Nth growth: each later call of the reader returns that, and the text is
+//! then fed to a second reader.
 
 use super::memory::{has_entry, has_entry_for, has_vif, has_wildcard_row, is_out_of_memory, oif};
 use mc_tables::{
@@ -11,7 +11,7 @@ use std::alloc::Global;
 use std::process::Abort;
 use std::test::Fail;
 
-/// Three vifs. A `|` stands between two pieces.
+/// Three vifs. A `|` separates two pieces.
 const VIFS: &str = "Inter|face BytesIn PktsIn
  0 et|h0 0 0 0 0 00000 0100000A 0000|0000
 |2 tunl0 0 0 0 0 00001 0100000A 0200000A
@@ -19,7 +19,7 @@ const VIFS: &str = "Inter|face BytesIn PktsIn
 ";
 
 /// Rows of 239.1.2.4 for 10.0.0.5 and 10.0.0.6, one of 239.1.2.5 for 10.0.0.5, one of 239.1.2.6 for
-/// every source, and an unresolved one. A `|` stands between two pieces.
+/// every source, and an unresolved one. A `|` separates two pieces.
 const ROWS: &str = "Gro|up
 040201EF 0500|000A 31 0 0 0 7:3 0:|1
 040201EF 0600000A 0 0 0 0 1:1
@@ -28,7 +28,7 @@ const ROWS: &str = "Gro|up
 070201EF 0500000A -1 0 0 0
 ";
 
-/// The vifs of these pieces. A fault is answered again by what is called after it.
+/// The vifs of these pieces. After a fault the next call returns it again.
 fn vifs_of(rt: &impl Abort, alloc: Global, pieces: &str) -> Result<VifTable, TableFault> {
     let mut reader = VifReader::new(alloc);
     for piece in pieces.split('|') {
@@ -40,7 +40,7 @@ fn vifs_of(rt: &impl Abort, alloc: Global, pieces: &str) -> Result<VifTable, Tab
     reader.finish()
 }
 
-/// The vifs, by another reader where a growth is refused.
+/// The vifs, fed to a second reader if memory runs out.
 fn vifs_with_retry(rt: &impl Abort, alloc: Global, pieces: &str) -> Result<VifTable, TableFault> {
     match vifs_of(rt, alloc, pieces) {
         Err(fault) if is_out_of_memory(rt, fault) => vifs_of(rt, alloc, pieces),
@@ -63,8 +63,8 @@ fn vifs_are_read_in_pieces(rt: HostRuntime) -> Result<(), Fail> {
     Ok(())
 }
 
-/// The rows of these pieces, of which those of 239.1.2.4 for 10.0.0.5 are listed. A fault is
-/// answered again by what is called after it.
+/// The rows of these pieces, where 10.0.0.5 and 239.1.2.4 are listed. After a fault the next call
+/// returns it again.
 fn rows_of(rt: &impl Abort, alloc: Global, pieces: &str) -> Result<CacheTable, TableFault> {
     let (source, group) = ([10, 0, 0, 5], [239, 1, 2, 4]);
     let pairs = [(Addr::from_octets(source), Addr::from_octets(group))];
@@ -84,7 +84,7 @@ fn rows_of(rt: &impl Abort, alloc: Global, pieces: &str) -> Result<CacheTable, T
     reader.finish()
 }
 
-/// The rows, by another reader where a growth is refused.
+/// The rows, fed to a second reader if memory runs out.
 fn rows_with_retry(rt: &impl Abort, alloc: Global, pieces: &str) -> Result<CacheTable, TableFault> {
     match rows_of(rt, alloc, pieces) {
         Err(fault) if is_out_of_memory(rt, fault) => rows_of(rt, alloc, pieces),
@@ -108,13 +108,13 @@ fn rows_are_read_in_pieces(rt: HostRuntime) -> Result<(), Fail> {
     Ok(())
 }
 
-/// Vifs whose third line spans three pieces and has an address of seven digits.
+/// Vifs of which the third line spans three pieces and has an address of seven digits.
 const BAD_ADDRESS: &str = "Interface
 0 eth0 0 0 0 0 00000 00000000 00000000
 1 eth1 0 0 |0 0 0000|0 0100000A 0000000
 1|";
 
-/// Rows of which two aren't listed and are of one source and group, the second one in two pieces.
+/// Rows of which two that aren't listed have the same source and group, the second one in two pieces.
 const REPEATED_ROWS: &str = "Group
 040201EF 0500000A 0 0 0 0 1:1
 040201EF 0600000A 0 0 0 0 1:1

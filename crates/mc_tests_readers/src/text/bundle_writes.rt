@@ -1,5 +1,5 @@
-//! Bundles that are written: within the limits, past them, and to outputs that fail; and what is
-//! printed of them.
+//! Tests of bundles that are written: within the limits, past them, and to outputs that fail; and of how
+//! names and faults are printed.
 
 ghost use Rattle.std.specs.Prelude.{None};
 
@@ -7,7 +7,7 @@ use mc_text::*;
 use std::process::Abort;
 use std::test::Fail;
 
-/// Takes every byte, and keeps only how many they were.
+/// An output that takes every byte and only counts them.
 #[derive(Drop)]
 struct CountingOutput {
     taken: usize,
@@ -28,7 +28,7 @@ impl Output for CountingOutput {
     }
 }
 
-/// The bundle of these parts passes a limit, and nothing of it is written.
+/// The bundle of these parts exceeds a limit, and nothing of it is written.
 fn check_refused(rt: &impl Abort, parts: &[Part<'_>]) {
     let mut output = CountingOutput { taken: 0 };
     let answer = write_bundle(parts, &mut output);
@@ -52,7 +52,7 @@ fn at_most_1538_parts_are_written(rt: HostRuntime) -> Result<(), Fail> {
     Ok(())
 }
 
-/// A part with the first bytes of these, so many.
+/// A part of the first `length` of these bytes.
 fn part_of<'a>(name: PartName, bytes: &'a [u8], length: usize) -> Part<'a> {
     Part {
         name,
@@ -60,7 +60,7 @@ fn part_of<'a>(name: PartName, bytes: &'a [u8], length: usize) -> Part<'a> {
     }
 }
 
-/// A part of 16,777,217 bytes is too large, and a bundle of 268,435,457.
+/// A part of 16,777,217 bytes is too large, and so is a bundle of 268,435,457.
 #[test]
 fn largest_bundle_is_written(rt: HostRuntime) -> Result<(), Fail> {
     let name = PartName::new(b"a").ok_or("a name")?;
@@ -98,7 +98,7 @@ fn bundle_is_written_until_the_output_stops(rt: HostRuntime) -> Result<(), Fail>
     Ok(())
 }
 
-/// A name, and the faults that no bundle brings.
+/// How a name is printed, and the faults that no bundle has.
 #[test]
 fn names_and_faults_are_printed(rt: HostRuntime) -> Result<(), Fail> {
     let name = PartName::new(b"a").ok_or("a name")?;

@@ -1,4 +1,4 @@
-//! Bundles that are read at once, from memory.
+//! Tests of bundles that are read at once, from memory.
 
 use mc_text::*;
 use std::alloc::Global;
@@ -18,7 +18,7 @@ mcaudit bundle 1~part a 2~x~end~: BadPartLine
 mcaudit bundle 1~part a 9~x~end~: Truncated
 mcaudit bundle 1~part a 16777217~: TooLarge";
 
-/// The bytes that a text stands for.
+/// The bytes of a text in which `~` is a line feed.
 pub(super) fn bytes_of(alloc: Global, text: &str) -> Result<Vec<u8>, Fail> {
     let mut bytes = Vec::from_slice(alloc, text.as_bytes())?;
     for byte in &mut bytes {
@@ -41,7 +41,7 @@ fn push_parts(text: &mut String, bundle: &Bundle<'_>) -> Result<(), Fail> {
     Ok(())
 }
 
-/// How the bytes are read.
+/// What the bytes are read as, in the form of `BUNDLES`.
 fn printed_reading(alloc: Global, bytes: &[u8]) -> Result<String, Fail> {
     let mut text = String::new(alloc);
     match Bundle::read(alloc, bytes) {
@@ -108,12 +108,12 @@ part certificate 215
 end
 "#;
 
-/// Its parts.
+/// The chain's parts.
 const PARTS: &str =
     "topology 385;vif/r1 139;cache/r1 69;vif/r2 139;cache/r2 69;igmp/l0 0;igmp/l1 0;\
     igmp/l2 33;certificate 215;";
 
-/// It as it is read, at the second try where a growth is refused.
+/// The chain's bundle, read again if memory runs out.
 fn chain_with_retry(alloc: Global) -> Result<Bundle<'static>, BundleFault> {
     match Bundle::read(alloc, CHAIN) {
         Err(BundleFault::Memory) => Bundle::read(alloc, CHAIN),
@@ -121,7 +121,7 @@ fn chain_with_retry(alloc: Global) -> Result<Bundle<'static>, BundleFault> {
     }
 }
 
-/// Whether its last list of reports is there.
+/// Whether the chain's bundle has its last list of reports.
 fn has_reports(bundle: &Bundle<'_>) -> bool {
     bundle.count() == 9
         && bundle.part(7).name.as_bytes() == b"igmp/l2".as_slice()
@@ -138,8 +138,8 @@ fn bundle_is_read_after_a_refused_growth(rt: HostRuntime) -> Result<(), Fail> {
     Ok(())
 }
 
-/// Its bytes up to each of them, by their faults: those within the first line, those within a part or
-/// before its line feed, and those at a line's place.
+/// Each front of the chain's bytes is refused: one that ends in the first line, one that ends in a part
+/// or before its line feed, and one that ends where a line is expected.
 #[test]
 fn cut_bundles_are_refused(rt: HostRuntime) {
     let (mut no_magic, mut truncated, mut no_end) = (0u32, 0u32, 0u32);

@@ -1,4 +1,4 @@
-//! Devices that give and take little, or fail on the way.
+//! Tests of devices that give or take a few bytes at a time, and of devices that fail.
 
 ghost use Rattle.std.specs.Prelude.{◌≡◌, ◌<◌, OnErr, OnOk};
 ghost use Rattle.std.specs.Io.KnownBytes.{Appends};

@@ -1,5 +1,5 @@
-//! When a fault of a bundle's framing is met: by an input that fails behind so many bytes, and so by none
-//! that fails a byte earlier.
+//! Tests of how many bytes of a bundle are read before its fault is found: an input that fails after
+//! exactly so many bytes still shows the fault, and one that fails a byte earlier doesn't.
 
 ghost use Rattle.std.specs.Prelude.{◌≡◌, ◌<◌, ◌≤◌, None, length};
 
@@ -23,13 +23,13 @@ fn fault_of<R: Input + Drop>(input: R) -> Option<BundleFault>
     }
 }
 
-/// The same of an input that fails behind so many bytes of the text.
+/// The fault of a bundle whose input fails after so many bytes of the text.
 fn fault_if_input_fails_after(text: &[u8], before_fault: usize) -> Option<BundleFault> {
     fault_of(FaultyInput::new(text, 7, before_fault))
 }
 
-/// Bundles, each behind its fault and how many bytes are read until it is met: one more than there are
-/// where the input's end shows it. In their bytes a `~` is a line feed.
+/// Bundles, each after its fault and how many bytes are read before it is found: one more than there are
+/// if the end of the input shows it. In their bytes a `~` is a line feed.
 const FAULTS: &str = "\
 17 NoMagic mcaudit bundle 2~end~
 17 NoMagic mcaudit bundle 1
@@ -54,7 +54,7 @@ const FAULTS: &str = "\
 18 NoEnd mcaudit bundle 1~
 20 NoEnd mcaudit bundle 1~en";
 
-/// The fault is met with the last of so many bytes.
+/// The fault is found with the last of so many bytes, and not before.
 fn check_fault_at(rt: &impl Abort, text: &[u8], count: usize, fault: BundleFault) {
     assert!(rt;
         fault_if_input_fails_after(text, count) == Some(fault),
@@ -80,7 +80,7 @@ fn fault_named(name: &str) -> Option<BundleFault> {
     }
 }
 
-/// What a line of the table says holds.
+/// The bundle of a line of the table has the fault of the line, found after so many bytes.
 fn check_table_line(rt: &impl Abort, alloc: Global, line: &str) -> Result<(), Fail> {
     let (number, rest) = line.split_once(' ').ok_or("a number")?;
     let (name, text) = rest.split_once(' ').ok_or("a fault")?;
@@ -107,7 +107,7 @@ fn many_empty_parts(alloc: Global, count: u32) -> Result<Vec<u8>, AllocError> {
     Ok(text)
 }
 
-/// A part too many is refused with its line, which ends 9 bytes behind 1,538 parts of 10 bytes.
+/// One part too many is refused with its line, which ends 9 bytes after 1,538 parts of 10 bytes.
 #[test]
 fn excess_part_is_refused_at_its_line(rt: HostRuntime) -> Result<(), Fail> {
     let text = many_empty_parts(rt.alloc(), 1540)?;
@@ -115,8 +115,8 @@ fn excess_part_is_refused_at_its_line(rt: HostRuntime) -> Result<(), Fail> {
     Ok(())
 }
 
-/// Gives a text, then a byte so many times, and then so often a line with as many of the byte behind it. It fails
-/// behind so many bytes.
+/// An input that gives a text, then a byte `left` times, and then, `lines` times, `PART_LINE` and
+/// 16,777,216 of the byte. It fails after `before_fault` bytes.
 #[derive(Drop)]
 struct LongInput {
     text: &'static [u8],
@@ -127,11 +127,11 @@ struct LongInput {
     failures: u64,
 }
 
-/// What comes between two parts of the greatest size, and what comes behind them.
+/// The line between two parts of the greatest size.
 const PART_LINE: &[u8] = b"\npart a 16777216\n";
 
 impl LongInput {
-    /// Takes the next line where what came before it was given.
+    /// Begins the next line if all before it was given.
     fn start_next_line(&mut self)
         ensures { self.new.failures ≡ self.old.failures }
     {
@@ -142,7 +142,7 @@ impl LongInput {
         }
     }
 
-    /// Gives the next bytes of the text, and answers how many.
+    /// Gives the next bytes of the text, and returns how many.
     fn give_text(&mut self, buffer: &mut [u8]) -> usize
         ensures bound { result ≤ length buffer.new }
         ensures failures { self.new.failures ≡ self.old.failures }
@@ -155,7 +155,7 @@ impl LongInput {
         count
     }
 
-    /// Gives the byte as often as there is room, and answers how often.
+    /// Gives the byte as often as there is room, and returns how often.
     fn give_byte(&mut self, buffer: &mut [u8]) -> usize
         ensures bound { result ≤ length buffer.new }
         ensures failures { self.new.failures ≡ self.old.failures }
@@ -191,7 +191,7 @@ impl Input for LongInput {
     }
 }
 
-/// The fault of 16 parts of the greatest size, from an input that fails behind so many bytes.
+/// The fault of 16 parts of the greatest size, from an input that fails after so many bytes.
 fn fault_of_greatest_parts(before_fault: usize) -> Option<BundleFault> {
     fault_of(LongInput {
         text: b"mcaudit bundle 1\npart a 16777216\n",
@@ -203,7 +203,8 @@ fn fault_of_greatest_parts(before_fault: usize) -> Option<BundleFault> {
     })
 }
 
-/// A part that would pass the greatest bundle is refused with its line, which ends 16 bytes behind 15 parts.
+/// A part that would exceed the greatest bundle is refused with its line, which ends 16 bytes after 15
+/// parts.
 #[test]
 fn oversized_bundle_is_refused_at_its_line(rt: HostRuntime) {
     let count = 17 + 15 * (16 + 16_777_216 + 1) + 16;

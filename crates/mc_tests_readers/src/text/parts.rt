@@ -1,4 +1,4 @@
-//! A bundle told part by part, and what is answered past its end and after a fault.
+//! Tests of a bundle that is read part by part, past its end, and after a fault.
 
 use mc_text::*;
 use std::test::Fail;

@@ -1,8 +1,8 @@
-//! Addresses, lines, words and numbers.
+//! Tests of addresses, lines, words and numbers.
 
 use mc_text::*;
 
-/// Whether two addresses are read, and the words of a kernel's tables that mean the second one.
+/// Whether two dotted addresses are read, and three words of a kernel's tables that denote the second.
 fn addresses_are_read() -> bool {
     let (Some(source), Some(group)) = (
         Addr::parse_dotted(b"10.0.0.5"),
@@ -24,7 +24,7 @@ fn addresses(rt: HostRuntime) {
     assert!(rt; addresses_are_read());
 }
 
-/// Whether a line has this number and these bytes, and a line feed behind it.
+/// Whether a line has this number and these bytes, and whether a line feed ends it.
 fn is_line(line: Option<Line<'_>>, number: u32, bytes: &[u8], ended: bool) -> bool {
     match line {
         Some(line) => line.number == number && line.bytes == bytes && line.ended == ended,
@@ -42,7 +42,7 @@ fn lines(rt: HostRuntime) {
     assert!(rt; Lines::new(b"").next().is_none());
 }
 
-/// Whether the words of a line are these, which stand with commas between.
+/// Whether the words of a line are these, which are separated by commas.
 fn has_words(line: &str, wanted: &str) -> bool {
     let mut words = Words::new(line.as_bytes());
     for word in wanted.split(',') {
@@ -58,7 +58,7 @@ fn words(rt: HostRuntime) {
     assert!(rt; has_words("  0 eth0\tx   12 ", "0,eth0\tx,12"));
 }
 
-/// Whether the words with semicolons between are no numbers up to 31.
+/// Whether none of these words, which are separated by semicolons, is a number up to 31.
 fn are_no_decimals(words: &str) -> bool {
     words
         .split(';')

@@ -1,11 +1,11 @@
-//! Texts of a byte more than the greatest one. The program takes no such file.
+//! Topologies that are one byte too long. The program takes no such file.
 
 use super::network::NETWORK;
 use mc_topology::*;
 use std::alloc::{AllocError, Global};
 use std::test::Fail;
 
-/// A text, and a byte behind it as often as makes it too long.
+/// A text, and a byte after it, repeated up to one byte too many.
 fn too_long(alloc: Global, text: &str, byte: u8) -> Result<Vec<u8>, AllocError> {
     let mut bytes = Vec::from_slice(alloc, text.as_bytes())?;
     bytes.resize(16_777_217, byte)?;
@@ -24,7 +24,8 @@ fn is_refused(alloc: Global, text: &[u8]) -> bool {
     }
 }
 
-/// Too many bytes come before whatever else is wrong: nothing, no key, no TOML and no text.
+/// Too many bytes are reported before any other fault: a missing key, bad TOML, and bytes that aren't
+/// UTF-8.
 #[test]
 fn oversized_topologies_are_refused(rt: HostRuntime) -> Result<(), Fail> {
     for (text, byte) in [(NETWORK, b'#'), ("", b'#'), ("", b'='), ("", 0xFF)] {

@@ -1,6 +1,5 @@
-//! Want of memory: the reader answers it, at `top` 0, in place of a topology. With every growth
-//! granted this test reads the text once. `rt try --test --fail-alloc N`, for N from 1 on, refuses
-//! one growth after the other: the text is then read again.
+//! Lack of memory: the reader returns it, at `top` 0, in place of a topology. `rt try --test
+//! --fail-alloc N` refuses the Nth growth: the text is then read again.
 
 use super::network::with_topology;
 use mc_topology::*;
@@ -57,7 +56,7 @@ flow = [
 ]
 "#;
 
-/// Whether a growth was refused. What then is answered names no part.
+/// Whether memory ran out. Such a fault has the place `top` 0.
 fn is_out_of_memory(rt: &impl Abort, fault: TopologyFault) -> bool {
     if fault.kind == TopologyFaultKind::Memory {
         assert!(rt; fault.section == Section::Top);
@@ -90,12 +89,12 @@ fn check_nine(rt: &impl Abort, topology: &Topology) {
     check_ninth(rt, topology);
 }
 
-/// Looks at the topology.
+/// Reads the topology and checks it.
 fn check_read(rt: &impl Abort, alloc: Global) -> Result<(), TopologyFault> {
     with_topology(alloc, NINE, |topology| check_nine(rt, topology))
 }
 
-/// The same, at the second try where a growth is refused.
+/// The same, a second time if memory runs out.
 fn check_read_with_retry(rt: &impl Abort, alloc: Global) -> Result<(), TopologyFault> {
     match check_read(rt, alloc) {
         Err(fault) if is_out_of_memory(rt, fault) => check_read(rt, alloc),

@@ -1,4 +1,4 @@
-//! Reading a bundle.
+//! Reading a bundle from a text in memory.
 
 ghost use Rattle.std.specs.Prelude.{◌≡◌, ◌≢◌, ◌-◌, ◌<◌, ◌≤◌, ◌⊎◌, List, length, min, IfOk, IfErr, Ok};
 ghost use Rattle.std.specs.Prelude.{Err, Some, slice_get, option_map, None};
@@ -31,7 +31,7 @@ pub(crate) const MAX_BUNDLE: usize = 268_435_456;
 /// The greatest number of parts.
 pub(crate) const MAX_PARTS: usize = 1_538;
 
-/// Where reading stands: how many parts and how many bytes may still come, and the bytes that do.
+/// A place in a bundle: how many parts and how many bytes may still come, and the bytes that follow.
 #[derive(Clone, Copy)]
 struct BundlePlace<'a> {
     parts: usize,
@@ -81,7 +81,7 @@ fn part_after_line<'a>(
     Ok(Some((Part { name, bytes }, next)))
 }
 
-/// Nothing may follow the line `end`.
+/// Checks that there is room for the line `end`, and that nothing follows it.
 fn check_end_is_last(place: &BundlePlace<'_>, after: &[u8]) -> Result<(), BundleFault>
     ensures { Gives (λ _. None) result (end_for_line (place_text place.now) after.now) }
 {
@@ -137,7 +137,7 @@ fn parts_of(alloc: Global, text: &[u8]) -> Result<Vec<Part<'_>>, BundleFault>
     }
 }
 
-/// A bundle that was read: its parts, which lie in the text that it was read from.
+/// A bundle that was read: its parts, whose bytes are borrowed from the text.
 #[derive(Debug, Drop)]
 pub struct Bundle<'a> {
     parts: Vec<Part<'a>>,
@@ -158,27 +158,27 @@ impl<'a> Bundle<'a> {
     /// all.
     ///
     /// The first line is `mcaudit bundle 1`. A part is a line `part`, its name and its length, the
-    /// bytes, and a line feed. The line `end` stands last.
+    /// bytes, and a line feed. The last line is `end`.
     ///
     /// # Errors
     ///
     /// The first fault from the front, or `Memory`.
     pub fn read(alloc: Global, text: &'a [u8]) -> Result<Bundle<'a>, BundleFault>
-        // What is read stands there.
+        // The text is a bundle of the parts that are read.
         ensures found { IfOk result (IsBundle text.now) }
-        // A bundle of these parts is read as them, unless memory runs out.
+        // A bundle is read as its parts, unless memory runs out.
         ensures only { (parts : List PartText) → IsBundle text.now parts
             → result ≢ Err BundleFault.Memory → result ≡ Ok parts }
-        // Else the fault is the first one from the front, unless memory runs out.
+        // Otherwise the fault is the first one from the front, unless memory runs out.
         ensures fault { result ≢ Err BundleFault.Memory → result ≡ bundle_of text.now }
-        // No other comes.
+        // No other fault is returned.
         ensures faults { IfErr result
             (λ fault. IsFramingFault fault ⊎ (fault ≡ BundleFault.Memory)) }
     {
         Bundle::from_text(alloc, text)
     }
 
-    /// The same, with all three said at once.
+    /// As `read`, with the result as a function of the text.
     #[tactic(auto, unfolding(crate::specs::BundleReading::bundle_of))]
     fn from_text(alloc: Global, text: &'a [u8]) -> Result<Bundle<'a>, BundleFault>
         ensures { Gives (λ bundle. bundle) result (bundle_of text.now) }
@@ -190,14 +190,14 @@ impl<'a> Bundle<'a> {
         Ok(Bundle { parts })
     }
 
-    /// How many parts it has.
+    /// The number of parts.
     pub fn count(&self) -> usize
         ensures { result ≡ length self.now }
     {
         self.parts.len()
     }
 
-    /// The part at a place, which is counted from 0 and below `count`.
+    /// The part at a place, counted from 0, which must be below `count`.
     pub fn part(&self, place: usize) -> Part<'a>
         requires known { place < length self.now }
         ensures item { slice_get self.now place ≡ Some (part_text result) }

@@ -17,19 +17,19 @@ use crate::io::{DeviceFault, Output, write_all, write_pieces};
 use itoa::Buffer;
 
 /// Writes the bundle of the parts: at most 1,538 parts of at most 16,777,216 bytes, and 268,435,456
-/// bytes in all. It takes no memory. The output's count of failures has to be below `u64::MAX`.
+/// bytes in all. It allocates no memory. The output's count of failures must be below `u64::MAX`.
 ///
 /// # Errors
 ///
-/// `TooLarge` where the parts pass a limit, and nothing is written. `Write` at the first call that
-/// answers an error or takes no byte; a proper part of the bundle was written then, from its front.
+/// `TooLarge` if the parts exceed a limit; nothing is written then. `Write` at the first call that
+/// returns an error or takes no byte; a proper prefix of the bundle was written then.
 pub fn write_bundle<W: Output>(parts: &[Part<'_>], output: &mut W) -> Result<(), BundleFault>
     requires failures { W.failed output.old < u64.MAX }
     ensures same { W.borrows output.new ≡ W.borrows output.old }
     ensures ok { OnOk result
         (AppendsBundle (W.written output.old) (W.written output.new) (part_texts parts.now)) }
 
-    // It fails for two reasons only.
+    // No other fault is returned.
     ensures faults { IfErr result
         (λ fault. (fault ≡ BundleFault.TooLarge) ⊎ (fault ≡ BundleFault.Write)) }
     ensures too_large { IsErrOf result BundleFault.TooLarge
@@ -68,7 +68,7 @@ fn are_within_limits(parts: &[Part<'_>]) -> bool
     size <= MAX_BUNDLE
 }
 
-/// How many bytes a part takes, with its line.
+/// The number of bytes that a part takes, with its line.
 fn encoded_part_size(part: &Part<'_>) -> usize
     requires bounded { length part.now.bytes.now ≤ MAX_PART }
     ensures size { result ≡ length (part_spelling (part_text part.now)) }
@@ -81,7 +81,7 @@ fn encoded_part_size(part: &Part<'_>) -> usize
     line + 1 + part.bytes.len() + 1
 }
 
-/// Writes the bundle of the parts, whatever they are.
+/// Writes the bundle of the parts, without a check of its limits.
 fn write_parts<W: Output>(output: &mut W, parts: &[Part<'_>]) -> Result<(), DeviceFault>
     requires failures { W.failed output.old < u64.MAX }
     ensures same { W.borrows output.new ≡ W.borrows output.old }
@@ -116,7 +116,7 @@ fn write_part<W: Output>(output: &mut W, part: &Part<'_>) -> Result<(), DeviceFa
     )
 }
 
-/// The pieces of a part.
+/// The pieces that are written for a part.
 fn part_pieces<'a>(name: &'a [u8], digits: &'a [u8], bytes: &'a [u8]) -> [&'a [u8]; 7]
     ensures { flat_map (λ piece. piece.now) result
         ≡ (codes "part " ++ (name.now ++ (codes " " ++ digits.now)) ++ codes "\n")

@@ -2,7 +2,7 @@
 
 use crate::bundle::part_name::PartName;
 
-/// A part: its name, and its bytes where they lie.
+/// A part: its name, and its bytes, which are borrowed.
 #[derive(Clone, Copy, Debug, PartialEq, Eq)]
 pub struct Part<'a> {
     /// Its name.

@@ -1,23 +1,23 @@
-//! The bytes of a bundle's present part, collected.
+//! Collecting the bytes of a bundle's current part.
 
-ghost use Rattle.std.specs.Prelude.{◌≡◌, ◌≢◌, ◌<◌, ◌++◌, ◌⊎◌, ℕ, List, Some, Err, IfOk, IfErr, OnOk};
+ghost use Rattle.std.specs.Prelude.{◌≡◌, ◌≢◌, ◌<◌, ◌⊎◌, ℕ, List, Some, Err, IfOk, IfErr, OnOk};
 ghost use Rattle.std.specs.Prelude.{length};
 ghost use Rattle.mc_text.specs.declared.bundle.stage.Stage.TheVariants as stages;
 ghost use Rattle.mc_text.specs.Device.{failures_after};
 ghost use Rattle.mc_text.specs.PartsReading.{is_read, parts_from_current};
-ghost use Rattle.mc_text.specs.RestOfBundle.{Advances};
+ghost use Rattle.mc_text.specs.RestOfBundle.{Advances, ReadsOfPart};
 
 use crate::bundle::bundle_fault::BundleFault;
 use crate::bundle::parts::Parts;
 use crate::io::Input;
 use std::alloc::Global;
 
-/// Collects what is left of the present part, piece by piece through the buffer, which may not be
-/// empty. The input's count of failures has to be below `u64::MAX`.
+/// Collects the rest of the current part, piece by piece through the buffer, which must not be empty.
+/// The input's count of failures must be below `u64::MAX`.
 ///
 /// # Errors
 ///
-/// As `Parts::read`, or `Memory`.
+/// As `Parts::read`, or `Memory` if an allocation is refused.
 pub fn collect_part<R: Input>(
     alloc: Global,
     parts: &mut Parts<R>,
@@ -26,10 +26,9 @@ pub fn collect_part<R: Input>(
     requires open { parts.old.stage ≡ stages.Part }
     requires room { 0 < length buffer.old }
     requires failures { parts.old.failed < u64.MAX }
-    // They are the bytes that come of the part, and the bundle stays what it is.
+    // The bytes are those of the part that were still to come: the parts of the bundle stay the same.
     ensures bytes { (text done : List ℕ) → parts.old.remaining ≡ Some text → IfOk result (λ bytes.
-        (later : List ℕ) × (parts.new.remaining ≡ Some later)
-        × (parts_from_current parts.old done text ≡ parts_from_current parts.new (done ++ bytes.items) later)) }
+        ReadsOfPart parts.old parts.new done text bytes.items) }
     ensures whole { OnOk result ((parts.new.stage ≡ stages.Part)
         × (parts.new.name ≡ parts.old.name) × (parts.new.left ≡ 0)) }
     ensures advances { Advances parts.old parts.new }

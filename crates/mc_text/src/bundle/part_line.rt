@@ -1,4 +1,4 @@
-//! The lines of a bundle: `end`, and `part`, a name and a length.
+//! The lines of a bundle: `end`, and `part` with a name and a length.
 
 ghost use Rattle.std.specs.Prelude.{◌≡◌, min, true, option_map};
 ghost use Rattle.std.specs.Char.{is_ascii_digit};
@@ -29,8 +29,7 @@ pub(crate) fn line_at(rest: &[u8]) -> Result<(&[u8], &[u8]), BundleFault>
     }
 }
 
-/// The name and the length that a part line says. A length of more than 64 bits is told as the
-/// greatest one of 64.
+/// The name and the length in a part line. A length that doesn't fit in 64 bits is read as `u64::MAX`.
 #[tactic(auto, unfolding(crate::specs::BundleReading::parse_part_line))]
 pub(crate) fn parse_part_line(line: &[u8]) -> Option<(PartName, u64)>
     ensures { result ≡ option_map (λ header. (header.0, min header.1 u64.MAX)) (part_line_of line.now) }
@@ -39,7 +38,7 @@ pub(crate) fn parse_part_line(line: &[u8]) -> Option<(PartName, u64)>
     parse_name_and_length(words)
 }
 
-/// The same of a line without its `part `.
+/// The name and the length in a part line without its `part `.
 fn parse_name_and_length(words: &[u8]) -> Option<(PartName, u64)>
     ensures { result ≡ option_map (λ header. (header.0, min header.1 u64.MAX)) (name_and_length_of words.now) }
 {
@@ -68,7 +67,7 @@ fn are_digits(word: &[u8]) -> bool
     word.iter().all(|byte| byte.is_ascii_digit())
 }
 
-/// The number that the digits write, or the greatest one of 64 bits.
+/// The number that the digits write, or `u64::MAX` if it doesn't fit in 64 bits.
 #[tactic(auto, using(crate::proofs::NumberReading::number_or_greatest))]
 fn length_or_max(digits: &[u8]) -> u64
     requires decimal { is_decimal digits.now ≡ true }

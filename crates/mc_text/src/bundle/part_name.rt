@@ -39,7 +39,7 @@ impl Model for PartName {
 }
 
 impl PartName {
-    /// The name of these bytes. There is none where they are no byte, more than 64, or not all of
+    /// The name with these bytes. There is none if they are empty, more than 64, or other bytes than
     /// those.
     pub fn new(bytes: &[u8]) -> Option<PartName>
         ensures found { IfSome result (λ name. name ≡ bytes.now) }
@@ -96,7 +96,7 @@ fn is_name_byte(byte: u8) -> bool
     byte.is_ascii_alphanumeric() || matches!(byte, b'-' | b'_' | b'.' | b'/')
 }
 
-/// The bytes, and zeros after them.
+/// The bytes, followed by zeros.
 fn padded(bytes: &[u8]) -> [u8; MAX_NAME]
     requires bounded { length bytes.now ≤ MAX_NAME }
     ensures value { result ≡ with_zeros bytes.now }

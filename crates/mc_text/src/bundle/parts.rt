@@ -1,12 +1,13 @@
-//! A bundle part by part, from an input.
+//! Reading a bundle part by part from an input.
 
-ghost use Rattle.std.specs.Prelude.{◌≡◌, ◌≢◌, ◌+◌, ◌<◌, ◌≤◌, ◌++◌, ◌⊎◌, ℕ, List, [], length, take};
+ghost use Rattle.std.specs.Prelude.{◌≡◌, ◌≢◌, ◌+◌, ◌<◌, ◌≤◌, ◌⊎◌, ℕ, List, [], length, take};
 ghost use Rattle.std.specs.Prelude.{Ok, Err, Some, true, false, IfOk, IfErr, IsSome, OnErr};
 ghost use Rattle.mc_text.specs.declared.bundle.stage.Stage.TheVariants as stages;
 ghost use Rattle.mc_text.specs.BundleFaults.{IsInputFault};
 ghost use Rattle.mc_text.specs.BundleReading.{bundle_of};
 ghost use Rattle.mc_text.specs.Device.{failures_after};
-ghost use Rattle.mc_text.specs.PartsReading.{prepend_parts, is_read, parts_from_current, current_part};
+ghost use Rattle.mc_text.specs.PartsReading.{is_read, parts_from_current, current_part};
+ghost use Rattle.mc_text.specs.RestOfBundle.{ReadsNextOfPart, SkipsCurrentPart};
 ghost use Rattle.mc_text.specs.PartsLimits.{ConsumesWithin, max_to_come};
 ghost use Rattle.mc_text.specs.Bundle.{max_bundle, max_line, max_part};
 
@@ -18,7 +19,7 @@ use crate::bundle::stage::Stage;
 use crate::io::Input;
 use std::marker::Model;
 
-/// The parts of a bundle, one after the other, as an input gives its bytes. It takes no memory.
+/// The parts of a bundle, read one after another from an input. It allocates no memory.
 #[derive(Drop)]
 pub struct Parts<R: Input> {
     input: R,
@@ -49,7 +50,7 @@ impl<R: Input> Parts<R> {
         ensures failures { result.failed ≡ R.failed input }
         ensures same { result.borrows ≡ R.borrows input }
         ensures start { result.stage ≡ stages.Start }
-        // No more is read than the greatest bundle and a line.
+        // No more is read than the bytes of the greatest bundle and a line.
         ensures most { max_to_come result ≡ max_bundle + max_line }
         // The parts are those of the whole text.
         ensures parts { (text : List ℕ) → parts_from_current result [] text ≡ bundle_of text }
@@ -65,43 +66,42 @@ impl<R: Input> Parts<R> {
         }
     }
 
-    /// Passes what is left of the present part, and opens the next one. It answers false past the
-    /// last, and from then on. The input's count of failures has to be below `u64::MAX`.
+    /// Skips the rest of the current part and opens the next one. Returns false after the last part,
+    /// and from then on. The input's count of failures must be below `u64::MAX`.
     ///
     /// # Errors
     ///
-    /// The first fault from the front, `Read` where the input failed, and `Failed` after either.
+    /// The first fault from the front, `Read` if the input failed, and `Failed` on each call after
+    /// either.
     pub fn next(&mut self) -> Result<bool, BundleFault>
         requires failures { self.old.failed < u64.MAX }
         ensures borrows { self.new.borrows ≡ self.old.borrows }
-        // Where a part was opened, the bundle is what was passed, with the present part, and what is
-        // still to come.
+        // If a part was opened, the parts that were to come are the one that was skipped, if there
+        // was one, and those that are still to come.
         ensures opened { (text done : List ℕ) → self.old.remaining ≡ Some text → result ≡ Ok true →
-            (later : List ℕ) × (self.new.remaining ≡ Some later)
-            × (parts_from_current self.old done text
-            ≡ prepend_parts (current_part self.old done text) (parts_from_current self.new [] later)) }
-        // Past the last part it is what was passed.
+            SkipsCurrentPart self.old self.new done text }
+        // After the last part they are the one that was skipped, if there was one.
         ensures ended { (text done : List ℕ) → self.old.remaining ≡ Some text → result ≡ Ok false →
             parts_from_current self.old done text ≡ Ok (current_part self.old done text) }
         // Which fault it is, unless the input failed.
         ensures fault { (text done : List ℕ) → self.old.remaining ≡ Some text → IfErr result
             (λ fault. fault ≢ BundleFault.Read → parts_from_current self.old done text ≡ Err fault) }
-        // Of whatever input, no other fault comes.
+        // No input gives another fault.
         ensures faults { IfErr result (λ fault. IsInputFault fault
             ⊎ ((fault ≡ BundleFault.Failed) × (self.old.stage ≡ stages.Failed))) }
         ensures open { result ≡ Ok true →
             (self.new.stage ≡ stages.Part) × (self.new.left ≡ self.new.size) }
         ensures named { result ≡ Ok true → IsSome self.new.name }
         ensures bound { result ≡ Ok true → self.new.size ≤ max_part }
-        // There are at most so many as may come.
+        // Each part leaves fewer parts that may come.
         ensures fewer { result ≡ Ok true → self.new.parts < self.old.parts }
         ensures end { result ≡ Ok false → self.new.stage ≡ stages.End }
         ensures failed { OnErr result (self.new.stage ≡ stages.Failed) }
-        // After a fault, and past the last part, nothing is read.
+        // After a fault, and after the last part, nothing is read.
         ensures again { self.old.stage ≡ stages.Failed →
             (result ≡ Err BundleFault.Failed) × (self.new ≡ self.old) }
         ensures past { self.old.stage ≡ stages.End → (result ≡ Ok false) × (self.new ≡ self.old) }
-        // No more is read than may come, whatever the answer.
+        // No more is read than may come, whatever the result.
         ensures consumed { ConsumesWithin
             (max_to_come self.old) (max_to_come self.new) self.old.remaining self.new.remaining }
         ensures failures { self.new.failed ≡ failures_after is_read result self.old.failed }
@@ -130,7 +130,7 @@ impl<R: Input> Parts<R> {
         }
     }
 
-    /// The fault, after which none but `Failed` is answered.
+    /// Returns the fault, and `Failed` is returned from then on.
     fn failed(&mut self, fault: BundleFault) -> BundleFault
         ensures fault { result ≡ fault }
         ensures stage { self.new ≡ record self.old { stage = stages.Failed } }
@@ -139,7 +139,7 @@ impl<R: Input> Parts<R> {
         fault
     }
 
-    /// The name of the part that the last `next` opened, which has to be there.
+    /// The name of the current part. There must be one: the last `next` returned true.
     pub fn name(&self) -> PartName
         requires in_part { self.now.stage ≡ stages.Part }
         ensures item { self.now.name ≡ Some result }
@@ -147,7 +147,7 @@ impl<R: Input> Parts<R> {
         self.name.unwrap()
     }
 
-    /// The length of that part, in bytes.
+    /// The length of the current part in bytes. There must be one: the last `next` returned true.
     pub fn length(&self) -> u32
         requires in_part { self.now.stage ≡ stages.Part }
         ensures value { result ≡ self.now.size }
@@ -155,26 +155,24 @@ impl<R: Input> Parts<R> {
         self.size as u32
     }
 
-    /// Puts the next bytes of the part at the buffer's front, and answers how many: none at the
-    /// part's end, for an empty buffer, and where no part is open. The input's count of failures
-    /// has to be below `u64::MAX`.
+    /// Reads the next bytes of the current part to the front of the buffer, and returns how many: 0
+    /// at the part's end, for an empty buffer, and if there is no current part. The input's count of
+    /// failures must be below `u64::MAX`.
     ///
     /// # Errors
     ///
-    /// `Truncated` where the input ends before the part does, `Read` where it failed, and `Failed`
-    /// after either.
+    /// `Truncated` if the input ends before the part does, `Read` if it failed, and `Failed` on each
+    /// call after either.
     pub fn read(&mut self, buffer: &mut [u8]) -> Result<usize, BundleFault>
         requires failures { self.old.failed < u64.MAX }
         ensures borrows { self.new.borrows ≡ self.old.borrows }
         ensures bound { IfOk result (λ n. n ≤ length buffer.new) }
-        // The bytes that were read move from what is to come to what was read of the part, and the
-        // bundle stays what it is.
+        // The bytes are the next ones of the part: the parts of the bundle stay the same.
         ensures bytes { (text done : List ℕ) → self.old.remaining ≡ Some text → IfOk result (λ n.
-            (later : List ℕ) × (self.new.remaining ≡ Some later) × (text ≡ take n buffer.new ++ later)
-            × (parts_from_current self.old done text ≡ parts_from_current self.new (done ++ take n buffer.new) later)) }
+            ReadsNextOfPart self.old self.new done text (take n buffer.new)) }
         ensures left { IfOk result (λ n. self.old.stage ≡ stages.Part →
             self.new.left + n ≡ self.old.left) }
-        // None are read only into an empty buffer or at the part's end.
+        // In a part, 0 is returned only for an empty buffer or at the part's end.
         ensures end { IfOk result (λ n. n ≡ 0 → self.old.stage ≡ stages.Part →
             (length buffer.new ≡ 0) ⊎ (self.old.left ≡ 0)) }
         ensures same { IfOk result (λ _. (self.new.stage ≡ self.old.stage)
@@ -183,21 +181,21 @@ impl<R: Input> Parts<R> {
         // Which fault it is, unless the input failed.
         ensures fault { (text done : List ℕ) → self.old.remaining ≡ Some text → IfErr result
             (λ fault. fault ≢ BundleFault.Read → parts_from_current self.old done text ≡ Err fault) }
-        // Of whatever input, no other fault comes.
+        // No input gives another fault.
         ensures faults { IfErr result (λ fault. (fault ≡ BundleFault.Truncated)
             ⊎ ((fault ≡ BundleFault.Read)
             ⊎ ((fault ≡ BundleFault.Failed) × (self.old.stage ≡ stages.Failed)))) }
         ensures failed { OnErr result (self.new.stage ≡ stages.Failed) }
-        // Where no part is open nothing is read.
+        // With no current part nothing is read.
         ensures closed { (self.old.stage ≡ stages.Start) ⊎ (self.old.stage ≡ stages.End) →
             (result ≡ Ok 0) × (self.new ≡ self.old) }
-        // Nor is it into an empty buffer or at the part's end.
+        // Nor is anything read into an empty buffer or at the part's end.
         ensures nothing { self.old.stage ≡ stages.Part →
             (length buffer.old ≡ 0) ⊎ (self.old.left ≡ 0) →
             (result ≡ Ok 0) × (self.new ≡ self.old) }
         ensures again { self.old.stage ≡ stages.Failed →
             (result ≡ Err BundleFault.Failed) × (self.new ≡ self.old) }
-        // No more is read than may come, whatever the answer.
+        // No more is read than may come, whatever the result.
         ensures consumed { ConsumesWithin
             (max_to_come self.old) (max_to_come self.new) self.old.remaining self.new.remaining }
         ensures failures { self.new.failed ≡ failures_after is_read result self.old.failed }
@@ -221,7 +219,7 @@ impl<R: Input> Parts<R> {
         }
     }
 
-    /// The input, which has the bytes that were not yet read.
+    /// Returns the input, with the bytes that were not read yet.
     pub fn into_input(self) -> R
         ensures remaining { R.remaining result ≡ self.remaining }
         ensures failures { R.failed result ≡ self.failed }

@@ -1,4 +1,4 @@
-//! The pieces of a bundle as an input gives them: lines, and what is left of a part.
+//! The pieces of a bundle, read from an input: its lines, and the rest of a part.
 
 ghost use Rattle.std.specs.Prelude.{◌≡◌, ◌≢◌, ◌+◌, ◌<◌, ◌≤◌, length, take, min, OnOk, IfOk, IfErr};
 ghost use Rattle.std.specs.Prelude.{Ok, Err, Some, None, IfSome, option_map, ℕ, List, [], ◌∷◌, Option};
@@ -18,7 +18,7 @@ use crate::bundle::part_name::PartName;
 use crate::bundle::stage::OpenPart;
 use crate::io::Input;
 
-/// Reads until the buffer is full or the input is at its end, and answers how many bytes.
+/// Reads until the buffer is full or the input ends, and returns how many bytes were read.
 pub(crate) fn fill_buffer<R: Input>(input: &mut R, buffer: &mut [u8]) -> Result<usize, BundleFault>
     requires failures { R.failed input.old < u64.MAX }
     ensures same { R.borrows input.new ≡ R.borrows input.old }
@@ -78,7 +78,7 @@ fn next_byte<R: Input>(input: &mut R) -> Result<Option<u8>, BundleFault>
     }
 }
 
-/// Reads a line without its line feed to the buffer's front, and answers its length.
+/// Reads a line without its line feed to the front of the buffer, and returns its length.
 fn read_line<R: Input>(input: &mut R, line: &mut [u8; 96]) -> Result<usize, BundleFault>
     requires failures { R.failed input.old < u64.MAX }
     ensures same { R.borrows input.new ≡ R.borrows input.old }
@@ -104,7 +104,7 @@ fn read_line<R: Input>(input: &mut R, line: &mut [u8; 96]) -> Result<usize, Bund
     Err(BundleFault::BadPartLine)
 }
 
-/// Passes what is left of a part, and its line feed.
+/// Skips the rest of a part, `left` bytes, and its line feed.
 pub(crate) fn skip_rest<R: Input>(input: &mut R, left: usize) -> Result<(), BundleFault>
     requires failures { R.failed input.old < u64.MAX }
     ensures same { R.borrows input.new ≡ R.borrows input.old }
@@ -129,7 +129,7 @@ pub(crate) fn skip_rest<R: Input>(input: &mut R, left: usize) -> Result<(), Bund
     }
 }
 
-/// Nothing may follow the line `end`.
+/// Checks that there is room for the line `end`, and that nothing follows it.
 fn read_end<R: Input>(input: &mut R, room: usize) -> Result<(), BundleFault>
     requires failures { R.failed input.old < u64.MAX }
     ensures same { R.borrows input.new ≡ R.borrows input.old }
@@ -147,7 +147,7 @@ fn read_end<R: Input>(input: &mut R, room: usize) -> Result<(), BundleFault>
     }
 }
 
-/// The part whose line was read.
+/// The part that a line with this header opens, if it is within the limits.
 fn open_part(
     parts: usize,
     room: usize,
@@ -183,7 +183,7 @@ fn open_part(
     })
 }
 
-/// Reads the line of a part, or the end, where so many parts and bytes may come.
+/// Reads a part's line, or the line `end`, where so many parts and bytes may still come.
 pub(crate) fn open_next<R: Input>(
     input: &mut R,
     parts: usize,
@@ -211,7 +211,7 @@ pub(crate) fn open_next<R: Input>(
     Ok(Some(open))
 }
 
-/// Passes the first line, or what is left of a part, and reads the next part's line.
+/// Skips the first line, or the rest of a part, and reads the next part's line.
 pub(crate) fn read_next<R: Input>(
     input: &mut R,
     start: bool,

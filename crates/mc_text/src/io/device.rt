@@ -1,5 +1,4 @@
-//! What bytes come from and go to: inputs and outputs, which may fail, and count how often they
-//! did.
+//! Inputs and outputs of bytes. They may fail, and count their failures.
 
 ghost use Rattle.std.specs.Prelude.{◌≡◌, ◌<◌, ◌∷◌, ℕ, List, [], Option, Some, codes};
 ghost use Rattle.std.specs.Borrow.{GName};
@@ -9,7 +8,7 @@ ghost use Rattle.mc_text.specs.Device.{failures_after_read, failures_after_write
 
 use std::fmt;
 
-/// A device failed, and says no more than that.
+/// A call of a device failed. The cause isn't known.
 #[derive(Clone, Copy, Debug, PartialEq, Eq)]
 pub struct DeviceFault;
 
@@ -23,9 +22,9 @@ impl fmt::Display for DeviceFault {
 
 impl std::error::Error for DeviceFault {}
 
-/// What bytes are read from.
+/// A device that bytes are read from.
 pub trait Input {
-    // the bytes that it still gives, where it tells them
+    // the bytes that are still to be read, if they are known
     ghost remaining: { Self → Option (List ℕ) };
 
     // how many calls failed
@@ -34,9 +33,9 @@ pub trait Input {
     // the references that it is reached through
     ghost borrows: { Self → List GName } = { λ _. [] };
 
-    /// Puts the next bytes at the buffer's front, and answers how many. It answers 0 only at the
-    /// end of the input or for an empty buffer. A call that answers an error took no byte. It may
-    /// be called while the count of failures is below `u64::MAX`.
+    /// Reads the next bytes to the front of the buffer, and returns how many. It returns 0 only at
+    /// the end of the input or for an empty buffer. A call that returns an error reads no byte. It
+    /// may be called while the count of failures is below `u64::MAX`.
     fn read(&mut self, buffer: &mut [u8]) -> Result<usize, DeviceFault>
         requires failures { failed self.old < u64.MAX }
         ensures same { borrows self.new ≡ borrows self.old }
@@ -44,7 +43,7 @@ pub trait Input {
         ensures bytes { ReadConsumes (remaining self.old) (remaining self.new) result buffer.new }
         ensures failures { failed self.new ≡ failures_after_read result (failed self.old) };
 
-    /// How many calls of `read` answered an error.
+    /// The number of calls of `read` that returned an error.
     fn failures(&self) -> u64
         ensures { result ≡ failed self.now };
 }
@@ -65,9 +64,9 @@ impl<R: Input> Input for &mut R {
     }
 }
 
-/// What bytes are written to.
+/// A device that bytes are written to.
 pub trait Output {
-    // the bytes that it took, where it tells them
+    // the bytes that were written, if they are known
     ghost written: { Self → Option (List ℕ) };
 
     // how many calls failed
@@ -76,8 +75,8 @@ pub trait Output {
     // the references that it is reached through
     ghost borrows: { Self → List GName } = { λ _. [] };
 
-    /// Takes bytes from the text's front, and answers how many. A call that answers an error took
-    /// none. It may be called while the count of failures is below `u64::MAX`.
+    /// Writes bytes from the front of the text, and returns how many. A call that returns an error
+    /// writes none. It may be called while the count of failures is below `u64::MAX`.
     fn write(&mut self, text: &[u8]) -> Result<usize, DeviceFault>
         requires failures { failed self.old < u64.MAX }
         ensures same { borrows self.new ≡ borrows self.old }
@@ -85,7 +84,7 @@ pub trait Output {
         ensures bytes { WriteAppends (written self.old) (written self.new) result text.now }
         ensures failures { failed self.new ≡ failures_after_write result text.now (failed self.old) };
 
-    /// How many calls of `write` answered an error, or took no byte of a text that has one.
+    /// The number of calls of `write` that returned an error, or wrote no byte of a nonempty text.
     fn failures(&self) -> u64
         ensures { result ≡ failed self.now };
 }

@@ -1,5 +1,4 @@
-//! Devices that give and take little, or fail on the way: for the tests of whoever reads and
-//! writes.
+//! Devices for tests, which read or write few bytes at a time and fail after a set number of them.
 
 ghost use Rattle.std.specs.Prelude.{◌≡◌, [], Some};
 
@@ -7,7 +6,7 @@ use crate::io::device::{DeviceFault, Input, Output};
 use std::alloc::Global;
 use std::marker::Model;
 
-/// An input in memory that gives few bytes at a time, and fails on the way.
+/// An input in memory that gives few bytes at a time, and fails after a set number of them.
 #[derive(Debug, Drop)]
 pub struct FaultyInput<'a> {
     bytes: &'a [u8],
@@ -26,8 +25,8 @@ impl<'a> Model for FaultyInput<'a> {
 }
 
 impl<'a> FaultyInput<'a> {
-    /// Gives at most `piece` of the bytes at a time, but always one, and fails once it gave
-    /// `before_fault` in all.
+    /// An input that gives at most `piece` of the bytes at a time, but at least one, and fails once
+    /// it has given `before_fault` in all.
     pub fn new(bytes: &'a [u8], piece: usize, before_fault: usize) -> FaultyInput<'a>
         ensures { result ≡ record { remaining = Some bytes.now; failed = 0 } }
     {
@@ -67,16 +66,16 @@ impl<'a> Input for FaultyInput<'a> {
     }
 }
 
-/// How an output that takes no more says so.
+/// What an output does once it takes no more bytes.
 #[derive(Clone, Copy, Debug, PartialEq, Eq)]
 pub enum Stop {
-    /// By an error.
+    /// It returns an error.
     Error,
-    /// By taking no byte.
+    /// It returns 0.
     TakesNone,
 }
 
-/// An output into memory that takes few bytes at a time, and none on the way.
+/// An output into memory that takes few bytes at a time, and stops after a set number of them.
 #[derive(Debug, Drop)]
 pub struct FaultyOutput {
     taken: Vec<u8>,
@@ -96,7 +95,7 @@ impl Model for FaultyOutput {
 }
 
 impl FaultyOutput {
-    /// Takes at most `piece` bytes at a time, and stops once it took `before_stop` in all.
+    /// An output that takes at most `piece` bytes at a time, and stops after `before_stop` in all.
     pub fn new(alloc: Global, piece: usize, before_stop: usize, stop: Stop) -> FaultyOutput
         ensures { result ≡ record { written = Some []; failed = 0 } }
     {
@@ -109,7 +108,7 @@ impl FaultyOutput {
         }
     }
 
-    /// What it took.
+    /// The bytes that were written.
     pub fn taken(&self) -> &[u8]
         ensures { self.now.written ≡ Some result.now }
     {

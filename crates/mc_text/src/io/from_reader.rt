@@ -1,5 +1,5 @@
-//! Inputs over the readers of std. Standard input tells no bytes; a reader of what lies in memory
-//! does.
+//! Inputs over the readers of std. Contracts know the bytes of a reader in memory, but not those of
+//! standard input.
 
 ghost use Rattle.std.specs.Prelude.{◌≡◌};
 
@@ -7,7 +7,7 @@ use crate::io::device::{DeviceFault, Input};
 use std::io::Read;
 use std::marker::Model;
 
-/// An input over a reader. Every error of the reader is a failure, also an interrupted call.
+/// An input over a reader. Each error of the reader is a failure, also an interrupted call.
 #[derive(Debug, Drop)]
 pub struct FromReader<R: Read> {
     reader: R,
@@ -33,7 +33,7 @@ impl<R: Read> FromReader<R> {
         }
     }
 
-    /// The reader, which has the bytes that were not yet read.
+    /// Returns the reader, with the bytes that were not read yet.
     pub fn into_inner(self) -> R
         ensures { R.remaining result ≡ self.remaining }
     {

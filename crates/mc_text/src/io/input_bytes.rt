@@ -9,26 +9,26 @@ ghost use Rattle.mc_text.specs.ReadFault.{ConsumesUpTo, is_read, ReadsOnto};
 use crate::io::device::Input;
 use std::alloc::Global;
 
-/// How many bytes are asked of an input at once.
+/// The greatest number of bytes that one call of `read` asks for.
 const READ_SIZE: usize = 65_536;
 
 /// Why an input could not be read.
 #[derive(Clone, Copy, Debug, PartialEq, Eq)]
 pub enum ReadFault {
-    /// The input answered an error.
+    /// The input returned an error.
     Read,
     /// Memory ran out.
     Memory,
 }
 
 /// Reads until the end of the input, or until it has read `limit` bytes. It asks for at most 65,536
-/// bytes at once, and never for a byte past the limit. The input's count of failures has to be
-/// below `u64::MAX`.
+/// bytes at once, and never for a byte past the limit. The input's count of failures must be below
+/// `u64::MAX`.
 ///
 /// # Errors
 ///
-/// `Read` at the first error of the input, and `Memory` where what was read, or the 65,536 bytes that
-/// it is read through, finds no room. The bytes that were read are lost then.
+/// `Read` at the first error of the input, and `Memory` if an allocation is refused, for the bytes or
+/// for a buffer of 65,536 bytes. The bytes that were read are lost then.
 pub fn read_to_limit<R: Input>(
     alloc: Global,
     input: &mut R,
@@ -37,18 +37,18 @@ pub fn read_to_limit<R: Input>(
     requires failures { R.failed input.old < u64.MAX }
     ensures same { R.borrows input.new ≡ R.borrows input.old }
     ensures bound { IfOk result (λ bytes. vec_len bytes ≤ limit) }
-    // All that the input still had, or its first bytes as many as the limit allows.
+    // All bytes that the input still had, or the first `limit` of them.
     ensures bytes { IfOk result
         (λ bytes. IfSome (R.remaining input.old) (λ text. bytes.items ≡ take limit text)) }
-    // The rest is left in the input, and where less than the limit was read there is none.
+    // The rest stays in the input. If fewer bytes than the limit were read, it is empty.
     ensures rest { IfOk result
         (λ bytes. Consumes (R.remaining input.old) (R.remaining input.new) bytes.items) }
-    // Whatever the answer, no more than the limit was read.
+    // No more bytes than the limit are read, whatever the result.
     ensures consumed { ConsumesUpTo limit (R.remaining input.old) (R.remaining input.new) }
     ensures end { IfOk result (λ bytes. vec_len bytes < limit → IsAtEnd (R.remaining input.new)) }
     ensures failures { R.failed input.new ≡ failures_after is_read result (R.failed input.old) }
 {
-    // On the heap: a caller into which this is compiled would keep it on its stack all along.
+    // On the heap: inlined, an array would take room on the caller's stack as long as it runs.
     let Ok(mut buffer) = Vec::from_elem(alloc, 0u8, READ_SIZE) else {
         return Err(ReadFault::Memory);
     };
@@ -57,8 +57,8 @@ pub fn read_to_limit<R: Input>(
     Ok(bytes)
 }
 
-/// Reads on, through the buffer, until the bytes are as many as the limit or the input is at its
-/// end.
+/// Appends bytes of the input, read through the buffer, until there are `limit` bytes or the input
+/// ends.
 fn fill_to_limit<R: Input>(
     input: &mut R,
     bytes: &mut Vec<u8>,

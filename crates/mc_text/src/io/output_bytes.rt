@@ -7,12 +7,12 @@ ghost use Rattle.mc_text.specs.Device.{failures_after, is_failure, AppendsProper
 use crate::io::device::{DeviceFault, Output};
 
 /// Writes the whole text, by as many calls of `write` as it takes. The output's count of failures
-/// has to be below `u64::MAX`.
+/// must be below `u64::MAX`.
 ///
 /// # Errors
 ///
-/// At the first call of `write` that answers an error or takes no byte. A proper part of the text
-/// was taken then, from its front.
+/// The first call of `write` that returns an error or writes no byte. A proper prefix of the text was
+/// written then.
 pub fn write_all<W: Output>(output: &mut W, text: &[u8]) -> Result<(), DeviceFault>
     requires failures { W.failed output.old < u64.MAX }
     ensures same { W.borrows output.new ≡ W.borrows output.old }
@@ -31,7 +31,7 @@ pub fn write_all<W: Output>(output: &mut W, text: &[u8]) -> Result<(), DeviceFau
     Ok(())
 }
 
-/// Writes the pieces one after the other.
+/// Writes the pieces one after another.
 pub(crate) fn write_pieces<W: Output>(output: &mut W, pieces: &[&[u8]]) -> Result<(), DeviceFault>
     requires failures { W.failed output.old < u64.MAX }
     ensures same { W.borrows output.new ≡ W.borrows output.old }

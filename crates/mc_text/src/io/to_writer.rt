@@ -1,4 +1,5 @@
-//! Outputs over the writers of std. Standard output tells no bytes; a writer into memory does.
+//! Outputs over the writers of std. Contracts know the bytes that a writer into memory has, but not
+//! those of standard output.
 
 ghost use Rattle.std.specs.Prelude.{◌≡◌};
 
@@ -6,7 +7,7 @@ use crate::io::device::{DeviceFault, Output};
 use std::io::Write;
 use std::marker::Model;
 
-/// An output over a writer. Every error of the writer is a failure, also an interrupted call.
+/// An output over a writer. Each error of the writer is a failure, also an interrupted call.
 #[derive(Debug, Drop)]
 pub struct ToWriter<W: Write> {
     writer: W,
@@ -32,7 +33,7 @@ impl<W: Write> ToWriter<W> {
         }
     }
 
-    /// The writer, with what was written.
+    /// Returns the writer, with the bytes that were written.
     pub fn into_inner(self) -> W
         ensures { W.contents result ≡ self.written }
     {

@@ -35,7 +35,7 @@ pub enum Order {
     Big,
 }
 
-/// The address that a dotted text writes.
+/// The address that a dotted text writes, if it is one.
 fn parse_dotted_address(text: &[u8]) -> Option<Addr>
     ensures found { IfSome result (λ a. text.now ≡ dotted a) }
     ensures in_range { IfSome result IsAddr }
@@ -47,7 +47,7 @@ fn parse_dotted_address(text: &[u8]) -> Option<Addr>
     })
 }
 
-/// The address that a kernel's word shows.
+/// The address that an address word shows, if it is one.
 fn parse_address_word(word: &[u8], order: Order) -> Option<Addr>
     ensures found { IfSome result (λ a. IsAddressWord order word.now a) }
     ensures in_range { IfSome result IsAddr }
@@ -60,10 +60,10 @@ fn parse_address_word(word: &[u8], order: Order) -> Option<Addr>
 impl Addr {
     /// Reads four decimal numbers from 0 to 255 without leading zeros, with dots between them.
     pub fn parse_dotted(text: &[u8]) -> Option<Addr>
-        // What is read is written so.
+        // The text is the dotted text of the address that is read.
         ensures found { IfSome result (λ a. text.now ≡ dotted a) }
         ensures in_range { IfSome result IsAddr }
-        // What is written so is read.
+        // The dotted text of an address is read as that address.
         ensures only { (a : ℕ) → IsAddr a → text.now ≡ dotted a → result ≡ Some a }
         ensures value { result ≡ address_of_text text.now }
     {
@@ -71,8 +71,8 @@ impl Addr {
     }
 
     /// Reads an address word of `/proc/net/ip_mr_vif` and `/proc/net/ip_mr_cache`: eight
-    /// hexadecimal digits of either case, which the kernel prints of the four network-order bytes
-    /// taken as one number of its machine (`%08X` in net/ipv4/ipmr.c).
+    /// hexadecimal digits of either case. The kernel prints the four network-order bytes as one
+    /// number in the byte order of its machine (`%08X` in net/ipv4/ipmr.c).
     pub fn from_hex_word(word: &[u8], order: Order) -> Option<Addr>
         ensures found { IfSome result (λ a. IsAddressWord order word.now a) }
         ensures in_range { IfSome result IsAddr }
@@ -82,7 +82,7 @@ impl Addr {
         parse_address_word(word, order)
     }
 
-    /// The address of the four bytes that the digits of its word are, from left to right.
+    /// The address whose word has the digits of these four bytes, from left to right.
     #[inline(always)]
     pub fn from_printed_octets(bytes: [u8; 4], order: Order) -> Addr
         ensures value { result ≡ from_be_bytes w32 (octets_in_order order bytes) }
@@ -136,7 +136,7 @@ impl Addr {
         (1..=223).contains(&first) && first != 127
     }
 
-    /// Whether it is 0.0.0.0, which stands for no address.
+    /// Whether it is 0.0.0.0, the unspecified address.
     pub fn is_unspecified(self) -> bool
         ensures { result ≡ (self == 0) }
     {
@@ -146,7 +146,7 @@ impl Addr {
     /// The four octets, the most significant first: each is 0 to 255.
     pub fn octets(self) -> [u8; 4]
         ensures octets { result ≡ octets_of self }
-        // Every address in hand is a number of 32 bits.
+        // The value of an address is always a number of 32 bits.
         ensures in_range { IsAddr self }
     {
         self.bits.to_be_bytes()

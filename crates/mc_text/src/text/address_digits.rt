@@ -1,4 +1,4 @@
-//! Hexadecimal digits, and those of an address word.
+//! Hexadecimal digits, and the bytes of an address word.
 
 ghost use Rattle.std.specs.Prelude.{◌≡◌, ◌&&◌, ℕ, List, length, slice_index, false};
 ghost use Rattle.std.specs.Prelude.{IfSome, IfNone, Some, Ok};
@@ -20,7 +20,7 @@ const VALUES: &[u8; 256] = &[
     16, 16, 16, 16, 16, 16, 16, 16, 16, 16, 16, 16, 16, 16,
 ];
 
-/// What the list has for a byte.
+/// The table's value for a byte.
 fn value_in_table(byte: u8, values: &[u8; 256]) -> u8
     ensures { result ≡ slice_index values.now byte }
 {

@@ -8,7 +8,7 @@ ghost use Rattle.mc_text.specs.DigitPairs.{bytes_of_pairs};
 
 use std::simd::prelude::*;
 
-/// Whether all bytes are digits.
+/// Whether all bytes are hexadecimal digits.
 #[inline(always)]
 pub fn are_hex_digits(text: u8x32) -> bool
     ensures { result ≡ list_all is_hex_digit text }
@@ -19,8 +19,8 @@ pub fn are_hex_digits(text: u8x32) -> bool
     (decimal | letter).all()
 }
 
-/// The values of digits: how far a decimal digit is from `0`, and a letter, as a small one, from the
-/// tenth code before `a`. Of the two the right one is the smaller.
+/// The values of digits. That of a decimal digit is its distance from `0`, and that of a letter is the
+/// distance of its lower case from the tenth code before `a`: the smaller of the two is right.
 #[inline(always)]
 fn digit_values(text: u8x32) -> u8x32
     ensures { list_all is_hex_digit text ≡ true → result ≡ map hex_value_or_16 text }
@@ -30,7 +30,7 @@ fn digit_values(text: u8x32) -> u8x32
     decimal.simd_min(small - u8x32::splat(b'a' - 10))
 }
 
-/// The bytes of pairs of digits.
+/// The bytes that pairs of digits write, each with its high digit first.
 #[inline(always)]
 pub fn bytes_of_hex_digits(text: u8x32) -> u8x16
     ensures { list_all is_hex_digit text ≡ true → result ≡ bytes_of_pairs text }

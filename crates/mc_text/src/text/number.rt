@@ -5,8 +5,8 @@ ghost use Rattle.std.specs.Option.{SomeIff};
 ghost use Rattle.std.specs.Char.{digit_value, is_ascii_digit};
 ghost use Rattle.mc_text.specs.Number.{IsDecimal, number_up_to};
 
-/// Reads one or more decimal digits whose number is at most `max`. Leading zeros are allowed,
-/// however many, and nothing else stands in the word.
+/// Reads a word of one or more decimal digits, and nothing else, whose number is at most `max`. Any
+/// number of leading zeros is allowed.
 pub fn decimal(word: &[u8], max: u64) -> Option<u64>
     ensures found { IfSome result (λ n. IsDecimal word.now n) }
     ensures bound { IfSome result (λ n. n ≤ max) }
@@ -32,7 +32,7 @@ fn parse_decimal(word: &[u8], max: u64) -> Option<u64>
     (number <= max).then_some(number)
 }
 
-/// The number with one decimal digit more, if the byte is one and 64 bits hold it.
+/// The number with one more decimal digit, if the byte is a digit and the result fits in 64 bits.
 fn append_digit(number: u64, byte: u8) -> Option<u64>
     ensures { SomeIff result
         (IsTrue (is_ascii_digit byte) × (number * 10 + digit_value byte < 2 ^ 64))

@@ -1,4 +1,4 @@
-//! A line as its words. Only a space (byte 0x20) stands between words.
+//! A line as its words. Only a space (byte 0x20) separates words.
 
 ghost use Rattle.std.specs.Prelude.{◌≡◌, ◌==◌, not, position};
 
@@ -26,8 +26,7 @@ fn word_start(line: &[u8]) -> Option<usize>
     line.iter().position(|byte| *byte != b' ')
 }
 
-/// The index of the first space. Words are short, so that looking at one byte after the other is
-/// fastest.
+/// The index of the first space. As words are short, a search byte by byte is fastest.
 fn word_end(from_word: &[u8]) -> Option<usize>
     ensures { result ≡ position (λ b. b == 32) from_word.now }
 {

@@ -1,4 +1,4 @@
-//! Addresses in a topology's texts.
+//! Reads the addresses of sources and groups.
 
 ghost use Rattle.mc_topology.specs.Addresses.{source_address_of, group_address_of};
 ghost use Rattle.std.specs.Prelude.{◌≡◌};
@@ -6,7 +6,7 @@ ghost use Rattle.std.specs.Prelude.{◌≡◌};
 use crate::fault::TopologyFaultKind;
 use mc_text::Addr;
 
-/// The address of a host that may send.
+/// Parses the address of a host that may send.
 #[tactic(auto, unfolding(crate::specs::Addresses::source_address_of))]
 pub(crate) fn source_address_of(text: &str) -> Result<Addr, TopologyFaultKind>
     ensures { result ≡ source_address_of text.now }
@@ -17,7 +17,7 @@ pub(crate) fn source_address_of(text: &str) -> Result<Addr, TopologyFaultKind>
     }
 }
 
-/// The address of a group that routers forward.
+/// Parses the address of a group that routers forward.
 #[tactic(auto, unfolding(crate::specs::Addresses::group_address_of))]
 pub(crate) fn group_address_of(text: &str) -> Result<Addr, TopologyFaultKind>
     ensures { result ≡ group_address_of text.now }

@@ -1,5 +1,5 @@
-//! A look at a text before it is read as TOML, which bounds what reading it takes: each table and
-//! each value has a mark of its own, and each pair is compared with the header above it.
+//! Bounds what parsing a text as TOML takes, by one pass over its bytes before: each table and each
+//! value has a mark of its own, and each pair is compared with the header above it.
 
 ghost use Rattle.std.specs.Prelude.{◌≡◌, ◌<◌, ◌≤◌, ◌^◌, length};
 ghost use Rattle.mc_topology.specs.Bounds.{after_outside_byte, after_one_line_byte, after_multi_line_byte, after_byte, is_blank, is_mark};
@@ -8,59 +8,61 @@ ghost use Rattle.mc_topology.specs.Bounds.{header_after, with_byte, is_bounded};
 
 use mc_text::MAX_TEXT;
 
-/// The most marks of a text. A topology of as many parts as there may be has at most 125,451.
+/// The most marks of a text. A topology of the most rows has at most 125,451.
 const MAX_MARKS: usize = 131_072;
 
-/// The most bytes that are compared. A topology has at most 45,568 pairs below headers of at most 98
+/// The most bytes that are compared. A topology has at most 45,568 pairs below headers of at most 96
 /// bytes, if all letters of their keys are escaped.
 const MAX_COMPARED: usize = 268_435_456;
 
-/// Where a text goes on, as TOML has strings and comments.
+/// Whether the next byte is in a string, in a comment or outside of both.
 #[derive(Clone, Copy)]
 enum LexState {
-    /// Outside of both.
+    /// Outside of strings and comments.
     Outside,
+    /// In a comment.
     Comment,
-    /// Behind the first quote of a string, which is this byte.
+    /// After the first quote of a string, which is this byte.
     OneQuote(u8),
-    /// Behind two quotes: they are an empty string, or a third one begins a string of lines.
+    /// After two quotes: they are an empty string, or a third one begins a multi-line string.
     TwoQuotes(u8),
-    /// In a string on one line.
+    /// In a single-line string.
     OneLine(u8),
-    /// Behind a backslash in a string on one line.
+    /// After a backslash in a single-line string.
     OneLineEscape,
-    /// In a string of lines, behind so many of its quotes in a row, of which three end it.
+    /// In a multi-line string, after this many of its quotes in a row, of which three end it.
     MultiLine(u8, u8),
-    /// Behind a backslash in a string of lines.
+    /// After a backslash in a multi-line string.
     MultiLineEscape,
 }
 
-/// The part of a line, outside of brackets that an earlier line opened.
+/// The part of a line that the next byte is in.
 #[derive(Clone, Copy)]
 enum LinePart {
-    /// Nothing but blanks, and the mark of the byte order.
+    /// Before the first byte that is no blank and no byte order mark.
     Margin,
-    /// A header, which begins with its `[`.
+    /// In a header, from its `[` on.
     Header,
-    /// Behind anything else, and within brackets.
+    /// After anything else, or within brackets that an earlier line opened.
     Rest,
 }
 
-/// What a text has had so far.
+/// What a pass over a text has found so far.
 #[derive(Clone, Copy)]
 struct Scan {
-    place: LexState,
+    state: LexState,
     part: LinePart,
-    /// The brackets that are open.
+    /// How many brackets are open.
     nesting: usize,
-    /// The bytes of the last header.
+    /// How many bytes the last header has.
     header: usize,
-    /// For each `=` the bytes of the header above it, all together.
+    /// How many bytes the headers above each `=` have together.
     compared: usize,
+    /// How many marks there are.
     marks: usize,
 }
 
-/// Behind a byte outside of strings and comments.
+/// The state after a byte outside of strings and comments.
 fn after_outside_byte(byte: u8) -> LexState
     ensures { result ≡ after_outside_byte byte }
 {
@@ -71,8 +73,8 @@ fn after_outside_byte(byte: u8) -> LexState
     }
 }
 
-/// Behind a byte of a string on one line. One that isn't ended there is no TOML, and ends here with
-/// its line, so that what follows is counted as before.
+/// The state after a byte of a single-line string. A string that its line doesn't end is no TOML; it ends
+/// with the line here, so that the rest is counted as before.
 fn after_one_line_byte(quote: u8, byte: u8) -> LexState
     ensures { result ≡ after_one_line_byte quote byte }
 {
@@ -85,7 +87,7 @@ fn after_one_line_byte(quote: u8, byte: u8) -> LexState
     }
 }
 
-/// Behind a byte of a string of lines, or behind one that ended it.
+/// The state after a byte of a multi-line string, or after one that ended it.
 fn after_multi_line_byte(quote: u8, quotes: u8, byte: u8) -> LexState
     ensures { result ≡ after_multi_line_byte quote quotes byte }
 {
@@ -109,14 +111,14 @@ fn is_blank(byte: u8) -> bool
     matches!(byte, b'\t' | b'\n' | b'\r' | b' ')
 }
 
-/// Whether the byte makes a table or a value, outside of strings and comments.
+/// Whether the byte is a mark of a table or a value, outside of strings and comments.
 fn is_mark(byte: u8) -> bool
     ensures { result ≡ is_mark byte }
 {
     matches!(byte, b'.' | b',' | b'=' | b'{' | b'[')
 }
 
-/// The brackets that are open behind a byte outside of strings and comments.
+/// How many brackets are open after a byte outside of strings and comments.
 fn nesting_after(nesting: usize, byte: u8) -> usize
     requires bounded { nesting < MAX_TEXT }
     ensures value { result ≡ nesting_after nesting byte }
@@ -129,7 +131,7 @@ fn nesting_after(nesting: usize, byte: u8) -> usize
 }
 
 impl LexState {
-    /// Where the text goes on behind a byte.
+    /// The state after a byte.
     #[tactic(auto, unfolding(crate::specs::Bounds::after_byte))]
     fn after_byte(self, byte: u8) -> LexState
         ensures { result ≡ after_byte self byte }
@@ -155,8 +157,8 @@ impl LexState {
         matches!(self, LexState::Outside)
     }
 
-    /// Whether a byte before this place is no part of a header that it lies in: a comment, or a blank
-    /// outside of strings.
+    /// Whether a byte that leads to this state isn't counted in its header: it is in a comment, or a
+    /// blank outside of strings.
     fn is_skipped_in_header(self, byte: u8) -> bool
         ensures { result ≡ is_skipped_in_header self byte }
     {
@@ -169,7 +171,7 @@ impl LexState {
 }
 
 impl LinePart {
-    /// The part with a byte that doesn't end the line.
+    /// The part of the line after a byte that doesn't end the line.
     fn with_byte(self, byte: u8) -> LinePart
         ensures { result ≡ part_with_byte self byte }
     {
@@ -181,7 +183,7 @@ impl LinePart {
         }
     }
 
-    /// The part behind a byte, where so many brackets are open.
+    /// The part of the line after a byte, with this many brackets open before it.
     fn after_byte(self, nesting: usize, is_outside: bool, byte: u8) -> LinePart
         ensures { result ≡ part_after self nesting is_outside byte }
     {
@@ -194,21 +196,21 @@ impl LinePart {
         }
     }
 
-    /// How many bytes the last header has behind a byte that leads to this place.
-    fn header_after(self, header: usize, place: LexState, byte: u8) -> usize
+    /// How many bytes the last header has after a byte that leads to this state.
+    fn header_after(self, header: usize, state: LexState, byte: u8) -> usize
         requires bounded { header < MAX_TEXT }
-        ensures value { result ≡ header_after self header place byte }
+        ensures value { result ≡ header_after self header state byte }
     {
         match self {
             LinePart::Margin if byte == b'[' => 1,
-            LinePart::Header if !place.is_skipped_in_header(byte) => header + 1,
+            LinePart::Header if !state.is_skipped_in_header(byte) => header + 1,
             _ => header,
         }
     }
 }
 
 impl Scan {
-    /// The scan with a byte more.
+    /// The pass with the next byte.
     #[tactic(auto, unfolding(crate::specs::Bounds::with_byte))]
     fn with_byte(self, byte: u8) -> Scan
         requires nested { self.nesting < MAX_TEXT }
@@ -217,8 +219,8 @@ impl Scan {
         requires few { self.marks < MAX_TEXT }
         ensures value { result ≡ with_byte self byte }
     {
-        let place = self.place.after_byte(byte);
-        let is_outside = place.is_outside();
+        let state = self.state.after_byte(byte);
+        let is_outside = state.is_outside();
         let nesting = if is_outside {
             nesting_after(self.nesting, byte)
         } else {
@@ -235,24 +237,24 @@ impl Scan {
             self.marks
         };
         Scan {
-            place,
+            state,
             part: self.part.after_byte(self.nesting, is_outside, byte),
             nesting,
-            header: self.part.header_after(self.header, place, byte),
+            header: self.part.header_after(self.header, state, byte),
             compared,
             marks,
         }
     }
 }
 
-/// Whether the text has at most so many marks, and no more bytes are compared.
+/// Whether the text has at most `MAX_MARKS` marks, and at most `MAX_COMPARED` bytes are compared.
 #[tactic(auto, unfolding(crate::specs::Bounds::is_bounded))]
 pub(super) fn is_bounded(text: &[u8]) -> bool
     requires bounded { length text.now ≤ MAX_TEXT }
     ensures value { result ≡ is_bounded text.now }
 {
     let mut scan = Scan {
-        place: LexState::Outside,
+        state: LexState::Outside,
         part: LinePart::Margin,
         nesting: 0,
         header: 0,

@@ -1,4 +1,4 @@
-//! What stands under the keys of a table.
+//! Reads the values of a table by their keys.
 
 ghost use Rattle.std.specs.Prelude.{◌≡◌, ◌≤◌, length, map, option_map, string_bytes, IfOk};
 ghost use Rattle.std.specs.BTreeMap.{keys};
@@ -14,14 +14,14 @@ ghost use Rattle.mc_topology.specs.Document.{optional_list_at, rows_at};
 use crate::fault::TopologyFaultKind;
 use toml::{Table, Value};
 
-/// Whether the key is one of these.
+/// Whether the key is one of the known ones.
 fn is_known(known: &[&str], key: &str) -> bool
     ensures { result ≡ list_any (λ k. bytes_eq k.now key.now) known.now }
 {
     known.iter().any(|k| *k == key)
 }
 
-/// Whether each key of the table is one of these.
+/// Whether each key of the table is one of the known ones.
 fn has_known_keys(table: &Table, known: &[&str]) -> bool
     ensures { result ≡
         list_all (λ key. list_any (λ k. bytes_eq k.now (string_bytes key)) known.now)
@@ -30,21 +30,21 @@ fn has_known_keys(table: &Table, known: &[&str]) -> bool
     table.keys().all(|key| is_known(known, key.as_str()))
 }
 
-/// Whether the table has no other key than these.
+/// Whether the table has no other keys than the known ones.
 pub(crate) fn has_only(table: &Table, known: &[&str]) -> bool
     ensures { result ≡ has_only (map (λ k. k.now) known.now) (table_view table.now) }
 {
     has_known_keys(table, known)
 }
 
-/// The text that a value is.
+/// The value as a text.
 pub(crate) fn text_of(value: &Value) -> Result<&str, TopologyFaultKind>
     ensures { ResultsAgree (λ text. text.now) result (text_of (view value.now)) }
 {
     value.as_str().ok_or(TopologyFaultKind::BadKind)
 }
 
-/// The values of the list that a value is.
+/// The value as a list.
 pub(crate) fn list_of(value: &Value) -> Result<&[Value], TopologyFaultKind>
     ensures { ResultsAgree (λ values. map view values.now) result (list_of (view value.now)) }
 {
@@ -54,7 +54,7 @@ pub(crate) fn list_of(value: &Value) -> Result<&[Value], TopologyFaultKind>
     Ok(values.as_slice())
 }
 
-/// The table that a value is, if it has no other key than these.
+/// The value as a table with no other keys than the known ones.
 #[tactic(auto, unfolding(crate::specs::Document::known_table))]
 pub(crate) fn known_table<'a>(
     value: &'a Value,
@@ -72,7 +72,7 @@ pub(crate) fn known_table<'a>(
     Ok(table)
 }
 
-/// The value under a key.
+/// The value under a key, if there is one.
 pub(crate) fn value_at<'a>(table: &'a Table, key: &str) -> Option<&'a Value>
     ensures { option_map (λ value. view value.now) result ≡
         get_member key.now (table_view table.now) }
@@ -80,7 +80,7 @@ pub(crate) fn value_at<'a>(table: &'a Table, key: &str) -> Option<&'a Value>
     table.get(key)
 }
 
-/// The text under a key.
+/// The text under a required key.
 #[tactic(auto, unfolding(crate::specs::Document::text_at))]
 pub(crate) fn text_at<'a>(table: &'a Table, key: &str) -> Result<&'a str, TopologyFaultKind>
     ensures { ResultsAgree (λ text. text.now) result (text_at key.now (table_view table.now)) }
@@ -91,14 +91,14 @@ pub(crate) fn text_at<'a>(table: &'a Table, key: &str) -> Result<&'a str, Topolo
     text_of(value)
 }
 
-/// The whole number that a value is.
+/// The value as a whole number.
 pub(crate) fn number_of(value: &Value) -> Result<i64, TopologyFaultKind>
     ensures { result ≡ number_of (view value.now) }
 {
     value.as_integer().ok_or(TopologyFaultKind::BadKind)
 }
 
-/// The whole number under a key.
+/// The whole number under a required key.
 #[tactic(auto, unfolding(crate::specs::Document::number_at))]
 pub(crate) fn number_at(table: &Table, key: &str) -> Result<i64, TopologyFaultKind>
     ensures { result ≡ number_at key.now (table_view table.now) }
@@ -109,7 +109,7 @@ pub(crate) fn number_at(table: &Table, key: &str) -> Result<i64, TopologyFaultKi
     number_of(value)
 }
 
-/// The values of the list under a key.
+/// The list under a required key.
 #[tactic(auto, unfolding(crate::specs::Document::list_at))]
 pub(crate) fn list_at<'a>(table: &'a Table, key: &str) -> Result<&'a [Value], TopologyFaultKind>
     ensures { ResultsAgree (λ values. map view values.now) result
@@ -121,7 +121,7 @@ pub(crate) fn list_at<'a>(table: &'a Table, key: &str) -> Result<&'a [Value], To
     list_of(value)
 }
 
-/// The text under a key that may be missing.
+/// The text under an optional key.
 #[tactic(auto, unfolding(crate::specs::Document::optional_text_at))]
 pub(crate) fn optional_text_at<'a>(
     table: &'a Table,
@@ -136,7 +136,7 @@ pub(crate) fn optional_text_at<'a>(
     }
 }
 
-/// The values of the list under a key that may be missing, and then is empty.
+/// The list under an optional key; empty where the key is missing.
 #[tactic(auto, unfolding(crate::specs::Document::optional_list_at))]
 pub(crate) fn optional_list_at<'a>(
     table: &'a Table,
@@ -151,7 +151,7 @@ pub(crate) fn optional_list_at<'a>(
     }
 }
 
-/// The values of a list of at most so many, under a key that may be missing.
+/// The list of at most `most` values under an optional key; empty where the key is missing.
 #[tactic(auto, unfolding(crate::specs::Document::rows_at))]
 pub(crate) fn rows_at<'a>(
     table: &'a Table,

@@ -1,4 +1,4 @@
-//! Reading the flows.
+//! Reads the flows.
 
 ghost use Rattle.std.specs.Prelude.{◌≡◌, ◌≢◌, ◌≤◌, map, length, false, Err, IfOk};
 ghost use Rattle.toml.specs.View.{view, table_view};
@@ -17,7 +17,7 @@ use crate::sources::Sources;
 use std::alloc::Global;
 use toml::{Table, Value};
 
-/// A time to live, 1 to 255.
+/// The number as a time to live, 1 to 255.
 fn ttl_of(number: i64) -> Result<u8, TopologyFaultKind>
     ensures { result ≡ ttl_of number }
 {
@@ -27,7 +27,7 @@ fn ttl_of(number: i64) -> Result<u8, TopologyFaultKind>
     Ok(number as u8)
 }
 
-/// The flow of the values of its keys, whose source and group none of the earlier ones has.
+/// The flow of these values, whose source and group no earlier flow has.
 #[tactic(auto, unfolding(crate::specs::Flows::flow_of_values))]
 fn flow_of_values(
     sources: &Sources,
@@ -56,7 +56,7 @@ fn flow_of_values(
     })
 }
 
-/// Reads one flow, whose source and group none of the earlier ones has.
+/// Reads a flow, whose source and group no earlier flow has.
 #[tactic(auto, unfolding(crate::specs::Flows::flow_of))]
 fn flow_of(sources: &Sources, earlier: &Flows, value: &Value) -> Result<Flow, TopologyFaultKind>
     ensures flow { result ≡ flow_of sources.now earlier.now (view value.now) }
@@ -69,7 +69,7 @@ fn flow_of(sources: &Sources, earlier: &Flows, value: &Value) -> Result<Flow, To
     flow_of_values(sources, earlier, source_text, group_text, number)
 }
 
-/// The list of flows, of which there is one at least.
+/// The list of flows, of which there is at least one.
 #[tactic(auto, unfolding(crate::specs::Flows::flow_rows))]
 fn flow_rows(table: &Table) -> Result<&[Value], TopologyFaultKind>
     ensures rows { ResultsAgree (λ rows. map view rows.now) result (flow_rows (table_view table.now)) }
@@ -108,7 +108,7 @@ impl SectionRows<Sources> for Flows {
     }
 }
 
-/// The flows, in order.
+/// Reads the flows, in order.
 #[tactic(auto, unfolding(crate::specs::Flows::flows_in))]
 pub(crate) fn flows_in(
     alloc: Global,

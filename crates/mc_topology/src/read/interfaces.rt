@@ -1,4 +1,4 @@
-//! Reading the interfaces.
+//! Reads the interfaces.
 
 ghost use Rattle.std.specs.Prelude.{◌≡◌, ◌≢◌, ◌≤◌, length, false, Err, IfOk};
 ghost use Rattle.toml.specs.View.{view, table_view};
@@ -18,7 +18,7 @@ use crate::routers::{MAX_ROUTERS, Routers};
 use std::alloc::Global;
 use toml::{Table, Value};
 
-/// The interface of the values of its keys, whose router and device none of the earlier ones has.
+/// The interface of these values, whose router and device no earlier interface has.
 #[tactic(auto, unfolding(crate::specs::Interfaces::interface_of_values))]
 fn interface_of_values(
     lans: &Lans,
@@ -53,7 +53,7 @@ fn interface_of_values(
     Ok((key, lan))
 }
 
-/// Reads one interface, whose router and device none of the earlier ones has.
+/// Reads an interface, whose router and device no earlier interface has.
 #[tactic(auto, unfolding(crate::specs::Interfaces::interface_of))]
 fn interface_of(
     lans: &Lans,
@@ -105,7 +105,7 @@ impl<'a> SectionRows<(&'a Lans, &'a Routers)> for Interfaces {
     }
 }
 
-/// The interfaces, in order.
+/// Reads the interfaces, in order.
 #[tactic(auto, unfolding(crate::specs::Interfaces::interfaces_in))]
 pub(crate) fn interfaces_in(
     alloc: Global,

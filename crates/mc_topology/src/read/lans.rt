@@ -1,4 +1,4 @@
-//! Reading the list of LANs.
+//! Reads the list of LANs.
 
 ghost use Rattle.std.specs.Prelude.{◌≡◌, ◌≢◌, ◌≤◌, map, length, false, Err, IfOk};
 ghost use Rattle.toml.specs.View.{view, table_view};
@@ -14,7 +14,7 @@ use crate::read::rows::{SectionRows, each_row};
 use std::alloc::Global;
 use toml::{Table, Value};
 
-/// Reads the name of one LAN, which none of the earlier ones has.
+/// Reads the name of a LAN, which no earlier LAN has.
 #[tactic(auto, unfolding(crate::specs::Lans::lan_name_of))]
 fn lan_name_of<'a>(earlier: &Lans, value: &'a Value) -> Result<&'a str, TopologyFaultKind>
     ensures name { ResultsAgree (λ name. name.now) result (lan_name_of earlier.now (view value.now)) }
@@ -66,7 +66,7 @@ impl SectionRows<()> for Lans {
     }
 }
 
-/// The LANs, in order.
+/// Reads the LANs, in order.
 #[tactic(auto, unfolding(crate::specs::Lans::lans_in))]
 pub(crate) fn lans_in(alloc: Global, table: &Table) -> Result<Lans, TopologyFault>
     ensures lans { result ≢ Err out_of_memory → result ≡ lans_in (table_view table.now) }

@@ -1,4 +1,4 @@
-//! Reading the routers.
+//! Reads the routers.
 
 ghost use Rattle.std.specs.Prelude.{◌≡◌, ◌≢◌, ◌≤◌, length, false, Err, IfOk, option_map};
 ghost use Rattle.toml.specs.View.{view, table_view};
@@ -17,7 +17,7 @@ use std::alloc::Global;
 use std::marker::Model;
 use toml::{Table, Value};
 
-/// A router whose name is still in the topology's text.
+/// A router whose name is borrowed from the table that it is read from.
 #[derive(Drop)]
 struct BorrowedRouter<'a> {
     name: &'a str,
@@ -32,7 +32,7 @@ impl<'a> Model for BorrowedRouter<'a> {
     ghost view = { λ r. record { name = r.name.now; order = r.order } };
 }
 
-/// The byte order that a text names.
+/// The byte order that a text names, little where there is none.
 #[tactic(auto, unfolding(crate::specs::Routers::order_of))]
 fn order_of(text: Option<&str>) -> Result<Order, TopologyFaultKind>
     ensures { result ≡ order_of (option_map (λ t. t.now) text.entry) }
@@ -44,7 +44,7 @@ fn order_of(text: Option<&str>) -> Result<Order, TopologyFaultKind>
     }
 }
 
-/// Reads one router, whose name none of the earlier ones has.
+/// Reads a router, whose name no earlier router has.
 #[tactic(auto, unfolding(crate::specs::Routers::router_of))]
 fn router_of<'a>(
     earlier: &Routers,
@@ -89,7 +89,7 @@ impl SectionRows<()> for Routers {
     }
 }
 
-/// The routers, in order.
+/// Reads the routers, in order.
 #[tactic(auto, unfolding(crate::specs::Routers::routers_in))]
 pub(crate) fn routers_in(alloc: Global, table: &Table) -> Result<Routers, TopologyFault>
     ensures routers { result ≢ Err out_of_memory → result ≡ routers_in (table_view table.now) }

@@ -1,4 +1,4 @@
-//! Reading the rows of a section, one after the other.
+//! Reads the rows of a section, one after the other.
 
 ghost use Rattle.std.specs.Prelude.{◌≡◌, ◌≢◌, ◌≤◌, ⊤, List, [], ◌∷◌, ◌++◌, length, map};
 ghost use Rattle.std.specs.Prelude.{Result, Ok, Err, IfOk, IfErr, OnOk};
@@ -12,22 +12,22 @@ use crate::fault::TopologyFault;
 use std::alloc::Global;
 use toml::Value;
 
-/// A section that is read row by row, each row beside the sections before it, `B`, and beside the
-/// earlier rows.
+/// A section that is read row by row. What a row denotes depends on the sections before it, `B`, and on
+/// the earlier rows.
 pub(crate) trait SectionRows<B>: Drop {
-    // what a row stands for
+    // what a row denotes
     ghost Row: { Type 0 };
 
-    // the rows that were read
+    // the rows read so far
     ghost rows: { Self → List Row };
 
     // the section
     ghost section: { Section };
 
-    // what the sections before it have to keep
+    // the bounds of the sections before it
     ghost few: { B → Type 0 } = { λ _. ⊤ };
 
-    // a row, beside the sections before it and the earlier rows
+    // what a row denotes, by the sections before it and the earlier rows
     ghost row_value: { B → List Row → Data → Result Row TopologyFaultKind };
 
     /// Reads the row with this number, counted from 1, and adds it.
@@ -46,7 +46,7 @@ pub(crate) trait SectionRows<B>: Drop {
             locate_fault section number (row_value before.now (rows self.old) (view row.now)) ≡ Err fault) };
 }
 
-/// The section of these rows, one after the other, from the one that has none.
+/// Reads these rows into a section that has none yet.
 pub(crate) fn each_row<B, S: SectionRows<B>>(
     alloc: Global,
     before: &B,

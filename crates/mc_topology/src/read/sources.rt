@@ -1,4 +1,4 @@
-//! Reading the sources.
+//! Reads the sources.
 
 ghost use Rattle.std.specs.Prelude.{◌≡◌, ◌≢◌, ◌≤◌, length, false, Err, IfOk};
 ghost use Rattle.toml.specs.View.{view, table_view};
@@ -16,7 +16,7 @@ use crate::sources::{MAX_SOURCES, Sources};
 use std::alloc::Global;
 use toml::{Table, Value};
 
-/// The source of the values of its keys, whose address none of the earlier ones has.
+/// The source of these values, whose address no earlier source has.
 #[tactic(auto, unfolding(crate::specs::Sources::source_of_values))]
 fn source_of_values(
     lans: &Lans,
@@ -38,7 +38,7 @@ fn source_of_values(
     Ok(Source { address, lan })
 }
 
-/// Reads one source, whose address none of the earlier ones has.
+/// Reads a source, whose address no earlier source has.
 #[tactic(auto, unfolding(crate::specs::Sources::source_of))]
 fn source_of(lans: &Lans, earlier: &Sources, value: &Value) -> Result<Source, TopologyFaultKind>
     requires bounded { length lans.now ≤ MAX_LANS }
@@ -77,7 +77,7 @@ impl SectionRows<Lans> for Sources {
     }
 }
 
-/// The sources, in order.
+/// Reads the sources, in order.
 #[tactic(auto, unfolding(crate::specs::Sources::sources_in))]
 pub(crate) fn sources_in(
     alloc: Global,

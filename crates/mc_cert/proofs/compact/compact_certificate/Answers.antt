@@ -14,22 +14,22 @@ from_trees-requires-clause-lists c = λ k d below.
 
 pub returns : goal.returns
 returns c =
-    let places = c.in-Ok.places.items in
+    let tree_numbers = c.in-Ok.tree_numbers.items in
     let trees = map (λ t. t.items) c.in-Ok-read_trees.trees.items in
     let many : c.len.result ≡ length trees =
     omega (arith, length-map c.in-Ok-read_trees.trees.items (λ t. t.items)) in
-    let named : All (λ n. n < length trees) places =
-    subst (λ (m : ℕ). All (λ n. n < m) places) many
+    let named : All (λ n. n < length trees) tree_numbers =
+    subst (λ (m : ℕ). All (λ n. n < m) tree_numbers) many
     (subst (λ (ns : List ℕ). All (λ n. n < c.len.result) ns) c.deref.ensures.value
     (c.if-not-are_below.ensures refl)) in
     subst (λ (flows : List Tree). DenotesCertificate c.args.topology.now c.args.text.now flows)
-    (sym c.from_trees.ensures.value)
-    (version_two_text-denotes c.args.topology.now places trees c.args.text.now c.in-Some-after_prefix-2.rest.now
+    (sym c.from_trees.ensures.flows)
+    (version_two_text-denotes c.args.topology.now tree_numbers trees c.args.text.now c.in-Some-after_prefix-2.rest.now
     c.flows-rules.ensures.rules (omega (arith, c.in-Ok.ensures.count))
-    (AllByRecursion-from_All (λ n. n < length trees) places named)
+    (AllByRecursion-from_All (λ n. n < length trees) tree_numbers named)
     (omega (arith, many, c.in-Ok-read_trees.ensures.few)) c.in-Ok-read_trees.ensures.writable
     (omega (arith, c.if-text-gt-MAX_TEXT.false))
-    (version_two_text-pieces c.args.topology.now places trees c.args.text.now c.in-Some.rest.now
+    (version_two_text-pieces c.args.topology.now tree_numbers trees c.args.text.now c.in-Some.rest.now
     c.in-Ok.rest.now c.in-Some-after_prefix.rest.now c.in-Ok-read_trees.rest.now
     c.in-Some-after_prefix-2.rest.now c.in-Some.ensures c.in-Ok.ensures.text c.in-Some-after_prefix.ensures
     c.in-Ok-read_trees.ensures.text c.in-Some-after_prefix-2.ensures)

@@ -7,7 +7,7 @@ use Rattle.mc_cert.proofs.compact.read_flows.Given as goal
 abbrev pub invariant-loop-number : goal.invariant-loop-number
 invariant-loop-number l =
     record {
-      read : l.initial.rest ≡ listed (flow_texts l.topology.flows l.places.items) ++ l.rest;
-      separator : l.separator ≡ separator_of (zip l.topology.flows l.places.items);
-      count : vec_len l.places ≡ l.number;
+      read : l.initial.rest ≡ listed (flow_texts l.topology.flows l.tree_numbers.items) ++ l.rest;
+      separator : l.separator ≡ separator_of (zip l.topology.flows l.tree_numbers.items);
+      count : vec_len l.tree_numbers ≡ l.number;
     }

@@ -5,4 +5,4 @@ use Rattle.mc_cert.proofs.compact.read_lan.Goals as goal
 pub returns-clause-text : goal.returns-clause-text
 returns-clause-text c =
     lan_name-from_index_of c.args.topology.now c.in_ok-lan.lan c.args.text.now c.in_ok-name.name.now
-    c.in_ok-name.rest.now c.in_ok-name.ensures.item (sym c.in_ok-lan.ensures.number)
+    c.in_ok-name.rest.now c.in_ok-name.ensures (sym c.in_ok-lan.ensures.number)

@@ -2,4 +2,5 @@ use Rattle.mc_cert.proofs.WrittenCertificates.{certificate_text-denotes}
 use Rattle.mc_cert.proofs.laws.certificate_text_denotes_certificate.Goals as goal
 
 pub returns : goal.returns
-returns c = certificate_text-denotes
+returns c = λ t flows rules writable few.
+    certificate_text-denotes t flows rules writable.belongs writable.lists writable.bytes few

@@ -2,7 +2,7 @@ use Rattle.std.proofs.Common.{refl, ap, rules}
 use Rattle.std.proofs.lemmas.Str.{is_utf8-from_IsUtf8}
 use Rattle.serde_json.specs.Errors.{IsMemory}
 use Rattle.mc_cert.specs.declared.fault.At.TheVariants.{Top}
-use Rattle.mc_cert.specs.Answer.{place}
+use Rattle.mc_cert.specs.Answer.{locate_fault}
 use Rattle.mc_cert.specs.Reading.{parse_json}
 use Rattle.mc_cert.proofs.ReadLemmas.{parse_json-NotJson}
 use Rattle.mc_cert.proofs.read.parse_json.Goals as goal
@@ -18,5 +18,5 @@ pub returns-in-Err-2 : goal.returns-in-Err-2
 returns-in-Err-2 c =
     let calm : ¬ IsMemory c.in-Err-2.field-0 = search rules in
     rw c.at-in-Err-2.ensures
-    (λ _. ap (place Top)
+    (λ _. ap (locate_fault Top)
     (parse_json-NotJson c.args.text.now (λ utf8. c.in-Err-2.ensures.err calm utf8)))

@@ -7,6 +7,6 @@ returns-clause-rows c = rw (
   c.in_ok-object.ensures,
   c.in_ok-group.ensures,
   c.in_ok-rows.ensures,
-  c.in_ok-source.ensures.item,
+  c.in_ok-source.ensures,
   ← c.if-not-are_texts_of_flow.ensures.value,
 ) c.at_most.ensures.rows

@@ -5,12 +5,12 @@ use Rattle.mc_cert.proofs.version_two.tree_no_of.Goals as goal
 pub returns : goal.returns
 unfolding tree_no_of
 returns c = record {
-  meaning = (rw (
+  tree = (rw (
     c.in_ok-object.ensures,
     c.in_ok-group.ensures,
-    c.in_ok-source.ensures.item,
+    c.in_ok-source.ensures,
     c.in_ok-number.ensures,
-    c.in_ok-tree.ensures.item,
+    c.in_ok-tree.ensures.number,
     ← c.if-not-are_texts_of_flow.ensures.value,
   ) refl);
 }

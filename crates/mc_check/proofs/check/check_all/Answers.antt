@@ -1,6 +1,7 @@
 -- Each flow's verdict by its first reason.
 use Rattle.std.proofs.Common.{◌≡◌, ◌+◌, ◌<◌, ◌++◌, ◌∷◌, [], length, sym, subst, arith}
-use Rattle.mc_check.proofs.AllLemmas.{AreVerdictsSoFar, verdicts_so_far-more, correct_verdict-verdict_by}
+use Rattle.mc_check.proofs.CheckAllLemmas.{AreVerdictsSoFar, verdicts_so_far-more}
+use Rattle.mc_check.proofs.CheckAllLemmas.{is_correct_verdict-verdict_by}
 use Rattle.mc_check.proofs.check.check_all.Goals as goal
 
 pub loop-flow-preserved : goal.loop-flow-preserved
@@ -17,8 +18,8 @@ loop-flow-preserved c =
     subst (λ vs. AreVerdictsSoFar d lists (k + 1) vs) (sym new)
     (verdicts_so_far-more d lists k c.loop-flow.verdicts.items es v c.loop-flow.invariant
     c.flow.ensures.reached
-    (correct_verdict-verdict_by d k es c.in_ok-reason.reason v c.topology-topology.ensures.rules within
-    c.in_ok-reason.ensures c.verdict_by.ensures.value))
+    (is_correct_verdict-verdict_by d k es c.in_ok-reason.reason v c.topology-topology.ensures.rules within
+    c.in_ok-reason.ensures.ok c.verdict_by.ensures.value))
 
 pub returns-clause-accepted : goal.returns-clause-accepted
 returns-clause-accepted c =

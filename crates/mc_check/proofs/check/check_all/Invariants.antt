@@ -1,4 +1,4 @@
-use Rattle.mc_check.proofs.AllLemmas.{AreVerdictsSoFar}
+use Rattle.mc_check.proofs.CheckAllLemmas.{AreVerdictsSoFar}
 use Rattle.mc_check.proofs.check.check_all.Given as goal
 
 abbrev pub invariant-loop-flow : goal.invariant-loop-flow

@@ -1,5 +1,5 @@
 -- By the first reason.
-use Rattle.mc_check.proofs.AllLemmas.{correct_verdict-verdict_by}
+use Rattle.mc_check.proofs.CheckAllLemmas.{is_correct_verdict-verdict_by}
 use Rattle.mc_check.proofs.VerdictLemmas.{is_first_reason-of_domain, entry_count_fits}
 use Rattle.mc_check.proofs.check.verdict_on.Goals as goal
 
@@ -10,12 +10,13 @@ verdict_by-requires c = record {
       let ok = c.topology-rules.ensures.rules in
       entry_count_fits d c.args.flow c.args.entries.now c.in_ok-reason.reason ok
       (is_first_reason-of_domain d c.args.flow c.args.entries.now c.in_ok-reason.reason ok c.requires.flow
-      c.in_ok-reason.ensures) c.requires.lans);
+      c.in_ok-reason.ensures.ok) c.requires.lans);
 }
 
 pub returns : goal.returns
 returns c = record {
   ok = (
-      correct_verdict-verdict_by c.args.domain.now c.args.flow c.args.entries.now c.in_ok-reason.reason c.verdict_by.result
-      c.topology-rules.ensures.rules c.requires.flow c.in_ok-reason.ensures c.verdict_by.ensures.value);
+      is_correct_verdict-verdict_by c.args.domain.now c.args.flow c.args.entries.now
+      c.in_ok-reason.reason c.verdict_by.result
+      c.topology-rules.ensures.rules c.requires.flow c.in_ok-reason.ensures.ok c.verdict_by.ensures.value);
 }

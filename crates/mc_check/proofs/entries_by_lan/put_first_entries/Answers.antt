@@ -1,7 +1,7 @@
 use Rattle.std.proofs.Common.{◌≡◌, ℕ, ◌<◌, length, Some, ap, sym, subst, ◌∙◌, arith}
 use Rattle.mc_theory.specs.Certificates.{Entry}
 use Rattle.mc_theory.specs.Reasons.Reason.{TwoEntries}
-use Rattle.mc_check.proofs.FirstLemmas.{first_entries-more, twice-already_named}
+use Rattle.mc_check.proofs.FirstEntriesLemmas.{first_entries-more, twice-already_named}
 use Rattle.mc_check.proofs.entries_by_lan.put_first_entries.Goals as goal
 
 pub returns-then-not-put_first-clause-twice : goal.returns-then-not-put_first-clause-twice

@@ -1,4 +1,4 @@
-use Rattle.mc_check.proofs.FirstLemmas.{FirstEntriesSoFar}
+use Rattle.mc_check.proofs.FirstEntriesLemmas.{FirstEntriesSoFar}
 use Rattle.mc_check.proofs.entries_by_lan.put_first_entries.Given as goal
 
 abbrev pub invariant-loop-entry : goal.invariant-loop-entry

@@ -3,4 +3,4 @@ use Rattle.mc_check.proofs.fed.feeds.Goals as goal
 
 pub loop-oif-init : goal.loop-oif-init
 loop-oif-init c = feeds_from-outgoing_from c.args.base.now c.args.vif c.outgoing_from-oif-items.result.now
-    c.args.entry.now.oifs c.outgoing_from-oif-items.ensures
+    c.args.entry.now.oifs c.outgoing_from-oif-items.ensures.rest

@@ -1,7 +1,7 @@
 use Rattle.std.proofs.Common.{ℕ, Option, sym, arith}
 use Rattle.mc_theory.specs.Reasons.{Reason, row_reason}
 use Rattle.mc_forward.specs.FlightsInDomain.{net_in}
-use Rattle.mc_check.proofs.BelowLemmas.{first_of-below_none, none_found-more, first_of-found_at}
+use Rattle.mc_check.proofs.BelowLemmas.{first_of-below_none, first_of-none_more, first_of-found_at}
 use Rattle.mc_check.proofs.routers.routers_reason.Goals as goal
 
 pub loop-number-init : goal.loop-number-init
@@ -18,4 +18,4 @@ pub loop-number-preserved : goal.loop-number-preserved
 loop-number-preserved c =
     let n = net_in c.args.view.now in
     let f : ℕ → Option Reason = λ r. row_reason n c.args.by_lan.now r (n.row r) in
-    none_found-more f c.loop-number.number c.loop-number.invariant (sym c.in_default.ensures)
+    first_of-none_more f c.loop-number.number c.loop-number.invariant (sym c.in_default.ensures)

@@ -2,7 +2,7 @@ use Rattle.std.proofs.Common.{◌≡◌, Bool, true, false, not, is_some, sym, a
 use Rattle.mc_theory.specs.Reasons.{open_row_reason, entry_at, unless}
 use Rattle.mc_theory.specs.Reasons.Reason.{Wildcard}
 use Rattle.mc_forward.specs.FlightsInDomain.{net_in}
-use Rattle.mc_check.proofs.BelowLemmas.{first_of-below_none, none_found-more, first_of-found_at}
+use Rattle.mc_check.proofs.BelowLemmas.{first_of-below_none, first_of-none_more, first_of-found_at}
 use Rattle.mc_check.proofs.routers.wildcard_reason.Goals as goal
 
 pub loop-vif-init : goal.loop-vif-init
@@ -23,5 +23,5 @@ loop-vif-preserved c =
     let n = net_in c.args.view.now in
     let e : is_some (entry_at c.args.by_lan.now (n.placed c.args.router c.loop-vif.vif)) ≡ false =
     cc in
-    none_found-more (open_row_reason n c.args.by_lan.now c.args.router) c.loop-vif.vif c.loop-vif.invariant
+    first_of-none_more (open_row_reason n c.args.by_lan.now c.args.router) c.loop-vif.vif c.loop-vif.invariant
     (ap (λ (b : Bool). unless (not b) (Wildcard c.args.router c.loop-vif.vif)) e)

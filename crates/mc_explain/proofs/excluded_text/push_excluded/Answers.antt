@@ -10,7 +10,7 @@ returns-in_ok-writeln c =
     record {
       line = c.in_ok-writeln.ensures.bytes
           ∙ ap (λ line. string_bytes c.args.text.now ++ line)
-          (verdict_reason-some t c.excluded_front-front.result c.count.result
-          (excluded_routers t c.args.excluded.now) c.excluded_front-front.ensures c.count.ensures
+          (verdict_reason-some t c.first_excluded-front.result c.count.result
+          (excluded_routers t c.args.excluded.now) c.first_excluded-front.ensures c.count.ensures
           (let some = c.if-count-gt0.true in omega (arith, some)));
     }

@@ -15,11 +15,14 @@ explain_least_ttl-requires-clause-path c =
     c.in-FoundAtFlowTtl.least c.new-view.ensures.rules c.new-view.ensures.flow examined_flights.0 examined_flights.1 examined_flights.2
     (ap finding_value c.in-Missed.is)
 
-pub finding-requires-in_default : goal.finding-requires-in_default
-finding-requires-in_default c =
-    let d = c.args.domain.now in
-    let examined_flights = subst (λ (x : ExaminedFlights). HasExaminedFlights d c.args.flow x) c.in-FoundAtFlowTtl.is c.requires.examined_flights in (
-      (net_in c.new-view.result).ttl,
-      ends_travel-at_flow_ttl d c.args.flow c.new-view.result
-          c.in-FoundAtFlowTtl.least c.new-view.ensures.rules c.new-view.ensures.flow examined_flights.2,
-    )
+pub explain_finding-requires-in_default : goal.explain_finding-requires-in_default
+explain_finding-requires-in_default c = record {
+  travel = (
+      let d = c.args.domain.now in
+      let examined_flights = subst (λ (x : ExaminedFlights). HasExaminedFlights d c.args.flow x)
+      c.in-FoundAtFlowTtl.is c.requires.examined_flights in (
+        (net_in c.new-view.result).ttl,
+        ends_travel-at_flow_ttl d c.args.flow c.new-view.result
+            c.in-FoundAtFlowTtl.least c.new-view.ensures.rules c.new-view.ensures.flow examined_flights.2,
+      ));
+}

@@ -12,7 +12,7 @@ unreachable-requires c =
     let cs = c.args.flight.now.flight.carried in
     let has = c.requires.second in
     held-not_none_on_first c.in_ok-first_copies.first_copies.by_lan cs c.copies.result.now c.args.lan c.args.lan c.on.result
-    has.is.first c.in_ok-first_copies.ensures.first_copies c.copies.ensures.copies refl c.on.ensures.item
+    has.is.first c.in_ok-first_copies.ensures.first_copies c.copies.ensures.copies refl c.on.ensures
     c.in_default.is (subst (λ (l : ℕ). first_copy_on cs l ≡ Some has.is.first) has.on has.is.path.on)
 
 pub returns : goal.returns
@@ -32,9 +32,9 @@ returns c = record {
         remedy = remedy;
         first_on = first_copy_on-from_held_some c.in_ok-first_copies.first_copies.by_lan f.carried c.copies.result.now lan lan
             c.on.result first c.in_ok-first_copies.ensures.first_copies c.copies.ensures.copies refl
-            c.on.ensures.item c.in-Some.is;
+            c.on.ensures c.in-Some.is;
         take_out = is_remedy-same_copy n f lan has.second c.in-Some-second.second remedy same has.on
-            c.in_ok-remedy.ensures;
+            c.in_ok-remedy.ensures.ok;
         causes_are = causes-two_senders lan first.sender has.second.sender _ _ remedy
             c.new-causes.result.items _ _ c.push.new.self.items c.new-causes.ensures.items
             c.in_ok-add_sender.ensures c.in_ok-add_sender-2.ensures c.in_ok-push.ensures.items

@@ -1,4 +1,4 @@
--- By the first copy of the LAN, and its way.
+-- By the first copy of the LAN, and its path.
 use Rattle.std.proofs.Common.{ℕ, ◌≤◌, List, [], ◌∷◌, ◌++◌, refl, ap, sym, subst, ◌∙◌}
 use Rattle.mc_theory.specs.Paths.{Hop, need}
 use Rattle.mc_forward.specs.FlightsInDomain.{net_in}
@@ -14,9 +14,9 @@ unreachable-requires-in_default-first_stop c =
     let r = c.requires.path in
     let same = held-is_first_copy c.in_ok-first_copies.first_copies.by_lan cs c.copies.result.now c.args.lan c.args.lan
     c.on.result c.in-Some.first r.first c.in_ok-first_copies.ensures.first_copies c.copies.ensures.copies refl
-    c.on.ensures.item c.in-Some.is r.path.on in
+    c.on.ensures c.in-Some.is r.path.on in
     let path = found_hops-are_path n cs c.copies-2.result.now r.first c.in-Some.first c.in_ok-path.path.items
-    c.deref.result.now c.copies-2.ensures.copies same c.in_ok-path.ensures c.deref.ensures.value in
+    c.deref.result.now c.copies-2.ensures.copies same c.in_ok-path.ensures.ok c.deref.ensures.value in
     r.stopped (passes_hops-from_no_stop n.ttl c.ttl.result c.deref.result.now (path_of n cs r.first) c.first_stop.result
     c.first_stop.ensures c.ttl.ensures path c.in_default-first_stop.is)
 
@@ -28,9 +28,9 @@ need-requires c = record {
       let r = c.requires.path in
       let same = held-is_first_copy c.in_ok-first_copies.first_copies.by_lan cs c.copies.result.now c.args.lan c.args.lan
       c.on.result c.in-Some.first r.first c.in_ok-first_copies.ensures.first_copies c.copies.ensures.copies refl
-      c.on.ensures.item c.in-Some.is r.path.on in
+      c.on.ensures c.in-Some.is r.path.on in
       let path = found_hops-are_path n cs c.copies-2.result.now r.first c.in-Some.first c.in_ok-path.path.items
-      c.deref-2.result.now c.copies-2.ensures.copies same c.in_ok-path.ensures c.deref-2.ensures.value
+      c.deref-2.result.now c.copies-2.ensures.copies same c.in_ok-path.ensures.ok c.deref-2.ensures.value
       in subst (λ (hs : List Hop). need hs ≤ 255) (sym path) r.path.small);
 }
 
@@ -42,11 +42,11 @@ returns c = record {
       let r = c.requires.path in
       let same = held-is_first_copy c.in_ok-first_copies.first_copies.by_lan cs c.copies.result.now c.args.lan c.args.lan
       c.on.result c.in-Some.first r.first c.in_ok-first_copies.ensures.first_copies c.copies.ensures.copies refl
-      c.on.ensures.item c.in-Some.is r.path.on in
+      c.on.ensures c.in-Some.is r.path.on in
       let path = found_hops-are_path n cs c.copies-2.result.now r.first c.in-Some.first c.in_ok-path.path.items
-      c.deref.result.now c.copies-2.ensures.copies same c.in_ok-path.ensures c.deref.ensures.value in
+      c.deref.result.now c.copies-2.ensures.copies same c.in_ok-path.ensures.ok c.deref.ensures.value in
       let path' = found_hops-are_path n cs c.copies-2.result.now r.first c.in-Some.first c.in_ok-path.path.items
-      c.deref-2.result.now c.copies-2.ensures.copies same c.in_ok-path.ensures c.deref-2.ensures.value
+      c.deref-2.result.now c.copies-2.ensures.copies same c.in_ok-path.ensures.ok c.deref-2.ensures.value
       in
       let hop = c.in-Some-first_stop.stopped.0 in
       let left = c.in-Some-first_stop.stopped.1 in

@@ -18,14 +18,14 @@ returns c = record {
       let same = first_double-same_copy cs c.copies.result.now has.second c.in-Some.second _
       c.copies.ensures.copies c.in_ok-first_copies.ensures.second c.in-Some.is has.is.found in
       let found = hops_until-same_copy n cs c.copies-2.result.now lan has.second c.in-Some.second
-      c.in_ok-circle.circle.items c.copies-2.ensures.copies same has.on c.in_ok-circle.ensures in
+      c.in_ok-circle.circle.items c.copies-2.ensures.copies same has.on c.in_ok-circle.ensures.ok in
       record {
         second = has.second;
         circle = circle;
         remedy = remedy;
         came_by_hops = c.requires.second.came_by_hops;
         take_out = is_remedy-same_copy n f lan has.second c.in-Some.second remedy same has.on
-            c.in_ok-remedy.ensures;
+            c.in_ok-remedy.ensures.ok;
         causes_are = causes-circle_then_remedy c.deref.result.now c.in_ok-circle.circle.items circle remedy
             c.in_ok-causes.causes.items c.push.new.self.items c.deref.ensures.value found
             c.in_ok-causes.ensures c.in_ok-push.ensures.items;

@@ -53,7 +53,6 @@ loop-number-preserved c =
 pub returns-clause-each : goal.returns-clause-each
 returns-clause-each c = λ earlier h.
     let numbers = c.args.numbers.now in
-    subst (λ (ks : List ℕ). AreBuckets (listed_interface_at (facts c.args.domain.now))
-    (λ (k : ℕ). (interface_at c.args.domain.now.topology k).lan) c.loop-number.lists.items
+    subst (λ (ks : List ℕ). AreInterfacesByLan (facts c.args.domain.now) c.loop-number.lists.items
     (earlier ++ ks)) (take_all c.loop-number.number-index numbers c.loop-number-test.false)
     (c.loop-number.invariant.holds earlier h)

@@ -1,4 +1,4 @@
--- Since a LAN has one first copy, a flight one first double one, and each copy one way.
+-- A LAN has one first copy, a flight one first duplicate, and each copy one path.
 use Rattle.mc_forward.proofs.DomainLemmas.{is_net-net_of}
 use Rattle.mc_explain.proofs.UniqueCauseLemmas.{causes-are_unique}
 use Rattle.mc_explain.proofs.laws.causes_are_unique.Goals as goal

@@ -3,10 +3,10 @@ use Rattle.mc_explain.specs.declared.causes.Cause.TheVariants.{Circle}
 use Rattle.mc_explain.proofs.CauseLemmas.{is_closed_circle-from_explained, causes_hold-all}
 use Rattle.mc_explain.proofs.laws.circle_of_loop_is_closed.Goals as goal
 
-pub returns-clause-around : goal.returns-clause-around
-returns-clause-around c = λ d flow examined_flights causes lan is e.
-    is_closed_circle-from_explained d flow examined_flights causes lan is.lines e
+pub returns-clause-closed : goal.returns-clause-closed
+returns-clause-closed c = λ d flow lan flights causes is e.
+    is_closed_circle-from_explained d flow flights causes lan is.explained e
 
-pub returns-clause-rows : goal.returns-clause-rows
-returns-clause-rows c = λ d flow examined_flights causes from onto router vif is line.
-    causes_hold-all d flow examined_flights causes is (Circle from onto router vif) line
+pub returns-clause-hops : goal.returns-clause-hops
+returns-clause-hops c = λ d flow from onto router vif r.
+    causes_hold-all d flow r.flights r.causes r.of_flow (Circle from onto router vif) r.listed

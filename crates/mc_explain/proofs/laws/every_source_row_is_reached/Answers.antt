@@ -1,8 +1,8 @@
--- Since a stray of such a row is where a copy came in.
+-- A stray at such a row is where a copy came in.
 use Rattle.mc_explain.specs.declared.causes.Cause.TheVariants.{OnlyEverySource}
 use Rattle.mc_explain.proofs.CauseLemmas.{causes_hold-all}
 use Rattle.mc_explain.proofs.laws.every_source_row_is_reached.Goals as goal
 
 pub returns : goal.returns
-returns c = λ d flow examined_flights causes router vif is line.
-    causes_hold-all d flow examined_flights causes is (OnlyEverySource router vif) line
+returns c = λ d flow router vif r.
+    causes_hold-all d flow r.flights r.causes r.of_flow (OnlyEverySource router vif) r.listed

@@ -1,6 +1,7 @@
--- Since no run of a packet with less TTL is other than clean.
+-- Each run of a packet with a lower TTL is clean.
 use Rattle.mc_explain.proofs.CauseLemmas.{is_missed_or_clean-at_flow_ttl}
 use Rattle.mc_explain.proofs.laws.low_ttl_finding_is_missed_or_clean.Goals as goal
 
 pub returns : goal.returns
-returns c = is_missed_or_clean-at_flow_ttl
+returns c = λ d flow greatest least e.
+    is_missed_or_clean-at_flow_ttl d flow greatest least e.domain e.listed e.examined

@@ -1,32 +1,39 @@
--- By the way of the first copy.
+-- By the path of the first copy.
+use Rattle.std.proofs.Common.{ℕ}
+use Rattle.mc_theory.specs.Paths.{take_out}
+use Rattle.mc_forward.specs.Domains.{DomainValue, net_of}
+use Rattle.mc_explain.specs.CauseFacts.{IsRemedyForTtl, ReachesAsMuch}
 use Rattle.mc_explain.specs.declared.causes.Cause.TheVariants.{TakeOut}
-use Rattle.mc_forward.specs.Domains.{net_of}
 use Rattle.mc_forward.proofs.DomainLemmas.{is_net-net_of}
 use Rattle.mc_explain.proofs.CauseLemmas.{causes_hold-all}
 use Rattle.mc_explain.proofs.RemedyLemmas.{carries_as_much-from_reached, are_not_sent_by-run}
 use Rattle.mc_explain.proofs.laws.remedy_keeps_reached_lans.Goals as goal
 
 pub returns-clause-sends : goal.returns-clause-sends
-returns-clause-sends c = λ d flow examined_flights causes lan router vif least is line.
-    (causes_hold-all d flow examined_flights causes is (TakeOut lan router vif least) line).sends
+returns-clause-sends c = λ d flow lan router vif least r.
+    (causes_hold-all d flow r.flights r.causes r.of_flow (TakeOut lan router vif least) r.listed).sends
 
 pub returns-clause-stays : goal.returns-clause-stays
-returns-clause-stays c = λ d flow examined_flights causes lan router vif least is line.
-    (causes_hold-all d flow examined_flights causes is (TakeOut lan router vif least) line).stays
+returns-clause-stays c = λ d flow lan router vif least r.
+    (causes_hold-all d flow r.flights r.causes r.of_flow (TakeOut lan router vif least) r.listed).stays
 
 pub returns-clause-reached : goal.returns-clause-reached
-returns-clause-reached c = λ d flow examined_flights causes lan router vif least m is line.
-    (causes_hold-all d flow examined_flights causes is (TakeOut lan router vif least) line).reached m
+returns-clause-reached c = λ d flow lan router vif least m r.
+    (causes_hold-all d flow r.flights r.causes r.of_flow (TakeOut lan router vif least) r.listed).reached m
+
+reaches_as_much-from_remedy : (d : DomainValue) (flow router vif t : ℕ) → IsRemedyForTtl d flow router vif t →
+    ReachesAsMuch (take_out (router, vif) (net_of d flow)) (net_of d flow) t
+reaches_as_much-from_remedy d flow router vif t x m =
+    let r = x.reported in
+    (causes_hold-all d flow r.flights r.causes r.of_flow (TakeOut x.lan router vif x.least) r.listed).reached_with t m x.low x.high
 
 pub returns-clause-reached_with : goal.returns-clause-reached_with
-returns-clause-reached_with c = λ d flow examined_flights causes lan router vif least t m is line.
-    (causes_hold-all d flow examined_flights causes is (TakeOut lan router vif least) line).reached_with t m
+returns-clause-reached_with c = reaches_as_much-from_remedy
 
 pub returns-clause-carried : goal.returns-clause-carried
-returns-clause-carried c = λ d flow examined_flights causes lan router vif least t qs ps is line low high.
-    carries_as_much-from_reached (net_of d flow) (router, vif) t qs ps (is_net-net_of d flow is.domain)
-    (λ m. (causes_hold-all d flow examined_flights causes is (TakeOut lan router vif least) line).reached_with t m low
-    high)
+returns-clause-carried c = λ d flow router vif t qs ps x.
+    carries_as_much-from_reached (net_of d flow) (router, vif) t qs ps
+    (is_net-net_of d flow x.reported.of_flow.flow.domain) (reaches_as_much-from_remedy d flow router vif t x)
 
 pub returns-clause-unsent : goal.returns-clause-unsent
 returns-clause-unsent c = are_not_sent_by-run

@@ -4,9 +4,9 @@ use Rattle.mc_explain.proofs.CauseLemmas.{causes_hold-all}
 use Rattle.mc_explain.proofs.laws.reported_ttl_is_least.Goals as goal
 
 pub returns-clause-least : goal.returns-clause-least
-returns-clause-least c = λ d flow examined_flights causes lan least t is line.
-    (causes_hold-all d flow examined_flights causes is (LeastTtl lan least) line).reached t
+returns-clause-least c = λ d flow lan least t r.
+    (causes_hold-all d flow r.flights r.causes r.of_flow (LeastTtl lan least) r.listed).reached t
 
 pub returns-clause-range : goal.returns-clause-range
-returns-clause-range c = λ d flow examined_flights causes lan least is line.
-    (let l = causes_hold-all d flow examined_flights causes is (LeastTtl lan least) line in (l.above, l.high))
+returns-clause-range c = λ d flow lan least r.
+    (let l = causes_hold-all d flow r.flights r.causes r.of_flow (LeastTtl lan least) r.listed in (l.above, l.high))

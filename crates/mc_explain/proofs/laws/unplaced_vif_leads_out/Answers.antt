@@ -1,8 +1,8 @@
--- Since a stray of an exact row leaves by such a vif.
+-- A stray at an exact row leaves by such a vif.
 use Rattle.mc_explain.specs.declared.causes.Cause.TheVariants.{Unplaced}
 use Rattle.mc_explain.proofs.CauseLemmas.{causes_hold-all}
 use Rattle.mc_explain.proofs.laws.unplaced_vif_leads_out.Goals as goal
 
 pub returns : goal.returns
-returns c = λ d flow examined_flights causes router vif is line.
-    causes_hold-all d flow examined_flights causes is (Unplaced router vif) line
+returns c = λ d flow router vif r.
+    causes_hold-all d flow r.flights r.causes r.of_flow (Unplaced router vif) r.listed

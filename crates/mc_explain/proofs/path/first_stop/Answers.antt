@@ -1,4 +1,4 @@
--- Hop by hop, the first last.
+-- Hop by hop, from the end of the list.
 use Rattle.std.proofs.Common.{◌≡◌, ap, arith}
 use Rattle.mc_theory.specs.Paths.{Hop}
 use Rattle.mc_explain.proofs.NeedLemmas.{stopping_hop-there}

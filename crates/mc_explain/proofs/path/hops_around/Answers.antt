@@ -32,5 +32,5 @@ loop-step-preserved c =
     ap (λ (l : ℕ). option_and_then (λ (x : Copy). x.sender) (item_on_lan first_copies l)) from in
     subst (λ (l : ℕ). now ++ hops_until n cs to (length (drop (i + 1) cs)) l next ≡ all) (sym from)
     (hops_until-more_pushed n first_copies cs to i c.loop-step.onto c.loop-step.sender next c._step-item.result h
-    c.loop-step.hops.items now all c.requires.given c.loop-step-test.true sent other
+    c.loop-step.hops.items now all c.requires.first_copies c.loop-step-test.true sent other
     c.in_ok-push.ensures.items sender c.loop-step.invariant)

@@ -2,7 +2,7 @@
 use Rattle.std.proofs.Common.{◌==◌, ℕ, List, take, refl, sym, ap, ◌∙◌}
 use Rattle.std.specs.List.{list_any}
 use Rattle.mc_explain.specs.LanProbe.{search_in}
-use Rattle.mc_explain.proofs.FirstEightLemmas.{unmarked_lans}
+use Rattle.mc_explain.proofs.FirstEightLemmas.{slice_index_or-replicate_false}
 use Rattle.mc_explain.proofs.ReachLemmas.{routers_of_lans-all_below, routers_of_lans-more}
 use Rattle.mc_explain.proofs.reach.routers_of_lans.Goals as goal
 
@@ -10,7 +10,7 @@ pub loop-lan-init : goal.loop-lan-init
 loop-lan-init c = record {
   count = refl;
   routers = c.new-routers.ensures.items;
-  listed = λ n lt. unmarked_lans 256 n
+  listed = λ n lt. slice_index_or-replicate_false 256 n
       ∙ sym (ap (λ (rs : List ℕ). list_any (λ m. m == n) rs) c.new-routers.ensures.items);
 }
 
@@ -24,8 +24,8 @@ loop-lan-preserved c = record {
   listed = c.in_ok-add_routers.ensures.listed;
 }
 
-pub returns-clause-few : goal.returns-clause-few
-returns-clause-few c =
+pub returns-clause-bounded : goal.returns-clause-bounded
+returns-clause-bounded c =
     routers_of_lans-all_below (search_in c.args.lan_probe.now) (take c.loop-lan.lan-index c.args.lans.now)
     c.loop-lan.routers.items 256 c.loop-lan.invariant.routers
     c.topology-rules.ensures.rules.domain.topology.few_routers

@@ -1,4 +1,4 @@
--- Turn by turn.
+-- Step by step.
 use Rattle.std.proofs.Common.{◌≡◌, ℕ, ◌<◌, ◌≤◌, length, ap, sym, subst}
 use Rattle.mc_forward.specs.Domains.{DomainValue}
 use Rattle.mc_forward.specs.ListedTables.{DomainFacts, facts}
@@ -15,18 +15,19 @@ lan_counts-equal d s same = ap (λ (x : DomainFacts). length x.topology.lans) sa
 pub returns-clause-missed : goal.returns-clause-missed
 returns-clause-missed c = λ s missed. in-visited_missed s missed (length s.domain.topology.lans)
 
-pub returns-clause-once : goal.returns-clause-once
-returns-clause-once c = λ s missed. distinct-visited s missed (length s.domain.topology.lans)
+pub returns-clause-distinct : goal.returns-clause-distinct
+returns-clause-distinct c = λ s missed. distinct-visited s missed (length s.domain.topology.lans)
 
-pub returns-clause-lans : goal.returns-clause-lans
-returns-clause-lans c = λ d s missed lan ok same lt h.
-    let count = lan_counts-equal d s same in
+pub returns-clause-listed : goal.returns-clause-listed
+returns-clause-listed c = λ d s missed lan is lt h.
+    let count = lan_counts-equal d s is.same in
     subst (λ (n : ℕ). lan < n) count
-    (all_below-visited s missed (length s.domain.topology.lans) (places_inside-from_is_domain d s ok same)
+    (all_below-visited s missed (length s.domain.topology.lans)
+    (places_inside-from_is_domain d s is.domain is.same)
     (subst (λ (n : ℕ). missed < n) (sym count) lt) lan h)
 
 pub returns-clause-ends : goal.returns-clause-ends
-returns-clause-ends c = λ d s missed looked ok same lt le.
-    let count = sym (lan_counts-equal d s same) in
-    visited-at_end s missed looked (places_inside-from_is_domain d s ok same)
-    (subst (λ (n : ℕ). missed < n) count lt) (subst (λ (n : ℕ). n ≤ looked) count le)
+returns-clause-ends c = λ d s missed steps is lt le.
+    let count = sym (lan_counts-equal d s is.same) in
+    visited-at_end s missed steps (places_inside-from_is_domain d s is.domain is.same)
+    (subst (λ (n : ℕ). missed < n) count lt) (subst (λ (n : ℕ). n ≤ steps) count le)

@@ -1,14 +1,13 @@
 use Rattle.std.proofs.Common.{◌≡◌, ℕ, ◌+◌, ◌-◌, ◌++◌, List, length, take, flat_map, ap, sym}
 use Rattle.std.proofs.Common.{◌∙◌, arith}
 use Rattle.std.specs.String.{string_bytes}
-use Rattle.mc_forward.specs.ListedTables.{facts}
 use Rattle.mc_explain.specs.declared.shown_line.ShownLine.{ShownLine}
-use Rattle.mc_explain.specs.SearchText.{shown_line_text}
+use Rattle.mc_explain.specs.SearchContext.{shown_line_text_in}
 use Rattle.mc_explain.proofs.SearchTextLemmas.{first_40_lines-full, first_40_lines-more}
 use Rattle.mc_explain.proofs.ShownLineLemmas.{length-shown_lines}
 use Rattle.mc_explain.proofs.search_text.push_first_lines.Goals as goal
-use Rattle.mc_explain.proofs.search_text.push_first_lines.Goals.{else-count-lt-MOST}
-use Rattle.mc_explain.proofs.search_text.push_first_lines.Goals.{then-count-lt-MOST+in_ok-push_shown}
+use Rattle.mc_explain.proofs.search_text.push_first_lines.Goals.{else-count-lt-MAX_SHOWN_LINES}
+use Rattle.mc_explain.proofs.search_text.push_first_lines.Goals.{then-count-lt-MAX_SHOWN_LINES+in_ok-push_shown_line}
 
 pub overflow_add-count : goal.overflow_add-count
 overflow_add-count c =
@@ -21,7 +20,7 @@ pub loop-line-preserved : goal.loop-line-preserved
 loop-line-preserved c =
     let context = c.args.context.now in
     let f : ShownLine → List ℕ =
-    shown_line_text (facts context.view.now.domain) context.summary.now context.view.now.flow context.flow.now in
+    shown_line_text_in context in
     let old = string_bytes c.loop-line.text in
     let n = c.loop-line.count in
     let line = c.in-Some.line in
@@ -32,14 +31,14 @@ loop-line-preserved c =
     (let h = ap (λ (ls : List ShownLine). n + length ls) step in
     let all = c.loop-line.invariant.count in omega (arith, h, all)) in
     elim c.if-count-lt-MAX_SHOWN_LINES.branch [
-      | then-count-lt-MOST+in_ok-push_shown w ↦ rw w.text-is (record {
+      | then-count-lt-MAX_SHOWN_LINES+in_ok-push_shown_line w ↦ rw w.text-is (record {
         text = ap (λ (l : List ℕ). l ++ flat_map f (take (40 - (n + 1)) rest))
             w.in_ok-push_shown_line.ensures
             ∙ first_40_lines-more f old line rest n w.if-count-lt-MAX_SHOWN_LINES.true ∙ before
             ∙ c.loop-line.invariant.text;
         count = count;
       })
-      | else-count-lt-MOST w ↦ rw w.text-is (record {
+      | else-count-lt-MAX_SHOWN_LINES w ↦ rw w.text-is (record {
         text = first_40_lines-full f old line rest n w.if-count-lt-MAX_SHOWN_LINES.false ∙ before
             ∙ c.loop-line.invariant.text;
         count = count;

@@ -1,18 +1,15 @@
 use Rattle.std.proofs.Common.{◌≡◌, ◌+◌, ◌-◌, ◌++◌, take, length, flat_map}
 use Rattle.std.specs.String.{string_bytes}
-use Rattle.mc_forward.specs.ListedTables.{facts}
-use Rattle.mc_explain.specs.SearchText.{shown_line_text}
+use Rattle.mc_explain.specs.SearchContext.{shown_line_text_in}
 use Rattle.mc_explain.specs.ShownLines.{shown_lines}
 use Rattle.mc_explain.proofs.search_text.push_first_lines.Given as goal
 
--- the lines so far, and those of the first 40 that are left, are the first 40; and how many lines came
+-- the text so far, and the lines of the first 40 that are left, are the first 40; and how many lines came
 abbrev pub invariant-loop-line : goal.invariant-loop-line
 invariant-loop-line l = record {
   text : string_bytes l.text
-      ++ flat_map (shown_line_text (facts l.fn.context.view.now.domain) l.fn.context.summary.now l.fn.context.view.now.flow
-      l.fn.context.flow.now) (take (40 - l.count) l.line-iterator)
+      ++ flat_map (shown_line_text_in l.fn.context) (take (40 - l.count) l.line-iterator)
       ≡ string_bytes l.initial.text
-      ++ flat_map (shown_line_text (facts l.fn.context.view.now.domain) l.fn.context.summary.now l.fn.context.view.now.flow
-      l.fn.context.flow.now) (take 40 (shown_lines l.fn.lines));
+      ++ flat_map (shown_line_text_in l.fn.context) (take 40 (shown_lines l.fn.lines));
   count : l.count + length l.line-iterator ≡ length (shown_lines l.fn.lines);
 }

@@ -18,7 +18,7 @@ returns-in-ExpectedFromHere c =
     c.topology-topology.ensures.topology
     ∙ ap (λ (line : SearchLine). old ++ search_line_text (facts context.view.now.domain) context.summary.now
     context.view.now.flow context.flow.now line) (sym c.in-ExpectedFromHere.is))
-    (c.push_expected.ensures (router ∷ []) c.of.ensures.value)
+    (c.push_expected.ensures (router ∷ []) c.of.ensures)
 
 pub returns-in-NoSender : goal.returns-in-NoSender
 returns-in-NoSender c =

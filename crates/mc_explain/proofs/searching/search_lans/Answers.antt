@@ -10,7 +10,7 @@ use Rattle.mc_explain.specs.LanProbe.{IsVisitedLans}
 use Rattle.mc_explain.specs.SearchLine.{append_new, next_lans, lines_of_lan, visited_lans, visited_after}
 use Rattle.mc_explain.proofs.SearchLemmas.{length-visited, visited-more, length-from_slice_get_none, lines_so_far-more, lines_so_far-same}
 use Rattle.mc_explain.proofs.searching.search_lans.Goals as goal
-use Rattle.mc_explain.proofs.searching.search_lans.Goals.{in-Some+in_ok-look_at, in_default}
+use Rattle.mc_explain.proofs.searching.search_lans.Goals.{in-Some+in_ok-search_one_lan, in_default}
 
 pub loop-position-preserved : goal.loop-position-preserved
 loop-position-preserved c =
@@ -23,7 +23,7 @@ loop-position-preserved c =
     let found : slice_get lans k ≡ c.at.result =
     sym (ap (λ (ls : List ℕ). slice_get ls k) same) ∙ sym c.at.ensures.lan in
     elim c.match-at.branch [
-      | in-Some+in_ok-look_at w ↦ (
+      | in-Some+in_ok-search_one_lan w ↦ (
           let at : slice_get lans k ≡ Some w.in-Some.lan = found ∙ w.in-Some.is in
           record {
             lans = ap (λ (m : VisitedLans). m.lans.items) w.visited_lans-is ∙ w.in_ok-search_one_lan.ensures.lans

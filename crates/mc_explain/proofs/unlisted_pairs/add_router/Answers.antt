@@ -37,7 +37,7 @@ loop-pair-preserved c =
           ∙ ap (λ (l : List ((ℕ × ℕ) × List ℕ)). get_or l i old) c.loop-pair.invariant in
           ap (λ (v : Vec UnlistedPair Global). v.items) w.shown-is
           ∙ ap (λ (l : List ((ℕ × ℕ) × List ℕ)). set l i w.add.new.self) c.loop-pair.invariant
-          ∙ with_routers_so_far-more summary router (take k own) pairs i q old w.add.new.self c.requires.ascend
+          ∙ with_routers_so_far-more summary router (take k own) pairs i q old w.add.new.self c.requires.sorted
           w.in-Ok.ensures.bound at
           (get_or-map (with_routers_so_far summary router (take k own)) pairs i q old w.in-Ok.ensures.bound at read)
           w.in_ok-add.ensures
@@ -45,7 +45,7 @@ loop-pair-preserved c =
       | in_default w ↦ (
           ap (λ (v : Vec UnlistedPair Global). v.items) w.shown-is ∙ c.loop-pair.invariant
           ∙ with_routers_so_far-absent summary router (take k own) pairs pairs w.in_default.field-0 q refl
-          c.requires.ascend w.in_default.ensures.bound
+          c.requires.sorted w.in_default.ensures.bound
           w.in_default.ensures.position
           ∙ next)
     ]

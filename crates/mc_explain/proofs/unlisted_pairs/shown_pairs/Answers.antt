@@ -10,13 +10,13 @@ use Rattle.mc_tables.specs.Summary.{in_order, shown_pairs}
 use Rattle.mc_tables.proofs.LowestLemmas.{dedup-in_order}
 use Rattle.mc_explain.proofs.unlisted_pairs.shown_pairs.Goals as goal
 
--- two orders in turn tell no difference where neither does
+-- two orders in sequence are equal if both are
 ordering_then-both_equal : (r s : Ordering) → (is_eq r && is_eq s) ≡ is_eq (ordering_then r s)
 ordering_then-both_equal Less s = refl
 ordering_then-both_equal Equal s = refl
 ordering_then-both_equal Greater s = refl
 
--- two parts are equal where their order tells no difference
+-- two pairs are equal if their order is
 equal-from_cmp : (x y : ℕ × ℕ) → (eqb x.0 y.0 && eqb x.1 y.1) ≡ same_key x y
 equal-from_cmp x y =
     ap₂ (λ (a b : Bool). a && b) (unsigned_ties x.0 y.0) (unsigned_ties x.1 y.1)

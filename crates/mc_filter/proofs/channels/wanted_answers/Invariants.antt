@@ -1,7 +1,7 @@
 use Rattle.std.proofs.Common.{◌≡◌, ℕ, List, [], length}
 use Rattle.std.specs.List.{All}
 use Rattle.mc_igmp.specs.declared.record.Record.{Record}
-use Rattle.mc_filter.specs.ChannelPlaces.{AreWantedAnswers, IsChannelPlace}
+use Rattle.mc_filter.specs.ChannelPlaces.{AreAnswersAtPlaces, IsChannelPlace}
 use Rattle.mc_filter.specs.Tallies.{AreTallied}
 use Rattle.mc_filter.proofs.channels.wanted_answers.Given as goal
 
@@ -12,5 +12,5 @@ invariant-loop-place l = record {
       → length l.fn.tally.excludes.items ≡ length groups
       → All (IsChannelPlace groups channels) l.fn.places
       → AreTallied groups channels records l.fn.tally.excludes.items l.fn.tally.states.items []
-      → AreWantedAnswers channels records l.fn.places l.answers.items;
+      → AreAnswersAtPlaces channels records l.fn.places l.answers.items;
 }

@@ -3,6 +3,6 @@ use Rattle.mc_forward.specs.Domains.{net_of}
 use Rattle.mc_forward.proofs.flow_laws.a_travel_through_a_domain_ends.Goals as goal
 
 pub returns : goal.returns
-returns c = λ d flow t numbers last is x ok travel.
-    c.a_travel_ends.ensures (net_of d flow) (length d.topology.lans) t numbers last is x
+returns c = λ d flow t by picks x ok travel.
+    c.a_travel_ends.ensures (net_of d flow) (length d.topology.lans) t by.numbers by.last picks x
     (c.domains_are_nets.ensures.net d flow ok) travel

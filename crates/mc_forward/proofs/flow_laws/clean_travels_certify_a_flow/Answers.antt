@@ -3,9 +3,8 @@ use Rattle.mc_forward.specs.Domains.{net_of}
 use Rattle.mc_forward.proofs.flow_laws.clean_travels_certify_a_flow.Goals as goal
 
 pub returns : goal.returns
-returns c = λ d flow numbers last is numbers' last' js ok lt first second.
-    c.clean_travels_certify.ensures (net_of d flow) (length d.topology.lans) numbers last is
-    numbers' last' js
+returns c = λ d flow ok lt.
+    c.clean_travels_certify.ensures (net_of d flow) (length d.topology.lans)
     (c.domains_are_nets.ensures.net d flow ok) (c.domains_are_nets.ensures.wanting d flow ok)
     (c.domains_are_nets.ensures.ttl_from d flow ok lt)
-    (c.domains_are_nets.ensures.ttl_to d flow ok lt) first second
+    (c.domains_are_nets.ensures.ttl_to d flow ok lt)

@@ -3,7 +3,6 @@ use Rattle.mc_forward.specs.Domains.{net_of}
 use Rattle.mc_forward.proofs.flow_laws.finding_shows_that_a_flow_is_wrong.Goals as goal
 
 pub returns : goal.returns
-returns c = λ d flow t numbers last is x ok low high travel other.
-    c.non_clean_finding_is_not_right.ensures (net_of d flow) (length d.topology.lans) t numbers last is x
-    (c.domains_are_nets.ensures.net d flow ok) (c.domains_are_nets.ensures.wanting d flow ok) low
-    high travel other
+returns c = λ d flow t x ok low high other.
+    c.non_clean_finding_is_not_right.ensures (net_of d flow) (length d.topology.lans) t x
+    (c.domains_are_nets.ensures.net d flow ok) (c.domains_are_nets.ensures.wanting d flow ok) low high other

@@ -1,6 +1,7 @@
 use Rattle.std.proofs.Common.{◌<◌, Some, length, refl, sym, ap, ◌∙◌, arith}
 use Rattle.std.proofs.lemmas.List.{length-set}
-use Rattle.mc_forward.proofs.VifLanLemmas.{have_vifs-start, have_vifs-more_unplaced, have_vifs-more_placed, slice_index_or-from_read}
+use Rattle.mc_forward.proofs.VifLanLemmas.{have_vifs-start, have_vifs-more_unplaced}
+use Rattle.mc_forward.proofs.VifLanLemmas.{have_vifs-more_placed, slice_index_or-from_read}
 use Rattle.mc_forward.proofs.interfaces.add_router.Goals as goal
 use Rattle.mc_forward.proofs.interfaces.add_router.Goals.{in-Some+in_ok-push, in_default}
 
@@ -11,7 +12,7 @@ pub index_mut-list-requires : goal.index_mut-list-requires
 index_mut-list-requires c =
     let inside : c.loop-vif.vif < length c.args.vif_lans.now =
     omega (arith, c.loop-vif-test.true, c.type_inv.vif_lans) in
-    let lt = c.requires.within c.loop-vif.vif c.in-Some.lan
+    let lt = c.requires.listed_lans c.loop-vif.vif c.in-Some.lan
     (slice_index_or-from_read c.args.vif_lans.now c.loop-vif.vif _ _ inside c.in-Some.is) in
     omega (arith, lt, c.lan.view_is, c.loop-vif.invariant.count, c.loop-vif.lists.ok.0)
 
@@ -23,7 +24,7 @@ loop-vif-preserved c =
     elim c.match-vif_lans-vif.branch [
       | in-Some+in_ok-push w ↦ (
           let at = slice_index_or-from_read c.args.vif_lans.now c.loop-vif.vif _ _ inside w.in-Some.is in
-          let lt = c.requires.within c.loop-vif.vif w.in-Some.lan at in
+          let lt = c.requires.listed_lans c.loop-vif.vif w.in-Some.lan at in
           let within : w.lan.inside.0 < length lists =
           omega (arith, lt, w.lan.view_is, c.loop-vif.invariant.count) in
           rw w.lists-is (record {

@@ -13,12 +13,13 @@ pub loop-number-init : goal.loop-number-init
 loop-number-init c = record {
   count = ap length c.in_ok-lists.ensures ∙ length-map {B = List Interface} (below c.args.lans)
       (λ lan. []) ∙ length-below c.args.lans;
-  each = lists-before_first_router c.in_ok-lists.lists.items c.args.vif_lans.now c.args.lans c.in_ok-lists.ensures;
+  each = lists-before_first_router c.in_ok-lists.lists.items c.args.vif_lans.now c.args.lans
+      c.in_ok-lists.ensures;
 }
 
 pub add_router-requires : goal.add_router-requires
 add_router-requires c = record {
-  within = (λ vif lan at.
+  listed_lans = (λ vif lan at.
       let row : c.index-vif_lans-number.result ≡ get_or c.args.vif_lans.now c.loop-number.number [] =
       c.index-vif_lans-number.is ∙ get_or_default c.args.vif_lans.now c.loop-number.number
       c.index-vif_lans-number.result [] c.loop-number-test.true in
@@ -41,7 +42,8 @@ returns c = record {
   ok = (
       let end : c.loop-number.number ≡ length c.args.vif_lans.now =
       omega (arith, c.loop-number-test.false, c.loop-number.auto.number-end) in
-      map_below-from_items c.loop-number.lists.items (interfaces_by_vif_lans c.args.vif_lans.now (length c.args.vif_lans.now))
+      map_below-from_items c.loop-number.lists.items
+          (interfaces_by_vif_lans c.args.vif_lans.now (length c.args.vif_lans.now))
       c.args.lans [] c.loop-number.invariant.count
       (λ lan lt. c.loop-number.invariant.each lan lt
       ∙ ap (λ (n : ℕ). interfaces_by_vif_lans c.args.vif_lans.now n lan) end));

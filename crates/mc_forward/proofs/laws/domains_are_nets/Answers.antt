@@ -1,4 +1,5 @@
-use Rattle.mc_forward.proofs.DomainLemmas.{is_net-net_of, wants-below_lan_count, source-below_lan_count, ttl-at_least_1}
+use Rattle.mc_forward.proofs.DomainLemmas.{is_net-net_of, wants-below_lan_count}
+use Rattle.mc_forward.proofs.DomainLemmas.{source-below_lan_count, ttl-at_least_1}
 use Rattle.mc_forward.proofs.DomainLemmas.{ttl-at_most_255}
 use Rattle.mc_forward.proofs.laws.domains_are_nets.Goals as goal
 

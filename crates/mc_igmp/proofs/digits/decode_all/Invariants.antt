@@ -2,7 +2,7 @@ use Rattle.std.proofs.Common.{◌≡◌, ◌-◌, ◌*◌, length}
 use Rattle.mc_text.specs.DigitPairs.{AreDecoded}
 use Rattle.mc_igmp.proofs.digits.decode_all.Given as goal
 
--- The bytes so far are those of the digits so far.
+-- the bytes so far are decoded from the digits so far
 abbrev pub invariant-pieces : goal.invariant-pieces
 invariant-pieces l = record {
   size : length l.fn.digits ≡ 2 * length l.bytes;

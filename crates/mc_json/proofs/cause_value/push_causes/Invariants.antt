@@ -4,7 +4,7 @@ use Rattle.mc_forward.specs.ListedTables.{facts}
 use Rattle.mc_json.specs.CauseData.{causes_data}
 use Rattle.mc_json.proofs.cause_value.push_causes.Given as goal
 
--- what is told so far
+-- the values of the causes so far
 abbrev pub invariant-loop-line : goal.invariant-loop-line
 invariant-loop-line l =
     map data_of l.values.items ≡ map data_of l.initial.values.items

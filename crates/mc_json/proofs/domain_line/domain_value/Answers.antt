@@ -2,4 +2,4 @@ use Rattle.mc_json.proofs.domain_line.domain_value.Goals as goal
 
 pub returns : goal.returns
 returns c = c.object.ensures _ (c.list.ensures _ _ (c.count.ensures _ (c.value.ensures _ _
-    c.new.ensures.value c.parts_value.ensures)) c.word_values.ensures)
+    c.new.ensures c.parts_value.ensures)) c.word_values.ensures)

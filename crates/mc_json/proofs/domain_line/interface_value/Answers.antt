@@ -3,4 +3,4 @@ use Rattle.mc_json.proofs.domain_line.interface_value.Goals as goal
 
 pub returns : goal.returns
 returns c = c.object.ensures _ (c.value-2.ensures _ _ (c.router.ensures _ (c.value.ensures _ _
-    (c.string.ensures _ _ c.new.ensures.value c.device_name.ensures) refl)) refl)
+    (c.string.ensures _ _ c.new.ensures c.device_name.ensures) refl)) refl)

@@ -3,7 +3,7 @@ use Rattle.mc_theory.specs.Lists.{below}
 use Rattle.mc_explain.specs.SearchLine.{is_excluded}
 use Rattle.mc_json.proofs.FilterLemmas.{filter-below_passed, filter-below_failed}
 use Rattle.mc_json.proofs.end_lines.list_excluded_routers.Goals as goal
-use Rattle.mc_json.proofs.end_lines.list_excluded_routers.Goals.{then-is_left_out+in_ok-push, else-is_left_out}
+use Rattle.mc_json.proofs.end_lines.list_excluded_routers.Goals.{then-is_excluded+in_ok-push, else-is_excluded}
 
 pub loop-number-init : goal.loop-number-init
 unfolding below
@@ -15,9 +15,9 @@ loop-number-preserved c =
     let xs = c.loop-number.routers.items in
     let n = c.loop-number.number in
     elim c.if-is_excluded.branch [
-      | then-is_left_out+in_ok-push w ↦ rw w.routers-is (filter-below_passed marked xs
+      | then-is_excluded+in_ok-push w ↦ rw w.routers-is (filter-below_passed marked xs
           w.push.new.self.items n c.loop-number.invariant
           (sym c.is_excluded.ensures ∙ w.if-is_excluded.true) w.in_ok-push.ensures.items)
-      | else-is_left_out w ↦ rw w.routers-is (filter-below_failed marked xs n c.loop-number.invariant
+      | else-is_excluded w ↦ rw w.routers-is (filter-below_failed marked xs n c.loop-number.invariant
           (sym c.is_excluded.ensures ∙ w.if-is_excluded.false))
     ]

@@ -1,4 +1,4 @@
--- The line as it is put together by hand, since a count can have more than 64 bits.
+-- The line is put together by hand, since a count can have more than 64 bits.
 use Rattle.std.proofs.Common.{◌≡◌, ◌==◌, ℕ, false, List, codes, decimal, ◌++◌, ap, ◌∙◌, append_assoc}
 use Rattle.std.proofs.lemmas.Bool.{ne_eqb}
 use Rattle.json.specs.Print.{escape_byte}

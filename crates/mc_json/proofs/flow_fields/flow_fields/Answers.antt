@@ -2,4 +2,4 @@ use Rattle.mc_json.proofs.flow_fields.flow_fields.Goals as goal
 
 pub returns : goal.returns
 returns c = c.count-2.ensures _ (c.string-2.ensures _ _ (c.string.ensures _ _ (c.count.ensures _
-    c.new.ensures.value) c.format.ensures.ok) c.format-2.ensures.ok)
+    c.new.ensures) c.format.ensures.ok) c.format-2.ensures.ok)

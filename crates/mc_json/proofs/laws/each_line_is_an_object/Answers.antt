@@ -1,6 +1,8 @@
 -- Line by line.
-use Rattle.mc_json.proofs.EachLineLemmas.{are_object_lines-domain, are_object_lines-right, are_object_lines-summary, are_object_lines-tree}
-use Rattle.mc_json.proofs.EachLineLemmas.{are_object_lines-all_unlisted, are_object_lines-without, are_object_lines-wrong}
+use Rattle.mc_json.proofs.EachLineLemmas.{are_object_lines-domain, are_object_lines-right}
+use Rattle.mc_json.proofs.EachLineLemmas.{are_object_lines-summary, are_object_lines-tree}
+use Rattle.mc_json.proofs.EachLineLemmas.{are_object_lines-all_unlisted, are_object_lines-without}
+use Rattle.mc_json.proofs.EachLineLemmas.{are_object_lines-wrong_flow}
 use Rattle.mc_json.proofs.laws.each_line_is_an_object.Goals as goal
 
 pub returns-clause-domain : goal.returns-clause-domain
@@ -13,8 +15,7 @@ pub returns-clause-right : goal.returns-clause-right
 returns-clause-right c = λ number f copies tree wanted. are_object_lines-right number f copies tree wanted
 
 pub returns-clause-wrong : goal.returns-clause-wrong
-returns-clause-wrong c = λ d number f found_ttl finding events also why events_asked.
-    are_object_lines-wrong d number f found_ttl finding events also why events_asked
+returns-clause-wrong c = λ number f w. are_object_lines-wrong_flow number f w
 
 pub returns-clause-unlisted : goal.returns-clause-unlisted
 returns-clause-unlisted c = λ all t summary. are_object_lines-all_unlisted all t summary

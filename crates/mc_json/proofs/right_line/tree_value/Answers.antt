@@ -1,5 +1,5 @@
 use Rattle.mc_json.proofs.right_line.tree_value.Goals as goal
 
 pub returns : goal.returns
-returns c = c.object.ensures _ (c.count.ensures _ (c.list.ensures _ _ c.new.ensures.value
+returns c = c.object.ensures _ (c.count.ensures _ (c.list.ensures _ _ c.new.ensures
     c.reached_values.ensures))

@@ -3,5 +3,5 @@ use Rattle.mc_json.proofs.row_value.entry_value.Goals as goal
 pub returns : goal.returns
 returns c = rw c.topology.ensures.topology at (c.object.ensures _ (c.list.ensures _ _
     (c.string-2.ensures _ _ (c.router.ensures _ (c.string.ensures _ _ (c.value-2.ensures _ _
-    c.new-2.ensures.value (c.object-from.ensures _ (c.count.ensures _ (c.value.ensures _ _ c.new.ensures.value
-    c.device_value.ensures)))) c.address.ensures)) c.address-2.ensures) c.oif_values.ensures))
+    c.new-2.ensures (c.object-from.ensures _ (c.count.ensures _ (c.value.ensures _ _ c.new.ensures
+    c.device_value.ensures)))) c.address_text.ensures)) c.address_text-2.ensures) c.oif_values.ensures))

@@ -2,4 +2,4 @@ use Rattle.mc_json.proofs.row_value.oif_value.Goals as goal
 
 pub returns : goal.returns
 returns c = c.object.ensures _ (c.count-2.ensures _ (c.count.ensures _ (c.value.ensures _ _
-    c.new.ensures.value c.device_value.ensures)))
+    c.new.ensures c.device_value.ensures)))

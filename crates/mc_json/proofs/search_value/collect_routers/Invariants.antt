@@ -1,6 +1,6 @@
 use Rattle.std.proofs.Common.{◌≡◌, ◌++◌}
 use Rattle.mc_json.proofs.search_value.collect_routers.Given as goal
 
--- those so far, and those that are left
+-- the routers so far, and those that are left
 abbrev pub invariant-loop-router : goal.invariant-loop-router
 invariant-loop-router l = l.list.items ++ l.router-iterator ≡ l.fn.routers

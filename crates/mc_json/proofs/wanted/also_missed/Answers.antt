@@ -6,7 +6,7 @@ use Rattle.mc_forward.specs.FlightsInDomain.{FlowOfDomain}
 use Rattle.mc_forward.specs.ListedTables.{facts}
 use Rattle.mc_explain.specs.FirstEight.{AreMarksOfCopies}
 use Rattle.mc_explain.specs.WantedText.{is_also_missed}
-use Rattle.mc_explain.proofs.FirstEightLemmas.{unmarked_lans}
+use Rattle.mc_explain.proofs.FirstEightLemmas.{slice_index_or-replicate_false}
 use Rattle.mc_json.proofs.wanted.also_missed.Goals as goal
 
 pub returns : goal.returns
@@ -14,7 +14,7 @@ returns c =
     let copies = c.args.flight.now.flight.carried in
     let marked : AreMarksOfCopies c.mark_lans.new.marks copies = λ lan.
     c.mark_lans.ensures.marks lan
-    ∙ (ap (λ b. b || is_some (first_copy_on c.copies.result.now lan)) (unmarked_lans 1024 lan)
+    ∙ (ap (λ b. b || is_some (first_copy_on c.copies.result.now lan)) (slice_index_or-replicate_false 1024 lan)
     ∙ ap (λ cs. is_some (first_copy_on cs lan)) c.copies.ensures.copies) in
     subst (λ (v : FlowOfDomain). IfOk c.unmarked_lans.result (λ lans. lans.items
     ≡ filter (is_also_missed (facts v.domain) v.flow copies c.args.missed)

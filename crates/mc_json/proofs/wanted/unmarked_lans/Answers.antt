@@ -5,7 +5,7 @@ use Rattle.mc_forward.specs.ListedTables.{facts}
 use Rattle.mc_explain.specs.WantedText.{is_also_missed}
 use Rattle.mc_json.proofs.FilterLemmas.{filter-below_passed, filter-below_failed}
 use Rattle.mc_json.proofs.wanted.unmarked_lans.Goals as goal
-use Rattle.mc_json.proofs.wanted.unmarked_lans.Goals.{then-is_unmarked+in_ok-push, else-is_unmarked}
+use Rattle.mc_json.proofs.wanted.unmarked_lans.Goals.{then-is_wanted_and_unmarked+in_ok-push, else-is_wanted_and_unmarked}
 
 pub loop-number-init : goal.loop-number-init
 unfolding below
@@ -19,12 +19,12 @@ loop-number-preserved c =
     let xs = c.loop-number.lans.items in
     let n = c.loop-number.number in
     elim c.if-is_wanted_and_unmarked.branch [
-      | then-is_unmarked+in_ok-push w ↦ rw w.lans-is (λ copies marked.
+      | then-is_wanted_and_unmarked+in_ok-push w ↦ rw w.lans-is (λ copies marked.
           filter-below_passed (also_missed copies) xs w.push.new.self.items n
           (c.loop-number.invariant copies marked)
           (sym (c.is_wanted_and_unmarked.ensures.marked copies marked) ∙ w.if-is_wanted_and_unmarked.true)
           w.in_ok-push.ensures.items)
-      | else-is_unmarked w ↦ rw w.lans-is (λ copies marked.
+      | else-is_wanted_and_unmarked w ↦ rw w.lans-is (λ copies marked.
           filter-below_failed (also_missed copies) xs n (c.loop-number.invariant copies marked)
           (sym (c.is_wanted_and_unmarked.ensures.marked copies marked) ∙ w.if-is_wanted_and_unmarked.false))
     ]

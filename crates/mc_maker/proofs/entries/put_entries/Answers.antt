@@ -3,7 +3,8 @@ use Rattle.std.proofs.Common.{◌≡◌, ◌<◌, length, ap, sym, subst, arith}
 use Rattle.mc_theory.specs.Flights.{Copy}
 use Rattle.mc_theory.specs.Certificates.{Entry}
 use Rattle.mc_forward.specs.FlightsInDomain.{net_in}
-use Rattle.mc_maker.proofs.FilledLemmas.{entries_so_far-none, entries_so_far-more, entries_so_far-all, need_by_held-at_most_255}
+use Rattle.mc_maker.proofs.FilledLemmas.{entries_so_far-none, entries_so_far-more}
+use Rattle.mc_maker.proofs.FilledLemmas.{entries_so_far-all, need_by_held-at_most_255}
 use Rattle.mc_maker.proofs.entries.put_entries.Goals as goal
 
 pub loop-copy-init : goal.loop-copy-init
@@ -12,17 +13,19 @@ loop-copy-init c = entries_so_far-none (net_in c.args.view.now) c.args.by_lan.no
 
 pub returns : goal.returns
 returns c = record {
-  meaning = (
+  entries = (
       entries_so_far-all (net_in c.args.view.now) c.loop-copy.by_lan c.args.by_lan.now c.args.copies.now
       c.loop-copy.copy-index c.loop-copy.invariant
       (omega (arith, c.loop-copy-test.false)));
 }
 
 pub entry_of_copy-entry-requires : goal.entry_of_copy-entry-requires
-entry_of_copy-entry-requires c =
-    need_by_held-at_most_255 (net_in c.args.view.now) c.loop-copy.by_lan c.args.by_lan.now c.args.copies.now
-    c.loop-copy.copy-index c.copy-item.result c.loop-copy.invariant
-    c.loop-copy-test.true c.copy-item.is c.requires.needs
+entry_of_copy-entry-requires c = record {
+  bounded = (
+      need_by_held-at_most_255 (net_in c.args.view.now) c.loop-copy.by_lan c.args.by_lan.now c.args.copies.now
+      c.loop-copy.copy-index c.copy-item.result c.loop-copy.invariant
+      c.loop-copy-test.true c.copy-item.is c.requires.needs);
+}
 
 pub loop-copy-preserved : goal.loop-copy-preserved
 loop-copy-preserved c =
@@ -35,7 +38,8 @@ loop-copy-preserved c =
     let within : x.lan < length c.args.by_lan.now =
     subst (λ (y : Copy). y.lan < length c.args.by_lan.now) (sym c.copy-item.is)
     (c.requires.lans k x c.loop-copy-test.true) in
-    entries_so_far-more (net_in c.args.view.now) c.loop-copy.by_lan c.put_first-free.new.self c.args.by_lan.now
+    entries_so_far-more (net_in c.args.view.now) c.loop-copy.by_lan c.put_first-free.new.self
+    c.args.by_lan.now
     cs k x e c.put_first-free.result c.loop-copy.invariant c.loop-copy-test.true
-    c.copy-item.is within c.entry_of_copy-entry.ensures put_ok.free
+    c.copy-item.is within c.entry_of_copy-entry.ensures.value put_ok.free
     put_ok.put put_ok.earlier put_ok.kept

@@ -1,4 +1,4 @@
--- By what was examined.
+-- By the result of the examination.
 use Rattle.std.proofs.Common.{ap, sym, ◌∙◌, refl, arith}
 use Rattle.mc_forward.specs.Domains.{ttl_of}
 use Rattle.mc_forward.proofs.DomainLemmas.{ttl-at_most_255}
@@ -26,6 +26,7 @@ returns-clause-travels c = λ first second a b.
     let ok = c.topology-rules.ensures.rules in (
       (λ e. absurd cc),
       (λ both. sym (ap is_certified c.in-Found.is)
-          ∙ c.in_ok-entries.ensures.right.1 (is_right-both_travels_clean d c.args.flow first second ok c.requires.known a b
+          ∙ c.in_ok-entries.ensures.right.1 (is_right-both_travels_clean d c.args.flow first second
+          ok c.requires.known a b
           both.0 both.1)),
     ))

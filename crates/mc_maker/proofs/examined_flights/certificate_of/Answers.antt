@@ -1,24 +1,27 @@
 use Rattle.std.proofs.Common.{◌∙◌, List, subst}
 use Rattle.mc_theory.specs.Certificates.{Entry, IsAccepted}
 use Rattle.mc_forward.specs.FlightsInDomain.{net_in}
-use Rattle.mc_maker.proofs.CleanLemmas.{reordered-all_of_topology, is_list-reordered, reordered-lans_below_count}
-use Rattle.mc_maker.proofs.ExaminedLemmas.{finds_fault-held_entries, is_reordering-held_entries, ascending-entries_by_lan}
+use Rattle.mc_maker.proofs.CleanLemmas.{all_of_topology-reordered, is_writable_tree-reordered}
+use Rattle.mc_maker.proofs.CleanLemmas.{lans_below_count-reordered}
+use Rattle.mc_maker.proofs.ExaminedLemmas.{finds_fault-held_entries, is_reordering-held_entries}
+use Rattle.mc_maker.proofs.ExaminedLemmas.{ascending-entries_by_lan}
 use Rattle.mc_maker.proofs.ExaminedLemmas.{is_accepted-held_entries}
 use Rattle.mc_maker.proofs.examined_flights.certificate_of.Goals as goal
 
 pub serves_all-requires : goal.serves_all-requires
 serves_all-requires c = record {
   within = (
-      reordered-lans_below_count c.args.view.now.domain c.args.view.now.flow c.args.copies.now c.deref.result.now
+      lans_below_count-reordered c.args.view.now.domain c.args.view.now.flow c.args.copies.now
+      c.deref.result.now
       c.requires.valid (is_reordering-held_entries c.args.view.now c.args.copies.now c.in_ok-by_lan.by_lan
-      c.deref.result.now c.requires.valid c.in_ok-by_lan.ensures
+      c.deref.result.now c.requires.valid c.in_ok-by_lan.ensures.ok
       (c.deref.ensures.value ∙ c.in_ok-entries.ensures)));
 }
 
 pub returns-then-not-serves_all-clause-none : goal.returns-then-not-serves_all-clause-none
 returns-then-not-serves_all-clause-none c =
     finds_fault-held_entries c.args.view.now c.args.copies.now c.in_ok-by_lan.by_lan c.deref.result.now
-    c.serves_all.ensures.rules c.requires.valid c.in_ok-by_lan.ensures
+    c.serves_all.ensures.rules c.requires.valid c.in_ok-by_lan.ensures.ok
     (c.deref.ensures.value ∙ c.in_ok-entries.ensures)
     (c.serves_all.ensures.some c.if-not-serves_all.true)
 
@@ -26,26 +29,26 @@ pub returns-clause-accepted : goal.returns-clause-accepted
 returns-clause-accepted c =
     subst (λ (es : List Entry). IsAccepted (net_in c.args.view.now) es) c.deref.ensures.value
     (is_accepted-held_entries c.args.view.now c.args.copies.now c.in_ok-by_lan.by_lan c.deref.result.now
-    c.requires.valid c.in_ok-by_lan.ensures (c.deref.ensures.value ∙ c.in_ok-entries.ensures)
+    c.requires.valid c.in_ok-by_lan.ensures.ok (c.deref.ensures.value ∙ c.in_ok-entries.ensures)
     (c.serves_all.ensures.each c.if-not-serves_all.false))
 
 pub returns-clause-ascending : goal.returns-clause-ascending
 returns-clause-ascending c =
     ascending-entries_by_lan c.args.view.now c.args.copies.now c.in_ok-by_lan.by_lan
-    c.in_ok-entries.entries.items c.in_ok-by_lan.ensures c.in_ok-entries.ensures
+    c.in_ok-entries.entries.items c.in_ok-by_lan.ensures.ok c.in_ok-entries.ensures
 
 pub returns-clause-entries : goal.returns-clause-entries
 returns-clause-entries c =
     is_reordering-held_entries c.args.view.now c.args.copies.now c.in_ok-by_lan.by_lan
-    c.in_ok-entries.entries.items c.requires.valid c.in_ok-by_lan.ensures c.in_ok-entries.ensures
+    c.in_ok-entries.entries.items c.requires.valid c.in_ok-by_lan.ensures.ok c.in_ok-entries.ensures
 
 pub returns-clause-listed : goal.returns-clause-listed
 returns-clause-listed c =
-    reordered-all_of_topology c.args.view.now.domain c.args.view.now.flow c.args.copies.now
+    all_of_topology-reordered c.args.view.now.domain c.args.view.now.flow c.args.copies.now
     c.in_ok-entries.entries.items c.requires.valid (returns-clause-entries c)
 
-pub returns-clause-list : goal.returns-clause-list
-returns-clause-list c =
-    is_list-reordered c.args.view.now.domain c.args.view.now.flow c.args.copies.now
+pub returns-clause-writable : goal.returns-clause-writable
+returns-clause-writable c =
+    is_writable_tree-reordered c.args.view.now.domain c.args.view.now.flow c.args.copies.now
     c.in_ok-entries.entries.items c.serves_all.ensures.rules.domain c.requires.valid
     (returns-clause-entries c)

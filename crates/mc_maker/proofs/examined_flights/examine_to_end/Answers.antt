@@ -1,4 +1,4 @@
--- By the travels that were made.
+-- By the travels.
 use Rattle.std.proofs.Common.{All, ℕ, ap, subst, sym, refl, arith}
 use Rattle.mc_cert.specs.Certificate.{IsEntryOf}
 use Rattle.std.specs.Prelude.{◌≢◌, IfNone, IfSome, Option, None, Some}
@@ -9,7 +9,8 @@ use Rattle.mc_forward.proofs.DomainLemmas.{ttl-at_most_255}
 use Rattle.mc_replay.specs.FindingValues.{finding_value}
 use Rattle.mc_maker.specs.Examined.{FindsFault, IsFirstPickTravel}
 use Rattle.mc_maker.proofs.CleanLemmas.{are_clean_copies-of_travel}
-use Rattle.mc_maker.proofs.ExaminedLemmas.{is_right-accepted, finding_value-not_clean, entries_of_clean_travel-reordered, ttl_of-listed_flow}
+use Rattle.mc_maker.proofs.ExaminedLemmas.{is_right-accepted, finding_value-not_clean}
+use Rattle.mc_maker.proofs.ExaminedLemmas.{entries_of_clean_travel-reordered, ttl_of-listed_flow}
 use Rattle.mc_maker.proofs.ExaminedLemmas.{flow_view-same_domain_and_flow}
 use Rattle.mc_maker.proofs.ExaminedLemmas.{is_ttl_of_fault-255, is_ttl_of_fault-flow_ttl, not_right-by_fault}
 use Rattle.mc_maker.proofs.examined_flights.examine_to_end.Goals as goal
@@ -22,9 +23,11 @@ pub certificate_of-requires : goal.certificate_of-requires
 certificate_of-requires c = record {
   valid = (
       let d = c.args.domain.now in
-      let view = flow_view-same_domain_and_flow d c.args.flow c.in_ok-greatest.greatest.flight c.flow_view.result.now
+      let view = flow_view-same_domain_and_flow d c.args.flow c.in_ok-greatest.greatest.flight
+      c.flow_view.result.now
       c.in_ok-greatest.ensures.domain c.in_ok-greatest.ensures.flow c.flow_view.ensures in
-      rw view (are_clean_copies-of_travel c.args.domain.now c.in_ok-greatest.greatest.flight.domain c.args.flow
+      rw view (are_clean_copies-of_travel c.args.domain.now c.in_ok-greatest.greatest.flight.domain
+      c.args.flow
       c.in_ok-greatest.greatest.travel c.in_ok-greatest.greatest.flight.flight c.copies.result.now
       c.topology-topology.ensures.rules c.in_ok-greatest.ensures.domain c.in_ok-greatest.ensures.run
       (ap finding_value c.in-Clean.is) c.copies.ensures.copies c.copies.ensures.lans
@@ -43,9 +46,9 @@ returns-in_default c =
       accepted = tt;
       ascending = tt;
       listed = tt;
-      list = tt;
+      writable = tt;
       made = tt;
-      examined_flights = record {
+      flights = record {
         domain = c.in_ok-greatest.ensures.domain;
         flow_of_flight = c.in_ok-greatest.ensures.flow;
         run = c.in_ok-greatest.ensures.run;
@@ -54,7 +57,8 @@ returns-in_default c =
       ttl = is_ttl_of_fault-255 d c.args.flow t is fault;
       right = (
         (λ e. absurd cc),
-        (λ r. absurd (not_right-by_fault d c.args.flow 255 t ok (ttl-at_most_255 d c.args.flow ok c.requires.known)
+        (λ r. absurd (not_right-by_fault d c.args.flow 255 t ok
+            (ttl-at_most_255 d c.args.flow ok c.requires.known)
             (omega arith) is fault r)),
       );
     }
@@ -62,7 +66,8 @@ returns-in_default c =
 pub returns-in-Some-clause-accepted : goal.returns-in-Some-clause-accepted
 returns-in-Some-clause-accepted c =
     let d = c.args.domain.now in
-    let view = flow_view-same_domain_and_flow d c.args.flow c.in_ok-greatest.greatest.flight c.flow_view.result.now
+    let view = flow_view-same_domain_and_flow d c.args.flow c.in_ok-greatest.greatest.flight
+    c.flow_view.result.now
     c.in_ok-greatest.ensures.domain c.in_ok-greatest.ensures.flow c.flow_view.ensures in
     let made = rw view at c.in_ok-entries.ensures in
     subst (λ o. IfSome o (λ es. IsAccepted (net_of d c.args.flow) es.items)) c.in-Some.is
@@ -71,7 +76,8 @@ returns-in-Some-clause-accepted c =
 pub returns-in-Some-clause-listed : goal.returns-in-Some-clause-listed
 returns-in-Some-clause-listed c =
     let d = c.args.domain.now in
-    let view = flow_view-same_domain_and_flow d c.args.flow c.in_ok-greatest.greatest.flight c.flow_view.result.now
+    let view = flow_view-same_domain_and_flow d c.args.flow c.in_ok-greatest.greatest.flight
+    c.flow_view.result.now
     c.in_ok-greatest.ensures.domain c.in_ok-greatest.ensures.flow c.flow_view.ensures in
     let made = rw view at c.in_ok-entries.ensures in
     subst (λ o. IfSome o (λ es. All (IsEntryOf d.topology) es.items)) c.in-Some.is made.listed
@@ -79,11 +85,13 @@ returns-in-Some-clause-listed c =
 pub returns-in-Some-clause-made : goal.returns-in-Some-clause-made
 returns-in-Some-clause-made c =
     let d = c.args.domain.now in
-    let view = flow_view-same_domain_and_flow d c.args.flow c.in_ok-greatest.greatest.flight c.flow_view.result.now
+    let view = flow_view-same_domain_and_flow d c.args.flow c.in_ok-greatest.greatest.flight
+    c.flow_view.result.now
     c.in_ok-greatest.ensures.domain c.in_ok-greatest.ensures.flow c.flow_view.ensures in
     let made = rw view at c.in_ok-entries.ensures in
     let cs = c.copies.result.now in
-    entries_of_clean_travel-reordered d c.args.flow c.in_ok-greatest.greatest.travel c.in_ok-greatest.greatest.flight.flight cs
+    entries_of_clean_travel-reordered d c.args.flow c.in_ok-greatest.greatest.travel
+    c.in_ok-greatest.greatest.flight.flight cs
     c.in-Some.entries.items c.in_ok-greatest.ensures.run (ap finding_value c.in-Clean.is)
     (subst (λ o. IfSome o (λ es. IsReordering (entries_of (net_of d c.args.flow) cs) es.items))
     c.in-Some.is made.entries) c.copies.ensures.copies
@@ -114,7 +122,8 @@ returns-clause-right c =
     (sym (ttl_of-listed_flow d c.args.flow c.topology-topology.result.now c.flow.result.now
     c.topology-topology.ensures.topology c.flow.ensures.flow))
     (c.in_ok-least.least.flight.flight, c.in_ok-least.ensures.run) in
-    let view = flow_view-same_domain_and_flow d c.args.flow c.in_ok-greatest.greatest.flight c.flow_view.result.now
+    let view = flow_view-same_domain_and_flow d c.args.flow c.in_ok-greatest.greatest.flight
+    c.flow_view.result.now
     c.in_ok-greatest.ensures.domain c.in_ok-greatest.ensures.flow c.flow_view.ensures in
     let made = rw view at c.in_ok-entries.ensures in
     let fault : FindsFault t =

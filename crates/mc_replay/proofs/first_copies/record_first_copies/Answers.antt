@@ -2,11 +2,16 @@
 use Rattle.std.proofs.Common.{◌≡◌, ◌+◌, ◌<◌, length, is_some, not, true, false, None, Some, ap, sym, subst}
 use Rattle.std.proofs.Common.{◌∙◌, arith}
 use Rattle.mc_theory.specs.Flights.{Copy}
-use Rattle.mc_replay.proofs.FirstLemmas.{FirstCopiesSoFar, first_copies_so_far-none, first_copies_so_far-more, second_copy_so_far-all, first_copies_so_far-all}
-use Rattle.mc_replay.proofs.FirstLemmas.{second_copy_so_far, second_copy_so_far-found_now, second_copy_so_far-found_before}
-use Rattle.mc_replay.proofs.FirstLemmas.{second_copy_so_far-first_on_lan, get_or-take_drop, length-take_drop_end}
+use Rattle.mc_replay.proofs.FirstLemmas.{FirstCopiesSoFar, first_copies_so_far-none}
+use Rattle.mc_replay.proofs.FirstLemmas.{first_copies_so_far-more, second_copy_so_far-all}
+use Rattle.mc_replay.proofs.FirstLemmas.{first_copies_so_far-all}
+use Rattle.mc_replay.proofs.FirstLemmas.{second_copy_so_far, second_copy_so_far-found_now}
+use Rattle.mc_replay.proofs.FirstLemmas.{second_copy_so_far-found_before}
+use Rattle.mc_replay.proofs.FirstLemmas.{second_copy_so_far-first_on_lan, get_or-take_drop}
+use Rattle.mc_replay.proofs.FirstLemmas.{length-take_drop_end}
 use Rattle.mc_replay.proofs.first_copies.record_first_copies.Goals as goal
-use Rattle.mc_replay.proofs.first_copies.record_first_copies.Goals.{then-not-put_first+then-is_none, else-not-put_first}
+use Rattle.mc_replay.proofs.first_copies.record_first_copies.Goals.{then-not-put_first+then-is_none}
+use Rattle.mc_replay.proofs.first_copies.record_first_copies.Goals.{else-not-put_first}
 use Rattle.mc_replay.proofs.first_copies.record_first_copies.Goals.{else-not-put_first-via-then-not-put_first+else-is_none}
 use Rattle.mc_replay.proofs.first_copies.record_first_copies.Goals.{else-not-put_first-via-else-not-put_first}
 
@@ -14,7 +19,8 @@ pub loop-copy-init : goal.loop-copy-init
 loop-copy-init c =
     let e : c.args.seen ≡ c.args.seen + 0 = omega arith in
     subst (λ k. FirstCopiesSoFar c.args.firsts.now c.args.firsts.now c.args.copies.now k None) e
-    (first_copies_so_far-none c.args.firsts.now c.args.copies.now c.args.seen c.requires.firsts c.requires.once)
+    (first_copies_so_far-none c.args.firsts.now c.args.copies.now c.args.seen c.requires.firsts
+    c.requires.distinct)
 
 pub loop-copy-preserved : goal.loop-copy-preserved
 loop-copy-preserved c =
@@ -39,7 +45,8 @@ loop-copy-preserved c =
           none))
       | else-not-put_first w ↦ elim w.else-not-put_first.branch [
         | else-not-put_first-via-then-not-put_first+else-is_none v ↦ (let some : is_some second ≡ true =
-            v.if-is_none.ensures in w.second-is ∙ sym (second_copy_so_far-found_before second (not put) x some))
+            v.if-is_none.ensures in w.second-is ∙ sym (second_copy_so_far-found_before second
+            (not put) x some))
         | else-not-put_first-via-else-not-put_first v ↦ w.second-is
             ∙ sym (second_copy_so_far-first_on_lan second (not put) x (ap not v.if-not-put_first.false))
       ]

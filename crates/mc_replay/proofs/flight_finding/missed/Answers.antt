@@ -2,7 +2,8 @@ use Rattle.std.proofs.Common.{◌≡◌, true, false, is_some, sym, ap, ◌∙�
 use Rattle.mc_theory.specs.Findings.{first_copy_on}
 use Rattle.mc_forward.specs.FlightsInDomain.{net_in}
 use Rattle.mc_forward.proofs.PerLanLemmas.{first_with_key-first_copy_on}
-use Rattle.mc_replay.proofs.MissedLemmas.{missed-below_none, missed-below_more_unwanting, missed-below_more_with_copy, missed-first_wanting}
+use Rattle.mc_replay.proofs.MissedLemmas.{missed-below_none, missed-below_more_unwanting}
+use Rattle.mc_replay.proofs.MissedLemmas.{missed-below_more_with_copy, missed-first_wanting}
 use Rattle.mc_replay.proofs.flight_finding.missed.Goals as goal
 use Rattle.mc_replay.proofs.flight_finding.missed.Goals.{else-wants-via-then-wants+else-is_none}
 use Rattle.mc_replay.proofs.flight_finding.missed.Goals.{else-wants-via-else-wants}
@@ -16,7 +17,8 @@ returns-then-is_none c = λ copies are.
     let k = c.loop-number.number in
     let w : n.wants k ≡ true = cc in
     let none : is_some c.on.result ≡ false = grind arith in
-    let b : is_some (first_copy_on copies k) ≡ false = ap is_some (sym (are k ∙ first_with_key-first_copy_on copies k))
+    let b : is_some (first_copy_on copies k) ≡ false = ap is_some
+    (sym (are k ∙ first_with_key-first_copy_on copies k))
     ∙ (ap is_some (sym c.on.ensures.item) ∙ none) in
     sym (missed-first_wanting n copies k _ (c.loop-number.invariant copies are) w b
     (omega (arith, c.lans-number-end.ensures.count))))
@@ -28,7 +30,8 @@ loop-number-preserved c = λ copies are.
     elim c.else-wants.branch [
       | else-wants-via-then-wants+else-is_none w ↦ (
           let some : is_some w.on.result ≡ true = w.if-is_none.ensures in
-          let b : is_some (first_copy_on copies k) ≡ true = ap is_some (sym (are k ∙ first_with_key-first_copy_on copies k))
+          let b : is_some (first_copy_on copies k) ≡ true = ap is_some
+          (sym (are k ∙ first_with_key-first_copy_on copies k))
           ∙ (ap is_some (sym w.on.ensures.item) ∙ some) in
           missed-below_more_with_copy n copies k (c.loop-number.invariant copies are) b)
       | else-wants-via-else-wants w ↦ (let b : n.wants k ≡ false =

@@ -19,4 +19,5 @@ loop-number-preserved c = λ copies are.
     let wanted : c.wants.result ≡ n.wants k = c.wants.ensures.value in
     ap (λ (s : Bool). s || (c.wants.result && c.is_none.result)) (c.loop-number.invariant copies are)
     ∙ ap (λ (w : Bool). is_some (missed n copies (below k)) || (w && c.is_none.result)) wanted
-    ∙ ap (λ (b : Bool). is_some (missed n copies (below k)) || (n.wants k && b)) free ∙ sym (is_some-missed_below_more n copies k))
+    ∙ ap (λ (b : Bool). is_some (missed n copies (below k)) || (n.wants k && b)) free
+    ∙ sym (is_some-missed_below_more n copies k))

@@ -1,4 +1,4 @@
--- One LAN after the other.
+-- LAN by LAN.
 use Rattle.std.proofs.Common.{◌≡◌, ◌+◌, ◌==◌, false, length, drop, Option, Some, ap, sym}
 use Rattle.std.proofs.Common.{◌∙◌}
 use Rattle.std.specs.Prelude.{option_and_then}
@@ -7,7 +7,7 @@ use Rattle.mc_theory.specs.Flights.{Copy}
 use Rattle.mc_theory.specs.Findings.{from_lan, walk_visits, sender_on}
 use Rattle.mc_forward.specs.FlightsInDomain.{net_in}
 use Rattle.mc_forward.proofs.PerLanLemmas.{first_with_key-first_copy_on}
-use Rattle.mc_replay.proofs.WalkLemmas.{meets-next_lan, length-drop_one_more, sender-copy_on}
+use Rattle.mc_replay.proofs.WalkLemmas.{walk_visits-next_lan, length-drop_one_more, sender-copy_on}
 use Rattle.mc_replay.proofs.flight_finding.walk_back_reaches_own_lan.Goals as goal
 
 pub loop-step-preserved : goal.loop-step-preserved
@@ -25,8 +25,8 @@ loop-step-preserved c =
     ∙ (sym c.eq.ensures ∙ c.if-eq.false) in
     let next : c.sender_on-sender.result ≡ sender_on cs p =
     c.sender_on-sender.ensures
-    ∙ (ap (option_and_then (λ (x : Copy). x.sender)) (c.requires.given p ∙ first_with_key-first_copy_on cs p)
+    ∙ (ap (option_and_then (λ (x : Copy). x.sender)) (c.requires.firsts p ∙ first_with_key-first_copy_on cs p)
     ∙ sender-copy_on cs p) in
     ap (λ (x : Option Interface). walk_visits n cs l k x) next
-    ∙ (sym (meets-next_lan n cs l k c.loop-step.sender p from other)
+    ∙ (sym (walk_visits-next_lan n cs l k c.loop-step.sender p from other)
     ∙ (ap (λ m. walk_visits n cs l m c.loop-step.sender) (sym fewer) ∙ c.loop-step.invariant))

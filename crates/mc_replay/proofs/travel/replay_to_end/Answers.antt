@@ -12,15 +12,16 @@ travel_to_finding-requires-clause-start g c =
     c.new-view.result.flow c.args.flow (ap (λ (f : FlowOfDomain). f.domain) c.new-view.ensures.flow)
     (ap (λ (f : FlowOfDomain). f.flow) c.new-view.ensures.flow) in (
       c.args.ttl,
-      ap (λ (x : FlightInDomain). x.flight) c.in_ok-flight.ensures
+      ap (λ (x : FlightInDomain). x.flight) c.in_ok-flight.ensures.ok
           ∙ ap (λ (n : Net). start n c.args.ttl) (sym same),
     )
 
 pub returns-clause-run : goal.returns-clause-run
 returns-clause-run g c =
     is_travel_to-from_start c.new-view.result.domain c.args.domain.now c.new-view.result.flow
-    c.args.flow c.args.ttl _ _ _ _ _ (ap (λ (f : FlowOfDomain). f.domain) c.new-view.ensures.flow) (ap (λ (f : FlowOfDomain). f.flow) c.new-view.ensures.flow)
-    (ap (λ (x : FlightInDomain). x.flight) c.in_ok-flight.ensures) c.in_ok-finding.ensures.run
+    c.args.flow c.args.ttl _ _ _ _ _ (ap (λ (f : FlowOfDomain). f.domain) c.new-view.ensures.flow)
+    (ap (λ (f : FlowOfDomain). f.flow) c.new-view.ensures.flow)
+    (ap (λ (x : FlightInDomain). x.flight) c.in_ok-flight.ensures.ok) c.in_ok-finding.ensures.run
 
 pub travel_to_finding-requires-clause-firsts : goal.travel_to_finding-requires-clause-firsts
 travel_to_finding-requires-clause-firsts g c =

@@ -5,8 +5,12 @@ use Rattle.mc_theory.specs.Flights.{Copy}
 use Rattle.mc_theory.specs.Findings.{finding}
 use Rattle.mc_forward.specs.Domains.{net_of}
 use Rattle.mc_forward.specs.PerLan.{HoldsFirstOfEachKey}
-use Rattle.mc_replay.proofs.TravelLemmas.{first_copies_recorded-none, first_copies_recorded-more, travel_so_far-from_start, length-travel_so_far_below, length-travel_so_far}
-use Rattle.mc_replay.proofs.TravelLemmas.{is_travel_to-travel_so_far, travel_so_far-more, flown-step_in_domain, event_of-in_domain, choice-same_count}
+use Rattle.mc_replay.proofs.TravelLemmas.{first_copies_recorded-none, first_copies_recorded-more}
+use Rattle.mc_replay.proofs.TravelLemmas.{travel_so_far-from_start, length-travel_so_far_below}
+use Rattle.mc_replay.proofs.TravelLemmas.{length-travel_so_far}
+use Rattle.mc_replay.proofs.TravelLemmas.{is_travel_to-travel_so_far, travel_so_far-more}
+use Rattle.mc_replay.proofs.TravelLemmas.{flight-step_in_domain, event_of-in_domain}
+use Rattle.mc_replay.proofs.TravelLemmas.{choice-same_count}
 use Rattle.mc_replay.proofs.travel.travel_to_finding.Goals as goal
 
 pub travel-init : goal.travel-init
@@ -24,7 +28,7 @@ pub returns-in-Some-clause-run : goal.returns-in-Some-clause-run
 returns-in-Some-clause-run g c =
     let d = c.args.view.now.domain in
     is_travel_to-travel_so_far (net_of d c.args.view.now.flow) (length d.topology.lans) _ _ _ _ _ _
-    c.travel.invariant.travel_so_far (sym c.in-Some.ensures)
+    c.travel.invariant.travel_so_far (sym c.in-Some.ensures.finding)
 
 pub returns-in-Some-clause-short : goal.returns-in-Some-clause-short
 returns-in-Some-clause-short g c =
@@ -36,7 +40,8 @@ pub travel-smaller : goal.travel-smaller
 travel-smaller g c =
     let d = c.args.view.now.domain in
     let n = net_of d c.args.view.now.flow in
-    let none : finding n (length d.topology.lans) c.travel.flight.flight ≡ None = sym c.in_default.ensures in
+    let none : finding n (length d.topology.lans) c.travel.flight.flight
+    ≡ None = sym c.in_default.ensures.finding in
     let chosen = choice-same_count (g.P.Picker.choices c.travel.picker) _ _ c.pick-pick.result
     c.pick-pick.ensures.value c.waiting.ensures in
     let room = length-travel_so_far_below n (length d.topology.lans) _ _ _ _ _ c.pick-pick.result
@@ -49,11 +54,11 @@ travel-preserved g c =
     let d = c.args.view.now.domain in
     let n = net_of d c.args.view.now.flow in
     let f = c.travel.flight.flight in
-    let none : finding n (length d.topology.lans) f ≡ None = sym c.in_default.ensures in
+    let none : finding n (length d.topology.lans) f ≡ None = sym c.in_default.ensures.finding in
     let chosen = choice-same_count (g.P.Picker.choices c.travel.picker) _ _ c.pick-pick.result
     c.pick-pick.ensures.value c.waiting.ensures in
     let inv = c.travel.invariant in
-    let next = flown-step_in_domain d c.args.view.now.flow c.pick-pick.result c.travel.flight
+    let next = flight-step_in_domain d c.args.view.now.flow c.pick-pick.result c.travel.flight
     c.handle.new.self inv.domain inv.flow c.in_ok-handle.ensures.ok in
     let event = event_of-in_domain d c.args.view.now.flow c.travel.flight
     (slice_get f.waiting c.pick-pick.result) c.in_ok-handle.field-0 inv.domain inv.flow
@@ -65,7 +70,8 @@ travel-preserved g c =
       domain = next.0;
       flow = next.1;
       first_copies = first_copies_recorded-more n (length d.topology.lans) _ c.pick-pick.result _ f
-          c.handle.new.self.flight (c.record_first_copies-second.ensures.count ∙ inv.first_copies.count) filled none
+          c.handle.new.self.flight (c.record_first_copies-second.ensures.count
+          ∙ inv.first_copies.count) filled none
           (ap length c.copies-copies.ensures.copies) next.2;
       travel_so_far = travel_so_far-more n (length d.topology.lans) _ _ _ _ f c.handle.new.self.flight
           c.travel.events.items c.push.new.self.items c.pick-pick.result c.in_ok-handle.field-0

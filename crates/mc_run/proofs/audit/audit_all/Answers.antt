@@ -1,18 +1,18 @@
 use Rattle.std.proofs.lemmas.List.{length-map}
 use Rattle.mc_run.specs.AuditPieces.{audited_value}
-use Rattle.mc_run.proofs.AuditAll.{is_audited-all_pushed}
+use Rattle.mc_run.proofs.AuditTextLemmas.{is_audited-all_pushed}
 use Rattle.mc_run.proofs.audit.audit_all.Goals as goal
 
 pub returns-clause-text : goal.returns-clause-text
 returns-clause-text c =
     is_audited-all_pushed (audited_value c.args.audited.now) c.args.options c.in_ok-flow_counts.flow_counts
-    c.in_ok-flow_counts.ensures.0 c.args.audited.now.excluded.now _ _ _ _ _ c.requires.valid.excluded
+    c.in_ok-flow_counts.ensures.appended.0 c.args.audited.now.excluded.now _ _ _ _ _ c.requires.valid.excluded
     (length-map c.args.audited.now.without.now (λ name. name.now)) c.in_ok-text.ensures
-    c.in_ok-flow_counts.ensures.1 c.is_yes-yes.ensures c.in_ok-push_end.ensures
+    c.in_ok-flow_counts.ensures.appended.1 c.is_yes-yes.ensures c.in_ok-push_end.ensures
 
 pub returns-clause-unwanted : goal.returns-clause-unwanted
 returns-clause-unwanted c =
-    let pushed = c.in_ok-flow_counts.ensures.1 in
+    let pushed = c.in_ok-flow_counts.ensures.appended.1 in
     record {
       answers = pushed.answers;
       are_answers = record { count = pushed.count_is; each = pushed.each };

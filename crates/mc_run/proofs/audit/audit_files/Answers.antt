@@ -1,8 +1,8 @@
 use Rattle.std.proofs.Common.{map}
 use Rattle.std.specs.String.{string_bytes}
 use Rattle.mc_run.specs.AuditRun.{HasUnwanted, IsAudited}
-use Rattle.mc_run.proofs.AuditAll.{of_domain-means_audited}
-use Rattle.mc_run.proofs.SameLemmas.{is_audited-same_domain, has_unwanted-same_domain}
+use Rattle.mc_run.proofs.AuditTextLemmas.{of_domain-means_audited}
+use Rattle.mc_run.proofs.SameFactsLemmas.{is_audited-same_domain, has_unwanted-same_domain}
 use Rattle.std.proofs.lemmas.Result.{err_from_is_err_and}
 use Rattle.mc_run.proofs.FaultLemmas.{is_fault_of_audit-without_fault}
 use Rattle.mc_run.proofs.audit.audit_files.Goals as goal
@@ -10,23 +10,24 @@ use Rattle.mc_run.proofs.audit.audit_files.Goals as goal
 pub returns-in-Ok-clause-text : goal.returns-in-Ok-clause-text
 returns-in-Ok-clause-text g c =
     let o = c.args.options in
-    let borrows = map (λ name. name.now) c.args.without.now in
+    let names = map (λ name. name.now) c.args.without.now in
     let all = c.in-Ok.audit.run_output.yes in
     let written = string_bytes c.in-Ok.audit.run_output.text in
     let summary = c.in_ok-read.read.summary.items in
-    of_domain-means_audited (λ v. IsAudited v o all written) o borrows (g.F.FileSource.contents c.args.files.now)
-    c.in_ok-read.read.domain summary (λ whole same. is_audited-same_domain same summary borrows o all written)
+    of_domain-means_audited (λ v. IsAudited v o all written) o names
+    (g.F.FileSource.contents c.args.files.now)
+    c.in_ok-read.read.domain summary (λ whole same. is_audited-same_domain same summary names o all written)
     c.in_ok-read.ensures.means c.in_ok-read.ensures.routers c.in_ok-read.ensures.summary
     c.in-Ok.ensures.text
 
 pub returns-in-Ok-clause-unwanted : goal.returns-in-Ok-clause-unwanted
 returns-in-Ok-clause-unwanted g c =
     let o = c.args.options in
-    let borrows = map (λ name. name.now) c.args.without.now in
+    let names = map (λ name. name.now) c.args.without.now in
     let unwanted = c.in-Ok.audit.unwanted in
     let summary = c.in_ok-read.read.summary.items in
-    of_domain-means_audited (λ v. HasUnwanted v o unwanted) o borrows (g.F.FileSource.contents c.args.files.now)
-    c.in_ok-read.read.domain summary (λ whole same. has_unwanted-same_domain same summary borrows o unwanted)
+    of_domain-means_audited (λ v. HasUnwanted v o unwanted) o names (g.F.FileSource.contents c.args.files.now)
+    c.in_ok-read.read.domain summary (λ whole same. has_unwanted-same_domain same summary names o unwanted)
     c.in_ok-read.ensures.means c.in_ok-read.ensures.routers c.in_ok-read.ensures.summary
     c.in-Ok.ensures.unwanted
 

@@ -1,6 +1,7 @@
 use Rattle.std.proofs.Common.{arith}
 use Rattle.mc_run.specs.AuditPieces.{audited_value}
-use Rattle.mc_run.proofs.AuditFlows.{are_flows_pushed-more, count_right-below_limit, count_unwanted-below_limit, trees_shown-at_most_flows}
+use Rattle.mc_run.proofs.AuditFlows.{are_flows_pushed-more, count_right-below_limit}
+use Rattle.mc_run.proofs.AuditFlows.{count_unwanted-below_limit, trees_shown-at_most_flows}
 use Rattle.mc_run.proofs.AuditFlows.{count_wrong-below_limit}
 use Rattle.mc_run.proofs.audit.push_flows.Goals as goal
 
@@ -38,6 +39,7 @@ push_flow-requires-clause-few c =
 
 pub loop-flow-preserved : goal.loop-flow-preserved
 loop-flow-preserved c =
-    are_flows_pushed-more (audited_value c.args.audited.now) c.args.options c.loop-flow.flow c.loop-flow.flow_counts
+    are_flows_pushed-more (audited_value c.args.audited.now) c.args.options c.loop-flow.flow
+    c.loop-flow.flow_counts
     c.in_ok-flow_status.flow_status c.with-flow_counts.result _ _ _ _ _ c.loop-flow.invariant
-    c.in_ok-flow_status.ensures c.with-flow_counts.ensures
+    c.in_ok-flow_status.ensures.ok c.with-flow_counts.ensures.value

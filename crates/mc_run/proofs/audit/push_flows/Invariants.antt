@@ -2,7 +2,7 @@ use Rattle.std.specs.String.{string_bytes}
 use Rattle.mc_run.specs.AuditPieces.{AreFlowsPushed, audited_value}
 use Rattle.mc_run.proofs.audit.push_flows.Given as goal
 
--- the lines so far are those of the first flows, and so are the ways that they told
+-- the lines and the trees so far are those of the first flows
 abbrev pub invariant-loop-flow : goal.invariant-loop-flow
 invariant-loop-flow l =
     AreFlowsPushed (audited_value l.fn.audited) l.fn.options l.flow l.flow_counts l.shown_trees

@@ -3,7 +3,7 @@ use Rattle.std.specs.String.{string_bytes}
 use Rattle.mc_run.specs.AuditEnd.{without_words}
 use Rattle.mc_run.proofs.audit_end.push_all_without_words.Given as goal
 
--- those of the first routers
+-- the words of the first routers
 abbrev pub invariant-loop-router : goal.invariant-loop-router
 invariant-loop-router l =
     map string_bytes l.words.items ≡ map string_bytes l.initial.words.items

@@ -1,5 +1,5 @@
 use Rattle.mc_run.specs.AuditPieces.{audited_value}
-use Rattle.mc_run.proofs.EndsLemmas.{end_objects-parts}
+use Rattle.mc_run.proofs.AuditEndLemmas.{end_objects-parts}
 use Rattle.mc_run.proofs.audit_end.push_end_objects.Goals as goal
 
 pub returns : goal.returns

@@ -4,13 +4,14 @@ use Rattle.mc_topology.specs.Topology.{TopologyValue}
 use Rattle.mc_maker.specs.ExaminedFlights.{without_flights}
 use Rattle.mc_run.specs.AuditPieces.{explanation_in, audited_value}
 use Rattle.mc_run.proofs.AuditFlows.{is_flow_pushed-wrong, wrong_flow_lines-same_causes, found-listed_ttl}
-use Rattle.mc_run.proofs.ReasonLemmas.{is_finished_travel-at_flow_ttl, is_explanation-at_flow_ttl}
+use Rattle.mc_run.proofs.ExplanationLemmas.{is_finished_travel-at_flow_ttl, is_explanation-at_flow_ttl}
 use Rattle.mc_run.proofs.audit_flow.push_found_at_flow_ttl.Goals as goal
 
 pub push_wrong-requires-clause-domain : goal.push_wrong-requires-clause-domain
 push_wrong-requires-clause-domain c =
-    (is_finished_travel-at_flow_ttl (audited_value c.args.audited.now).domain c.args.flow c.args.flown.now c.args.greatest.now
-    c.args.least.now c.requires.is c.requires.flown).domain
+    (is_finished_travel-at_flow_ttl (audited_value c.args.audited.now).domain c.args.flow
+    c.args.flights.now c.args.greatest.now
+    c.args.least.now c.requires.is c.requires.flights).domain
 
 pub returns : goal.returns
 returns c = record {
@@ -21,12 +22,13 @@ returns c = record {
       let listed = c.flow.result.now in
       let here = subst (λ (t : TopologyValue). slice_get t.flows c.args.flow ≡ Some listed)
       c.topology.ensures.topology c.flow.ensures.flow in
-      is_flow_pushed-wrong v c.args.options c.args.flow c.args.flown.now listed.ttl least.travel
-      (explanation_in least causes None) _ _ c.requires.flow c.requires.flown c.requires.examined
+      is_flow_pushed-wrong v c.args.options c.args.flow c.args.flights.now listed.ttl least.travel
+      (explanation_in least causes None) _ _ c.requires.flow c.requires.flights c.requires.examined
       (λ f at. ap (without_flights v.domain c.args.flow) c.requires.is
       ∙ found-listed_ttl v.domain c.args.flow listed least.travel here)
-      (is_explanation-at_flow_ttl v c.args.flow c.args.flown.now c.args.greatest.now least causes
-      c.requires.is c.requires.flown c.in_ok-causes.ensures.causes)
-      (wrong_flow_lines-same_causes v c.args.options c.args.flow listed.ttl least c.deref.result.now causes None _ _
+      (is_explanation-at_flow_ttl v c.args.flow c.args.flights.now c.args.greatest.now least causes
+      c.requires.is c.requires.flights c.in_ok-causes.ensures.causes)
+      (wrong_flow_lines-same_causes v c.args.options c.args.flow listed.ttl least c.deref.result.now
+      causes None _ _
       c.deref.ensures.value c.in_ok-push_wrong.ensures.added));
 }

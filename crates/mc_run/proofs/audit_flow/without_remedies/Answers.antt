@@ -1,6 +1,6 @@
 use Rattle.std.proofs.Common.{rules}
 use Rattle.std.proofs.lemmas.Fn.{filter_same}
-use Rattle.mc_run.proofs.ReasonLemmas.{without_remedies-filtered}
+use Rattle.mc_run.proofs.ExplanationLemmas.{without_remedies-filtered}
 use Rattle.mc_run.proofs.audit_flow.without_remedies.Goals as goal
 
 pub returns-then-not-whole : goal.returns-then-not-whole

@@ -1,5 +1,5 @@
 use Rattle.mc_run.specs.AuditPieces.{explanation_in, audited_value}
-use Rattle.mc_run.proofs.ReasonLemmas.{wrong_lines-pushed}
+use Rattle.mc_run.proofs.ExplanationLemmas.{wrong_lines-pushed}
 use Rattle.mc_run.proofs.audit_wrong.push_wrong_lines.Goals as goal
 
 pub returns : goal.returns

@@ -1,4 +1,4 @@
-use Rattle.mc_run.proofs.ReasonLemmas.{missed_lan-of_domain}
+use Rattle.mc_run.proofs.ExplanationLemmas.{missed_lan-of_domain}
 use Rattle.mc_run.proofs.audit_wrong.search_if_missed.Goals as goal
 
 pub search-requires-clause-missed : goal.search-requires-clause-missed

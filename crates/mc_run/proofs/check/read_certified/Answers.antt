@@ -18,4 +18,5 @@ returns-clause-means g c =
 pub returns-in_err-read-clause-faults : goal.returns-in_err-read-clause-faults
 returns-in_err-read-clause-faults g c =
     let p = err_from_is_err_and c.from_residual.result c.from_residual.ensures.1 in
-    rw (p.1, p.2) (is_fault_of_check-make (from_source_fault c.in_err-read.field-0.0) (is_fault_of_make-source_fault c.in_err-read.field-0.0))
+    rw (p.1, p.2) (is_fault_of_check-make (from_source_fault c.in_err-read.field-0.0)
+    (is_fault_of_make-source_fault c.in_err-read.field-0.0))

@@ -6,7 +6,7 @@ use Rattle.mc_run.specs.declared.fault.RunFault.TheVariants.{Memory}
 use Rattle.std.specs.String.{string_bytes}
 use Rattle.mc_run.specs.CheckRun.{IsTextOfVerdicts, KeepsHeadline}
 use Rattle.mc_run.proofs.RunLemmas.{of_domain-listed_with}
-use Rattle.mc_run.proofs.SameLemmas.{keeps_headline-same_domain, is_text_of_verdicts-same_domain}
+use Rattle.mc_run.proofs.SameFactsLemmas.{keeps_headline-same_domain, is_text_of_verdicts-same_domain}
 use Rattle.mc_run.proofs.check.verdicts_of_input.Goals as goal
 
 pub returns-in-Ok-clause-text : goal.returns-in-Ok-clause-text

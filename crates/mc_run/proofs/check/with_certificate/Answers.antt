@@ -31,4 +31,5 @@ returns-clause-belongs c =
 pub returns-in_err-certificate-clause-faults : goal.returns-in_err-certificate-clause-faults
 returns-in_err-certificate-clause-faults c =
     let p = err_from_is_err_and c.from_residual.result c.from_residual.ensures.1 in
-    rw (p.1, p.2) (is_fault_of_check-cert_fault c.in_err-certificate.field-0.0 c.in_err-certificate.field-0.0.kind)
+    rw (p.1, p.2) (is_fault_of_check-cert_fault c.in_err-certificate.field-0.0
+    c.in_err-certificate.field-0.0.kind)

@@ -7,7 +7,8 @@ use Rattle.mc_run.proofs.domain_input.read_domain.Goals as goal
 pub returns-in_err-read-clause-refused : goal.returns-in_err-read-clause-refused
 returns-in_err-read-clause-refused g c =
     let p = err_from_is_err_and c.from_residual.result c.from_residual.ensures.1 in
-    rw (p.1, p.2) (is_refused_for-source_of_contents (g.R.Input.remaining c.args.input.now) false c.in_err-read.field-0.0
+    rw (p.1, p.2) (is_refused_for-source_of_contents (g.R.Input.remaining c.args.input.now) false
+    c.in_err-read.field-0.0
     c.in_err-read.ensures.fault)
 
 pub returns-clause-means : goal.returns-clause-means

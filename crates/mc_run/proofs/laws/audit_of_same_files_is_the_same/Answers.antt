@@ -1,4 +1,4 @@
-use Rattle.mc_run.proofs.OneAudit.{is_audit_text-unique}
+use Rattle.mc_run.proofs.UniqueAudit.{is_audit_text-unique}
 use Rattle.mc_run.proofs.laws.audit_of_same_files_is_the_same.Goals as goal
 
 pub returns : goal.returns

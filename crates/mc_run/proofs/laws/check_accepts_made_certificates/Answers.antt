@@ -1,4 +1,5 @@
-use Rattle.mc_run.proofs.CertifiedLemmas.{is_accepted-made_list, reading_of-made_text, is_verdict_text-only_yes, is_verdict_text-made_bundle}
+use Rattle.mc_run.proofs.CertifiedLemmas.{is_accepted-made_list, reading_of-made_text}
+use Rattle.mc_run.proofs.CertifiedLemmas.{is_verdict_text-only_yes, is_verdict_text-made_bundle}
 use Rattle.mc_run.proofs.laws.check_accepts_made_certificates.Goals as goal
 
 pub returns-clause-read : goal.returns-clause-read
@@ -11,4 +12,5 @@ pub returns-clause-yes : goal.returns-clause-yes
 returns-clause-yes c = is_verdict_text-made_bundle
 
 pub returns-clause-only : goal.returns-clause-only
-returns-clause-only c = is_verdict_text-only_yes
+returns-clause-only c = λ text written bundle parts made is more all printed verdicts.
+    is_verdict_text-only_yes text written bundle parts all printed made is more verdicts

@@ -2,7 +2,8 @@ use Rattle.std.proofs.Common.{◌≡◌, ◌-◌, ◌∙◌, ap, arith, drop, le
 use Rattle.std.proofs.lemmas.List.{length-append, take-append-le}
 use Rattle.std.proofs.Math.Seq.{take-nil}
 use Rattle.mc_run.specs.LineFront.{front_after_more}
-use Rattle.mc_run.proofs.LineFrontLemmas.{found_at_end, found_behind_piece, found_in_piece, left_after_piece-known, take-none_left}
+use Rattle.mc_run.proofs.LineFrontLemmas.{found_at_end, found_after_piece, found_in_piece}
+use Rattle.mc_run.proofs.LineFrontLemmas.{left_after_piece-known, take-none_left}
 use Rattle.mc_run.proofs.line_front.seek_front.Goals as goal
 
 pub returns-in-Ok-eq0-clause-front : goal.returns-in-Ok-eq0-clause-front
@@ -10,7 +11,8 @@ returns-in-Ok-eq0-clause-front g c = λ text is.
     let so_far = c.reading.invariant.front text is in
     let room = length-take c.min-room.result c.reading.buffer in
     let zero : c.in-Ok-eq0.field-0 ≡ 0 = omega arith in
-    let none = take-none_left (g.F.PieceSource.left c.reading.files) (g.F.PieceSource.left c.read_piece.new.self)
+    let none = take-none_left (g.F.PieceSource.left c.reading.files)
+    (g.F.PieceSource.left c.read_piece.new.self)
     so_far.0 (take c.in-Ok-eq0.field-0 c.read_piece.new.buffer) so_far.1 c.in-Ok-eq0.ensures.bytes.0
     (ap (λ n. take n c.read_piece.new.buffer) zero) (c.in-Ok-eq0.ensures.bytes.1 zero (omega arith)) in
     found_at_end c.args.sought.now c.reading.sought c.reading.left so_far.0 (take 16777216 text) so_far.2
@@ -34,7 +36,8 @@ returns-in-Ok-true-clause-front g c = λ text is.
     let whole = take-append-le c.in-Ok.count c.read_piece.new.buffer
     (drop c.min-room.result c.reading.buffer) c.in-Ok.ensures.bound.0 in
     let takes = rw whole at c.in-Ok-true.ensures.takes in
-    let next = left_after_piece-known (g.F.PieceSource.left c.reading.files) (g.F.PieceSource.left c.read_piece.new.self)
+    let next = left_after_piece-known (g.F.PieceSource.left c.reading.files)
+    (g.F.PieceSource.left c.read_piece.new.self)
     so_far.0 piece so_far.1 c.in-Ok.ensures.bytes.0 in
     found_in_piece c.args.sought.now c.reading.sought c.reading.left so_far.0 (take 16777216 text) so_far.2
     c.take.new.self piece next.0 c.in-Ok-true.field-0 (omega (arith, taken, c.in-Ok.ensures.bound.0)) next.2
@@ -58,12 +61,13 @@ reading-preserved g c =
       few = c.in-Ok-false.ensures.few;
       front = λ text is.
           let so_far = c.reading.invariant.front text is in
-          let next = left_after_piece-known (g.F.PieceSource.left c.reading.files) (g.F.PieceSource.left c.read_piece.new.self)
+          let next = left_after_piece-known (g.F.PieceSource.left c.reading.files)
+          (g.F.PieceSource.left c.read_piece.new.self)
           so_far.0 piece so_far.1 c.in-Ok.ensures.bytes.0 in (
             next.0,
             next.1,
             ap (λ n. front_after_more c.take.new.self (take (c.reading.left - n) next.0)) (sym count)
-                ∙ found_behind_piece c.args.sought.now c.reading.sought c.reading.left so_far.0
+                ∙ found_after_piece c.args.sought.now c.reading.sought c.reading.left so_far.0
                 (take 16777216 text) so_far.2 c.take.new.self piece next.0 c.in-Ok-false.field-0
                 (omega (arith, taken, c.in-Ok.ensures.bound.0)) next.2 c.in-Ok-false.field-0-test takes,
           );

@@ -3,7 +3,7 @@ use Rattle.std.specs.Prelude.{vec_len}
 use Rattle.mc_run.specs.LineFront.{front_after_more}
 use Rattle.mc_run.proofs.line_front.seek_front.Given as goal
 
--- what is found in the end is what the bytes bring that may still be read
+-- the front in the end is what the bytes that may still be read make of the present one
 abbrev pub invariant-reading : goal.invariant-reading
 invariant-reading g l = record {
   same : g.F.FileSource.borrows l.files ≡ g.F.FileSource.borrows l.fn.files;

@@ -1,7 +1,9 @@
 use Rattle.std.proofs.Common.{◌≡◌, ◌++◌, ap, ◌∙◌, subst, arith, length, slice_get, Some}
 use Rattle.std.specs.String.{string_bytes}
 use Rattle.mc_run.specs.MakeRun.{found_lines}
-use Rattle.mc_run.proofs.MakeLemmas.{is_examined-of_examination, are_made_so_far-certified, made_lists-at_most_flows, are_made_so_far-found, are_made_so_far-none}
+use Rattle.mc_run.proofs.MakeLemmas.{is_examined-of_examination, are_made_so_far-certified}
+use Rattle.mc_run.proofs.MakeLemmas.{made_lists-at_most_flows, are_made_so_far-found}
+use Rattle.mc_run.proofs.MakeLemmas.{are_made_so_far-none}
 use Rattle.mc_run.proofs.make.examine_all.Goals.{in-Certified+in_ok-push-in-Certified}
 use Rattle.mc_run.proofs.make.examine_all.Goals.{in-Found+in_ok-push_found-in-Found}
 use Rattle.mc_run.proofs.make.examine_all.Goals as goal
@@ -29,9 +31,10 @@ loop-flow-preserved c =
     let k = c.loop-flow.flow in
     let x = c.in_ok-entries.field-0 in
     let topology = c.topology-topology.ensures.topology in
-    let run_output = c.in_ok-entries.ensures in
-    let is = is_examined-of_examination run_output.accepted run_output.ascending run_output.listed run_output.list run_output.made run_output.travel
-    run_output.fault run_output.ttl run_output.right in
+    let examined = c.in_ok-entries.ensures in
+    let is = is_examined-of_examination examined.accepted examined.ascending examined.listed
+    examined.writable examined.made examined.travel
+    examined.fault examined.ttl examined.right in
     elim c.match-branch-2.branch [
       | in-Certified+in_ok-push-in-Certified w ↦
           (let grown = w.lists-is ∙ w.in_ok-push-in-Certified.ensures.pushed in

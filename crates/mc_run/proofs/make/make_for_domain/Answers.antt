@@ -1,5 +1,6 @@
 use Rattle.std.proofs.Common.{◌∙◌, sym}
-use Rattle.mc_run.proofs.MakeLemmas.{is_make_output-certificate, found_lines-empty, found_lines-not_empty, is_make_output-lines}
+use Rattle.mc_run.proofs.MakeLemmas.{is_make_output-certificate, found_lines-empty}
+use Rattle.mc_run.proofs.MakeLemmas.{found_lines-not_empty, is_make_output-lines}
 use Rattle.mc_run.proofs.MakeLemmas.{belongs_to-made_lists}
 use Rattle.mc_run.proofs.make.make_for_domain.Goals as goal
 
@@ -23,4 +24,4 @@ returns c =
     let size = c.in_ok-made.made.lines.bytes.ok.0 in
     is_make_output-certificate c.args.domain.now c.topology.result.now _ _ _ c.in_ok-made.ensures
     c.topology.ensures.topology
-    (sym size ∙ found_lines-empty _ _ c.is_empty.ensures c.if-not-is_empty.false) c.in_ok-text.ensures
+    (sym size ∙ found_lines-empty _ _ c.is_empty.ensures c.if-not-is_empty.false) c.in_ok-text.ensures.ok

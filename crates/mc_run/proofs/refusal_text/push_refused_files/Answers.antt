@@ -8,7 +8,8 @@ loop-file-preserved g c = record {
   same = c.in_ok-push_refused_file.ensures.same ∙ c.loop-file.invariant.same;
   kept = c.in_ok-push_refused_file.ensures.kept ∙ c.loop-file.invariant.kept;
   room = search rules;
-  adds = refused_file_lines-more (g.F.FileSource.contents c.args.files.now) (g.F.FileSource.contents c.loop-file.files)
+  adds = refused_file_lines-more (g.F.FileSource.contents c.args.files.now)
+      (g.F.FileSource.contents c.loop-file.files)
       c.args.refused.now c.loop-file.file-index c.file-item.result (string_bytes c.args.text.now)
       (string_bytes c.loop-file.text) (string_bytes c.push_refused_file.new.text)
       (g.F.FileSource.failed c.args.files.now) (g.F.FileSource.failed c.loop-file.files)

@@ -9,7 +9,8 @@ invariant-loop-file g l = record {
   same : g.F.FileSource.borrows l.files ≡ g.F.FileSource.borrows l.fn.files;
   kept : g.F.FileSource.contents l.files ≡ g.F.FileSource.contents l.fn.files;
   room : 0 < length l.buffer;
-  adds : AppendsWithFailures (AreRefusedFileLines (g.F.FileSource.contents l.fn.files) (take l.file-index l.fn.refused))
+  adds : AppendsWithFailures (AreRefusedFileLines (g.F.FileSource.contents l.fn.files)
+      (take l.file-index l.fn.refused))
       (string_bytes l.fn.text) (string_bytes l.text)
       (g.F.FileSource.failed l.fn.files) (g.F.FileSource.failed l.files);
 }

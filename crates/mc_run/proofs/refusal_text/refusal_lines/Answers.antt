@@ -6,7 +6,8 @@ use Rattle.mc_run.proofs.refusal_text.refusal_lines.Goals as goal
 
 pub returns-clause-text : goal.returns-clause-text
 returns-clause-text g c =
-    refusal_text (map (λ (n : Bor (List ℕ)). n.now) c.args.without.now) (g.F.FileSource.contents c.args.files.now)
+    refusal_text (map (λ (n : Bor (List ℕ)). n.now) c.args.without.now)
+    (g.F.FileSource.contents c.args.files.now)
     (g.F.FileSource.contents c.refused_files.new.files) c.in_ok-refused.refused.items
     (g.F.FileSource.failed c.args.files.now) (g.F.FileSource.failed c.refused_files.new.files)
     (g.F.FileSource.failed c.push_first_files.new.files) (string_bytes c.new-text.result)

@@ -20,7 +20,10 @@ returns-clause-answered g c =
       each_in_part = c.run_audit.ensures.each_in_part;
       headline = c.run_audit.ensures.headline;
     } in
-    let same : borrows ≡ excluded_names c.args.words.now = ap (map (λ name. name.now)) c.deref.ensures.value in
-    subst (λ (o : AuditOptions). IsAuditResult o (excluded_names c.args.words.now) contents c.run_audit.result old new)
+    let same : borrows ≡ excluded_names c.args.words.now = ap (map (λ name. name.now))
+    c.deref.ensures.value in
+    subst (λ (o : AuditOptions). IsAuditResult o (excluded_names c.args.words.now) contents
+    c.run_audit.result old new)
     c.options_of-options.ensures
-    (subst (λ (borrows : List (List ℕ)). IsAuditResult o borrows contents c.run_audit.result old new) same answered)
+    (subst (λ (borrows : List (List ℕ)). IsAuditResult o borrows contents c.run_audit.result old
+    new) same answered)

@@ -25,7 +25,8 @@ returns-else-last-clause-run g c =
     let left = g.R.Input.remaining c.run_replay-else-last.new.input in
     let old = g.W.Output.written c.args.output.now in
     let new = g.W.Output.written c.run_replay-else-last.new.output in
-    subst (λ (last : Bool). IsReplayRun c.args.flow c.args.ttl last contents left c.run_replay-else-last.result old new)
+    subst (λ (last : Bool). IsReplayRun c.args.flow c.args.ttl last contents left
+    c.run_replay-else-last.result old new)
     (sym c.if-last.false)
     (record {
       run = record {

@@ -1,14 +1,15 @@
 use Rattle.std.proofs.Common.{◌<◌, ◌++◌, ap, ◌∙◌, arith, length}
 use Rattle.mc_forward.proofs.IndexLemmas.{slice_get-from_read}
 use Rattle.mc_run.specs.VerdictText.{flow_lines, last_line}
-use Rattle.mc_run.proofs.TextLemmas.{flow_lines-all, flow_lines-more}
+use Rattle.mc_run.proofs.CheckTextLemmas.{flow_lines-all, flow_lines-more}
 use Rattle.mc_run.proofs.verdict_text.check_text.Goals as goal
 
 pub loop-flow-preserved : goal.loop-flow-preserved
 loop-flow-preserved c =
     let inside : c.loop-flow.flow < length c.args.verdicts.now =
     omega (arith, c.loop-flow-test.true, c.flows-flow-end.ensures.count, c.requires.lengths) in
-    let verdict_at = slice_get-from_read c.args.verdicts.now c.loop-flow.flow c.index-verdicts-flow.result inside
+    let verdict_at = slice_get-from_read c.args.verdicts.now c.loop-flow.flow
+    c.index-verdicts-flow.result inside
     c.index-verdicts-flow.is in
     flow_lines-more c.args.topology.now c.loop-flow.flow c.flow.result.now c.index-verdicts-flow.result
     c.args.verdicts.now _ _ c.flow.ensures.flow verdict_at c.in_ok-push_flow_verdict.ensures

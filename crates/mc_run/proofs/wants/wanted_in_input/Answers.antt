@@ -1,7 +1,8 @@
 use Rattle.std.proofs.Common.{sym}
 use Rattle.std.proofs.lemmas.Result.{err_from_is_err_and}
-use Rattle.mc_run.proofs.LookLemmas.{is_wants_answer-reads_pieces, answers_wants-list_refused, answers_wants-failed_run}
-use Rattle.mc_run.proofs.LookLemmas.{is_not_write-read_or_memory, is_no_device_fault-list_fault}
+use Rattle.mc_run.proofs.WantsReadingLemmas.{is_wants_answer-reads_pieces}
+use Rattle.mc_run.proofs.WantsReadingLemmas.{answers_wants-list_refused, answers_wants-failed_run}
+use Rattle.mc_run.proofs.WantsReadingLemmas.{is_not_write-read_or_memory, is_no_device_fault-list_fault}
 use Rattle.mc_run.proofs.FaultLemmas.{is_fault_of_wants-read_or_memory, is_fault_of_wants-list_fault}
 use Rattle.mc_run.proofs.wants.wanted_in_input.Goals as goal
 
@@ -41,7 +42,8 @@ returns-in_err-last-clause-failures g c =
 
 pub returns-clause-answer : goal.returns-clause-answer
 returns-clause-answer g c =
-    is_wants_answer-reads_pieces (g.R.Input.remaining c.args.input.now) (g.R.Input.remaining c.wanted_in_pieces.new.input)
+    is_wants_answer-reads_pieces (g.R.Input.remaining c.args.input.now)
+    (g.R.Input.remaining c.wanted_in_pieces.new.input)
     c.new-reader.result c.wanted_in_pieces.new.reader c.args.group c.args.source
     c.in_ok-wanted.wanted c.is_wanted-wanted_by_last.result c.in_ok-last.last
     c.new-reader.ensures.reads c.in_ok-wanted.ensures.pieces_read c.in_ok-wanted.ensures.end

@@ -1,7 +1,7 @@
 use Rattle.std.proofs.Common.{[], ◌++◌, ◌∙◌, take, drop, arith, length-take, refl}
 use Rattle.std.proofs.KnownBytes.{Consumes-nil, Consumes-trans}
 use Rattle.std.proofs.lemmas.List.{length-append, take-append-le}
-use Rattle.mc_run.proofs.LookLemmas.{reads_piece-none, reads_piece-more}
+use Rattle.mc_run.proofs.WantsReadingLemmas.{reads_piece-none, reads_piece-more}
 use Rattle.mc_run.proofs.wants.wanted_in_pieces.Goals as goal
 
 pub reading-init : goal.reading-init

@@ -9,7 +9,8 @@ returns-clause-added c =
     let d = c.printed_oif-third in
     let e = c.printed_oif-fourth in
     let read = first_words-four_oifs c.args.line.now c.args.next a.result b.result d.result e.result
-    a.ensures b.ensures d.ensures e.ensures (omega (arith, c.if-first-next.false))
+    a.ensures.word b.ensures.word d.ensures.word e.ensures.word (omega (arith, c.if-first-next.false))
     (omega (arith, c.if-second-first.false)) (omega (arith, c.if-third-second.false))
     (omega (arith, c.if-fourth-third.false)) (omega (arith, c.if-fourth-gt-MAX_VIF.false)) in
-    (read.0, a.result ∷ b.result ∷ d.result ∷ e.result ∷ [], read.1, c.in_ok-extend_from_slice.ensures.items, read.2)
+    (read.0, a.result ∷ b.result ∷ d.result ∷ e.result ∷ [], read.1, c.in_ok-extend_from_slice.ensures.items,
+        read.2)

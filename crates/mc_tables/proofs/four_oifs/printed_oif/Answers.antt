@@ -1,5 +1,6 @@
 use Rattle.std.proofs.Common.{arith}
-use Rattle.mc_tables.proofs.FourOifLemmas.{printed_oif-has_digits, printed_vif-fits, first_word-printed_oif_at}
+use Rattle.mc_tables.proofs.FourOifLemmas.{printed_oif-has_digits, printed_vif-fits}
+use Rattle.mc_tables.proofs.FourOifLemmas.{first_word-printed_oif_at}
 use Rattle.mc_tables.proofs.four_oifs.printed_oif.Goals as goal
 
 pub overflow_sub-vif : goal.overflow_sub-vif
@@ -13,4 +14,6 @@ overflow_sub-threshold c =
     let at = printed_oif-has_digits c.args.line.now c.args.at c.requires.printed in omega (arith, at.2)
 
 pub returns : goal.returns
-returns c top = record { word = first_word-printed_oif_at c.args.line.now c.args.at c.requires.long c.requires.printed top }
+returns c = record {
+  word = λ top. first_word-printed_oif_at c.args.line.now c.args.at c.requires.long c.requires.printed top;
+}

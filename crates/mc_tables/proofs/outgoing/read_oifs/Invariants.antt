@@ -3,6 +3,6 @@ use Rattle.mc_tables.specs.CacheReading.{oifs_in}
 use Rattle.mc_tables.specs.OutgoingSteps.{oifs_after_words}
 use Rattle.mc_tables.proofs.outgoing.read_oifs.Given as goal
 
--- what is read after the outgoing vifs so far is what is read of all words
+-- reading the other words after the outgoing vifs so far is reading all words
 abbrev pub invariant-loop-word : goal.invariant-loop-word
 invariant-loop-word l = oifs_after_words l.oifs.items l.word-iterator ≡ oifs_in l.fn.words

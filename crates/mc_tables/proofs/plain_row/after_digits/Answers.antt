@@ -3,7 +3,8 @@ use Rattle.std.specs.Prelude.{not}
 use Rattle.std.specs.Char.{is_ascii_digit}
 use Rattle.std.proofs.lemmas.List.Quantifiers.{position-Some}
 use Rattle.mc_text.specs.Lines.{words_of}
-use Rattle.mc_tables.proofs.PlainRowLemmas.{counter_is_first_word, front_digits_are_decimal, drop_as_take_drop}
+use Rattle.mc_tables.proofs.PlainRowLemmas.{counter_is_first_word, front_digits_are_decimal}
+use Rattle.mc_tables.proofs.PlainRowLemmas.{drop_as_take_drop}
 use Rattle.mc_tables.proofs.plain_row.after_digits.Goals as goal
 
 pub returns : goal.returns

@@ -7,7 +7,7 @@ use Rattle.mc_tables.specs.CacheReading.{oifs_in}
 use Rattle.mc_tables.specs.OutgoingSteps.{oifs_after_words}
 use Rattle.mc_tables.proofs.plain_row.read_ascending_oifs.Given as goal
 
--- what is read after the outgoing vifs so far is what is read of the line, and they are all below
+-- reading the rest after the outgoing vifs so far is reading the line, and they are all below
 -- the next
 abbrev AreRead : List Oif → List ℕ → ℕ → List ℕ → Type 0
 AreRead oifs rest next line =

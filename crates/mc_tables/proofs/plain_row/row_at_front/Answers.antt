@@ -15,7 +15,7 @@ returns c = λ oifs read.
     let outgoing = words_of c.in_ok-rest.rest.now in
     let third = ap words_of (sym c.after_addresses.ensures.value) ∙ incoming.1 in
     row_in_words-front c.args.order (words_of line) outgoing group origin iif counters.packets counters.bytes
-    counters.wrong c.in_ok-group.group c.in_ok-group.origin c.in_ok-iif.iif oifs
+    counters.wrong_if c.in_ok-group.group c.in_ok-group.origin c.in_ok-iif.iif oifs
     (addresses.words ∙ ap (λ (ws : List (List ℕ)). group ∷ origin ∷ ws)
     (third ∙ ap (λ (ws : List (List ℕ)). iif ∷ ws) counters.words))
     addresses.group_read addresses.origin_read incoming.2 incoming.3 counters.packets_count

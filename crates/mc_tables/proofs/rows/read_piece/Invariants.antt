@@ -2,7 +2,7 @@ use Rattle.std.proofs.Common.{◌≡◌, ◌+◌, ◌≤◌, ℕ, List, ◌++◌
 use Rattle.mc_tables.specs.LinesSoFar.{read_after}
 use Rattle.mc_tables.proofs.rows.read_piece.Given as goal
 
--- What the bytes left come to after what was read is what the piece comes to.
+-- Reading the bytes that are left from the new state on is reading the piece from the old one on.
 abbrev pub invariant-lines : goal.invariant-lines
 invariant-lines g l =
     ((more : List ℕ) →

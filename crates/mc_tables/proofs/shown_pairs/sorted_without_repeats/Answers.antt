@@ -9,13 +9,13 @@ use Rattle.mc_tables.specs.CacheTable.{same_key}
 use Rattle.mc_tables.proofs.LowestLemmas.{dedup-in_order}
 use Rattle.mc_tables.proofs.shown_pairs.sorted_without_repeats.Goals as goal
 
--- two orders in turn tell no difference where neither does
+-- two orders, one after the other, give Equal exactly if both do
 both_equal : (r s : Ordering) → (is_eq r && is_eq s) ≡ is_eq (ordering_then r s)
 both_equal Less s = refl
 both_equal Equal s = refl
 both_equal Greater s = refl
 
--- two parts are equal where their order tells no difference
+-- two parts are equal if their orders give Equal
 equal_parts : (x y : ℕ × ℕ) → (eqb x.0 y.0 && eqb x.1 y.1) ≡ same_key x y
 equal_parts x y =
     ap₂ (λ (a b : Bool). a && b) (unsigned_ties x.0 y.0) (unsigned_ties x.1 y.1)

@@ -17,7 +17,7 @@ loop-i-preserved c =
     let b : UnlistedRow = c.index-rows-i.result in
     let fits : i < length rows = omega arith in
     let step : cond (repeats b a) (Some (lesser_or b.1 first)) first ≡ first_repeat (take (i + 1) rows) =
-    first_repeat-scan_step rows c.requires.valid i first a b (omega arith) fits c.loop-i.invariant
+    first_repeat-scan_step rows c.requires.sorted i first a b (omega arith) fits c.loop-i.invariant
     c.index-rows-i-in-loop-i.is c.index-rows-i.is in
     elim c.if-repeats.branch [
       | then-repeats w ↦

@@ -21,6 +21,6 @@ returns c = record {
       let parses = subst (λ (w : List ℕ). ParsesUnsigned 32 16 w c.from_str_radix.result) same
       c.from_str_radix.ensures.value in
       c.ok-2.ensures.value ∙ ap result_ok
-      (parse-hexadecimal c.args.digits.now c.from_str_radix.result c.requires.some c.requires.few
+      (parse-hexadecimal c.args.digits.now c.from_str_radix.result c.requires.nonempty c.requires.at_most_8
       c.requires.digits parses));
 }

@@ -8,5 +8,5 @@ returns-clause-lan c = refl
 pub returns-clause-threshold : goal.returns-clause-threshold
 returns-clause-threshold c = refl
 
-pub returns-clause-none : goal.returns-clause-none
-returns-clause-none c = refl
+pub returns-clause-no_row : goal.returns-clause-no_row
+returns-clause-no_row c = refl

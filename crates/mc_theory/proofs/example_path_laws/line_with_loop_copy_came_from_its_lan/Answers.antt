@@ -6,9 +6,9 @@ use Rattle.mc_theory.specs.ExampleNetworks.{copy, line_with_loop}
 use Rattle.mc_theory.proofs.ExampleCertificates.{is_hop-onward}
 use Rattle.mc_theory.proofs.example_path_laws.line_with_loop_copy_came_from_its_lan.Goals as goal
 
-pub returns-clause-its_own : goal.returns-clause-its_own
+pub returns-clause-from_l0 : goal.returns-clause-from_l0
 unfolding below interfaces
-returns-clause-its_own c = (
+returns-clause-from_l0 c = (
   (refl, refl, is_hop-onward (line_with_loop 3) 2 2 0 refl refl refl),
   (λ e. omega (arith, e)),
   (
@@ -26,9 +26,9 @@ returns-clause-its_own c = (
   ),
 )
 
-pub returns-clause-another : goal.returns-clause-another
+pub returns-clause-from_l1 : goal.returns-clause-from_l1
 unfolding below interfaces
-returns-clause-another c = (
+returns-clause-from_l1 c = (
   (refl, refl, is_hop-onward (line_with_loop 3) 2 2 0 refl refl refl),
   (λ e. omega (arith, e)),
   (
@@ -38,20 +38,20 @@ returns-clause-another c = (
   ),
 )
 
-pub returns-clause-not_by_one : goal.returns-clause-not_by_one
-returns-clause-not_by_one c = λ from. let e = from.1 in omega (arith, e)
+pub returns-clause-not_by_last_hop : goal.returns-clause-not_by_last_hop
+returns-clause-not_by_last_hop c = λ from. let e = from.1 in omega (arith, e)
 
-pub returns-clause-part : goal.returns-clause-part
+pub returns-clause-path_part : goal.returns-clause-path_part
 unfolding below interfaces
-returns-clause-part c = (
+returns-clause-path_part c = (
   (refl, refl, is_hop-onward (line_with_loop 3) 2 2 0 refl refl refl),
   (copy 2 253 (Some (1, 1)), refl, refl),
 )
 
-pub returns-clause-back : goal.returns-clause-back
+pub returns-clause-all_found : goal.returns-clause-all_found
 unfolding below interfaces
-returns-clause-back c = refl
+returns-clause-all_found c = refl
 
-pub returns-clause-until : goal.returns-clause-until
+pub returns-clause-found_until_l1 : goal.returns-clause-found_until_l1
 unfolding below interfaces
-returns-clause-until c = refl
+returns-clause-found_until_l1 c = refl

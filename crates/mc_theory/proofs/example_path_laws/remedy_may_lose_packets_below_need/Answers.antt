@@ -4,7 +4,7 @@ use Rattle.mc_theory.specs.Lists.{below}
 use Rattle.mc_theory.specs.Nets.{interfaces}
 use Rattle.mc_theory.specs.ExampleNetworks.{copy, onward_hop, twins}
 use Rattle.mc_theory.proofs.ListLemmas.{distinct-below}
-use Rattle.mc_theory.proofs.ExampleCertificates.{is_hop-onward, one-twin-headline_holds, one-twin-stops_ttl_2}
+use Rattle.mc_theory.proofs.ExampleCertificates.{is_hop-onward, one_twin-headline_holds, one_twin-stops_ttl_2}
 use Rattle.mc_theory.proofs.example_path_laws.remedy_may_lose_packets_below_need.Goals as goal
 
 pub returns-clause-travel : goal.returns-clause-travel
@@ -43,14 +43,14 @@ pub returns-clause-least_ttl : goal.returns-clause-least_ttl
 returns-clause-least_ttl c = refl
 
 pub returns-clause-right : goal.returns-clause-right
-returns-clause-right c = one-twin-headline_holds
+returns-clause-right c = one_twin-headline_holds
 
-pub returns-clause-before : goal.returns-clause-before
-returns-clause-before c = (
+pub returns-clause-reached_before : goal.returns-clause-reached_before
+returns-clause-reached_before c = (
   onward_hop 0 1 1 ∷ [],
   (refl, is_hop-onward twins 0 1 1 refl refl refl, refl),
   (omega arith, tt),
 )
 
-pub returns-clause-after : goal.returns-clause-after
-returns-clause-after c = one-twin-stops_ttl_2
+pub returns-clause-not_reached_after : goal.returns-clause-not_reached_after
+returns-clause-not_reached_after c = one_twin-stops_ttl_2

@@ -1,4 +1,4 @@
--- r1's row sends back, and r2's vif 0 stands on l1.
+-- r1's row sends back, and r2's vif 0 is placed on l1.
 use Rattle.std.proofs.Common.{◌≡◌, ℕ, refl, Option, Some, None}
 use Rattle.mc_theory.specs.Lists.{below}
 use Rattle.mc_theory.specs.Nets.{interfaces}

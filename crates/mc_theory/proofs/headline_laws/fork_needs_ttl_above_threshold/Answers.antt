@@ -13,16 +13,16 @@ pub returns-clause-travel : goal.returns-clause-travel
 unfolding below interfaces
 returns-clause-travel c = refl
 
-pub returns-clause-headline : goal.returns-clause-headline
+pub returns-clause-headline_broken : goal.returns-clause-headline_broken
 unfolding below interfaces
-returns-clause-headline c = λ named h.
+returns-clause-headline_broken c = λ named h.
     let headline_holds = h 64 (Handles 0 ∷ []) (omega arith) (omega arith) (omega arith, tt) in
     let one : 0 ≡ 1 = headline_holds.each_wanting_one tt refl 2 refl in
     omega (arith, one)
 
-pub returns-clause-right : goal.returns-clause-right
+pub returns-clause-not_right : goal.returns-clause-not_right
 unfolding below interfaces
-returns-clause-right c = λ h.
+returns-clause-not_right c = λ h.
     let right = h 64 (Handles 0 ∷ []) (omega arith) (omega arith) (omega arith, tt) in
     elim (right.served tt refl 2 refl) [
       | inl q ↦ omega (arith, q)

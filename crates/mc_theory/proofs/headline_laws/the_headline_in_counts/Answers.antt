@@ -11,6 +11,6 @@ returns-clause-no_two_copies c = λ n named t ps l h low high range. subst (λ k
     ((h t ps low high range).no_two_copies l)
 
 pub returns-clause-each_wanting_one : goal.returns-clause-each_wanting_one
-returns-clause-each_wanting_one c = λ n named t is l h low high range done w.
+returns-clause-each_wanting_one c = λ n named l h w t is low high range done.
     length_filter-count_of (λ c. c.lan == l) (run n (map Handles is) (start n t)).carried ∙
     (h t (map Handles is) low high range).each_wanting_one (is_lossless-map_handles is) done l w

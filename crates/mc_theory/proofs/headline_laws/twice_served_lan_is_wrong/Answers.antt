@@ -14,25 +14,25 @@ unfolding below interfaces
 returns-clause-travel c = refl
 
 -- r1 to r4 each handle what came to them
-pub returns-clause-headline : goal.returns-clause-headline
+pub returns-clause-headline_broken : goal.returns-clause-headline_broken
 unfolding below interfaces
-returns-clause-headline c = λ named h.
+returns-clause-headline_broken c = λ named h.
     let headline_holds = h 3 (map Handles (0 ∷ 0 ∷ 0 ∷ 0 ∷ [])) (omega arith) (omega arith)
     (omega arith, (omega arith, (omega arith, (omega arith, tt)))) in
     let one : 2 ≤ 1 = headline_holds.no_two_copies 3 in
     omega (arith, one)
 
-pub returns-clause-right : goal.returns-clause-right
+pub returns-clause-not_right : goal.returns-clause-not_right
 unfolding below interfaces
-returns-clause-right c = λ h.
+returns-clause-not_right c = λ h.
     let right = h 3 (map Handles (0 ∷ 0 ∷ 0 ∷ 0 ∷ [])) (omega arith) (omega arith)
     (omega arith, (omega arith, (omega arith, (omega arith, tt)))) in
     let once : Distinct (0 ∷ 1 ∷ 2 ∷ 3 ∷ 3 ∷ []) = right.clean.once in
     once.1.1.1.0 (inl refl)
 
-pub returns-clause-in_flight : goal.returns-clause-in_flight
+pub returns-clause-broken_in_flight : goal.returns-clause-broken_in_flight
 unfolding below interfaces
-returns-clause-in_flight c = λ named h.
+returns-clause-broken_in_flight c = λ named h.
     let headline_holds = h 3 (Handles 0 ∷ []) (omega arith) (omega arith) (omega arith, tt) in
     let one : 2 ≤ 1 = headline_holds.no_two_copies 0 in
     omega (arith, one)

@@ -5,14 +5,17 @@ use Rattle.mc_theory.specs.Flights.{start, run}
 use Rattle.mc_theory.specs.Findings.{first_copy_on, handles}
 use Rattle.mc_theory.specs.Paths.{IsPath}
 use Rattle.mc_theory.proofs.WalkBack.{in-first_copy_on}
-use Rattle.mc_theory.proofs.CameByHops.{came_by_hops-from_walk, is_rooted-from_travel, came_by_hops, is_path-from_travel, lan-first_copy_on}
+use Rattle.mc_theory.proofs.CameByHops.{came_by_hops-from_walk, is_rooted-from_travel}
+use Rattle.mc_theory.proofs.CameByHops.{came_by_hops, is_path-from_travel, lan-first_copy_on}
 use Rattle.mc_theory.proofs.CameByHops.{in-first_double}
-use Rattle.mc_theory.proofs.Hops.{came_from_lan-from_came_by_hops, sent_by_hop-from_came_from_lan, is_path-from_came_from_lan, came_from_lan-fewer_than_copies}
-use Rattle.mc_theory.proofs.SpareInterface.{distinct_senders-travel, earlier_copy-of_first_double, first_and_double-other_senders}
+use Rattle.mc_theory.proofs.Hops.{came_from_lan-from_came_by_hops, sent_by_hop-from_came_from_lan}
+use Rattle.mc_theory.proofs.Hops.{is_path-from_came_from_lan, came_from_lan-fewer_than_copies}
+use Rattle.mc_theory.proofs.SpareInterface.{distinct_senders-travel, earlier_copy-of_first_double}
+use Rattle.mc_theory.proofs.SpareInterface.{first_and_double-other_senders}
 use Rattle.mc_theory.proofs.path_laws.second_copy_came_by_another_path.Goals as goal
 
 pub returns-clause-loop_came_back : goal.returns-clause-loop_came_back
-returns-clause-loop_came_back c = λ n count t numbers last is x l travel shows.
+returns-clause-loop_came_back c = λ n count t l x numbers last is travel shows.
     let cs = (run n (handles is) (start n t)).carried in
     let d = shows.0 in
     let r = is_rooted-from_travel n count t numbers last is x travel in
@@ -34,7 +37,7 @@ returns-clause-loop_came_back c = λ n count t numbers last is x l travel shows.
     }
 
 pub returns-clause-duplicate_came_twice : goal.returns-clause-duplicate_came_twice
-returns-clause-duplicate_came_twice c = λ n count t numbers last is x l net travel shows.
+returns-clause-duplicate_came_twice c = λ n count t l net x numbers last is travel shows.
     let cs = (run n (handles is) (start n t)).carried in
     let d = shows.0 in
     let c_in = in-first_double cs d.copy d.first in

@@ -14,7 +14,7 @@ returns-in_err-interfaces c = record {
       let fault = c.in_err-interfaces.field-0.0 in
       rw (p.1, p.2) (λ other.
       let at_found =
-      c.in_err-interfaces.ensures
+      c.in_err-interfaces.ensures.outcome
       (λ e. let same : fault
       ≡ out_of_memory = cc in other (ap (λ (f : TopologyFault). Err f) same)) in
       sym
@@ -23,12 +23,14 @@ returns-in_err-interfaces c = record {
 }
 
 pub new-requires : goal.new-requires
-new-requires c =
-    let ms = table_view c.args.table.now in
-    IsValidTopology-from_topology_in ms _
-    (topology_in-Ok ms c.args.lans c.args.routers c.in_ok-interfaces.interfaces
-    c.in_ok-interfaces.sources c.in_ok-interfaces.flows c.requires.version c.requires.lans
-    c.requires.routers (sym (c.in_ok-interfaces.ensures (λ e. absurd cc))))
+new-requires c = record {
+  valid = (
+      let ms = table_view c.args.table.now in
+      IsValidTopology-from_topology_in ms _
+      (topology_in-Ok ms c.args.lans c.args.routers c.in_ok-interfaces.interfaces
+      c.in_ok-interfaces.sources c.in_ok-interfaces.flows c.requires.version c.requires.lans
+      c.requires.routers (sym (c.in_ok-interfaces.ensures.outcome (λ e. absurd cc)))));
+}
 
 pub returns : goal.returns
 returns c = record {
@@ -38,5 +40,5 @@ returns c = record {
       (topology_in-Ok (table_view c.args.table.now) c.args.lans c.args.routers
       c.in_ok-interfaces.interfaces
       c.in_ok-interfaces.sources c.in_ok-interfaces.flows c.requires.version c.requires.lans
-      c.requires.routers (sym (c.in_ok-interfaces.ensures (λ e. absurd cc))))));
+      c.requires.routers (sym (c.in_ok-interfaces.ensures.outcome (λ e. absurd cc))))));
 }

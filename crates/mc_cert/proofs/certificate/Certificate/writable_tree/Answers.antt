@@ -3,4 +3,4 @@ use Rattle.mc_cert.proofs.certificate.Certificate.writable_tree.Goals as goal
 
 pub returns-clause-list : goal.returns-clause-list
 returns-clause-list c = IsWritableTree-from_valid _ _ c.args.flow c.tree.result.now c.self.invariant
-    (rw c.self.view_is c.tree.ensures.item)
+    (rw c.self.view_is c.tree.ensures.tree)

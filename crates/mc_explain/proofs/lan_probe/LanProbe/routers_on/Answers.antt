@@ -21,6 +21,6 @@ on-requires c = record {
 pub returns : goal.returns
 returns c = record {
   value = (
-      c.new.ensures.value ∙ ap group_by_router (c.on.ensures.item (facts c.args.self.now.view.now.domain)
+      c.new.ensures ∙ ap group_by_router (c.on.ensures.item (facts c.args.self.now.view.now.domain)
       c.requires.lan_probe.interfaces c.requires.lan));
 }

@@ -1,4 +1,4 @@
--- The first router's interfaces stand at the front.
+-- The first router's interfaces are at the front.
 use Rattle.std.proofs.Common.{◌≤◌, ℕ, length, sym, subst, ◌∙◌, rules}
 use Rattle.mc_explain.proofs.GroupLemmas.{leading_of_router-at_most_length, group_by_router-split}
 use Rattle.mc_explain.proofs.routers_on_lan.RoutersOnLanIterator.next.Goals as goal

@@ -1,4 +1,4 @@
--- The first line that is shown stands at the front.
+-- The first shown line is at the front.
 use Rattle.std.proofs.Common.{◌≤◌, ℕ, length, sym, subst, ◌∙◌, rules}
 use Rattle.mc_explain.proofs.ShownLineLemmas.{leading_expected-at_most_length, shown_lines-split}
 use Rattle.mc_explain.proofs.shown_line.ShownLinesIterator.next.Goals as goal

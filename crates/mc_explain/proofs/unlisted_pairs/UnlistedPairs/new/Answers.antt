@@ -10,7 +10,7 @@ use Rattle.mc_explain.proofs.unlisted_pairs.UnlistedPairs.new.Goals as goal
 
 pub with_routers-requires : goal.with_routers-requires
 with_routers-requires c = record {
-  valid = (
+  sorted = (
       subst (IsStrictlySortedBy key_cmp) (sym (c.deref.ensures.value ∙ c.in_ok-pairs.ensures))
       (is_strictly_sorted_by-shown_pairs c.args.all (flat_map (λ (own : SummaryValue). own.lowest) c.args.summary.now)));
 }
@@ -21,7 +21,7 @@ returns c =
     let summary = c.args.summary.now in
     let pairs = shown_unlisted_pairs c.args.all summary in
     let shown : c.in_ok-shown.shown.items ≡ map (with_routers t summary) pairs =
-    c.in_ok-shown.ensures
+    c.in_ok-shown.ensures.ok
     ∙ ap (map (with_routers t summary)) (c.deref.ensures.value ∙ c.in_ok-pairs.ensures) in
     let pair_rows : c.count_rows_of_pairs.result ≡ count_rows_of_pairs t summary pairs =
     c.count_rows_of_pairs.ensures
@@ -31,5 +31,5 @@ returns c =
       shown = shown;
       further = c.saturating_sub-further.ensures
           ∙ ap₂ (λ (a b : ℕ). a - b) c.count_unlisted_rows.ensures.rows pair_rows;
-      few = omega (arith, c.saturating_sub-further.ensures, c.count_unlisted_rows.ensures.few);
+      bounded = omega (arith, c.saturating_sub-further.ensures, c.count_unlisted_rows.ensures.bounded);
     }

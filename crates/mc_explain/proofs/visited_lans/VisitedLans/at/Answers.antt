@@ -1,4 +1,4 @@
--- Each LAN that was met is marked.
+-- Each visited LAN is marked.
 use Rattle.std.proofs.Common.{ℕ, ◌<◌, ◌≤◌, length, sym, subst, arith}
 use Rattle.std.proofs.lemmas.Option.{slice_get_past}
 use Rattle.mc_forward.proofs.IndexLemmas.{slice_get-from_read}

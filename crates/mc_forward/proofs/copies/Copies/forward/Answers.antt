@@ -5,7 +5,7 @@ use Rattle.mc_forward.proofs.copies.Copies.forward.Goals as goal
 
 pub send_all-requires : goal.send_all-requires
 send_all-requires c = record {
-  bounded = (
+  at_most_32 = (
       let few = length_entry_oifs-at_most_32 c.in-Exact.entry c.in-Exact.ensures.valid in
       omega (arith, few, ap (λ (e : EntryValue). length e.oifs) c.entry.view_is));
 }

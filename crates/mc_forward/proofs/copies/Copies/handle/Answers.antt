@@ -1,17 +1,18 @@
--- What was handled is taken away last.
+-- The handled copy is removed last.
 use Rattle.std.proofs.Common.{◌≡◌, ◌<◌, List, length, get_or, ap, sym, subst, ◌∙◌}
 use Rattle.mc_theory.specs.Flights.{Waiting, Flight, without_waiting}
 use Rattle.mc_forward.specs.FlightsInDomain.{net_in, flight_of}
-use Rattle.mc_forward.proofs.HandleLemmas.{without_waiting-after_handle, event_of-handled_copy, still_waits-after_handle}
+use Rattle.mc_forward.proofs.HandleLemmas.{without_waiting-after_handle, event_of-handled_copy}
+use Rattle.mc_forward.proofs.HandleLemmas.{still_waits-after_handle}
 use Rattle.mc_forward.proofs.copies.Copies.handle.Goals as goal
 
 pub remove_waiting-requires : goal.remove_waiting-requires
 remove_waiting-requires c = record {
-  known = (
+  waits = (
       let ok = c.in-Ok.ensures.ok in
       subst (λ (f : Flight). c.args.index < length f.waiting) (sym c.self-2.view_is)
       (still_waits-after_handle (net_in c.args.flow.now) c.args.self.now c.forward.new.self c.args.index
-      c.index.result.now c.requires.known ok));
+      c.index.result.now c.requires.waits ok));
 }
 
 pub returns-in-Ok-clause-ok : goal.returns-in-Ok-clause-ok
@@ -22,11 +23,11 @@ returns-in-Ok-clause-ok c =
     c.self-2.inside.strays.items) c.remove_waiting.ensures.removed
     ∙ ap (without_waiting c.args.index) c.self-2.view_is
     ∙ without_waiting-after_handle (net_in c.args.flow.now) c.args.self.now c.forward.new.self c.args.index
-    c.index.result.now c.requires.known read c.in-Ok.ensures.ok
+    c.index.result.now c.requires.waits read c.in-Ok.ensures.ok
 
 pub returns-in-Ok-clause-event : goal.returns-in-Ok-clause-event
 returns-in-Ok-clause-event c =
     let read = subst (λ (f : Flight). c.index.result.now ≡ get_or f.waiting c.args.index
     c.index.result.now) c.self.view_is c.index.ensures in
     event_of-handled_copy (net_in c.args.flow.now) c.args.self.now.waiting c.args.index c.index.result.now _ _
-    c.requires.known read c.taken.view_is c.in-Ok.ensures.outcome
+    c.requires.waits read c.taken.view_is c.in-Ok.ensures.outcome

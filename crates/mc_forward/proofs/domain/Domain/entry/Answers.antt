@@ -1,12 +1,13 @@
 use Rattle.std.proofs.Common.{◌≡◌, ℕ, get_or, ap, subst, arith, ◌∙◌}
 use Rattle.mc_forward.specs.Domains.{DomainValue, IsDomain}
 use Rattle.mc_forward.specs.DomainParts.{rows_by_tables}
-use Rattle.mc_forward.proofs.RowLemmas.{rows_of_router-at_index, length-rows_of_router, row_of-rows_of_router, has_valid_entry-from_row_value}
+use Rattle.mc_forward.proofs.RowLemmas.{rows_of_router-at_index, length-rows_of_router}
+use Rattle.mc_forward.proofs.RowLemmas.{row_of-rows_of_router, has_valid_entry-from_row_value}
 use Rattle.mc_forward.proofs.domain.Domain.entry.Goals as goal
 
 pub row-requires : goal.row-requires
 row-requires c = record {
-  known = (
+  listed_flow = (
       let d = c.args.self.now in
       let all = c.self.inside.derived.rows.items in
       let own = rows_of_router-at_index d all c.index-rows.result.now c.args.router

@@ -16,7 +16,7 @@ returns c = record {
       let all = c.self.inside.derived.interfaces.items in
       let derived = c.self.invariant.interfaces ∙ ap interfaces_of c.self.view_is in
       c.new.ensures.value
-      ∙ interfaces_of-at_index c.args.self.now all _ c.args.lan flow derived c.requires.known
+      ∙ interfaces_of-at_index c.args.self.now all _ c.args.lan flow derived c.requires.listed_lan
       (c.index-interfaces.ensures
       ∙ ap (λ (k : ℕ). get_or all k c.index-interfaces.result.now) c.lan.view_is));
 }

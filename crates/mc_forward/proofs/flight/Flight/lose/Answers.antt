@@ -8,8 +8,8 @@ invariant_of-self c =
     let routers = length c.self.inside.flow.domain.topology.routers in
     record {
       flow = c.self.invariant.flow;
-      routers = subst (WaitAtRouters routers) (sym c.lose.ensures.change)
+      routers = subst (WaitAtRouters routers) (sym c.lose.ensures.removed)
           (wait_at_routers-without routers c.args.index c.self.inside.copies c.self.invariant.routers);
       listed = subst (AreCopiesInDomain (length c.self.inside.flow.domain.topology.lans) routers)
-          (sym c.lose.ensures.change) c.self.invariant.listed;
+          (sym c.lose.ensures.removed) c.self.invariant.listed;
     }

@@ -2,7 +2,7 @@ use Rattle.std.proofs.Common.{◌≡◌, ◌+◌, ◌≤◌, ℕ, List, ◌++◌
 use Rattle.mc_igmp.specs.ListSoFar.{WithoutLineFeed, read_rest_of_lines}
 use Rattle.mc_igmp.proofs.list_reader.LineReader.read_piece.Given as goal
 
--- What the bytes left come to after what was read is what the piece comes to.
+-- the rest of the piece, after what was read, reads as the whole piece
 abbrev pub invariant-lines : goal.invariant-lines
 invariant-lines l = record {
   reads : (more : List ℕ) →

@@ -3,7 +3,7 @@ use Rattle.std.specs.Prelude.{vec_len}
 use Rattle.mc_run.specs.LineFront.{front_after_more}
 use Rattle.mc_run.proofs.line_front.LineFront.take.Given as goal
 
--- what is found in the end is what the bytes that are left of the piece bring, and those behind it
+-- the front in the end is what the rest of the piece and the bytes after it make of the present one
 abbrev pub invariant-loop-byte : goal.invariant-loop-byte
 invariant-loop-byte l = record {
   few : vec_len l.self.front ≤ 100;

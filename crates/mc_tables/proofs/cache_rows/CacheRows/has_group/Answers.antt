@@ -14,7 +14,7 @@ returns c = record {
       let is = c.deref.ensures.value in
       let up : IsSorted nat_cmp groups =
       subst (λ (l : List ℕ). IsSorted nat_cmp l)
-      (sym (is ∙ ap (λ (kept : KeptRowsValue). kept.groups) c.self.view_is)) c.requires.valid in
+      (sym (is ∙ ap (λ (kept : KeptRowsValue). kept.groups) c.self.view_is)) c.requires.sorted in
       c.is_ok.ensures.value
       ∙ is_ok-binary_search nat_cmp_total groups c.args.group c.binary_search.result up
       c.binary_search.ensures.bound c.binary_search.ensures.position

@@ -3,11 +3,13 @@ use Rattle.std.specs.Prelude.{is_some}
 use Rattle.std.proofs.lemmas.List.{length-map, map_push}
 use Rattle.mc_tables.specs.declared.entry.Oif.{Oif}
 use Rattle.mc_tables.specs.CacheTable.{EntryValue}
-use Rattle.mc_tables.specs.CacheNumbers.{entries_by_key, IsNumberInserted, KeptRowsValue, EntryNumbersValue, AddsNumber}
+use Rattle.mc_tables.specs.CacheNumbers.{entries_by_key, IsNumberInserted, KeptRowsValue, EntryNumbersValue}
+use Rattle.mc_tables.specs.CacheNumbers.{AddsNumber}
 use Rattle.mc_tables.specs.FlatRows.{entry_of, entries_of}
 use Rattle.mc_tables.specs.SummarySoFar.{IsEntryInserted}
 use Rattle.mc_tables.specs.declared.listed_entry_numbers.Inserted.TheVariants.{New, Repeated, Unlisted}
-use Rattle.mc_tables.proofs.CacheMapLemmas.{table_of_kept, is_some_get-entries_by_key, from_entries-insert, lookup-entries_by_key_push, kept_rows_value}
+use Rattle.mc_tables.proofs.CacheMapLemmas.{table_of_kept, is_some_get-entries_by_key, from_entries-insert}
+use Rattle.mc_tables.proofs.CacheMapLemmas.{lookup-entries_by_key_push, kept_rows_value}
 use Rattle.mc_tables.proofs.cache_rows.CacheRows.insert_entry.Goals as goal
 
 pub returns-in_ok-push-in-New-clause-inserted : goal.returns-in_ok-push-in-New-clause-inserted
@@ -64,7 +66,8 @@ returns-in-Repeated-clause-inserted c =
       is_some_get-entries_by_key key numbers (entries_of lists) c.self.invariant ∙ own.1,
       ap (λ (ls : List (ℕ × List Oif)). kept_rows_value c.add.new.self.listed c.add.new.self.numbers
           (entries_of ls) groups) c.in_ok-reserve.ensures.lists
-          ∙ ap (λ (keys : EntryNumbersValue). kept_rows_value keys.listed keys.numbers (entries_of lists) groups)
+          ∙ ap (λ (keys : EntryNumbersValue). kept_rows_value keys.listed keys.numbers
+              (entries_of lists) groups)
           own.2,
     )
 
@@ -82,6 +85,7 @@ returns-in-Unlisted-clause-inserted c =
       own.0,
       ap (λ (ls : List (ℕ × List Oif)). kept_rows_value c.add.new.self.listed c.add.new.self.numbers
           (entries_of ls) groups) c.in_ok-reserve.ensures.lists
-          ∙ ap (λ (keys : EntryNumbersValue). kept_rows_value keys.listed keys.numbers (entries_of lists) groups)
+          ∙ ap (λ (keys : EntryNumbersValue). kept_rows_value keys.listed keys.numbers
+              (entries_of lists) groups)
           own.1,
     )

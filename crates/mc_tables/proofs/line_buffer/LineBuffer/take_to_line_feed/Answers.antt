@@ -1,6 +1,7 @@
 use Rattle.std.proofs.Common.{◌≤◌, ◌+◌, length, length-take, take, refl, arith, sym, subst}
 use Rattle.mc_tables.specs.LinesSoFar.{LinesSoFar, IsValidLinesSoFar}
-use Rattle.mc_tables.proofs.PieceLemmas.{no_line_feed-not_found, no_line_feed-before_first, lines_so_far-with_begun, position-within}
+use Rattle.mc_tables.proofs.PieceLemmas.{no_line_feed-not_found, no_line_feed-before_first}
+use Rattle.mc_tables.proofs.PieceLemmas.{lines_so_far-with_begun, position-within}
 use Rattle.mc_tables.proofs.line_buffer.LineBuffer.take_to_line_feed.Goals as goal
 
 pub invariant_of-self-in-Some : goal.invariant_of-self-in-Some
@@ -15,7 +16,8 @@ invariant_of-self-in-Some c =
     let size : lines.size + length c.args.rest.now ≤ 16777216 =
     subst (λ (l : LinesSoFar). l.size + length c.args.rest.now ≤ 16777216) (sym c.self.view_is)
     c.requires.bounded in
-    let within : end + 1 ≤ length c.args.rest.now = position-within c.args.rest.now end (sym c.in-Some.ensures) in
+    let within : end + 1 ≤ length c.args.rest.now =
+        position-within c.args.rest.now end (sym c.in-Some.ensures) in
     let kept = lines_so_far-with_begun lines (end + 1) taken c.self.invariant (omega arith)
     (omega (arith, length-take end c.args.rest.now))
     (no_line_feed-before_first c.args.rest.now end (sym c.in-Some.ensures)) in

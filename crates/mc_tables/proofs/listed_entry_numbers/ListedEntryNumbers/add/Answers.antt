@@ -5,7 +5,9 @@ use Rattle.std.proofs.lemmas.List.{get_or_default}
 use Rattle.mc_tables.specs.CacheNumbers.{EntryNumbersValue, number_of_key, decoded_number}
 use Rattle.mc_tables.specs.CacheTable.{key_cmp}
 use Rattle.mc_tables.specs.ListedRows.{set_has_key}
-use Rattle.mc_tables.proofs.NumberLemmas.{listed_numbers_value-append_zeros, on_err-kept, is_some-decoded_number, listed_numbers_value, set_has_key-listed_place, number_of_key-here}
+use Rattle.mc_tables.proofs.NumberLemmas.{listed_numbers_value-append_zeros, on_err-kept}
+use Rattle.mc_tables.proofs.NumberLemmas.{is_some-decoded_number, listed_numbers_value}
+use Rattle.mc_tables.proofs.NumberLemmas.{set_has_key-listed_place, number_of_key-here}
 use Rattle.mc_tables.proofs.NumberLemmas.{adds_number-set, contains-unlisted}
 use Rattle.mc_tables.proofs.listed_entry_numbers.ListedEntryNumbers.add.Goals as goal
 
@@ -14,7 +16,8 @@ returns-in_default-clause-numbered c =
     let key = c.args.key.now in
     let keys = c.self.inside.pairs in
     let kept = c.self.view_is in (
-      ap (λ (s : EntryNumbersValue). set_has_key s.listed key) (sym kept) ∙ contains-unlisted keys key c.in_default.ensures.none,
+      ap (λ (s : EntryNumbersValue). set_has_key s.listed key) (sym kept)
+          ∙ contains-unlisted keys key c.in_default.ensures.none,
       refl,
     )
 
@@ -22,8 +25,10 @@ pub returns-in_err-ensure_places-clause-refused : goal.returns-in_err-ensure_pla
 returns-in_err-ensure_places-clause-refused c =
     let keys = c.self.inside.pairs in
     let more = c.in_err-ensure_places.ensures.more in
-    on_err-kept (listed_numbers_value keys c.ensure_places.new.numbers.items ≡ c.args.self.now) c.from_residual.result
-    (listed_numbers_value-append_zeros keys c.self.inside.numbers.items c.ensure_places.new.numbers.items more.0 c.args.self.now more.1
+    on_err-kept (listed_numbers_value keys c.ensure_places.new.numbers.items ≡ c.args.self.now)
+        c.from_residual.result
+    (listed_numbers_value-append_zeros keys c.self.inside.numbers.items c.ensure_places.new.numbers.items
+        more.0 c.args.self.now more.1
     c.self.view_is)
 
 pub returns-then-index-ne0-clause-numbered : goal.returns-then-index-ne0-clause-numbered
@@ -33,7 +38,8 @@ returns-then-index-ne0-clause-numbered c =
     let ns = c.ensure_places.new.numbers.items in
     let i = c.in-Some.place in
     let more = c.in_ok-ensure_places.ensures.more in
-    let kept = listed_numbers_value-append_zeros keys c.self.inside.numbers.items ns more.0 c.args.self.now more.1 c.self.view_is in
+    let kept = listed_numbers_value-append_zeros keys c.self.inside.numbers.items ns more.0 c.args.self.now
+        more.1 c.self.view_is in
     let place = c.in-Some.ensures.found in
     let within : i < length ns = omega (
       arith,
@@ -55,7 +61,8 @@ returns-clause-numbered c =
     let ns = c.ensure_places.new.numbers.items in
     let i = c.in-Some.place in
     let more = c.in_ok-ensure_places.ensures.more in
-    let kept = listed_numbers_value-append_zeros keys c.self.inside.numbers.items ns more.0 c.args.self.now more.1 c.self.view_is in
+    let kept = listed_numbers_value-append_zeros keys c.self.inside.numbers.items ns more.0 c.args.self.now
+        more.1 c.self.view_is in
     let place = c.in-Some.ensures.found in
     let within : i < length ns = omega (
       arith,
@@ -66,7 +73,8 @@ returns-clause-numbered c =
     let empty : get_or ns i 0 ≡ 0 =
     get_or_default ns i 0 c.index.result.now within ∙ sym c.index.ensures ∙ c.if-index-ne0.false in (
       set_has_key-listed_place keys ns key i c.args.self.now kept place,
-      number_of_key-here keys ns key i c.args.self.now kept c.in-Some.ensures.distinct place ∙ ap decoded_number empty,
+      number_of_key-here keys ns key i c.args.self.now kept c.in-Some.ensures.distinct place
+          ∙ ap decoded_number empty,
       ap (λ (s : EntryNumbersValue). s.listed) kept,
       λ q. adds_number-set key keys ns i c.args.number c.in-Some.ensures.distinct
           place within q

@@ -6,7 +6,8 @@ use Rattle.std.specs.declared.cmp.Ordering.TheVariants.{Less, Equal}
 use Rattle.std.proofs.lemmas.List.{take_all}
 use Rattle.mc_tables.specs.CacheTable.{key_cmp}
 use Rattle.mc_tables.specs.SummarySoFar.{put_pair}
-use Rattle.mc_tables.proofs.LowestLemmas.{take_put_pair-ascends, put_pair-at_search_place, put_pair-member, take_put_pair-above, key_cmp-not_less}
+use Rattle.mc_tables.proofs.LowestLemmas.{take_put_pair-ascends, put_pair-at_search_place, put_pair-member}
+use Rattle.mc_tables.proofs.LowestLemmas.{take_put_pair-above, key_cmp-not_less}
 use Rattle.mc_tables.proofs.lowest_pairs.LowestPairs.add.Goals as goal
 
 pub returns-then-le : goal.returns-then-le
@@ -16,7 +17,8 @@ returns-then-le c =
     let size : length ps ≡ 20 = omega arith in
     let last : ℕ × ℕ = c.index.result.now in
     let above : key_cmp pair (get_or ps 19 last) ≢ Less =
-    subst (λ (x : ℕ × ℕ). key_cmp pair x ≢ Less) c.index.ensures (key_cmp-not_less last pair c.if-le.ensures) in
+    subst (λ (x : ℕ × ℕ). key_cmp pair x ≢ Less) c.index.ensures
+        (key_cmp-not_less last pair c.if-le.ensures) in
     subst (λ (l : List (ℕ × ℕ)). l ≡ take 20 (put_pair pair l)) c.self.view_is
     (sym (take_all 20 ps (omega arith))
     ∙ sym (take_put_pair-above pair last ps 19 c.self.invariant.0 (omega arith) above))

@@ -4,7 +4,7 @@ use Rattle.mc_tables.specs.SummarySoFar.{KeptPairs, with_pair, put_pair}
 use Rattle.mc_tables.proofs.LowestLemmas.{shown_pairs-push}
 use Rattle.mc_tables.proofs.shown_pairs.ShownPairs.add.Goals as goal
 
--- one more behind those that came, where all are kept
+-- one more pair behind the others, where all are kept
 shown_pairs-push_every : (all : Bool) (every more lowest : List (ℕ × ℕ)) (pair : ℕ × ℕ) → all ≡ true
     → more ≡ every ++ pair ∷ []
     → cond all (in_order more) lowest
@@ -16,6 +16,7 @@ pub returns-then-self : goal.returns-then-self
 returns-then-self c =
     let inside = c.self.inside in
     let kept : List (ℕ × ℕ) → KeptPairs = λ pairs. record { all = inside.all; pairs = pairs } in
-    ap kept (shown_pairs-push_every inside.all inside.every.items c.push.new.self.items inside.lowest c.args.pair
+    ap kept (shown_pairs-push_every inside.all inside.every.items c.push.new.self.items inside.lowest
+        c.args.pair
     c.if-self.true c.in_ok-push.ensures.items)
     ∙ ap (with_pair c.args.pair) c.self.view_is

@@ -7,5 +7,6 @@ use Rattle.mc_tables.proofs.summarized_rows.SummarizedRows.into_summarized.Goals
 pub of-requires : goal.of-requires
 of-requires c = record {
   valid = (
-      subst (λ (s : SummarizedRowsSoFar). HasValidEntries (finished_summary s.summary)) (sym c.self.view_is) c.requires.summary);
+      subst (λ (s : SummarizedRowsSoFar). HasValidEntries (finished_summary s.summary))
+          (sym c.self.view_is) c.requires.summary);
 }

@@ -3,7 +3,8 @@ use Rattle.std.specs.FinSet as set
 use Rattle.mc_tables.specs.CacheTable.{key_cmp}
 use Rattle.mc_tables.specs.ListedRows.{ListedSet}
 use Rattle.mc_tables.specs.SummarySoFar.{SummarySoFar, summary_with_unresolved}
-use Rattle.mc_tables.proofs.SummaryStepLemmas.{number_inserted-same_listed, numbered_keys, numbered_keys-inserted}
+use Rattle.mc_tables.proofs.SummaryStepLemmas.{number_inserted-same_listed, numbered_keys}
+use Rattle.mc_tables.proofs.SummaryStepLemmas.{numbered_keys-inserted}
 use Rattle.mc_tables.proofs.summary_so_far.SummarySoFar.add_unresolved.Goals as goal
 
 pub returns-clause-summarized : goal.returns-clause-summarized

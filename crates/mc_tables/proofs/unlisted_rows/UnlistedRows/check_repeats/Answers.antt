@@ -3,7 +3,8 @@ use Rattle.std.proofs.lemmas.List.Sorted.{IsPermutation-refl}
 use Rattle.mc_tables.specs.Distinct.{AreDistinct}
 use Rattle.mc_tables.specs.UnlistedRows.{first_repeat, repeat_fault}
 use Rattle.mc_tables.proofs.DistinctLemmas.{if_ok-from_unwrap_or}
-use Rattle.mc_tables.proofs.UnlistedRowLemmas.{first_repeat-distinct, key_numbers-permuted, first_repeat-permuted}
+use Rattle.mc_tables.proofs.UnlistedRowLemmas.{first_repeat-distinct, key_numbers-permuted}
+use Rattle.mc_tables.proofs.UnlistedRowLemmas.{first_repeat-permuted}
 use Rattle.mc_tables.proofs.unlisted_rows.UnlistedRows.check_repeats.Goals as goal
 use Rattle.mc_tables.proofs.unlisted_rows.UnlistedRows.check_repeats.Goals.{in-Some, in-None}
 

@@ -1,7 +1,8 @@
 use Rattle.std.proofs.Common.{◌∙◌, sym, ap, subst}
 use Rattle.std.specs.Prelude.{IfSome}
 use Rattle.mc_tables.specs.VifLookups.{HasDevice, IsValidVifTable, first_index_with}
-use Rattle.mc_tables.proofs.VifLookupLemmas.{has_device-first_index_with, first_index_with-has_device, answer-at_most_31}
+use Rattle.mc_tables.proofs.VifLookupLemmas.{has_device-first_index_with, first_index_with-has_device}
+use Rattle.mc_tables.proofs.VifLookupLemmas.{answer-at_most_31}
 use Rattle.mc_tables.proofs.VifLookupLemmas.{index_of-value}
 use Rattle.mc_tables.proofs.TableRuleLemmas.{vif_rows-valid_table, answer-iff_has_device}
 use Rattle.mc_tables.proofs.vif_table.VifTable.index_of.Goals as goal

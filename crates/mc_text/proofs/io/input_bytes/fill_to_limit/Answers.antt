@@ -6,7 +6,7 @@ use Rattle.std.specs.Io.KnownBytes.{Consumes}
 use Rattle.mc_text.specs.ReadFault.{ConsumesUpTo, ReadsOnto}
 use Rattle.mc_text.proofs.io.input_bytes.fill_to_limit.Goals as goal
 
--- what was read in two readings, the second after the first, is within the limit
+-- the bytes of two reads, one after another, are within the limit
 consumes_up_to-from_reads_onto : (remaining left rest : Option (List ℕ)) (old new more : List ℕ) (limit : ℕ)
     → ReadsOnto remaining left old new → Consumes left rest more → length new + length more ≤ limit
     → ConsumesUpTo (limit - length old) remaining rest

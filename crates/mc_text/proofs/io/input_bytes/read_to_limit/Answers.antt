@@ -7,13 +7,13 @@ use Rattle.std.proofs.lemmas.List.{append-nil, take_all, take_at}
 use Rattle.mc_text.specs.ReadFault.{ReadsOnto}
 use Rattle.mc_text.proofs.io.input_bytes.read_to_limit.Goals as goal
 
--- what stands behind nothing is all that was read
+-- bytes appended to none are all that was read
 consumes-from_reads_onto : (remaining left : Option (List ℕ)) (old bytes : List ℕ) → old ≡ []
     → ReadsOnto remaining left old bytes → Consumes remaining left bytes
 consumes-from_reads_onto remaining left old bytes none (read, first, grown) =
     subst (Consumes remaining left) (sym (grown ∙ ap (λ xs. xs ++ read) none)) first
 
--- bytes up to a limit are the first ones of a text, by whether they are fewer
+-- bytes up to a limit are the first `limit` of the text, if fewer are the whole text
 take-limit : (bytes rest : List ℕ) (limit : ℕ) (b : Bool) → nat_lt (length bytes) limit ≡ b
     → length bytes ≤ limit → (length bytes < limit → rest ≡ [])
     → bytes ≡ take limit (bytes ++ rest)
@@ -23,7 +23,7 @@ take-limit bytes rest limit true fewer few end =
 take-limit bytes rest limit false fewer few end =
     sym (take_at bytes rest limit (grind arith))
 
--- so are those that were read
+-- so are the bytes that were read
 take-limit_of_known : (remaining left : Option (List ℕ)) (bytes : List ℕ) (limit : ℕ)
     → Consumes remaining left bytes → length bytes ≤ limit → (length bytes < limit → IsAtEnd left)
     → IfSome remaining (λ text. bytes ≡ take limit text)

@@ -1,0 +1,57 @@
+-- The lines after those of the flows, part by part.
+use Rattle.std.proofs.Common.{◌≡◌, ℕ, Bool, List, ◌++◌, length, Result, Ok, Err}
+use Rattle.std.proofs.Common.{ap, ◌∙◌, append_assoc}
+use Rattle.std.specs.Prelude.{OnOk}
+use Rattle.mc_tables.specs.Summary.{SummaryValue}
+use Rattle.mc_topology.specs.Topology.{TopologyValue}
+use Rattle.mc_explain.specs.ExcludedText.{excluded_text, without_text}
+use Rattle.mc_explain.specs.UnlistedText.{unlisted_text}
+use Rattle.mc_json.specs.EndData.{summary_data, unlisted_lines, without_line}
+use Rattle.mc_json.specs.RowData.{line_of}
+use Rattle.mc_run.specs.AuditEnd.{end_objects, end_text, strict_lines, summary_line}
+use Rattle.mc_run.specs.declared.audit_options.AuditOptions.{AuditOptions}
+
+-- parts that are written one after the other
+append-two_parts : {A X : Type 0} (r : Result A X) (old a b c one two new : List ℕ) → one ≡ old ++ a
+    → two ≡ one ++ b → OnOk r (new ≡ two ++ c) → OnOk r (new ≡ old ++ (a ++ (b ++ c)))
+append-two_parts (Err e) old a b c one two new first second third = tt
+append-two_parts (Ok x) old a b c one two new first second third =
+    third ∙ ap (λ xs. xs ++ c) (second ∙ ap (λ xs. xs ++ b) first)
+    ∙ append_assoc (old ++ a) b c ∙ append_assoc old a (b ++ c)
+
+-- as text, by the domain's topology
+pub end_text-parts : {A X : Type 0} (o : AuditOptions) (t u : TopologyValue) (summary : List SummaryValue)
+    (marks : List Bool) (all : Bool) (flows right wrong unwanted : ℕ) (r : Result A X)
+    (old one two three four new : List ℕ) → t ≡ u → flows ≡ length t.flows
+    → one ≡ old ++ unlisted_text o.unlisted t summary → two ≡ one ++ without_text t marks
+    → three ≡ two ++ summary_line flows right wrong unwanted → four ≡ three ++ excluded_text t marks
+    → OnOk r (new ≡ four ++ strict_lines o.strict all unwanted)
+    → OnOk r (new ≡ old ++ end_text o u summary marks all (length u.flows) right wrong unwanted)
+end_text-parts o t u summary marks all flows right wrong unwanted (Err e) old one two three four new same
+    size first second third fourth last = tt
+end_text-parts {A = A} {X = X} o t u summary marks all flows right wrong unwanted (Ok x) old one two
+    three four new same
+    size first second third fourth last =
+    let strict = strict_lines o.strict all unwanted in
+    let end : Result A X = Ok x in
+    append-two_parts end old (unlisted_text o.unlisted t summary) (without_text t marks)
+    (summary_line flows right wrong unwanted ++ (excluded_text t marks ++ strict)) one two new first
+    second (append-two_parts end two (summary_line flows right wrong unwanted) (excluded_text t marks) strict
+    three four new third fourth last)
+    ∙ ap (λ (n : ℕ). old ++ end_text o t summary marks all n right wrong unwanted) size
+    ∙ ap (λ (s : TopologyValue). old ++ end_text o s summary marks all (length s.flows) right wrong
+    unwanted) same
+
+-- in JSON
+pub end_objects-parts : {A X : Type 0} (o : AuditOptions) (t u : TopologyValue) (summary : List SummaryValue)
+    (marks : List Bool) (right wrong unwanted : ℕ) (r : Result A X) (old one two new : List ℕ)
+    → t ≡ u → one ≡ old ++ unlisted_lines o.unlisted t summary → two ≡ one ++ without_line t marks
+    → OnOk r (new ≡ two ++ line_of (summary_data right unwanted wrong))
+    → OnOk r (new ≡ old ++ end_objects o u summary marks right wrong unwanted)
+end_objects-parts o t u summary marks right wrong unwanted (Err e) old one two new same first second last = tt
+end_objects-parts {A = A} {X = X} o t u summary marks right wrong unwanted (Ok x) old one two new
+    same first second last =
+    (let end : Result A X = Ok x in
+    append-two_parts end old (unlisted_lines o.unlisted t summary) (without_line t marks)
+    (line_of (summary_data right unwanted wrong)) one two new first second last)
+    ∙ ap (λ (s : TopologyValue). old ++ end_objects o s summary marks right wrong unwanted) same

@@ -1,0 +1,153 @@
+-- The whole text of an audit, and what it says of the files.
+use Rattle.std.proofs.Common.{◌≡◌, ℕ, Bool, List, ◌++◌, length, Option, Some, None, Result, Ok, Err}
+use Rattle.std.proofs.Common.{refl, sym, ap, subst, ◌∙◌, append_assoc}
+use Rattle.std.specs.Prelude.{◌==◌, ◌&&◌, IfOk, IfSome, flat_map}
+use Rattle.mc_files.specs.Files.{FileText}
+use Rattle.mc_tables.specs.Summary.{SummaryValue}
+use Rattle.mc_topology.specs.Topology.{TopologyValue}
+use Rattle.mc_forward.specs.Domains.{DomainValue}
+use Rattle.mc_forward.specs.ListedTables.{HaveSameFacts, facts}
+use Rattle.mc_cert.specs.Certificate.{Tree}
+use Rattle.mc_input.specs.ExcludedRouters.{AreRouterNames, files_with_exclusions}
+use Rattle.mc_input.specs.Meaning.{FilesMeanDomainAsListed, MeansDomainWhere}
+use Rattle.mc_input.specs.SummariesOfFiles.{AreSummariesOf}
+use Rattle.mc_run.specs.AuditEnd.{are_right, begin_lines, count as count_of, end_text_or_objects, is_right}
+use Rattle.mc_run.specs.AuditEnd.{is_unwanted, is_wrong, verdict_line}
+use Rattle.mc_run.specs.AuditPieces.{AreFlowsPushed, output_of, yes_of}
+use Rattle.mc_run.specs.AuditRun.{AuditSaysYes, IsAudited, MeansAudited, AuditedValue, is_whole, is_yes}
+use Rattle.mc_run.specs.AuditRun.{excluded}
+use Rattle.mc_run.specs.declared.audit_options.AuditOptions.{AuditOptions}
+use Rattle.mc_run.specs.declared.audit_output.AuditAnswer.{AuditAnswer}
+use Rattle.mc_run.specs.declared.audit_output.AuditOutput.{AuditOutput}
+use Rattle.mc_run.specs.declared.fault.RunFault.{RunFault}
+use Rattle.mc_run.specs.declared.fault.RunFault.TheVariants.{Write}
+use Rattle.mc_run.specs.RunOutput.{IsOutputWritten}
+use Rattle.mc_run.specs.declared.run_output.RunOutput.{RunOutput}
+use Rattle.mc_run.specs.declared.flow_status.FlowCounts.{FlowCounts}
+use Rattle.mc_run.proofs.AuditFlows.{are_right-zero_wrong}
+
+-- ---- one text
+
+-- whether a list of names is empty, by its length
+abbrev no_names-no_count : (v : AuditedValue) (k : ℕ) → length v.without ≡ k
+    → (length v.without == 0) ≡ (k == 0)
+no_names-no_count v k same = ap (λ (n : ℕ). n == 0) same
+
+pub is_audited-all_pushed : (v : AuditedValue) (o : AuditOptions) (s : FlowCounts) (printed : List Tree)
+    (marks : List Bool) (count : ℕ) (every : Bool) (begin lines text : List ℕ)
+    → marks ≡ excluded v → length v.without ≡ count → begin ≡ begin_lines o (facts v.domain) marks
+    → AreFlowsPushed v o (length v.domain.topology.flows) s printed begin lines
+    → every ≡ ((count == 0) && (s.wrong == 0))
+    → text ≡ lines ++ (end_text_or_objects o v.domain.topology v.summary marks every
+    (length v.domain.topology.flows) s.right s.wrong s.unwanted ++ verdict_line o.json every)
+    → IsAudited v o every text
+is_audited-all_pushed v o s printed marks count every begin lines text same size begins to is ends =
+    let answers = to.answers in
+    let t = v.domain.topology in
+    let ours = flat_map (λ a. a.lines) answers in
+    let right : (s.wrong == 0) ≡ are_right answers =
+    ap (λ (n : ℕ). n == 0) to.wrong ∙ are_right-zero_wrong answers in
+    let answer : every ≡ is_yes v answers =
+    is ∙ ap (λ (b : Bool). b && (s.wrong == 0)) (sym (no_names-no_count v count size))
+    ∙ ap (λ (b : Bool). is_whole v && b) right in
+    let first : begin ≡ begin_lines o (facts v.domain) (excluded v) =
+    begins ∙ ap (begin_lines o (facts v.domain)) same in
+    let end = λ (ms : List Bool) (b : Bool) (n r w u : ℕ).
+    end_text_or_objects o t v.summary ms b n r w u ++ verdict_line o.json b in
+    let last : end marks every (length t.flows) s.right s.wrong s.unwanted
+    ≡ end (excluded v) (is_yes v answers) (length answers) (count_of is_right answers)
+    (count_of is_wrong answers) (count_of is_unwanted answers) =
+    ap (λ (ms : List Bool). end ms every (length t.flows) s.right s.wrong s.unwanted) same
+    ∙ ap (λ (b : Bool). end (excluded v) b (length t.flows) s.right s.wrong s.unwanted) answer
+    ∙ ap (λ (n : ℕ). end (excluded v) (is_yes v answers) n s.right s.wrong s.unwanted)
+    (sym to.count_is)
+    ∙ ap (λ (n : ℕ). end (excluded v) (is_yes v answers) (length answers) n s.wrong s.unwanted)
+    to.right
+    ∙ ap (λ (n : ℕ). end (excluded v) (is_yes v answers) (length answers)
+    (count_of is_right answers) n s.unwanted) to.wrong
+    ∙ ap (λ (n : ℕ). end (excluded v) (is_yes v answers) (length answers)
+    (count_of is_right answers) (count_of is_wrong answers) n) to.unwanted in
+    let behind = end (excluded v) (is_yes v answers) (length answers) (count_of is_right answers)
+    (count_of is_wrong answers) (count_of is_unwanted answers) in
+    record {
+      answers = answers;
+      are_answers = record { count = to.count_is; each = to.each };
+      answer = answer;
+      spelled = ends ∙ ap (λ xs. lines ++ xs) last ∙ ap (λ xs. xs ++ behind) to.spelled
+          ∙ ap (λ xs. (xs ++ ours) ++ behind) first
+          ∙ append_assoc (begin_lines o (facts v.domain) (excluded v)) ours behind;
+    }
+
+-- ---- the files
+
+-- what holds of the domain that was read, with its summaries, holds of the one that the files mean
+pub of_domain-means_audited : (Holds : AuditedValue → Type 0) (o : AuditOptions) (names : List (List ℕ))
+    (contents : Option (List FileText)) (d : DomainValue) (summary : List SummaryValue)
+    → ((whole : DomainValue) → HaveSameFacts whole d
+    → Holds (record { domain = d; summary = summary; without = names })
+    → Holds (record { domain = whole; summary = summary; without = names }))
+    → IfSome contents (λ files. FilesMeanDomainAsListed (files_with_exclusions names files) d)
+    → AreRouterNames d.topology names
+    → IfSome contents (λ files. AreSummariesOf o.unlisted (files_with_exclusions names files)
+    d.topology summary)
+    → Holds (record { domain = d; summary = summary; without = names })
+    → IfSome contents (MeansDomainWhere (MeansAudited o names) Holds)
+of_domain-means_audited Holds o names None d summary moves means routers audited_value holds = tt
+of_domain-means_audited Holds o names (Some files) d summary moves means routers audited_value holds
+    = record {
+      domain = record { domain = means.whole; summary = summary; without = names };
+      means = record {
+        means = means.means;
+        routers = subst (λ (t : TopologyValue). AreRouterNames t names) (sym means.same.topology) routers;
+        summary = subst (λ (t : TopologyValue).
+            AreSummariesOf o.unlisted (files_with_exclusions names files) t summary)
+            (sym means.same.topology) audited_value;
+        without = refl;
+      };
+      holds = moves means.whole means.same holds;
+    }
+
+-- ---- the answer, with the number of unwanted flows
+
+-- what follows from the run's answer follows from the audit's
+pub audit_answer-gives : (P : Bool → Type 0) (r : Result AuditAnswer RunFault) (s : Result Bool RunFault)
+    → yes_of r ≡ s → IfOk s P → IfOk (yes_of r) P
+audit_answer-gives P r s same holds = subst (λ (t : Result Bool RunFault). IfOk t P) (sym same) holds
+
+pub audit_write_fault-gives : (Q : Type 0) (r : Result AuditAnswer RunFault) (s : Result Bool RunFault)
+    → yes_of r ≡ s → (s ≡ Err Write → Q) → r ≡ Err Write → Q
+audit_write_fault-gives Q r s same follows fails = follows (sym same ∙ ap yes_of fails)
+
+pub audit_yes-gives : (Q : Type 0) (r : Result AuditAnswer RunFault) (s : Result Bool RunFault)
+    (old new : Option (List ℕ)) → yes_of r ≡ s → (AuditSaysYes s old new → Q)
+    → AuditSaysYes (yes_of r) old new → Q
+audit_yes-gives Q r s old new same follows says =
+    follows (subst (λ (t : Result Bool RunFault). AuditSaysYes t old new) same says)
+
+-- the output is that of the audit
+pub is_output_written-parts : (s t : Result RunOutput RunFault) (y : Result Bool RunFault)
+    (old new : Option (List ℕ))
+    → s ≡ t → IsOutputWritten s y old new → IsOutputWritten t y old new
+is_output_written-parts s t y old new same is =
+    subst (λ (u : Result RunOutput RunFault). IsOutputWritten u y old new) same is
+
+-- a fault in place of the output gives no answer
+no_answer-without_output : (f : RunFault) (p : Result RunOutput RunFault) (s : Result Bool RunFault)
+    (all : Bool)
+    (old new : Option (List ℕ)) → p ≡ Err f → Ok all ≡ s → IsOutputWritten p s old new → ⊥
+no_answer-without_output f p s all old new none same is =
+    let run_output : IsOutputWritten (Err f) s old new =
+    subst (λ (u : Result RunOutput RunFault). IsOutputWritten u s old new) none is in
+    subst (λ (t : Result Bool RunFault). IsOutputWritten (Err f) t old new) (sym same) run_output
+
+-- and what holds of the counted number holds of the returned one
+pub audit_unwanted-gives : (P : ℕ → Type 0) (a : Result AuditOutput RunFault) (p : Result RunOutput RunFault)
+    (n : ℕ) (s : Result Bool RunFault) (r : Result AuditAnswer RunFault)
+    (old new : Option (List ℕ)) → IfOk a (λ audit. P audit.unwanted) → p ≡ output_of a
+    → ((audit : AuditOutput) → a ≡ Ok audit → n ≡ audit.unwanted) → IsOutputWritten p s old new
+    → yes_of r ≡ s → IfOk r (λ answer. answer.unwanted ≡ n) → IfOk r (λ answer. P answer.unwanted)
+audit_unwanted-gives P a p n s (Err f) old new holds parts counted is same counted_is = tt
+audit_unwanted-gives P (Ok audit) p n s (Ok answer) old new holds parts counted is same counted_is =
+    subst P (sym (counted_is ∙ counted audit refl)) holds
+audit_unwanted-gives P (Err f) p n s (Ok answer) old new holds parts counted is same counted_is =
+    absurd (no_answer-without_output f p s answer.yes old new parts same is)

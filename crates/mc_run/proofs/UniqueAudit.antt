@@ -1,0 +1,411 @@
+-- The text of an audit is determined by the domain, and by the folder's files.
+use Rattle.std.proofs.Common.{◌≡◌, ℕ, suc, ◌+◌, Bool, true, false, cond, List, [], ◌∷◌, ◌++◌}
+use Rattle.std.proofs.Common.{length, Option, Some, None, refl, sym, ap, ap₂, subst, ◌∙◌, arith}
+use Rattle.std.proofs.Common.{filter, fold, take, ◌&&◌, not, slice_get}
+use Rattle.std.specs.Prelude.{◌==◌, flat_map, ⊤}
+use Rattle.mc_files.specs.Files.{FileText}
+use Rattle.mc_tables.specs.Summary.{SummaryValue}
+use Rattle.mc_topology.specs.declared.flow.Flow.{Flow}
+use Rattle.mc_topology.specs.Topology.{TopologyValue}
+use Rattle.mc_cert.specs.Certificate.{Tree}
+use Rattle.mc_theory.specs.Events.{Event}
+use Rattle.mc_forward.specs.Domains.{DomainValue, IsDomain, ttl_of}
+use Rattle.mc_forward.specs.ListedTables.{DomainFacts, facts}
+use Rattle.mc_input.specs.ExcludedRouters.{files_with_exclusions}
+use Rattle.mc_input.specs.SummariesOfFiles.{AreSummariesOf}
+use Rattle.mc_input.proofs.UniqueDomain.{FilesMeanDomain-unique}
+use Rattle.mc_replay.specs.declared.finding.Finding.{Finding}
+use Rattle.mc_replay.specs.declared.travel.FinishedTravel.{FinishedTravel}
+use Rattle.mc_maker.specs.Examined.{is_certified}
+use Rattle.mc_maker.specs.ExaminedFlights.{without_flights}
+use Rattle.mc_maker.specs.declared.examination.Examined.{Examined}
+use Rattle.mc_maker.specs.declared.examined_flights.ExaminedFlights.{ExaminedFlights}
+use Rattle.mc_maker.specs.declared.examined_flights.ExaminedFlights.TheVariants.{Certified}
+use Rattle.mc_maker.specs.declared.examined_flights.ExaminedFlights.TheVariants.{FoundAtTtl255}
+use Rattle.mc_maker.specs.declared.examined_flights.ExaminedFlights.TheVariants.{FoundAtFlowTtl}
+use Rattle.mc_explain.specs.declared.searching.LanSearch.{LanSearch}
+use Rattle.mc_explain.specs.ExplanationText.{causes_text}
+use Rattle.mc_explain.specs.SearchText.{search_text}
+use Rattle.mc_explain.specs.WantedText.{also_missed_text}
+use Rattle.mc_explain.specs.declared.causes.Cause.{Cause}
+use Rattle.mc_explain.specs.declared.search_line.SearchLine.{SearchLine}
+use Rattle.mc_json.specs.FlowData.{wrong_line}
+use Rattle.mc_json.specs.SearchData.{search_data}
+use Rattle.mc_json.specs.CauseData.{causes_data}
+use Rattle.mc_json.specs.WhyData.{search_data_if_any, why_data}
+use Rattle.serde_json.specs.Data.{Data}
+use Rattle.mc_run.specs.AuditEnd.{FlowAnswer, are_right, begin_lines, count, end_text_or_objects, end_lines}
+use Rattle.mc_run.specs.AuditEnd.{is_right, is_unwanted, is_wrong, verdict_line}
+use Rattle.mc_run.specs.AuditObjects.{wrong_object}
+use Rattle.mc_run.specs.AuditRun.{IsFlowAnswer, IsAuditText, IsAudited, MeansAudited, AuditedValue}
+use Rattle.mc_run.specs.AuditRun.{is_whole, is_yes, excluded, trees_shown}
+use Rattle.mc_run.specs.AuditText.{Explanation, events_if_shown, explanation_lines, searched_lines}
+use Rattle.mc_run.specs.AuditText.{wrong_lines}
+use Rattle.mc_run.specs.AuditFlowText.{answer_lines, is_hidden, right_flow_lines, shown_trees_with}
+use Rattle.mc_run.specs.AuditFlowText.{with_shown_tree}
+use Rattle.mc_run.specs.AuditFlowText.{wrong_lines_or_object}
+use Rattle.mc_run.specs.MakeRun.{IsExamined, found_lines}
+use Rattle.mc_run.specs.ReplayRun.{event_lines}
+use Rattle.mc_run.specs.declared.audit_options.AuditOptions.{AuditOptions}
+use Rattle.mc_run.proofs.UniqueExamination.{IsSameFinishedTravel, IsSameExplanation}
+use Rattle.mc_run.proofs.UniqueExamination.{HaveSameFlights, HaveSameSearch}
+use Rattle.mc_run.proofs.UniqueExamination.{is_explanation-unique, examined_flights-unique}
+
+-- ---- the lines of a flow that isn't right
+
+searched_lines-same_search : (d : DomainFacts) (summary : List SummaryValue) (flow : ℕ) (f : Flow)
+    (s t : Option LanSearch) → HaveSameSearch s t
+    → searched_lines d summary flow f s ≡ searched_lines d summary flow f t
+searched_lines-same_search d summary flow f None None same = refl
+searched_lines-same_search d summary flow f None (Some b) same = absurd same
+searched_lines-same_search d summary flow f (Some a) None same = absurd same
+searched_lines-same_search d summary flow f (Some a) (Some b) same =
+    ap (λ (ls : List SearchLine).
+    search_text d summary flow f ls a.reach.sent_on.items a.reach.took_none.items) same.0
+    ∙ ap₂ (λ (sent took : List ℕ). search_text d summary flow f b.lines.items sent took) same.1 same.2
+
+events_if_shown-same_events : (travels : Bool) (t : TopologyValue) (a b : FinishedTravel)
+    → IsSameFinishedTravel a b
+    → events_if_shown travels t a.travel ≡ events_if_shown travels t b.travel
+events_if_shown-same_events true t a b same = ap (event_lines t) same.events
+events_if_shown-same_events false t a b same = refl
+
+explanation_lines-same_explanation : (d : DomainFacts) (summary : List SummaryValue) (flow : ℕ) (f : Flow)
+    (x y : Explanation) → IsSameExplanation x y
+    → explanation_lines d summary flow f x ≡ explanation_lines d summary flow f y
+explanation_lines-same_explanation d summary flow f x y same =
+    ap (λ (printed : List Cause). causes_text d summary flow f printed
+    ++ (searched_lines d summary flow f x.search ++ also_missed_text d.topology x.also)) same.printed
+    ∙ ap₂ (λ (found : List ℕ) (also : List ℕ). causes_text d summary flow f y.printed
+    ++ (found ++ also_missed_text d.topology also))
+    (searched_lines-same_search d summary flow f x.search y.search same.search) same.also
+
+wrong_lines-same_travel : (travels : Bool) (d : DomainFacts) (summary : List SummaryValue)
+    (flow : ℕ) (f : Flow)
+    (ttl : ℕ) (a b : FinishedTravel) (x y : Explanation) → IsSameFinishedTravel a b → IsSameExplanation x y
+    → wrong_lines travels d summary flow f ttl a.travel x
+    ≡ wrong_lines travels d summary flow f ttl b.travel y
+wrong_lines-same_travel travels d summary flow f ttl a b x y ended same =
+    ap (λ (w : Finding). found_lines d.topology f ttl w
+    ++ (explanation_lines d summary flow f x ++ events_if_shown travels d.topology a.travel))
+    ended.finding
+    ∙ ap₂ (λ (why : List ℕ) (es : List ℕ).
+    found_lines d.topology f ttl b.travel.finding ++ (why ++ es))
+    (explanation_lines-same_explanation d summary flow f x y same)
+    (events_if_shown-same_events travels d.topology a b ended)
+
+found_data-same_travel : (d : DomainFacts) (summary : List SummaryValue) (flow : ℕ) (f : Flow)
+    (s t : Option LanSearch) → HaveSameSearch s t
+    → search_data_if_any d summary flow f s ≡ search_data_if_any d summary flow f t
+found_data-same_travel d summary flow f None None same = refl
+found_data-same_travel d summary flow f None (Some b) same = absurd same
+found_data-same_travel d summary flow f (Some a) None same = absurd same
+found_data-same_travel d summary flow f (Some a) (Some b) same =
+    ap (λ (ls : List SearchLine).
+    search_data d summary flow f ls a.reach.sent_on.items a.reach.took_none.items) same.0
+    ∙ ap₂ (λ (sent took : List ℕ). search_data d summary flow f b.lines.items sent took) same.1 same.2
+
+why_data-same_explanation : (d : DomainFacts) (summary : List SummaryValue) (flow : ℕ) (f : Flow)
+    (x y : Explanation)
+    → IsSameExplanation x y
+    → why_data d summary flow f x.printed x.search ≡ why_data d summary flow f y.printed y.search
+why_data-same_explanation d summary flow f x y same =
+    ap₂ (λ (printed : List Cause) (found : List Data). causes_data d summary flow f printed ++ found)
+    same.printed (found_data-same_travel d summary flow f x.search y.search same.search)
+
+wrong_object-same_travel : (travels : Bool) (d : DomainFacts) (summary : List SummaryValue)
+    (flow : ℕ) (f : Flow)
+    (ttl : ℕ) (a b : FinishedTravel) (x y : Explanation) → IsSameFinishedTravel a b → IsSameExplanation x y
+    → wrong_object travels d summary flow f ttl a.travel x
+    ≡ wrong_object travels d summary flow f ttl b.travel y
+wrong_object-same_travel travels d summary flow f ttl a b x y ended same =
+    ap₂ (λ (w : Finding) (es : List Event). wrong_line d flow f ttl w es x.also
+    (why_data d summary flow f x.printed x.search) travels) ended.finding ended.events
+    ∙ ap₂ (λ (also : List ℕ) (why : List Data).
+    wrong_line d flow f ttl b.travel.finding b.travel.events.items also why travels) same.also
+    (why_data-same_explanation d summary flow f x y same)
+
+wrong_flow_lines-same_travel : (json travels : Bool) (d : DomainFacts) (summary : List SummaryValue)
+    (flow : ℕ) (f : Flow)
+    (ttl : ℕ) (a b : FinishedTravel) (x y : Explanation) → IsSameFinishedTravel a b → IsSameExplanation x y
+    → wrong_lines_or_object json travels d summary flow f ttl a.travel x
+    ≡ wrong_lines_or_object json travels d summary flow f ttl b.travel y
+wrong_flow_lines-same_travel true travels d summary flow f ttl a b x y ended same =
+    wrong_object-same_travel travels d summary flow f ttl a b x y ended same
+wrong_flow_lines-same_travel false travels d summary flow f ttl a b x y ended same =
+    wrong_lines-same_travel travels d summary flow f ttl a b x y ended same
+
+-- ---- the answer of a flow
+
+-- Two answers have the same result, the same lines, and print the same trees.
+record IsSameAnswer (o : AuditOptions) (a b : FlowAnswer) : Type 0 where
+  lines : a.lines ≡ b.lines
+  wanted : a.wanted ≡ b.wanted
+  right : is_certified a.examined ≡ is_certified b.examined
+  shown_trees : (printed : List Tree)
+      → shown_trees_with o printed a.examined a.wanted ≡ shown_trees_with o printed b.examined b.wanted
+
+-- the answers by two results of an examination
+answer_lines-same_flights : (o : AuditOptions) (whole : Bool) (d : DomainValue) (summary : List SummaryValue)
+    (printed : List Tree) (flow : ℕ) (f : Flow) (a b : ExaminedFlights) (x y : Explanation) (wanted : List ℕ)
+    → HaveSameFlights a b → IsSameExplanation x y
+    → answer_lines o whole (facts d) summary printed flow f (without_flights d flow a) x wanted
+    ≡ answer_lines o whole (facts d) summary printed flow f (without_flights d flow b) y wanted
+answer_lines-same_flights o whole d summary printed flow f (Certified xs) (Certified ys) x y wanted
+    same explained =
+    ap (λ (es : Tree). right_flow_lines o whole d.topology printed flow f es wanted) same
+answer_lines-same_flights o whole d summary printed flow f (FoundAtTtl255 a) (FoundAtTtl255 b) x y
+    wanted same explained =
+    wrong_flow_lines-same_travel o.json o.travels (facts d) summary flow f 255 a b x y same explained
+answer_lines-same_flights o whole d summary printed flow f (FoundAtFlowTtl a b) (FoundAtFlowTtl c e)
+    x y wanted same explained =
+    wrong_flow_lines-same_travel o.json o.travels (facts d) summary flow f (ttl_of d flow) b e x y
+    same.1 explained
+answer_lines-same_flights o whole d summary printed flow f (Certified xs) (FoundAtTtl255 b) x y
+    wanted same explained =
+    absurd same
+answer_lines-same_flights o whole d summary printed flow f (Certified xs) (FoundAtFlowTtl b c) x y
+    wanted same explained =
+    absurd same
+answer_lines-same_flights o whole d summary printed flow f (FoundAtTtl255 a) (Certified ys) x y
+    wanted same explained =
+    absurd same
+answer_lines-same_flights o whole d summary printed flow f (FoundAtTtl255 a) (FoundAtFlowTtl b c) x
+    y wanted same explained =
+    absurd same
+answer_lines-same_flights o whole d summary printed flow f (FoundAtFlowTtl a b) (Certified ys) x y
+    wanted same explained =
+    absurd same
+answer_lines-same_flights o whole d summary printed flow f (FoundAtFlowTtl a b) (FoundAtTtl255 c) x
+    y wanted same explained =
+    absurd same
+
+-- whether they are right, and the printed trees
+is_certified-same_flights : (d : DomainValue) (flow : ℕ) (a b : ExaminedFlights) → HaveSameFlights a b
+    → is_certified (without_flights d flow a) ≡ is_certified (without_flights d flow b)
+is_certified-same_flights d flow (Certified xs) (Certified ys) same = refl
+is_certified-same_flights d flow (FoundAtTtl255 a) (FoundAtTtl255 b) same = refl
+is_certified-same_flights d flow (FoundAtFlowTtl a b) (FoundAtFlowTtl c e) same = refl
+is_certified-same_flights d flow (Certified xs) (FoundAtTtl255 b) same = absurd same
+is_certified-same_flights d flow (Certified xs) (FoundAtFlowTtl b c) same = absurd same
+is_certified-same_flights d flow (FoundAtTtl255 a) (Certified ys) same = absurd same
+is_certified-same_flights d flow (FoundAtTtl255 a) (FoundAtFlowTtl b c) same = absurd same
+is_certified-same_flights d flow (FoundAtFlowTtl a b) (Certified ys) same = absurd same
+is_certified-same_flights d flow (FoundAtFlowTtl a b) (FoundAtTtl255 c) same = absurd same
+
+shown_trees_with-same_flights : (o : AuditOptions) (d : DomainValue) (flow : ℕ)
+    (a b : ExaminedFlights) (wanted : List ℕ)
+    (printed : List Tree) → HaveSameFlights a b
+    → shown_trees_with o printed (without_flights d flow a) wanted
+    ≡ shown_trees_with o printed (without_flights d flow b) wanted
+shown_trees_with-same_flights o d flow (Certified xs) (Certified ys) wanted printed same =
+    ap (λ (es : Tree). with_shown_tree o.json (is_hidden o.faults wanted) printed es) same
+shown_trees_with-same_flights o d flow (FoundAtTtl255 a) (FoundAtTtl255 b) wanted printed same = refl
+shown_trees_with-same_flights o d flow (FoundAtFlowTtl a b) (FoundAtFlowTtl c e) wanted printed same = refl
+shown_trees_with-same_flights o d flow (Certified xs) (FoundAtTtl255 b) wanted printed same = absurd same
+shown_trees_with-same_flights o d flow (Certified xs) (FoundAtFlowTtl b c) wanted printed same = absurd same
+shown_trees_with-same_flights o d flow (FoundAtTtl255 a) (Certified ys) wanted printed same = absurd same
+shown_trees_with-same_flights o d flow (FoundAtTtl255 a) (FoundAtFlowTtl b c) wanted printed same =
+    absurd same
+shown_trees_with-same_flights o d flow (FoundAtFlowTtl a b) (Certified ys) wanted printed same = absurd same
+shown_trees_with-same_flights o d flow (FoundAtFlowTtl a b) (FoundAtTtl255 c) wanted printed same =
+    absurd same
+
+listed_flow-unique : (fs : List Flow) (flow : ℕ) (f g : Flow) → slice_get fs flow ≡ Some f
+    → slice_get fs flow ≡ Some g → f ≡ g
+listed_flow-unique fs flow f g p q = let both : ◌≡◌ {A = Option Flow} (Some f) (Some g) = sym p ∙ q in cc
+
+same_answer-flow_answers : (v : AuditedValue) (o : AuditOptions) (printed : List Tree) (flow : ℕ)
+    (a b : FlowAnswer)
+    → IsDomain v.domain → IsFlowAnswer v o printed flow a → IsFlowAnswer v o printed flow b
+    → IsSameAnswer o a b
+same_answer-flow_answers v o printed flow a b ok p q =
+    let d = v.domain in
+    let listed = listed_flow-unique d.topology.flows flow p.listed q.listed p.matches q.matches in
+    let examined = λ (x : Examined) (w : ExaminedFlights) (is : x ≡ without_flights d flow w)
+    (e : IsExamined d flow x). subst (λ (y : Examined). IsExamined d flow y) is e in
+    let flights = examined_flights-unique d flow p.flights q.flights p.has_flights q.has_flights
+    (examined a.examined p.flights p.examined p.checked.examined)
+    (examined b.examined q.flights q.examined q.checked.examined) in
+    let explained = is_explanation-unique d v.summary (excluded v) (is_whole v) flow p.flights
+    q.flights p.explanation
+    q.explanation ok flights p.explained q.explained in
+    let wanted : a.wanted ≡ b.wanted = p.wanted ∙ sym q.wanted in
+    let lines = λ (f : Flow) (x : Examined) (w : List ℕ) (y : Explanation).
+    answer_lines o (is_whole v) (facts d) v.summary printed flow f x y w in
+    record {
+      lines = p.spelled
+          ∙ ap₂ (λ (f : Flow) (w : List ℕ). lines f a.examined w p.explanation) listed wanted
+          ∙ ap (λ (x : Examined). lines q.listed x b.wanted p.explanation) p.examined
+          ∙ answer_lines-same_flights o (is_whole v) d v.summary printed flow q.listed p.flights
+          q.flights p.explanation
+          q.explanation b.wanted flights explained
+          ∙ ap (λ (x : Examined). lines q.listed x b.wanted q.explanation) (sym q.examined)
+          ∙ sym q.spelled;
+      wanted = wanted;
+      right = ap is_certified p.examined ∙ is_certified-same_flights d flow p.flights q.flights flights
+          ∙ ap is_certified (sym q.examined);
+      shown_trees = λ ts.
+          ap₂ (λ (x : Examined) (w : List ℕ). shown_trees_with o ts x w) p.examined wanted
+          ∙ shown_trees_with-same_flights o d flow p.flights q.flights b.wanted ts flights
+          ∙ ap (λ (x : Examined). shown_trees_with o ts x b.wanted) (sym q.examined);
+    }
+
+-- ---- the answers of all flows
+
+-- each flow has the same answer
+abbrev HaveSameAnswers : AuditOptions → List FlowAnswer → List FlowAnswer → Type 0
+HaveSameAnswers o [] [] = ⊤
+HaveSameAnswers o (a ∷ xs) (b ∷ ys) = IsSameAnswer o a b × HaveSameAnswers o xs ys
+HaveSameAnswers o _ _ = ⊥
+
+-- the answers from flow k on, after these trees were printed
+abbrev AreAnswersFrom : AuditedValue → AuditOptions → ℕ → List Tree → List FlowAnswer → Type 0
+AreAnswersFrom v o k printed answers =
+    (i : ℕ) (a : FlowAnswer) → slice_get answers i ≡ Some a
+    → IsFlowAnswer v o
+    (fold (λ (ts : List Tree) (b : FlowAnswer). shown_trees_with o ts b.examined b.wanted) printed
+    (take i answers)) (k + i) a
+
+are_answers_from-first : (v : AuditedValue) (o : AuditOptions) (answers : List FlowAnswer)
+    → ((flow : ℕ) (a : FlowAnswer) → slice_get answers flow ≡ Some a
+    → IsFlowAnswer v o (trees_shown o (take flow answers)) flow a) → AreAnswersFrom v o 0 [] answers
+are_answers_from-first v o answers each flow a there =
+    let place : flow ≡ 0 + flow = omega arith in
+    subst (λ (n : ℕ). IsFlowAnswer v o (trees_shown o (take flow answers)) n a) place (each flow a there)
+
+are_answers_from-next : (v : AuditedValue) (o : AuditOptions) (k : ℕ) (printed : List Tree) (a : FlowAnswer)
+    (answers : List FlowAnswer) → AreAnswersFrom v o k printed (a ∷ answers)
+    → AreAnswersFrom v o (suc k) (shown_trees_with o printed a.examined a.wanted) answers
+are_answers_from-next v o k printed a answers from i b there =
+    let place : k + suc i ≡ suc k + i = omega arith in
+    subst (λ (n : ℕ). IsFlowAnswer v o
+    (fold (λ (ts : List Tree) (c : FlowAnswer). shown_trees_with o ts c.examined c.wanted)
+    (shown_trees_with o printed a.examined a.wanted) (take i answers)) n b) place (from (suc i) b there)
+
+have_same_answers-flow_answers : (v : AuditedValue) (o : AuditOptions) (k : ℕ) (printed : List Tree)
+    (xs ys : List FlowAnswer) → IsDomain v.domain → length xs ≡ length ys → AreAnswersFrom v o k printed xs
+    → AreAnswersFrom v o k printed ys → HaveSameAnswers o xs ys
+have_same_answers-flow_answers v o k printed [] [] ok size p q = tt
+have_same_answers-flow_answers v o k printed [] (b ∷ ys) ok size p q = absurd (omega (arith, size))
+have_same_answers-flow_answers v o k printed (a ∷ xs) [] ok size p q = absurd (omega (arith, size))
+have_same_answers-flow_answers v o k printed (a ∷ xs) (b ∷ ys) ok size p q =
+    let first = same_answer-flow_answers v o printed (k + 0) a b ok (p 0 a refl) (q 0 b refl) in
+    let next = are_answers_from-next v o k printed a xs p in
+    let more : AreAnswersFrom v o (suc k) (shown_trees_with o printed a.examined a.wanted) ys =
+    subst (λ (ts : List Tree). AreAnswersFrom v o (suc k) ts ys) (sym (first.shown_trees printed))
+    (are_answers_from-next v o k printed b ys q) in (
+      first,
+      have_same_answers-flow_answers v o (suc k) (shown_trees_with o printed a.examined a.wanted) xs ys ok
+          (omega (arith, size)) next more,
+    )
+
+lines-same_answers : (o : AuditOptions) (xs ys : List FlowAnswer) → HaveSameAnswers o xs ys
+    → flat_map (λ (a : FlowAnswer). a.lines) xs ≡ flat_map (λ (a : FlowAnswer). a.lines) ys
+lines-same_answers o [] [] same = refl
+lines-same_answers o [] (b ∷ ys) same = absurd same
+lines-same_answers o (a ∷ xs) [] same = absurd same
+lines-same_answers o (a ∷ xs) (b ∷ ys) same =
+    ap₂ (λ (xs ys : List ℕ). xs ++ ys) same.0.lines (lines-same_answers o xs ys same.1)
+
+are_right-same_answers : (o : AuditOptions) (xs ys : List FlowAnswer) → HaveSameAnswers o xs ys
+    → are_right xs ≡ are_right ys
+are_right-same_answers o [] [] same = refl
+are_right-same_answers o [] (b ∷ ys) same = absurd same
+are_right-same_answers o (a ∷ xs) [] same = absurd same
+are_right-same_answers o (a ∷ xs) (b ∷ ys) same =
+    ap₂ (λ (x y : Bool). x && y) same.0.right (are_right-same_answers o xs ys same.1)
+
+count-cons_same : (x y : Bool) (a b : FlowAnswer) (xs ys : List FlowAnswer) → x ≡ y
+    → length xs ≡ length ys → length (cond x (a ∷ xs) xs) ≡ length (cond y (b ∷ ys) ys)
+count-cons_same true true a b xs ys same size = ap suc size
+count-cons_same true false a b xs ys same size = absurd cc
+count-cons_same false true a b xs ys same size = absurd cc
+count-cons_same false false a b xs ys same size = size
+
+count-same_answers : (o : AuditOptions) (p : FlowAnswer → Bool) (xs ys : List FlowAnswer)
+    → ((a b : FlowAnswer) → IsSameAnswer o a b → p a ≡ p b) → HaveSameAnswers o xs ys
+    → count p xs ≡ count p ys
+count-same_answers o p [] [] tests same = refl
+count-same_answers o p [] (b ∷ ys) tests same = absurd same
+count-same_answers o p (a ∷ xs) [] tests same = absurd same
+count-same_answers o p (a ∷ xs) (b ∷ ys) tests same =
+    count-cons_same (p a) (p b) a b (filter p xs) (filter p ys) (tests a b same.0)
+    (count-same_answers o p xs ys tests same.1)
+
+-- ---- the text
+
+-- the lines after those of the flows
+end_lines-same_answers : (v : AuditedValue) (o : AuditOptions) (xs ys : List FlowAnswer) → length xs
+    ≡ length ys
+    → HaveSameAnswers o xs ys → is_yes v xs ≡ is_yes v ys
+    → end_lines o v.domain.topology v.summary (excluded v) (is_yes v xs) xs
+    ++ verdict_line o.json (is_yes v xs)
+    ≡ end_lines o v.domain.topology v.summary (excluded v) (is_yes v ys) ys
+    ++ verdict_line o.json (is_yes v ys)
+end_lines-same_answers v o xs ys flows same all =
+    let end = λ (all : Bool) (n r w u : ℕ).
+    end_text_or_objects o v.domain.topology v.summary (excluded v) all n r w u ++ verdict_line o.json all in
+    let right = count-same_answers o is_right xs ys (λ a b s. s.right) same in
+    let wrong = count-same_answers o is_wrong xs ys (λ a b s. ap not s.right) same in
+    let unwanted = count-same_answers o is_unwanted xs ys
+    (λ a b s. ap₂ (λ (x : Bool) (w : List ℕ). x && (length w == 0)) s.right s.wanted) same in
+    ap (λ (all : Bool).
+    end all (length xs) (count is_right xs) (count is_wrong xs) (count is_unwanted xs)) all
+    ∙ ap (λ (n : ℕ). end (is_yes v ys) n (count is_right xs) (count is_wrong xs)
+    (count is_unwanted xs)) flows
+    ∙ ap (λ (n : ℕ). end (is_yes v ys) (length ys) n (count is_wrong xs) (count is_unwanted xs))
+    right
+    ∙ ap₂ (λ (w u : ℕ). end (is_yes v ys) (length ys) (count is_right ys) w u) wrong unwanted
+
+is_audited-unique : (v : AuditedValue) (o : AuditOptions) (all every : Bool) (text other : List ℕ)
+    → IsDomain v.domain → IsAudited v o all text → IsAudited v o every other
+    → (all ≡ every) × (text ≡ other)
+is_audited-unique v o all every text other ok p q =
+    let flows : length p.answers ≡ length q.answers =
+    p.are_answers.count ∙ sym q.are_answers.count in
+    let same = have_same_answers-flow_answers v o 0 [] p.answers q.answers ok flows
+    (are_answers_from-first v o p.answers p.are_answers.each)
+    (are_answers_from-first v o q.answers q.are_answers.each) in
+    let all : is_yes v p.answers ≡ is_yes v q.answers =
+    ap (λ (b : Bool). is_whole v && b) (are_right-same_answers o p.answers q.answers same) in
+    let begin = begin_lines o (facts v.domain) (excluded v) in (
+      p.answer ∙ all ∙ sym q.answer,
+      p.spelled
+          ∙ ap₂ (λ (lines end : List ℕ). begin ++ (lines ++ end))
+          (lines-same_answers o p.answers q.answers same)
+          (end_lines-same_answers v o p.answers q.answers flows same all)
+          ∙ sym q.spelled,
+    )
+
+-- ---- the files
+
+-- One folder's files and one topology have at most one list of summaries.
+abbrev HasOneListOfSummaries : Type 0
+HasOneListOfSummaries =
+    (all : Bool) (files : List FileText) (t : TopologyValue) (a b : List SummaryValue)
+    → AreSummariesOf all files t a → AreSummariesOf all files t b → a ≡ b
+
+means_audited-unique : HasOneListOfSummaries → (o : AuditOptions) (names : List (List ℕ))
+    (files : List FileText)
+    (v w : AuditedValue) → MeansAudited o names files v → MeansAudited o names files w → v ≡ w
+means_audited-unique one_list o names files v w p q =
+    let domain = FilesMeanDomain-unique (files_with_exclusions names files) v.domain w.domain
+    p.means q.means in
+    let summary = one_list o.unlisted (files_with_exclusions names files) v.domain.topology v.summary
+    w.summary p.summary
+    (subst (λ (d : DomainValue). AreSummariesOf o.unlisted (files_with_exclusions names files)
+    d.topology w.summary)
+    (sym domain) q.summary) in
+    let without = p.without ∙ sym q.without in
+    λ i. record { domain = domain i; summary = summary i; without = without i }
+
+-- one folder's files and one set of options have one text and one answer
+pub is_audit_text-unique : HasOneListOfSummaries → (names : List (List ℕ)) (files : List FileText)
+    (o : AuditOptions)
+    (all every : Bool) (text other : List ℕ) → IsAuditText o names files all text
+    → IsAuditText o names files every other → (all ≡ every) × (text ≡ other)
+is_audit_text-unique one_list names files o all every text other p q =
+    let same = means_audited-unique one_list o names files q.domain p.domain q.means p.means in
+    is_audited-unique p.domain o all every text other p.means.means.rules p.holds
+    (subst (λ (v : AuditedValue). IsAudited v o every other) same q.holds)

@@ -1,0 +1,353 @@
+-- The result of examining a flow is determined: its entries, or the travels and their explanation.
+use Rattle.std.proofs.Common.{◌≡◌, ◌≢◌, ℕ, suc, ◌+◌, ◌<◌, inl, inr, Bool, true, false}
+use Rattle.std.proofs.Common.{List, [], ◌∷◌, length, map, get_or, Option, Some, None}
+use Rattle.std.proofs.Common.{refl, sym, ap, ap₂, subst, ◌∙◌, arith}
+use Rattle.std.specs.Prelude.{◌↔◌, IsTrue, ⊤}
+use Rattle.std.specs.List.Sorted.{IsStrictlyIncreasing}
+use Rattle.std.proofs.lemmas.Bool.{false≢true}
+use Rattle.mc_tables.specs.Summary.{SummaryValue}
+use Rattle.mc_theory.specs.Certificates.{Entry, IsReordering, IsRight}
+use Rattle.mc_theory.specs.Events.{Event, events}
+use Rattle.mc_theory.specs.Findings.{Choices, Finding as FindingValue, IsTravel, finding, handles}
+use Rattle.mc_theory.specs.Findings.{numbers_left}
+use Rattle.mc_theory.specs.Flights.{Flight, run, start, step}
+use Rattle.mc_theory.specs.Lists.{In}
+use Rattle.mc_theory.specs.CertificateOfCopies.{entries_of}
+use Rattle.mc_theory.specs.Nets.{Net}
+use Rattle.mc_forward.specs.Domains.{DomainValue, IsDomain, net_of, ttl_of}
+use Rattle.mc_forward.specs.ListedTables.{DomainFacts, facts}
+use Rattle.mc_forward.proofs.DomainLemmas.{is_net-net_of}
+use Rattle.mc_replay.specs.FindingValues.{finding_value}
+use Rattle.mc_replay.specs.Travels.{IsTravelTo}
+use Rattle.mc_replay.specs.declared.finding.Finding.{Finding}
+use Rattle.mc_replay.specs.declared.finding.Finding.TheVariants.{Clean, Duplicate, Loop, Stray}
+use Rattle.mc_replay.specs.declared.finding.Finding.TheVariants.{Missed}
+use Rattle.mc_replay.specs.declared.travel.FinishedTravel.{FinishedTravel}
+use Rattle.mc_maker.specs.Examined.{AreEntriesOfCleanTravel, first_choices}
+use Rattle.mc_maker.specs.ExaminedFlights.{IsFinishedTravelOf, HasExaminedFlights, without_flights}
+use Rattle.mc_maker.specs.declared.examined_flights.ExaminedFlights.{ExaminedFlights}
+use Rattle.mc_maker.specs.declared.examined_flights.ExaminedFlights.TheVariants.{Certified}
+use Rattle.mc_maker.specs.declared.examined_flights.ExaminedFlights.TheVariants.{FoundAtTtl255}
+use Rattle.mc_maker.specs.declared.examined_flights.ExaminedFlights.TheVariants.{FoundAtFlowTtl}
+use Rattle.mc_explain.specs.Explained.{ExplainsAtFlowTtl, ExplainsFinding, IsExplained}
+use Rattle.mc_explain.specs.SearchLine.{Search}
+use Rattle.mc_explain.specs.WantedText.{missed_besides}
+use Rattle.mc_explain.specs.declared.searching.LanSearch.{LanSearch}
+use Rattle.mc_explain.specs.declared.causes.Cause.{Cause}
+use Rattle.mc_explain.proofs.UniqueCauseLemmas.{causes-are_unique}
+use Rattle.mc_run.specs.AuditReasons.{IsExplanation, IsSearchAt255, IsSearchIfMissed, also_missed}
+use Rattle.mc_run.specs.AuditReasons.{search_context}
+use Rattle.mc_run.specs.AuditReasons.{without_remedies}
+use Rattle.mc_run.specs.AuditText.{Explanation}
+use Rattle.mc_run.specs.MakeRun.{IsExamined}
+
+-- ---- entries by ascending numbers of their LANs
+
+is_strictly_increasing-rest : (x : ℕ) (xs : List ℕ) → IsStrictlyIncreasing (x ∷ xs) → IsStrictlyIncreasing xs
+is_strictly_increasing-rest x xs up k within =
+    let next : suc k + 1 ≡ suc (k + 1) = omega arith in
+    subst (λ (n : ℕ). get_or xs k 0 < get_or (x ∷ xs) n 0) next (up (suc k) (omega (arith, within)))
+
+-- each later entry has a later LAN
+strictly_increasing-later_greater : (x : Entry) (es : List Entry)
+    → IsStrictlyIncreasing (map (λ (e : Entry). e.lan) (x ∷ es))
+    → (e : Entry) → In e es → x.lan < e.lan
+strictly_increasing-later_greater x [] up e there = absurd there
+strictly_increasing-later_greater x (y ∷ es) up e (inl same) = subst (λ (z : Entry). x.lan < z.lan)
+    same (up 0 (omega arith))
+strictly_increasing-later_greater x (y ∷ es) up e (inr there) =
+    let first : x.lan < y.lan = up 0 (omega arith) in
+    let more : y.lan < e.lan =
+    strictly_increasing-later_greater y es (is_strictly_increasing-rest x.lan
+    (map (λ (z : Entry). z.lan) (y ∷ es)) up) e there in
+    omega (arith, first, more)
+
+strictly_increasing-same_heads : (x y : Entry) (xs ys : List Entry)
+    → IsStrictlyIncreasing (map (λ (e : Entry). e.lan) (x ∷ xs))
+    → IsStrictlyIncreasing (map (λ (e : Entry). e.lan) (y ∷ ys))
+    → In x (y ∷ ys) → In y (x ∷ xs) → x ≡ y
+strictly_increasing-same_heads x y xs ys up rises (inl same) there = sym same
+strictly_increasing-same_heads x y xs ys up rises (inr p) (inl same) = same
+strictly_increasing-same_heads x y xs ys up rises (inr p) (inr q) =
+    let less : y.lan < x.lan = strictly_increasing-later_greater y ys rises x p in
+    let more : x.lan < y.lan = strictly_increasing-later_greater x xs up y q in
+    absurd (omega (arith, less, more))
+
+-- the entries after the first one are the same in both lists
+strictly_increasing-same_tails : (x y e : Entry) (ys : List Entry) → x ≡ y → x.lan < e.lan
+    → In e (y ∷ ys) → In e ys
+strictly_increasing-same_tails x y e ys first less (inl same) =
+    let lan : x.lan ≡ e.lan = ap (λ (z : Entry). z.lan) (first ∙ same) in
+    absurd (omega (arith, less, lan))
+strictly_increasing-same_tails x y e ys first less (inr there) = there
+
+entries_by_lan-unique : (xs ys : List Entry) → IsStrictlyIncreasing (map (λ (e : Entry). e.lan) xs)
+    → IsStrictlyIncreasing (map (λ (e : Entry). e.lan) ys) → ((e : Entry) → In e xs → In e ys)
+    → ((e : Entry) → In e ys → In e xs) → xs ≡ ys
+entries_by_lan-unique [] [] up rises to from = refl
+entries_by_lan-unique [] (y ∷ ys) up rises to from = absurd (from y (inl refl))
+entries_by_lan-unique (x ∷ xs) [] up rises to from = absurd (to x (inl refl))
+entries_by_lan-unique (x ∷ xs) (y ∷ ys) up rises to from =
+    let first = strictly_increasing-same_heads x y xs ys up rises (to x (inl refl)) (from y (inl refl)) in
+    let more = entries_by_lan-unique xs ys (is_strictly_increasing-rest x.lan
+    (map (λ (e : Entry). e.lan) xs) up)
+    (is_strictly_increasing-rest y.lan (map (λ (e : Entry). e.lan) ys) rises)
+    (λ e there. strictly_increasing-same_tails x y e ys first
+    (strictly_increasing-later_greater x xs up e there) (to e (inr there)))
+    (λ e there. strictly_increasing-same_tails y x e xs (sym first)
+    (strictly_increasing-later_greater y ys rises e there) (from e (inr there))) in
+    λ i. first i ∷ more i
+
+-- ---- a travel
+
+finding-none_before_end : (o : Option FindingValue) (x : FindingValue) → o ≡ Some x → o ≡ None → ⊥
+finding-none_before_end None x shows none = absurd cc
+finding-none_before_end (Some y) x shows none = absurd cc
+
+is_travel-unique : (n : Net) (count : ℕ) (numbers : List ℕ) (last : Bool) (is js : List ℕ) (f : Flight)
+    (x y : FindingValue) → IsTravel n count numbers last is f x
+    → IsTravel n count numbers last js f y → (is ≡ js) × (x ≡ y)
+is_travel-unique n count numbers last [] [] f x y p q =
+    let both : ◌≡◌ {A = Option FindingValue} (Some x) (Some y) = sym p ∙ q in (refl, cc)
+is_travel-unique n count numbers last [] (j ∷ js) f x y p q =
+    absurd (finding-none_before_end (finding n count f) x p q.0)
+is_travel-unique n count numbers last (i ∷ is) [] f x y p q =
+    absurd (finding-none_before_end (finding n count f) y q p.0)
+is_travel-unique n count numbers last (i ∷ is) (j ∷ js) f x y p q =
+    let same : i ≡ j = p.1 ∙ sym q.1 in
+    let more = is_travel-unique n count (numbers_left numbers) last is js (step n j f) x y
+    (subst (λ (k : ℕ). IsTravel n count (numbers_left numbers) last is (step n k f) x) same p.2) q.2 in
+    (λ k. same k ∷ more.0 k, more.1)
+
+-- its events, its last flight and its finding
+is_travel_to-unique : (n : Net) (lans : ℕ) (choices : Choices) (f g h : Flight) (es fs : List Event)
+    (x y : FindingValue) → IsTravelTo n lans choices f es g x → IsTravelTo n lans choices f fs h y
+    → (es ≡ fs) × (g ≡ h) × (x ≡ y)
+is_travel_to-unique n lans choices f g h es fs x y p q =
+    let same = is_travel-unique n lans choices.numbers choices.last p.picks q.picks f x y p.travel
+    q.travel in (
+      p.events ∙ ap (λ (is : List ℕ). events n is f) same.0 ∙ sym q.events,
+      p.ends ∙ ap (λ (is : List ℕ). run n (handles is) f) same.0 ∙ sym q.ends,
+      same.1,
+    )
+
+-- the code's finding by its value
+abbrev finding_of_value : FindingValue → Finding
+finding_of_value FindingValue.Clean = Clean
+finding_of_value (FindingValue.Duplicate lan) = Duplicate lan
+finding_of_value (FindingValue.Loop lan) = Loop lan
+finding_of_value (FindingValue.Stray router vif) = Stray router vif
+finding_of_value (FindingValue.Missed lan) = Missed lan
+
+finding_value-injective : (x : Finding) → finding_of_value (finding_value x) ≡ x
+finding_value-injective Clean = refl
+finding_value-injective (Duplicate lan) = refl
+finding_value-injective (Loop lan) = refl
+finding_value-injective (Stray router vif) = refl
+finding_value-injective (Missed lan) = refl
+
+-- Two travels have the same events, the same finding, and the same copies.
+pub record IsSameFinishedTravel (a b : FinishedTravel) : Type 0 where
+  pub events : a.travel.events.items ≡ b.travel.events.items
+  pub finding : a.travel.finding ≡ b.travel.finding
+  pub flight : a.flight.flight ≡ b.flight.flight
+
+is_finished_travel-unique : (d : DomainValue) (flow ttl : ℕ) (a b : FinishedTravel)
+    → IsFinishedTravelOf d flow ttl a
+    → IsFinishedTravelOf d flow ttl b → IsSameFinishedTravel a b
+is_finished_travel-unique d flow ttl a b p q =
+    let same = is_travel_to-unique (net_of d flow) (length d.topology.lans) first_choices
+    (start (net_of d flow) ttl) a.flight.flight b.flight.flight a.travel.events.items
+    b.travel.events.items (finding_value a.travel.finding) (finding_value b.travel.finding) p.run
+    q.run in
+    record {
+      events = same.0;
+      finding = sym (finding_value-injective a.travel.finding) ∙ ap finding_of_value same.2
+          ∙ finding_value-injective b.travel.finding;
+      flight = same.1;
+    }
+
+-- ---- an examination
+
+-- Two examinations have the same result.
+abbrev pub HaveSameFlights : ExaminedFlights → ExaminedFlights → Type 0
+HaveSameFlights (Certified xs) (Certified ys) = xs.items ≡ ys.items
+HaveSameFlights (FoundAtTtl255 a) (FoundAtTtl255 b) = IsSameFinishedTravel a b
+HaveSameFlights (FoundAtFlowTtl a b) (FoundAtFlowTtl c e) = IsSameFinishedTravel a c
+    × IsSameFinishedTravel b e
+HaveSameFlights _ _ = ⊥
+
+-- the entries are those of one travel's copies
+entries_of_clean_travel-unique : (d : DomainValue) (flow : ℕ) (xs ys : List Entry)
+    → AreEntriesOfCleanTravel d flow xs
+    → AreEntriesOfCleanTravel d flow ys → IsStrictlyIncreasing (map (λ (e : Entry). e.lan) xs)
+    → IsStrictlyIncreasing (map (λ (e : Entry). e.lan) ys) → xs ≡ ys
+entries_of_clean_travel-unique d flow xs ys p q up rises =
+    let n = net_of d flow in
+    let same = is_travel_to-unique n (length d.topology.lans) first_choices (start n 255) p.flight q.flight
+    p.travel.events.items q.travel.events.items (finding_value p.travel.finding)
+    (finding_value q.travel.finding) p.run q.run in
+    let to_flight : IsReordering (entries_of n q.flight.carried) xs =
+    subst (λ (f : Flight). IsReordering (entries_of n f.carried) xs) same.1 p.entries in
+    entries_by_lan-unique xs ys up rises (λ e there. q.entries.to e (to_flight.from e there))
+    (λ e there. to_flight.to e (q.entries.from e there))
+
+-- one that isn't right isn't certified
+certified-not_wrong : (W : Type 0) → IsTrue true ↔ W → IsTrue false ↔ W → ⊥
+certified-not_wrong W right wrong = false≢true (wrong.1 (right.0 refl))
+
+-- a fault at TTL 255 isn't one that is found at the flow's TTL only
+fault_at_255-not_at_flow_ttl : (d : DomainValue) (flow : ℕ) (a b : FinishedTravel)
+    → IsFinishedTravelOf d flow 255 a
+    → IsFinishedTravelOf d flow 255 b → finding_value a.travel.finding ≢ FindingValue.Clean
+    → finding_value b.travel.finding ≡ FindingValue.Clean → ⊥
+fault_at_255-not_at_flow_ttl d flow a b p q fault none =
+    let same = is_finished_travel-unique d flow 255 a b p q in fault (ap finding_value same.finding ∙ none)
+
+pub examined_flights-unique : (d : DomainValue) (flow : ℕ) (a b : ExaminedFlights)
+    → HasExaminedFlights d flow a → HasExaminedFlights d flow b
+    → IsExamined d flow (without_flights d flow a) → IsExamined d flow (without_flights d flow b)
+    → HaveSameFlights a b
+examined_flights-unique d flow (Certified xs) (Certified ys) p q x y =
+    entries_of_clean_travel-unique d flow xs.items ys.items x.made y.made x.ascending y.ascending
+examined_flights-unique d flow (Certified xs) (FoundAtTtl255 b) p q x y =
+    absurd (certified-not_wrong (IsRight (net_of d flow)) x.right y.right)
+examined_flights-unique d flow (Certified xs) (FoundAtFlowTtl b c) p q x y =
+    absurd (certified-not_wrong (IsRight (net_of d flow)) x.right y.right)
+examined_flights-unique d flow (FoundAtTtl255 a) (Certified ys) p q x y =
+    absurd (certified-not_wrong (IsRight (net_of d flow)) y.right x.right)
+examined_flights-unique d flow (FoundAtTtl255 a) (FoundAtTtl255 b) p q x y =
+    is_finished_travel-unique d flow 255 a b p q
+examined_flights-unique d flow (FoundAtTtl255 a) (FoundAtFlowTtl b c) p q x y =
+    absurd (fault_at_255-not_at_flow_ttl d flow a b p q.0 x.fault q.1)
+examined_flights-unique d flow (FoundAtFlowTtl a b) (Certified ys) p q x y =
+    absurd (certified-not_wrong (IsRight (net_of d flow)) y.right x.right)
+examined_flights-unique d flow (FoundAtFlowTtl a b) (FoundAtTtl255 c) p q x y =
+    absurd (fault_at_255-not_at_flow_ttl d flow c a q p.0 y.fault p.1)
+examined_flights-unique d flow (FoundAtFlowTtl a b) (FoundAtFlowTtl c e) p q x y = (
+  is_finished_travel-unique d flow 255 a c p.0 q.0,
+  is_finished_travel-unique d flow
+      (ttl_of d flow) b e p.2 q.2,
+)
+
+-- ---- the explanation
+
+is_explained-same_flights : (d : DomainValue) (flow : ℕ) (a b : ExaminedFlights)
+    (printed : List Cause) → HaveSameFlights a b
+    → IsExplained d flow a printed → IsExplained d flow b printed
+is_explained-same_flights d flow (Certified xs) (Certified ys) printed same is = is
+is_explained-same_flights d flow (FoundAtTtl255 a) (FoundAtTtl255 b) printed same is =
+    let n = net_of d flow in
+    let flight = subst (λ (f : Flight). ExplainsFinding n f (finding_value a.travel.finding) printed)
+    same.flight is in
+    subst (λ (x : Finding). ExplainsFinding n b.flight.flight (finding_value x) printed) same.finding
+    flight
+is_explained-same_flights d flow (FoundAtFlowTtl a b) (FoundAtFlowTtl c e) printed same is =
+    let n = net_of d flow in
+    let greatest = subst (λ (f : Flight).
+    ExplainsAtFlowTtl n f b.flight.flight (finding_value b.travel.finding) printed) same.0.flight is in
+    let least = subst (λ (f : Flight).
+    ExplainsAtFlowTtl n c.flight.flight f (finding_value b.travel.finding) printed) same.1.flight
+    greatest in
+    subst (λ (x : Finding).
+    ExplainsAtFlowTtl n c.flight.flight e.flight.flight (finding_value x) printed) same.1.finding least
+is_explained-same_flights d flow (Certified xs) (FoundAtTtl255 b) printed same is = absurd same
+is_explained-same_flights d flow (Certified xs) (FoundAtFlowTtl b c) printed same is = absurd same
+is_explained-same_flights d flow (FoundAtTtl255 a) (Certified ys) printed same is = absurd same
+is_explained-same_flights d flow (FoundAtTtl255 a) (FoundAtFlowTtl b c) printed same is = absurd same
+is_explained-same_flights d flow (FoundAtFlowTtl a b) (Certified ys) printed same is = absurd same
+is_explained-same_flights d flow (FoundAtFlowTtl a b) (FoundAtTtl255 c) printed same is = absurd same
+
+-- Two searches are the same.
+abbrev pub HaveSameSearch : Option LanSearch → Option LanSearch → Type 0
+HaveSameSearch None None = ⊤
+HaveSameSearch (Some a) (Some b) =
+    (a.lines.items ≡ b.lines.items) × (a.reach.sent_on.items ≡ b.reach.sent_on.items)
+    × (a.reach.took_none.items ≡ b.reach.took_none.items)
+HaveSameSearch _ _ = ⊥
+
+is_search-none : (a b : Option LanSearch) → a ≡ None → b ≡ None → HaveSameSearch a b
+is_search-none None None p q = tt
+is_search-none None (Some b) p q = absurd cc
+is_search-none (Some a) None p q = absurd cc
+is_search-none (Some a) (Some b) p q = absurd cc
+
+is_searched-unique : (s : Search) (es : List Event) (x : Finding) (a b : Option LanSearch)
+    → IsSearchIfMissed s es x a → IsSearchIfMissed s es x b → HaveSameSearch a b
+is_searched-unique s es Clean a b p q = is_search-none a b p q
+is_searched-unique s es (Duplicate lan) a b p q = is_search-none a b p q
+is_searched-unique s es (Loop lan) a b p q = is_search-none a b p q
+is_searched-unique s es (Stray router vif) a b p q = is_search-none a b p q
+is_searched-unique s es (Missed lan) None b p q = absurd p
+is_searched-unique s es (Missed lan) (Some a) None p q = absurd q
+is_searched-unique s es (Missed lan) (Some a) (Some b) p q =
+    (p.lines ∙ sym q.lines, p.sent_on ∙ sym q.sent_on, p.took_none ∙ sym q.took_none)
+
+is_search_if_missed-unique : (d : DomainFacts) (summary : List SummaryValue) (excluded : List Bool) (flow : ℕ)
+    (a b : ExaminedFlights) (s t : Option LanSearch) → HaveSameFlights a b
+    → IsSearchAt255 d summary excluded flow a s
+    → IsSearchAt255 d summary excluded flow b t → HaveSameSearch s t
+is_search_if_missed-unique d summary excluded flow (Certified xs) (Certified ys) s t same p q =
+    is_search-none s t p q
+is_search_if_missed-unique d summary excluded flow (FoundAtTtl255 a) (FoundAtTtl255 b) s t same p q =
+    let by = λ (f : Flight). search_context d summary excluded flow f.carried in
+    let flight = subst (λ (f : Flight).
+    IsSearchIfMissed (by f) a.travel.events.items a.travel.finding s) same.flight p in
+    let seen = subst (λ (es : List Event).
+    IsSearchIfMissed (by b.flight.flight) es a.travel.finding s) same.events flight in
+    let found = subst (λ (x : Finding).
+    IsSearchIfMissed (by b.flight.flight) b.travel.events.items x s) same.finding seen in
+    is_searched-unique (by b.flight.flight) b.travel.events.items b.travel.finding s t found q
+is_search_if_missed-unique d summary excluded flow (FoundAtFlowTtl a b) (FoundAtFlowTtl c e) s t
+    same p q = is_search-none s t p q
+is_search_if_missed-unique d summary excluded flow (Certified xs) (FoundAtTtl255 b) s t same p q = absurd same
+is_search_if_missed-unique d summary excluded flow (Certified xs) (FoundAtFlowTtl b c) s t same p q
+    = absurd same
+is_search_if_missed-unique d summary excluded flow (FoundAtTtl255 a) (Certified ys) s t same p q = absurd same
+is_search_if_missed-unique d summary excluded flow (FoundAtTtl255 a) (FoundAtFlowTtl b c) s t same p
+    q = absurd same
+is_search_if_missed-unique d summary excluded flow (FoundAtFlowTtl a b) (Certified ys) s t same p q
+    = absurd same
+is_search_if_missed-unique d summary excluded flow (FoundAtFlowTtl a b) (FoundAtTtl255 c) s t same p
+    q = absurd same
+
+missed_besides-same_copies : (d : DomainFacts) (flow : ℕ) (a b : FinishedTravel) → IsSameFinishedTravel a b
+    → missed_besides d flow a.flight.flight.carried a.travel.finding
+    ≡ missed_besides d flow b.flight.flight.carried b.travel.finding
+missed_besides-same_copies d flow a b same =
+    ap₂ (λ (f : Flight) (x : Finding). missed_besides d flow f.carried x) same.flight same.finding
+
+also_missed-same_flights : (d : DomainFacts) (flow : ℕ) (a b : ExaminedFlights) → HaveSameFlights a b
+    → also_missed d flow a ≡ also_missed d flow b
+also_missed-same_flights d flow (Certified xs) (Certified ys) same = refl
+also_missed-same_flights d flow (FoundAtTtl255 a) (FoundAtTtl255 b) same =
+    missed_besides-same_copies d flow a b same
+also_missed-same_flights d flow (FoundAtFlowTtl a b) (FoundAtFlowTtl c e) same =
+    missed_besides-same_copies d flow b e same.1
+also_missed-same_flights d flow (Certified xs) (FoundAtTtl255 b) same = absurd same
+also_missed-same_flights d flow (Certified xs) (FoundAtFlowTtl b c) same = absurd same
+also_missed-same_flights d flow (FoundAtTtl255 a) (Certified ys) same = absurd same
+also_missed-same_flights d flow (FoundAtTtl255 a) (FoundAtFlowTtl b c) same = absurd same
+also_missed-same_flights d flow (FoundAtFlowTtl a b) (Certified ys) same = absurd same
+also_missed-same_flights d flow (FoundAtFlowTtl a b) (FoundAtTtl255 c) same = absurd same
+
+-- Two explanations are the same.
+pub record IsSameExplanation (x y : Explanation) : Type 0 where
+  pub printed : x.printed ≡ y.printed
+  pub search : HaveSameSearch x.search y.search
+  pub also : x.also ≡ y.also
+
+pub is_explanation-unique : (d : DomainValue) (summary : List SummaryValue) (excluded : List Bool)
+    (whole : Bool) (flow : ℕ) (a b : ExaminedFlights) (x y : Explanation) → IsDomain d → HaveSameFlights a b
+    → IsExplanation d summary excluded whole flow a x → IsExplanation d summary excluded whole flow b y
+    → IsSameExplanation x y
+is_explanation-unique d summary excluded whole flow a b x y ok same p q = record {
+  printed = p.printed.shown
+      ∙ ap (without_remedies whole) (causes-are_unique d flow b p.printed.all q.printed.all
+      (is_net-net_of d flow ok)
+      (is_explained-same_flights d flow a b p.printed.all same p.printed.explained) q.printed.explained)
+      ∙ sym q.printed.shown;
+  search = is_search_if_missed-unique (facts d) summary excluded flow a b x.search y.search same
+      p.search q.search;
+  also = p.also ∙ also_missed-same_flights (facts d) flow a b same ∙ sym q.also;
+}

@@ -1,0 +1,137 @@
+-- A fault that an audit finds with excluded routers is one in the whole domain too.
+use Rattle.std.proofs.Common.{◌≡◌, ◌≤◌, ◌<◌, ℕ, inl, inr, Bool, false, List, [], length, arith}
+use Rattle.std.proofs.Common.{Option, Result, ◌∙◌, subst, sym}
+use Rattle.std.specs.Prelude.{◌⊎◌, map}
+use Rattle.std.proofs.lemmas.List.{length-map}
+use Rattle.std.proofs.lemmas.Option.{slice_get_within}
+use Rattle.mc_files.specs.Files.{FileText}
+use Rattle.mc_topology.specs.declared.flow.Flow.{Flow}
+use Rattle.mc_theory.specs.ExcludedRouters.{IsSecondCopyOrStray}
+use Rattle.mc_theory.specs.Certificates.{IsRight}
+use Rattle.mc_theory.proofs.ExcludedRouters.{not_right-from_unclean_travel}
+use Rattle.mc_forward.specs.Domains.{DomainValue, IsDomain, net_of, ttl_of}
+use Rattle.mc_forward.specs.ListedTables.{facts}
+use Rattle.mc_forward.proofs.DomainLemmas.{ttl-at_most_255}
+use Rattle.mc_cert.specs.Certificate.{Tree}
+use Rattle.mc_replay.specs.FindingValues.{finding_value}
+use Rattle.mc_replay.specs.declared.travel.Travel.{Travel}
+use Rattle.mc_maker.specs.Examined.{IfFound, IsFirstPickTravel}
+use Rattle.mc_maker.specs.ExaminedFlights.{without_flights}
+use Rattle.mc_maker.specs.declared.examination.Examined.{Examined}
+use Rattle.mc_maker.specs.declared.examination.Examined.TheVariants as examined
+use Rattle.mc_maker.specs.declared.examined_flights.ExaminedFlights.{ExaminedFlights}
+use Rattle.mc_maker.specs.declared.examined_flights.ExaminedFlights.TheVariants.{Certified}
+use Rattle.mc_maker.specs.declared.examined_flights.ExaminedFlights.TheVariants.{FoundAtTtl255}
+use Rattle.mc_maker.specs.declared.examined_flights.ExaminedFlights.TheVariants.{FoundAtFlowTtl}
+use Rattle.mc_explain.specs.WantedText.{lans_wanting}
+use Rattle.mc_input.specs.ExcludedRouters.{is_excluded}
+use Rattle.mc_input.specs.Meaning.{FilesMeanDomain}
+use Rattle.mc_input.proofs.ExcludedPerFlowLemmas.{ExcludesRouters-from_files}
+use Rattle.mc_run.specs.AuditEnd.{FlowAnswer, begin_lines, end_lines}
+use Rattle.mc_run.specs.AuditRun.{AreFoundInWhole, WritesOfEachInWhole, IsFlowAnswer, IsAudited, IsAuditText}
+use Rattle.mc_run.specs.AuditRun.{IsChecked, IsFoundInWhole, MeansAudited, AuditedValue}
+use Rattle.mc_run.specs.AuditRun.{SaysYesOf, is_whole, excluded}
+use Rattle.mc_run.specs.AuditText.{Explanation}
+use Rattle.mc_run.specs.AuditFlowText.{answer_lines}
+use Rattle.mc_run.specs.declared.audit_options.AuditOptions.{AuditOptions}
+use Rattle.mc_run.specs.declared.fault.RunFault.{RunFault}
+use Rattle.mc_run.specs.declared.run_output.RunOutput.{RunOutput}
+use Rattle.mc_run.proofs.AuditFlows.{is_first_pick_travel-of_examined}
+use Rattle.mc_run.proofs.AuditLemmas.{audit_text-split_at_lines, each_answer-each_lines}
+use Rattle.mc_run.proofs.AuditLemmas.{says_yes_of-certified}
+use Rattle.mc_run.proofs.RunLemmas.{IsOutputOf, is_output_of-implication}
+
+-- a fault is found at the flow's TTL or at 255
+found_ttl-flow_ttl_or_255 : (d : DomainValue) (flow : ℕ) (x : ExaminedFlights) → IsDomain d
+    → flow < length d.topology.flows
+    → IfFound (λ ttl travel. (ttl_of d flow ≤ ttl) × (ttl ≤ 255)) (without_flights d flow x)
+found_ttl-flow_ttl_or_255 d flow (Certified entries) ok lt = tt
+found_ttl-flow_ttl_or_255 d flow (FoundAtTtl255 ended) ok lt = (ttl-at_most_255 d flow ok lt, omega arith)
+found_ttl-flow_ttl_or_255 d flow (FoundAtFlowTtl greatest least) ok lt =
+    (omega arith, ttl-at_most_255 d flow ok lt)
+
+-- it is a fault of the whole domain, whatever the excluded routers have
+not_right-whole_domain : (o : AuditOptions) (names : List (List ℕ)) (files : List FileText) (v : AuditedValue)
+    (flow ttl : ℕ) (travel : Travel) → MeansAudited o names files v → ttl_of v.domain flow ≤ ttl
+    → ttl ≤ 255 → IsFirstPickTravel v.domain flow ttl travel
+    → IsSecondCopyOrStray (finding_value travel.finding)
+    → (whole : DomainValue) → FilesMeanDomain files whole → IsRight (net_of whole flow) → ⊥
+not_right-whole_domain o names files v flow ttl travel audited_value low high runs unclean whole means =
+    not_right-from_unclean_travel (is_excluded whole.topology names) (net_of v.domain flow)
+    (net_of whole flow)
+    (length v.domain.topology.lans) ttl [] false runs.1.picks (finding_value travel.finding)
+    (ExcludesRouters-from_files names files v.domain whole audited_value.means means flow) low high
+    runs.1.travel unclean
+
+is_found_in_whole-answer_lines : (o : AuditOptions) (names : List (List ℕ)) (files : List FileText)
+    (v : AuditedValue)
+    (printed : List Tree) (flow : ℕ) (f : Flow) (x : Examined) (e : Explanation) (wanted lines : List ℕ)
+    → MeansAudited o names files v → IsChecked v.domain flow x
+    → IfFound (IsFirstPickTravel v.domain flow) x
+    → IfFound (λ ttl travel. (ttl_of v.domain flow ≤ ttl) × (ttl ≤ 255)) x
+    → wanted ≡ lans_wanting (facts v.domain) flow
+    → lines ≡ answer_lines o (is_whole v) (facts v.domain) v.summary printed flow f x e wanted
+    → SaysYesOf v o flow f lines ⊎ IsFoundInWhole v o files flow f lines
+is_found_in_whole-answer_lines o names files v printed flow f (examined.Certified entries) e wanted
+    lines audited_value checked
+    runs within wants is = inl (says_yes_of-certified v o printed flow f entries e wanted lines
+    checked wants is)
+is_found_in_whole-answer_lines o names files v printed flow f (examined.Found ttl travel) e wanted
+    lines audited_value checked
+    runs within wants is = inr (record {
+      ttl = ttl;
+      travel = travel;
+      explanation = e;
+      least = within.0;
+      greatest = within.1;
+      runs = runs;
+      spelled = is;
+      wrong = not_right-whole_domain o names files v flow ttl travel audited_value within.0 within.1 runs;
+    })
+
+is_found_in_whole-flow_answer : (o : AuditOptions) (names : List (List ℕ)) (files : List FileText)
+    (v : AuditedValue)
+    (printed : List Tree) (flow : ℕ) (a : FlowAnswer) → MeansAudited o names files v
+    → (is : IsFlowAnswer v o printed flow a)
+    → SaysYesOf v o flow is.listed a.lines ⊎ IsFoundInWhole v o files flow is.listed a.lines
+is_found_in_whole-flow_answer o names files v printed flow a audited_value is =
+    let lt = slice_get_within v.domain.topology.flows flow is.listed is.matches in
+    let runs = subst (λ (x : Examined). IfFound (IsFirstPickTravel v.domain flow) x) (sym is.examined)
+    (is_first_pick_travel-of_examined v.domain flow is.flights is.has_flights) in
+    let within = subst (λ (x : Examined).
+    IfFound (λ ttl travel. (ttl_of v.domain flow ≤ ttl) × (ttl ≤ 255)) x) (sym is.examined)
+    (found_ttl-flow_ttl_or_255 v.domain flow is.flights audited_value.means.rules lt) in
+    is_found_in_whole-answer_lines o names files v printed flow is.listed a.examined is.explanation
+    a.wanted a.lines audited_value
+    is.checked runs within is.wanted is.spelled
+
+writes_of_each_in_whole-audited : (o : AuditOptions) (names : List (List ℕ)) (files : List FileText)
+    (v : AuditedValue)
+    (all : Bool) (written : List ℕ) → MeansAudited o names files v → IsAudited v o all written
+    → WritesOfEachInWhole v o files all written
+writes_of_each_in_whole-audited o names files v all written audited_value a =
+    let answers = a.answers in
+    let are = a.are_answers in
+    record {
+      begin = begin_lines o (facts v.domain) (excluded v);
+      lines = map (λ b. b.lines) answers;
+      end = end_lines o v.domain.topology v.summary (excluded v) all answers;
+      count = length-map answers (λ (b : FlowAnswer). b.lines) ∙ are.count;
+      each = each_answer-each_lines (λ flow f ls. SaysYesOf v o flow f ls ⊎ IsFoundInWhole v o files
+          flow f ls) v o
+          answers are (λ printed flow b is. is_found_in_whole-flow_answer o names files v printed
+          flow b audited_value is);
+      spelled = audit_text-split_at_lines v o all written a;
+    }
+
+pub is_output_of-found_in_whole : (contents : Option (List FileText)) (o : AuditOptions)
+    (names : List (List ℕ))
+    (s : Result RunOutput RunFault) → IsOutputOf contents (IsAuditText o names) s
+    → IsOutputOf contents (AreFoundInWhole o names) s
+is_output_of-found_in_whole contents o names s =
+    is_output_of-implication contents (IsAuditText o names) (AreFoundInWhole o names) s
+    (λ files all written is. record {
+      domain = is.domain;
+      means = is.means;
+      holds = writes_of_each_in_whole-audited o names files is.domain all written is.means is.holds;
+    })

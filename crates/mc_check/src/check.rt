@@ -101,20 +101,21 @@ pub fn check_flow(
 ) -> Result<Verdict, Memory>
     requires flow { flow < length domain.now.topology.flows }
     requires lans { All (λ e. e.lan < length domain.now.topology.lans) entries.now }
-    // Yes exactly where the list is accepted,
+    // The verdict is yes exactly if the list is accepted.
     ensures accepted { IfOk result (YesIffAccepted (net_of domain.now flow) entries.now) }
-    // and then with the number of its entries;
+    // A yes has the number of the list's entries.
     ensures copies { IfOk result (YesCountsEntries (net_of domain.now flow) entries.now) }
-    // otherwise no, with the first reason.
+    // A no has the first reason.
     ensures reason { IfOk result (NoGivesFirstReason (length domain.now.topology.lans)
         (net_of domain.now flow) entries.now) }
-    // After a yes, every run of every packet is safe, in any order and whatever is lost;
+    // After a yes, every run of every packet is safe, in any order and whatever is lost.
     ensures safe { IfOk result (YesIsSafe (net_of domain.now flow) entries.now) }
-    // each complete run without loss reaches exactly the named LANs whose need the TTL meets;
+    // After a yes, each complete run without loss reaches exactly the named LANs whose need the TTL
+    // meets.
     ensures delivered { IfOk result (YesDelivers (net_of domain.now flow) entries.now) }
-    // the flow is right;
+    // After a yes, the flow is right.
     ensures right { IfOk result (YesIsRight (net_of domain.now flow) entries.now) }
-    // and the headline holds for it.
+    // After a yes, the headline holds for the flow.
     ensures headline { IfOk result (YesKeepsHeadline (net_of domain.now flow) entries.now) }
 {
     verdict_on(alloc, domain, flow, entries)
@@ -135,22 +136,26 @@ pub fn check_all(
     requires lans { All (All (λ e. e.lan < length domain.now.topology.lans)) certificate.now }
     // There is one verdict for each flow.
     ensures count { IfOk result (λ vs. length vs.items ≡ length certificate.now) }
-    // Each is what `check_flow` returns: yes exactly where the list is accepted,
+    // Each verdict is what `check_flow` returns: yes exactly if the list is accepted.
     ensures accepted { IfOk result (λ vs.
         HoldsForEachFlow domain.now certificate.now vs.items YesIffAccepted) }
-    // and then with the number of its entries;
+    // A yes has the number of the list's entries.
     ensures copies { IfOk result (λ vs.
         HoldsForEachFlow domain.now certificate.now vs.items YesCountsEntries) }
-    // otherwise no, with the first reason.
+    // A no has the first reason.
     ensures reason { IfOk result (λ vs. HoldsForEachFlow domain.now certificate.now vs.items
         (NoGivesFirstReason (length domain.now.topology.lans))) }
-    // A yes promises the same as that of `check_flow`.
+    // After a yes, every run of every packet is safe, in any order and whatever is lost.
     ensures safe { IfOk result (λ vs.
         HoldsForEachFlow domain.now certificate.now vs.items YesIsSafe) }
+    // After a yes, each complete run without loss reaches exactly the named LANs whose need the TTL
+    // meets.
     ensures delivered { IfOk result (λ vs.
         HoldsForEachFlow domain.now certificate.now vs.items YesDelivers) }
+    // After a yes, the flow is right.
     ensures right { IfOk result (λ vs.
         HoldsForEachFlow domain.now certificate.now vs.items YesIsRight) }
+    // After a yes, the headline holds for the flow.
     ensures headline { IfOk result (λ vs.
         HoldsForEachFlow domain.now certificate.now vs.items YesKeepsHeadline) }
 {

@@ -29,7 +29,8 @@ contains-map f xs made kept is same = λ k d below.
     ))
 
 -- the channels of places, with one more
-pub map-channels_more : (f : ChannelPlace → ℕ × ℕ) (places : List ChannelPlace) (place : ChannelPlace) (asked : List (ℕ × ℕ))
+pub map-channels_more : (f : ChannelPlace → ℕ × ℕ) (places : List ChannelPlace) (place : ChannelPlace)
+    (asked : List (ℕ × ℕ))
     (i : ℕ) (channel : ℕ × ℕ) → i < length asked → channel ≡ get_or asked i channel
     → map f places ≡ take i asked → f place ≡ channel
     → map f (places ++ place ∷ []) ≡ take (i + 1) asked
@@ -49,7 +50,8 @@ pub wanted_answer-from_tallied : (groups channels : List ℕ) (records : List Re
     → AreTallied groups channels records excludes states [] → IsChannelPlace groups channels place
     → own ≡ get_or states place.channel own → seen ≡ get_or excludes place.group seen
     → answer ≡ not (is_unwanted own seen) → IsAnswerAtPlace channels records place answer
-wanted_answer-from_tallied groups channels records excludes states place own seen answer count each at state_is seen_is
+wanted_answer-from_tallied groups channels records excludes states place own seen answer count each at
+    state_is seen_is
     is =
     let channel : ℕ × ℕ = channel_at channels place in
     let group : ℕ = get_or groups place.group 0 in

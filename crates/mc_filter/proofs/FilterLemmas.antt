@@ -24,7 +24,8 @@ Decides-Admits r s = grind (arith, Decides-has r.sources s)
 pub Decides-is_exclude_mode : (mode : Mode) → Decides (is_exclude_mode mode) (mode ≡ Exclude)
 Decides-is_exclude_mode mode = grind arith
 
-pub Decides-is_exclude : (kind_of_record : Kind) → Decides (is_exclude kind_of_record) (kind_of_record ≡ kind.Exclude)
+pub Decides-is_exclude : (kind_of_record : Kind)
+    → Decides (is_exclude kind_of_record) (kind_of_record ≡ kind.Exclude)
 Decides-is_exclude kind_of_record = grind arith
 
 -- rules that turn the tests into their facts

@@ -14,7 +14,7 @@ use Rattle.mc_igmp.specs.Wants.{Admits, Wants}
 use Rattle.mc_filter.specs.declared.filter.Mode.{Mode}
 use Rattle.mc_filter.specs.declared.filter.Mode.TheVariants.{Include, Exclude}
 use Rattle.mc_filter.specs.SourceFilter.{has, SourceFilter, FilterAdmits, admits_by}
-use Rattle.mc_filter.specs.FilterBuilding.{is_exclude_mode, wanted_by, excludes_by, wanted, excluding}
+use Rattle.mc_filter.specs.FilterBuilding.{is_exclude_mode, wanted_by, is_exclude_for, wanted, has_exclude}
 use Rattle.mc_filter.specs.Merged.{IsRecordFor, HasExclude, InSomeInclude, InEachExclude, IsMergedIn}
 use Rattle.mc_filter.specs.Merged.{IsMergedValue}
 use Rattle.mc_filter.proofs.AscendingLemmas.{Decides-has, ascending_lists_equal-from_has}
@@ -35,10 +35,10 @@ Decides-wanted records group s =
     Decides-list_any (wanted_by group s) (λ r. (r.group ≡ group) × Admits r s)
     (λ r. grind (arith, nat_tests, Decides-Admits r s)) records
 
-Decides-excluding : (records : List Record) (group : ℕ)
-    → Decides (excluding records group) (HasExclude records group)
-Decides-excluding records group =
-    Decides-list_any (excludes_by group) (IsRecordFor group kind.Exclude)
+Decides-has_exclude : (records : List Record) (group : ℕ)
+    → Decides (has_exclude records group) (HasExclude records group)
+Decides-has_exclude records group =
+    Decides-list_any (is_exclude_for group) (IsRecordFor group kind.Exclude)
     (λ r. grind (arith, nat_tests)) records
 
 -- a source that an INCLUDE list has is wanted
@@ -87,14 +87,14 @@ has_iff_not_wanted a b own wants is = grind arith
 -- the merged filter is EXCLUDE exactly if a record is, and admits exactly what is wanted
 pub record Merges (records : List Record) (group : ℕ) (mode : Mode) (sources : List ℕ)
     : Type 0 where
-  pub excludes : is_exclude_mode mode ≡ excluding records group
+  pub excludes : is_exclude_mode mode ≡ has_exclude records group
   pub admitted : (s : ℕ) → admits_by mode (has sources s) ≡ wanted records group s
 
 -- the definition of the merged filter is equivalent to these tests
 pub Merges-iff : (mode : Mode) (sources : List ℕ) (records : List Record) (group : ℕ)
     → Merges records group mode sources ↔ IsMergedIn mode sources records group
 Merges-iff Exclude sources records group =
-    let some = Decides-excluding records group in
+    let some = Decides-has_exclude records group in
     let listed = λ (s : ℕ).
     has_iff_not_wanted _ _ (Decides-has sources s) (Decides-wanted records group s)
     (not_wanted records group s) in (
@@ -102,7 +102,7 @@ Merges-iff Exclude sources records group =
       λ is. record { excludes = sym (some.1 is.0); admitted = λ s. (listed s).1 (is.1 s) },
     )
 Merges-iff Include sources records group =
-    let some = Decides-excluding records group in
+    let some = Decides-has_exclude records group in
     let listed = λ (none : ¬ (HasExclude records group)) (s : ℕ).
     has_iff_wanted _ _ (Decides-has sources s) (Decides-wanted records group s)
     (wanted_iff_included records group s none) in (
@@ -130,7 +130,7 @@ merged_in_any_order records others group filter other permutation is is_other =
     let n = (Merges-iff other.mode other.sources others group).1 is_other.merged in
     let same = λ (p : Record → Bool). list_any-IsPermutation p records others permutation in
     let modes : filter.mode ≡ other.mode =
-    grind (arith, m.excludes, n.excludes, same (excludes_by group)) in
+    grind (arith, m.excludes, n.excludes, same (is_exclude_for group)) in
     let sources : filter.sources ≡ other.sources =
     ascending_lists_equal-from_has filter.sources other.sources is.ascending is_other.ascending
     (λ s. grind (arith, modes, m.admitted s, n.admitted s, same (wanted_by group s))) in

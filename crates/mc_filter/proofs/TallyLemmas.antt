@@ -17,12 +17,14 @@ use Rattle.mc_filter.specs.declared.tally.ChannelState.{ChannelState}
 use Rattle.mc_filter.specs.declared.tally.ChannelState.TheVariants.{Included, Listed}
 use Rattle.mc_filter.specs.SourceFilter.{has}
 use Rattle.mc_filter.specs.FilterBuilding.{kind_admits, wanted}
-use Rattle.mc_filter.specs.Tallies.{AreStatesAfterRecord, AreTallied, IsTallied, channel_numbered, excludes_with}
+use Rattle.mc_filter.specs.Tallies.{AreStatesAfterRecord, AreTallied, IsTallied, channel_numbered}
+use Rattle.mc_filter.specs.Tallies.{excludes_after}
 use Rattle.mc_filter.specs.Tallies.{state_after_listing, state_after_record}
 
 -- a source that a record lists twice counts once
 state_after_listing-twice : (of_kind : Kind) (excludes : ℕ) (state : ChannelState)
-    → state_after_listing of_kind excludes (state_after_listing of_kind excludes state) ≡ state_after_listing of_kind excludes state
+    → state_after_listing of_kind excludes (state_after_listing of_kind excludes state)
+    ≡ state_after_listing of_kind excludes state
 state_after_listing-twice kind.Include excludes state = refl
 state_after_listing-twice kind.Exclude excludes state = grind (arith, nat_tests)
 state_after_listing-twice (kind.Change type) excludes state = refl
@@ -35,14 +37,16 @@ state_after_record-listed true of_kind excludes state = state_after_listing-twic
 state_after_record-listed false of_kind excludes state = refl
 
 -- a record of the channel's group, with its source as the next one, updates the state as if it listed it
-state_after_record-own_source : (a b c : Bool) (of_kind : Kind) (excludes : ℕ) (state : ChannelState) → (a && b) ≡ true
+state_after_record-own_source : (a b c : Bool) (of_kind : Kind) (excludes : ℕ) (state : ChannelState)
+    → (a && b) ≡ true
     → state_after_record (a && (b || c)) of_kind excludes state ≡ state_after_listing of_kind excludes state
 state_after_record-own_source true true c of_kind excludes state h = refl
 state_after_record-own_source true false c of_kind excludes state h = absurd cc
 state_after_record-own_source false b c of_kind excludes state h = absurd cc
 
 -- updating the channels of the sources that are left gives the same as updating those of all sources
-abbrev pub AreListedUpTo : List ℕ → ℕ → Kind → ℕ → List ℕ → List ℕ → List ChannelState → List ChannelState → Type 0
+abbrev pub AreListedUpTo : List ℕ → ℕ → Kind → ℕ → List ℕ → List ℕ → List ChannelState → List ChannelState
+    → Type 0
 AreListedUpTo channels group of_kind excludes left sources now old =
     (c g s : ℕ) (d : ChannelState) → c < length channels → channel_numbered channels c ≡ (s, g)
     → state_after_record (eqb group g && has left s) of_kind excludes (get_or now c d)
@@ -92,7 +96,8 @@ AreListedUpTo-found channels group of_kind excludes x place own left sources now
           ∙ get_or-set_same now place (state_after_listing of_kind excludes own) d
           (omega (arith, found.0, count)) in
           rw new_own (state_after_record-listed (eqb group g && has left s) of_kind excludes own
-          ∙ sym (state_after_record-own_source (eqb group g) (eqb x s) (has left s) of_kind excludes own listed)
+          ∙ sym (state_after_record-own_source (eqb group g) (eqb x s)
+          (has left s) of_kind excludes own listed)
           ∙ ap (λ t. state_after_record (eqb group g && has (x ∷ left) s) of_kind excludes t) (sym old_own)
           ∙ state)
       | inr there ↦
@@ -122,7 +127,7 @@ tallied-other_type false excludes state left all h = h
 tallied_more : (own listed : Bool) (of_kind : Kind) (excludes : ℕ) (state : ChannelState) (left all : Bool)
     → IsTallied state excludes ((own && kind_admits of_kind listed) || left) all
     → IsTallied (state_after_record (own && listed) of_kind excludes state)
-    (cond own (excludes_with of_kind excludes) excludes) left all
+    (cond own (excludes_after of_kind excludes) excludes) left all
 tallied_more false listed of_kind excludes state left all h = record {
   within = h.within;
   wants = h.wants;
@@ -180,7 +185,7 @@ pub AreTallied-more : (groups channels : List ℕ) (records left : List Record)
     → AreStatesAfterRecord channels r (get_or excludes place 0) state now
     → AreTallied groups channels records excludes state (r ∷ left)
     → AreTallied groups channels records
-    (set excludes place (excludes_with r.kind (get_or excludes place 0))) now left
+    (set excludes place (excludes_after r.kind (get_or excludes place 0))) now left
 AreTallied-more groups channels records left excludes state now place r up count inside at each before
     g c s d below within is =
     let rises = AllPairs-from_increasing groups up in
@@ -193,13 +198,13 @@ AreTallied-more groups channels records left excludes state now place r up count
       | inl here ↦
           let yes : own ≡ true = eq-eqb r.group group (sym at ∙ ap (λ n. get_or groups n 0) (sym
           here)) in
-          let seen : get_or (set excludes place (excludes_with r.kind (get_or excludes place 0))) g
+          let seen : get_or (set excludes place (excludes_after r.kind (get_or excludes place 0))) g
           0
-          ≡ cond own (excludes_with r.kind (get_or excludes place 0)) (get_or excludes place 0) =
-          ap (λ n. get_or (set excludes place (excludes_with r.kind (get_or excludes place 0))) n 0)
+          ≡ cond own (excludes_after r.kind (get_or excludes place 0)) (get_or excludes place 0) =
+          ap (λ n. get_or (set excludes place (excludes_after r.kind (get_or excludes place 0))) n 0)
           here
-          ∙ get_or-set_same excludes place (excludes_with r.kind (get_or excludes place 0)) 0 inside
-          ∙ sym (ap (λ b. cond b (excludes_with r.kind (get_or excludes place 0)) (get_or excludes
+          ∙ get_or-set_same excludes place (excludes_after r.kind (get_or excludes place 0)) 0 inside
+          ∙ sym (ap (λ b. cond b (excludes_after r.kind (get_or excludes place 0)) (get_or excludes
           place 0)) yes) in
           rw (state_is, seen) (tallied_more own (has r.sources s) r.kind (get_or excludes place 0)
           (get_or state c d)
@@ -214,18 +219,20 @@ AreTallied-more groups channels records left excludes state now place r up count
                 grind (arith, there, rises g place 0, rises place g 0, one, below, inside, count))
             | inr apart ↦ grind (arith, nat_tests, apart)
           ] in
-          let seen : get_or (set excludes place (excludes_with r.kind (get_or excludes place 0))) g
+          let seen : get_or (set excludes place (excludes_after r.kind (get_or excludes place 0))) g
           0
-          ≡ cond own (excludes_with r.kind (get_or excludes g 0)) (get_or excludes g 0) =
-          get_or-set_other excludes place g (excludes_with r.kind (get_or excludes place 0)) 0 there
-          ∙ sym (ap (λ b. cond b (excludes_with r.kind (get_or excludes g 0)) (get_or excludes g 0))
+          ≡ cond own (excludes_after r.kind (get_or excludes g 0)) (get_or excludes g 0) =
+          get_or-set_other excludes place g (excludes_after r.kind (get_or excludes place 0)) 0 there
+          ∙ sym (ap (λ b. cond b (excludes_after r.kind (get_or excludes g 0)) (get_or excludes g 0))
           no) in
           let new_state_is : get_or now c d
           ≡ state_after_record (own && has r.sources s) r.kind (get_or excludes g 0) (get_or state c d) =
           state_is
-          ∙ ap (λ b. state_after_record (b && has r.sources s) r.kind (get_or excludes place 0) (get_or state c
+          ∙ ap (λ b. state_after_record (b && has r.sources s) r.kind (get_or excludes place 0)
+          (get_or state c
           d)) no
-          ∙ sym (ap (λ b. state_after_record (b && has r.sources s) r.kind (get_or excludes g 0) (get_or state c
+          ∙ sym (ap (λ b. state_after_record (b && has r.sources s) r.kind (get_or excludes g 0)
+          (get_or state c
           d)) no) in
           rw (new_state_is, seen) (tallied_more own (has r.sources s) r.kind (get_or excludes g 0)
           (get_or state c d) (wanted left group s) all old)

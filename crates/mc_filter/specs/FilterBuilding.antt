@@ -32,22 +32,22 @@ abbrev pub wanted_by : ℕ → ℕ → Record → Bool
 wanted_by group s r = r.group == group && kind_admits r.kind (has r.sources s)
 
 -- whether the record is an EXCLUDE record for the group
-abbrev pub excludes_by : ℕ → Record → Bool
-excludes_by group r = r.group == group && is_exclude r.kind
+abbrev pub is_exclude_for : ℕ → Record → Bool
+is_exclude_for group r = r.group == group && is_exclude r.kind
 
 -- whether some record is for the group and admits the source
 abbrev pub wanted : List Record → ℕ → ℕ → Bool
 wanted records group s = list_any (wanted_by group s) records
 
 -- whether some record is an EXCLUDE record for the group
-abbrev pub excluding : List Record → ℕ → Bool
-excluding records group = list_any (excludes_by group) records
+abbrev pub has_exclude : List Record → ℕ → Bool
+has_exclude records group = list_any (is_exclude_for group) records
 
 -- The builder and the records that are left want of the group what all records want of it.
 pub record BuildsFilter (records : List Record) (group : ℕ) (filter_builder : FilterBuilder)
     (left : List Record) : Type 0 where
-  pub excludes : (is_exclude_mode filter_builder.filter.mode || excluding left group)
-      ≡ excluding records group
+  pub excludes : (is_exclude_mode filter_builder.filter.mode || has_exclude left group)
+      ≡ has_exclude records group
   pub wants : (s : ℕ) →
       ((admits filter_builder.filter s || has filter_builder.included.items s) || wanted left group s)
       ≡ wanted records group s

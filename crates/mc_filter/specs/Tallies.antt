@@ -33,7 +33,8 @@ state_after_listing (kind.Unknown type) excludes state = state
 
 -- the state after a record of a kind, by whether it lists the source
 abbrev pub state_after_record : Bool → Kind → ℕ → ChannelState → ChannelState
-state_after_record listed of_kind excludes state = cond listed (state_after_listing of_kind excludes state) state
+state_after_record listed of_kind excludes state =
+    cond listed (state_after_listing of_kind excludes state) state
 
 -- the new state of each channel is its old state after the record
 abbrev pub AreStatesAfterRecord : List ℕ → Record → ℕ → List ChannelState → List ChannelState → Type 0
@@ -42,8 +43,8 @@ AreStatesAfterRecord channels r excludes old new =
     get_or new c d ≡ state_after_record (r.group == g && has r.sources s) r.kind excludes (get_or old c d)
 
 -- the number of EXCLUDE records, with one more record of this kind
-abbrev pub excludes_with : Kind → ℕ → ℕ
-excludes_with of_kind excludes = cond (is_exclude of_kind) (excludes + 1) excludes
+abbrev pub excludes_after : Kind → ℕ → ℕ
+excludes_after of_kind excludes = cond (is_exclude of_kind) (excludes + 1) excludes
 
 -- the state counts no more EXCLUDE records than there were
 abbrev pub IsCountWithin : ChannelState → ℕ → Type 0

@@ -33,7 +33,7 @@ pub(crate) fn sort_and_dedup(addresses: &mut Vec<Addr>)
 
 /// Whether the address is in the ascending list.
 pub(crate) fn is_listed(addresses: &[Addr], address: Addr) -> bool
-    requires valid { IsStrictlyIncreasing addresses.now }
+    requires ascending { IsStrictlyIncreasing addresses.now }
     ensures value { result ≡ has addresses.now address }
 {
     addresses.binary_search(&address).is_ok()

@@ -1,6 +1,6 @@
 //! Merging the records for one group into a filter, in one pass over a list.
 
-ghost use Rattle.std.specs.Prelude.{◌≡◌, ℕ, List, [], ◌∷◌, IfOk, OnOk};
+ghost use Rattle.std.specs.Prelude.{ℕ, List, [], ◌∷◌, IfOk, OnOk};
 ghost use Rattle.mc_igmp.specs.declared.record.Record.{Record};
 ghost use Rattle.mc_filter.specs.FilterBuilding.{BuildsFilter};
 ghost use Rattle.mc_filter.specs.Merged.{IsMergedValue};

@@ -2,7 +2,7 @@
 
 ghost use Rattle.std.specs.Prelude.{◌≡◌, ◌<◌, IfOk, IfSome, OnOk, length};
 ghost use Rattle.mc_filter.specs.Tallies.{AddsRecord, AreStatesAfterRecord, CountsNoRecord};
-ghost use Rattle.mc_filter.specs.Tallies.{excludes_with, is_unwanted, state_after_listing};
+ghost use Rattle.mc_filter.specs.Tallies.{excludes_after, is_unwanted, state_after_listing};
 
 use mc_igmp::{Kind, Record};
 use mc_text::{Index, Memory, pair_number};
@@ -30,22 +30,22 @@ impl ChannelState {
     }
 
     /// The state after a record that lists the source, with `before` EXCLUDE records for the group
-    /// before it and `with` up to it.
-    fn after_listing(self, kind: Kind, before: u32, with: u32) -> ChannelState
-        requires kind { with ≡ excludes_with kind before }
+    /// before it and `after` with it.
+    fn after_listing(self, kind: Kind, before: u32, after: u32) -> ChannelState
+        requires kind { after ≡ excludes_after kind before }
         ensures value { result ≡ state_after_listing kind before self }
     {
         match kind {
             Kind::Include => ChannelState::Included,
-            Kind::Exclude if self.is_unwanted(before) => ChannelState::Listed(with),
+            Kind::Exclude if self.is_unwanted(before) => ChannelState::Listed(after),
             _ => self,
         }
     }
 }
 
 /// The number of EXCLUDE records with one more record of this kind, if 32 bits hold it.
-fn excludes_with(kind: Kind, before: u32) -> Option<u32>
-    ensures { IfSome result (λ with. with ≡ excludes_with kind before) }
+fn excludes_after(kind: Kind, before: u32) -> Option<u32>
+    ensures { IfSome result (λ after. after ≡ excludes_after kind before) }
 {
     match kind {
         Kind::Exclude => before.checked_add(1),
@@ -81,10 +81,10 @@ impl Tally {
     }
 
     /// Updates the channels whose sources the record lists, with `before` EXCLUDE records for its group
-    /// before it and `with` up to it.
-    fn list_sources(&mut self, channels: &Index, group_record: &Record<'_>, before: u32, with: u32)
+    /// before it and `after` with it.
+    fn list_sources(&mut self, channels: &Index, group_record: &Record<'_>, before: u32, after: u32)
         requires room { length self.old.states.items ≡ length channels.now }
-        requires with { with ≡ excludes_with group_record.now.kind before }
+        requires after { after ≡ excludes_after group_record.now.kind before }
         ensures excludes { self.new.excludes.items ≡ self.old.excludes.items }
         ensures count { length self.new.states.items ≡ length self.old.states.items }
         ensures each { AreStatesAfterRecord channels.now group_record.now before self.old.states.items
@@ -96,7 +96,7 @@ impl Tally {
                 self.states[place] = self.states[place].after_listing(
                     group_record.kind,
                     before,
-                    with,
+                    after,
                 );
             }
         }
@@ -122,9 +122,9 @@ impl Tally {
         ensures each { OnOk result (AddsRecord channels.now place group_record.now self.old self.new) }
     {
         let before = self.excludes[place];
-        let with = excludes_with(group_record.kind, before).ok_or(Memory)?;
-        self.list_sources(channels, group_record, before, with);
-        self.excludes[place] = with;
+        let after = excludes_after(group_record.kind, before).ok_or(Memory)?;
+        self.list_sources(channels, group_record, before, after);
+        self.excludes[place] = after;
         Ok(())
     }
 }

@@ -14,7 +14,8 @@ use Rattle.std.proofs.lemmas.Simd.{length-put_chunk, pick_l-range_with_len}
 use Rattle.hex.specs.Hex.{is_hex_digit, decode_of}
 use Rattle.hex.proofs.HexLemmas.{decode_of-ok}
 use Rattle.mc_text.specs.DigitPairs.{bytes_of_pairs, AreDecoded}
-use Rattle.mc_text.proofs.DigitLaneLemmas.{decode_of-digits, take-bytes_of_pairs, bytes_of_pairs-append, length-bytes_of_pairs}
+use Rattle.mc_text.proofs.DigitLaneLemmas.{decode_of-digits, take-bytes_of_pairs}
+use Rattle.mc_text.proofs.DigitLaneLemmas.{bytes_of_pairs-append, length-bytes_of_pairs}
 use Rattle.mc_text.proofs.DigitLaneLemmas.{list_all-take, list_all-of_append, list_all-drop}
 
 -- if the first k bytes are decoded, so are the first m, for m up to k

@@ -31,9 +31,11 @@ first_change-none_is_accepted : (number : ℕ) (rs : List Record) → first_chan
     → IsAcceptedMessage (Report rs)
 unfolding first_change
 first_change-none_is_accepted number [] f = tt
-first_change-none_is_accepted number (r ∷ rs) f = (grind arith, first_change-none_is_accepted (number + 1) rs (grind arith))
+first_change-none_is_accepted number (r ∷ rs) f =
+    (grind arith, first_change-none_is_accepted (number + 1) rs (grind arith))
 
-pub first_change-none : (number : ℕ) (rs : List Record) → IsAcceptedMessage (Report rs) → first_change number rs ≡ None
+pub first_change-none : (number : ℕ) (rs : List Record) → IsAcceptedMessage (Report rs)
+    → first_change number rs ≡ None
 unfolding first_change
 first_change-none number [] h = refl
 first_change-none number (r ∷ rs) h = rw h.0 (first_change-none (number + 1) rs h.1)
@@ -115,7 +117,8 @@ read_lines_more front first new line all lines total all_is read_is new_is so_fa
 abbrev AreReadLines : List LineText → List Record → Type 0
 AreReadLines lines rs = (ms : List Message) × AreMessageLines lines ms × (rs ≡ flat_map records_of ms)
 
-read_lines-sound : (lines : List LineText) (rs : List Record) → read_lines lines ≡ Ok rs → AreReadLines lines rs
+read_lines-sound : (lines : List LineText) (rs : List Record) → read_lines lines ≡ Ok rs
+    → AreReadLines lines rs
 unfolding read_lines
 read_lines-sound [] rs e = ([], tt, cc)
 read_lines-sound (line ∷ lines) rs e =
@@ -157,7 +160,8 @@ IsReportListAnswer text result = record {
   fault : IsReadOrOutOfMemory text result;
 }
 
-report_list_answer-from_read_list : (text : List ℕ) (result : Result (List Record) ListFault) → IsReadOrOutOfMemory text result
+report_list_answer-from_read_list : (text : List ℕ) (result : Result (List Record) ListFault)
+    → IsReadOrOutOfMemory text result
     → IsReportListAnswer text result
 report_list_answer-from_read_list text result is = record {
   found = grind (arith, read_list-sound text);
@@ -168,7 +172,8 @@ report_list_answer-from_read_list text result is = record {
 pub report_list_answer-too_large : (text : List ℕ) (result : Result (List Record) ListFault)
     → 16777216 < length text → result ≡ Err (fault_at 0 0 TooLarge) → IsReportListAnswer text result
 unfolding read_list
-report_list_answer-too_large text result h e = report_list_answer-from_read_list text result (grind (arith, nat_tests))
+report_list_answer-too_large text result h e =
+    report_list_answer-from_read_list text result (grind (arith, nat_tests))
 
 -- when no line is left, the records that were read are the list
 pub read_lines_all : (text : List ℕ) (list : List Record) (all : List LineText) → length text ≤ 16777216

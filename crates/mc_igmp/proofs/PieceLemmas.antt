@@ -87,7 +87,8 @@ lines_from-line_and_rest : (n : ℕ) (line rest : List ℕ) → WithoutLineFeed 
     → lines_from n (line ++ 10 ∷ rest)
     ≡ record { number = n; bytes = line; ended = true } ∷ lines_from (n + 1) rest
 lines_from-line_and_rest n line rest without =
-    let parts = slice_split-append_front line (10 ∷ rest) [] (slice_split (λ b. eqb b 10) rest) without refl in
+    let parts = slice_split-append_front line (10 ∷ rest) []
+    (slice_split (λ b. eqb b 10) rest) without refl in
     let more = length-slice_split (λ b. eqb b 10) rest in
     ap (numbered n) (parts
     ∙ ap (λ part. part ∷ slice_split (λ b. eqb b 10) rest) (append-nil line))
@@ -105,7 +106,8 @@ lines_from-first_ended ended begun rest more end without found =
     ap (λ r. begun ++ (r ++ more)) (split_at_line_feed rest end found)
     ∙ ap (λ r. begun ++ r) (append_assoc (take end rest) (10 ∷ drop (end + 1) rest) more)
     ∙ sym (append_assoc begun (take end rest) (10 ∷ (drop (end + 1) rest ++ more))) in
-    let whole = without_line_feed-append begun (take end rest) without (without_line_feed-take rest end found) in
+    let whole = without_line_feed-append begun (take end rest) without
+    (without_line_feed-take rest end found) in
     ap (lines_from (ended + 1)) parted
     ∙ lines_from-line_and_rest (ended + 1) line (drop (end + 1) rest ++ more) whole
 
@@ -160,7 +162,8 @@ read_rest_of_lines-unended records ended begun without some =
     rw (one, some) refl
 
 -- without bytes no line is left
-read_rest_of_lines-none : (records : List Record) (ended : ℕ) → read_rest_of_lines records ended [] ≡ Ok records
+read_rest_of_lines-none : (records : List Record) (ended : ℕ)
+    → read_rest_of_lines records ended [] ≡ Ok records
 unfolding read_lines
 read_rest_of_lines-none records ended = ap Ok (append-nil records)
 

@@ -1,10 +1,8 @@
 //! Bytes from pairs of hexadecimal digits.
 
 ghost use Rattle.std.specs.Prelude.{◌≡◌, ◌≢◌, ◌+◌, ◌*◌, ◌/◌, ◌%◌, ◌<◌, ◌≤◌, ◌++◌, List, ℕ, length};
-ghost use Rattle.std.specs.Prelude.{map, take, true, false, Ok};
-ghost use Rattle.std.specs.List.{list_all};
-ghost use Rattle.hex.specs.Hex.{decode_of, is_hex_digit};
-ghost use Rattle.mc_text.specs.AddressWord.{hex_value_or_16};
+ghost use Rattle.std.specs.Prelude.{take, true, false, Ok};
+ghost use Rattle.hex.specs.Hex.{decode_of};
 ghost use Rattle.mc_text.specs.DigitPairs.{AreDecoded};
 
 use mc_text::{are_hex_digits, bytes_of_hex_digits, hex_digit};

@@ -68,7 +68,7 @@ impl<'a> GroupRecords<'a> {
 
     /// The `count` records that the bytes are, one after another.
     pub(crate) fn new(count: usize, bytes: &'a [u8]) -> GroupRecords<'a>
-        requires valid { AreWholeRecords count bytes.now }
+        requires whole { AreWholeRecords count bytes.now }
         ensures value { result ≡ records_in count bytes.now }
     {
         GroupRecords {

@@ -1,8 +1,8 @@
 //! A report list: the replies of the hosts of one LAN to one General Query, a message on each line.
 
-ghost use Rattle.std.specs.Prelude.{◌≡◌, ◌≢◌, ◌*◌, ◌++◌, ◌∷◌, ◌<◌, ◌≤◌, ◌^◌, ◌⊎◌, List, [], length};
+ghost use Rattle.std.specs.Prelude.{◌≡◌, ◌*◌, ◌++◌, ◌∷◌, ◌<◌, ◌≤◌, ◌^◌, ◌⊎◌, List, [], length};
 ghost use Rattle.std.specs.Prelude.{unwrap_or};
-ghost use Rattle.std.specs.Prelude.{IfOk, IfErr, OnOk, OnErr, MatchResult};
+ghost use Rattle.std.specs.Prelude.{IfOk, IfErr, OnOk, MatchResult};
 ghost use Rattle.mc_text.specs.DigitPairs.{AreDecoded};
 ghost use Rattle.mc_text.specs.LineView.{line_text};
 ghost use Rattle.mc_igmp.specs.declared.record.Record.{Record};
@@ -225,8 +225,8 @@ impl ReportList {
 
     // Appends the `count` group records that the bytes are.
     fn append_bytes(&mut self, count: usize, bytes: &[u8]) -> Result<(), AllocError>
-        requires valid { AreWholeRecords count bytes.now }
-        ensures added { OnOk result (self.new ≡ self.old ++ records_in count bytes.now) }
+        requires whole { AreWholeRecords count bytes.now }
+        ensures appended { OnOk result (self.new ≡ self.old ++ records_in count bytes.now) }
     {
         self.bytes.extend_from_slice(bytes)?;
         self.count += count;

@@ -1,7 +1,7 @@
 //! The certificate entries of a clean travel at TTL 255: one for each copy that it carried, stored by
 //! the copy's LAN.
 
-ghost use Rattle.std.specs.Prelude.{◌≡◌, ◌<◌, ◌≤◌, All, IfOk, IfSome, Some, [], length};
+ghost use Rattle.std.specs.Prelude.{◌≡◌, ◌<◌, ◌≤◌, All, IfOk, Some, [], length};
 ghost use Rattle.mc_theory.specs.CertificateOfCopies.{entries_of, need_over};
 ghost use Rattle.mc_maker.specs.EntriesByLan.{AreEntriesByLan, entry_by_held_entries};
 ghost use Rattle.mc_maker.specs.EntriesByLan.{held_entry_at, held_entries, need_by_held_entries};

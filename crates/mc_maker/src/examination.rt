@@ -1,17 +1,14 @@
 //! Examines a flow: it has a certificate, or a travel finds a fault.
 
-ghost use Rattle.std.specs.Prelude.{◌≡◌, ◌↔◌, ◌<◌, All, IfNone, IfOk, IfSome, IsSome, IsTrue};
+ghost use Rattle.std.specs.Prelude.{◌≡◌, ◌↔◌, ◌<◌, All, IfOk, IfSome, IsSome, IsTrue};
 ghost use Rattle.std.specs.Prelude.{length, map};
 ghost use Rattle.std.specs.List.Sorted.{IsStrictlyIncreasing};
-ghost use Rattle.mc_theory.specs.Certificates.{IsAccepted, IsReordering, IsRight};
-ghost use Rattle.mc_theory.specs.CertificateOfCopies.{entries_of};
-ghost use Rattle.mc_forward.specs.Domains.{net_of, ttl_of};
-ghost use Rattle.mc_forward.specs.FlightsInDomain.{net_in};
+ghost use Rattle.mc_theory.specs.Certificates.{IsAccepted, IsRight};
+ghost use Rattle.mc_forward.specs.Domains.{net_of};
 ghost use Rattle.mc_cert.specs.Certificate.{IsEntryOf, IsWritableTree};
 ghost use Rattle.mc_maker.specs.Examined.{FindsFault, IfCertified, IfFound, IffTravelsFindNothing};
 ghost use Rattle.mc_maker.specs.Examined.{AreEntriesOfCleanTravel, IsFirstPickTravel, IsTtlOfFault};
 ghost use Rattle.mc_maker.specs.Examined.{is_certified};
-ghost use Rattle.mc_maker.specs.Examined.{AreCleanCopies};
 
 use crate::examined_flights::{ExaminedFlights, examine_to_end};
 use mc_cert::Reached;
@@ -43,21 +40,21 @@ pub enum Examined {
 /// `Memory` if an allocation fails.
 pub fn examine(alloc: Global, domain: &Domain, flow: u32) -> Result<Examined, Memory>
     requires known { flow < length domain.now.topology.flows }
-    // The entries of a certified flow are accepted,
+    // The entries of a certified flow are accepted.
     ensures accepted { IfOk result (IfCertified (IsAccepted (net_of domain.now flow))) }
-    // by ascending numbers of their LANs,
+    // They are in the order of their LANs' numbers.
     ensures ascending { IfOk result (IfCertified (λ es. IsStrictlyIncreasing (map (λ e. e.lan) es))) }
-    // of the topology,
+    // Their LANs and routers are the topology's.
     ensures listed { IfOk result (IfCertified (All (IsEntryOf domain.now.topology))) }
-    // which a certificate can hold,
+    // A certificate can hold them.
     ensures writable { IfOk result (IfCertified IsWritableTree) }
-    // and those of the copies that the travel at TTL 255 carried.
+    // They are those of the copies that the travel at TTL 255 carried.
     ensures made { IfOk result (IfCertified (AreEntriesOfCleanTravel domain.now flow)) }
-    // A found travel is the one at that TTL in which the first waiting copy is handled each time;
+    // A found travel is the one at that TTL in which the first waiting copy is handled each time.
     ensures travel { IfOk result (IfFound (IsFirstPickTravel domain.now flow)) }
-    // it finds a fault;
+    // A found travel finds a fault.
     ensures fault { IfOk result (IfFound (λ ttl travel. FindsFault travel)) }
-    // and its TTL is 255 if a fault is found there, and otherwise the flow's.
+    // Its TTL is 255 if a fault is found there, and otherwise the flow's.
     ensures ttl { IfOk result (IfFound (λ ttl travel. IsTtlOfFault domain.now flow ttl)) }
     // The flow is certified exactly if it is right.
     ensures right { IfOk result (λ examined.
@@ -83,23 +80,23 @@ pub fn examine(alloc: Global, domain: &Domain, flow: u32) -> Result<Examined, Me
 /// `Memory` if an allocation fails.
 pub fn make(alloc: Global, domain: &Domain, flow: u32) -> Result<Option<Vec<Reached>>, Memory>
     requires known { flow < length domain.now.topology.flows }
-    // The entries are accepted,
+    // The entries are accepted.
     ensures accepted { IfOk result (λ made. IfSome made (λ es.
         IsAccepted (net_of domain.now flow) es.items)) }
-    // by ascending numbers of their LANs,
+    // They are in the order of their LANs' numbers.
     ensures ascending { IfOk result (λ made. IfSome made (λ es.
         IsStrictlyIncreasing (map (λ e. e.lan) es.items))) }
-    // of the topology,
+    // Their LANs and routers are the topology's.
     ensures listed { IfOk result (λ made. IfSome made (λ es.
         All (IsEntryOf domain.now.topology) es.items)) }
-    // which a certificate can hold,
+    // A certificate can hold them.
     ensures writable { IfOk result (λ made. IfSome made (λ es. IsWritableTree es.items)) }
-    // and those of the copies that the travel at TTL 255 carried.
+    // They are those of the copies that the travel at TTL 255 carried.
     ensures made { IfOk result (λ made. IfSome made (λ es. AreEntriesOfCleanTravel domain.now flow
         es.items)) }
-    // There are entries exactly if the flow is right,
+    // There are entries exactly if the flow is right.
     ensures right { IfOk result (λ made. IsSome made ↔ IsRight (net_of domain.now flow)) }
-    // and exactly if the travels at TTL 255 and at the flow's TTL both find nothing.
+    // There are entries exactly if the travels at TTL 255 and at the flow's TTL both find nothing.
     ensures travels { IfOk result (λ made. IffTravelsFindNothing domain.now flow (IsSome made)) }
 {
     let _rules = domain.topology();

@@ -78,29 +78,29 @@ pub fn examine_to_end<'d>(
     flow: u32,
 ) -> Result<ExaminedFlights<'d>, Memory>
     requires known { flow < length domain.now.topology.flows }
-    // The entries of a certified flow are accepted,
+    // The entries of a certified flow are accepted.
     ensures accepted { IfOk result (λ examined_flights. IfCertified (IsAccepted (net_of domain.now flow))
         (without_flights domain.now flow examined_flights)) }
-    // by ascending numbers of their LANs,
+    // They are in the order of their LANs' numbers.
     ensures ascending { IfOk result (λ examined_flights.
         IfCertified (λ es. IsStrictlyIncreasing (map (λ e. e.lan) es))
         (without_flights domain.now flow examined_flights)) }
-    // of the topology,
+    // Their LANs and routers are the topology's.
     ensures listed { IfOk result (λ examined_flights. IfCertified (All (IsEntryOf domain.now.topology))
         (without_flights domain.now flow examined_flights)) }
-    // which a certificate can hold,
+    // A certificate can hold them.
     ensures writable { IfOk result (λ examined_flights. IfCertified IsWritableTree
         (without_flights domain.now flow examined_flights)) }
-    // and those of the copies that the travel at TTL 255 carried.
+    // They are those of the copies that the travel at TTL 255 carried.
     ensures made { IfOk result (λ examined_flights. IfCertified (AreEntriesOfCleanTravel domain.now flow)
         (without_flights domain.now flow examined_flights)) }
     // A found travel is the one at that TTL in which the first waiting copy is handled each time, with
-    // the flight that it ends with;
+    // the flight that it ends with.
     ensures flights { IfOk result (HasExaminedFlights domain.now flow) }
-    // it finds a fault;
+    // A found travel finds a fault.
     ensures fault { IfOk result (λ examined_flights. IfFound (λ ttl travel. FindsFault travel)
         (without_flights domain.now flow examined_flights)) }
-    // and its TTL is 255 if a fault is found there, and otherwise the flow's.
+    // Its TTL is 255 if a fault is found there, and otherwise the flow's.
     ensures ttl { IfOk result (λ examined_flights. IfFound (λ ttl travel. IsTtlOfFault domain.now flow ttl)
         (without_flights domain.now flow examined_flights)) }
     // The flow is certified exactly if it is right.

@@ -1,6 +1,6 @@
 //! The finding of a flight, if it has one.
 
-ghost use Rattle.std.specs.Prelude.{◌≡◌, ◌<◌, All, IfSome, List, [], is_some, length};
+ghost use Rattle.std.specs.Prelude.{◌≡◌, ◌<◌, List, [], is_some, length};
 ghost use Rattle.mc_theory.specs.Lists.{below};
 ghost use Rattle.mc_theory.specs.Flights.{Copy};
 ghost use Rattle.mc_theory.specs.Findings.{first_double, finding, walk_visits, missed};

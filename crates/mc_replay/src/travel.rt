@@ -90,10 +90,11 @@ pub fn replay_to_end<'d, P: Picker>(
 ) -> Result<FinishedTravel<'d>, Memory>
     requires flow { flow < length domain.now.topology.flows }
     requires ttl { 0 < ttl }
-    // The flight is one of the flow in the domain,
+    // The flight is one in the domain.
     ensures domain { IfOk result (λ ended. ended.flight.domain ≡ domain.now) }
+    // The flight is one of the flow.
     ensures flow { IfOk result (λ ended. ended.flight.flow ≡ flow) }
-    // and the travel is the run of the picker's choices up to this flight.
+    // The travel is the run of the picker's choices up to this flight.
     ensures run { IfOk result (λ ended. IsRunTo
         (replay_of domain.now flow ttl (P.choices picker.old)) ended.travel
         ended.flight.flight) }
@@ -132,11 +133,11 @@ pub fn replay<P: Picker>(
     // It has at most as many events as there are placed interfaces.
     ensures short { IfOk result (EventsAtMostPlacedVifs
         (replay_of domain.now flow ttl (P.choices picker.old))) }
-    // That flight shows what the finding means,
+    // The flight that the travel ends with shows what the finding means.
     ensures shown { IfOk result (EndShowsFinding
         (replay_of domain.now flow ttl (P.choices picker.old))) }
-    // and in it the walk back from each copy ends at the source's copy, so that `Loop` and `Duplicate`
-    // exclude each other.
+    // In that flight the walk back from each copy ends at the source's copy, so that `Loop` and
+    // `Duplicate` exclude each other.
     ensures walks { IfOk result (WalksEndAtSource
         (replay_of domain.now flow ttl (P.choices picker.old))) }
     // Any other finding than `Clean` shows that the flow isn't right, if the TTL is at least the

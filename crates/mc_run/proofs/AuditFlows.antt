@@ -39,7 +39,7 @@ use Rattle.mc_explain.specs.declared.causes.Cause.{Cause}
 use Rattle.mc_run.specs.AuditEnd.{FlowAnswer, are_right, count, is_right, is_unwanted, is_wrong}
 use Rattle.mc_run.specs.AuditEnd.{with_status}
 use Rattle.mc_run.specs.AuditPieces.{AreFlowsPushed, IsFlowPushed, explanation_in}
-use Rattle.mc_run.specs.AuditReasons.{IsExplanation, without_remedies}
+use Rattle.mc_run.specs.AuditExplanation.{IsExplanation, without_remedies}
 use Rattle.mc_run.specs.AuditRun.{IsFlowAnswer, AuditedValue, is_whole, excluded, trees_shown}
 use Rattle.mc_run.specs.AuditText.{Explanation}
 use Rattle.mc_run.specs.AuditFlowText.{is_hidden, right_flow_lines, status_of, status_of_right}

@@ -36,7 +36,7 @@ use Rattle.mc_run.specs.AuditRun.{trees_shown}
 use Rattle.mc_run.specs.AuditText.{Explanation, events_if_shown, explanation_lines}
 use Rattle.mc_run.specs.AuditFlowText.{answer_lines, right_flow_lines, wrong_lines_or_object}
 use Rattle.mc_run.specs.AuditFlowText.{wrong_flow_lines}
-use Rattle.mc_run.specs.AuditReasons.{IsExplanation}
+use Rattle.mc_run.specs.AuditExplanation.{IsExplanation}
 use Rattle.mc_tables.specs.Summary.{SummaryValue}
 use Rattle.mc_maker.specs.ExaminedFlights.{HasExaminedFlights}
 use Rattle.mc_maker.specs.declared.examined_flights.ExaminedFlights.{ExaminedFlights}

@@ -27,9 +27,9 @@ use Rattle.mc_json.specs.FlowData.{wrong_line_of_travel, wrong_line}
 use Rattle.mc_json.specs.WhyData.{why_data}
 use Rattle.mc_run.specs.AuditObjects.{wrong_object}
 use Rattle.mc_run.specs.AuditPieces.{explanation_in}
-use Rattle.mc_run.specs.AuditReasons.{IsExplanation, IsSearchIfMissed, ArePrintedCauses, is_remedy}
-use Rattle.mc_run.specs.AuditReasons.{search_context}
-use Rattle.mc_run.specs.AuditReasons.{without_remedies}
+use Rattle.mc_run.specs.AuditExplanation.{IsExplanation, IsSearchIfMissed, ArePrintedCauses, is_remedy}
+use Rattle.mc_run.specs.AuditExplanation.{search_context}
+use Rattle.mc_run.specs.AuditExplanation.{without_remedies}
 use Rattle.mc_run.specs.AuditRun.{AuditedValue, is_whole, excluded}
 use Rattle.mc_run.specs.AuditText.{Explanation, events_if_shown, explanation_lines, searched_lines}
 use Rattle.mc_run.specs.AuditText.{wrong_lines}

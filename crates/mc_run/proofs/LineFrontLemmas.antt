@@ -109,7 +109,7 @@ pub is_front_in_file-found : {V E : Type 0} (items : V → List ℕ) (contents :
 is_front_in_file-found items contents left name line (Err fault) opened few known = tt
 is_front_in_file-found items contents left name line (Ok None) opened few known = tt
 is_front_in_file-found items contents left name line (Ok (Some front)) opened few known = record {
-  few = few;
+  bounded = few;
   known = λ files is. by contents opened files is;
 }
   where

@@ -31,7 +31,7 @@ use Rattle.mc_explain.specs.declared.searching.LanSearch.{LanSearch}
 use Rattle.mc_explain.specs.declared.causes.Cause.{Cause}
 use Rattle.mc_run.specs.AuditEnd.{FlowAnswer, are_right, begin_lines, end_lines, excluded_marks}
 use Rattle.mc_run.specs.AuditEnd.{verdict_line}
-use Rattle.mc_run.specs.AuditReasons.{IsExplanation, IsSearchAt255, also_missed}
+use Rattle.mc_run.specs.AuditExplanation.{IsExplanation, IsSearchAt255, also_missed}
 use Rattle.mc_run.specs.AuditRun.{AreFlowAnswers, HasUnwanted, IsFlowAnswer, IsAudited, IsChecked}
 use Rattle.mc_run.specs.AuditRun.{trees_shown}
 use Rattle.mc_run.specs.AuditText.{Explanation}

@@ -35,9 +35,9 @@ use Rattle.mc_explain.specs.WantedText.{missed_besides}
 use Rattle.mc_explain.specs.declared.searching.LanSearch.{LanSearch}
 use Rattle.mc_explain.specs.declared.causes.Cause.{Cause}
 use Rattle.mc_explain.proofs.UniqueCauseLemmas.{causes-are_unique}
-use Rattle.mc_run.specs.AuditReasons.{IsExplanation, IsSearchAt255, IsSearchIfMissed, also_missed}
-use Rattle.mc_run.specs.AuditReasons.{search_context}
-use Rattle.mc_run.specs.AuditReasons.{without_remedies}
+use Rattle.mc_run.specs.AuditExplanation.{IsExplanation, IsSearchAt255, IsSearchIfMissed, also_missed}
+use Rattle.mc_run.specs.AuditExplanation.{search_context}
+use Rattle.mc_run.specs.AuditExplanation.{without_remedies}
 use Rattle.mc_run.specs.AuditText.{Explanation}
 use Rattle.mc_run.specs.MakeRun.{IsExamined}
 

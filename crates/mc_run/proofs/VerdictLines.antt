@@ -136,12 +136,12 @@ pub record HasWordsAfterLines (begin tail rest : List ℕ) : Type 0 where
   pub is : tail ≡ front ++ (begin ++ rest)
 
 -- words at the start of a line, in a line or after it, start that line or come after it
-pub is_left-inside_line : (begin xs tail front rest : List ℕ) → HasNoByte 10 xs → IsLineStart front
+pub words_at_line_start-cases : (begin xs tail front rest : List ℕ) → HasNoByte 10 xs → IsLineStart front
     → xs ++ (10 ∷ tail) ≡ front ++ (begin ++ rest)
     → (xs ++ (10 ∷ tail) ≡ begin ++ rest) ⊎ HasWordsAfterLines begin tail rest
-is_left-inside_line begin xs tail front rest none (inl empty) same =
+words_at_line_start-cases begin xs tail front rest none (inl empty) same =
     inl (same ∙ ap (λ ys. ys ++ (begin ++ rest)) empty)
-is_left-inside_line begin xs tail front rest none (inr (before, is)) same =
+words_at_line_start-cases begin xs tail front rest none (inr (before, is)) same =
     let more = begin ++ rest in
     let whole : xs ++ (10 ∷ tail) ≡ before ++ (10 ∷ more) =
     same ∙ ap (λ ys. ys ++ more) is ∙ append_assoc before (10 ∷ []) more in
@@ -186,7 +186,7 @@ pub no_yes_line-line : (xs : List ℕ) → HasNoByte 10 xs
 no_yes_line-line xs none other = record {
   starts = inr (xs, refl);
   left = λ begin front rest tail are starts same.
-      elim (is_left-inside_line begin xs tail front rest none starts
+      elim (words_at_line_start-cases begin xs tail front rest none starts
       (sym (append_assoc xs (codes "\n") tail) ∙ same)) [
         | inl begins ↦ absurd (other begin tail rest are begins)
         | inr left ↦ left

@@ -19,7 +19,7 @@ use Rattle.mc_run.specs.declared.fault.RunFault.{RunFault}
 use Rattle.mc_run.specs.declared.run_output.RunOutput.{RunOutput}
 use Rattle.mc_run.proofs.AuditLines.{no_yes_line-text_before_verdict, text_before_verdict}
 use Rattle.mc_run.proofs.RunLemmas.{IsOutputOf, SaysYesByLine, headline-check_says_yes}
-use Rattle.mc_run.proofs.VerdictLines.{AreLinesWithoutYes, is_left-inside_line, no_yes_line-flow_lines}
+use Rattle.mc_run.proofs.VerdictLines.{AreLinesWithoutYes, words_at_line_start-cases, no_yes_line-flow_lines}
 
 -- ---- the last line
 
@@ -107,7 +107,7 @@ has_line-last_words lines words front rest json all other are starts same =
     let split_text = ap (λ xs. lines ++ xs) (sym (last_words-verdict_line json all)) ∙ same in
     let l = other.left words front rest (last_words_of_verdict json all ++ codes "\n") are starts
     split_text in
-    elim (is_left-inside_line words (last_words_of_verdict json all) [] l.front rest
+    elim (words_at_line_start-cases words (last_words_of_verdict json all) [] l.front rest
     (last_words-no_line_feed json all) l.starts l.is) [
       | inl begins ↦ yes_words-begin_last_line json all words rest are begins
       | inr left ↦ absurd (yes_words-not_inside left.front words rest are left.is)

@@ -14,7 +14,7 @@ use Rattle.mc_input.specs.declared.domain.FolderDomain.{FolderDomain}
 use Rattle.mc_run.specs.AuditEnd.{FlowAnswer, count, end_objects, end_text, end_text_or_objects}
 use Rattle.mc_run.specs.AuditEnd.{is_right, is_unwanted, is_wrong}
 use Rattle.mc_run.specs.AuditObjects.{right_objects, wrong_object}
-use Rattle.mc_run.specs.AuditReasons.{search_context}
+use Rattle.mc_run.specs.AuditExplanation.{search_context}
 use Rattle.mc_run.specs.AuditRun.{IsFlowAnswer, AuditedValue, excluded, is_whole, trees_shown}
 use Rattle.mc_run.specs.AuditText.{Explanation, explanation_lines, right_lines, searched_lines, wrong_lines}
 use Rattle.mc_run.specs.AuditFlowText.{right_flow_lines, shown_trees_with, status_of, wrong_flow_lines}

@@ -25,7 +25,7 @@ use Rattle.mc_json.specs.FlowData.{WrongFlow, wrong_data}
 use Rattle.mc_json.specs.RowData.{line_of}
 use Rattle.mc_run.specs.AuditEnd.{FlowAnswer, are_right, begin_lines, count, end_lines, is_unwanted}
 use Rattle.mc_run.specs.AuditEnd.{excluded_marks, verdict_line}
-use Rattle.mc_run.specs.AuditReasons.{IsExplanation}
+use Rattle.mc_run.specs.AuditExplanation.{IsExplanation}
 use Rattle.mc_run.specs.AuditText.{Explanation}
 use Rattle.mc_run.specs.AuditFlowText.{answer_lines, right_flow_lines, shown_trees_with, wrong_flow_lines}
 use Rattle.mc_run.specs.CheckRun.{IsLineStart, KeepsHeadline, WroteAtStart, WroteYes}

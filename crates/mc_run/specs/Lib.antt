@@ -1,7 +1,7 @@
 pub mod AuditEnd
 pub mod AuditObjects
 pub mod AuditPieces
-pub mod AuditReasons
+pub mod AuditExplanation
 pub mod AuditRun
 pub mod AuditText
 pub mod AuditFlowText

@@ -40,7 +40,7 @@ quoted bytes = flat_map quoted_byte bytes
 -- part. Of a source with unknown contents, only its greatest length is known.
 pub record IsFrontInFile (contents : Option (List FileText)) (name : List ℕ) (line : ℕ) (front : List ℕ)
     : Type 0 where
-  pub few : length front ≤ 100
+  pub bounded : length front ≤ 100
   pub known : (files : List FileText) → contents ≡ Some files →
       (bytes : List ℕ) × (file_named files name ≡ Some bytes)
       × (front ≡ line_front line (take 16777216 bytes))

@@ -1,11 +1,11 @@
 //! `mcaudit audit`: which flows of a folder's domain are forwarded as they should be, and for each
 //! other flow what a packet of it meets, and why.
 
-ghost use Rattle.std.specs.Prelude.{◌≡◌, ◌≢◌, ◌<◌, ◌==◌, ◌&&◌, IfErr, IfOk, IfSome, Err, List, false};
+ghost use Rattle.std.specs.Prelude.{◌≡◌, ◌≢◌, ◌<◌, ◌==◌, ◌&&◌, IfErr, IfOk, IfSome, Err, false};
 ghost use Rattle.std.specs.Prelude.{length, map};
 ghost use Rattle.std.specs.String.{string_bytes};
 ghost use Rattle.mc_run.specs.AuditPieces.{AreAllFlowsPushed, HasItsMarksAndInterfaces, audited_value};
-ghost use Rattle.mc_run.specs.AuditPieces.{audited_without, output_of, yes_of};
+ghost use Rattle.mc_run.specs.AuditPieces.{audited_without, yes_of};
 ghost use Rattle.mc_run.specs.AuditRun.{AreFoundInWhole, AuditSaysYes, HasUnwanted, FilesKeepHeadline};
 ghost use Rattle.mc_run.specs.AuditRun.{IsAudited, IsAuditText};
 ghost use Rattle.mc_run.specs.AuditRun.{MeansAudited, SaysOfEach, SaysWhichAreRight};
@@ -201,7 +201,7 @@ pub fn run_audit<F: PieceSource, W: Output>(
     // fault whatever these routers have: the flow isn't right either in the domain with them.
     ensures excluded { IsWrittenWhole (AreFoundInWhole options (map (λ name. name.now) without.now))
         (F.contents files.old) (yes_of result) (W.written output.old) (W.written output.new) }
-    // After any other fault, nothing was written.
+    // After any fault but `Write`, nothing was written.
     ensures unwritten { IfErr result (λ fault. fault ≢ RunFault.Write → output.new ≡ output.old) }
     // A fault is one of a folder's files or of the excluded names, a device's, or `Memory`.
     ensures faults { IfErr result IsFaultOfAudit }

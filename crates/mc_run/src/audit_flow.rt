@@ -7,7 +7,7 @@ ghost use Rattle.mc_maker.specs.ExaminedFlights.{HasExaminedFlights, without_fli
 ghost use Rattle.mc_maker.specs.declared.examined_flights.ExaminedFlights.TheVariants.{FoundAtTtl255};
 ghost use Rattle.mc_maker.specs.declared.examined_flights.ExaminedFlights.TheVariants.{FoundAtFlowTtl};
 ghost use Rattle.mc_run.specs.AuditPieces.{IsFlowPushed, HasItsMarksAndInterfaces, audited_value};
-ghost use Rattle.mc_run.specs.AuditReasons.{ArePrintedCauses, is_remedy as says_remedy, without_remedies};
+ghost use Rattle.mc_run.specs.AuditExplanation.{ArePrintedCauses, is_remedy as says_remedy, without_remedies};
 ghost use Rattle.mc_run.specs.AuditRun.{is_whole};
 ghost use Rattle.mc_run.specs.MakeRun.{IsExamined};
 
@@ -125,7 +125,7 @@ fn push_examined(
 ) -> Result<FlowStatus, NoMemory>
     requires flow { flow < length (audited_value audited.now).domain.topology.flows }
     requires ready { HasItsMarksAndInterfaces audited.now }
-    requires few { length shown_trees.old < 4096 }
+    requires room { length shown_trees.old < 4096 }
     requires flights { HasExaminedFlights (audited_value audited.now).domain flow flights.now }
     requires examined { IsExamined (audited_value audited.now).domain flow
         (without_flights (audited_value audited.now).domain flow flights.now) }
@@ -160,7 +160,7 @@ pub(crate) fn push_flow(
 ) -> Result<FlowStatus, NoMemory>
     requires flow { flow < length (audited_value audited.now).domain.topology.flows }
     requires ready { HasItsMarksAndInterfaces audited.now }
-    requires few { length shown_trees.old < 4096 }
+    requires room { length shown_trees.old < 4096 }
     ensures ok { IfOk result (λ flow_status. IsFlowPushed (audited_value audited.now) options flow
         flow_status shown_trees.old
         shown_trees.new (string_bytes text.old) (string_bytes text.new)) }

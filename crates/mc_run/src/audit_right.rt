@@ -83,7 +83,7 @@ fn push_tree_once(
     shown_trees: &mut DistinctTrees,
     entries: &[Reached],
 ) -> Result<u32, NoMemory>
-    requires bounded { length shown_trees.old < 4096 }
+    requires room { length shown_trees.old < 4096 }
     ensures shown_trees { OnOk result (shown_trees.new ≡ with_tree shown_trees.old entries.now) }
     ensures number { IfOk result (λ number. number ≡ tree_number_of shown_trees.new entries.now) }
     ensures line { OnOk result (string_bytes text.new ≡
@@ -122,7 +122,7 @@ fn push_right_objects(
 ) -> Result<FlowStatus, NoMemory>
     requires flow { flow < length (audited_value audited.now).domain.topology.flows }
     requires copies { copies ≡ length entries.now }
-    requires few { length shown_trees.old < 4096 }
+    requires room { length shown_trees.old < 4096 }
     ensures flow_status { IfOk result (λ flow_status.
         flow_status ≡ status_of_right (lans_wanting_flow audited.now flow)) }
     ensures shown_trees { OnOk result (shown_trees.new ≡ with_tree shown_trees.old entries.now) }
@@ -153,7 +153,7 @@ fn push_right(
 ) -> Result<FlowStatus, NoMemory>
     requires flow { flow < length (audited_value audited.now).domain.topology.flows }
     requires copies { copies ≡ length entries.now }
-    requires few { length shown_trees.old < 4096 }
+    requires room { length shown_trees.old < 4096 }
     ensures flow_status { IfOk result (λ flow_status.
         flow_status ≡ status_of_right (lans_wanting_flow audited.now flow)) }
     ensures shown_trees { OnOk result (shown_trees.new ≡ with_shown_tree options.json
@@ -184,7 +184,7 @@ fn push_with_verdict(
     text: &mut String,
 ) -> Result<FlowStatus, NoMemory>
     requires flow { flow < length (audited_value audited.now).domain.topology.flows }
-    requires few { length shown_trees.old < 4096 }
+    requires room { length shown_trees.old < 4096 }
     requires accepted { IfOk answer (λ verdict. verdict ≡ is_yes (length entries.now)) }
     ensures answered { OnOk result (IsOkAnd answer (λ verdict. verdict ≡ is_yes (length entries.now))) }
     ensures flow_status { IfOk result (λ flow_status.
@@ -224,7 +224,7 @@ pub(crate) fn push_checked(
     text: &mut String,
 ) -> Result<FlowStatus, NoMemory>
     requires flow { flow < length (audited_value audited.now).domain.topology.flows }
-    requires few { length shown_trees.old < 4096 }
+    requires room { length shown_trees.old < 4096 }
     requires lans { All (λ e. e.lan < length (audited_value audited.now).domain.topology.lans) entries.now }
     requires accepted { IsAccepted (net_of (audited_value audited.now).domain flow) entries.now }
     ensures headline { OnOk result

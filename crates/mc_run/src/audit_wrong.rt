@@ -7,7 +7,7 @@ ghost use Rattle.mc_run.specs.AuditPieces.{AppendsLinesOfFlow, HasItsMarksAndInt
 ghost use Rattle.mc_run.specs.AuditPieces.{audited_value, explanation_lines_of, search_context_of};
 ghost use Rattle.mc_run.specs.AuditPieces.{searched_lines_of, wrong_flow_lines_of, wrong_lines_of};
 ghost use Rattle.mc_run.specs.AuditPieces.{wrong_object_of};
-ghost use Rattle.mc_run.specs.AuditReasons.{IsSearchIfMissed};
+ghost use Rattle.mc_run.specs.AuditExplanation.{IsSearchIfMissed};
 ghost use Rattle.mc_run.specs.AuditText.{events_if_shown};
 
 use crate::audit_options::AuditOptions;

@@ -30,13 +30,13 @@ use std::alloc::Global;
 
 /// A domain, and a certificate of its topology.
 #[derive(Drop)]
-struct Certified {
+struct DomainWithCertificate {
     domain: Domain,
     certificate: Certificate,
 }
 
 /// A domain that was read with a certificate's text, and the certificate, which is read here.
-fn with_certificate(alloc: Global, read: BundleDomain) -> Result<Certified, RunFault>
+fn with_certificate(alloc: Global, read: BundleDomain) -> Result<DomainWithCertificate, RunFault>
     requires rules { IsDomain read.domain }
     requires certified { is_some read.certificate ≡ true }
     ensures means { (text : List ℕ) →
@@ -57,7 +57,7 @@ fn with_certificate(alloc: Global, read: BundleDomain) -> Result<Certified, RunF
         unreachable!()
     };
     let certificate = Certificate::read(alloc, &text, domain.topology())?;
-    Ok(Certified {
+    Ok(DomainWithCertificate {
         domain,
         certificate,
     })
@@ -65,7 +65,7 @@ fn with_certificate(alloc: Global, read: BundleDomain) -> Result<Certified, RunF
 
 /// Reads the domain and the certificate of an input's bundle. The domain has the facts of each flow that
 /// the bundle has.
-fn read_certified<R: Input>(alloc: Global, input: &mut R) -> Result<Certified, RunFault>
+fn read_certified<R: Input>(alloc: Global, input: &mut R) -> Result<DomainWithCertificate, RunFault>
     requires failures { R.failed input.old < u64.MAX }
     ensures same { R.borrows input.new ≡ R.borrows input.old }
     ensures means { IfOk result (λ read. IfSome (R.remaining input.old) (λ text.
@@ -83,7 +83,7 @@ fn read_certified<R: Input>(alloc: Global, input: &mut R) -> Result<Certified, R
 }
 
 /// The text of the verdicts on a domain's flows, by its certificate, and whether all verdicts are yes.
-fn verdicts_of_domain(alloc: Global, read: &Certified) -> Result<RunOutput, NoMemory>
+fn verdicts_of_domain(alloc: Global, read: &DomainWithCertificate) -> Result<RunOutput, NoMemory>
     requires valid { BelongsTo read.now.domain.topology read.now.certificate }
     ensures text { IfOk result (λ run_output. IsTextOfVerdicts read.now.domain read.now.certificate
         run_output.yes (string_bytes run_output.text)) }
@@ -148,7 +148,7 @@ pub fn run_check<R: Input, W: Output>(
     // After a `Write` fault, a proper part of a right text was written, from its front.
     ensures part { result ≡ Err RunFault.Write → IfSome (R.remaining input.old) (λ text.
         WritesPart IsVerdictText text (W.written output.old) (W.written output.new)) }
-    // After any other fault, nothing was written.
+    // After any fault but `Write`, nothing was written.
     ensures unwritten { IfErr result (λ fault. fault ≢ RunFault.Write → output.new ≡ output.old) }
     // A fault is one of a bundle with a certificate, a device's, or `Memory`.
     ensures faults { IfErr result IsFaultOfCheck }

@@ -20,28 +20,28 @@ use mc_input::summaries_are_unique;
 /// `check` says yes to each certificate that `make` writes.
 pub fn check_accepts_made_certificates()
     // If the certificate has at most 16,777,216 bytes, it is read, line feed included, as the lists that
-    // were made,
+    // were made.
     ensures read { (text written : List ℕ) (made : IsMadeText text true written) →
         length written ≤ 16777216 →
         parse_certificate made.domain.topology written ≡ Ok (certified_lists made.holds.examined) }
-    // and each of them is accepted.
+    // Each of the lists is accepted.
     ensures accepted { (text written : List ℕ) (made : IsMadeText text true written)
         (flow : ℕ) (es : Tree) → slice_get (certified_lists made.holds.examined) flow ≡ Some es →
         IsAccepted (net_of made.domain flow) es }
-    // So the same bundle with the certificate as one more part has a verdict text that says yes,
+    // The same bundle with the certificate as one more part has a verdict text that says yes.
     ensures yes { ForEachBundleWithMadeCertificate (λ bundle.
         (printed : List ℕ) × IsVerdictText bundle true printed) }
-    // and none that says no.
+    // It has no verdict text that says no.
     ensures only { ForEachBundleWithMadeCertificate (λ bundle.
         (all : Bool) (printed : List ℕ) → IsVerdictText bundle all printed → all ≡ true) }
 {}
 
 /// The text of a bundle, and the files of a folder, mean at most one domain.
 pub fn input_means_one_domain_at_most()
-    // A bundle, with or without a certificate, determines the domain and the certificate's text,
+    // A bundle, with or without a certificate, determines the domain and the certificate's text.
     ensures bundle { (text : List ℕ) (a b : Option (List ℕ)) (d e : DomainValue)
         → is_some b ≡ is_some a → MeansDomain text a d → MeansDomain text b e → (d ≡ e) × (a ≡ b) }
-    // and the lists that the certificate denotes.
+    // A bundle with a certificate determines the domain and the lists that the certificate denotes.
     ensures certified { (text : List ℕ) (d e : DomainValue) (xs ys : List Tree)
         → MeansCertified text d xs → MeansCertified text e ys → (d ≡ e) × (xs ≡ ys) }
     // The files of a folder determine the domain.
@@ -69,11 +69,11 @@ pub fn verdict_yes_line_only_where_all_right()
         → IsVerdictText text all written → IsLineStart front
         → written ≡ front ++ (codes "verdict yes" ++ rest)
         → (all ≡ true) × (rest ≡ codes "\n") }
-    // The same holds for `audit`, whose line in JSON is an object:
+    // The same holds for `audit`, whose line in JSON is an object.
     ensures audit_has_line { (names : List (List ℕ)) (files : List FileText) (o : AuditOptions)
         (written old : List ℕ) → IsAuditText o names files true written
         → WroteAtStart (yes_words o.json) (Some old) (Some (old ++ written)) }
-    // it is the last one, and no line starts with the words of the other form.
+    // That line is the last one, and no line starts with the words of the other form.
     ensures audit_last { (names : List (List ℕ)) (files : List FileText) (o : AuditOptions)
         (all : Bool) (written : List ℕ) → IsAuditText o names files all written
         → IsYesLineLast o.json all written }

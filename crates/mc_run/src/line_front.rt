@@ -27,7 +27,7 @@ pub(crate) struct LineFront {
 impl LineFront {
     /// The empty front of the line with this number, counted from 1; 0 means the first line too.
     fn new(alloc: Global, line: u32) -> LineFront
-        ensures few { vec_len result.front ≤ MAX_SHOWN }
+        ensures bounded { vec_len result.front ≤ MAX_SHOWN }
         ensures front { (text : List ℕ) → front_after_more result text ≡ line_front line text }
     {
         LineFront {
@@ -39,8 +39,8 @@ impl LineFront {
     /// Takes the next byte of the line itself, and returns whether the front is complete.
     fn take_shown(&mut self, byte: u8) -> Result<bool, NoMemory>
         requires here { self.old.before ≡ 0 }
-        requires few { vec_len self.old.front ≤ MAX_SHOWN }
-        ensures few { vec_len self.new.front ≤ MAX_SHOWN }
+        requires bounded { vec_len self.old.front ≤ MAX_SHOWN }
+        ensures bounded { vec_len self.new.front ≤ MAX_SHOWN }
         ensures takes { IfOk result (TakesPiece self.old self.new (byte ∷ [])) }
     {
         if byte == b'\n' {
@@ -55,8 +55,8 @@ impl LineFront {
 
     /// Takes the next byte of the text, and returns whether the front is complete.
     fn take_byte(&mut self, byte: u8) -> Result<bool, NoMemory>
-        requires few { vec_len self.old.front ≤ MAX_SHOWN }
-        ensures few { vec_len self.new.front ≤ MAX_SHOWN }
+        requires bounded { vec_len self.old.front ≤ MAX_SHOWN }
+        ensures bounded { vec_len self.new.front ≤ MAX_SHOWN }
         ensures takes { IfOk result (TakesPiece self.old self.new (byte ∷ [])) }
     {
         if self.before == 0 {
@@ -70,8 +70,8 @@ impl LineFront {
 
     /// Takes the next piece of the text, and returns whether the front is complete.
     fn take(&mut self, piece: &[u8]) -> Result<bool, NoMemory>
-        requires few { vec_len self.old.front ≤ MAX_SHOWN }
-        ensures few { vec_len self.new.front ≤ MAX_SHOWN }
+        requires bounded { vec_len self.old.front ≤ MAX_SHOWN }
+        ensures bounded { vec_len self.new.front ≤ MAX_SHOWN }
         ensures takes { IfOk result (TakesPiece self.old self.new piece.now) }
     {
         for byte in piece {
@@ -99,10 +99,10 @@ fn seek_front<F: PieceSource>(
 ) -> Result<(), FileFault>
     requires reads { F.failed files.old < u64.MAX }
     requires room { 0 < length buffer.old }
-    requires few { vec_len sought.old.front ≤ MAX_SHOWN }
+    requires bounded { vec_len sought.old.front ≤ MAX_SHOWN }
     ensures same { F.borrows files.new ≡ F.borrows files.old }
     ensures kept { F.contents files.new ≡ F.contents files.old }
-    ensures few { vec_len sought.new.front ≤ MAX_SHOWN }
+    ensures bounded { vec_len sought.new.front ≤ MAX_SHOWN }
     ensures front { (text : List ℕ) → F.left files.old ≡ Some text →
         OnOk result (sought.new.front.items ≡ front_after_more sought.old (take MAX_PART text)) }
     ensures fault { IfErr result (λ fault. fault ≢ FileFault.TooLarge) }
@@ -138,7 +138,7 @@ fn front_in_open_file<F: PieceSource>(
     requires room { 0 < length buffer.old }
     ensures same { F.borrows files.new ≡ F.borrows files.old }
     ensures kept { F.contents files.new ≡ F.contents files.old }
-    ensures few { IfOk result (λ found. IfSome found (λ front. length front.items ≤ MAX_SHOWN)) }
+    ensures bounded { IfOk result (λ found. IfSome found (λ front. length front.items ≤ MAX_SHOWN)) }
     ensures front { (text : List ℕ) → F.left files.old ≡ Some text → IfOk result (λ found.
         IfSome found (λ front. front.items ≡ line_front line (take MAX_PART text))) }
     ensures failures { IfOk result (λ found. F.failed files.new

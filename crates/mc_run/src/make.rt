@@ -136,7 +136,7 @@ pub fn run_make<R: Input, W: Output>(
     // After a `Write` fault, a proper part of a right text was written, from its front.
     ensures part { result ≡ Err RunFault.Write → IfSome (R.remaining input.old) (λ text.
         WritesPart IsMadeText text (W.written output.old) (W.written output.new)) }
-    // After any other fault, nothing was written.
+    // After any fault but `Write`, nothing was written.
     ensures unwritten { IfErr result (λ fault. fault ≢ RunFault.Write → output.new ≡ output.old) }
     // A fault is one of a bundle without a certificate, a device's, or `Memory`.
     ensures faults { IfErr result IsFaultOfMake }

@@ -45,7 +45,7 @@ pub fn run_pack<F: FileSource, W: Output>(
     // After a `Write` fault, a proper part of the bundle was written, from its front.
     ensures part { result ≡ Err RunFault.Write → IfSome (F.contents files.old) (λ contents.
         WritesPackedPrefix certificate contents (W.written output.old) (W.written output.new)) }
-    // After any other fault, nothing was written.
+    // After any fault but `Write`, nothing was written.
     ensures unwritten { IfErr result (λ fault. fault ≢ RunFault.Write → output.new ≡ output.old) }
     // A fault is the topology's, that something is too large for a bundle, a device's, or `Memory`.
     ensures faults { IfErr result IsFaultOfPack }

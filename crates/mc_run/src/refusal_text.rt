@@ -228,7 +228,7 @@ pub fn print_refused_files<F: PieceSource, W: Output>(
     ensures printed { IsTextWritten (IsRefusalText (map (λ n. n.now) without.now)
         (F.contents files.old) (F.failed files.old) (F.failed files.new))
         result (W.written output.old) (W.written output.new) }
-    // After any other fault, nothing was written.
+    // After any fault but `Write`, nothing was written.
     ensures unwritten { IfErr result (λ fault. fault ≢ RunFault.Write → output.new ≡ output.old) }
     ensures failures { W.failed output.new ≡ failures_after is_write result (W.failed output.old) }
 {

@@ -115,7 +115,7 @@ pub fn run_replay<P: Picker, R: Input, W: Output>(
     ensures part { result ≡ Err RunFault.Write → IfSome (R.remaining input.old) (λ text.
         WritesPart (IsTravelText flow ttl (P.choices picker.old)) text
         (W.written output.old) (W.written output.new)) }
-    // After any other fault, nothing was written.
+    // After any fault but `Write`, nothing was written.
     ensures unwritten { IfErr result (λ fault. fault ≢ RunFault.Write → output.new ≡ output.old) }
     // A fault is one of a bundle without a certificate, that its topology lists no flow with this number,
     // a device's, or `Memory`.

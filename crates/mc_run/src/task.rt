@@ -74,7 +74,7 @@ pub fn run_task<R: Input, F: PieceSource, W: Output>(
     // A task that doesn't read the input, or the files, leaves it as it was.
     ensures input_unread { reads_input task.now ≡ false → input.new ≡ input.old }
     ensures files_unread { reads_files task.now ≡ false → files.new ≡ files.old }
-    // After any other fault, nothing was written.
+    // After any fault but `Write`, nothing was written.
     ensures unwritten { IfErr result (λ fault. fault ≢ RunFault.Write → output.new ≡ output.old) }
     // `Read` and `Write` come only where a call of that device failed.
     ensures input_failures { reads_input task.now ≡ true

@@ -134,7 +134,7 @@ pub fn run_wants<R: Input, W: Output>(
     ensures part { result ≡ Err RunFault.Write
         → WritesPartOfLine (R.remaining input.old) group source (W.written output.old)
         (W.written output.new) }
-    // After any other fault, nothing was written.
+    // After any fault but `Write`, nothing was written.
     ensures unwritten { IfErr result (λ fault. fault ≢ RunFault.Write → output.new ≡ output.old) }
     // A fault is the list's, a device's, or `Memory`.
     ensures faults { IfErr result IsFaultOfWants }

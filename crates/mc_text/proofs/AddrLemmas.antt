@@ -22,7 +22,8 @@ four_octets_below_256 a b c d k p q r s = grind arith
 
 -- each octet of an address is below 256
 pub octets_of-below_256 : (a k : ℕ) → get_or (octets_of a) k 0 < 256
-octets_of-below_256 a k = four_octets_below_256 _ _ _ _ k (omega arith) (omega arith) (omega arith) (omega arith)
+octets_of-below_256 a k =
+    four_octets_below_256 _ _ _ _ k (omega arith) (omega arith) (omega arith) (omega arith)
 
 -- the octets of the address of four octets are these
 pub octets_of-from_be_bytes : (octets : List ℕ) → length octets ≡ 4 → ((k : ℕ) → get_or octets k 0 < 256)

@@ -32,7 +32,8 @@ has_values_from-VALUES = refl
 
 -- the table's value at a byte is the value of that digit
 pub hex_value_of_table : (c : ℕ) → c < 256 → get_or VALUES.now c 0 ≡ hex_value_or_16 c
-hex_value_of_table c less = value_in_has_values_from 0 VALUES.now c c has_values_from-VALUES less (omega arith)
+hex_value_of_table c less =
+    value_in_has_values_from 0 VALUES.now c c has_values_from-VALUES less (omega arith)
 
 -- a word of eight bytes is the list of those at its eight places
 eight_bytes_by_place : (word : List ℕ) → length word ≡ 8

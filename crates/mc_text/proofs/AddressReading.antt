@@ -20,7 +20,8 @@ use Rattle.mc_text.specs.Addr.{IsAddr, octets_of, dotted}
 use Rattle.mc_text.specs.AddressReading.{numbers_between_dots, address_of_text, octets_in_order}
 use Rattle.mc_text.specs.AddressReading.{address_of_octets, address_of_word}
 use Rattle.mc_text.specs.AddressWord.{printed_octets, IsAddressWord}
-use Rattle.mc_text.proofs.AddrLemmas.{octets_of-below_256, octets_of-from_be_bytes, from_be_bytes-below_2_32, decode_of-below_256}
+use Rattle.mc_text.proofs.AddrLemmas.{octets_of-below_256, octets_of-from_be_bytes}
+use Rattle.mc_text.proofs.AddrLemmas.{from_be_bytes-below_2_32, decode_of-below_256}
 use Rattle.mc_text.proofs.AddrLemmas.{length-printed_octets}
 use Rattle.mc_text.proofs.BundleWords.{HasNoByte, HasNoByte-decimal}
 
@@ -30,7 +31,8 @@ abbrev split_at_dots : List ℕ → List (List ℕ)
 split_at_dots text = slice_split (λ b. b == 46) text
 
 -- the bytes before the first dot are the first part
-split_at_dots-append_dot : (xs ys : List ℕ) → HasNoByte 46 xs → split_at_dots (xs ++ 46 ∷ ys) ≡ xs ∷ split_at_dots ys
+split_at_dots-append_dot : (xs ys : List ℕ) → HasNoByte 46 xs
+    → split_at_dots (xs ++ 46 ∷ ys) ≡ xs ∷ split_at_dots ys
 split_at_dots-append_dot [] ys none = refl
 split_at_dots-append_dot (x ∷ xs) ys none = rw (none.0, split_at_dots-append_dot xs ys none.1) refl
 
@@ -74,7 +76,8 @@ unfolding address_of_text
 address_of_text-sound text a e =
     let octets = numbers_between_dots text in
     let same = (bytes_eq-Decides (ipv4_text octets) text).0 in
-    grind (arith, nat_tests, list_all-below_256 octets, from_be_bytes-below_2_32 octets, octets_of-from_be_bytes octets, same)
+    grind (arith, nat_tests, list_all-below_256 octets, from_be_bytes-below_2_32
+        octets, octets_of-from_be_bytes octets, same)
 
 -- the dotted text of an address is read as that address
 pub address_of_text-complete : (text : List ℕ) (a : ℕ) → IsAddr a → text ≡ dotted a
@@ -82,7 +85,8 @@ pub address_of_text-complete : (text : List ℕ) (a : ℕ) → IsAddr a → text
 unfolding address_of_text
 address_of_text-complete text a fits e =
     let numbers : numbers_between_dots (dotted a) ≡ octets_of a =
-    numbers_between_dots-dotted_text _ _ _ _ (octets_of-below_256 a 0) (octets_of-below_256 a 1) (octets_of-below_256 a 2) (octets_of-below_256 a 3) in
+    numbers_between_dots-dotted_text _ _ _ _ (octets_of-below_256 a 0) (octets_of-below_256 a 1)
+        (octets_of-below_256 a 2) (octets_of-below_256 a 3) in
     let all : list_all (λ n. ltb n 256) (octets_of a) ≡ true = grind (arith, nat_tests) in
     let same = (bytes_eq-Decides (dotted a) (dotted a)).1 refl in
     rw (e, numbers, all, same) (ap Some (from_be_bytes-to_be_bytes_4 a fits))
@@ -129,7 +133,8 @@ address_of_octets-sound order (Err f) a fit e = absurd cc
 pub address_of_word-sound : (order : Order) (word : List ℕ) (a : ℕ)
     → address_of_word order word ≡ Some a → IsAddr a × IsAddressWord order word a
 unfolding address_of_word
-address_of_word-sound order word a e = address_of_octets-sound order (decode_of word) a (decode_of-below_256 word) e
+address_of_word-sound order word a e =
+    address_of_octets-sound order (decode_of word) a (decode_of-below_256 word) e
 
 -- a word that shows an address is read as that address
 pub address_of_word-complete : (order : Order) (word : List ℕ) (a : ℕ) → IsAddr a

@@ -98,7 +98,8 @@ part_with_place p line header found =
 
 part_with_place-truncated : (p : BundlePlace) (line : List ℕ) (header : List ℕ × ℕ)
     (part : Result (List ℕ × List ℕ) BundleFault)
-    → (truncated_part (readable_bytes (p.room - part_room line header.1)) part >>= part_with_place (truncated p) line header)
+    → (truncated_part (readable_bytes (p.room - part_room line header.1)) part >>= part_with_place
+    (truncated p) line header)
     ≡ truncated_result (part >>= part_with_place p line header)
 part_with_place-truncated p line header (Ok found) = refl
 part_with_place-truncated p line header (Err e) = refl
@@ -129,7 +130,8 @@ part_for_line-truncated_by_size p line after header false short is =
       part_bytes_at-truncated header.1 (readable_bytes (p.room - part_room line header.1)) after,
     ) (part_with_place-truncated p line header (part_bytes_at header.1 after))
 
-part_for_line-truncated : (p : BundlePlace) (line after : List ℕ) (header : Option (List ℕ × ℕ)) → length line < 96
+part_for_line-truncated : (p : BundlePlace) (line after : List ℕ) (header : Option (List ℕ × ℕ))
+    → length line < 96
     → part_for_line (truncated p) line (take (readable_bytes p.room - (length line + 1)) after) header
     ≡ truncated_result (part_for_line p line after header)
 part_for_line-truncated p line after None short = refl
@@ -168,10 +170,13 @@ end_for_line-truncated p line after false short is =
 
 end_or_part-truncated : (p : BundlePlace) (line after : List ℕ) (ends : Bool) → length line < 96
     → (cond ends (end_for_line (truncated p) (take (readable_bytes p.room - (length line + 1)) after))
-    (part_for_line (truncated p) line (take (readable_bytes p.room - (length line + 1)) after) (parse_part_line line)))
+    (part_for_line (truncated p) line (take (readable_bytes p.room - (length line + 1)) after)
+    (parse_part_line line)))
     ≡ truncated_result (cond ends (end_for_line p after) (part_for_line p line after (parse_part_line line)))
-end_or_part-truncated p line after true short = end_for_line-truncated p line after (nat_lt p.room 4) short refl
-end_or_part-truncated p line after false short = part_for_line-truncated p line after (parse_part_line line) short
+end_or_part-truncated p line after true short =
+    end_for_line-truncated p line after (nat_lt p.room 4) short refl
+end_or_part-truncated p line after false short =
+    part_for_line-truncated p line after (parse_part_line line) short
 
 -- ---- a line
 
@@ -205,11 +210,13 @@ part_or_end_after-no_line : (p : BundlePlace) (short : Bool)
 part_or_end_after-no_line p true = refl
 part_or_end_after-no_line p false = refl
 
-part_or_end_after-truncated : (p : BundlePlace) (at : Option ℕ) → position (λ b. b == 10) (take 96 p.rest) ≡ at
+part_or_end_after-truncated : (p : BundlePlace) (at : Option ℕ)
+    → position (λ b. b == 10) (take 96 p.rest) ≡ at
     → part_or_end_after (truncated p) (cut_line (truncated p).rest at)
     ≡ truncated_result (part_or_end_after p (cut_line p.rest at))
 part_or_end_after-truncated p None is =
-    rw (is_short-take (readable_bytes p.room) p.rest (omega arith)) (part_or_end_after-no_line p (nat_lt (length p.rest) 96))
+    rw (is_short-take (readable_bytes p.room) p.rest (omega arith))
+        (part_or_end_after-no_line p (nat_lt (length p.rest) 96))
 part_or_end_after-truncated p (Some n) is =
     let found = (position-Some (λ b. b == 10) (take 96 p.rest) n 0 is).0 in
     let short : n < 96 = omega (arith, found, length-take 96 p.rest) in
@@ -225,7 +232,8 @@ part_or_end_after-truncated p (Some n) is =
     (bytes_eq (take n p.rest) (codes "end")) (omega (arith, size, short))))
 
 -- a place with its bytes cut to those that may matter is read as with all
-next_part_from-truncated : (p : BundlePlace) → next_part_from (truncated p) ≡ truncated_result (next_part_from p)
+next_part_from-truncated : (p : BundlePlace)
+    → next_part_from (truncated p) ≡ truncated_result (next_part_from p)
 unfolding next_part_from line_at
 next_part_from-truncated p =
     rw (take-take_le 96 (readable_bytes p.room) p.rest (omega arith))
@@ -266,7 +274,8 @@ parts_from-truncated zero room rest =
     (found_and_no_parts_after-truncated (next_part_from (record { parts = 0; room = room; rest = rest })))
 parts_from-truncated (suc n) room rest =
     rw (next_part_from-truncated (record { parts = suc n; room = room; rest = rest }))
-    (found_and_parts_after-truncated n (next_part_from (record { parts = suc n; room = room; rest = rest })) (parts_from-truncated n))
+    (found_and_parts_after-truncated n (next_part_from (record { parts = suc n; room = room; rest = rest }))
+    (parts_from-truncated n))
 
 abbrev parts_if_magic : Bool → List ℕ → Result (List PartText) BundleFault
 parts_if_magic magic rest = if magic then parts_from 1538 268435439 rest else Err faults.NoMagic

@@ -12,11 +12,13 @@ use Rattle.mc_text.specs.declared.bundle.bundle_fault.BundleFault.{BundleFault}
 use Rattle.mc_text.specs.declared.bundle.bundle_fault.BundleFault.TheVariants as faults
 use Rattle.mc_text.specs.Bundle.{PartText, IsPartName, part_spelling, IsBundle, max_part}
 use Rattle.mc_text.specs.Bundle.{max_bundle, max_parts}
-use Rattle.mc_text.specs.BundleReading.{IsMemory, Gives, BundlePlace, next_part_from, with_parts_after, parts_from}
+use Rattle.mc_text.specs.BundleReading.{IsMemory, Gives, BundlePlace, next_part_from}
+use Rattle.mc_text.specs.BundleReading.{with_parts_after, parts_from}
 use Rattle.mc_text.specs.BundleReading.{bundle_of}
 use Rattle.mc_text.specs.Steps.{◌>>=◌}
 use Rattle.mc_text.proofs.StepLemmas.{bind_ok, ok_injective, with_front, with_front-more}
-use Rattle.mc_text.proofs.BundlePlaces.{HasPart, IsLastLine, next_part_from-sound, next_part_from-at_end, next_part_from-at_part}
+use Rattle.mc_text.proofs.BundlePlaces.{HasPart, IsLastLine, next_part_from-sound}
+use Rattle.mc_text.proofs.BundlePlaces.{next_part_from-at_end, next_part_from-at_part}
 
 -- the parts from a place on
 abbrev pub parts_at : BundlePlace → Result (List PartText) BundleFault
@@ -39,7 +41,8 @@ parts_from-next (suc n) room rest (Err fault) at = rw at refl
 -- each part leaves fewer parts that may come
 pub next_part_from-fewer_parts : (place : BundlePlace) (part : PartText) (next : BundlePlace)
     → next_part_from place ≡ Ok (Some (part, next)) → next.parts < place.parts
-next_part_from-fewer_parts place part next e = omega (arith, (next_part_from-sound place (Some (part, next)) e).counted)
+next_part_from-fewer_parts place part next e =
+    omega (arith, (next_part_from-sound place (Some (part, next)) e).counted)
 
 module _ (front : List PartText) (place : BundlePlace) (total : Result (List PartText) BundleFault) where
   -- after one more part the parts that were read and those to come are the same in all
@@ -80,7 +83,8 @@ length-parts_cons : (part : PartText) (parts : List PartText)
 length-parts_cons part parts = simp length-append (omega arith)
 
 -- the bytes at a place are the parts that are read from there on
-parts_at-sound : (n : ℕ) (place : BundlePlace) (found : Option (PartText × BundlePlace)) (parts : List PartText)
+parts_at-sound : (n : ℕ) (place : BundlePlace) (found : Option (PartText × BundlePlace))
+    (parts : List PartText)
     → place.parts ≡ n → next_part_from place ≡ Ok found → with_parts_after found parts_at ≡ Ok parts
     → HasParts place parts
 parts_at-sound n place None parts is at e =
@@ -141,7 +145,8 @@ bundle_of-complete text parts h = rw h.spelled (parts_at-complete (record {
 -- a text is the bundle of at most one list of parts
 pub bundle_has_unique_parts : (text : List ℕ) (ps qs : List PartText) → IsBundle text ps → IsBundle text qs
     → ps ≡ qs
-bundle_has_unique_parts text ps qs p q = ok_injective ps qs (sym (bundle_of-complete text ps p) ∙ bundle_of-complete text qs q)
+bundle_has_unique_parts text ps qs p q =
+    ok_injective ps qs (sym (bundle_of-complete text ps p) ∙ bundle_of-complete text qs q)
 
 -- a result that is the reading function's is a bundle of the text
 pub bundle_of-result_is_bundle : (text : List ℕ) (r : Result (List PartText) BundleFault)
@@ -152,4 +157,5 @@ bundle_of-result_is_bundle text r h = grind (arith, bundle_of-sound text)
 pub bundle_of-result_is_parts : (text : List ℕ) (r : Result (List PartText) BundleFault)
     → Gives (λ parts. parts) r (bundle_of text)
     → (parts : List PartText) → IsBundle text parts → r ≢ Err faults.Memory → r ≡ Ok parts
-bundle_of-result_is_parts text r h parts is_bundle other = grind (arith, bundle_of-complete text parts is_bundle)
+bundle_of-result_is_parts text r h parts is_bundle other =
+    grind (arith, bundle_of-complete text parts is_bundle)

@@ -12,10 +12,13 @@ use Rattle.std.proofs.lemmas.List.{take_at, length-append, length-take, nil_from
 use Rattle.std.proofs.lemmas.Slice.Eq.{bytes_eq-Decides}
 use Rattle.mc_text.specs.declared.bundle.bundle_fault.BundleFault.{BundleFault}
 use Rattle.mc_text.specs.Bundle.{PartText, IsPartName, part_line, part_spelling, max_line, max_part}
-use Rattle.mc_text.specs.BundleReading.{IsMemory, BundlePlace, line_at, parse_part_line, part_bytes_at, part_room}
-use Rattle.mc_text.specs.BundleReading.{is_too_large, place_after, part_for_line, end_for_line, next_part_from}
+use Rattle.mc_text.specs.BundleReading.{IsMemory, BundlePlace, line_at, parse_part_line}
+use Rattle.mc_text.specs.BundleReading.{part_bytes_at, part_room}
+use Rattle.mc_text.specs.BundleReading.{is_too_large, place_after, part_for_line, end_for_line}
+use Rattle.mc_text.specs.BundleReading.{next_part_from}
 use Rattle.mc_text.proofs.StepLemmas.{bind_ok}
-use Rattle.mc_text.proofs.BundleWords.{split_at_byte, IsLine, line_at-sound, line_at-complete, parse_part_line-sound}
+use Rattle.mc_text.proofs.BundleWords.{split_at_byte, IsLine, line_at-sound, line_at-complete}
+use Rattle.mc_text.proofs.BundleWords.{parse_part_line-sound}
 use Rattle.mc_text.proofs.BundleWords.{parse_part_line-complete, HasNoByte-part_line}
 
 -- ---- a part's bytes
@@ -72,7 +75,8 @@ append-line_and_bytes : (line bytes after : List ℕ)
 append-line_and_bytes line bytes after = sym (simp append_assoc)
 
 -- a part line and bytes that are not too large are read as the part at the place
-part_for_line-has_part : (place : BundlePlace) (line name bytes back after : List ℕ) (size : ℕ) → IsPartName name
+part_for_line-has_part : (place : BundlePlace) (line name bytes back after : List ℕ) (size : ℕ)
+    → IsPartName name
     → line ≡ part_line name size → length bytes ≡ size → back ≡ bytes ++ (codes "\n" ++ after)
     → is_too_large place line size ≡ false → place.rest ≡ line ++ (codes "\n" ++ back)
     → HasPart place (record { name = name; bytes = bytes })
@@ -85,11 +89,13 @@ part_for_line-has_part place line name bytes back after size named spelled long 
 
 -- the part that is read for a line is at the place
 part_for_line-sound : (place : BundlePlace) (line after : List ℕ) (header : List ℕ × ℕ)
-    (found : Option (PartText × BundlePlace)) → parse_part_line line ≡ Some header → IsLine place.rest line after
+    (found : Option (PartText × BundlePlace)) → parse_part_line line ≡ Some header
+    → IsLine place.rest line after
     → part_for_line place line after (Some header) ≡ Ok found → IsPartOrEnd place found
 part_for_line-sound place line after header found header-is cut e =
     let bytes = part_bytes_at-sound header.1 after in
-    grind (arith, nat_tests, bytes, parse_part_line-sound line header header-is, part_for_line-has_part place line header.0)
+    grind (arith, nat_tests, bytes, parse_part_line-sound line header header-is, part_for_line-has_part place
+        line header.0)
 
 -- the end that is read for a line is at the place
 end_for_line-sound : (place : BundlePlace) (after : List ℕ) (found : Option (PartText × BundlePlace))
@@ -109,7 +115,8 @@ end_or_part-sound place cut ends header found ended header-is line e =
     grind (arith, end_for_line-sound place cut.1 found, part_for_line-sound place cut.0 cut.1, end)
 
 -- what is read at a place is there
-pub next_part_from-sound : (place : BundlePlace) (found : Option (PartText × BundlePlace)) → next_part_from place ≡ Ok found
+pub next_part_from-sound : (place : BundlePlace) (found : Option (PartText × BundlePlace))
+    → next_part_from place ≡ Ok found
     → IsPartOrEnd place found
 unfolding next_part_from
 next_part_from-sound place found e =
@@ -130,7 +137,8 @@ length-part_line name size h small =
     simp length-append (omega (arith, h.short, digits))
 
 -- the part at a place is read
-pub next_part_from-at_part : (place : BundlePlace) (part : PartText) (next : BundlePlace) → HasPart place part next
+pub next_part_from-at_part : (place : BundlePlace) (part : PartText) (next : BundlePlace)
+    → HasPart place part next
     → next_part_from place ≡ Ok (Some (part, next))
 unfolding next_part_from
 next_part_from-at_part place part next h =

@@ -14,7 +14,8 @@ use Rattle.std.proofs.lemmas.List.{length-append, take-append-drop, drop_more, t
 use Rattle.std.proofs.lemmas.List.{get_or-take, take_min}
 use Rattle.std.proofs.lemmas.List.Sums.{AllPass-from_list_all, list_all-from_AllPass}
 use Rattle.mc_text.specs.Bundle.{is_name_byte, IsPartName, part_line, max_line}
-use Rattle.mc_text.specs.BundleReading.{is_part_name, is_length, cut_words, parse_name_and_length, parse_part_line}
+use Rattle.mc_text.specs.BundleReading.{is_part_name, is_length, cut_words, parse_name_and_length}
+use Rattle.mc_text.specs.BundleReading.{parse_part_line}
 use Rattle.mc_text.specs.BundleReading.{cut_line, line_at}
 use Rattle.mc_text.proofs.NumberReading.{decimal_numerals}
 use Rattle.std.proofs.Math.Seq.{take-append-add, drop-append-add}
@@ -118,7 +119,8 @@ cut_words-sound words o header at e =
     grind (arith, nat_tests, IsPartName-from_test, space, split_at_byte, decimal-of_digits_value)
 
 -- a line that is read as a name and a length is that part's line
-pub parse_part_line-sound : (line : List ℕ) (header : List ℕ × ℕ) → parse_part_line line ≡ Some header → header.1 < 2 ^ 64
+pub parse_part_line-sound : (line : List ℕ) (header : List ℕ × ℕ) → parse_part_line line ≡ Some header
+    → header.1 < 2 ^ 64
     → IsPartName header.0 × (line ≡ part_line header.0 header.1)
 unfolding parse_part_line parse_name_and_length
 parse_part_line-sound line header e small =

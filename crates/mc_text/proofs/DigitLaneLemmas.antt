@@ -27,7 +27,8 @@ digit_or_error-Ok c i None h = absurd (omega arith)
 pub pair_value-Ok : (a b i byte : ℕ) → hex_value_or_16 a < 16 → hex_value_or_16 b < 16
     → byte ≡ hex_value_or_16 a * 16 + hex_value_or_16 b → pair_value a b i ≡ Ok byte
 pair_value-Ok a b i byte high low is =
-    rw (digit_or_error-Ok a i (hex_digit_value a) high, digit_or_error-Ok b (i + 1) (hex_digit_value b) low, is)
+    rw (digit_or_error-Ok a i (hex_digit_value a) high, digit_or_error-Ok b (i + 1)
+        (hex_digit_value b) low, is)
     refl
 
 -- a byte with the value 16 is no digit
@@ -62,7 +63,8 @@ abbrev pub digit_lane : ℕ → ℕ
 digit_lane b = bit_or (lane_below (lane_minus b 48) 10) (lane_below (lane_minus (bit_or b 32) 97) 6)
 
 -- so the top bits are the tests
-map-top_bit_digit_lane : (v : List ℕ) → Each1 (Fits w8) v → map (top 7) (map digit_lane v) ≡ map is_hex_digit v
+map-top_bit_digit_lane : (v : List ℕ) → Each1 (Fits w8) v
+    → map (top 7) (map digit_lane v) ≡ map is_hex_digit v
 map-top_bit_digit_lane [] fits = refl
 map-top_bit_digit_lane (b ∷ v) fits =
     let same = agree_below_at (λ x. top 7 (digit_lane x)) is_hex_digit 256 b refl fits.0.fits in
@@ -96,7 +98,8 @@ mask-all_digits v lanes fits is =
 
 -- lanes selected by which is the smaller are the smaller ones
 pub select-smaller_lane : (f g : ℕ → ℕ) (v : List ℕ) {a b : List ℕ} → a ≡ map f v → b ≡ map g v
-    → sel_l (map (top 7) (zip2 lane_below a b)) a b ≡ map (λ x. cond (top 7 (lane_below (f x) (g x))) (f x) (g x)) v
+    → sel_l (map (top 7) (zip2 lane_below a b)) a b
+    ≡ map (λ x. cond (top 7 (lane_below (f x) (g x))) (f x) (g x)) v
 select-smaller_lane f g v first second =
     ap₂ (λ a b. sel_l (map (top 7) (zip2 lane_below a b)) a b) first second ∙ each v
   where
@@ -116,7 +119,8 @@ value_lane b = cond (top 7 (lane_below (decimal_lane b) (letter_lane b))) (decim
 
 value_lane-digit : (b : ℕ) → b < 256 → is_hex_digit b ≡ true → value_lane b ≡ hex_value_or_16 b
 value_lane-digit b fits digit =
-    let test = agree_below_at (λ x. not (is_hex_digit x) || eqb (value_lane x) (hex_value_or_16 x)) (λ _. true)
+    let test = agree_below_at (λ x. not (is_hex_digit x) || eqb (value_lane x) (hex_value_or_16 x))
+    (λ _. true)
     256 b refl fits in
     eqb-true (value_lane b) (hex_value_or_16 b) (rw digit at test)
 
@@ -158,7 +162,8 @@ hex_value-below_16 c digit =
       | inr large ↦ cc (is_hex_digit-false c large, digit)
     ]
 
-pair_lanes-hex_values : (v : List ℕ) → list_all is_hex_digit v ≡ true → pair_lanes (map hex_value_or_16 v) ≡ bytes_of_pairs v
+pair_lanes-hex_values : (v : List ℕ) → list_all is_hex_digit v ≡ true
+    → pair_lanes (map hex_value_or_16 v) ≡ bytes_of_pairs v
 pair_lanes-hex_values [] digits = refl
 pair_lanes-hex_values (a ∷ []) digits = refl
 pair_lanes-hex_values (a ∷ b ∷ v) digits =
@@ -170,7 +175,8 @@ pair_lanes-hex_values (a ∷ b ∷ v) digits =
 
 pub zip2-pair_lane : (v values : List ℕ) → length v ≡ 32 → list_all is_hex_digit v ≡ true
     → values ≡ map hex_value_or_16 v
-    → zip2 pair_lane (pick_l 0 (values ++ values) even_lanes) (pick_l 0 (values ++ values) odd_lanes) ≡ bytes_of_pairs v
+    → zip2 pair_lane (pick_l 0 (values ++ values) even_lanes) (pick_l 0 (values ++ values) odd_lanes)
+    ≡ bytes_of_pairs v
 zip2-pair_lane v values long digits is =
     zip2-even_odd_lanes values (ap length is ∙ length-map v hex_value_or_16 ∙ long)
     ∙ ap pair_lanes is ∙ pair_lanes-hex_values v digits
@@ -187,7 +193,8 @@ decode_pairs-digits i zero (a ∷ b ∷ s) even digits = absurd (omega arith)
 decode_pairs-digits i (suc n) (a ∷ b ∷ s) even digits =
     let p = and_parts (is_hex_digit a) _ digits in
     let q = and_parts (is_hex_digit b) _ p.1 in
-    let pair = pair_value-Ok a b i (byte_of_pair a b) (hex_value-below_16 a p.0) (hex_value-below_16 b q.0) refl in
+    let pair = pair_value-Ok a b i (byte_of_pair a b) (hex_value-below_16 a p.0)
+    (hex_value-below_16 b q.0) refl in
     decode_pairs-ok_pair i a b (byte_of_pair a b) s pair
     ∙ ap (cons_byte (byte_of_pair a b)) (decode_pairs-digits (i + 2) n s (omega arith) q.1)
 
@@ -209,7 +216,8 @@ take-bytes_of_pairs (suc n) (a ∷ b ∷ s) =
     ∙ ap (λ k. bytes_of_pairs (take k (a ∷ b ∷ s))) (suc_suc-double n)
 
 -- the bytes of two lists of pairs, joined
-pub bytes_of_pairs-append : (n : ℕ) (s t : List ℕ) → length s ≡ 2 * n → bytes_of_pairs (s ++ t) ≡ bytes_of_pairs s ++ bytes_of_pairs t
+pub bytes_of_pairs-append : (n : ℕ) (s t : List ℕ) → length s ≡ 2 * n
+    → bytes_of_pairs (s ++ t) ≡ bytes_of_pairs s ++ bytes_of_pairs t
 bytes_of_pairs-append n [] t even = refl
 bytes_of_pairs-append n (a ∷ []) t even = absurd (omega arith)
 bytes_of_pairs-append zero (a ∷ b ∷ s) t even = absurd (omega arith)
@@ -231,7 +239,8 @@ list_all-take passes (suc n) [] all = refl
 list_all-take passes (suc n) (b ∷ s) all =
     let p = and_parts (passes b) _ all in rw p.0 (list_all-take passes n s p.1)
 
-pub list_all-of_append : (passes : ℕ → Bool) (s t : List ℕ) → list_all passes s ≡ true → list_all passes t ≡ true
+pub list_all-of_append : (passes : ℕ → Bool) (s t : List ℕ) → list_all passes s ≡ true
+    → list_all passes t ≡ true
     → list_all passes (s ++ t) ≡ true
 list_all-of_append passes [] t first second = second
 list_all-of_append passes (b ∷ s) t first second =

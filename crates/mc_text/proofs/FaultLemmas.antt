@@ -1,14 +1,15 @@
 -- The faults of reading a bundle are framing faults.
 use Rattle.std.proofs.Common.{Bool, ◌≡◌, ℕ, zero, suc, true, false, cond, List, Option, Some, None}
 use Rattle.std.proofs.Common.{Result, Ok, Err, refl, inl, inr}
-use Rattle.std.specs.Prelude.{IfErr, ◌⊎◌, position, take, drop, ◌==◌, ◌-◌}
+use Rattle.std.specs.Prelude.{IfErr, ◌⊎◌, position, take, ◌==◌, ◌-◌}
 use Rattle.std.proofs.lemmas.Result.{IfErr-at_err}
 use Rattle.mc_text.specs.declared.bundle.bundle_fault.BundleFault.{BundleFault}
 use Rattle.mc_text.specs.declared.bundle.bundle_fault.BundleFault.TheVariants as faults
-use Rattle.mc_text.specs.Bundle.{PartText, max_line, max_parts, max_bundle}
+use Rattle.mc_text.specs.Bundle.{PartText, max_line}
 use Rattle.mc_text.specs.BundleFaults.{IsFramingFault}
 use Rattle.mc_text.specs.BundleReading.{Gives, BundlePlace, cut_line, line_at, part_bytes_at}
-use Rattle.mc_text.specs.BundleReading.{part_for_line, end_for_line, next_part_from, with_parts_after, parts_from}
+use Rattle.mc_text.specs.BundleReading.{part_for_line, next_part_from}
+use Rattle.mc_text.specs.BundleReading.{with_parts_after, parts_from}
 use Rattle.mc_text.specs.BundleReading.{bundle_of}
 use Rattle.mc_text.specs.Steps.{◌>>=◌}
 
@@ -45,13 +46,16 @@ part_for_line-framing_fault place line after (Some header) =
 
 next_part_from-framing_fault : (place : BundlePlace) → IfErr (next_part_from place) IsFramingFault
 unfolding next_part_from
-next_part_from-framing_fault place = search (cond-framing_fault, bind-framing_fault, line_at-framing_fault, part_for_line-framing_fault)
+next_part_from-framing_fault place =
+    search (cond-framing_fault, bind-framing_fault, line_at-framing_fault, part_for_line-framing_fault)
 
-with_parts_after-framing_fault : (found : Option (PartText × BundlePlace)) (next : BundlePlace → Result (List PartText) BundleFault)
+with_parts_after-framing_fault : (found : Option (PartText × BundlePlace))
+    (next : BundlePlace → Result (List PartText) BundleFault)
     → ((place : BundlePlace) → IfErr (next place) IsFramingFault)
     → IfErr (with_parts_after found next) IsFramingFault
 with_parts_after-framing_fault None next then = tt
-with_parts_after-framing_fault (Some found) next then = bind-framing_fault (next found.1) _ (then found.1) (λ _. tt)
+with_parts_after-framing_fault (Some found) next then =
+    bind-framing_fault (next found.1) _ (then found.1) (λ _. tt)
 
 parts_from-framing_fault : (n room : ℕ) (rest : List ℕ) → IfErr (parts_from n room rest) IsFramingFault
 unfolding parts_from

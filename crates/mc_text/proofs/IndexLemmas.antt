@@ -20,7 +20,8 @@ abbrev pub AreMarkedInSlots : (slots : ℕ) (marks numbers : List ℕ) → Type 
 AreMarkedInSlots slots marks numbers = All (λ number. get_or marks (slot_in slots number) 0 ≢ 0) numbers
 
 -- a number whose slot isn't marked is not among the numbers
-pub contains-unmarked_slot : (slots : ℕ) (marks numbers : List ℕ) (number : ℕ) → AreMarkedInSlots slots marks numbers
+pub contains-unmarked_slot : (slots : ℕ) (marks numbers : List ℕ) (number : ℕ)
+    → AreMarkedInSlots slots marks numbers
     → get_or marks (slot_in slots number) 0 ≡ 0 → ¬ Contains numbers number
 contains-unmarked_slot slots marks numbers number marked empty = λ among.
     All-contains (λ n. get_or marks (slot_in slots n) 0 ≢ 0) numbers number marked among empty

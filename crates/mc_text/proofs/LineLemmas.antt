@@ -57,7 +57,8 @@ lines_from-line_feed n text end found =
 -- if there is no line feed, the text is one line that none ends
 pub lines_from-no_line_feed : (n : ℕ) (text : List ℕ) → position (λ b. eqb b 10) text ≡ None
     → 0 < length text → lines_from n text ≡ record { number = n; bytes = text; ended = false } ∷ []
-lines_from-no_line_feed n text none some = rw (slice_split-not_found 10 text none, length-not_zero text some) refl
+lines_from-no_line_feed n text none some =
+    rw (slice_split-not_found 10 text none, length-not_zero text some) refl
 
 -- a nonempty last part is a line that none ends
 numbered-last : (n b : ℕ) (part : List ℕ) → numbered n ((b ∷ part) ∷ [])
@@ -89,9 +90,11 @@ split-without_line_feed : (b : ℕ) (parts : List (List ℕ)) (t : Bool) → eqb
 split-without_line_feed b parts t e whole = grind (arith, nat_tests)
 
 -- the parts between line feeds have no line feed
-slice_split-without_line_feed : (text : List ℕ) → AllByRecursion IsWithoutLineFeed (slice_split (λ b. eqb b 10) text)
+slice_split-without_line_feed : (text : List ℕ)
+    → AllByRecursion IsWithoutLineFeed (slice_split (λ b. eqb b 10) text)
 slice_split-without_line_feed [] = (tt, tt)
-slice_split-without_line_feed (b ∷ text) = split-without_line_feed b _ (eqb b 10) refl (slice_split-without_line_feed text)
+slice_split-without_line_feed (b ∷ text) =
+    split-without_line_feed b _ (eqb b 10) refl (slice_split-without_line_feed text)
 
 -- the lines of such parts have no line feed
 numbered-no_line_feed : (n : ℕ) (parts : List (List ℕ)) → AllByRecursion IsWithoutLineFeed parts
@@ -113,7 +116,8 @@ numbered-only_last_unended n ([] ∷ []) = tt
 numbered-only_last_unended n ((b ∷ part) ∷ []) = rw (numbered-last n b part) (omega arith)
 numbered-only_last_unended n (part ∷ [] ∷ []) = tt
 numbered-only_last_unended n (part ∷ (b ∷ next) ∷ []) = rw (numbered-last (n + 1) b next) (refl, omega arith)
-numbered-only_last_unended n (part ∷ next ∷ third ∷ more) = (refl, numbered-only_last_unended (n + 1) (next ∷ third ∷ more))
+numbered-only_last_unended n (part ∷ next ∷ third ∷ more) =
+    (refl, numbered-only_last_unended (n + 1) (next ∷ third ∷ more))
 
 -- only the last line of a text may be unended
 pub lines_of-only_last_unended : (text : List ℕ) → OnlyLastMayBeUnended (lines_of text)

@@ -23,7 +23,8 @@ consumes_up_to-after_consumes a b c xs n most first more within = (
 )
 
 -- reading into a buffer after the bytes that it has stays within its size
-pub consumes_up_to-filled_buffer : (a b c : Option (List ℕ)) (xs ys rest : List ℕ) (n more : ℕ) → n ≤ length xs
+pub consumes_up_to-filled_buffer : (a b c : Option (List ℕ)) (xs ys rest : List ℕ) (n more : ℕ)
+    → n ≤ length xs
     → more ≤ length ys → Consumes a b (take n xs) → Consumes b c (take more ys)
     → ConsumesUpTo (length (take n xs ++ (ys ++ rest))) a c
 consumes_up_to-filled_buffer a b c xs ys rest n more within fits first second = (

@@ -20,7 +20,8 @@ use Rattle.mc_text.specs.BundleReading.{BundlePlace, line_at, parse_part_line, p
 use Rattle.mc_text.specs.BundleReading.{is_too_large, part_for_line, end_for_line, next_part_from}
 use Rattle.mc_text.specs.BundleReading.{with_parts_after, parts_from, bundle_of}
 use Rattle.mc_text.specs.PartsReading.{ReadsAs, opened_part, opened_by_line}
-use Rattle.mc_text.specs.PartsReading.{opened_at, opened_next, PartsState, IsValidPartsState, parts_from_current, current_part}
+use Rattle.mc_text.specs.PartsReading.{opened_at, opened_next, PartsState, IsValidPartsState}
+use Rattle.mc_text.specs.PartsReading.{parts_from_current, current_part}
 use Rattle.mc_text.specs.PartsReading.{prepend_parts, part_and_rest, parts_of_opened}
 
 -- ---- a line
@@ -40,7 +41,8 @@ end_for_line-opened_end false true after P ends = ends
 end_for_line-opened_end false false after P ends = refl
 
 -- a part's bytes, and then the parts after it, are the part and its others
-part_bytes-then_parts : (n room : ℕ) (name : List ℕ) (parts : ℕ) (found : Result (List ℕ × List ℕ) BundleFault)
+part_bytes-then_parts : (n room : ℕ) (name : List ℕ) (parts : ℕ)
+    (found : Result (List ℕ × List ℕ) BundleFault)
     → ((found >>= λ f. let part : PartText = record { name = name; bytes = f.0 } in
     let next : BundlePlace = record { parts = parts; room = room; rest = f.1 } in
     Ok (Some (part, next)))
@@ -81,12 +83,14 @@ end_or_part-opened_by_line : (parts room : ℕ) (text : List ℕ) (cut : List �
     (P : Option (PartText × BundlePlace) → Result (List PartText) BundleFault) → P None ≡ Ok []
     → (part_for_line (record { parts = parts; room = room; rest = text }) cut.0 cut.1 (parse_part_line cut.0)
     >>= P)
-    ≡ ((opened_part parts room cut.0 (parse_part_line cut.0) >>= λ part. Ok (Some part, cut.1)) >>= parts_after_line)
+    ≡ ((opened_part parts room cut.0 (parse_part_line cut.0) >>= λ part. Ok (Some part, cut.1))
+    >>= parts_after_line)
     → (cond (bytes_eq cut.0 (codes "end"))
     (end_for_line (record { parts = parts; room = room; rest = text }) cut.1)
     (part_for_line (record { parts = parts; room = room; rest = text }) cut.0 cut.1 (parse_part_line cut.0))
     >>= P) ≡ (opened_by_line parts room cut >>= parts_after_line)
-end_or_part-opened_by_line parts room text cut P ends same = elim (cases_Bool (bytes_eq cut.0 (codes "end"))) [
+end_or_part-opened_by_line parts room text cut P ends same =
+    elim (cases_Bool (bytes_eq cut.0 (codes "end"))) [
   | inl is ↦ rw is (end_for_line-opened_end (nat_lt room 4) (eqb (length cut.1) 0) cut.1 P ends)
   | inr other ↦ rw other same
 ]
@@ -96,13 +100,15 @@ line_at-opened_by_line : (parts room : ℕ) (text : List ℕ) (cut : Result (Lis
     (P : Option (PartText × BundlePlace) → Result (List PartText) BundleFault) → P None ≡ Ok []
     → ((c : List ℕ × List ℕ)
     → (part_for_line (record { parts = parts; room = room; rest = text }) c.0 c.1 (parse_part_line c.0) >>= P)
-    ≡ ((opened_part parts room c.0 (parse_part_line c.0) >>= λ part. Ok (Some part, c.1)) >>= parts_after_line))
+    ≡ ((opened_part parts room c.0 (parse_part_line c.0) >>= λ part. Ok (Some part, c.1))
+    >>= parts_after_line))
     → ((cut >>= λ c. cond (bytes_eq c.0 (codes "end"))
     (end_for_line (record { parts = parts; room = room; rest = text }) c.1)
     (part_for_line (record { parts = parts; room = room; rest = text }) c.0 c.1 (parse_part_line c.0)))
     >>= P) ≡ ((cut >>= opened_by_line parts room) >>= parts_after_line)
 line_at-opened_by_line parts room text (Err fault) P ends same = refl
-line_at-opened_by_line parts room text (Ok c) P ends same = end_or_part-opened_by_line parts room text c P ends (same c)
+line_at-opened_by_line parts room text (Ok c) P ends same =
+    end_or_part-opened_by_line parts room text c P ends (same c)
 
 -- the parts from a line on are the one that it opens and those after it
 pub parts_from-opened_at : (parts room : ℕ) (text : List ℕ)
@@ -170,7 +176,8 @@ rest_of_part-opened_at name done left parts room text (Ok f) is =
     ap (λ r. r >>= λ others. Ok (part ∷ others)) (parts_from-opened_at parts room f.1)
     ∙ prepend_parts-one part (opened_at parts room f.1)
     ∙ ap (λ bytes. let p : PartText = record { name = name; bytes = done ++ bytes } in
-    opened_at parts room f.1 >>= λ o. prepend_parts (p ∷ []) (parts_after_line o)) (part_bytes_at-take left text f is)
+    opened_at parts room f.1 >>= λ o. prepend_parts (p ∷ []) (parts_after_line o))
+        (part_bytes_at-take left text f is)
 
 part_and_rest-opened_next : (name done : List ℕ) (left parts room : ℕ) (text : List ℕ)
     → part_and_rest name done left parts room text
@@ -221,10 +228,12 @@ some_from_is_some None there = absurd cc
 some_from_is_some (Some x) there = (x, refl)
 
 -- at the start and in a part, the parts from the current one on are it, the next one and those after it
-pub parts_from_current-opened_next : (s : PartsState) (start : Bool) (done text : List ℕ) → IsValidPartsState s
+pub parts_from_current-opened_next : (s : PartsState) (start : Bool) (done text : List ℕ)
+    → IsValidPartsState s
     → ((s.stage ≡ stages.Start) × (start ≡ true)) ⊎ ((s.stage ≡ stages.Part) × (start ≡ false))
     → parts_from_current s done text
-    ≡ (opened_next start s.left s.parts s.room text >>= λ o. prepend_parts (current_part s done text) (parts_after_line o))
+    ≡ (opened_next start s.left s.parts s.room text >>= λ o. prepend_parts (current_part s done text)
+    (parts_after_line o))
 parts_from_current-opened_next s start done text rules (inl (is, at)) =
     let places = rules.start is in
     rw (is, at, places.0, places.1) (bundle_of-opened_next text s.left)
@@ -257,7 +266,8 @@ part_bytes_at-nil : (left : ℕ) → part_bytes_at left [] ≡ Err faults.Trunca
 unfolding part_bytes_at
 part_bytes_at-nil left = rw (le-leb 0 left (omega arith)) refl
 
-pub parts_from_current-truncated : (s : PartsState) (done text : List ℕ) → IsValidPartsState s → s.stage ≡ stages.Part
+pub parts_from_current-truncated : (s : PartsState) (done text : List ℕ) → IsValidPartsState s
+    → s.stage ≡ stages.Part
     → text ≡ [] → parts_from_current s done text ≡ Err faults.Truncated
 parts_from_current-truncated s done text rules is none =
     let name = some_from_is_some s.name (rules.named is) in
@@ -319,7 +329,8 @@ part_and_rest-read_more name done taken later m parts room =
     ∙ part_and_rest-moved name done taken parts room (part_bytes_at m later)
 
 -- after a read within the current part, the parts from it on are the same
-pub parts_from_current-read_more : (s : PartsState) (done taken later : List ℕ) (remaining : Option (List ℕ)) (failed : ℕ)
+pub parts_from_current-read_more : (s : PartsState) (done taken later : List ℕ) (remaining : Option (List ℕ))
+    (failed : ℕ)
     (borrows : List GName) → IsValidPartsState s → s.stage ≡ stages.Part → length taken ≤ s.left
     → parts_from_current s done (taken ++ later)
     ≡ parts_from_current (record {

@@ -34,7 +34,8 @@ module _ {X : Type 0} (f : X → List ℕ) (xs : List X) (i : ℕ) (d : X) where
 -- ---- what was written
 
 -- a front that was written, and then a proper prefix of the rest, are a proper prefix of the whole
-pub appends_prefix-after_front : (a b c : Option (List ℕ)) (front text rest whole : List ℕ) → Appends a b front
+pub appends_prefix-after_front : (a b c : Option (List ℕ)) (front text rest whole : List ℕ)
+    → Appends a b front
     → AppendsProperPrefix b c text → whole ≡ front ++ (text ++ rest) → AppendsProperPrefix a c whole
 appends_prefix-after_front a b c front text rest whole first (k, short, taken) is =
     let size = simp length-append at (ap length is) in
@@ -51,7 +52,8 @@ OnErr-from r P p = grind arith
 pub appends_prefix-last : {X E : Type 0} (r : Result X E) (a b c : Option (List ℕ))
     (front text whole : List ℕ) → Appends a b front → OnErr r (AppendsProperPrefix b c text)
     → whole ≡ front ++ text → OnErr r (AppendsProperPrefix a c whole)
-appends_prefix-last r a b c front text whole first h is = on_err_weaker r (λ cut. appends_prefix-after_front a b c front text []
+appends_prefix-last r a b c front text whole first h is =
+    on_err_weaker r (λ cut. appends_prefix-after_front a b c front text []
     whole first cut (is ∙ ap (λ (l : List ℕ). front ++ l) (sym (append-nil text)))) h
 
 -- ---- the bundle of the parts

@@ -1,7 +1,6 @@
 -- Reading a bundle part by part: the parts after the current one.
-use Rattle.std.proofs.Common.{◌≡◌, ℕ, ◌+◌, ◌≤◌, List, [], ◌∷◌, ◌++◌, length, take, Option, Some, None}
+use Rattle.std.proofs.Common.{◌≡◌, ℕ, ◌+◌, List, [], ◌∷◌, ◌++◌, take, Option, Some, None}
 use Rattle.std.proofs.Common.{Result, Ok, Err, refl, sym, ap, ◌∙◌, arith}
-use Rattle.std.specs.Io.KnownBytes.{Consumes}
 use Rattle.std.proofs.KnownBytes.{Consumes-trans}
 use Rattle.std.proofs.lemmas.List.{append-nil, length-append}
 use Rattle.mc_text.specs.declared.bundle.bundle_fault.BundleFault.{BundleFault}
@@ -10,7 +9,8 @@ use Rattle.mc_text.specs.declared.bundle.stage.Stage.TheVariants as stages
 use Rattle.mc_text.specs.Steps.{◌>>=◌}
 use Rattle.mc_text.specs.Bundle.{PartText}
 use Rattle.mc_text.specs.BundleReading.{part_bytes_at, parts_from}
-use Rattle.mc_text.specs.PartsReading.{PartsState, prepend_parts, parts_from_current, parts_at_stage, current_part}
+use Rattle.mc_text.specs.PartsReading.{PartsState, prepend_parts, parts_from_current}
+use Rattle.mc_text.specs.PartsReading.{parts_at_stage, current_part}
 use Rattle.mc_text.specs.PartsReading.{current_part_at_stage, current_and_rest, part_if_named}
 use Rattle.mc_text.specs.PartsLimits.{ConsumesWithin, max_to_come}
 use Rattle.mc_text.specs.RestOfBundle.{rest_of_bundle, rest_at_stage, rest_after_part, Advances}
@@ -68,7 +68,8 @@ prepend_parts-injective xs (Err fault) (Err other) e = let same : fault ≡ othe
 pub rest_of_bundle-opened : (s : PartsState) (done text : List ℕ) (r : Result (List PartText) BundleFault)
     → parts_from_current s done text ≡ prepend_parts (current_part s done text) r → rest_of_bundle s text ≡ r
 rest_of_bundle-opened s done text r e =
-    prepend_parts-injective (current_part s done text) (rest_of_bundle s text) r (sym (parts_from_current-prepend s done text) ∙ e)
+    prepend_parts-injective (current_part s done text) (rest_of_bundle s text) r
+        (sym (parts_from_current-prepend s done text) ∙ e)
 
 -- at the end no parts come after the current one
 pub rest_of_bundle-ended : (s : PartsState) (done text : List ℕ)
@@ -93,7 +94,8 @@ parts_from_current-in_part s name done text is named =
 -- ---- the number of bytes read
 
 -- two calls together read no more than may come before the first
-pub consumes_within-trans : (a b c : Option (List ℕ)) (most between after : ℕ) → ConsumesWithin most between a b
+pub consumes_within-trans : (a b c : Option (List ℕ)) (most between after : ℕ)
+    → ConsumesWithin most between a b
     → ConsumesWithin between after b c → ConsumesWithin most after a c
 consumes_within-trans a b c most between after first more = (
   first.0 ++ more.0,
@@ -105,7 +107,8 @@ pub advances : (a b c : PartsState) → Advances a b → b.borrows ≡ c.borrows
     → ConsumesWithin (max_to_come b) (max_to_come c) b.remaining c.remaining → Advances a c
 advances a b c first borrows more = (
   sym borrows ∙ first.0,
-  consumes_within-trans a.remaining b.remaining c.remaining (max_to_come a) (max_to_come b) (max_to_come c) first.1 more,
+  consumes_within-trans a.remaining b.remaining c.remaining (max_to_come a) (max_to_come b)
+      (max_to_come c) first.1 more,
 )
 
 pub advances_trans : (a b c : PartsState) → Advances a b → Advances b c → Advances a c

@@ -61,7 +61,8 @@ parse_name_and_length words = cut_words words (position (λ b. b == 32) words)
 
 -- the name and the length in a line, if it is a part line
 unfoldable pub parse_part_line : List ℕ → Option (List ℕ × ℕ)
-parse_part_line line = if bytes_eq (take 5 line) (codes "part ") then parse_name_and_length (drop 5 line) else None
+parse_part_line line =
+    if bytes_eq (take 5 line) (codes "part ") then parse_name_and_length (drop 5 line) else None
 
 -- ---- places
 
@@ -117,7 +118,8 @@ next_part_from place =
     else part_for_line place cut.0 cut.1 (parse_part_line cut.0)
 
 -- the part at a place, and those after it
-abbrev pub with_parts_after : Option (PartText × BundlePlace) → (BundlePlace → Result (List PartText) BundleFault)
+abbrev pub with_parts_after : Option (PartText × BundlePlace)
+    → (BundlePlace → Result (List PartText) BundleFault)
     → Result (List PartText) BundleFault
 with_parts_after None next = Ok []
 with_parts_after (Some found) next = next found.1 >>= λ parts. Ok (found.0 ∷ parts)

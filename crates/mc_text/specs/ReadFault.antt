@@ -15,4 +15,5 @@ ReadsOnto remaining later old new = (bytes : List ℕ) × Consumes remaining lat
 
 -- at most `limit` bytes were read
 abbrev pub ConsumesUpTo : ℕ → Option (List ℕ) → Option (List ℕ) → Type 0
-ConsumesUpTo limit remaining later = (bytes : List ℕ) × (length bytes ≤ limit) × Consumes remaining later bytes
+ConsumesUpTo limit remaining later =
+    (bytes : List ℕ) × (length bytes ≤ limit) × Consumes remaining later bytes

@@ -57,4 +57,5 @@ ReadsPart old new Holds =
 -- reading went on over the same input, and no more was read than might come
 abbrev pub Advances : PartsState → PartsState → Type 0
 Advances old new =
-    (new.borrows ≡ old.borrows) × ConsumesWithin (max_to_come old) (max_to_come new) old.remaining new.remaining
+    (new.borrows ≡ old.borrows)
+    × ConsumesWithin (max_to_come old) (max_to_come new) old.remaining new.remaining

@@ -1,6 +1,6 @@
 //! The fault of an allocation that is refused.
 
-ghost use Rattle.std.specs.Prelude.{◌≡◌, codes, Some};
+ghost use Rattle.std.specs.Prelude.{codes, Some};
 
 use std::alloc::{AllocError, AllocFailed};
 use std::fmt;

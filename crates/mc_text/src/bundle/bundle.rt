@@ -1,6 +1,6 @@
 //! Reading a bundle from a text in memory.
 
-ghost use Rattle.std.specs.Prelude.{◌≡◌, ◌≢◌, ◌-◌, ◌<◌, ◌≤◌, ◌⊎◌, List, length, min, IfOk, IfErr, Ok};
+ghost use Rattle.std.specs.Prelude.{◌≡◌, ◌≢◌, ◌-◌, ◌<◌, ◌⊎◌, List, length, IfOk, IfErr, Ok};
 ghost use Rattle.std.specs.Prelude.{Err, Some, slice_get, option_map, None};
 ghost use Rattle.mc_text.specs.Bundle.{PartText, IsBundle, max_bundle, max_parts};
 ghost use Rattle.mc_text.specs.BundleFaults.{IsFramingFault};

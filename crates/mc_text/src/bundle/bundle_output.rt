@@ -105,7 +105,8 @@ fn write_part<W: Output>(output: &mut W, part: &Part<'_>) -> Result<(), DeviceFa
     ensures ok { OnOk result
         (Appends (W.written output.old) (W.written output.new) (part_spelling (part_text part.now))) }
     ensures err { OnErr result
-        (AppendsProperPrefix (W.written output.old) (W.written output.new) (part_spelling (part_text part.now))) }
+        (AppendsProperPrefix (W.written output.old) (W.written output.new)
+        (part_spelling (part_text part.now))) }
     ensures failures { W.failed output.new ≡ failures_after is_failure result (W.failed output.old) }
 {
     let mut buffer = Buffer::new();

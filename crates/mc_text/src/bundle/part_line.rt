@@ -40,7 +40,8 @@ pub(crate) fn parse_part_line(line: &[u8]) -> Option<(PartName, u64)>
 
 /// The name and the length in a part line without its `part `.
 fn parse_name_and_length(words: &[u8]) -> Option<(PartName, u64)>
-    ensures { result ≡ option_map (λ header. (header.0, min header.1 u64.MAX)) (name_and_length_of words.now) }
+    ensures { result ≡
+        option_map (λ header. (header.0, min header.1 u64.MAX)) (name_and_length_of words.now) }
 {
     let space = find_byte(b' ', words)?;
     let name = PartName::new(&words[..space])?;

@@ -1,6 +1,6 @@
 //! The pieces of a bundle, read from an input: its lines, and the rest of a part.
 
-ghost use Rattle.std.specs.Prelude.{◌≡◌, ◌≢◌, ◌+◌, ◌<◌, ◌≤◌, length, take, min, OnOk, IfOk, IfErr};
+ghost use Rattle.std.specs.Prelude.{◌≡◌, ◌+◌, ◌<◌, ◌≤◌, length, take, min, IfOk, IfErr};
 ghost use Rattle.std.specs.Prelude.{Ok, Err, Some, None, IfSome, option_map, ℕ, List, [], ◌∷◌, Option};
 ghost use Rattle.std.specs.Io.KnownBytes.{Consumes, IsAtEnd};
 ghost use Rattle.mc_text.specs.BundleFaults.{IsFramingFault, IsInputFault};
@@ -8,7 +8,8 @@ ghost use Rattle.mc_text.specs.BundleReading.{line_at as line_of};
 ghost use Rattle.mc_text.specs.Device.{failures_after};
 ghost use Rattle.mc_text.specs.PartsReading.{ReadsAs, magic_of, rest_of_part, opened_end, opened_part};
 ghost use Rattle.mc_text.specs.PartsReading.{is_read, opened_next, opened_at};
-ghost use Rattle.mc_text.specs.PartsLimits.{ConsumesWithin, bytes_before_line, max_to_come_in, max_to_come_after};
+ghost use Rattle.mc_text.specs.PartsLimits.{ConsumesWithin, bytes_before_line, max_to_come_in};
+ghost use Rattle.mc_text.specs.PartsLimits.{max_to_come_after};
 ghost use Rattle.mc_text.specs.ReadFault.{ConsumesUpTo};
 
 use crate::bundle::bundle::{MAGIC, MAX_PART};
@@ -83,7 +84,8 @@ fn read_line<R: Input>(input: &mut R, line: &mut [u8; 96]) -> Result<usize, Bund
     requires failures { R.failed input.old < u64.MAX }
     ensures same { R.borrows input.new ≡ R.borrows input.old }
     ensures bound { IfOk result (λ n. n < 96) }
-    ensures reads { ReadsAs (λ n. take n line.new) (R.remaining input.old) (R.remaining input.new) result line_of }
+    ensures reads { ReadsAs (λ n. take n line.new) (R.remaining input.old) (R.remaining input.new) result
+        line_of }
     ensures consumed { ConsumesUpTo 96 (R.remaining input.old) (R.remaining input.new) }
     ensures taken { IfOk result
         (λ n. ConsumesUpTo (n + 1) (R.remaining input.old) (R.remaining input.new)) }
@@ -108,7 +110,8 @@ fn read_line<R: Input>(input: &mut R, line: &mut [u8; 96]) -> Result<usize, Bund
 pub(crate) fn skip_rest<R: Input>(input: &mut R, left: usize) -> Result<(), BundleFault>
     requires failures { R.failed input.old < u64.MAX }
     ensures same { R.borrows input.new ≡ R.borrows input.old }
-    ensures reads { ReadsAs (λ x. x) (R.remaining input.old) (R.remaining input.new) result (rest_of_part left) }
+    ensures reads { ReadsAs (λ x. x) (R.remaining input.old) (R.remaining input.new) result
+        (rest_of_part left) }
     ensures consumed { ConsumesUpTo (left + 1) (R.remaining input.old) (R.remaining input.new) }
     ensures faults { IfErr result IsInputFault }
     ensures failures { R.failed input.new ≡ failures_after is_read result (R.failed input.old) }
@@ -133,7 +136,8 @@ pub(crate) fn skip_rest<R: Input>(input: &mut R, left: usize) -> Result<(), Bund
 fn read_end<R: Input>(input: &mut R, room: usize) -> Result<(), BundleFault>
     requires failures { R.failed input.old < u64.MAX }
     ensures same { R.borrows input.new ≡ R.borrows input.old }
-    ensures reads { ReadsAs (λ _. None) (R.remaining input.old) (R.remaining input.new) result (opened_end room) }
+    ensures reads { ReadsAs (λ _. None) (R.remaining input.old) (R.remaining input.new) result
+        (opened_end room) }
     ensures consumed { ConsumesUpTo 1 (R.remaining input.old) (R.remaining input.new) }
     ensures faults { IfErr result IsInputFault }
     ensures failures { R.failed input.new ≡ failures_after is_read result (R.failed input.old) }

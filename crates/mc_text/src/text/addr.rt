@@ -1,6 +1,6 @@
 //! IPv4 addresses, as people write them and as a kernel's tables show them.
 
-ghost use Rattle.std.specs.Prelude.{◌≡◌, ℕ, ◌<◌, ◌^◌, ◌==◌, ◌↔◌, IsTrue, IfSome, Some};
+ghost use Rattle.std.specs.Prelude.{◌≡◌, ℕ, ◌<◌, ◌==◌, ◌↔◌, IsTrue, IfSome, Some};
 ghost use Rattle.std.specs.Int.{w32, from_be_bytes};
 ghost use Rattle.mc_text.specs.Addr.{IsAddr, IsForwardedGroup, IsSource, is_forwarded_group};
 ghost use Rattle.mc_text.specs.Addr.{is_source, octets_of, dotted};

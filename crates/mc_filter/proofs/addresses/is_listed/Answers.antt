@@ -5,5 +5,5 @@ use Rattle.mc_filter.proofs.addresses.is_listed.Goals as goal
 pub returns : goal.returns
 returns c = record {
   value = (
-      c.is_ok.ensures.value ∙ binary_search-is_ok _ _ _ c.requires.valid c.binary_search.ensures.position);
+      c.is_ok.ensures.value ∙ binary_search-is_ok _ _ _ c.requires.ascending c.binary_search.ensures.position);
 }

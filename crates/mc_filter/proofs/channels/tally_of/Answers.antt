@@ -22,7 +22,8 @@ loop-group_record-preserved-in-Continue-branch-2 c =
       groups = c.in_ok-add.ensures.groups ∙ before.groups;
       channels = c.in_ok-add.ensures.channels;
       each = c.in_ok-add.ensures.each c.args.groups.now c.args.reports.now c.next.new.self
-          c.place_of.ensures.ascending (sym before.groups) (found.1 ∙ c.from-group.ensures ∙ c.to_bits.ensures)
+          c.place_of.ensures.ascending (sym before.groups)
+              (found.1 ∙ c.from-group.ensures ∙ c.to_bits.ensures)
           (rw c.in-Some.ensures.steps at before.each);
     }
 

@@ -11,7 +11,7 @@ use Rattle.mc_igmp.proofs.list.decode_line.Goals as goal
 
 pub returns-then-not-line-clause-err : goal.returns-then-not-line-clause-err
 unfolding bytes_of_line
-returns-then-not-line-clause-err c = rw (c.at.ensures.item, c.if-not-line.true) (inr refl)
+returns-then-not-line-clause-err c = rw (c.at.ensures, c.if-not-line.true) (inr refl)
 
 pub returns-then-line-gt-MAX_LINES-clause-err : goal.returns-then-line-gt-MAX_LINES-clause-err
 unfolding bytes_of_line

@@ -16,7 +16,7 @@ returns-in-Ok-eq0-clause-front g c = λ text is.
     so_far.0 (take c.in-Ok-eq0.field-0 c.read_piece.new.buffer) so_far.1 c.in-Ok-eq0.ensures.bytes.0
     (ap (λ n. take n c.read_piece.new.buffer) zero) (c.in-Ok-eq0.ensures.bytes.1 zero (omega arith)) in
     found_at_end c.args.sought.now c.reading.sought c.reading.left so_far.0 (take 16777216 text) so_far.2
-    (omega (arith, c.reading.invariant.few, c.reading.sought.front.ok.0))
+    (omega (arith, c.reading.invariant.bounded, c.reading.sought.front.ok.0))
     (ap (take c.reading.left) none ∙ take-nil c.reading.left)
 
 pub returns-clause-front : goal.returns-clause-front
@@ -24,7 +24,7 @@ returns-clause-front g c = λ text is.
     let so_far = c.reading.invariant.front text is in
     let spent : c.reading.left ≡ 0 = omega arith in
     found_at_end c.args.sought.now c.reading.sought c.reading.left so_far.0 (take 16777216 text) so_far.2
-    (omega (arith, c.reading.invariant.few, c.reading.sought.front.ok.0))
+    (omega (arith, c.reading.invariant.bounded, c.reading.sought.front.ok.0))
     (ap (λ n. take n so_far.0) spent)
 
 pub returns-in-Ok-true-clause-front : goal.returns-in-Ok-true-clause-front
@@ -58,7 +58,7 @@ reading-preserved g c =
       kept = c.in-Ok.ensures.kept ∙ c.reading.invariant.kept;
       failures = c.in-Ok.ensures.failures ∙ c.reading.invariant.failures;
       room = rw length-append (omega arith);
-      few = c.in-Ok-false.ensures.few;
+      bounded = c.in-Ok-false.ensures.bounded;
       front = λ text is.
           let so_far = c.reading.invariant.front text is in
           let next = left_after_piece-known (g.F.PieceSource.left c.reading.files)

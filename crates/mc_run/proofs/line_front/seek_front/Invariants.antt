@@ -10,7 +10,7 @@ invariant-reading g l = record {
   kept : g.F.FileSource.contents l.files ≡ g.F.FileSource.contents l.fn.files;
   failures : g.F.FileSource.failed l.files ≡ g.F.FileSource.failed l.fn.files;
   room : 0 < length l.buffer;
-  few : vec_len l.sought.front ≤ 100;
+  bounded : vec_len l.sought.front ≤ 100;
   front : (text : List ℕ) → g.F.PieceSource.left l.fn.files ≡ Some text → (rest : List ℕ)
       × (g.F.PieceSource.left l.files ≡ Some rest)
       × (front_after_more l.sought (take l.left rest) ≡ front_after_more l.fn.sought (take 16777216 text));

@@ -1,7 +1,7 @@
 use Rattle.std.proofs.Common.{◌≡◌, get_or, sym, ◌∙◌, arith}
 use Rattle.std.proofs.lemmas.Grind.{common_steps}
 use Rattle.std.proofs.lemmas.List.{get_or_default}
-use Rattle.mc_filter.specs.Tallies.{excludes_with}
+use Rattle.mc_filter.specs.Tallies.{excludes_after}
 use Rattle.mc_filter.proofs.TallyLemmas.{AreTallied-more}
 use Rattle.mc_filter.proofs.tally.Tally.add.Goals as goal
 
@@ -11,17 +11,17 @@ returns-clause-each c = λ groups records left up count at before.
     let read : c.index-before.result.now ≡ get_or c.args.self.now.excludes.items c.args.place 0 =
     c.index-before.ensures ∙ sym (get_or_default c.args.self.now.excludes.items c.args.place 0
     c.index-before.result.now c.requires.place) in
-    let with : c.in_ok-with.with
-    ≡ excludes_with r.kind (get_or c.args.self.now.excludes.items c.args.place 0) =
+    let after : c.in_ok-after.after
+    ≡ excludes_after r.kind (get_or c.args.self.now.excludes.items c.args.place 0) =
     grind (
       arith,
       common_steps,
       read,
-      c.excludes_with.ensures,
-      c.in_ok-with.ensures.value,
-      c.in_ok-with.was,
+      c.excludes_after.ensures,
+      c.in_ok-after.ensures.value,
+      c.in_ok-after.was,
     ) in
-    rw (c.list_sources.ensures.excludes, with)
+    rw (c.list_sources.ensures.excludes, after)
     (AreTallied-more groups c.args.channels.now records left c.args.self.now.excludes.items
     c.args.self.now.states.items c.list_sources.new.self.states.items c.args.place r up count
     c.requires.place at (rw read at c.list_sources.ensures.each) before)

@@ -6,7 +6,7 @@ use Rattle.mc_igmp.proofs.list.ReportList.append_bytes.Goals as goal
 pub overflow_add-self : goal.overflow_add-self
 overflow_add-self c =
     let kept = length-after_records 1 c.self.inside.count c.self.inside.bytes.items [] c.self.invariant in
-    let added = length-after_records 1 c.args.count c.args.bytes.now [] c.requires.valid in
+    let added = length-after_records 1 c.args.count c.args.bytes.now [] c.requires.whole in
     let all = length-append c.self.inside.bytes.items c.args.bytes.now in
     let ok = c.extend_from_slice.new.self.ok in
     let small = c.extend_from_slice.new.self.small in
@@ -14,10 +14,10 @@ overflow_add-self c =
 
 pub invariant_of-self-2 : goal.invariant_of-self-2
 invariant_of-self-2 c = rw c.in_ok-extend_from_slice.ensures.items (records_in-append 1
-    c.self.inside.count _ c.self.inside.bytes.items _ [] [] c.self.invariant c.requires.valid).0
+    c.self.inside.count _ c.self.inside.bytes.items _ [] [] c.self.invariant c.requires.whole).0
 
 pub returns : goal.returns
 returns c = record {
-  added = (rw (c.in_ok-extend_from_slice.ensures.items, ← c.self.view_is) (records_in-append 1
-      c.self.inside.count _ c.self.inside.bytes.items _ [] [] c.self.invariant c.requires.valid).1);
+  appended = (rw (c.in_ok-extend_from_slice.ensures.items, ← c.self.view_is) (records_in-append 1
+      c.self.inside.count _ c.self.inside.bytes.items _ [] [] c.self.invariant c.requires.whole).1);
 }

@@ -4,16 +4,18 @@ use Rattle.mc_text.proofs.StepLemmas.{with_front-none}
 use Rattle.mc_text.specs.LineView.{line_text}
 use Rattle.mc_text.specs.Lines.{lines_of}
 use Rattle.mc_igmp.specs.ReadingList.{read_lines}
-use Rattle.mc_igmp.proofs.ListLemmas.{read_lines_more, report_list_answer-too_large, read_lines_all, read_lines_fault}
+use Rattle.mc_igmp.proofs.ListLemmas.{read_lines_more, report_list_answer-too_large}
+use Rattle.mc_igmp.proofs.ListLemmas.{read_lines_all, read_lines_fault}
 use Rattle.mc_igmp.proofs.list.ReportList.read.Goals as goal
 
 pub returns-then-text-gt-MAX_TEXT : goal.returns-then-text-gt-MAX_TEXT
 returns-then-text-gt-MAX_TEXT c =
-    report_list_answer-too_large c.args.text.now _ c.if-text-gt-MAX_TEXT.true (ap Err c.at.ensures.item)
+    report_list_answer-too_large c.args.text.now _ c.if-text-gt-MAX_TEXT.true (ap Err c.at.ensures)
 
 pub loop-line-init : goal.loop-line-init
 loop-line-init c =
-    rw (c.into_iter-line-iterator.ensures.into_iter_gives, c.new-line-items.ensures, c.none-list.ensures)
+    rw (c.into_iter-line-iterator.ensures.into_iter_gives, c.new-line-items.ensures.value,
+        c.none-list.ensures)
     (with_front-none (read_lines (lines_of c.args.text.now)))
 
 pub loop-line-preserved : goal.loop-line-preserved

@@ -1,7 +1,9 @@
 use Rattle.std.proofs.Common.{◌+◌, length, arith, sym, ◌∙◌, length-drop}
 use Rattle.std.proofs.lemmas.Result.{err_from_is_err_and}
 use Rattle.std.proofs.lemmas.Slice.{between_to_end}
-use Rattle.mc_igmp.proofs.PieceLemmas.{without_line_feed-append, without_line_feed-from_position, read_rest_of_lines_more, read_rest_of_lines-fault, position-within_length}
+use Rattle.mc_igmp.proofs.PieceLemmas.{without_line_feed-append, without_line_feed-from_position}
+use Rattle.mc_igmp.proofs.PieceLemmas.{read_rest_of_lines_more, read_rest_of_lines-fault}
+use Rattle.mc_igmp.proofs.PieceLemmas.{position-within_length}
 use Rattle.mc_igmp.proofs.list_reader.LineReader.read_piece.Goals as goal
 
 pub returns-in_err-end_line-clause-fault : goal.returns-in_err-end_line-clause-fault

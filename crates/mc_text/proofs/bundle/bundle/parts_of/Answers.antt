@@ -3,7 +3,8 @@ use Rattle.std.specs.Prelude.{is_ok}
 use Rattle.std.proofs.lemmas.List.{map_push}
 use Rattle.mc_text.specs.BundleView.{part_text, part_texts}
 use Rattle.mc_text.specs.BundleView.{place_text}
-use Rattle.mc_text.proofs.BundleLaws.{next_part_from-fewer_parts, read_parts_more, read_parts_all, read_parts_fault}
+use Rattle.mc_text.proofs.BundleLaws.{next_part_from-fewer_parts, read_parts_more, read_parts_all}
+use Rattle.mc_text.proofs.BundleLaws.{read_parts_fault}
 use Rattle.mc_text.proofs.bundle.bundle.parts_of.Goals as goal
 
 pub places-smaller : goal.places-smaller

@@ -4,7 +4,8 @@ use Rattle.std.specs.Io.KnownBytes.{Appends}
 use Rattle.std.proofs.KnownBytes.{Appends-nil, Appends-trans}
 use Rattle.std.proofs.lemmas.List.{take_all}
 use Rattle.std.proofs.lemmas.Result.{on_ok_weaker}
-use Rattle.mc_text.proofs.Pieces.{OnErr-from, appends_prefix-after_front, front_of_bundle, spelled, bundle_spelling-front_of_bundle, front_of_bundle_more}
+use Rattle.mc_text.proofs.Pieces.{OnErr-from, appends_prefix-after_front, front_of_bundle, spelled}
+use Rattle.mc_text.proofs.Pieces.{bundle_spelling-front_of_bundle, front_of_bundle_more}
 use Rattle.mc_text.proofs.Pieces.{bundle_spelling-split_at_part, appends_prefix-last}
 use Rattle.mc_text.proofs.bundle.bundle_output.write_parts.Goals as goal
 
@@ -16,7 +17,8 @@ pub returns-in_err-write_part-clause-err : goal.returns-in_err-write_part-clause
 returns-in_err-write_part-clause-err g c =
     let at = bundle_spelling-split_at_part c.args.parts.now c.loop-part.part-index c.part-item.result
     c.loop-part-test.true c.part-item.is in
-    OnErr-from _ _ (appends_prefix-after_front _ _ _ _ (spelled c.part-item.result) _ _ c.loop-part.invariant.bytes
+    OnErr-from _ _ (appends_prefix-after_front _ _ _ _
+        (spelled c.part-item.result) _ _ c.loop-part.invariant.bytes
     c.in_err-write_part.ensures.err at)
 
 pub loop-part-preserved : goal.loop-part-preserved

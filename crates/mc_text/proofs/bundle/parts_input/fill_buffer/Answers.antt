@@ -20,18 +20,22 @@ filling-preserved g c =
       failures = c.in-Ok.ensures.failures ∙ c.filling.invariant.failures;
       within = length-filled_buffer old new _ count more c.filling.invariant.within c.in-Ok.ensures.bound.0;
       bytes = subst
-          (λ (l : List ℕ). Consumes (g.R.Input.remaining c.args.input.now) (g.R.Input.remaining c.read.new.self) l)
-          (sym (take-filled_buffer old new _ count more c.filling.invariant.within c.in-Ok.ensures.bound.0)) both;
+          (λ (l : List ℕ). Consumes (g.R.Input.remaining c.args.input.now)
+          (g.R.Input.remaining c.read.new.self) l)
+          (sym (take-filled_buffer old new _ count more c.filling.invariant.within
+          c.in-Ok.ensures.bound.0)) both;
     }
 
 pub returns-in-Ok-eq0-clause-consumed : goal.returns-in-Ok-eq0-clause-consumed
 returns-in-Ok-eq0-clause-consumed g c =
-    consumes_up_to-filled_buffer _ _ _ c.filling.buffer c.read.new.buffer _ c.filling.count c.in-Ok-eq0.field-0
+    consumes_up_to-filled_buffer _ _ _ c.filling.buffer c.read.new.buffer _ c.filling.count
+        c.in-Ok-eq0.field-0
     c.filling.invariant.within c.in-Ok-eq0.ensures.bound.0 c.filling.invariant.bytes
     c.in-Ok-eq0.ensures.bytes.0
 
 pub returns-in-Err-clause-consumed : goal.returns-in-Err-clause-consumed
 returns-in-Err-clause-consumed g c =
-    consumes_up_to-filled_buffer _ _ _ c.filling.buffer c.read.new.buffer _ c.filling.count 0 c.filling.invariant.within
+    consumes_up_to-filled_buffer _ _ _ c.filling.buffer c.read.new.buffer _ c.filling.count 0
+        c.filling.invariant.within
     (omega arith) c.filling.invariant.bytes
     (Consumes-kept _ _ _ [] (Consumes-nil _) c.in-Err.ensures.bytes)

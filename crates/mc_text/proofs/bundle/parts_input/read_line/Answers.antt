@@ -5,7 +5,8 @@ use Rattle.std.specs.Io.KnownBytes.{Consumes}
 use Rattle.std.proofs.KnownBytes.{Consumes-trans}
 use Rattle.std.proofs.lemmas.List.{take_more_set}
 use Rattle.mc_text.proofs.BundleWords.{HasNoByte, HasNoByte-append}
-use Rattle.mc_text.proofs.PartsLemmas.{reads_as-no_end, reads_as-line_too_long, reads_as-line, eqb-of_distinct}
+use Rattle.mc_text.proofs.PartsLemmas.{reads_as-no_end, reads_as-line_too_long, reads_as-line}
+use Rattle.mc_text.proofs.PartsLemmas.{eqb-of_distinct}
 use Rattle.mc_text.proofs.bundle.parts_input.read_line.Goals as goal
 
 pub returns-in-None-clause-reads : goal.returns-in-None-clause-reads
@@ -59,7 +60,8 @@ returns-in-Some-eq10-clause-consumed g c =
 
 pub returns-in-Some-eq10-clause-taken : goal.returns-in-Some-eq10-clause-taken
 returns-in-Some-eq10-clause-taken g c =
-    consumes_up_to-after_consumes _ _ _ (take c.bytes.count c.bytes.line) 1 (c.bytes.count + 1) c.bytes.invariant.bytes
+    consumes_up_to-after_consumes _ _ _ (take c.bytes.count c.bytes.line) 1
+        (c.bytes.count + 1) c.bytes.invariant.bytes
     c.in_ok-next_byte.ensures.consumed (omega (arith, length-take c.bytes.count c.bytes.line))
 
 pub returns-clause-consumed : goal.returns-clause-consumed

@@ -5,7 +5,8 @@ use Rattle.std.proofs.Common.{subst, ◌∙◌, arith, length-take, length-drop}
 use Rattle.std.specs.Io.KnownBytes.{Consumes}
 use Rattle.std.proofs.KnownBytes.{Consumes-trans}
 use Rattle.std.proofs.lemmas.List.{length-append}
-use Rattle.mc_text.proofs.PartsLemmas.{reads_as-rest_truncated, reads_as-rest, reads_as-rest_other_byte, eqb-of_distinct}
+use Rattle.mc_text.proofs.PartsLemmas.{reads_as-rest_truncated, reads_as-rest}
+use Rattle.mc_text.proofs.PartsLemmas.{reads_as-rest_other_byte, eqb-of_distinct}
 use Rattle.mc_text.proofs.bundle.parts_input.skip_rest.Goals as goal
 
 pub returns-then-branch-size-clause-reads : goal.returns-then-branch-size-clause-reads
@@ -117,7 +118,8 @@ returns-then-branch-size-clause-consumed g c =
 pub returns-in_err-next_byte-clause-consumed : goal.returns-in_err-next_byte-clause-consumed
 returns-in_err-next_byte-clause-consumed g c =
     let bytes = c.skipping.invariant.bytes in
-    consumes_up_to-after_consumes _ _ _ bytes.0 1 (c.args.left + 1) bytes.1 c.in_err-next_byte.ensures.consumed
+    consumes_up_to-after_consumes _ _ _ bytes.0 1
+        (c.args.left + 1) bytes.1 c.in_err-next_byte.ensures.consumed
     (omega (arith, bytes.2))
 
 pub returns-in-Some-eq10-clause-consumed : goal.returns-in-Some-eq10-clause-consumed

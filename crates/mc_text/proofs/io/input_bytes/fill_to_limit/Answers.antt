@@ -30,4 +30,5 @@ returns-then-is_err-clause-consumed g c =
 pub returns-in-Err-clause-consumed : goal.returns-in-Err-clause-consumed
 returns-in-Err-clause-consumed g c =
     let nothing = Consumes-kept _ _ _ [] (Consumes-nil _) c.in-Err.ensures.bytes in
-    consumes_up_to-from_reads_onto _ _ _ _ _ [] _ c.reading.invariant.bytes nothing (omega (arith, c.reading.bytes.ok.0))
+    consumes_up_to-from_reads_onto _ _ _ _ _ [] _ c.reading.invariant.bytes nothing
+        (omega (arith, c.reading.bytes.ok.0))

@@ -1,7 +1,8 @@
 use Rattle.std.proofs.Common.{◌≡◌, [], Ok, Err, Some, None, ap, subst, sym, inl, inr, ◌∙◌}
 use Rattle.std.proofs.lemmas.List.{append-nil}
 use Rattle.mc_text.specs.Steps.{◌>>=◌}
-use Rattle.mc_text.specs.PartsReading.{PartsState, parts_state, parts_from_current, current_part, prepend_parts, opened_next}
+use Rattle.mc_text.specs.PartsReading.{PartsState, parts_state, parts_from_current, current_part}
+use Rattle.mc_text.specs.PartsReading.{prepend_parts, opened_next}
 use Rattle.mc_text.specs.PartsReading.{parts_of_opened, part_and_rest}
 use Rattle.mc_text.proofs.PartsMeaning.{reads_as-ok, reads_as-err, parts_from_current-opened_next}
 use Rattle.mc_text.proofs.bundle.parts.Parts.next.Goals as goal
@@ -13,7 +14,8 @@ returns-in-Ok-Some-clause-opened g c = λ text done remaining _.
     let state = parts_state own.stage own.parts own.room own.name own.size own.left
     (g.R.Input.remaining own.input) (g.R.Input.failed own.input) (g.R.Input.borrows own.input) in
     let start = c.match-self.start in
-    let means = parts_from_current-opened_next state start done text c.self.invariant (elim c.match-self.branch [
+    let means = parts_from_current-opened_next state start done text c.self.invariant
+    (elim c.match-self.branch [
       | in-Start w ↦ inl (w.in-Start.is, w.start-is)
       | in-Part w ↦ inr (w.in-Part.is, w.start-is)
     ]) in
@@ -37,7 +39,8 @@ returns-in-Ok-None-clause-ended g c = λ text done remaining _.
     let state = parts_state own.stage own.parts own.room own.name own.size own.left
     (g.R.Input.remaining own.input) (g.R.Input.failed own.input) (g.R.Input.borrows own.input) in
     let start = c.match-self.start in
-    let means = parts_from_current-opened_next state start done text c.self.invariant (elim c.match-self.branch [
+    let means = parts_from_current-opened_next state start done text c.self.invariant
+    (elim c.match-self.branch [
       | in-Start w ↦ inl (w.in-Start.is, w.start-is)
       | in-Part w ↦ inr (w.in-Part.is, w.start-is)
     ]) in
@@ -48,7 +51,8 @@ returns-in-Ok-None-clause-ended g c = λ text done remaining _.
     let all = means
     ∙ ap (λ r. r >>= λ o. prepend_parts (current_part state done text) (parts_of_opened o.0 o.1)) read.2
     ∙ ap Ok (append-nil (current_part state done text)) in
-    subst (λ (s : PartsState). parts_from_current s done text ≡ Ok (current_part s done text)) c.self.view_is all
+    subst (λ (s : PartsState). parts_from_current s done text ≡ Ok (current_part s done text))
+        c.self.view_is all
 
 pub returns-in-Err-clause-fault : goal.returns-in-Err-clause-fault
 returns-in-Err-clause-fault g c = λ text done remaining there.
@@ -56,7 +60,8 @@ returns-in-Err-clause-fault g c = λ text done remaining there.
     let state = parts_state own.stage own.parts own.room own.name own.size own.left
     (g.R.Input.remaining own.input) (g.R.Input.failed own.input) (g.R.Input.borrows own.input) in
     let start = c.match-self.start in
-    let means = parts_from_current-opened_next state start done text c.self.invariant (elim c.match-self.branch [
+    let means = parts_from_current-opened_next state start done text c.self.invariant
+    (elim c.match-self.branch [
       | in-Start w ↦ inl (w.in-Start.is, w.start-is)
       | in-Part w ↦ inr (w.in-Part.is, w.start-is)
     ]) in

@@ -3,7 +3,8 @@ use Rattle.std.proofs.Common.{◌∙◌, arith, length-take}
 use Rattle.std.proofs.lemmas.List.{take-append-le}
 use Rattle.mc_text.specs.declared.bundle.bundle_fault.BundleFault.TheVariants as faults
 use Rattle.mc_text.specs.PartsReading.{PartsState, parts_from_current, parts_state}
-use Rattle.mc_text.proofs.PartsMeaning.{split-from_Consumes, text-nil_at_end, parts_from_current-truncated, parts_from_current-read_more}
+use Rattle.mc_text.proofs.PartsMeaning.{split-from_Consumes, text-nil_at_end}
+use Rattle.mc_text.proofs.PartsMeaning.{parts_from_current-truncated, parts_from_current-read_more}
 use Rattle.mc_text.proofs.bundle.parts.Parts.read.Goals as goal
 
 pub returns-in-Ok-eq0-clause-fault : goal.returns-in-Ok-eq0-clause-fault
@@ -42,7 +43,8 @@ returns-in-Ok-clause-bytes g c = λ text done remaining.
     let within : length taken ≤ state.left =
     omega (arith, room, full, c.in-Ok.ensures.bound.0, length-take c.min-room.result c.args.buffer.now) in
     let keeps = parts_from_current-read_more state done taken read.0 (g.R.Input.remaining c.read.new.self)
-    (g.R.Input.failed c.read.new.self) (g.R.Input.borrows c.read.new.self) c.self.invariant c.in-Part.is within in
+    (g.R.Input.failed c.read.new.self)
+    (g.R.Input.borrows c.read.new.self) c.self.invariant c.in-Part.is within in
     let after = parts_state own.stage own.parts own.room own.name own.size (own.left - c.in-Ok.count)
     (g.R.Input.remaining c.read.new.self) (g.R.Input.failed c.read.new.self)
     (g.R.Input.borrows c.read.new.self) in

@@ -72,7 +72,7 @@ module _ {X : Type 0} (d : X → DomainValue) (names : List (List ℕ)) where
       FilesMeanDomainAsListed-from_input (files_with_exclusions names files) read.0 (d x) read.2 read.1 rules
   FilesMeanDomainAsListed-from_result o (Err fault) keeps rules = tt
 
-  pub SaysTheSame-from_files : (o : Option (List FileText)) (r : Result X WithoutFault)
+  pub HaveSameFacts-from_files : (o : Option (List FileText)) (r : Result X WithoutFault)
       → ((files : List FileText) → o ≡ Some files → IfOk r (λ x. (v : InputValue)
       × IsDomainOf (d x) v × (input_of_files (files_with_exclusions names files) ≡ Ok v)))
       → IfOk r (λ x. IsDomain (d x))
@@ -81,13 +81,13 @@ module _ {X : Type 0} (d : X → DomainValue) (names : List (List ℕ)) where
       → (files : List FileText) (domain : DomainValue) → o ≡ Some files
       → FilesMeanDomain (files_with_exclusions names files) domain → AreRouterNames domain.topology names
       → MatchResult r (λ x. HaveSameFacts domain (d x)) IsReadOrMemoryWithout
-  SaysTheSame-from_files o (Ok x) keeps rules refused files domain contents means are =
+  HaveSameFacts-from_files o (Ok x) keeps rules refused files domain contents means are =
       let whole = files_with_exclusions names files in
       let read = keeps files contents in
       let listed = FilesMeanDomainAsListed-from_input whole read.0 (d x) read.2 read.1 rules in
       subst (λ e. HaveSameFacts e (d x))
       (FilesMeanDomain-unique whole listed.whole domain listed.means means) listed.same
-  SaysTheSame-from_files o (Err fault) keeps rules refused files domain contents means are =
+  HaveSameFacts-from_files o (Err fault) keeps rules refused files domain contents means are =
       IsReadOrMemoryWithout-by_contradiction fault (input_of_files_without names files ≡ Err fault) (refused files contents)
       (input_of_files_without-not_Err names files domain fault means are)
 

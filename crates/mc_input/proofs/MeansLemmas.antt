@@ -34,7 +34,7 @@ use Rattle.mc_input.specs.SourceFault.{IsReadOrMemory}
 use Rattle.mc_input.specs.declared.fault.InputFault.TheVariants as input
 use Rattle.mc_input.specs.declared.source_fault.SourceFault.{SourceFault}
 use Rattle.mc_input.specs.declared.source_fault.SourceFault.TheVariants.{Input, Read}
-use Rattle.mc_input.proofs.ReadRestLemmas.{Err-from_refused_as, read_rest-same, read_rest-part_passed, read_rest-both_Err}
+use Rattle.mc_input.proofs.ReadRestLemmas.{Err-from_map_fault, read_rest-same, read_rest-part_passed, read_rest-both_Err}
 use Rattle.mc_input.proofs.UniqueDomain.{MeansDomain-unique}
 use Rattle.mc_input.proofs.ReadLemmas.{input_of_bundle-Ok, read_bundle, input_of_bundle-Err_from_read_bundle, DenotesInput-from_read_bundle}
 
@@ -73,9 +73,9 @@ read_rest-at_start : (certified : Bool) (s : PartsState) (text : List ℕ) → s
 read_rest-at_start certified s text is = rw is refl
 
 -- no more is read than the greatest bundle and a line
-pub ConsumesUpTo-from_Spends : (most after : ℕ) (old new : Option (List ℕ)) → most ≡ max_input
+pub ConsumesUpTo-from_ConsumesWithin : (most after : ℕ) (old new : Option (List ℕ)) → most ≡ max_input
     → ConsumesWithin most after old new → ConsumesUpTo max_input old new
-ConsumesUpTo-from_Spends most after old new is spends = (spends.0, omega (arith, spends.1, is), spends.2)
+ConsumesUpTo-from_ConsumesWithin most after old new is spends = (spends.0, omega (arith, spends.1, is), spends.2)
 
 -- ---- what it means
 
@@ -136,7 +136,7 @@ pub input_of_bundle-Err : (certified : Bool) (s : PartsState) (text : List ℕ) 
     → s.stage ≡ stages.Start → s.remaining ≡ Some text → IsFaultOf s (read_all_parts certified) own
     → ¬ IsReadOrMemory own → map_fault Input (input_of_bundle certified text) ≡ Err own
 input_of_bundle-Err certified s text own start remaining refused loud =
-    let found = Err-from_refused_as (read_rest s text (read_all_parts certified)) own (refused text remaining loud) in
+    let found = Err-from_map_fault (read_rest s text (read_all_parts certified)) own (refused text remaining loud) in
     ap (map_fault Input) (input_of_bundle-Err_from_read_bundle certified text found.0
     (sym (read_rest-at_start certified s text start) ∙ found.1)) ∙ ap Err (sym found.2)
 
@@ -160,11 +160,11 @@ IsReadOrMemory-from_MeansDomain certified text certificate d own is means refuse
     never e = cc
 
 -- the domain that was read is the one that it means
-pub SaysTheSame-from_MeansDomain : (certified : Bool) (text : List ℕ) (certificate own : Option (List ℕ))
+pub HaveSameFacts-from_MeansDomain : (certified : Bool) (text : List ℕ) (certificate own : Option (List ℕ))
     (d read : DomainValue) → is_some certificate ≡ certified → is_some own ≡ certified
     → MeansDomain text certificate d → MeansDomainAsListed text own read
     → HaveSameFacts d read × (own ≡ certificate)
-SaysTheSame-from_MeansDomain certified text certificate own d read is own_is means listed =
+HaveSameFacts-from_MeansDomain certified text certificate own d read is own_is means listed =
     let one = MeansDomain-unique text own certificate listed.whole d (is ∙ sym own_is) listed.means means in
     (subst (λ e. HaveSameFacts e read) one.0 listed.same, one.1)
 
@@ -181,17 +181,17 @@ module _ {X : Type 0} (d : X → DomainValue) (cert : X → Option (List ℕ)) (
       MeansDomainAsListed-from_ReadsDomain certified s text (d x) (cert x) start rules (read text remaining)
   MeansDomainAsListed-from_result o (Err fault) remaining rules read = tt
 
-  pub SaysTheSame-from_result : (r : Result X SourceFault) (text : List ℕ) (certificate : Option (List ℕ))
+  pub HaveSameFacts-from_result : (r : Result X SourceFault) (text : List ℕ) (certificate : Option (List ℕ))
       (domain : DomainValue) → s.remaining ≡ Some text → is_some certificate ≡ certified
       → MeansDomain text certificate domain → IfOk r (λ x. IsDomain (d x))
       → IfOk r (λ x. is_some (cert x) ≡ certified)
       → IfOk r (λ x. (text : List ℕ) → s.remaining ≡ Some text → ReadsDomain s text certified (d x) (cert x))
       → IfErr r (IsFaultOf s (read_all_parts certified))
       → MatchResult r (λ x. HaveSameFacts domain (d x) × (cert x ≡ certificate)) IsReadOrMemory
-  SaysTheSame-from_result (Ok x) text certificate domain remaining is means rules own read refused =
-      SaysTheSame-from_MeansDomain certified text certificate (cert x) domain (d x) is own means
+  HaveSameFacts-from_result (Ok x) text certificate domain remaining is means rules own read refused =
+      HaveSameFacts-from_MeansDomain certified text certificate (cert x) domain (d x) is own means
       (MeansDomainAsListed-from_ReadsDomain certified s text (d x) (cert x) start rules (read text remaining))
-  SaysTheSame-from_result (Err fault) text certificate domain remaining is means rules own read refused =
+  HaveSameFacts-from_result (Err fault) text certificate domain remaining is means rules own read refused =
       IsReadOrMemory-from_MeansDomain certified text certificate domain fault is means
       (input_of_bundle-Err certified s text fault start remaining refused)
 

@@ -94,9 +94,9 @@ names-from_check_names_from n (slot ∷ ss) (part ∷ parts) e =
 
 -- ---- the contents
 
-pub refused_as-same : {X : Type 0} (r : Result X InputFault) → map_fault (λ fault. fault) r ≡ r
-refused_as-same (Ok x) = refl
-refused_as-same (Err fault) = refl
+pub map_fault-same : {X : Type 0} (r : Result X InputFault) → map_fault (λ fault. fault) r ≡ r
+map_fault-same (Ok x) = refl
+map_fault-same (Err fault) = refl
 
 -- the part that has the name is the one at that index
 read_part-with_slot_name : {X : Type 0} (parts : List PartText) (n : ℕ) (slot : Slot) (part : PartText)
@@ -104,7 +104,7 @@ read_part-with_slot_name : {X : Type 0} (parts : List PartText) (n : ℕ) (slot 
     → part.name ≡ part_name slot
     → read_part (λ fault. fault) (part_with_slot_name parts n slot) read ≡ read part
 read_part-with_slot_name parts n slot part read at is =
-    rw (part_with_slot_name-Ok parts n slot part at is) (refused_as-same (read part))
+    rw (part_with_slot_name-Ok parts n slot part at is) (map_fault-same (read part))
 
 abbrev tables_value : FinMap nat_cmp VifValue → CacheValue → TablesValue
 tables_value vifs entries = record { vifs = vifs; cache = entries }

@@ -143,16 +143,16 @@ IsPartResult-listed order pairs name bytes (Err own) (Err fault) e is = by own i
     by other is = ap (map_fault (input.Cache name)) ((listed_in-same_fault order (Some pairs) bytes fault).0 e) ∙ is
 
 -- a reader that keeps the rows of these sources and groups keeps those of the same in another order
-pub no_cache-same_pairs : (order : Order) (listed pairs : List (ℕ × ℕ)) (reader : CacheSoFar)
+pub cache_start-same_pairs : (order : Order) (listed pairs : List (ℕ × ℕ)) (reader : CacheSoFar)
     → reader ≡ cache_start order (Some listed) → AreSamePairs listed pairs
     → reader ≡ cache_start order (Some pairs)
-no_cache-same_pairs order listed pairs reader start same =
+cache_start-same_pairs order listed pairs reader start same =
     start ∙ ap (λ (s : set.FinSet key_cmp). cache_start_for_set order (Some s)) (same_set listed pairs same)
 
 -- the reader has the byte order of its router
-pub no_cache-own_order : (order : Order) (pairs : List (ℕ × ℕ)) (reader : CacheSoFar)
+pub cache_start-own_order : (order : Order) (pairs : List (ℕ × ℕ)) (reader : CacheSoFar)
     → reader ≡ cache_start order (Some pairs) → reader ≡ cache_start reader.rows.order (Some pairs)
-no_cache-own_order order pairs reader start =
+cache_start-own_order order pairs reader start =
     start ∙ ap (λ (o : Order). cache_start o (Some pairs))
     (sym (ap (λ (s : CacheSoFar). s.rows.order) start))
 

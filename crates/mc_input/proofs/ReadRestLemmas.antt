@@ -68,10 +68,10 @@ bind-both_Err : {X Y : Type 0} (r : Result (List PartText) InputFault)
 bind-both_Err (Ok parts) a b fault each e = each parts e
 bind-both_Err (Err other) a b fault each e = cc
 
-pub Err-from_refused_as : {X : Type 0} (r : Result X InputFault) (own : SourceFault) → map_fault Input r ≡ Err own
+pub Err-from_map_fault : {X : Type 0} (r : Result X InputFault) (own : SourceFault) → map_fault Input r ≡ Err own
     → (fault : InputFault) × (r ≡ Err fault) × (own ≡ Input fault)
-Err-from_refused_as (Ok x) own e = absurd cc
-Err-from_refused_as (Err fault) own e = (fault, refl, cc)
+Err-from_map_fault (Ok x) own e = absurd cc
+Err-from_map_fault (Err fault) own e = (fault, refl, cc)
 
 pub read_rest-both_Err : {X Y : Type 0} (s : PartsState) (text : List ℕ)
     (a : List PartText → Result X InputFault) (b : List PartText → Result Y InputFault)
@@ -79,7 +79,7 @@ pub read_rest-both_Err : {X Y : Type 0} (s : PartsState) (text : List ℕ)
     → ((parts : List PartText) (fault : InputFault) → a parts ≡ Err fault → b parts ≡ Err fault)
     → map_fault Input (read_rest s text a) ≡ Err own → map_fault Input (read_rest s text b) ≡ Err own
 read_rest-both_Err s text a b own each e =
-    let found = Err-from_refused_as (read_rest s text a) own e in
+    let found = Err-from_map_fault (read_rest s text a) own e in
     ap (map_fault Input) (bind-both_Err (map_fault Bundle (rest_of_bundle s text)) a b found.0
     (λ parts refused. each parts found.0 refused) found.1) ∙ ap Err (sym found.2)
 
@@ -125,11 +125,11 @@ module _ {X : Type 0} where
 
 -- ---- to the end
 
-before-bind_ignored : (xs : List PartText) (r : Result (List PartText) BundleFault)
+prepend_parts-bind_ignored : (xs : List PartText) (r : Result (List PartText) BundleFault)
     → (map_fault Bundle (prepend_parts xs r) >>= λ _. Ok tt)
     ≡ (map_fault Bundle r >>= λ _. (let u : Result (Unit {0}) InputFault = Ok tt in u))
-before-bind_ignored xs (Ok parts) = refl
-before-bind_ignored xs (Err fault) = refl
+prepend_parts-bind_ignored xs (Ok parts) = refl
+prepend_parts-bind_ignored xs (Err fault) = refl
 
 -- the rest before a part has the same fault of framing as the rest after it
 pub framing-part_passed : (s new : PartsState) (done text later : List ℕ)
@@ -139,7 +139,7 @@ pub framing-part_passed : (s new : PartsState) (done text later : List ℕ)
 framing-part_passed s new done text later e =
     ap (λ r. map_fault Bundle r >>= λ _. (let u : Result (Unit {0}) InputFault = Ok tt in u))
     (rest_of_bundle-opened s done text (parts_from_current new [] later) e ∙ parts_from_current-prepend new [] later)
-    ∙ before-bind_ignored (current_part new [] later) (rest_of_bundle new later)
+    ∙ prepend_parts-bind_ignored (current_part new [] later) (rest_of_bundle new later)
 
 -- the framing of the rest is right, or wrong
 abbrev framing : PartsState → List ℕ → Result (Unit {0}) InputFault

@@ -2,7 +2,7 @@
 //! opened. No file's text is kept: of a cache just the rows of listed flows and a summary. Files of
 //! excluded routers aren't read.
 
-ghost use Rattle.std.specs.Prelude.{◌≡◌, ◌<◌, ℕ, List, IfErr, IfOk, IsTrue, Some, length, true};
+ghost use Rattle.std.specs.Prelude.{◌≡◌, ◌<◌, List, IfErr, IfOk, IsTrue, Some, length, true};
 ghost use Rattle.mc_text.specs.Device.{failures_after};
 ghost use Rattle.mc_topology.specs.Names.{is_name};
 ghost use Rattle.mc_forward.specs.Assembling.{AreAnswers};

@@ -3,7 +3,7 @@ use Rattle.std.proofs.lemmas.Result.{err_from_is_err_and}
 use Rattle.mc_text.proofs.RestOfBundleLemmas.{advances_trans}
 use Rattle.mc_tables.specs.RowsSoFar.{CacheSoFar, cache_start}
 use Rattle.mc_forward.specs.ListedTables.{flow_pairs}
-use Rattle.mc_input.proofs.PartResultLemmas.{no_cache-own_order, no_cache-same_pairs}
+use Rattle.mc_input.proofs.PartResultLemmas.{cache_start-own_order, cache_start-same_pairs}
 use Rattle.mc_input.proofs.FinishLemmas.{IsFaultOf-cache, RouterRow-at_order, router_slots-within_count, ReadsTables-from_parts, IsFaultOf-vifs}
 use Rattle.mc_input.proofs.bundle.tables_of.Goals as goal
 
@@ -24,8 +24,8 @@ cache_in-requires-clause-within g c =
 pub cache_in-requires-clause-reader : goal.cache_in-requires-clause-reader
 cache_in-requires-clause-reader g c =
     let pairs = flow_pairs c.args.topology.now.flows in
-    no_cache-own_order c.order-order.result pairs c.new-reader.result
-    (no_cache-same_pairs c.order-order.result c.args.listed.now pairs c.new-reader.result
+    cache_start-own_order c.order-order.result pairs c.new-reader.result
+    (cache_start-same_pairs c.order-order.result c.args.listed.now pairs c.new-reader.result
     (c.new-reader.ensures.start
     ∙ ap (λ (ps : List (ℕ × ℕ)). cache_start c.order-order.result (Some ps)) c.in_ok-clone.ensures.cases)
     c.requires.listed)

@@ -1,7 +1,7 @@
 use Rattle.std.proofs.Common.{◌≡◌, Err, map}
 use Rattle.mc_input.specs.ExcludedRouters.{IsReadOrMemoryWithout, input_of_files_without, files_with_exclusions}
 use Rattle.mc_input.specs.SummariesOfFiles.{AreSummariesOf}
-use Rattle.mc_input.proofs.FilesMeansLemmas.{IfErr-from_known_contents, FilesMeanDomainAsListed-from_result, SaysTheSame-from_files, IfOk-from_known_contents}
+use Rattle.mc_input.proofs.FilesMeansLemmas.{IfErr-from_known_contents, FilesMeanDomainAsListed-from_result, HaveSameFacts-from_files, IfOk-from_known_contents}
 use Rattle.mc_input.proofs.domain.read_folder_domain.Goals as goal
 
 pub returns-clause-means : goal.returns-clause-means
@@ -12,7 +12,7 @@ returns-clause-means g c =
 
 pub returns-clause-only : goal.returns-clause-only
 returns-clause-only g c =
-    SaysTheSame-from_files (λ read. read.domain) (map (λ n. n.now) c.args.without.now)
+    HaveSameFacts-from_files (λ read. read.domain) (map (λ n. n.now) c.args.without.now)
     (g.F.FileSource.contents c.args.files.now) c.read_files_with_buffer.result
     c.read_files_with_buffer.ensures.domain c.read_files_with_buffer.ensures.rules c.read_files_with_buffer.ensures.fault
 

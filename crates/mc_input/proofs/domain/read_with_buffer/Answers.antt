@@ -1,6 +1,6 @@
 use Rattle.std.proofs.Common.{◌∙◌, rules}
 use Rattle.mc_input.specs.InputView.{certificate_text}
-use Rattle.mc_input.proofs.MeansLemmas.{MeansDomainAsListed-from_result, SaysTheSame-from_result, input_of_bundle-Err_of_result, certificate_text-expected, ConsumesUpTo-from_Spends}
+use Rattle.mc_input.proofs.MeansLemmas.{MeansDomainAsListed-from_result, HaveSameFacts-from_result, input_of_bundle-Err_of_result, certificate_text-expected, ConsumesUpTo-from_ConsumesWithin}
 use Rattle.mc_input.proofs.MeansLemmas.{ConsumesUpTo-same}
 use Rattle.mc_input.proofs.domain.read_with_buffer.Goals as goal
 
@@ -13,7 +13,7 @@ returns-clause-means g c =
 
 pub returns-clause-only : goal.returns-clause-only
 returns-clause-only g c = λ text certificate domain remaining is means.
-    SaysTheSame-from_result (λ read. read.domain) (λ read. certificate_text read.certificate) c.args.certified
+    HaveSameFacts-from_result (λ read. read.domain) (λ read. certificate_text read.certificate) c.args.certified
     c.new-parts.result c.new-parts.ensures.start c.read_parts-read.result text certificate domain
     (c.new-parts.ensures.remaining ∙ remaining) is means c.read_parts-read.ensures.rules
     (certificate_text-expected (λ read. read.certificate) c.args.certified c.read_parts-read.result
@@ -28,5 +28,5 @@ returns-clause-fault g c = λ text remaining.
 
 pub returns-clause-consumed : goal.returns-clause-consumed
 returns-clause-consumed g c =
-    ConsumesUpTo-same (ConsumesUpTo-from_Spends _ _ _ _ c.new-parts.ensures.most c.read_parts-read.ensures.advances.1)
+    ConsumesUpTo-same (ConsumesUpTo-from_ConsumesWithin _ _ _ _ c.new-parts.ensures.most c.read_parts-read.ensures.advances.1)
     c.new-parts.ensures.remaining (search rules)

@@ -1,4 +1,4 @@
-use Rattle.std.proofs.Common.{ℕ, List, ◌∙◌, ap, Err, map, refl}
+use Rattle.std.proofs.Common.{◌∙◌, ap, Err, map, refl}
 use Rattle.std.proofs.lemmas.Result.{err_from_is_err_and}
 use Rattle.mc_input.specs.FilesReading.{part_from_file}
 use Rattle.mc_input.specs.InputView.{input_with}

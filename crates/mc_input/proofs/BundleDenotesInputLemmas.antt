@@ -15,12 +15,14 @@ use Rattle.mc_files.specs.Layout.{Slot, part_name, reports_slot, router_slots, c
 use Rattle.mc_files.specs.Layout.{certificate_slots, slots, topology_slot}
 use Rattle.mc_files.proofs.PartMismatchLemmas.{same_names-from_first_mismatch, first_mismatch-same_names}
 use Rattle.mc_forward.specs.Domains.{TablesValue}
-use Rattle.mc_input.specs.Input.{InputValue, PartsDenoteInput, PartsDenoteTables, PartsDenoteReports, PartsDenoteCertificate}
+use Rattle.mc_input.specs.Input.{InputValue, PartsDenoteInput, PartsDenoteTables}
+use Rattle.mc_input.specs.Input.{PartsDenoteReports, PartsDenoteCertificate}
 use Rattle.mc_input.specs.InputReading.{named, part_with_slot_name, part_name_fault, check_part_names}
 use Rattle.mc_input.specs.InputReading.{input_of_parts, certificate_in}
 use Rattle.mc_input.specs.declared.fault.InputFault.TheVariants.{Parts}
 use Rattle.mc_input.proofs.ReadingLemmas.{drop-slice_get}
-use Rattle.mc_input.proofs.SourceOfPartsLemmas.{Serves, GivesSlotNames, judged-from_read_input, HasInputParts-from_read_input, read_input-denoted}
+use Rattle.mc_input.proofs.SourceOfPartsLemmas.{Serves, GivesSlotNames, judged-from_read_input}
+use Rattle.mc_input.proofs.SourceOfPartsLemmas.{HasInputParts-from_read_input, read_input-denoted}
 
 -- ---- one part
 

@@ -22,10 +22,12 @@ use Rattle.mc_files.specs.Layout.{Slot, cache_slot, file_name, part_name, report
 use Rattle.mc_files.specs.Layout.{vif_slot}
 use Rattle.mc_input.specs.FilesReading.{input_of_files, part_from_file}
 use Rattle.mc_input.specs.Kept.{GivesKept}
-use Rattle.mc_input.specs.ExcludedRouters.{AreRouterNames, header_only_files, cache_header, check_router_names, input_of_files_without}
+use Rattle.mc_input.specs.ExcludedRouters.{AreRouterNames, header_only_files, cache_header}
+use Rattle.mc_input.specs.ExcludedRouters.{check_router_names, input_of_files_without}
 use Rattle.mc_input.specs.ExcludedRouters.{files_with_exclusions, vif_header}
 use Rattle.mc_input.specs.SummariesOfFiles.{IsSummaryOf}
-use Rattle.mc_input.specs.PartsReading.{all_reports, read_tables_and_reports, first_lan_number, router_tables, read_part}
+use Rattle.mc_input.specs.PartsReading.{all_reports, read_tables_and_reports, first_lan_number}
+use Rattle.mc_input.specs.PartsReading.{router_tables, read_part}
 use Rattle.mc_input.specs.PartsReading.{topology_of}
 use Rattle.mc_input.specs.declared.source_fault.SourceFault.{SourceFault}
 use Rattle.mc_input.specs.declared.source_fault.SourceFault.TheVariants.{Input}

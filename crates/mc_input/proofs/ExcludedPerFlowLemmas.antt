@@ -20,9 +20,12 @@ use Rattle.mc_input.specs.declared.source_fault.SourceFault.{SourceFault}
 use Rattle.mc_input.specs.declared.source_fault.SourceFault.TheVariants.{Input}
 use Rattle.mc_input.proofs.InputCounts.{AreCounted-from_PartsDenoteInput}
 use Rattle.mc_input.proofs.FilesDenoteInputLemmas.{input_of_files-Ok}
-use Rattle.mc_input.proofs.ExcludedLemmas.{IsSameFile-other_cache, is_excluded_name, all_reports-with_exclusions, router_tables-same_files}
-use Rattle.mc_input.proofs.ExcludedLemmas.{read_part-same_topology_file, IsSameFile-topology_slot, IsSameFile-other_vif}
-use Rattle.mc_input.proofs.HasNoVifOrRowLemmas.{all_tables-first, HasNoVifOrRow-at, read_input-reports, read_input-tables}
+use Rattle.mc_input.proofs.ExcludedLemmas.{IsSameFile-other_cache, is_excluded_name}
+use Rattle.mc_input.proofs.ExcludedLemmas.{all_reports-with_exclusions, router_tables-same_files}
+use Rattle.mc_input.proofs.ExcludedLemmas.{read_part-same_topology_file, IsSameFile-topology_slot}
+use Rattle.mc_input.proofs.ExcludedLemmas.{IsSameFile-other_vif}
+use Rattle.mc_input.proofs.HasNoVifOrRowLemmas.{all_tables-first, HasNoVifOrRow-at}
+use Rattle.mc_input.proofs.HasNoVifOrRowLemmas.{read_input-reports, read_input-tables}
 use Rattle.mc_input.proofs.HasNoVifOrRowLemmas.{read_input-topology}
 use Rattle.mc_input.proofs.UniqueDomain.{same_wants-from_IsAssembled}
 use Rattle.mc_input.proofs.ReadLemmas.{Ok-injective}

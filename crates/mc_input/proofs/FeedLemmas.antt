@@ -1,5 +1,6 @@
 -- The result of a reader that is fed in pieces.
-use Rattle.std.specs.Prelude.{◌≡◌, ◌≢◌, ℕ, ◌+◌, ◌≤◌, true, List, ◌++◌, length, Option, Some, None, Result, Ok, Err}
+use Rattle.std.specs.Prelude.{◌≡◌, ◌≢◌, ℕ, ◌+◌, ◌≤◌, true, List, ◌++◌, length, Option, Some, None}
+use Rattle.std.specs.Prelude.{Result, Ok, Err}
 use Rattle.std.specs.Prelude.{IfErr, IfSome, OnOk, if◌then◌else◌, is_ok, is_some, refl}
 use Rattle.std.proofs.Common.{ap, ◌∙◌, sym, append_assoc, arith}
 use Rattle.mc_text.specs.Lines.{max_text}

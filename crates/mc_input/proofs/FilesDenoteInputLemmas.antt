@@ -7,13 +7,15 @@ use Rattle.mc_files.specs.FilePart.{file_part}
 use Rattle.mc_files.specs.Files.{FileText}
 use Rattle.mc_files.specs.Layout.{Slot, slots}
 use Rattle.mc_files.specs.Packing.{ArePacked}
-use Rattle.mc_files.proofs.PartLemmas.{IsWithinMaxPart, Ok-from_refused_as, IsPartOfFile-from_file_part, file_part-Ok}
+use Rattle.mc_files.proofs.PartLemmas.{IsWithinMaxPart, Ok-from_refused_as}
+use Rattle.mc_files.proofs.PartLemmas.{IsPartOfFile-from_file_part, file_part-Ok}
 use Rattle.mc_input.specs.Input.{InputValue}
 use Rattle.mc_input.specs.SourceFault.{from_file_fault}
 use Rattle.mc_input.specs.FilesInput.{FilesDenoteInput}
 use Rattle.mc_input.specs.FilesReading.{part_from_file, input_of_files}
 use Rattle.mc_input.specs.declared.source_fault.SourceFault.TheVariants.{Input}
-use Rattle.mc_input.proofs.SourceOfPartsLemmas.{Serves, GivesSlotNames, HasInputParts-from_read_input, read_input-denoted}
+use Rattle.mc_input.proofs.SourceOfPartsLemmas.{Serves, GivesSlotNames}
+use Rattle.mc_input.proofs.SourceOfPartsLemmas.{HasInputParts-from_read_input, read_input-denoted}
 
 GivesSlotNames-part_from_file : (files : List FileText) → GivesSlotNames (part_from_file files)
 GivesSlotNames-part_from_file files n slot part e =

@@ -11,12 +11,14 @@ use Rattle.mc_input.specs.FilesInput.{FilesDenoteInput}
 use Rattle.mc_input.specs.FilesReading.{input_of_files, part_from_file}
 use Rattle.mc_input.specs.Input.{InputValue}
 use Rattle.mc_input.specs.Kept.{IsDomainOf}
-use Rattle.mc_input.specs.ExcludedRouters.{AreRouterNames, IsReadOrMemoryWithout, input_of_files_without, files_with_exclusions}
+use Rattle.mc_input.specs.ExcludedRouters.{AreRouterNames, IsReadOrMemoryWithout}
+use Rattle.mc_input.specs.ExcludedRouters.{input_of_files_without, files_with_exclusions}
 use Rattle.mc_input.specs.Meaning.{FilesMeanDomainAsListed, FilesMeanDomain}
 use Rattle.mc_input.specs.declared.without_fault.WithoutFault.{WithoutFault}
 use Rattle.mc_input.specs.declared.without_fault.WithoutFault.TheVariants.{Source, NoSuchRouter}
 use Rattle.mc_input.proofs.FilesDenoteInputLemmas.{input_of_files-Ok, FilesDenoteInput-from_input_of_files}
-use Rattle.mc_input.proofs.ExcludedLemmas.{input_of_files_without-names_Ok, check_router_names-Ok, read_part-same_topology_file, IsSameFile-topology_slot}
+use Rattle.mc_input.proofs.ExcludedLemmas.{input_of_files_without-names_Ok, check_router_names-Ok}
+use Rattle.mc_input.proofs.ExcludedLemmas.{read_part-same_topology_file, IsSameFile-topology_slot}
 use Rattle.mc_input.proofs.HasNoVifOrRowLemmas.{read_input-topology}
 use Rattle.mc_input.proofs.MeansLemmas.{MeansSamePerFlow-from_denotes, IsReadOrMemory-by_contradiction}
 use Rattle.mc_input.proofs.UniqueDomain.{FilesMeanDomain-unique}

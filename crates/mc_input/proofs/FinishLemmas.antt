@@ -1,5 +1,6 @@
 -- Reading the routers' tables and the LANs' reports, part after part.
-use Rattle.std.specs.Prelude.{◌≡◌, ℕ, zero, suc, ◌+◌, ◌*◌, ◌<◌, Bool, true, false, List, [], ◌∷◌, ◌++◌, drop, length}
+use Rattle.std.specs.Prelude.{◌≡◌, ℕ, zero, suc, ◌+◌, ◌*◌, ◌<◌, Bool, true, false, List, [], ◌∷◌}
+use Rattle.std.specs.Prelude.{◌++◌, drop, length}
 use Rattle.std.specs.Prelude.{slice_get, option_map, Option, Some, None, Result, Ok, Err, refl}
 use Rattle.std.specs.FinMap.{FinMap}
 use Rattle.std.specs.Ordering.{nat_cmp}
@@ -23,16 +24,21 @@ use Rattle.mc_forward.specs.Domains.{TablesValue}
 use Rattle.mc_forward.specs.ListedTables.{flow_pairs}
 use Rattle.mc_input.specs.Input.{InputValue}
 use Rattle.mc_input.specs.InputView.{input_with}
-use Rattle.mc_input.specs.PartsOneByOne.{HasNameOfSlot, IsFaultOf, InputAndCertificate, read_rest, check_names_then, check_names_from}
-use Rattle.mc_input.specs.PartsOneByOne.{read_first_part, read_tables_from, finish_with_tables, parts_after_tables}
-use Rattle.mc_input.specs.PartsOneByOne.{read_reports_from, finish_with_reports, parts_after_reports, certificate_text_of, finish_with_certificate}
+use Rattle.mc_input.specs.PartsOneByOne.{HasNameOfSlot, IsFaultOf, InputAndCertificate, read_rest}
+use Rattle.mc_input.specs.PartsOneByOne.{check_names_then, check_names_from}
+use Rattle.mc_input.specs.PartsOneByOne.{read_first_part, read_tables_from, finish_with_tables}
+use Rattle.mc_input.specs.PartsOneByOne.{parts_after_tables}
+use Rattle.mc_input.specs.PartsOneByOne.{read_reports_from, finish_with_reports}
+use Rattle.mc_input.specs.PartsOneByOne.{parts_after_reports, certificate_text_of}
+use Rattle.mc_input.specs.PartsOneByOne.{finish_with_certificate}
 use Rattle.mc_input.specs.PartsOneByOne.{certificate_number, ReadsTables, KeepsOfPart}
 use Rattle.mc_input.specs.PartsReading.{vifs_of, cache_of, reports_of, first_lan_number}
 use Rattle.mc_input.specs.declared.fault.InputFault.{InputFault}
 use Rattle.mc_input.specs.declared.fault.InputFault.TheVariants.{Bundle}
 use Rattle.mc_input.specs.declared.source_fault.SourceFault.{SourceFault}
 use Rattle.mc_input.specs.declared.source_fault.SourceFault.TheVariants.{Input}
-use Rattle.mc_input.proofs.ReadRestLemmas.{read_rest-same, read_rest-both_Err, read_rest-names_Err, read_rest-checked_part_passed}
+use Rattle.mc_input.proofs.ReadRestLemmas.{read_rest-same, read_rest-both_Err, read_rest-names_Err}
+use Rattle.mc_input.proofs.ReadRestLemmas.{read_rest-checked_part_passed}
 use Rattle.mc_input.proofs.ReadingLemmas.{drop-slice_get}
 
 -- the row at an index has this byte order

@@ -24,12 +24,14 @@ use Rattle.mc_input.specs.FilesReading.{part_from_file}
 use Rattle.mc_input.specs.Input.{InputValue}
 use Rattle.mc_input.specs.ExcludedRouters.{HasNoVifOrRow, cache_header, files_with_exclusions, vif_header}
 use Rattle.mc_input.specs.Meaning.{FilesMeanDomainAsListed}
-use Rattle.mc_input.specs.PartsReading.{all_reports, all_tables, read_tables_and_reports, first_lan_number, read_input}
+use Rattle.mc_input.specs.PartsReading.{all_reports, all_tables, read_tables_and_reports}
+use Rattle.mc_input.specs.PartsReading.{first_lan_number, read_input}
 use Rattle.mc_input.specs.PartsReading.{router_tables, read_part, topology_of}
 use Rattle.mc_input.specs.declared.source_fault.SourceFault.{SourceFault}
 use Rattle.mc_input.specs.declared.source_fault.SourceFault.TheVariants.{Input}
 use Rattle.mc_input.proofs.FilesDenoteInputLemmas.{input_of_files-Ok}
-use Rattle.mc_input.proofs.ExcludedLemmas.{is_excluded_name, is_excluded_name-from_Contains, file_named-excluded_cache, file_named-excluded_vif}
+use Rattle.mc_input.proofs.ExcludedLemmas.{is_excluded_name, is_excluded_name-from_Contains}
+use Rattle.mc_input.proofs.ExcludedLemmas.{file_named-excluded_cache, file_named-excluded_vif}
 
 -- tables without a vif and without an entry
 abbrev empty_tables : TablesValue

@@ -20,13 +20,15 @@ use Rattle.mc_forward.specs.Assembling.{AreAnswers, AreWanted, IsAssembled}
 use Rattle.mc_forward.specs.Domains.{AreTables, DomainValue, IsDomain, TablesValue}
 use Rattle.mc_forward.specs.DomainParts.{domain_with}
 use Rattle.mc_forward.specs.ListedTables.{IsListedPartOfTables, HaveSameFacts}
-use Rattle.mc_forward.proofs.ListedTableLemmas.{have_same_facts-of_listed_parts, pairwise-count, pairwise-each}
+use Rattle.mc_forward.proofs.ListedTableLemmas.{have_same_facts-of_listed_parts, pairwise-count}
+use Rattle.mc_forward.proofs.ListedTableLemmas.{pairwise-each}
 use Rattle.mc_forward.proofs.WantsLemmas.{is_assembled-from_reports, is_domain-from_parts}
 use Rattle.mc_input.specs.Input.{InputValue, DenotesInput, PartsDenoteInput, PartsDenoteTables}
 use Rattle.mc_input.specs.InputReading.{input_of_bundle}
 use Rattle.mc_input.specs.InputView.{certificate_text}
 use Rattle.mc_input.specs.Meaning.{Means, MeansDomain, MeansDomainAsListed, MeansSamePerFlow}
-use Rattle.mc_input.specs.PartsOneByOne.{ReadsDomain, IsFaultOf, read_rest, check_names_then, finish_with_tables, read_all_parts}
+use Rattle.mc_input.specs.PartsOneByOne.{ReadsDomain, IsFaultOf, read_rest, check_names_then}
+use Rattle.mc_input.specs.PartsOneByOne.{finish_with_tables, read_all_parts}
 use Rattle.mc_input.specs.Kept.{IsDomainOf}
 use Rattle.mc_input.specs.PartsOneByOne.{read_first_topology}
 use Rattle.mc_input.specs.PartsReading.{topology_of}
@@ -34,9 +36,12 @@ use Rattle.mc_input.specs.SourceFault.{IsReadOrMemory}
 use Rattle.mc_input.specs.declared.fault.InputFault.TheVariants as input
 use Rattle.mc_input.specs.declared.source_fault.SourceFault.{SourceFault}
 use Rattle.mc_input.specs.declared.source_fault.SourceFault.TheVariants.{Input, Read}
-use Rattle.mc_input.proofs.ReadRestLemmas.{Err-from_map_fault, read_rest-same, read_rest-part_passed, read_rest-both_Err}
+use Rattle.mc_input.proofs.ReadRestLemmas.{Err-from_map_fault, read_rest-same}
+use Rattle.mc_input.proofs.ReadRestLemmas.{read_rest-part_passed, read_rest-both_Err}
 use Rattle.mc_input.proofs.UniqueDomain.{MeansDomain-unique}
-use Rattle.mc_input.proofs.ReadLemmas.{input_of_bundle-Ok, read_bundle, input_of_bundle-Err_from_read_bundle, DenotesInput-from_read_bundle}
+use Rattle.mc_input.proofs.ReadLemmas.{input_of_bundle-Ok, read_bundle}
+use Rattle.mc_input.proofs.ReadLemmas.{input_of_bundle-Err_from_read_bundle}
+use Rattle.mc_input.proofs.ReadLemmas.{DenotesInput-from_read_bundle}
 
 -- ---- the topology first
 

@@ -23,7 +23,8 @@ use Rattle.mc_input.specs.InputReading.{part_with_slot_name, part_name_fault, ch
 use Rattle.mc_input.specs.InputReading.{certificate_in, part_at}
 use Rattle.mc_input.specs.Input.{InputValue}
 use Rattle.mc_input.specs.InputView.{input_with}
-use Rattle.mc_input.specs.PartsOneByOne.{check_names_from, read_tables_from, parts_after_tables, read_reports_from}
+use Rattle.mc_input.specs.PartsOneByOne.{check_names_from, read_tables_from, parts_after_tables}
+use Rattle.mc_input.specs.PartsOneByOne.{read_reports_from}
 use Rattle.mc_input.specs.PartsOneByOne.{parts_after_reports, certificate_text_of, finish_with_tables}
 use Rattle.mc_input.specs.PartsOneByOne.{InputAndCertificate}
 use Rattle.mc_input.specs.PartsReading.{all_tables, all_reports, router_tables, read_tables_and_reports}

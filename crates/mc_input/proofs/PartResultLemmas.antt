@@ -20,7 +20,8 @@ use Rattle.mc_topology.specs.Topology.{TopologyValue}
 use Rattle.mc_files.specs.Layout.{slots}
 use Rattle.std.specs.FinSet as set
 use Rattle.mc_input.specs.Kept.{AreSamePairs}
-use Rattle.mc_input.specs.PartsOneByOne.{HasNameOfSlot, IsPartResult, IsFaultOf, KeepsOfPart, read_rest, check_names_then, check_names_from}
+use Rattle.mc_input.specs.PartsOneByOne.{HasNameOfSlot, IsPartResult, IsFaultOf, KeepsOfPart}
+use Rattle.mc_input.specs.PartsOneByOne.{read_rest, check_names_then, check_names_from}
 use Rattle.mc_input.specs.PartsOneByOne.{read_first_part}
 use Rattle.mc_input.specs.PartsReading.{cache_of}
 use Rattle.mc_input.specs.SourceFault.{IsReadOrMemory}
@@ -28,7 +29,8 @@ use Rattle.mc_input.specs.declared.fault.InputFault.{InputFault}
 use Rattle.mc_input.specs.declared.fault.InputFault.TheVariants as input
 use Rattle.mc_input.specs.declared.source_fault.SourceFault.{SourceFault}
 use Rattle.mc_input.specs.declared.source_fault.SourceFault.TheVariants.{Input}
-use Rattle.mc_input.proofs.ReadRestLemmas.{read_rest-both_Err, read_rest-names_Err, read_rest-checked_part_passed}
+use Rattle.mc_input.proofs.ReadRestLemmas.{read_rest-both_Err, read_rest-names_Err}
+use Rattle.mc_input.proofs.ReadRestLemmas.{read_rest-checked_part_passed}
 
 -- ---- the result of a part
 

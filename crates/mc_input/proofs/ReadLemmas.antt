@@ -13,8 +13,10 @@ use Rattle.mc_files.specs.Layout.{part_name, topology_slot, slots_after_topology
 use Rattle.mc_input.specs.declared.fault.InputFault.{InputFault}
 use Rattle.mc_input.specs.declared.fault.InputFault.TheVariants.{Bundle, Parts}
 use Rattle.mc_input.specs.Input.{InputValue, DenotesInput, PartsDenoteInput}
-use Rattle.mc_input.specs.InputReading.{certificate_in, input_of_parts, input_of_bundle, check_part_names, part_with_slot_name}
-use Rattle.mc_input.specs.PartsOneByOne.{InputAndCertificate, check_names_from, finish_with_tables, read_all_parts}
+use Rattle.mc_input.specs.InputReading.{certificate_in, input_of_parts, input_of_bundle}
+use Rattle.mc_input.specs.InputReading.{check_part_names, part_with_slot_name}
+use Rattle.mc_input.specs.PartsOneByOne.{InputAndCertificate, check_names_from, finish_with_tables}
+use Rattle.mc_input.specs.PartsOneByOne.{read_all_parts}
 use Rattle.mc_input.specs.PartsReading.{read_tables_and_reports, read_input, topology_of}
 use Rattle.mc_files.proofs.PartLemmas.{Ok-from_refused_as}
 use Rattle.mc_input.proofs.BundleDenotesInputLemmas.{PartsDenoteInput-from_input_of_parts, input_of_parts-Ok}

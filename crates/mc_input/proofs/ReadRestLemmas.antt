@@ -14,7 +14,8 @@ use Rattle.mc_text.proofs.RestOfBundleLemmas.{rest_of_bundle-opened, parts_from_
 use Rattle.mc_topology.specs.Topology.{TopologyValue}
 use Rattle.mc_files.specs.Layout.{Slot, part_name, slots}
 use Rattle.mc_input.specs.InputReading.{named}
-use Rattle.mc_input.specs.PartsOneByOne.{read_rest, check_names_then, check_names_from, HasNameOfSlot, IsFaultOf}
+use Rattle.mc_input.specs.PartsOneByOne.{read_rest, check_names_then, check_names_from}
+use Rattle.mc_input.specs.PartsOneByOne.{HasNameOfSlot, IsFaultOf}
 use Rattle.mc_input.specs.SourceFault.{IsReadOrMemory, from_bundle_fault}
 use Rattle.mc_input.specs.declared.fault.InputFault.{InputFault}
 use Rattle.mc_input.specs.declared.fault.InputFault.TheVariants.{Bundle, Parts}

@@ -17,7 +17,8 @@ use Rattle.mc_topology.specs.Topology.{TopologyValue}
 use Rattle.mc_files.specs.Layout.{Slot, cache_slot, reports_slot, topology_slot, vif_slot}
 use Rattle.mc_forward.specs.Domains.{TablesValue}
 use Rattle.mc_input.specs.PartsReading.{router_tables, all_tables, all_reports, reports_of, read_part}
-use Rattle.mc_input.specs.PartsReading.{cache_of, read_tables_and_reports, first_lan_number, read_input, topology_of, vifs_of}
+use Rattle.mc_input.specs.PartsReading.{cache_of, read_tables_and_reports, first_lan_number}
+use Rattle.mc_input.specs.PartsReading.{read_input, topology_of, vifs_of}
 use Rattle.mc_input.specs.declared.fault.InputFault.{InputFault}
 
 -- a list from an index on begins with the item there

@@ -18,9 +18,12 @@ use Rattle.mc_forward.specs.ListedTables.{Pairwise}
 use Rattle.mc_input.specs.FilesReading.{part_from_file}
 use Rattle.mc_input.specs.Kept.{GivesKept}
 use Rattle.mc_input.specs.PartsReading.{cache_of, reports_of, read_part, topology_of, vifs_of}
-use Rattle.mc_input.specs.RefusedFiles.{AreSameFilesOrUnread, AreUnreadFilesMissing, AreRefusedFiles, IsOwnFaultUnlessMemory, IsSameFileOrUnread}
-use Rattle.mc_input.specs.RefusedFiles.{JudgedFile, JudgesFiles, saturating_failures, failure_count, file_fault}
-use Rattle.mc_input.specs.RefusedFiles.{judged_file, judged_with_topology, judged_files, judged_reports, judged_tables}
+use Rattle.mc_input.specs.RefusedFiles.{AreSameFilesOrUnread, AreUnreadFilesMissing}
+use Rattle.mc_input.specs.RefusedFiles.{AreRefusedFiles, IsOwnFaultUnlessMemory, IsSameFileOrUnread}
+use Rattle.mc_input.specs.RefusedFiles.{JudgedFile, JudgesFiles, saturating_failures, failure_count}
+use Rattle.mc_input.specs.RefusedFiles.{file_fault}
+use Rattle.mc_input.specs.RefusedFiles.{judged_file, judged_with_topology, judged_files}
+use Rattle.mc_input.specs.RefusedFiles.{judged_reports, judged_tables}
 use Rattle.mc_input.specs.RefusedFiles.{files_with_fault, refused_files_of, unread_count, unread_topology}
 use Rattle.mc_input.specs.SourceFault.{IsReadOrMemory}
 use Rattle.mc_input.proofs.SummaryLemmas.{RouterRow-from_fields}
@@ -151,13 +154,13 @@ JudgesFiles-same_source contents other files old new before after same judges =
 -- a file that is appended if it has a fault
 pub JudgesFiles-one_of_slot : {X : Type 0} (contents : Option (List FileText)) (slot : Slot)
     (read : PartText → Result X InputFault) (fault : Option SourceFault) (old new : List JudgedFile)
-    (before after : ℕ) (push_if_fault : Slot) → push_if_fault ≡ slot
-    → new ≡ old ++ files_with_fault ((record { name = file_name push_if_fault; fault = fault }) ∷ [])
+    (before after : ℕ) (pushed : Slot) → pushed ≡ slot
+    → new ≡ old ++ files_with_fault ((record { name = file_name pushed; fault = fault }) ∷ [])
     → fault ≢ Some (Input Memory) → after ≡ saturating_failures (failure_count fault) before
     → ((known : List FileText) → contents ≡ Some known → IsOwnFaultUnlessMemory fault (file_fault known slot read))
     → JudgesFiles contents (λ known. judged_file known slot read ∷ []) old new before after
-JudgesFiles-one_of_slot contents slot read fault old new before after push_if_fault of_slot listed loud failures given =
-    JudgesFiles-one contents (λ known. judged_file known slot read) (file_name push_if_fault) fault old new before after listed
+JudgesFiles-one_of_slot contents slot read fault old new before after pushed of_slot listed loud failures given =
+    JudgesFiles-one contents (λ known. judged_file known slot read) (file_name pushed) fault old new before after listed
     failures (λ known is. record { name = ap file_name of_slot; fault = given known is loud })
 
 -- two clauses of one call together
@@ -406,16 +409,16 @@ AreRefusedFiles-with_topology_of_source names files contents other t old new bef
     (JudgesFiles-same_source contents other (λ known. judged_with_topology names known (Ok t)) old new before after same judges))
 
 pub AreRefusedFiles-topology_alone_of_source : (names : List (List ℕ)) (files : List FileText) (contents : Option (List FileText))
-    (fault : SourceFault) (push_if_fault : Slot) (old new : List JudgedFile)
-    → contents ≡ Some files → push_if_fault ≡ topology_slot → old ≡ []
+    (fault : SourceFault) (pushed : Slot) (old new : List JudgedFile)
+    → contents ≡ Some files → pushed ≡ topology_slot → old ≡ []
     → ((¬ IsReadOrMemory fault) → read_part Input (part_from_file files 0 topology_slot) topology_of ≡ Err fault)
-    → new ≡ old ++ files_with_fault ((record { name = file_name push_if_fault; fault = Some fault }) ∷ [])
+    → new ≡ old ++ files_with_fault ((record { name = file_name pushed; fault = Some fault }) ∷ [])
     → (let own : Option SourceFault = Some fault in own) ≢ Some (Input Memory)
     → AreRefusedFiles names files new
-AreRefusedFiles-topology_alone_of_source names files contents fault push_if_fault old new is of_slot none read listed loud =
+AreRefusedFiles-topology_alone_of_source names files contents fault pushed old new is of_slot none read listed loud =
     AreRefusedFiles-topology_alone names files contents is fault new read loud
     (listed
-    ∙ ap (λ (l : List JudgedFile). l ++ files_with_fault ((record { name = file_name push_if_fault; fault = Some fault }) ∷ []))
+    ∙ ap (λ (l : List JudgedFile). l ++ files_with_fault ((record { name = file_name pushed; fault = Some fault }) ∷ []))
     none
     ∙ ap (λ (s : Slot). files_with_fault ((record { name = file_name s; fault = Some fault }) ∷ [])) of_slot)
 
@@ -430,12 +433,12 @@ saturating_failures-with_topology contents files old new first before after none
     ap unread_count listed ∙ unread_count-files_with_fault judges.given in
     omega (arith, judges.failures, same, count)
 
-pub saturating_failures-topology_alone : (fault : SourceFault) (push_if_fault : Slot) (old new : List JudgedFile) (before after : ℕ)
+pub saturating_failures-topology_alone : (fault : SourceFault) (pushed : Slot) (old new : List JudgedFile) (before after : ℕ)
     → old ≡ [] → after ≡ saturating_failures (failure_count (Some fault)) before
-    → new ≡ old ++ files_with_fault ((record { name = file_name push_if_fault; fault = Some fault }) ∷ [])
+    → new ≡ old ++ files_with_fault ((record { name = file_name pushed; fault = Some fault }) ∷ [])
     → after ≡ saturating_failures (unread_count new) before
-saturating_failures-topology_alone fault push_if_fault old new before after none is listed =
+saturating_failures-topology_alone fault pushed old new before after none is listed =
     let count : unread_count new ≡ failure_count (Some fault) + 0 =
     ap unread_count (listed ∙ ap (λ (l : List JudgedFile). l
-    ++ files_with_fault ((record { name = file_name push_if_fault; fault = Some fault }) ∷ [])) none) in
+    ++ files_with_fault ((record { name = file_name pushed; fault = Some fault }) ∷ [])) none) in
     omega (arith, is, count)

@@ -19,10 +19,12 @@ use Rattle.mc_files.specs.Layout.{Slot, part_name, topology_slot, vif_slot, cach
 use Rattle.mc_files.specs.Layout.{reports_slot, router_slots, slots}
 use Rattle.mc_files.proofs.PartLemmas.{Ok-from_refused_as}
 use Rattle.mc_forward.specs.Domains.{TablesValue}
-use Rattle.mc_input.specs.Input.{InputValue, PartsDenoteInput, PartsDenoteTables, PartsDenoteReports, DenotesTables}
+use Rattle.mc_input.specs.Input.{InputValue, PartsDenoteInput, PartsDenoteTables}
+use Rattle.mc_input.specs.Input.{PartsDenoteReports, DenotesTables}
 use Rattle.mc_input.specs.Input.{PartsDenoteCertificate}
 use Rattle.mc_input.specs.PartsReading.{topology_of, vifs_of, cache_of, reports_of, read_part}
-use Rattle.mc_input.specs.PartsReading.{router_tables, all_tables, all_reports, first_lan_number, read_tables_and_reports}
+use Rattle.mc_input.specs.PartsReading.{router_tables, all_tables, all_reports, first_lan_number}
+use Rattle.mc_input.specs.PartsReading.{read_tables_and_reports}
 use Rattle.mc_input.specs.PartsReading.{read_input}
 use Rattle.mc_input.specs.declared.fault.InputFault.{InputFault}
 use Rattle.mc_input.specs.declared.fault.InputFault.TheVariants.{Topology, Vif, Cache, Reports}

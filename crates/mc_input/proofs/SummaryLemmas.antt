@@ -15,7 +15,8 @@ use Rattle.mc_tables.specs.CacheReading.{cache_in, cache_rows_in}
 use Rattle.mc_tables.specs.CacheTable.{CacheValue, RowValue, key_cmp, key_of, table_of}
 use Rattle.mc_tables.specs.ListedRows.{IsListedPart, is_kept_key, is_listed, kept_rows}
 use Rattle.mc_tables.specs.SummaryReading.{summary_in, table_without_summary}
-use Rattle.mc_tables.specs.Summary.{SummaryValue, every_source_entry, group_first, in_order, keys_for_every_source}
+use Rattle.mc_tables.specs.Summary.{SummaryValue, every_source_entry, group_first, in_order}
+use Rattle.mc_tables.specs.Summary.{keys_for_every_source}
 use Rattle.mc_tables.specs.Summary.{summary_of, shown_pairs, unresolved_key}
 use Rattle.mc_tables.proofs.ListedLemmas.{set_has_key-listed_set}
 use Rattle.mc_tables.proofs.ListedPairLemmas.{from_list-same_groups, same_set}

@@ -76,24 +76,24 @@ take-piece piece next rest room within whole =
 module _ (first old : LineFront) (room : ℕ) (rest all : List ℕ)
     (so_far : front_after_more old (take room rest) ≡ front_after_more first all) where
   -- all was read
-  pub found_at_end : length old.front.items ≤ 100 → take room rest ≡ [] → old.front.items
+  pub front-at_end : length old.front.items ≤ 100 → take room rest ≡ [] → old.front.items
       ≡ front_after_more first all
-  found_at_end few none = sym (front_after_more-nothing old few)
+  front-at_end few none = sym (front_after_more-nothing old few)
       ∙ ap (front_after_more old) (sym none) ∙ so_far
 
   -- the front was complete within a piece,
-  pub found_in_piece : (new : LineFront) (piece next : List ℕ) (found : Bool) → length piece ≤ room
+  pub front-in_piece : (new : LineFront) (piece next : List ℕ) (found : Bool) → length piece ≤ room
       → rest ≡ piece ++ next → found ≡ true → TakesPiece old new piece found → new.front.items
       ≡ front_after_more first all
-  found_in_piece new piece next found within whole is takes =
+  front-in_piece new piece next found within whole is takes =
       sym (rw is at (takes (take (room - length piece) next)))
       ∙ ap (front_after_more old) (sym (take-piece piece next rest room within whole)) ∙ so_far
 
   -- or it is completed later
-  pub found_after_piece : (new : LineFront) (piece next : List ℕ) (found : Bool) → length piece ≤ room
+  pub front-after_piece : (new : LineFront) (piece next : List ℕ) (found : Bool) → length piece ≤ room
       → rest ≡ piece ++ next → found ≡ false → TakesPiece old new piece found
       → front_after_more new (take (room - length piece) next) ≡ front_after_more first all
-  found_after_piece new piece next found within whole is takes =
+  front-after_piece new piece next found within whole is takes =
       sym (rw is at (takes (take (room - length piece) next)))
       ∙ ap (front_after_more old) (sym (take-piece piece next rest room within whole)) ∙ so_far
 

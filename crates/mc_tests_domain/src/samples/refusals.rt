@@ -3,8 +3,8 @@
 use mc_text::Memory;
 use std::test::Fail;
 
-/// The answer of a call, retried if the first try answers `Memory`. The call and that answer are printed, so that a
-/// run that fails each allocation in turn sees which are the call's.
+/// The answer of a call, retried if the first try answers `Memory`. The call and that answer are
+/// printed, so that a run that fails each allocation in turn sees which are the call's.
 pub(crate) fn retry_after_oom<T: Drop, F: Fn() -> Result<T, Memory> + Drop>(
     rt: &impl Print,
     call: F,

@@ -3,4 +3,4 @@ use Rattle.mc_forward.proofs.outgoing.threshold_of.Goals as goal
 
 pub loop-oif-init : goal.loop-oif-init
 loop-oif-init c = threshold_of-append_lower c.args.vif c.outgoing_from-oif-items.result.now
-    c.args.entry.now.oifs c.outgoing_from-oif-items.ensures
+    c.args.entry.now.oifs c.outgoing_from-oif-items.ensures.rest

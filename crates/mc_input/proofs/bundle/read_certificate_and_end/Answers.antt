@@ -2,7 +2,9 @@ use Rattle.std.proofs.Common.{◌≡◌, true, false, arith}
 use Rattle.std.proofs.lemmas.Result.{err_from_is_err_and}
 use Rattle.mc_text.proofs.RestOfBundleLemmas.{advances_trans}
 use Rattle.mc_input.specs.PartsOneByOne.{certificate_number}
-use Rattle.mc_input.proofs.FinishLemmas.{read_rest-certificate_name_Err, read_rest-no_certificate, read_rest-certificate, read_rest-part_after_certificate, length-slots_from_certificate_number}
+use Rattle.mc_input.proofs.FinishLemmas.{read_rest-certificate_name_Err, read_rest-no_certificate}
+use Rattle.mc_input.proofs.FinishLemmas.{read_rest-certificate, read_rest-part_after_certificate}
+use Rattle.mc_input.proofs.FinishLemmas.{length-slots_from_certificate_number}
 use Rattle.mc_input.proofs.bundle.read_certificate_and_end.Goals as goal
 
 pub returns-in_err-check_names_to_end-clause-fault : goal.returns-in_err-check_names_to_end-clause-fault

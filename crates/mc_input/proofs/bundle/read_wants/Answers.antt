@@ -12,7 +12,9 @@ use Rattle.mc_input.specs.Kept.{AreWantedBy}
 use Rattle.mc_input.specs.PartsOneByOne.{read_rest, check_names_then, finish_with_reports}
 use Rattle.mc_input.specs.PartsReading.{first_lan_number}
 use Rattle.mc_input.specs.declared.source_fault.SourceFault.TheVariants.{Input as refused}
-use Rattle.mc_input.proofs.FinishLemmas.{length-answers_push, lan_slot-within_count, read_rest-reports_more, IsFaultOf-reports, read_rest-all_reports}
+use Rattle.mc_input.proofs.FinishLemmas.{length-answers_push, lan_slot-within_count}
+use Rattle.mc_input.proofs.FinishLemmas.{read_rest-reports_more, IsFaultOf-reports}
+use Rattle.mc_input.proofs.FinishLemmas.{read_rest-all_reports}
 use Rattle.mc_input.proofs.bundle.read_wants.Goals as goal
 
 pub loop-lan-init : goal.loop-lan-init

@@ -4,7 +4,9 @@ use Rattle.mc_text.proofs.RestOfBundleLemmas.{advances_trans}
 use Rattle.mc_tables.specs.RowsSoFar.{CacheSoFar, cache_start}
 use Rattle.mc_forward.specs.ListedTables.{flow_pairs}
 use Rattle.mc_input.proofs.PartResultLemmas.{cache_start-own_order, cache_start-same_pairs}
-use Rattle.mc_input.proofs.FinishLemmas.{IsFaultOf-cache, RouterRow-at_order, router_slots-within_count, ReadsTables-from_parts, IsFaultOf-vifs}
+use Rattle.mc_input.proofs.FinishLemmas.{IsFaultOf-cache, RouterRow-at_order}
+use Rattle.mc_input.proofs.FinishLemmas.{router_slots-within_count, ReadsTables-from_parts}
+use Rattle.mc_input.proofs.FinishLemmas.{IsFaultOf-vifs}
 use Rattle.mc_input.proofs.bundle.tables_of.Goals as goal
 
 pub vifs_in-requires-clause-within : goal.vifs_in-requires-clause-within

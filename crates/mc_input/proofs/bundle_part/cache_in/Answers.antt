@@ -5,7 +5,9 @@ use Rattle.mc_tables.specs.ListedRows.{IsListedPart}
 use Rattle.mc_forward.specs.ListedTables.{flow_pairs}
 use Rattle.mc_input.specs.PartsOneByOne.{read_first_part}
 use Rattle.mc_input.specs.PartsReading.{cache_of as cache_reading}
-use Rattle.mc_input.proofs.PartResultLemmas.{ReadsPart-listed_cache, cache_if-listed_in, IsFaultOf-check_names_then, IsFaultOf-from_part_result, KeepsOfPart-from_part_result}
+use Rattle.mc_input.proofs.PartResultLemmas.{ReadsPart-listed_cache, cache_if-listed_in}
+use Rattle.mc_input.proofs.PartResultLemmas.{IsFaultOf-check_names_then, IsFaultOf-from_part_result}
+use Rattle.mc_input.proofs.PartResultLemmas.{KeepsOfPart-from_part_result}
 use Rattle.mc_input.proofs.bundle_part.cache_in.Goals as goal
 
 pub returns-in_err-part_result-clause-fault : goal.returns-in_err-part_result-clause-fault

@@ -3,7 +3,8 @@ use Rattle.std.proofs.lemmas.Result.{err_from_is_err_and}
 use Rattle.mc_text.proofs.RestOfBundleLemmas.{advances_trans}
 use Rattle.mc_input.specs.PartsOneByOne.{read_first_part}
 use Rattle.mc_input.specs.PartsReading.{vifs_of as vifs_reading}
-use Rattle.mc_input.proofs.PartResultLemmas.{IsFaultOf-check_names_then, IsFaultOf-from_part_result, KeepsOfPart-from_part_result}
+use Rattle.mc_input.proofs.PartResultLemmas.{IsFaultOf-check_names_then, IsFaultOf-from_part_result}
+use Rattle.mc_input.proofs.PartResultLemmas.{KeepsOfPart-from_part_result}
 use Rattle.mc_input.proofs.bundle_part.vifs_in.Goals as goal
 
 pub returns-in_err-part_result-clause-fault : goal.returns-in_err-part_result-clause-fault

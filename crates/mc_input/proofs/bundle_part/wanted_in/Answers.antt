@@ -5,7 +5,8 @@ use Rattle.mc_igmp.specs.declared.record.Record.{Record}
 use Rattle.mc_forward.specs.Assembling.{AreChannelsWanted}
 use Rattle.mc_input.specs.PartsOneByOne.{read_first_part}
 use Rattle.mc_input.specs.PartsReading.{reports_of as reports_reading}
-use Rattle.mc_input.proofs.PartResultLemmas.{IsFaultOf-check_names_then, IsFaultOf-from_part_result, KeepsOfPart-from_part_result}
+use Rattle.mc_input.proofs.PartResultLemmas.{IsFaultOf-check_names_then, IsFaultOf-from_part_result}
+use Rattle.mc_input.proofs.PartResultLemmas.{KeepsOfPart-from_part_result}
 use Rattle.mc_input.proofs.bundle_part.wanted_in.Goals as goal
 
 pub returns-in_err-part_result-clause-fault : goal.returns-in_err-part_result-clause-fault

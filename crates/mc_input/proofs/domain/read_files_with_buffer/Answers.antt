@@ -4,7 +4,10 @@ use Rattle.mc_text.specs.Steps.{map_fault}
 use Rattle.mc_topology.specs.Topology.{TopologyValue}
 use Rattle.mc_input.specs.ExcludedRouters.{AreRouterNames}
 use Rattle.mc_input.specs.declared.without_fault.WithoutFault.TheVariants.{Source}
-use Rattle.mc_input.proofs.ExcludedLemmas.{AreRouterNames-from_Ok, input_of_files_without-name_Err, input_of_files_without-names_Ok, input_of_files-with_exclusions, input_of_files_without-topology_Err}
+use Rattle.mc_input.proofs.ExcludedLemmas.{AreRouterNames-from_Ok, input_of_files_without-name_Err}
+use Rattle.mc_input.proofs.ExcludedLemmas.{input_of_files_without-names_Ok}
+use Rattle.mc_input.proofs.ExcludedLemmas.{input_of_files-with_exclusions}
+use Rattle.mc_input.proofs.ExcludedLemmas.{input_of_files_without-topology_Err}
 use Rattle.mc_input.proofs.domain.read_files_with_buffer.Goals as goal
 
 pub returns-in_err-topology-clause-fault : goal.returns-in_err-topology-clause-fault

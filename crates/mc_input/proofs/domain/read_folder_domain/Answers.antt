@@ -1,7 +1,10 @@
 use Rattle.std.proofs.Common.{◌≡◌, Err, map}
-use Rattle.mc_input.specs.ExcludedRouters.{IsReadOrMemoryWithout, input_of_files_without, files_with_exclusions}
+use Rattle.mc_input.specs.ExcludedRouters.{IsReadOrMemoryWithout, input_of_files_without}
+use Rattle.mc_input.specs.ExcludedRouters.{files_with_exclusions}
 use Rattle.mc_input.specs.SummariesOfFiles.{AreSummariesOf}
-use Rattle.mc_input.proofs.FilesMeansLemmas.{IfErr-from_known_contents, FilesMeanDomainAsListed-from_result, HaveSameFacts-from_files, IfOk-from_known_contents}
+use Rattle.mc_input.proofs.FilesMeansLemmas.{IfErr-from_known_contents}
+use Rattle.mc_input.proofs.FilesMeansLemmas.{FilesMeanDomainAsListed-from_result}
+use Rattle.mc_input.proofs.FilesMeansLemmas.{HaveSameFacts-from_files, IfOk-from_known_contents}
 use Rattle.mc_input.proofs.domain.read_folder_domain.Goals as goal
 
 pub returns-clause-means : goal.returns-clause-means

@@ -1,6 +1,8 @@
 use Rattle.std.proofs.Common.{◌∙◌, rules}
 use Rattle.mc_input.specs.InputView.{certificate_text}
-use Rattle.mc_input.proofs.MeansLemmas.{MeansDomainAsListed-from_result, HaveSameFacts-from_result, input_of_bundle-Err_of_result, certificate_text-expected, ConsumesUpTo-from_ConsumesWithin}
+use Rattle.mc_input.proofs.MeansLemmas.{MeansDomainAsListed-from_result, HaveSameFacts-from_result}
+use Rattle.mc_input.proofs.MeansLemmas.{input_of_bundle-Err_of_result, certificate_text-expected}
+use Rattle.mc_input.proofs.MeansLemmas.{ConsumesUpTo-from_ConsumesWithin}
 use Rattle.mc_input.proofs.MeansLemmas.{ConsumesUpTo-same}
 use Rattle.mc_input.proofs.domain.read_with_buffer.Goals as goal
 

@@ -2,7 +2,9 @@ use Rattle.std.proofs.Common.{List, ℕ, Ok, ap, map}
 use denote.Ref.{Bor}
 use Rattle.mc_text.proofs.StepLemmas.{on_ok_map}
 use Rattle.mc_input.specs.RefusedFiles.{judged_with_topology, as_judged_file}
-use Rattle.mc_input.proofs.RefusedLemmas.{OnOk-both, saturating_failures-topology_alone, saturating_failures-with_topology, AreRefusedFiles-topology_alone_of_source}
+use Rattle.mc_input.proofs.RefusedLemmas.{OnOk-both, saturating_failures-topology_alone}
+use Rattle.mc_input.proofs.RefusedLemmas.{saturating_failures-with_topology}
+use Rattle.mc_input.proofs.RefusedLemmas.{AreRefusedFiles-topology_alone_of_source}
 use Rattle.mc_input.proofs.RefusedLemmas.{AreRefusedFiles-with_topology_of_source}
 use Rattle.mc_input.proofs.each_file.judge_all_files.Goals as goal
 
@@ -28,11 +30,11 @@ returns-in-Ok-clause-failures g c =
 
 pub returns-in-Err-clause-refused : goal.returns-in-Err-clause-refused
 returns-in-Err-clause-refused g c = λ contents is.
-    OnOk-both c.push_if_fault.result c.push_if_fault.ensures.listed c.push_if_fault.ensures.not_out_of_memory (λ push_if_fault not_out_of_memory.
+    OnOk-both c.push_if_fault.result c.push_if_fault.ensures.listed c.push_if_fault.ensures.not_out_of_memory (λ pushed enough.
     AreRefusedFiles-topology_alone_of_source (map (λ (n : Bor (List ℕ)). n.now) c.args.without.now) contents
     (g.F.FileSource.contents c.args.files.now) c.in-Err.fault c.topology.result
     (map as_judged_file c.args.refused.now.items) (map as_judged_file c.push_if_fault.new.refused.items)
-    is c.topology.ensures (ap (map as_judged_file) c.requires.empty) (c.in-Err.ensures.topology contents is) push_if_fault not_out_of_memory)
+    is c.topology.ensures (ap (map as_judged_file) c.requires.empty) (c.in-Err.ensures.topology contents is) pushed enough)
 
 pub returns-in-Err-clause-failures : goal.returns-in-Err-clause-failures
 returns-in-Err-clause-failures g c =
@@ -40,4 +42,4 @@ returns-in-Err-clause-failures g c =
     saturating_failures-topology_alone c.in-Err.fault c.topology.result
     (map as_judged_file c.args.refused.now.items) (map as_judged_file c.push_if_fault.new.refused.items)
     (g.F.FileSource.failed c.args.files.now) (g.F.FileSource.failed c.topology_unless_u64_max.new.files)
-    (ap (map as_judged_file) c.requires.empty) c.in-Err.ensures.failures push_if_fault)
+    (ap (map as_judged_file) c.requires.empty) c.in-Err.ensures.failures pushed)

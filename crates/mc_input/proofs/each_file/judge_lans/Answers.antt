@@ -1,6 +1,7 @@
 use Rattle.std.proofs.Common.{[], ◌∷◌, arith, map, refl, rules, ◌∙◌}
 use Rattle.mc_input.specs.RefusedFiles.{judged_reports, as_judged_file}
-use Rattle.mc_input.proofs.RefusedLemmas.{JudgesFiles-none, JudgesFiles-same_source, JudgesFiles-lans_all, JudgesFiles-lans_more}
+use Rattle.mc_input.proofs.RefusedLemmas.{JudgesFiles-none, JudgesFiles-same_source}
+use Rattle.mc_input.proofs.RefusedLemmas.{JudgesFiles-lans_all, JudgesFiles-lans_more}
 use Rattle.mc_input.proofs.each_file.judge_lans.Goals as goal
 
 pub loop-lan-init : goal.loop-lan-init

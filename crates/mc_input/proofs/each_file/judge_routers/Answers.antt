@@ -1,7 +1,8 @@
 use Rattle.std.proofs.Common.{List, ℕ, arith, map, refl, rules, ◌∙◌}
 use denote.Ref.{Bor}
 use Rattle.mc_input.specs.RefusedFiles.{as_judged_file}
-use Rattle.mc_input.proofs.RefusedLemmas.{JudgesFiles-none, JudgesFiles-routers_all, JudgesFiles-routers_more_by_row}
+use Rattle.mc_input.proofs.RefusedLemmas.{JudgesFiles-none, JudgesFiles-routers_all}
+use Rattle.mc_input.proofs.RefusedLemmas.{JudgesFiles-routers_more_by_row}
 use Rattle.mc_input.proofs.each_file.judge_routers.Goals as goal
 
 pub loop-router-init : goal.loop-router-init

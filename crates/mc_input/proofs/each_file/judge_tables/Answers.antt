@@ -4,7 +4,8 @@ use Rattle.mc_topology.specs.SectionRows.{RouterRow}
 use Rattle.mc_files.specs.Layout.{cache_slot, vif_slot}
 use Rattle.mc_input.specs.PartsReading.{cache_of, vifs_of}
 use Rattle.mc_input.specs.RefusedFiles.{as_judged_file}
-use Rattle.mc_input.proofs.RefusedLemmas.{OnOk-both, JudgesFiles-one_of_slot, JudgesFiles-router, JudgesFiles-excluded_router}
+use Rattle.mc_input.proofs.RefusedLemmas.{OnOk-both, JudgesFiles-one_of_slot, JudgesFiles-router}
+use Rattle.mc_input.proofs.RefusedLemmas.{JudgesFiles-excluded_router}
 use Rattle.mc_input.proofs.each_file.judge_tables.Goals as goal
 
 pub returns-then-is_excluded-clause-judged : goal.returns-then-is_excluded-clause-judged
@@ -25,13 +26,13 @@ returns-clause-judged g c = λ flows listed.
     let old = map as_judged_file c.args.refused.now.items in
     let between = map as_judged_file c.push_if_fault.new.refused.items in
     let new = map as_judged_file c.push_if_fault-2.new.refused.items in
-    OnOk-both c.push_if_fault-2.result c.push_if_fault-2.ensures.listed c.push_if_fault-2.ensures.not_out_of_memory (λ push_if_fault not_out_of_memory.
+    OnOk-both c.push_if_fault-2.result c.push_if_fault-2.ensures.listed c.push_if_fault-2.ensures.not_out_of_memory (λ pushed enough.
     JudgesFiles-router contents (map (λ (n : Bor (List ℕ)). n.now) c.args.without.now) row
     (sym c.is_excluded.ensures ∙ c.if-is_excluded.false) old between new before middle after
     (JudgesFiles-one_of_slot contents (vif_slot row.name) vifs_of c.vifs_fault-vifs.result old between before middle
     c.vifs.result c.vifs.ensures.value c.in_ok-push_if_fault.ensures.listed c.in_ok-push_if_fault.ensures.not_out_of_memory
     c.vifs_fault-vifs.ensures.failures c.vifs_fault-vifs.ensures.fault)
     (JudgesFiles-one_of_slot contents (cache_slot row.name) (cache_of row.order) c.cache_fault-cache.result between new
-    middle after c.cache.result c.cache.ensures.value push_if_fault not_out_of_memory c.cache_fault-cache.ensures.failures
+    middle after c.cache.result c.cache.ensures.value pushed enough c.cache_fault-cache.ensures.failures
     (λ known is. c.cache_fault-cache.ensures.fault flows known listed
     (c.vifs_fault-vifs.ensures.kept ∙ is))))

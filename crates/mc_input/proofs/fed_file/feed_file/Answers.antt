@@ -1,6 +1,7 @@
 use Rattle.std.proofs.Common.{[]}
 use Rattle.mc_files.specs.Files.{file_named}
-use Rattle.mc_input.proofs.FilesFeedLemmas.{bytes_within_max_part-fed, bytes_within_max_part-Err, file_named-from_open}
+use Rattle.mc_input.proofs.FilesFeedLemmas.{bytes_within_max_part-fed, bytes_within_max_part-Err}
+use Rattle.mc_input.proofs.FilesFeedLemmas.{file_named-from_open}
 use Rattle.mc_input.proofs.fed_file.feed_file.Goals as goal
 
 pub returns-clause-bytes : goal.returns-clause-bytes

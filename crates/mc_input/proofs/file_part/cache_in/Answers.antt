@@ -8,7 +8,8 @@ use Rattle.mc_input.specs.PartsReading.{summary_of_part}
 use Rattle.mc_input.specs.declared.fault.InputFault.TheVariants.{Cache as RefusedCache}
 use Rattle.mc_input.proofs.FilesLemmas.{GivesKept-from_part_result, read_part-kept_Err, read_part-file_Err}
 use Rattle.mc_input.proofs.SummaryLemmas.{summary_in-same_pairs}
-use Rattle.mc_input.proofs.FaultLemmas.{is_possible_for_files-from_file_fault, is_possible_for_files-from_part_result}
+use Rattle.mc_input.proofs.FaultLemmas.{is_possible_for_files-from_file_fault}
+use Rattle.mc_input.proofs.FaultLemmas.{is_possible_for_files-from_part_result}
 use Rattle.mc_input.proofs.file_part.cache_in.Goals as goal
 
 pub returns-in_err-name-clause-cache : goal.returns-in_err-name-clause-cache

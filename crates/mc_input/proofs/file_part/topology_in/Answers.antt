@@ -6,7 +6,8 @@ use Rattle.mc_input.specs.PartsReading.{topology_of}
 use Rattle.mc_input.proofs.FilesLemmas.{read_part-file_Err, read_part-content_Err, read_part-Ok}
 use Rattle.mc_topology.specs.Reading.{parse_topology}
 use Rattle.mc_input.specs.declared.fault.InputFault.TheVariants.{Topology as RefusedTopology}
-use Rattle.mc_input.proofs.FaultLemmas.{is_possible_for_files-from_file_fault, is_possible_for_files-from_reader}
+use Rattle.mc_input.proofs.FaultLemmas.{is_possible_for_files-from_file_fault}
+use Rattle.mc_input.proofs.FaultLemmas.{is_possible_for_files-from_reader}
 use Rattle.mc_input.proofs.file_part.topology_in.Goals as goal
 
 pub returns-in_err-part-clause-topology : goal.returns-in_err-part-clause-topology

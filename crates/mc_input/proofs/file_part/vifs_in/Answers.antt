@@ -7,7 +7,8 @@ use Rattle.mc_input.specs.PartsOneByOne.{IsPartResult}
 use Rattle.mc_input.specs.PartsReading.{vifs_of}
 use Rattle.mc_input.specs.declared.fault.InputFault.TheVariants.{Vif as RefusedVif}
 use Rattle.mc_input.proofs.FilesLemmas.{GivesKept-from_part_result, read_part-kept_Err, read_part-file_Err}
-use Rattle.mc_input.proofs.FaultLemmas.{is_possible_for_files-from_file_fault, is_possible_for_files-from_part_result}
+use Rattle.mc_input.proofs.FaultLemmas.{is_possible_for_files-from_file_fault}
+use Rattle.mc_input.proofs.FaultLemmas.{is_possible_for_files-from_part_result}
 use Rattle.mc_input.proofs.file_part.vifs_in.Goals as goal
 
 pub returns-in_err-name-clause-vifs : goal.returns-in_err-name-clause-vifs

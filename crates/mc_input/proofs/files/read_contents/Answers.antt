@@ -5,7 +5,9 @@ use Rattle.mc_input.specs.InputView.{input_with}
 use Rattle.mc_input.specs.ExcludedRouters.{files_without}
 use Rattle.mc_input.specs.declared.source_fault.SourceFault.TheVariants.{Input}
 use Rattle.mc_input.proofs.ExcludedLemmas.{all_reports-with_exclusions}
-use Rattle.mc_input.proofs.ReadingLemmas.{read_tables_and_reports-tables_Err, read_tables_and_reports-reports_Err, read_tables_and_reports-Ok}
+use Rattle.mc_input.proofs.ReadingLemmas.{read_tables_and_reports-tables_Err}
+use Rattle.mc_input.proofs.ReadingLemmas.{read_tables_and_reports-reports_Err}
+use Rattle.mc_input.proofs.ReadingLemmas.{read_tables_and_reports-Ok}
 use Rattle.mc_input.proofs.files.read_contents.Goals as goal
 
 pub returns-in_err-tables-clause-read : goal.returns-in_err-tables-clause-read

@@ -9,7 +9,8 @@ use Rattle.mc_input.specs.FilesReading.{part_from_file}
 use Rattle.mc_input.specs.Kept.{AreWantedBy}
 use Rattle.mc_input.specs.PartsReading.{first_lan_number}
 use Rattle.mc_input.specs.declared.source_fault.SourceFault.TheVariants.{Input}
-use Rattle.mc_input.proofs.ReadingLemmas.{all_reports-Err, all_reports-more, all_reports-all, all_reports-none}
+use Rattle.mc_input.proofs.ReadingLemmas.{all_reports-Err, all_reports-more, all_reports-all}
+use Rattle.mc_input.proofs.ReadingLemmas.{all_reports-none}
 use Rattle.mc_input.proofs.FinishLemmas.{length-answers_push}
 use Rattle.mc_input.proofs.files.read_wants.Goals as goal
 

@@ -6,7 +6,8 @@ use Rattle.mc_forward.specs.ListedTables.{flow_pairs}
 use Rattle.mc_input.specs.FilesReading.{part_from_file}
 use Rattle.mc_input.specs.SummariesOfFiles.{IsSummaryOf}
 use Rattle.mc_input.specs.declared.source_fault.SourceFault.TheVariants.{Input}
-use Rattle.mc_input.proofs.SummaryLemmas.{IsSummaryOf-from_GivesKept, GivesKept-listed_from_summary, RouterRow-from_fields}
+use Rattle.mc_input.proofs.SummaryLemmas.{IsSummaryOf-from_GivesKept, GivesKept-listed_from_summary}
+use Rattle.mc_input.proofs.SummaryLemmas.{RouterRow-from_fields}
 use Rattle.mc_input.proofs.ReadingLemmas.{router_tables-vifs_Err, router_tables-cache_Err, router_tables-Ok}
 use Rattle.mc_input.proofs.files.tables_of.Goals as goal
 

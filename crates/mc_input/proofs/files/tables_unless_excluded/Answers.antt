@@ -2,8 +2,11 @@ use Rattle.std.proofs.Common.{◌∙◌, map, sym}
 use denote.Ref.{Bor}
 use Rattle.mc_forward.specs.ListedTables.{IsListedPartOfTables}
 use Rattle.mc_input.specs.ExcludedRouters.{header_only_files, files_with_exclusions}
-use Rattle.mc_input.proofs.ExcludedLemmas.{IsSameFile-other_cache, IsSameFile-excluded_cache, GivesKept-same_step, IfOk-implies}
-use Rattle.mc_input.proofs.ExcludedLemmas.{IsSameFile-same_name, IsSummaryOf-same_file, router_tables-same_files, IsSameFile-other_vif, IsSameFile-excluded_vif}
+use Rattle.mc_input.proofs.ExcludedLemmas.{IsSameFile-other_cache, IsSameFile-excluded_cache}
+use Rattle.mc_input.proofs.ExcludedLemmas.{GivesKept-same_step, IfOk-implies}
+use Rattle.mc_input.proofs.ExcludedLemmas.{IsSameFile-same_name, IsSummaryOf-same_file}
+use Rattle.mc_input.proofs.ExcludedLemmas.{router_tables-same_files, IsSameFile-other_vif}
+use Rattle.mc_input.proofs.ExcludedLemmas.{IsSameFile-excluded_vif}
 use Rattle.mc_input.proofs.files.tables_unless_excluded.Goals as goal
 
 pub returns-then-is_excluded-clause-tables : goal.returns-then-is_excluded-clause-tables

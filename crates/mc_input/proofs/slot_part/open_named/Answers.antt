@@ -1,16 +1,20 @@
-use Rattle.std.proofs.Common.{◌≡◌, ◌++◌, true, false, List, [], ◌∷◌, Ok, Some, Result, take, ap, ◌∙◌, sym, arith, refl}
+use Rattle.std.proofs.Common.{◌≡◌, ◌++◌, true, false, List, [], ◌∷◌, Ok, Some, Result, take, ap}
+use Rattle.std.proofs.Common.{◌∙◌, sym, arith, refl}
 use Rattle.std.specs.Prelude.{slice_get}
 use Rattle.std.specs.Str.{bytes_eq}
 use Rattle.std.proofs.lemmas.Result.{err_from_is_err_and}
 use Rattle.std.proofs.lemmas.Slice.Eq.{bytes_eq-Decides}
 use Rattle.mc_text.specs.Bundle.{PartText}
 use Rattle.mc_text.specs.Steps.{map_fault}
-use Rattle.mc_text.proofs.RestOfBundleLemmas.{advances_trans, rest_of_bundle-ended, rest_of_bundle-opened, rest_of_bundle-fault, parts_from_current-in_part}
+use Rattle.mc_text.proofs.RestOfBundleLemmas.{advances_trans, rest_of_bundle-ended}
+use Rattle.mc_text.proofs.RestOfBundleLemmas.{rest_of_bundle-opened, rest_of_bundle-fault}
+use Rattle.mc_text.proofs.RestOfBundleLemmas.{parts_from_current-in_part}
 use Rattle.mc_files.specs.Layout.{part_name}
 use Rattle.mc_input.specs.InputReading.{named}
 use Rattle.mc_input.specs.declared.fault.InputFault.{InputFault}
 use Rattle.mc_input.specs.declared.source_fault.SourceFault.TheVariants.{Input as refused}
-use Rattle.mc_input.proofs.ReadRestLemmas.{read_rest-first_part_Err, read_rest-framing_refused, framing-Ok, read_rest-framing_Err}
+use Rattle.mc_input.proofs.ReadRestLemmas.{read_rest-first_part_Err, read_rest-framing_refused}
+use Rattle.mc_input.proofs.ReadRestLemmas.{framing-Ok, read_rest-framing_Err}
 use Rattle.mc_input.proofs.ReadRestLemmas.{read_rest-none}
 use Rattle.mc_input.proofs.slot_part.open_named.Goals as goal
 

@@ -19,7 +19,7 @@ returns-then-is_none c = λ copies are.
     let none : is_some c.on.result ≡ false = grind arith in
     let b : is_some (first_copy_on copies k) ≡ false = ap is_some
     (sym (are k ∙ first_with_key-first_copy_on copies k))
-    ∙ (ap is_some (sym c.on.ensures.item) ∙ none) in
+    ∙ (ap is_some (sym c.on.ensures) ∙ none) in
     sym (missed-first_wanting n copies k _ (c.loop-number.invariant copies are) w b
     (omega (arith, c.lans-number-end.ensures.count))))
 
@@ -32,7 +32,7 @@ loop-number-preserved c = λ copies are.
           let some : is_some w.on.result ≡ true = w.if-is_none.ensures in
           let b : is_some (first_copy_on copies k) ≡ true = ap is_some
           (sym (are k ∙ first_with_key-first_copy_on copies k))
-          ∙ (ap is_some (sym w.on.ensures.item) ∙ some) in
+          ∙ (ap is_some (sym w.on.ensures) ∙ some) in
           missed-below_more_with_copy n copies k (c.loop-number.invariant copies are) b)
       | else-wants-via-else-wants w ↦ (let b : n.wants k ≡ false =
           cc in missed-below_more_unwanting n copies k (c.loop-number.invariant copies are) b)

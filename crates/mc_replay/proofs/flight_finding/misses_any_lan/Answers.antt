@@ -15,7 +15,7 @@ loop-number-preserved c = λ copies are.
     let k = c.loop-number.number in
     let none : c.is_none.result ≡ not (is_some c.on.result) = search rules in
     let free : c.is_none.result ≡ not (is_some (first_copy_on copies k)) =
-    none ∙ ap (λ o. not (is_some o)) (c.on.ensures.item ∙ are k ∙ first_with_key-first_copy_on copies k) in
+    none ∙ ap (λ o. not (is_some o)) (c.on.ensures ∙ are k ∙ first_with_key-first_copy_on copies k) in
     let wanted : c.wants.result ≡ n.wants k = c.wants.ensures.value in
     ap (λ (s : Bool). s || (c.wants.result && c.is_none.result)) (c.loop-number.invariant copies are)
     ∙ ap (λ (w : Bool). is_some (missed n copies (below k)) || (w && c.is_none.result)) wanted

@@ -2,7 +2,7 @@ use Rattle.std.proofs.Common.{◌≡◌, ◌-◌, ◌∙◌, ap, arith, drop, le
 use Rattle.std.proofs.lemmas.List.{length-append, take-append-le}
 use Rattle.std.proofs.Math.Seq.{take-nil}
 use Rattle.mc_run.specs.LineFront.{front_after_more}
-use Rattle.mc_run.proofs.LineFrontLemmas.{found_at_end, found_after_piece, found_in_piece}
+use Rattle.mc_run.proofs.LineFrontLemmas.{front-at_end, front-after_piece, front-in_piece}
 use Rattle.mc_run.proofs.LineFrontLemmas.{left_after_piece-known, take-none_left}
 use Rattle.mc_run.proofs.line_front.seek_front.Goals as goal
 
@@ -15,7 +15,7 @@ returns-in-Ok-eq0-clause-front g c = λ text is.
     (g.F.PieceSource.left c.read_piece.new.self)
     so_far.0 (take c.in-Ok-eq0.field-0 c.read_piece.new.buffer) so_far.1 c.in-Ok-eq0.ensures.bytes.0
     (ap (λ n. take n c.read_piece.new.buffer) zero) (c.in-Ok-eq0.ensures.bytes.1 zero (omega arith)) in
-    found_at_end c.args.sought.now c.reading.sought c.reading.left so_far.0 (take 16777216 text) so_far.2
+    front-at_end c.args.sought.now c.reading.sought c.reading.left so_far.0 (take 16777216 text) so_far.2
     (omega (arith, c.reading.invariant.bounded, c.reading.sought.front.ok.0))
     (ap (take c.reading.left) none ∙ take-nil c.reading.left)
 
@@ -23,7 +23,7 @@ pub returns-clause-front : goal.returns-clause-front
 returns-clause-front g c = λ text is.
     let so_far = c.reading.invariant.front text is in
     let spent : c.reading.left ≡ 0 = omega arith in
-    found_at_end c.args.sought.now c.reading.sought c.reading.left so_far.0 (take 16777216 text) so_far.2
+    front-at_end c.args.sought.now c.reading.sought c.reading.left so_far.0 (take 16777216 text) so_far.2
     (omega (arith, c.reading.invariant.bounded, c.reading.sought.front.ok.0))
     (ap (λ n. take n so_far.0) spent)
 
@@ -39,7 +39,7 @@ returns-in-Ok-true-clause-front g c = λ text is.
     let next = left_after_piece-known (g.F.PieceSource.left c.reading.files)
     (g.F.PieceSource.left c.read_piece.new.self)
     so_far.0 piece so_far.1 c.in-Ok.ensures.bytes.0 in
-    found_in_piece c.args.sought.now c.reading.sought c.reading.left so_far.0 (take 16777216 text) so_far.2
+    front-in_piece c.args.sought.now c.reading.sought c.reading.left so_far.0 (take 16777216 text) so_far.2
     c.take.new.self piece next.0 c.in-Ok-true.field-0 (omega (arith, taken, c.in-Ok.ensures.bound.0)) next.2
     c.in-Ok-true.field-0-test takes
 
@@ -67,7 +67,7 @@ reading-preserved g c =
             next.0,
             next.1,
             ap (λ n. front_after_more c.take.new.self (take (c.reading.left - n) next.0)) (sym count)
-                ∙ found_after_piece c.args.sought.now c.reading.sought c.reading.left so_far.0
+                ∙ front-after_piece c.args.sought.now c.reading.sought c.reading.left so_far.0
                 (take 16777216 text) so_far.2 c.take.new.self piece next.0 c.in-Ok-false.field-0
                 (omega (arith, taken, c.in-Ok.ensures.bound.0)) next.2 c.in-Ok-false.field-0-test takes,
           );

@@ -6,6 +6,6 @@ use Rattle.mc_check.proofs.entries_by_lan.EntriesByLan.on.Goals as goal
 
 pub returns : goal.returns
 returns c =
-    c.on.ensures.item ∙ (c.self.invariant c.args.lan
+    c.on.ensures ∙ (c.self.invariant c.args.lan
     ∙ (first_with_key-entry_on c.self.inside.entries.now c.args.lan
     ∙ ap (λ (es : List Entry). entry_on es c.args.lan) c.self.view_is))

@@ -4,18 +4,16 @@ use Rattle.mc_forward.proofs.DomainLemmas.{length-interfaces_of, interfaces_of-a
 use Rattle.mc_forward.proofs.domain.Domain.interfaces.Goals as goal
 
 pub index-interfaces-requires : goal.index-interfaces-requires
-index-interfaces-requires c = record {
-  known = (
-      let derived = c.self.invariant.interfaces ∙ ap interfaces_of c.self.view_is in
-      omega (arith, ap length derived, length-interfaces_of c.args.self.now, c.lan.view_is));
-}
+index-interfaces-requires c =
+    let derived = c.self.invariant.interfaces ∙ ap interfaces_of c.self.view_is in
+    omega (arith, ap length derived, length-interfaces_of c.args.self.now, c.lan.view_is)
 
 pub returns : goal.returns
 returns c = record {
   each_flow = (λ flow.
       let all = c.self.inside.derived.interfaces.items in
       let derived = c.self.invariant.interfaces ∙ ap interfaces_of c.self.view_is in
-      c.new.ensures.value
+      c.new.ensures
       ∙ interfaces_of-at_index c.args.self.now all _ c.args.lan flow derived c.requires.listed_lan
       (c.index-interfaces.ensures
       ∙ ap (λ (k : ℕ). get_or all k c.index-interfaces.result.now) c.lan.view_is));

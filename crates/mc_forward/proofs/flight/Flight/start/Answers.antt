@@ -13,7 +13,7 @@ invariant_of-result c =
     let lans = length n.domain.topology.lans in
     let net = is_net-net_of n.domain n.flow c.new-view.ensures.rules.domain in
     let first : Copy = record { lan = c.source.result; ttl = c.args.ttl; sender = None } in
-    subst (λ (f : FlowOfDomain). IsFlight f c.put.new.self) (sym c.in_ok-flow.ensures.item) (record {
+    subst (λ (f : FlowOfDomain). IsFlight f c.put.new.self) (sym c.in_ok-flow.ensures) (record {
       flow = c.new-view.ensures.rules;
       routers = subst (WaitAtRouters routers) (sym c.in_ok-put.ensures.ok)
           (wait_at_routers-put (net_in n) net first c.in_ok-copies.copies

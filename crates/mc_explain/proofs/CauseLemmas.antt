@@ -245,7 +245,7 @@ causes_hold-least_ttl f lan j causes ok e l =
     let copy_in = in-first_copy_on cs lan l.copy on in
     let came_by_hops = subst (λ (g : Flight). CameByHops n g.carried l.copy l.path) e.ends l.came_by_hops in
     let path = is_path-from_travel n count 255 [] false e.picks Clean l.copy l.path net e.travel copy_in
-        came_by_hops in
+    came_by_hops in
     let to = lan-first_copy_on cs lan l.copy on in
     let leads = subst (IsPath n n.source l.path) to path.0 in
     let least : IsLeastTtl n lan (need l.path) = record {

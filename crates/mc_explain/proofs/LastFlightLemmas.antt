@@ -116,7 +116,7 @@ has_second_copy-last_flight f ttl x j lan ok e d =
     let cs = (last_flight f ttl x j e).carried in
     let a = earlier_copy-of_first_double cs d.copy d.first in
     let s = is_spare_interface-exists n (length f.domain.topology.lans) ttl [] false e.picks x d.copy
-        e.travel d.first
+    e.travel d.first
     in
     record {
       second = d.copy;
@@ -146,7 +146,7 @@ has_loop-from_loop f ttl lan j ok e =
     let shows = shows-last_flight f ttl (Loop lan) j ok e in
     let has = has_second_copy-last_flight f ttl (Loop lan) j lan ok e shows.0 in
     let came_by_hops = came_from_lan-hops_until n (length f.domain.topology.lans) ttl [] false e.picks
-        (Loop lan) lan
+    (Loop lan) lan
     has.second (is_net-from_is_flow_in f ok) e.travel shows has.is.is_double in
     subst (λ (g : Flight). HasLoop n g.carried lan) (sym e.ends)
     (record { has = has; came_by_hops = came_by_hops })

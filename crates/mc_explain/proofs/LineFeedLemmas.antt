@@ -114,9 +114,14 @@ pub no_feed-escaped_byte : (b : ℕ) (shown : Bool) → is_plain b ≡ shown
     (codes "\\x" ++ (hex_digit_of (b / 16) ∷ hex_digit_of (b % 16) ∷ [])))
 no_feed-escaped_byte b true is = (ne_eqb b 10 (λ e. false≢true (sym (ap is_plain e) ∙ is)), tt)
 no_feed-escaped_byte b false is =
-    no_feed-append_front (codes "\\x") (hex_digit_of (b / 16) ∷ hex_digit_of (b % 16) ∷ []) refl
-    (digit_glyph-is_no_feed (b / 16) (nat_le (b / 16) 9), (digit_glyph-is_no_feed (b % 16)
-    (nat_le (b % 16) 9), tt))
+    no_feed-append_front (codes "\\x") (hex_digit_of (b / 16) ∷ hex_digit_of (b % 16) ∷ []) refl (
+      digit_glyph-is_no_feed (b / 16) (nat_le (b / 16) 9),
+      (
+        digit_glyph-is_no_feed (b % 16)
+            (nat_le (b % 16) 9),
+        tt,
+      ),
+    )
 
 no_feed-vif_number_text : (vif : ℕ) → HasNoByte 10 (vif_number_text vif)
 no_feed-vif_number_text vif = no_feed-append_front (codes "vif/") (decimal vif) refl (number vif)

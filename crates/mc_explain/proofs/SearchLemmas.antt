@@ -173,8 +173,10 @@ distinct-visited s missed (suc k) = by (slice_get (visited_lans s missed k) k) (
 slice_get-from_in : (lans : List ℕ) (lan : ℕ) → In lan lans → (k : ℕ) × (slice_get lans k ≡ Some lan)
 slice_get-from_in [] lan h = absurd h
 slice_get-from_in (m ∷ lans) lan (inl e) = (0, ap Some e)
-slice_get-from_in (m ∷ lans) lan (inr h) = (suc (slice_get-from_in lans lan h).0,
-    (slice_get-from_in lans lan h).1)
+slice_get-from_in (m ∷ lans) lan (inr h) = (
+  suc (slice_get-from_in lans lan h).0,
+  (slice_get-from_in lans lan h).1,
+)
 
 -- no more LANs are visited than there are
 pub length-visited : (s : Search) (missed k : ℕ) (marks : List (Option ℕ)) (lans : List ℕ)
@@ -220,8 +222,14 @@ pub search-of_view : (view : FlowOfDomain) (d : DomainValue) (flow : ℕ) (summa
       excluded = excluded;
       first_copy_on = item_on_lan places;
     })
-    (record { domain = facts d; flow = flow; summary = summary; excluded = excluded; first_copy_on =
-    first_copy_on cs })
+    (record {
+      domain = facts d;
+      flow = flow;
+      summary = summary;
+      excluded = excluded;
+      first_copy_on =
+          first_copy_on cs;
+    })
 search-of_view view d flow summary excluded places copies cs e first same =
     ap {B = Search} (λ (v : FlowOfDomain). record {
       domain = facts v.domain;

@@ -79,7 +79,7 @@ least_ttl_causes-are_unique : (n : Net) (f : Flight) (lan : ℕ) (causes others 
     ExplainsLeastTtl n f lan causes → ExplainsLeastTtl n f lan others → causes ≡ others
 least_ttl_causes-are_unique n f lan causes others net x y =
     let path = path-is_unique n f.carried lan x.copy y.copy x.path y.path net x.copy_is y.copy_is
-        x.came_by_hops
+    x.came_by_hops
     y.came_by_hops in
     let stop = is_stopped-unique n.ttl y.path x.hop x.left y.hop y.left
     (subst (λ (hs : List Hop). IsStopped n.ttl hs x.hop x.left) path x.stopped) y.stopped in

@@ -65,9 +65,9 @@ all_below-visited s missed (suc k) ok lt =
     by : (o : Option ℕ) → AllBelow (length s.domain.topology.lans) (visited_lans s missed k)
         → AllBelow (length s.domain.topology.lans) (visited_after s (visited_lans s missed k) o)
     by None all = all
-    by (Some lan) all = all_below-append_new (length s.domain.topology.lans) (visited_lans s missed k)
-    (next_lans s lan)
-        all (all_below-next_lans s (lines_of_lan s lan) (lines_of_lan-inside s lan ok))
+    by (Some lan) all =
+        all_below-append_new (length s.domain.topology.lans) (visited_lans s missed k) (next_lans s lan) all
+        (all_below-next_lans s (lines_of_lan s lan) (lines_of_lan-inside s lan ok))
 
 length-visited_at_most_lans : (s : Search) (missed k : ℕ) → PlacesInside s
     → missed < length s.domain.topology.lans

@@ -26,8 +26,10 @@ no_feed-escape_byte_cases : (x : ℕ) (letter small : Bool) → nat_lt 0 (escape
     → HasNoByte 10 (cond letter (92 ∷ escape_letter x ∷ [])
     (cond small (92 ∷ 117 ∷ 48 ∷ 48 ∷ digit_char (x / 16) ∷ digit_char (x % 16) ∷ []) (x ∷ [])))
 no_feed-escape_byte_cases x true small has is = (refl, (escape_letter-is_no_feed x, tt))
-no_feed-escape_byte_cases x false true has is = (refl,
-    (refl, (refl, (refl, (digit_char-is_no_feed (x / 16), (digit_char-is_no_feed (x % 16), tt))))))
+no_feed-escape_byte_cases x false true has is = (
+  refl,
+  (refl, (refl, (refl, (digit_char-is_no_feed (x / 16), (digit_char-is_no_feed (x % 16), tt))))),
+)
 no_feed-escape_byte_cases x false false has is =
     (ne_eqb x 10 (λ e. false≢true (sym has ∙ ap (λ (y : ℕ). nat_lt 0 (escape_letter y)) e)), tt)
 
@@ -36,8 +38,11 @@ unfolding escape_byte
 no_feed-escape_byte x = no_feed-escape_byte_cases x (nat_lt 0 (escape_letter x)) (nat_lt x 32) refl refl
 
 no_feed-quoted : (s : List ℕ) → HasNoByte 10 (quoted s)
-no_feed-quoted s = (refl, no_feed-append (escape s) (34 ∷ []) (no_feed-flat_map escape_byte s
-    no_feed-escape_byte) (refl, tt))
+no_feed-quoted s = (
+  refl,
+  no_feed-append (escape s) (34 ∷ []) (no_feed-flat_map escape_byte s
+      no_feed-escape_byte) (refl, tt),
+)
 
 -- ---- values
 

@@ -61,8 +61,11 @@ no_float-oif_data d router p = rw (no_float-device_data (d.vifs router p.0))
 no_float-entry_data : (d : DomainFacts) (router source group incoming : ℕ) (pairs : List (ℕ × ℕ))
     → has_float (entry_data d router source group incoming pairs) ≡ false
 no_float-entry_data d router source group incoming pairs =
-    rw (no_float-device_data (d.vifs router incoming), no_float-map (oif_data d router)
-    (no_float-oif_data d router) pairs)
+    rw (
+      no_float-device_data (d.vifs router incoming),
+      no_float-map (oif_data d router)
+          (no_float-oif_data d router) pairs,
+    )
 
 pub no_float-row_data : (d : DomainFacts) (f : Flow) (router : ℕ) (row : Row)
     → has_float (row_data d f router row) ≡ false
@@ -107,8 +110,11 @@ no_float-cause_data d summary number f (Unplaced router vif) =
     rw (no_float-device_data (d.vifs router vif), no_float-row_data d f router ((d.nets number).row router))
 no_float-cause_data d summary number f (LeastTtl lan least) = refl
 no_float-cause_data d summary number f (OnlyEverySource router vif) =
-    rw (no_float-device_data (d.vifs router vif), no_float-every_source_row_data d router
-    (every_source_of summary f.group router))
+    rw (
+      no_float-device_data (d.vifs router vif),
+      no_float-every_source_row_data d router
+          (every_source_of summary f.group router),
+    )
 no_float-cause_data d summary number f (StoppedAt router vif threshold ttl) =
     rw (no_float-device_data (d.vifs router vif))
 

@@ -11,7 +11,7 @@ pub explain_least_ttl-requires-clause-path : goal.explain_least_ttl-requires-cla
 explain_least_ttl-requires-clause-path c =
     let d = c.args.domain.now in
     let examined_flights = subst (λ (x : ExaminedFlights). HasExaminedFlights d c.args.flow x)
-        c.in-FoundAtFlowTtl.is c.requires.examined_flights in
+    c.in-FoundAtFlowTtl.is c.requires.examined_flights in
     is_out_of_reach-from_finished d c.args.flow c.in-Missed.lan c.new-view.result c.in-FoundAtFlowTtl.greatest
     c.in-FoundAtFlowTtl.least c.new-view.ensures.rules c.new-view.ensures.flow examined_flights.0
     examined_flights.1 examined_flights.2

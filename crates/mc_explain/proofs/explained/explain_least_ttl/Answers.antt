@@ -15,7 +15,7 @@ unreachable-requires-in_default-first_stop c =
     let cs = c.args.greatest.now.flight.carried in
     let r = c.requires.path in
     let same = held-is_first_copy c.in_ok-first_copies.first_copies.by_lan cs c.copies.result.now c.args.lan
-        c.args.lan
+    c.args.lan
     c.on.result c.in-Some.first r.first c.in_ok-first_copies.ensures.first_copies c.copies.ensures.copies refl
     c.on.ensures c.in-Some.is r.path.on in
     let path = found_hops-are_path n cs c.copies-2.result.now r.first c.in-Some.first c.in_ok-path.path.items
@@ -31,12 +31,12 @@ need-requires c = record {
       let cs = c.args.greatest.now.flight.carried in
       let r = c.requires.path in
       let same = held-is_first_copy c.in_ok-first_copies.first_copies.by_lan cs c.copies.result.now
-          c.args.lan c.args.lan
+      c.args.lan c.args.lan
       c.on.result c.in-Some.first r.first c.in_ok-first_copies.ensures.first_copies c.copies.ensures.copies
       refl
       c.on.ensures c.in-Some.is r.path.on in
       let path = found_hops-are_path n cs c.copies-2.result.now r.first c.in-Some.first
-          c.in_ok-path.path.items
+      c.in_ok-path.path.items
       c.deref-2.result.now c.copies-2.ensures.copies same c.in_ok-path.ensures.ok c.deref-2.ensures.value
       in subst (λ (hs : List Hop). need hs ≤ 255) (sym path) r.path.small);
 }
@@ -48,15 +48,15 @@ returns c = record {
       let cs = c.args.greatest.now.flight.carried in
       let r = c.requires.path in
       let same = held-is_first_copy c.in_ok-first_copies.first_copies.by_lan cs c.copies.result.now
-          c.args.lan c.args.lan
+      c.args.lan c.args.lan
       c.on.result c.in-Some.first r.first c.in_ok-first_copies.ensures.first_copies c.copies.ensures.copies
       refl
       c.on.ensures c.in-Some.is r.path.on in
       let path = found_hops-are_path n cs c.copies-2.result.now r.first c.in-Some.first
-          c.in_ok-path.path.items
+      c.in_ok-path.path.items
       c.deref.result.now c.copies-2.ensures.copies same c.in_ok-path.ensures.ok c.deref.ensures.value in
       let path' = found_hops-are_path n cs c.copies-2.result.now r.first c.in-Some.first
-          c.in_ok-path.path.items
+      c.in_ok-path.path.items
       c.deref-2.result.now c.copies-2.ensures.copies same c.in_ok-path.ensures.ok c.deref-2.ensures.value
       in
       let hop = c.in-Some-first_stop.stopped.0 in

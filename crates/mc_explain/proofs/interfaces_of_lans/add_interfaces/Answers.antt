@@ -35,7 +35,7 @@ loop-number-preserved c =
     let within : q < length lists =
     omega (arith, own, lans, c.interface-interface.ensures.valid.lan, c.loop-number.invariant.count) in
     let item : c.listed_interface_of-listed.result ≡ listed_interface_at d k =
-        c.listed_interface_of-listed.ensures
+    c.listed_interface_of-listed.ensures
     ∙ ap (listed_interface_of d k) (sym found) in
     let more : c.push.new.self.items ≡ c.index_mut-list.result.now ++ listed_interface_at d k ∷ [] =
     c.in_ok-push.ensures.items

@@ -62,7 +62,7 @@ returns-clause-lines c =
     omega (arith, c.loop-position-test.false, c.loop-position.auto.position-end, c.lans-lans.ensures.count) in
     let few : length (visited_lans s missed k) ≤ k =
     let short = length-visited s missed k c.loop-position.visited_lans.marks
-        c.loop-position.visited_lans.lans.items
+    c.loop-position.visited_lans.lans.items
     c.loop-position.invariant.lans c.loop-position.invariant.is_visited_lans.marked in
     omega (arith, short, c.loop-position.invariant.is_visited_lans.count, end) in
     c.loop-position.invariant.lines_so_far

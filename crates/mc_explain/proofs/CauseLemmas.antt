@@ -368,7 +368,7 @@ pub causes_hold-all : (d : DomainValue) (flow : ℕ) (examined_flights : Examine
     (causes : List Cause) →
     AreCausesOf d flow examined_flights causes → CausesHold (net_of d flow) causes causes
 causes_hold-all d flow examined_flights causes is = causes_hold-examined d flow examined_flights causes
-    (record { domain = is.flow.domain; flow = is.flow.listed }) is.flow.examined is.explained
+    (record { domain = is.examined.domain; flow = is.examined.listed }) is.examined.examined is.explained
 
 -- ---- the whole circle
 

@@ -29,7 +29,7 @@ pub record IsExaminedFlow (d : DomainValue) (flow : ℕ) (flights : ExaminedFlig
 -- These causes explain a domain's flow that was examined.
 pub record AreCausesOf (d : DomainValue) (flow : ℕ) (flights : ExaminedFlights) (causes : List Cause)
     : Type 0 where
-  pub flow : IsExaminedFlow d flow flights
+  pub examined : IsExaminedFlow d flow flights
   pub explained : IsExplained d flow flights causes
 
 -- The cause is reported for a domain's flow that was examined.

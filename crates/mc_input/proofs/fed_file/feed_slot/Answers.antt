@@ -11,7 +11,7 @@ returns-clause-part g c = λ contents is.
     let named = subst (λ n. bytes_within_max_part (file_named contents n) ≡ Ok fed.0) same fed.1 in (
       record { name = part_name c.args.slot.now; bytes = fed.0 },
       rw (named) refl,
-      sym c.in_ok-name.ensures.item,
+      sym c.in_ok-name.ensures,
       fed.2,
       fed.3,
     )

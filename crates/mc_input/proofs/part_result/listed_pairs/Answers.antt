@@ -5,4 +5,4 @@ use Rattle.mc_input.proofs.part_result.listed_pairs.Goals as goal
 pub returns-clause-listed : goal.returns-clause-listed
 returns-clause-listed c =
     subst (λ (pairs : List (ℕ × ℕ)). AreSamePairs c.in_ok-of.field-0 pairs)
-    (c.deref.ensures.value ∙ c.in_ok-source_group_pairs.ensures) c.in_ok-of.ensures.value
+    (c.deref.ensures.value ∙ c.in_ok-source_group_pairs.ensures) c.in_ok-of.ensures

@@ -11,7 +11,7 @@ pub loop-own-init : goal.loop-own-init
 loop-own-init c =
     let d = facts c.args.lan_probe.now.view.now.domain in
     let old = c.args.routers.now.items in
-    let same = c.into_iter-own-iterator.ensures.into_iter_gives ∙ c.routers_on-own-items.ensures in
+    let same = c.into_iter-own-iterator.ensures.into_iter_gives ∙ c.routers_on-own-items.ensures.value in
     record {
       count = refl;
       rest = ap (λ (gs : List (ℕ × List ListedInterface)).

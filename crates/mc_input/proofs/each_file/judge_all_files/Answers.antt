@@ -38,7 +38,7 @@ returns-in-Err-clause-refused g c = λ contents is.
 
 pub returns-in-Err-clause-failures : goal.returns-in-Err-clause-failures
 returns-in-Err-clause-failures g c =
-    on_ok_map c.push_if_fault.result c.push_if_fault.ensures.listed (λ push_if_fault.
+    on_ok_map c.push_if_fault.result c.push_if_fault.ensures.listed (λ pushed.
     saturating_failures-topology_alone c.in-Err.fault c.topology.result
     (map as_judged_file c.args.refused.now.items) (map as_judged_file c.push_if_fault.new.refused.items)
     (g.F.FileSource.failed c.args.files.now) (g.F.FileSource.failed c.topology_unless_u64_max.new.files)

@@ -127,7 +127,7 @@ is_harmless_remedy-from_spare f x j second i hs ok e s' =
       sends = sends_onto-from_sender f 255 x j second i e (in-first_double j.flight.carried second
           s'.first_double)
           s'.sender;
-      stays = record { path = hs; is_path-without_spare = path; least_is = refl };
+      stays = record { path = hs; is_path = path; least_is = refl };
       reached = λ m r. (
           let k = path_without-spare n count 255 [] false e.picks x second i hs net e.travel s r.0 m r.1 in
           (k.0, k.1));

@@ -43,7 +43,7 @@ remedy-is_unique n f lan c r s net x y =
     let path = path-is_unique n f.carried c.lan x.spare.first y.spare.first x.path y.path net
     x.spare.first_on y.spare.first_on x.spare.came_by_hops y.spare.came_by_hops in
     x.cause_is ∙ (ap₂ (λ (i : Interface) (hs : List Hop). TakeOut lan i.0 i.1 (need hs)) sender path ∙
-    sym y.causes_are)
+    sym y.cause_is)
 
 -- the remedy for a copy is unique
 remedy-is_unique_on_lan : (n : Net) (f : Flight) (lan : ℕ) (c d : Copy) (r s : Cause) → IsNet n →

@@ -7,7 +7,7 @@ use Rattle.mc_topology.specs.SectionRows.{InterfaceRow}
 use Rattle.mc_topology.specs.Topology.{TopologyValue}
 use Rattle.mc_forward.specs.ListedTables.{facts}
 use Rattle.mc_explain.specs.declared.listed_interface.ListedInterface.{ListedInterface}
-use Rattle.mc_explain.specs.BucketsAndMarks.{AreBuckets}
+use Rattle.mc_explain.specs.BucketsAndMarks.{AreBuckets, AreInterfacesByLan}
 use Rattle.mc_explain.specs.TopologyLans.{interface_at, listed_interface_at, listed_interface_of}
 use Rattle.mc_explain.proofs.BucketLemmas.{are_buckets-more}
 use Rattle.mc_explain.proofs.interfaces_of_lans.add_interfaces.Goals as goal

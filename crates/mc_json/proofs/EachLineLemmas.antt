@@ -16,7 +16,7 @@ use Rattle.mc_json.specs.DomainData.{domain_data}
 use Rattle.mc_json.specs.EndData.{summary_data, unlisted_data, unlisted_line, unlisted_lines}
 use Rattle.mc_json.specs.EndData.{unlisted_more_data, unlisted_more_line, without_data, without_line}
 use Rattle.mc_json.specs.EndData.{without_line_of}
-use Rattle.mc_json.specs.FlowData.{right_data, tree_data, wrong_data, wrong_line, wrong_flow_of}
+use Rattle.mc_json.specs.FlowData.{WrongFlow, right_data, tree_data, wrong_data, wrong_line, wrong_flow_of}
 use Rattle.mc_json.specs.ObjectLines.{AreObjectLines}
 use Rattle.mc_json.specs.RowData.{line_of}
 use Rattle.mc_json.proofs.ObjectLemmas.{are_object_lines-append, are_object_lines-flat_map}

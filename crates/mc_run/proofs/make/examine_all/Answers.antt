@@ -5,7 +5,7 @@ use Rattle.mc_run.proofs.MakeLemmas.{is_examined-of_examination, are_made_so_far
 use Rattle.mc_run.proofs.MakeLemmas.{made_lists-at_most_flows, are_made_so_far-found}
 use Rattle.mc_run.proofs.MakeLemmas.{are_made_so_far-none}
 use Rattle.mc_run.proofs.make.examine_all.Goals.{in-Certified+in_ok-push-in-Certified}
-use Rattle.mc_run.proofs.make.examine_all.Goals.{in-Found+in_ok-push_found-in-Found}
+use Rattle.mc_run.proofs.make.examine_all.Goals.{in-Found+in_ok-push_found_lines-in-Found}
 use Rattle.mc_run.proofs.make.examine_all.Goals as goal
 
 pub loop-flow-init : goal.loop-flow-init
@@ -46,7 +46,7 @@ loop-flow-preserved c =
             c.flows-flow-end.ensures.count,
             ap (λ t. length t.flows) topology,
           )) is w.in-Certified.is grown))
-      | in-Found+in_ok-push_found-in-Found w ↦
+      | in-Found+in_ok-push_found_lines-in-Found w ↦
           (let here = subst (λ t. slice_get t.flows k ≡ Some w.flow.result.now) topology
           w.flow.ensures.flow in
           let grown = ap string_bytes w.lines-is ∙ w.in_ok-push_found_lines-in-Found.ensures

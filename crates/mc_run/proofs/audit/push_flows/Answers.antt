@@ -29,7 +29,7 @@ with-flow_counts-requires-clause-unwanted c =
     let few = c.flows-flow-end.ensures.rules.few_flows in
     omega (arith, le, lt, count, few)
 
-pub push_flow-requires-clause-room : goal.push_flow-requires-clause-few
+pub push_flow-requires-clause-room : goal.push_flow-requires-clause-room
 push_flow-requires-clause-room c =
     let le = trees_shown-at_most_flows _ _ _ _ _ _ _ c.loop-flow.invariant in
     let lt = c.loop-flow-test.true in

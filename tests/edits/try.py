@@ -33,8 +33,8 @@ WHICH is one of these:
                  `returns` and have no `-clause-`
   requires-NAME  the clause `requires NAME` of a function that it calls: the goals whose names have
                  `-requires` and behind it `-clause-NAME`
-  requires       the one `requires` of a function that it calls, where it has no name: the goals whose
-                 names have `-requires` and no `-clause-`
+  requires       the one `requires` of a function that it calls: the goals whose names have `-requires`
+                 and no `-clause-`
 
 The last line is 'N passed, M failed'. The status is 0 only if none failed and one was tried.
 """
@@ -579,7 +579,7 @@ file: src/filter.rt
 old:             mode: Mode::Include,
 new:             mode: Mode::Exclude,
 == caller_unharmed: IT PROVES
-file: src/gathered.rt
+file: src/filter_builder.rt
 old: filter: Filter::none(alloc),
 new: filter: { Filter::none(alloc) },
 == callee_wrong_twin_right: IT PROVES
@@ -613,14 +613,14 @@ new:         &self.sources[..0]
 == requires_of_call: refused (beside cut bodies)
 clause: requires-others_ascending
 file: src/filter.rt
-old:                 take_away(&mut self.sources, &listed);
-new:                 listed.reverse(); take_away(&mut self.sources, &listed);
+old:                 remove_common(&mut self.sources, &listed);
+new:                 listed.reverse(); remove_common(&mut self.sources, &listed);
 == requires_of_another_name: ANOTHER CLAUSE REFUSES IT
 clause: requires-ascending
 file: src/filter.rt
-old:                 take_away(&mut self.sources, &listed);
-new:                 listed.reverse(); take_away(&mut self.sources, &listed);
-== requires_without_name: refused (beside cut bodies)
+old:                 remove_common(&mut self.sources, &listed);
+new:                 listed.reverse(); remove_common(&mut self.sources, &listed);
+== requires_alone: refused (beside cut bodies)
 clause: requires
 file: src/filter.rt
 old: is_listed(&self.sources, source);

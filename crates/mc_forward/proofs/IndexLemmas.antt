@@ -91,7 +91,7 @@ pub related_at_each_index-pushed_list : {A B : Type 0} (R : A → B → Type 0) 
     (ys now : List B) (x : A)
     (y : B) (k : ℕ) → now ≡ ys ++ y ∷ []
     → length ys ≡ k → slice_get xs k ≡ Some x → R x y → RelatedAtEachIndex R xs ys →
-        RelatedAtEachIndex R xs now
+    RelatedAtEachIndex R xs now
 related_at_each_index-pushed_list R xs ys now x y k more size at r each =
     subst (RelatedAtEachIndex R xs) (sym more) (related_at_each_index-push R xs ys x y each
     (subst (λ (n : ℕ). slice_get xs n ≡ Some x) (sym size) at) r)

@@ -21,7 +21,7 @@ vif_plus_length-at_most_32 oif [] up within = omega (arith, within.0.0)
 vif_plus_length-at_most_32 oif (next ∷ oifs) up within =
     let first : oif.vif < next.vif = up 0 (omega arith) in
     let rest = vif_plus_length-at_most_32 next oifs
-        (tail-ascends oif.vif (map (λ (o : Oif). o.vif) (next ∷ oifs)) up)
+    (tail-ascends oif.vif (map (λ (o : Oif). o.vif) (next ∷ oifs)) up)
     within.1 in
     omega (arith, first, rest)
 

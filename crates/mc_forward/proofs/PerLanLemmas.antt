@@ -21,7 +21,7 @@ first_with_key-push {A} key (y ∷ xs) x n none = by (key y == n) none (first_wi
   where
     by : (b : Bool) → cond b (Some y) (first_with_key key xs n) ≡ None
         → (first_with_key key xs n ≡ None →
-            first_with_key key (xs ++ x ∷ []) n ≡ first_with_key key (x ∷ []) n)
+        first_with_key key (xs ++ x ∷ []) n ≡ first_with_key key (x ∷ []) n)
         → cond b (Some y) (first_with_key key (xs ++ x ∷ []) n) ≡ first_with_key key (x ∷ []) n
     by true none rest = absurd cc
     by false none rest = rest none
@@ -93,7 +93,7 @@ holds_first-put {A} key places xs x lt filled free n = by (key x == n) refl
         ∙ sym (first_with_key-push key xs x n none ∙ ap (λ (b : Bool). cond b (Some x) None) q)
     by false q =
         item_on_lan-slice_set_other places x (key x)
-            n (λ same. absurd (false≢true (sym q ∙ eq-eqb (key x) n same)))
+        n (λ same. absurd (false≢true (sym q ∙ eq-eqb (key x) n same)))
         ∙ (filled n ∙ sym (first_with_key-push_other_key key xs x n q))
 
 -- an item after the first of its key changes nothing

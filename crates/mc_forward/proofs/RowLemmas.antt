@@ -110,7 +110,7 @@ entry_equal-from_row e entry same =
 
 is_entry-from_row_by_entry : (wild : Bool) (o : Option EntryValue) (entry : EntryValue)
     → row_by_entry wild o ≡ exact entry.iif (oif_pairs entry.oifs) → IfSome o IsValidEntry →
-        IsValidEntry entry
+    IsValidEntry entry
 is_entry-from_row_by_entry wild (Some e) entry same ok =
     subst IsValidEntry (entry_equal-from_row e entry same) ok
 is_entry-from_row_by_entry true None entry same ok = absurd cc
@@ -129,5 +129,5 @@ has_valid_entry-from_row_value d flow router (row.Exact entry) ok same =
     by (Some t) None at e = absurd cc
     by (Some t) (Some f) at e =
         is_entry-from_row_by_entry (has_row_for_every_source t.cache f)
-            (finite.get t.cache.entries (f.source, f.group)) entry e
+        (finite.get t.cache.entries (f.source, f.group)) entry e
         ((ok.tables router t at).cache.entries (f.source, f.group))

@@ -172,7 +172,7 @@ pub vif_lan_in-below_lan_count : (d : DomainValue) (vif_lans : List (List (Optio
     → vif_lan_in vif_lans router vif ≡ Some lan → lan < length d.topology.lans
 vif_lan_in-below_lan_count d vif_lans ok e router vif lan at =
     placed-below_lan_count d router vif ok (Some lan)
-        (sym (vif_lan_in-placed_of d vif_lans ok e router vif) ∙ at)
+    (sym (vif_lan_in-placed_of d vif_lans ok e router vif) ∙ at)
 
 filter-by_placed_of : (d : DomainValue) (place : ℕ → ℕ → Option ℕ) (routers : ℕ) → place ≡ placed_of d
     → routers ≡ length d.topology.routers
@@ -189,10 +189,10 @@ filter-by_placed_of d place routers e size =
 pub interfaces_by_vif_lans-interfaces_of : (d : DomainValue) (vif_lans : List (List (Option ℕ))) → IsDomain d
     → vif_lans ≡ vif_lans_of d
     → map (interfaces_by_vif_lans vif_lans (length vif_lans)) (below (length d.topology.lans))
-        ≡ interfaces_of d
+    ≡ interfaces_of d
 interfaces_by_vif_lans-interfaces_of d vif_lans ok e =
     let same : vif_lan_in vif_lans ≡ placed_of d =
-        λ i router vif. vif_lan_in-placed_of d vif_lans ok e router vif
+    λ i router vif. vif_lan_in-placed_of d vif_lans ok e router vif
     i in
     filter-by_placed_of d (vif_lan_in vif_lans) (length vif_lans) same (ap length e ∙ length-vif_lans_of d)
 

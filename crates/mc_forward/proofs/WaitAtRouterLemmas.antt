@@ -15,14 +15,14 @@ pub wait_at_routers-put : (n : Net) → IsNet n → (c : Copy) (f : Flight) → 
     → WaitAtRouters n.routers (put n c f)
 wait_at_routers-put n net c f at w k =
     elim (in-append_cases w f.waiting (map (waits_at c.ttl) (hearers n c)) k) [
-  | inl old ↦ at w old
-  | inr new ↦ (
-      let heard = in-map_cases (waits_at c.ttl) w (hearers n c) new in
-      let lan = in-filter_cases (λ (i : Interface). not (is_sender c.sender i)) heard.0
-      (interfaces n c.lan) heard.1 in
-      subst (λ (v : Waiting). v.router < n.routers) heard.2
-      (net.router heard.0.0 heard.0.1 c.lan (placed-member_of_interfaces n heard.0 c.lan lan.0)))
-]
+      | inl old ↦ at w old
+      | inr new ↦ (
+          let heard = in-map_cases (waits_at c.ttl) w (hearers n c) new in
+          let lan = in-filter_cases (λ (i : Interface). not (is_sender c.sender i)) heard.0
+          (interfaces n c.lan) heard.1 in
+          subst (λ (v : Waiting). v.router < n.routers) heard.2
+          (net.router heard.0.0 heard.0.1 c.lan (placed-member_of_interfaces n heard.0 c.lan lan.0)))
+    ]
 
 wait_at_routers-leave : (n : Net) → IsNet n → (t : ℕ) (x : Interface) (o : Option ℕ) (f : Flight)
     → WaitAtRouters n.routers f → WaitAtRouters n.routers (leave n t x o f)

@@ -60,7 +60,7 @@ pub record IsFlight (n : FlowOfDomain) (f : Flight) : Type 0 where
 abbrev pub IsFlowTravel : DomainValue → (flow t : ℕ) → Choices → (picks : List ℕ) → Finding → Type 0
 IsFlowTravel d flow t choices picks x =
     IsTravel (net_of d flow) (length d.topology.lans) choices.numbers choices.last picks
-        (start (net_of d flow) t) x
+    (start (net_of d flow) t) x
 
 -- Where a travel finds x, P holds of its last flight, whatever the picker chooses.
 abbrev pub OnFlowFinding : DomainValue → (flow t : ℕ) → Finding → (Flight → Type 0) → Type 0

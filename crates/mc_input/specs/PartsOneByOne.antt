@@ -93,8 +93,10 @@ abbrev pub finish_with_reports : (certified : Bool) → TopologyValue → List T
     → List (List Record) → List (List ℕ) → List PartText → Result InputAndCertificate InputFault
 finish_with_reports certified t tables reports lans parts =
     read_reports_from lans parts >>= λ others.
-    Ok (input_with t tables (reports ++ others),
-    certificate_text_of certified (parts_after_reports lans parts))
+    Ok (
+      input_with t tables (reports ++ others),
+      certificate_text_of certified (parts_after_reports lans parts),
+    )
 
 -- the input with these tables, and with the further routers' tables and all reports from the parts
 abbrev pub finish_with_tables : (certified : Bool) → TopologyValue → List TablesValue → List RouterRow

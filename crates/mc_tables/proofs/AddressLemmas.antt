@@ -97,5 +97,5 @@ pub address_in-from_clauses : (order : Order) (word : List ℕ) (read : Option �
 address_in-from_clauses order word read small writes only =
     option_from_clauses (WordDenotesAddress order word) read (address_in order word)
     (if_some-denotes_address order word read small writes) (λ a h. only a h.0 h.1)
-        (address_in-denotes order word)
+    (address_in-denotes order word)
     (address_in-from_denotes order word)

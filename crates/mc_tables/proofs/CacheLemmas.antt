@@ -180,7 +180,7 @@ unfolding row_in_line
 row_in_line-from_denotes order earlier line row denoted new =
     let room : ltb (length earlier) 65536 ≡ true = lt-ltb (length earlier) 65536 new.0 in
     rw (denoted.ended, room, row_in_words-from_denotes order (words_of line.bytes) row denoted.words, new.1)
-        refl
+    refl
 
 -- the same for reading with the line's number
 row_at_line-denotes : (order : Order) (earlier : List RowValue) (line : LineText) (row : RowValue)

@@ -120,7 +120,7 @@ pub is_some_get-entries_by_key : (key : ℕ × ℕ) (numbers : List ((ℕ × ℕ
     ≡ is_some (number_of_key numbers key)
 is_some_get-entries_by_key key numbers es own =
     ap is_some (sym (lookup-from_entries key (entries_by_key numbers es))
-        ∙ lookup-entries_by_key key numbers es (own key))
+    ∙ lookup-entries_by_key key numbers es (own key))
     ∙ is_some-slice_get_number es (number_of_key numbers key) (own key)
 
 -- what a number finds stays found with one more entry behind
@@ -169,7 +169,7 @@ pub lookup-entries_by_key_push : (key : ℕ × ℕ) (entry : EntryValue) (es : L
     (lookup (is_at (key_cmp q)) (entries_by_key numbers es))
 lookup-entries_by_key_push key entry es numbers more own grown q =
     lookup-entries_by_key q more (es ++ entry ∷ [])
-        (are_entry_numbers-push key entry es numbers more own grown q)
+    (are_entry_numbers-push key entry es numbers more own grown q)
     ∙ ap (option_and_then (slice_get (es ++ entry ∷ []))) (grown q)
     ∙ elim (is_at (key_cmp key) q) as
     (λ b. option_and_then (slice_get (es ++ entry ∷ []))

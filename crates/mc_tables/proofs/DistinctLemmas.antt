@@ -105,7 +105,7 @@ module _ (slots others numbers : List ℕ) (i : ℕ) (before : AreSlotted slots 
           ]
           | inr late ↦ inl (in_slot-same_slot slots number within (get_or numbers k 0)
               (ap (slot_of (length slots)) (number-at_last_place k late less))
-                  ∙ sym (number-at_last_place k late less))
+              ∙ sym (number-at_last_place k late less))
         ];
         apart = λ all a b less below is. elim (cases_lt b i) [
           | inl early ↦ before.apart all a b less early is

@@ -134,7 +134,7 @@ oifs-valid_entry outgoing entry iif h =
       ranges = subst (AllByRecursion
           (λ oif. (oif.vif ≤ 31) × (1 ≤ oif.threshold) × (oif.threshold ≤ 254))) same
           (to_oif-in_range (fin.entries (fin.from_entries h.denoted))
-              (all_entries-from_entries InRange h.denoted denoted));
+          (all_entries-from_entries InRange h.denoted denoted));
     }
 
 -- the entry that words denote is valid
@@ -173,7 +173,7 @@ length_oifs-from_vif oif [] up within = omega (arith, within.0.0)
 length_oifs-from_vif oif (next ∷ oifs) up within =
     let first : oif.vif < next.vif = up 0 (omega arith) in
     let rest = length_oifs-from_vif next oifs
-        (tail-ascends oif.vif (map (λ (o : Oif). o.vif) (next ∷ oifs)) up)
+    (tail-ascends oif.vif (map (λ (o : Oif). o.vif) (next ∷ oifs)) up)
     within.1 in
     omega (arith, first, rest)
 
@@ -195,7 +195,7 @@ pub oifs_in_gives_at_most_32 : (words : List (List ℕ)) (oifs : List Oif) → o
 oifs_in_gives_at_most_32 words oifs e =
     let entry : EntryValue = record { iif = 0; oifs = oifs } in
     length_entry_oifs-at_most_32 entry
-        (oifs-valid_entry words entry (omega arith) (oifs_in-denotes words oifs e))
+    (oifs-valid_entry words entry (omega arith) (oifs_in-denotes words oifs e))
 
 -- ---- the entries of a table
 
@@ -209,9 +209,11 @@ pub rows-have_valid_entries : (order : Order) (lines : List LineText) (rows : Li
 rows-have_valid_entries order [] [] denoted = tt
 rows-have_valid_entries order [] (row ∷ rows) denoted = absurd denoted
 rows-have_valid_entries order (line ∷ lines) [] denoted = absurd denoted
-rows-have_valid_entries order (line ∷ lines) (row ∷ rows) denoted =
-    (row_entry-is_valid order
-        (words_of line.bytes) row denoted.0.words, rows-have_valid_entries order lines rows denoted.1)
+rows-have_valid_entries order (line ∷ lines) (row ∷ rows) denoted = (
+  row_entry-is_valid order
+      (words_of line.bytes) row denoted.0.words,
+  rows-have_valid_entries order lines rows denoted.1,
+)
 
 -- what is found is the first entry, or one of the others
 find-valid_entry_cons : (key : ℕ × ℕ) (o : Option ((ℕ × ℕ) × EntryValue)) (rest : List ((ℕ × ℕ) × EntryValue))

@@ -33,11 +33,11 @@ FirstWordIsOif line behind vif threshold =
 first_word-without_tens : (line : List ℕ) → 7 ≤ length line → StartsWithPrintedOif line
     → (get_or line 1 0 == 32) ≡ true
     → FirstWordIsOif line (drop 7 line) (printed_vif (get_or line 1 0) (get_or line 2 0))
-        (get_or line 4 0 - 48)
+    (get_or line 4 0 - 48)
 first_word-without_tens line long printed space =
     let first = eqb-true (get_or line 1 0) 32 space in
     let found = one_digit_oif_is_first_word line long printed.before first printed.units printed.colon
-        printed.threshold
+    printed.threshold
     printed.behind printed.last in
     let plain : get_or line 2 0 - 48 ≡ 0 + (get_or line 2 0 - 48) = omega arith in
     let vif : get_or line 2 0 - 48 ≡ printed_vif (get_or line 1 0) (get_or line 2 0) =
@@ -54,7 +54,7 @@ first_word-with_tens : (line : List ℕ) → 7 ≤ length line → StartsWithPri
     → (get_or line 1 0 == 32) ≡ false
     → printed_vif (get_or line 1 0) (get_or line 2 0) ≤ 31
     → FirstWordIsOif line (drop 7 line) (printed_vif (get_or line 1 0) (get_or line 2 0))
-        (get_or line 4 0 - 48)
+    (get_or line 4 0 - 48)
 first_word-with_tens line long printed other few =
     let tens = get_or line 1 0 in
     let units = get_or line 2 0 in
@@ -78,7 +78,7 @@ first_word-with_tens line long printed other few =
 pub first_word-printed_oif : (line : List ℕ) → 7 ≤ length line → StartsWithPrintedOif line
     → printed_vif (get_or line 1 0) (get_or line 2 0) ≤ 31
     → FirstWordIsOif line (drop 7 line) (printed_vif (get_or line 1 0) (get_or line 2 0))
-        (get_or line 4 0 - 48)
+    (get_or line 4 0 - 48)
 first_word-printed_oif line long printed few =
     elim (cases_Bool (get_or line 1 0 == 32)) [
       | inl space ↦ first_word-without_tens line long printed space
@@ -169,7 +169,7 @@ oifs_after_words-ascending oifs next [] [] end rest ascend lane_below = (
 oifs_after_words-ascending oifs next (word ∷ words) (oif ∷ more) end rest ascend lane_below =
     let step = greater_oif_is_appended oifs oif next word (words ++ rest) ascend.0 lane_below ascend.1 in
     let others = oifs_after_words-ascending (oifs ++ oif ∷ [])
-        (oif.vif + 1) words more end rest ascend.2 step.1 in
+    (oif.vif + 1) words more end rest ascend.2 step.1 in
     let whole = append_assoc oifs (oif ∷ []) more in (
       step.0 ∙ others.0 ∙ ap (λ os. oifs_after_words os rest) whole,
       ap (λ os. list_all (λ other. nat_lt other.vif end) os) (sym whole) ∙ others.1,

@@ -20,14 +20,14 @@ pub denotes_vifs-unique : (text : List ℕ) (a b : FinMap nat_cmp VifValue) → 
     → DenotesVifs text b → a ≡ b
 denotes_vifs-unique text a b is_a is_b =
     ok_injective {E = TableFault} a b
-        (sym (vifs_in-from_denotes text a is_a) ∙ vifs_in-from_denotes text b is_b)
+    (sym (vifs_in-from_denotes text a is_a) ∙ vifs_in-from_denotes text b is_b)
 
 -- a text denotes at most one cache
 pub denotes_cache-unique : (order : Order) (text : List ℕ) (a b : CacheValue) → DenotesCache order text a
     → DenotesCache order text b → a ≡ b
 denotes_cache-unique order text a b is_a is_b =
     ok_injective {E = TableFault} a b
-        (sym (cache_in-from_denotes order text a is_a) ∙ cache_in-from_denotes order text b is_b)
+    (sym (cache_in-from_denotes order text a is_a) ∙ cache_in-from_denotes order text b is_b)
 
 -- a table of vifs that a text denotes is valid
 pub vif_table-is_valid : (text : List ℕ) (vifs : FinMap nat_cmp VifValue) → DenotesVifs text vifs

@@ -33,7 +33,7 @@ set_has_key-listed_set None key = refl
 set_has_key-listed_set (Some keys) key =
     set.contains-from_list key_cmp-total keys key
     ∙ list_any-same_tests (same_key key) (λ k. (k.0 == key.0) && (k.1 == key.1)) keys
-        (same_key-components key)
+    (same_key-components key)
 
 -- so the same rows are kept
 is_key_kept_by_set-listed_set : (listed : Listed) (own : Option (ℕ × ℕ))

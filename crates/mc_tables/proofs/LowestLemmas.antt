@@ -96,8 +96,11 @@ put_pair-ascends pair (p ∷ ps) up =
     → IsStrictlySortedBy key_cmp (put_at r pair p ps (put_pair pair ps))) [
       | Less ↦ λ is. ((is, are_above-lesser pair p ps is up.0), up)
       | Equal ↦ λ is. up
-      | Greater ↦ λ is. (are_above-put_pair p pair ps
-          (key_cmp-greater_flip pair p is) up.0, put_pair-ascends pair ps up.1)
+      | Greater ↦ λ is. (
+        are_above-put_pair p pair ps
+            (key_cmp-greater_flip pair p is) up.0,
+        put_pair-ascends pair ps up.1,
+      )
     ] refl
 
 -- the first ones of pairs that ascend do too

@@ -170,7 +170,7 @@ record SpacesThenDigits (digits spaces from last : ℕ) : Type 0 where
 spaces_then_digits-digit : (digits spaces from last : ℕ) → from < last
     → HasNoLastDigitBefore digits spaces last
     → bit_at digits from ≡ 1 → SpacesThenDigits digits spaces (from + 1) last
-        → SpacesThenDigits digits spaces from last
+    → SpacesThenDigits digits spaces from last
 spaces_then_digits-digit digits spaces from last below no_end digit split =
     elim (cases_lt (from + 1) split.first) [
       | inl space ↦ absurd (no_end from below digit (split.are_spaces (from + 1) (omega arith) space))
@@ -217,7 +217,7 @@ spaces_then_digits-from zero digits spaces from last sum no_end known digit =
     }
 spaces_then_digits-from (suc d) digits spaces from last sum no_end known digit =
     let others = spaces_then_digits-from d digits spaces (from + 1) last
-        (omega (arith, sum)) no_end known digit in
+    (omega (arith, sum)) no_end known digit in
     let below : from < last = omega (arith, sum) in
     elim (known from below) [
       | inl is_digit ↦ spaces_then_digits-digit digits spaces from last below no_end is_digit others
@@ -256,7 +256,7 @@ words_of-spaces_then_digits : (line : List ℕ) (digits spaces last : ℕ) → A
     × (words_of line ≡ word ∷ words_of (drop (last + 1) line)) × (is_counter word ≡ true)
 words_of-spaces_then_digits line digits spaces last of_digits of_spaces few split space =
     words_of-counter_after_spaces line digits spaces split.first (last + 1 - split.first)
-        (last + 1) of_digits of_spaces
+    (last + 1) of_digits of_spaces
     (omega (arith, split.within)) (omega (arith, split.within)) (omega (arith, few))
     (λ k less. split.are_spaces k (omega arith) less)
     (λ k less. split.are_digits (split.first + k) (omega arith) (omega (arith, less, split.within)))

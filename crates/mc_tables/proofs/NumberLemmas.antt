@@ -73,7 +73,7 @@ number_of_key-at_place key (k ∷ keys) (zero ∷ ns) (suc i) distinct lt is =
 number_of_key-at_place key (k ∷ keys) (suc n ∷ ns) (suc i) distinct lt is =
     let apart : same_key k (get_or keys i key) ≡ false =
     all-get_or (λ y. same_key k y ≡ false) keys i key (IsDistinct-head same_key k keys distinct)
-        (omega (arith, lt)) in
+    (omega (arith, lt)) in
     let other : same_key key k ≡ false =
     same_key-equivalence.symm key k ∙ subst (λ x. same_key k x ≡ false) is apart in
     rw (other)
@@ -85,7 +85,7 @@ number_of_key-at_place key (k ∷ keys) (suc n ∷ ns) (suc i) distinct lt is =
 number_of_key-set_other : (key q : ℕ × ℕ) (keys : List (ℕ × ℕ)) (ns : List ℕ) (i n : ℕ)
     → i < length keys → get_or keys i key ≡ key → same_key q key ≡ false
     → number_of_key (numbers_at_places keys (slice_set ns i n)) q
-        ≡ number_of_key (numbers_at_places keys ns) q
+    ≡ number_of_key (numbers_at_places keys ns) q
 number_of_key-set_other key q [] ns i n lt is other = absurd (omega (arith, lt))
 number_of_key-set_other key q (k ∷ keys) [] i n lt is other = refl
 number_of_key-set_other key q (k ∷ keys) (zero ∷ ns) zero zero lt is other = refl
@@ -110,10 +110,10 @@ adds_number-set key keys ns i n distinct place within = λ q.
           (number_of_key-at_place key keys (slice_set ns i (suc n)) i distinct place.0 place.1
           ∙ ap decoded_number (get_or-set_same ns i (suc n) 0 within)
           ∙ ap (λ b. cond b (Some n) (number_of_key (numbers_at_places keys ns) key))
-              (sym (same_key-refl key)))
+          (sym (same_key-refl key)))
       | inr other ↦
           number_of_key-set_other key q keys ns i (suc n) place.0 place.1
-              (same_key-equivalence.symm q key ∙ other)
+          (same_key-equivalence.symm q key ∙ other)
           ∙ ap (λ b. cond b (Some n) (number_of_key (numbers_at_places keys ns) q)) (sym other)
     ])
 

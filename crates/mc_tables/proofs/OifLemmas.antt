@@ -202,11 +202,11 @@ insert_oif-put (e ∷ es) vif threshold new =
 oifs_by_vif-push : (denoted : List (ℕ × ℕ)) (oif : ℕ × ℕ)
     → list_any (nat_eq oif.0) (vifs_of_pairs denoted) ≡ false
     → insert_oif (oifs_by_vif (fin.from_entries denoted)) oif
-        ≡ oifs_by_vif (fin.from_entries (denoted ++ oif ∷ []))
+    ≡ oifs_by_vif (fin.from_entries (denoted ++ oif ∷ []))
 oifs_by_vif-push denoted oif new =
     let m = fin.from_entries {R = nat_cmp} denoted in
     let absent : fin.find nat_cmp oif.0 denoted ≡ None =
-        is_some-false_find _ (is_some_find-vifs denoted oif.0 ∙ new) in
+    is_some-false_find _ (is_some_find-vifs denoted oif.0 ∙ new) in
     insert_oif-put (fin.entries m) oif.0 oif.1 (has_vif-oifs_by_vif denoted oif.0 ∙ new)
     ∙ sym (ap (map to_oif) (fin.entries-insert nat_cmp_total m oif.0 oif.1))
     ∙ sym (ap oifs_by_vif (fin.from_entries_push nat_cmp_total fin.nat_cmp-IsAntisymmetric denoted oif.0
@@ -269,7 +269,7 @@ oifs_in-denotes words oifs e =
     let b = bind_ok (rows_after oif_after [] words)
     (λ denoted. Ok (oifs_by_vif (fin.from_entries denoted))) oifs e in
     let t = rows_after-denotes oif_after WordDenotesOif MayFollow AreValid oif_after-reads_rows words [] b.0
-        oifs-valid_none
+    oifs-valid_none
     b.1 in
     record {
       denoted = b.0;
@@ -283,7 +283,7 @@ pub oifs_in-from_denotes : (words : List (List ℕ)) (oifs : List Oif) → Words
     → oifs_in words ≡ Ok oifs
 oifs_in-from_denotes words oifs h =
     rw (rows_after-from_denotes oif_after WordDenotesOif MayFollow AreValid oif_after-reads_rows words []
-        h.denoted h.each
+    h.denoted h.each
     h.vifs_differ) (ap Ok (sym h.ascending))
 
 -- ---- the steps
@@ -307,7 +307,7 @@ oifs_after_words-sorted_more : (denoted : List (ℕ × ℕ)) (words : List (List
     (read : Result (ℕ × ℕ) TableFaultKind)
     → ((more : List (ℕ × ℕ))
     → oifs_after_words (oifs_by_vif (fin.from_entries more)) words
-        ≡ SortedReading (rows_after oif_after more words))
+    ≡ SortedReading (rows_after oif_after more words))
     → ((read >>= λ oif. demand
     (not (has_vif (oifs_by_vif (fin.from_entries denoted)) oif.0)) RepeatedOif >>= λ _. Ok
     (insert_oif (oifs_by_vif (fin.from_entries denoted)) oif)) >>= λ more. oifs_after_words more words)
@@ -319,13 +319,13 @@ oifs_after_words-sorted_more denoted words (Ok oif) later =
       | inl old ↦ rw (has_vif-oifs_by_vif denoted oif.0, old) refl
       | inr new ↦ rw (has_vif-oifs_by_vif denoted oif.0, new)
           (ap (λ oifs. oifs_after_words oifs words) (oifs_by_vif-push denoted oif new)
-              ∙ later (denoted ++ oif ∷ []))
+          ∙ later (denoted ++ oif ∷ []))
     ]
 
 -- the same for all words after the earlier pairs
 oifs_after_words-sorted : (words : List (List ℕ)) (denoted : List (ℕ × ℕ))
     → oifs_after_words (oifs_by_vif (fin.from_entries denoted)) words
-        ≡ SortedReading (rows_after oif_after denoted words)
+    ≡ SortedReading (rows_after oif_after denoted words)
 oifs_after_words-sorted [] denoted = refl
 oifs_after_words-sorted (word ∷ words) denoted =
     oifs_after_words-sorted_more denoted words (oif_in word) (oifs_after_words-sorted words)
@@ -334,4 +334,4 @@ oifs_after_words-sorted (word ∷ words) denoted =
 pub oifs_in_by_steps : (words : List (List ℕ)) → oifs_after_words [] words ≡ oifs_in words
 oifs_in_by_steps words =
     subst (λ oifs. oifs_after_words oifs words ≡ oifs_in words) oifs_by_vif-none
-        (oifs_after_words-sorted words [])
+    (oifs_after_words-sorted words [])

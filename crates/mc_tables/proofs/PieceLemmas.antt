@@ -157,7 +157,7 @@ module _ {S A : Type 0} (first : List ℕ) (read : S → List LineText → Resul
   -- one line after a state, of which the first is the header
   lines_after_header-one_line : (ended : ℕ) (state : S) (line : LineText) (lines : List LineText)
       → cond (eqb ended 0) (lines_after_header first (line ∷ lines) >>= read state)
-          (read state (line ∷ lines))
+      (read state (line ∷ lines))
       ≡ (line_after first (step state) state ended line >>= λ new. read new lines)
   lines_after_header-one_line ended state line lines = elim (cases_Bool (eqb ended 0)) [
     | inl none ↦ rw none (lines_after_header-steps read state lines (header_line first line))
@@ -186,7 +186,7 @@ module _ {S A : Type 0} (first : List ℕ) (read : S → List LineText → Resul
       ap (λ all. cond (eqb lines.ended 0) (lines_after_header first all >>= read state) (read state all))
       (lines_to_come-first lines rest more end without found)
       ∙ lines_after_header-one_line lines.ended state (line_begun begun)
-          (lines_to_come (with_ended begun) later)
+      (lines_to_come (with_ended begun) later)
       ∙ bind-same (line_after first (step state) state lines.ended (line_begun begun))
       (λ new. read new (lines_to_come (with_ended begun) later))
       (λ new. read_after first (read new) (with_ended begun) later)

@@ -168,7 +168,7 @@ no_space-address : (order : Order) (word : List ℕ) (a : ℕ) → address_in or
 no_space-address order word a e =
     let printed = address_in-denotes order word a e in
     let digits = decoded_word_has_eight_digits word (printed_octets order a)
-        (length-printed_octets order a) printed.1 in (
+    (length-printed_octets order a) printed.1 in (
       digits.0,
       no_space-from_test is_hex_digit word refl
           (All-from_get_or (λ c. is_hex_digit c ≡ true) word 0 (λ k within.

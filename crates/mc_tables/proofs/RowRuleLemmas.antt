@@ -46,7 +46,7 @@ insert-keeps_valid_cache entries source group entry apart valid all none = (
       ]),
   λ other. fin.get-insert key_cmp-total entries (source, group) entry (0, other)
       ∙ ap (λ b. cond b (Some entry) (fin.get entries (0, other)))
-          (same_key-zero_source other source group apart)
+      (same_key-zero_source other source group apart)
       ∙ none other,
 )
 
@@ -66,7 +66,7 @@ exact_entry-keeps_valid_cache table source group false None numbered wildcards i
     record { entries = rules.entries; sources = rules.sources }
 exact_entry-keeps_valid_cache table source group false (Some entry) numbered wildcards is valid rules =
     let kept = insert-keeps_valid_cache table.entries source group entry is valid rules.entries rules.sources
-        in
+    in
     record { entries = kept.0; sources = kept.1 }
 
 -- a valid table stays valid when a row is added
@@ -81,7 +81,7 @@ row_added-keeps_valid_cache table new row is valid rules =
     let demanded = demand-bind_ok (not (has_key table.entries (exact_entry row))) RepeatedEntry
     (λ _. Ok grown) new is in
     let keeps : IsValidCache grown =
-        exact_entry-keeps_valid_cache table row.origin row.group (eqb row.origin 0) row.entry
+    exact_entry-keeps_valid_cache table row.origin row.group (eqb row.origin 0) row.entry
     grown.numbered grown.wildcards refl valid rules in
     subst IsValidCache (ok_injective {E = TableFaultKind} grown new demanded.1) keeps
 

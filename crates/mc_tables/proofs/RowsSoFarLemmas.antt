@@ -149,7 +149,7 @@ line_added-grows_unlisted so_far new line added =
             key,
             ap (λ (r : RowsSoFar). r.others)
                 (sym is ∙ sym (ok_injective {E = TableFaultKind}
-                    (unlisted_added rows key line.number) one.0 grown)),
+                (unlisted_added rows key line.number) one.0 grown)),
           )
     ]
 
@@ -228,7 +228,7 @@ module _ (order : Order) (listed : Listed) (lines : List LineText) (n : ℕ) (ro
       (Ok (unlisted_added so_far.rows (row.origin, row.group) n)) >>= λ r. Ok (make r))
       (is_kept_by_set-listed_set listed row ∙ kept)
       ∙ ap (λ r. (r >>= λ t. Ok (with t)) >>= λ r. Ok (make r))
-          (row_added-table_of (kept_rows listed rows) row)
+      (row_added-table_of (kept_rows listed rows) row)
       ∙ ap (λ b. ((demand (not b) RepeatedEntry
       >>= λ _. Ok (table_of (kept_rows listed rows ++ row ∷ []))) >>= λ t. Ok (with t))
       >>= λ r. Ok (make r)) repeats
@@ -380,7 +380,7 @@ pub cache_if-start : (order : Order) (listed : Listed) (text : List ℕ) → len
 cache_if-start order listed text within =
     let fits : nat_lt 16777216 (length text) ≡ false = le-ltb 16777216 (length text) within in
     lines_after_header-table_from order listed (lines_of text)
-        (numbered-from 1 (slice_split (λ b. eqb b 10) text))
+    (numbered-from 1 (slice_split (λ b. eqb b 10) text))
     ∙ ap (λ b. (cond b (Err (record { line = 0; kind = TooLarge }))
     (lines_after_header (codes "Group") (lines_of text)) >>= rows_after (row_at_line order) [])
     >>= λ all. Ok (table_of (kept_rows listed all))) (sym fits)
@@ -410,7 +410,7 @@ cache_after-end lines so_far without =
         | inr begun ↦ read_after-end_in_line (codes "Group") read lines without later begun
             ∙ rw (later, begun) (elim (first_repeat so_far.rows.others) as (λ o.
             ((repeat_fault o >>= λ _. unended_fault {A = ListedRowsSoFar} lines) >>= λ more. table_from more
-                [])
+            [])
             ≡ ((repeat_fault o >>= λ _. unended_fault {A = Unit {0}} lines)
             >>= λ _. Ok so_far.rows.table)) [
               | None ↦ refl

@@ -269,7 +269,7 @@ module _ (all : Bool) (listed unresolved : List (ℕ × ℕ)) (exacts : List ((�
   -- one more row that may be unresolved
   is_summary-unresolved_more : (own : Option (ℕ × ℕ))
       → IsSummaryOfKeys all listed (unresolved ++ cons_option own []) exacts keys
-          (summary_with_unresolved summary own)
+      (summary_with_unresolved summary own)
   is_summary-unresolved_more None = rw append-nil before
   is_summary-unresolved_more (Some key) = record {
     listed_is = before.listed_is;
@@ -277,13 +277,13 @@ module _ (all : Bool) (listed unresolved : List (ℕ × ℕ)) (exacts : List ((�
     unresolved_is = elim (cases_Bool (is_listed (Some listed) key)) [
       | inl is ↦
           ap (λ b. cond b (set.insert summary.unresolved key) summary.unresolved)
-              (set_has_key-listed key ∙ is)
+          (set_has_key-listed key ∙ is)
           ∙ ap (λ s. set.insert s key) before.unresolved_is
           ∙ sym (set.from_list_push key_cmp-total key_cmp-antisymmetric (ListedOf listed unresolved) key)
           ∙ ap (λ l. set.from_list l) (sym (filter-push_passing (is_listed (Some listed)) unresolved key is))
       | inr other ↦
           ap (λ b. cond b (set.insert summary.unresolved key) summary.unresolved)
-              (set_has_key-listed key ∙ other)
+          (set_has_key-listed key ∙ other)
           ∙ before.unresolved_is
           ∙ ap (λ l. set.from_list l)
           (sym (filter-push_failing (is_listed (Some listed)) unresolved key other))
@@ -296,7 +296,7 @@ module _ (all : Bool) (listed unresolved : List (ℕ × ℕ)) (exacts : List ((�
   -- one more row that may be for every source
   is_summary-every_source_more : (own : Option ((ℕ × ℕ) × EntryValue))
       → IsSummaryOfKeys all listed unresolved (exacts ++ cons_option own []) keys
-          (summary_with_every_source summary own)
+      (summary_with_every_source summary own)
   is_summary-every_source_more None = rw append-nil before
   is_summary-every_source_more (Some exact) =
       let groups = keys_for_every_source listed in
@@ -353,7 +353,7 @@ module _ (all : Bool) (listed unresolved : List (ℕ × ℕ)) (exacts : List ((�
   -- one more row that may be for one source
   is_summary-key_more : (own : Option (ℕ × ℕ))
       → IsSummaryOfKeys all listed unresolved exacts (keys ++ cons_option own [])
-          (summary_with_exact summary own)
+      (summary_with_exact summary own)
   is_summary-key_more None = rw append-nil before
   is_summary-key_more (Some key) =
       let passes : ℕ × ℕ → Bool = λ k. not (is_listed (Some listed) k) in
@@ -382,7 +382,7 @@ module _ (all : Bool) (listed unresolved : List (ℕ × ℕ)) (exacts : List ((�
               lowest_is = ap (with_pair (group_first key)) before.lowest_is
                   ∙ ap (kept_pairs_of all)
                   (sym (shown_pairs-push all (map_list group_first (UnlistedOf listed keys))
-                      (group_first key)))
+                  (group_first key)))
                   ∙ ap (λ l. kept_pairs_of all (shown_pairs all (in_order l)))
                   (sym (map-append group_first (UnlistedOf listed keys) (key ∷ [])))
                   ∙ ap (λ l. kept_pairs_of all (shown_pairs all (in_order (map_list group_first l))))
@@ -400,7 +400,7 @@ IsSummaryOfRows all listed rows summary =
 is_summary-row_more : (all : Bool) (listed : List (ℕ × ℕ)) (rows : List RowValue) (row : RowValue)
     (summary : SummarySoFar)
     → IsSummaryOfRows all listed rows summary
-        → IsSummaryOfRows all listed (rows ++ row ∷ []) (summary_with_row summary row)
+    → IsSummaryOfRows all listed (rows ++ row ∷ []) (summary_with_row summary row)
 is_summary-row_more all listed rows row summary before =
     let us = filter_map unresolved_key rows in
     let es = filter_map every_source_entry rows in
@@ -409,7 +409,7 @@ is_summary-row_more all listed rows row summary before =
     let e = every_source_entry row in
     let first = is_summary-unresolved_more all listed us es ks summary before u in
     let second = is_summary-every_source_more all listed (us ++ cons_option u []) es ks
-        (summary_with_unresolved summary u) first e in
+    (summary_with_unresolved summary u) first e in
     let third = is_summary-key_more all listed (us ++ cons_option u []) (es ++ cons_option e []) ks
     (summary_with_every_source (summary_with_unresolved summary u) e) second (key_of row) in
     rw (
@@ -471,7 +471,7 @@ is_summary-lines all order listed (line ∷ lines) earlier rows summary summariz
     let row = read.0 in
     let words : row_in_words order (words_of line.bytes) ≡ Ok row =
     row_in_line-words order earlier line row
-        (at_line-ok line.number (row_in_line order earlier line) row read.1) in
+    (at_line-ok line.number (row_in_line order earlier line) row read.1) in
     let summarized : summary_with_line order summary line ≡ summary_with_row summary row =
     ap (summary_with_read summary) words in
     is_summary-lines all order listed lines (earlier ++ row ∷ []) rows (summary_with_line order summary line)
@@ -496,7 +496,7 @@ summary_if-start all order listed text within =
     let left = drop 1 (lines_of text) in
     summary_after-cache_after lines_start start text
     ∙ ap (λ r. r >>= with_summary order (empty_summary all listed) left)
-        (cache_if-start order (Some listed) text within)
+    (cache_if-start order (Some listed) text within)
     ∙ elim (cache_rows_in order text) as (λ r. cache_rows_in order text ≡ r
     → ((r >>= λ rows. Ok (table_of (kept_rows (Some listed) rows)))
     >>= with_summary order (empty_summary all listed) left)
@@ -507,15 +507,15 @@ summary_if-start all order listed text within =
       | Err fault ↦ λ is. refl
       | Ok rows ↦ λ is.
           let read = bind_ok (lines_after_header (codes "Group") (lines_of text))
-              (rows_after (row_at_line order) [])
+          (rows_after (row_at_line order) [])
           rows (rw fits at is) in
           let summarizes = is_summary-lines all order listed left [] rows (empty_summary all listed)
-              (is_summary-none all listed)
+          (is_summary-none all listed)
           (ap (rows_after (row_at_line order) []) (lines_after_header-drop (lines_of text) read.0 read.1)
-              ∙ read.2) in
+          ∙ read.2) in
           ap (λ n. Ok (record { table = table_of (kept_rows (Some listed) rows); summary = n }))
           (finished_summary-of_rows all listed rows
-              (summary_of_lines order (empty_summary all listed) left) summarizes)
+          (summary_of_lines order (empty_summary all listed) left) summarizes)
     ] refl
 
 -- ---- what a summary says of the rows

@@ -76,8 +76,8 @@ summary_with_row-keeps_valid : (summary : SummarySoFar) (row : RowValue) → IfS
 summary_with_row-keeps_valid summary row valid all =
     let seen = summary_with_unresolved summary (unresolved_key row) in
     subst HasValidFirstEntries
-        (sym (summary_with_exact-first (summary_with_every_source seen (every_source_entry row))
-        (key_of row)))
+    (sym (summary_with_exact-first (summary_with_every_source seen (every_source_entry row))
+    (key_of row)))
     (first_entries-every_source seen row (eqb row.origin 0) row.entry valid
     (subst HasValidFirstEntries (sym (summary_with_unresolved-first summary (unresolved_key row))) all))
 
@@ -88,7 +88,7 @@ summary_with_read-keeps_valid : (order : Order) (words : List (List ℕ)) (summa
 summary_with_read-keeps_valid order words summary (Err kind) is all = all
 summary_with_read-keeps_valid order words summary (Ok row) is all =
     summary_with_row-keeps_valid summary row
-        (row_entry-is_valid order words row (row_in_words-denotes order words row is)) all
+    (row_entry-is_valid order words row (row_in_words-denotes order words row is)) all
 
 -- the table and the summary stay valid when the row of a line is added
 pub summary_with_line-keeps_valid : (so_far new : ListedRowsSoFar) (summary more : SummarySoFar)

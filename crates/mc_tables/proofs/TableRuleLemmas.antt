@@ -60,4 +60,4 @@ pub cache-is_valid : (order : Order) (text : List ℕ) (table : CacheValue) → 
 cache-is_valid order text table denotes =
     subst IsValidCache (sym denotes.as_table)
     (cache_rows-valid_table denotes.rows
-        (rows-have_valid_entries order denotes.lines.lines denotes.rows denotes.lines.denoted))
+    (rows-have_valid_entries order denotes.lines.lines denotes.rows denotes.lines.denoted))

@@ -123,7 +123,7 @@ first_repeat-permuted rows sorted moved =
     least-unique (first_repeat sorted) (first_repeat rows) (λ most.
     is_at_most-first_repeat sorted most
     ∙ list_any-same_tests (λ r. is_repeat sorted r && nat_le r.1 most)
-        (λ r. is_repeat rows r && nat_le r.1 most)
+    (λ r. is_repeat rows r && nat_le r.1 most)
     sorted (λ r. ap (λ b. b && nat_le r.1 most)
     (sym (list_any-IsPermutation (repeats r) rows sorted moved)))
     ∙ sym (list_any-IsPermutation (λ r. is_repeat rows r && nat_le r.1 most) rows sorted moved)

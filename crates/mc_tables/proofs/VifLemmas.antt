@@ -177,8 +177,13 @@ rows-valid_none = (tt, tt)
 -- so lines are read as the vifs that they denote
 pub vif_at_line-reads_rows : ReadsRows vif_at_line LineDenotesVif MayFollow AreValid
 vif_at_line-reads_rows =
-    record { found = vif_at_line-denotes; only = vif_at_line-from_denotes; grows = rows-valid_push; follows =
-    rows-may_follow }
+    record {
+      found = vif_at_line-denotes;
+      only = vif_at_line-from_denotes;
+      grows = rows-valid_push;
+      follows =
+          rows-may_follow;
+    }
 
 -- the vifs that are read are those that the text denotes
 vif_rows_in-denotes : (text : List ℕ) (rows : List (ℕ × VifValue)) → vif_rows_in text ≡ Ok rows
@@ -186,7 +191,7 @@ vif_rows_in-denotes : (text : List ℕ) (rows : List (ℕ × VifValue)) → vif_
 vif_rows_in-denotes text rows e =
     let b = bind_ok (lines_in (codes "Interface") text) (rows_after vif_at_line []) rows e in
     let t = rows_after-denotes vif_at_line LineDenotesVif MayFollow AreValid vif_at_line-reads_rows b.0 []
-        rows rows-valid_none
+    rows rows-valid_none
     b.2 in
     record {
       lines = b.0;
@@ -202,7 +207,7 @@ vif_rows_in-from_denotes : (text : List ℕ) (rows : List (ℕ × VifValue)) →
 vif_rows_in-from_denotes text rows h =
     let e = lines_in-from_header (codes "Interface") text h.lines h.header in
     rw e (rows_after-from_denotes vif_at_line LineDenotesVif MayFollow AreValid vif_at_line-reads_rows h.lines
-        [] rows h.denoted
+    [] rows h.denoted
     (h.indexes_differ, h.devices_differ))
 
 -- the table that is read is the one that the text denotes
@@ -246,9 +251,11 @@ pub denoted_vifs-at_most_31 : (lines : List LineText) (rows : List (ℕ × VifVa
 denoted_vifs-at_most_31 [] [] denoted = tt
 denoted_vifs-at_most_31 [] (row ∷ rows) denoted = absurd denoted
 denoted_vifs-at_most_31 (line ∷ lines) [] denoted = absurd denoted
-denoted_vifs-at_most_31 (line ∷ lines) (row ∷ rows) denoted =
-    (denoted_vif-at_most_31
-        (words_of line.bytes) row denoted.0.words, denoted_vifs-at_most_31 lines rows denoted.1)
+denoted_vifs-at_most_31 (line ∷ lines) (row ∷ rows) denoted = (
+  denoted_vif-at_most_31
+      (words_of line.bytes) row denoted.0.words,
+  denoted_vifs-at_most_31 lines rows denoted.1,
+)
 
 -- unless memory runs out, the table that is read is the one that the text denotes
 pub vifs_result-denotes : (text : List ℕ) (read : Result (FinMap nat_cmp VifValue) TableFault)

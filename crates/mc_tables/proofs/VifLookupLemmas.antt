@@ -187,7 +187,7 @@ list_any-found_device device (row ∷ rows) index h =
           (subst (HasThisDevice device) (find-first_index index row rows same) h))
       | inr apart ↦ or_right (bytes_eq row.1.device device) _
           (list_any-found_device device rows index
-              (subst (HasThisDevice device) (find-other_index index row rows apart) h))
+          (subst (HasThisDevice device) (find-other_index index row rows apart) h))
     ]
 
 -- the index that has the device is found
@@ -326,7 +326,7 @@ first_index_with-entries : (vifs : FinMap nat_cmp VifValue) (device : List ℕ) 
 first_index_with-entries vifs device index e =
     subst (HasThisDevice device) (sym (get-entries vifs index))
     (find-first_index_with device (entries vifs) index
-        (is_sorted-distinct (entries vifs) (entries_sorted vifs)) e)
+    (is_sorted-distinct (entries vifs) (entries_sorted vifs)) e)
 
 -- an index is found for a device exactly if its vif has the device, and it isn't `none`
 pub index_of-exact : (vifs : FinMap nat_cmp VifValue) (device : List ℕ) (index : ℕ)
@@ -348,7 +348,7 @@ index_of-exact vifs device index rules = (
       let some = false_from_ne_true (bytes_eq device no_device) (λ e. both.0 (bytes_eq-no_device device e)) in
       let first = first_index_with-exists device (entries vifs)
       (list_any-found_device device (entries vifs) index
-          (subst (HasThisDevice device) (get-entries vifs index) both.1)) in
+      (subst (HasThisDevice device) (get-entries vifs index) both.1)) in
       let same = rules.devices_differ device first.0 index both.0
       (first_index_with-entries vifs device first.0 first.1) both.1 in
       ap (λ b. cond b None (first_index_with device (entries vifs))) some ∙ first.1 ∙ ap Some same,

@@ -86,4 +86,4 @@ pub number_in-none : (least most : ℕ) (word : List ℕ) (decimal : Option ℕ)
 number_in-none least most word decimal none only =
     option_from_clauses (WordDenotesNumber least most word) None (number_in least most word) tt
     (λ n h. sym none ∙ only n h.0 h.2) (number_in-denotes least most word)
-        (number_in-from_denotes least most word)
+    (number_in-from_denotes least most word)

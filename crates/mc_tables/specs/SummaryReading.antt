@@ -45,8 +45,11 @@ summary_step so_far line =
 abbrev pub summary_from : SummarizedRowsSoFar → List LineText → Result SummarizedCache TableFault
 summary_from so_far lines =
     table_from so_far.rows lines >>= λ table.
-    Ok (record { table = table; summary =
-        finished_summary (summary_of_lines so_far.rows.order so_far.summary lines) })
+    Ok (record {
+      table = table;
+      summary =
+          finished_summary (summary_of_lines so_far.rows.order so_far.summary lines);
+    })
 
 -- ---- how far reading has come
 

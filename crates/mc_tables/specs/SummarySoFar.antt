@@ -141,7 +141,7 @@ abbrev pub summary_with_row : SummarySoFar → RowValue → SummarySoFar
 summary_with_row summary row =
     summary_with_exact
     (summary_with_every_source (summary_with_unresolved summary (unresolved_key row))
-        (every_source_entry row))
+    (every_source_entry row))
     (key_of row)
 
 -- the summary when all rows have been read

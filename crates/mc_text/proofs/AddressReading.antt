@@ -76,8 +76,15 @@ unfolding address_of_text
 address_of_text-sound text a e =
     let octets = numbers_between_dots text in
     let same = (bytes_eq-Decides (ipv4_text octets) text).0 in
-    grind (arith, nat_tests, list_all-below_256 octets, from_be_bytes-below_2_32
-        octets, octets_of-from_be_bytes octets, same)
+    grind (
+      arith,
+      nat_tests,
+      list_all-below_256 octets,
+      from_be_bytes-below_2_32
+          octets,
+      octets_of-from_be_bytes octets,
+      same,
+    )
 
 -- the dotted text of an address is read as that address
 pub address_of_text-complete : (text : List ℕ) (a : ℕ) → IsAddr a → text ≡ dotted a
@@ -86,7 +93,7 @@ unfolding address_of_text
 address_of_text-complete text a fits e =
     let numbers : numbers_between_dots (dotted a) ≡ octets_of a =
     numbers_between_dots-dotted_text _ _ _ _ (octets_of-below_256 a 0) (octets_of-below_256 a 1)
-        (octets_of-below_256 a 2) (octets_of-below_256 a 3) in
+    (octets_of-below_256 a 2) (octets_of-below_256 a 3) in
     let all : list_all (λ n. ltb n 256) (octets_of a) ≡ true = grind (arith, nat_tests) in
     let same = (bytes_eq-Decides (dotted a) (dotted a)).1 refl in
     rw (e, numbers, all, same) (ap Some (from_be_bytes-to_be_bytes_4 a fits))

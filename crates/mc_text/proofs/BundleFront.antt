@@ -216,7 +216,7 @@ part_or_end_after-truncated : (p : BundlePlace) (at : Option ℕ)
     ≡ truncated_result (part_or_end_after p (cut_line p.rest at))
 part_or_end_after-truncated p None is =
     rw (is_short-take (readable_bytes p.room) p.rest (omega arith))
-        (part_or_end_after-no_line p (nat_lt (length p.rest) 96))
+    (part_or_end_after-no_line p (nat_lt (length p.rest) 96))
 part_or_end_after-truncated p (Some n) is =
     let found = (position-Some (λ b. b == 10) (take 96 p.rest) n 0 is).0 in
     let short : n < 96 = omega (arith, found, length-take 96 p.rest) in

@@ -94,8 +94,14 @@ part_for_line-sound : (place : BundlePlace) (line after : List ℕ) (header : Li
     → part_for_line place line after (Some header) ≡ Ok found → IsPartOrEnd place found
 part_for_line-sound place line after header found header-is cut e =
     let bytes = part_bytes_at-sound header.1 after in
-    grind (arith, nat_tests, bytes, parse_part_line-sound line header header-is, part_for_line-has_part place
-        line header.0)
+    grind (
+      arith,
+      nat_tests,
+      bytes,
+      parse_part_line-sound line header header-is,
+      part_for_line-has_part place
+          line header.0,
+    )
 
 -- the end that is read for a line is at the place
 end_for_line-sound : (place : BundlePlace) (after : List ℕ) (found : Option (PartText × BundlePlace))

@@ -27,8 +27,12 @@ digit_or_error-Ok c i None h = absurd (omega arith)
 pub pair_value-Ok : (a b i byte : ℕ) → hex_value_or_16 a < 16 → hex_value_or_16 b < 16
     → byte ≡ hex_value_or_16 a * 16 + hex_value_or_16 b → pair_value a b i ≡ Ok byte
 pair_value-Ok a b i byte high low is =
-    rw (digit_or_error-Ok a i (hex_digit_value a) high, digit_or_error-Ok b (i + 1)
-        (hex_digit_value b) low, is)
+    rw (
+      digit_or_error-Ok a i (hex_digit_value a) high,
+      digit_or_error-Ok b (i + 1)
+          (hex_digit_value b) low,
+      is,
+    )
     refl
 
 -- a byte with the value 16 is no digit

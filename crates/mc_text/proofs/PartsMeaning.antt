@@ -91,9 +91,9 @@ end_or_part-opened_by_line : (parts room : ℕ) (text : List ℕ) (cut : List �
     >>= P) ≡ (opened_by_line parts room cut >>= parts_after_line)
 end_or_part-opened_by_line parts room text cut P ends same =
     elim (cases_Bool (bytes_eq cut.0 (codes "end"))) [
-  | inl is ↦ rw is (end_for_line-opened_end (nat_lt room 4) (eqb (length cut.1) 0) cut.1 P ends)
-  | inr other ↦ rw other same
-]
+      | inl is ↦ rw is (end_for_line-opened_end (nat_lt room 4) (eqb (length cut.1) 0) cut.1 P ends)
+      | inr other ↦ rw other same
+    ]
 
 -- the same for the result of cutting a line
 line_at-opened_by_line : (parts room : ℕ) (text : List ℕ) (cut : Result (List ℕ × List ℕ) BundleFault)
@@ -177,7 +177,7 @@ rest_of_part-opened_at name done left parts room text (Ok f) is =
     ∙ prepend_parts-one part (opened_at parts room f.1)
     ∙ ap (λ bytes. let p : PartText = record { name = name; bytes = done ++ bytes } in
     opened_at parts room f.1 >>= λ o. prepend_parts (p ∷ []) (parts_after_line o))
-        (part_bytes_at-take left text f is)
+    (part_bytes_at-take left text f is)
 
 part_and_rest-opened_next : (name done : List ℕ) (left parts room : ℕ) (text : List ℕ)
     → part_and_rest name done left parts room text

@@ -69,7 +69,7 @@ pub rest_of_bundle-opened : (s : PartsState) (done text : List ℕ) (r : Result 
     → parts_from_current s done text ≡ prepend_parts (current_part s done text) r → rest_of_bundle s text ≡ r
 rest_of_bundle-opened s done text r e =
     prepend_parts-injective (current_part s done text) (rest_of_bundle s text) r
-        (sym (parts_from_current-prepend s done text) ∙ e)
+    (sym (parts_from_current-prepend s done text) ∙ e)
 
 -- at the end no parts come after the current one
 pub rest_of_bundle-ended : (s : PartsState) (done text : List ℕ)

@@ -103,7 +103,7 @@ hop_fields-from_sent_on : (n : Net) (b c : Copy) (h : Hop) → IsNet n → IsHop
     (s : IsSentOn n b c (h.router, h.vif)) → (h.from ≡ b.lan) × (h.threshold ≡ s.threshold)
 hop_fields-from_sent_on n b c h net hop s =
     let same = row_equal-from_exact (n.row h.router) hop.incoming s.incoming hop.pairs s.pairs
-        hop.row s.row in
+    hop.row s.row in
     let takes = ap (n.placed h.router) (sym same.0) ∙ hop.takes in
     let pair = subst (λ ps. In (h.vif, h.threshold) ps) same.1 hop.pair in
     let one = equal-from_same_image (λ (p : ℕ × ℕ). p.0) (h.vif, h.threshold) (h.vif, s.threshold) s.pairs
@@ -163,7 +163,7 @@ pub is_path-from_travel : (n : Net) (count t : ℕ) (numbers : List ℕ) (last :
 is_path-from_travel n count t numbers last is x c hs net travel c_in by =
     is_path-from_came_by_hops n t (run n (handles is) (start n t)).carried hs c net
     (is_rooted-from_travel n count t numbers last is x travel)
-        (starts_with_source_copy-run n t (handles is)) c_in by
+    (starts_with_source_copy-run n t (handles is)) c_in by
 
 -- ---- first copies, and the first double one
 

@@ -43,7 +43,7 @@ need_of_copy-sent_on n all done b c i net apart apart' b_in b_done low s =
     (entry_of_copy n all b) =
     ap (λ (x : Row). entry_at (map (entry_of_copy n all) done) (taken_from n i.0 x)) s.row ∙
     (ap (entry_at (map (entry_of_copy n all) done)) s.from ∙
-        entry_at-upstream_copy n all done b apart' b_done)
+    entry_at-upstream_copy n all done b apart' b_done)
     in
     let threshold : threshold_of i.1 (row_pairs (n.row i.0)) ≡ s.threshold =
     ap (λ (x : Row). threshold_of i.1 (row_pairs x)) s.row ∙
@@ -116,7 +116,7 @@ is_tree-from_clean_run n ps net range whole done clean =
     let f = run n ps (start n 255) in
     let r = run_invariant-run n 255 [] ps (start n 255) net range (run_invariant-start n 255 net) clean in
     let inv : RunInvariant n 255 [] f =
-        subst (λ (x : List Interface). RunInvariant n 255 x f) (r.2 whole) r.1 in
+    subst (λ (x : List Interface). RunInvariant n 255 x f) (r.2 whole) r.1 in
     let same = entries_after-ranked_entries n f.carried [] f.carried refl net inv.clean.once inv.low
     (is_in_order-of_run n ps (start n 255) (all_heard-start n 255) (in_sending_order-start n 255)) in
     subst (IsTree n) (sym same) (is_tree-ranked_entries n f net inv done)

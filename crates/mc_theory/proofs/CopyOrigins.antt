@@ -131,7 +131,7 @@ StepGrows n f g = ((b : Copy) × In b f.carried × GrowsByCopiesSentOn n b f.car
 
 grows-handle : (n : Net) (i : ℕ) (o : Option Waiting) (f : Flight) → slice_get f.waiting i ≡ o →
     AllHeard n f → StepGrows n f (handle n o (without_waiting i f)) ×
-        AllHeard n (handle n o (without_waiting i f))
+    AllHeard n (handle n o (without_waiting i f))
 grows-handle n i None f e heard = (inr refl, λ w h. heard w (in-remove w f.waiting i h))
 grows-handle n i (Some w) f e heard =
     let b = heard w (slice_get-in f.waiting i w e) in
@@ -177,7 +177,7 @@ pub in_sending_order-grows : (n : Net) (f g : Flight) → StepGrows n f g → Ar
 in_sending_order-grows n f g (inr e) h = subst (AreInSendingOrder n []) (sym e) h
 in_sending_order-grows n f g (inl s) h = subst (AreInSendingOrder n []) (sym s.2.1)
     (in_sending_order-append n [] f.carried s.2.0
-        h (λ c k. sent_on_from_some-new_copy n f.carried s.0 c s.1 (s.2.2 c k)))
+    h (λ c k. sent_on_from_some-new_copy n f.carried s.0 c s.1 (s.2.2 c k)))
 
 -- of every run, with losses or without
 pub is_in_order-of_run : (n : Net) (ps : List Pick) (f : Flight) → AllHeard n f →

@@ -22,7 +22,7 @@ count_with_image-none f (x ∷ xs) l apart = count_none_step f x xs l (f x == l)
 
 count_at_most_one_step : {A : Type 0} (f : A → ℕ) (x : A) (xs : List A) (l : ℕ) (b : Bool) → (f x == l) ≡ b →
     Distinct (map f (x ∷ xs)) → count_with_image f xs l ≤ 1 →
-        cond b (suc (count_with_image f xs l)) (count_with_image f xs l)
+    cond b (suc (count_with_image f xs l)) (count_with_image f xs l)
     ≤ 1
 count_at_most_one_step f x xs l true e apart h =
     let none = count_with_image-none f xs l (λ k. apart.0 (subst (λ y. In y (map f xs))

@@ -70,7 +70,7 @@ wait_or_forwarded-put n w c f net all d r v d_in on other = elim (in-push_cases 
 
 wait_or_forwarded-leave : (n : Net) (w : Waiting) (t : ℕ) (i : Interface) (o : Option ℕ) (f : Flight) →
     IsNet n → HearersWaitOrForwarded n (IsWaitingOr w) f →
-        HearersWaitOrForwarded n (IsWaitingOr w) (leave n t i o f)
+    HearersWaitOrForwarded n (IsWaitingOr w) (leave n t i o f)
 wait_or_forwarded-leave n w t i None f net all = all
 wait_or_forwarded-leave n w t i (Some l) f net all = wait_or_forwarded-put n w
     (record { lan = l; ttl = t; sender = Some i }) f net all
@@ -139,7 +139,7 @@ wait_or_forwarded-after_handling n w f all done c r v c_in on other = elim (all 
 wait_or_forwarded-exact_row : (n : Net) (w : Waiting) (incoming : ℕ) (all : List (ℕ × ℕ)) (test : Bool)
     (f : Flight) → (incoming == w.vif) ≡ test → IsNet n → n.row w.router ≡ Exact incoming all →
     HearersWaitOrForwarded n (IsWaitingOr w) f →
-        HearersWaitOrForwarded n IsWaiting (cond test (sends n w.router w.ttl all f) f)
+    HearersWaitOrForwarded n IsWaiting (cond test (sends n w.router w.ttl all f) f)
 wait_or_forwarded-exact_row n w incoming all true f q net row a = wait_or_forwarded-after_handling n w
     (sends n w.router w.ttl all f) (wait_or_forwarded-sends n w w.router w.ttl all f net a)
     (λ pairs k h l row' pair lt on. (let same = row_equal-from_exact (n.row w.router) w.vif incoming pairs all
@@ -169,7 +169,7 @@ wait_or_forwarded-without n f i w e all c r v c_in on other = elim (all c r v c_
 
 wait_or_forwarded-handle : (n : Net) (f : Flight) (i : ℕ) (o : Option Waiting) → slice_get f.waiting i ≡ o →
     i < length f.waiting → IsNet n → HearersWaitOrForwarded n IsWaiting f →
-        HearersWaitOrForwarded n IsWaiting (handle n o (without_waiting i f))
+    HearersWaitOrForwarded n IsWaiting (handle n o (without_waiting i f))
 wait_or_forwarded-handle n f i None e lt net all = absurd (slice_get-none f.waiting i lt e)
 wait_or_forwarded-handle n f i (Some w) e lt net all =
     wait_or_forwarded-row n w (n.row w.router) (without_waiting i f) refl

@@ -17,7 +17,7 @@ placed_by_table_step : (k : ℕ) (p : Placement) (ps : List Placement) (r v l : 
     ((p.0 == r) && (p.1 == v)) ≡ b → are_placements_bounded k (p ∷ ps) ≡ true →
     cond b (Some p.2) (placed_by_table ps r v) ≡ Some l →
     (are_placements_bounded k ps ≡ true → placed_by_table ps r v ≡ Some l → (r < k) × (v < 32)) →
-        (r < k) × (v < 32)
+    (r < k) × (v < 32)
 placed_by_table_step k p ps r v l true e low h ih =
     let at = and_parts (p.0 == r) (p.1 == v) e in
     let both = and_parts (nat_lt p.0 k) (nat_lt p.1 32 && are_placements_bounded k ps) low in

@@ -125,8 +125,8 @@ hearers-without_excluded excluded n m c leaves =
     let A : Interface → Bool = λ i. is_lan (n.placed i.0 i.1) c.lan in
     let B : Interface → Bool = λ i. is_lan (m.placed i.0 i.1) c.lan in
     filter_filter-merge K S A B
-        (router_vif_pairs 32 n.routers) (λ i. is_lan-without_excluded excluded n m i c.lan
-        (excluded i.0) leaves
+    (router_vif_pairs 32 n.routers) (λ i. is_lan-without_excluded excluded n m i c.lan
+    (excluded i.0) leaves
     refl) ∙ ap (λ k. filter K (filter S (filter B (router_vif_pairs 32 k)))) leaves.routers
 
 put-correspond : (excluded : ℕ → Bool) (n m : Net) (c : Copy) (f g : Flight) →
@@ -225,7 +225,7 @@ step-correspond excluded n m f g i (Some w) leaves lt v s e =
     (not-true (excluded w.router) kept.1) (without-correspond excluded f g i v s) in
     subst (λ o. Correspond excluded (handle n o (without_waiting i f)) (handle m (slice_get g.waiting s.place)
     (without_waiting s.place g))) (sym e)
-        (subst (λ o. Correspond excluded (handle n (Some w) (without_waiting i f))
+    (subst (λ o. Correspond excluded (handle n (Some w) (without_waiting i f))
     (handle m o (without_waiting s.place g))) (sym (s.found ∙ there)) h)
 
 -- the whole's picks that correspond to the part's
@@ -251,7 +251,7 @@ run-correspond excluded n m [] f g leaves range v = record {
 }
 run-correspond excluded n m (Handles i ∷ ps) f g leaves range v =
     let s = index_in_whole-exists (is_at_included_router excluded) g.waiting i
-        (in_range-of_included excluded f g i v range.0) in
+    (in_range-of_included excluded f g i v range.0) in
     let a = step-correspond excluded n m f g i (slice_get f.waiting i) leaves range.0 v s refl in
     let r = run-correspond excluded n m ps (step n i f) (step m s.place g) leaves range.1 a in
     record {
@@ -262,10 +262,10 @@ run-correspond excluded n m (Handles i ∷ ps) f g leaves range v =
     }
 run-correspond excluded n m (Loses i ∷ ps) f g leaves range v =
     let s = index_in_whole-exists (is_at_included_router excluded) g.waiting i
-        (in_range-of_included excluded f g i v range.0) in
+    (in_range-of_included excluded f g i v range.0) in
     let a = without-correspond excluded f g i v s in
     let r = run-correspond excluded n m ps (without_waiting i f) (without_waiting s.place g) leaves
-        range.1 a in
+    range.1 a in
     record {
       picks = Loses s.place ∷ r.picks;
       in_range = (s.in_range, r.in_range);
@@ -330,5 +330,5 @@ not_right-from_unclean_travel excluded part whole count t numbers last is x leav
     not_right-from_unclean_run excluded part whole t (handles is) leaves low high
     (in_range-travel part count numbers last is (start part t) x travel)
     (λ clean. end_finding-not_unclean part count f.carried f.waiting x
-        (sym (finding-of_clean_flight part count f clean) ∙
+    (sym (finding-of_clean_flight part count f clean) ∙
     finding-at_travel_end part count numbers last is (start part t) x travel) unclean) right

@@ -111,7 +111,7 @@ first_double-some_step earlier d cs c true q once h ih =
     )
 first_double-some_step earlier d cs c false q once h ih =
     let none : In d.lan (lans earlier) → ⊥ =
-        λ k. (let y = first_copy_on-from_in_lans earlier d.lan k in absurd cc) in
+    λ k. (let y = first_copy_on-from_in_lans earlier d.lan k in absurd cc) in
     let r = ih (distinct_lans-push earlier d once none) h in (
       d ∷ r.0,
       r.1,
@@ -203,5 +203,5 @@ pub shows-travel_finding : (n : Net) (count t : ℕ) (numbers : List ℕ) (last 
 shows-travel_finding n count t numbers last is x small travel =
     let f = run n (handles is) (start n t) in
     shows-by_first_double n count f x (first_double [] f.carried) small
-        (walk_ends-travel n count t numbers last is x travel) refl
+    (walk_ends-travel n count t numbers last is x travel) refl
     (finding-at_travel_end n count numbers last is (start n t) x travel)

@@ -186,7 +186,7 @@ source_entry-from_test n es (Some d) q e =
     let a = and_parts (d.rank == 0) ((d.need == 1) && not (is_some d.forwarder)) e in
     let b = and_parts (d.need == 1) (not (is_some d.forwarder)) a.1 in
     subst (λ (x : Entry). In x es)
-        (entry_equal-from_fields d n.source 0 1 None found.1 (eqb-true d.rank 0 a.0)
+    (entry_equal-from_fields d n.source 0 1 None found.1 (eqb-true d.rank 0 a.0)
     (eqb-true d.need 1 b.0) (none-from_not_is_some d.forwarder b.1)) found.0
 
 others_fed-from_test : (n : Net) (e : Entry) → ((e.lan == n.source) || is_some e.forwarder) ≡ true →
@@ -478,7 +478,7 @@ first_reason-from_accepted n count es acc =
     then first_unfed_reason n es then first_of (lan_reason n es) (below count))
     (twice-from_distinct [] es t.one_entry (λ d e k z. absurd k))
     (then-from_none (unless (has_source n es) BadSource)
-        (first_router_reason n es then first_unfed_reason n es
+    (first_router_reason n es then first_unfed_reason n es
     then first_of (lan_reason n es) (below count))
     (unless-from_true (has_source n es) BadSource (and_from (is_source_entry (entry_on es n.source))
     (list_all (λ (e : Entry). (e.lan == n.source) || is_some e.forwarder) es)
@@ -486,7 +486,7 @@ first_reason-from_accepted n count es acc =
     (list_all-from_each (λ (e : Entry). (e.lan == n.source) || is_some e.forwarder) es
     (λ e e_in. others_fed_test-from_fed n e (t.others_fed e e_in)))))
     (then-from_none (first_router_reason n es)
-        (first_unfed_reason n es then first_of (lan_reason n es) (below count))
+    (first_unfed_reason n es then first_of (lan_reason n es) (below count))
     (first_of-from_none_each (λ r. row_reason n es r (n.row r)) (below n.routers)
     (λ r _. row_reason-from_tree n es r (n.row r) refl t))
     (then-from_none (first_unfed_reason n es) (first_of (lan_reason n es) (below count))

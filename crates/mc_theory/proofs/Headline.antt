@@ -23,6 +23,6 @@ headline_holds-from_accepted n es net low acc t ps lo hi range =
       each_wanting_one = λ whole done l w. (
           let most = count_with_image-at_most_one lan (run n ps (start n t)).carried l s.clean.once in
           let least = count_with_image-at_least_one lan (run n ps (start n t)).carried l
-              (r.served whole done l w) in
+          (r.served whole done l w) in
           omega (arith, most, least));
     }

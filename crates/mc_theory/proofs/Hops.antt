@@ -48,7 +48,7 @@ hop_by-is_hop n h net hop =
       onto = h.onto;
     } in
     ap (hop_from_lan n (h.router, h.vif) h.onto) (from_lan-is_hop n h hop) ∙
-        ap (λ k. Some (above k)) threshold
+    ap (λ k. Some (above k)) threshold
 
 -- the hop that a copy was sent by is found by its sender, and by its LAN
 pub hop_by-sent_by_hop : (n : Net) (c : Copy) (h : Hop) (i : Interface) → IsNet n → IsSentByHop n c h →
@@ -66,7 +66,7 @@ pub sent_by_hop-unique : (n : Net) (c : Copy) (h g : Hop) → IsNet n → IsSent
     IsSentByHop n c g → h ≡ g
 sent_by_hop-unique n c h g net p q = hop_equal-from_some (hop_by n (h.router, h.vif) c.lan) h g
     (hop_by-sent_by_hop n c h (h.router, h.vif) net p p.0)
-        (hop_by-sent_by_hop n c g (h.router, h.vif) net q p.0)
+    (hop_by-sent_by_hop n c g (h.router, h.vif) net q p.0)
 
 pub is_hop-unique : (n : Net) (h g : Hop) → IsNet n → IsHop n h → IsHop n g → h.router ≡ g.router →
     h.vif ≡ g.vif → h ≡ g
@@ -360,8 +360,12 @@ came_from_lan-path_part_and_rest n cs l c (h ∷ g ∷ hs) b k ks part apart fro
     let up = part.1 in (
       part.0,
       (λ e. apart (inl e)),
-      (up.0, up.1, came_from_lan-path_part_and_rest n cs l up.0 (g ∷ hs) b k ks
-          up.2 (λ j. apart (inr j)) from),
+      (
+        up.0,
+        up.1,
+        came_from_lan-path_part_and_rest n cs l up.0 (g ∷ hs) b k ks
+            up.2 (λ j. apart (inr j)) from,
+      ),
     )
 
 -- the next hop takes from the LAN
@@ -413,7 +417,7 @@ pub is_path_part-fewer_than_copies : (n : Net) (count t : ℕ) (numbers : List �
 is_path_part-fewer_than_copies n count t numbers last is x c hs b travel c_in part =
     let cs = (run n (handles is) (start n t)).carried in
     let by = came_by_hops n count t numbers last is x b travel
-        (end_of_path_part-in_copies n cs c hs b c_in part) in
+    (end_of_path_part-in_copies n cs c hs b c_in part) in
     let all = came_by_hops-path_part_and_rest n cs c hs b by.0 part by.1 in
     let short = came_by_hops-fewer_than_copies n count t numbers last is x c (hs ++ by.0) travel c_in all in
     let long = length-append hs by.0 in

@@ -262,11 +262,11 @@ carried_or_coming-path : (n : Net) (t : ℕ) (f : Flight) (hs : List Hop) (l : �
 carried_or_coming-path n t f [] l inv path p = inl (source_copy n t, inv.first, path, omega arith)
 carried_or_coming-path n t f (h ∷ hs) l inv path p =
     elim (carried_or_coming-path n t f hs h.from inv path.2 p.1) [
-  | inl c ↦ subst (λ x. IsCarriedOrComing t f x (length (h ∷ hs))) path.0
-      (carried_or_coming-hop n t f h hs c.0 inv
-      (refl, path.1, path.2) p.0 c.1 c.2 c.3)
-  | inr w ↦ inr (w.0, w.1, let lt = w.2 in omega (arith, lt))
-]
+      | inl c ↦ subst (λ x. IsCarriedOrComing t f x (length (h ∷ hs))) path.0
+          (carried_or_coming-hop n t f h hs c.0 inv
+          (refl, path.1, path.2) p.0 c.1 c.2 c.3)
+      | inr w ↦ inr (w.0, w.1, let lt = w.2 in omega (arith, lt))
+    ]
 
 -- ---- the least ranks
 
@@ -309,7 +309,7 @@ fifo_invariant-step n t numbers f i e lt inv p =
     let first : i ≡ 0 = e ∙ ap (λ xs. choice (length f.waiting) xs false) p.0 in
     let level = ttl_level-step n f p.1.0 p.1.1 in
     let after : FifoInvariant n t [] (step n 0 f) =
-        (refl, (level.0, level.1), have_least_ranks-step n t f inv level) in
+    (refl, (level.0, level.1), have_least_ranks-step n t f inv level) in
     subst (λ xs. FifoInvariant n t xs (step n i f)) (ap numbers_left (sym p.0))
     (subst (λ k. FifoInvariant n t [] (step n k f)) (sym first) after)
 
@@ -329,5 +329,5 @@ pub first_copy-has_least_rank : (n : Net) (count t : ℕ) (is : List ℕ) (x : F
     PassesHops t hs → t ≤ c.ttl + length hs
 first_copy-has_least_rank n count t is x l c hs net travel on path p =
     (kept_by_travel n count t [] false is x (FifoInvariant n t) net (fifo_invariant-step n t)
-        (fifo_invariant-start n t)
+    (fifo_invariant-start n t)
     travel).1.2 l c hs on path p

@@ -64,7 +64,7 @@ HasPathToEntry n e = (hs : List Hop) × IsPath n n.source hs e.lan × (length hs
 path_to_entry-by_forwarder : (n : Net) (es : List Entry) (e : Entry) (o : Option Interface) →
     e.forwarder ≡ o →
     IsTree n es → In e es → ((p : Entry) → In p es → e.rank ≡ p.rank + 1 → HasPathToEntry n p) →
-        HasPathToEntry n e
+    HasPathToEntry n e
 path_to_entry-by_forwarder n es e None q tree e_in up = elim (cases_eq e.lan n.source) [
   | inl z ↦ (let same : source_entry_of n ≡ e = entry-unique_on_lan n es (source_entry_of n) e tree
       tree.source_entry e_in (sym z) in subst (HasPathToEntry n) same ([], refl, refl, refl))
@@ -167,7 +167,7 @@ pub reached_with_ttl-from_carried : (n : Net) (t : ℕ) (ps : List Pick) (l : �
     → (hs : List Hop) × IsPath n n.source hs l × PassesHops t hs
 reached_with_ttl-from_carried n t ps l h =
     let all = run-preserves n (AreReachedByPaths n t) (are_reached_by_paths-grows n t) ps (start n t)
-        (all_heard-start n t)
+    (all_heard-start n t)
     (λ c k. elim k [
       | inl e ↦ ([], ap (λ (x : Copy). x.lan) e, tt, omega (arith, ap (λ (x : Copy). x.ttl) e))
       | inr z ↦ absurd z

@@ -32,7 +32,7 @@ pub in-interfaces : (n : Net) (r v l : ℕ) → IsNet n → n.placed r v ≡ Som
 unfolding interfaces
 in-interfaces n r v l net e = in-filter (λ (i : Interface). is_lan (n.placed i.0 i.1) l) (r, v)
     (router_vif_pairs 32 n.routers)
-        (in-router_vif_pairs 32 n.routers r v (net.router r v l e) (net.vif r v l e))
+    (in-router_vif_pairs 32 n.routers r v (net.router r v l e) (net.vif r v l e))
     (is_lan-from_equal (n.placed r v) l e)
 
 pub placed-member_of_interfaces : (n : Net) (i : Interface) (l : ℕ) → In i (interfaces n l) →

@@ -50,7 +50,7 @@ child_lan_carried n es t f p e r v h tree s done p_in feeds on hot h_p =
     let from : n.placed r feeds.incoming ≡ Some c.0.lan = feeds.from ∙ ap Some (sym c.2) in
     let lt : h < c.0.ttl = omega (arith, q.2.ttl, rank) in
     elim (s.inv.all c.0 r feeds.incoming c.1 from
-        (sender-not_the_incoming_vif n t [] f c.0 r feeds.incoming feeds.pairs
+    (sender-not_the_incoming_vif n t [] f c.0 r feeds.incoming feeds.pairs
     s.inv c.1 feeds.row from)) [
       | inl z ↦ absurd z
       | inr (inl w) ↦ absurd (waiting_interfaces-none f (r, feeds.incoming) done w)

@@ -245,7 +245,7 @@ run_invariant-put n t out f c r v net i from sent new = record {
         let interface_of_waiting : ◌≡◌ {A = Interface} (r, v) (q, u) = cc in
         subst (λ (p : Interface). SentByInterface n (put n c f) d p.0 p.1) interface_of_waiting
         (subst (λ (x : Copy). SentByInterface n (put n c f) x r v) z
-            (sent_by_interface-put n c f c r v new sent)))
+        (sent_by_interface-put n c f c r v new sent)))
   ];
   all = λ d q u h on other. elim (in-push_cases d f.carried c h) [
     | inl k ↦ elim (i.all d q u k on other) [

@@ -41,7 +41,7 @@ feeds-from_sent_pair n t out r v s all b p ps f e le m fits lt = record {
 safe-leave : (n : Net) (es : List Entry) (t : ℕ) (out : List Interface) (r v s : ℕ)
     (all : List (ℕ × ℕ)) (b : Copy) (p : ℕ × ℕ) (ps : List (ℕ × ℕ)) (f : Flight) (o : Option ℕ) →
     IsNet n → IsTree n es → t ≤ 255 → SendingInvariant n t out r v s all b (p ∷ ps) f →
-        CopiesFitEntries es t f → p.1 < s →
+    CopiesFitEntries es t f → p.1 < s →
     n.placed r p.0 ≡ o
     → IsClean (leave n (s - 1) (r, p.0) o f) × CopiesFitEntries es t (leave n (s - 1) (r, p.0) o f)
 safe-leave n es t out r v s all b p ps f None net tree le m named lt on =
@@ -99,7 +99,7 @@ safe-exact : (n : Net) (es : List Entry) (t : ℕ) (out : List Interface) (f : F
     IsNet n → IsTree n es → t ≤ 255 → RunInvariant n t out f → CopiesFitEntries es t f →
     slice_get f.waiting i ≡ Some w → n.row w.router ≡ Exact incoming all
     → IsClean (cond test (sends n w.router w.ttl all (without_waiting i f)) (without_waiting i f)) ×
-        CopiesFitEntries es t
+    CopiesFitEntries es t
     (cond test (sends n w.router w.ttl all (without_waiting i f)) (without_waiting i f))
 safe-exact n es t out f i w incoming all true q net tree le v named e row =
     let m = sending_invariant-start n t out f i w all net v e (row ∙ ap (λ (x : ℕ). Exact x all)
@@ -112,7 +112,7 @@ safe-row : (n : Net) (es : List Entry) (t : ℕ) (out : List Interface) (f : Fli
     (w : Waiting) (row : Row) → n.row w.router ≡ row → IsNet n → IsTree n es → t ≤ 255 →
     RunInvariant n t out f → CopiesFitEntries es t f → slice_get f.waiting i ≡ Some w
     → IsClean (handle_by_row n w row (without_waiting i f)) ×
-        CopiesFitEntries es t (handle_by_row n w row (without_waiting i f))
+    CopiesFitEntries es t (handle_by_row n w row (without_waiting i f))
 safe-row n es t out f i w (Exact incoming all) q net tree le v named e =
     safe-exact n es t out f i w incoming all (incoming == w.vif) refl net tree le v named e q
 safe-row n es t out f i w Open q net tree le v named e =

@@ -81,7 +81,7 @@ not_sent_by_pairs-leave n r t p ps (Some l) f s =
 
 not_sent_by_pairs-cond : (n : Net) (r t : ℕ) (p : ℕ × ℕ) (ps : List (ℕ × ℕ)) (o : Option ℕ) (test : Bool)
     (f : Flight) → HasNotSentByPairs r (p ∷ ps) f →
-        HasNotSentByPairs r ps (cond test (leave n t (r, p.0) o f) f)
+    HasNotSentByPairs r ps (cond test (leave n t (r, p.0) o f) f)
 not_sent_by_pairs-cond n r t p ps o true f s = not_sent_by_pairs-leave n r t p ps o f s
 not_sent_by_pairs-cond n r t p ps o false f s = not_sent_by_pairs-rest r p ps f s
 
@@ -180,9 +180,17 @@ is_spare_interface-exists n count t numbers last is x c travel d =
     let cs = (run n (handles is) (start n t)).carried in
     let i = first_double-has_sender n t cs c (starts_with_source_copy-run n t (handles is)) d in
     let a = earlier_copy-of_first_double cs c d in
-    let path = came_by_hops n count t numbers last is x a.0 travel (in-first_copy_on cs c.lan a.0 a.1) in
-    (i.0, path.0, record { first_double = d; sender = i.1; first = a.0; first_on = a.1;
-        came_by_hops = path.1 })
+    let path = came_by_hops n count t numbers last is x a.0 travel (in-first_copy_on cs c.lan a.0 a.1) in (
+      i.0,
+      path.0,
+      record {
+        first_double = d;
+        sender = i.1;
+        first = a.0;
+        first_on = a.1;
+        came_by_hops = path.1;
+      },
+    )
 
 -- ---- hops that are left without the interface
 
@@ -257,7 +265,7 @@ HasBestPathWithout n i R l = (n.placed i.0 i.1 ≡ Some l) × ((hs : List Hop) �
 path_without-hop : (n : Net) (i : Interface) (R : List Hop → List Hop → Type 0) (l : ℕ) (k : Hop)
     (ks : List Hop) (m : ℕ) (test : Bool) → is_sender (Some (k.router, k.vif)) i ≡ test →
     IsClosedUnderHops R → HasBestPathWithout n i R l → IsPath n n.source (k ∷ ks) m →
-        HasPathWithout n i R ks k.from →
+    HasPathWithout n i R ks k.from →
     HasPathWithout n i R (k ∷ ks) m
 path_without-hop n i R l k ks m true q serves best path up =
     let both = is_sender-true (Some (k.router, k.vif)) i q in
@@ -298,10 +306,10 @@ is_path-without_spare n count t numbers last is x c i hs net travel s =
     let lan = lan-first_copy_on cs c.lan s.first s.first_on in
     let first_in = in-first_copy_on cs c.lan s.first s.first_on in
     let path = is_path-from_travel n count t numbers last is x s.first hs net travel first_in
-        s.came_by_hops in
+    s.came_by_hops in
     let once = distinct_senders-travel n count t numbers last is x net travel in
     let other : s.first.sender ≢ Some i =
-        λ e. first_and_double-other_senders cs c s.first once s.first_double s.first_on
+    λ e. first_and_double-other_senders cs c s.first once s.first_double s.first_on
     (e ∙ sym s.sender) in (
       on,
       is_path-take_out n i c.lan c.lan cs s.first s.first hs on s.first_on other
@@ -340,7 +348,7 @@ as_good_path-of_first_copy n count high is x c i hs t net travel s least le ks p
     let cs = (run n (handles is) (start n high)).carried in
     let first_in = in-first_copy_on cs c.lan s.first s.first_on in
     let ttl = (is_path-from_travel n count high [] false is x s.first hs net travel first_in
-        s.came_by_hops).2 in
+    s.came_by_hops).2 in
     let low = need-at_least_one hs in
     let needed = need_at_most-from_passes t ks (omega (arith, low, least)) p in
     let rank = first_copy-has_least_rank n count high is x c.lan s.first ks net travel s.first_on path
@@ -357,7 +365,7 @@ path_without-as_good n count high is x c i hs t net travel s least le =
     let on = is_path-without_spare n count high [] false is x c i hs net travel s in
     let good = as_good_path-of_first_copy n count high is x c i hs t net travel s least le in
     path_without-any n i (IsAsGoodPath t) c.lan ((λ p. (tt, omega arith)), as_good_path-more t)
-        (on.0, (hs, on.1, good))
+    (on.0, (hs, on.1, good))
 
 -- ---- the domain without it
 

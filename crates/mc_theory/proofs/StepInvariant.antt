@@ -66,7 +66,7 @@ run_invariant-start n t net = record {
 
 pub not_waiting-without : (n : Net) (t : ℕ) (out : List Interface) (f : Flight) (i : ℕ) (w : Waiting) →
     RunInvariant n t out f → slice_get f.waiting i ≡ Some w →
-        In (interface_of_waiting w) (waiting_interfaces (without_waiting i f)) → ⊥
+    In (interface_of_waiting w) (waiting_interfaces (without_waiting i f)) → ⊥
 not_waiting-without n t out f i w v e h =
     distinct-not_in_remove (waiting_interfaces f) i (interface_of_waiting w) v.once
     (slice_get-map_some interface_of_waiting f.waiting i w e) (subst (λ is. In (interface_of_waiting w) is)
@@ -79,7 +79,7 @@ length-without f i p h = in-remove p (waiting_interfaces f) i (subst (λ is. In 
 
 pub run_invariant-without : (n : Net) (t : ℕ) (out : List Interface) (f : Flight) (i : ℕ) (w : Waiting) →
     RunInvariant n t out f → slice_get f.waiting i ≡ Some w →
-        RunInvariant n t (interface_of_waiting w ∷ out) (without_waiting i f)
+    RunInvariant n t (interface_of_waiting w ∷ out) (without_waiting i f)
 run_invariant-without n t out f i w v e = record {
   first = v.first;
   only = v.only;
@@ -303,9 +303,10 @@ run_invariant-cond n t out r v s all b p ps f true e net m clean =
     let k = run_invariant-leave n t out r v s all b p ps f (n.placed r p.0) net m (ltb-true p.1 s e) refl
     clean in
     (k.0, λ lt. k.1)
-run_invariant-cond n t out r v s all b p ps f false e net m clean =
-    (sending_invariant-skip_pair n t out r v s all b p ps f m,
-        λ lt. absurd (let z = ltb-false p.1 s e in omega arith))
+run_invariant-cond n t out r v s all b p ps f false e net m clean = (
+  sending_invariant-skip_pair n t out r v s all b p ps f m,
+  λ lt. absurd (let z = ltb-false p.1 s e in omega arith),
+)
 
 pub run_invariant-send : (n : Net) (t : ℕ) (out : List Interface) (r v s : ℕ) (all : List (ℕ × ℕ)) (b : Copy)
     (p : ℕ × ℕ) (ps : List (ℕ × ℕ)) (f : Flight) → IsNet n → SendingInvariant n t out r v s all b (p ∷ ps) f →
@@ -369,7 +370,7 @@ sending_invariant-start n t out f i w all net v e row =
 -- the one that waited first at w's interface
 handled-step : (n : Net) (t : ℕ) (out : List Interface) (f g : Flight) (i : ℕ) (w : Waiting) →
     RunInvariant n t out f → slice_get f.waiting i ≡ Some w →
-        RunInvariant n t (interface_of_waiting w ∷ out) g →
+    RunInvariant n t (interface_of_waiting w ∷ out) g →
     ((d : Copy) → In d f.carried → In d g.carried) → Handled n g.carried w.router w.vif w.ttl →
     RunInvariant n t out g
 handled-step n t out f g i w v e u more h =
@@ -386,7 +387,7 @@ run_invariant-exact_row n t out f i w incoming all true q net v e row clean =
     let row' : n.row w.router ≡ Exact w.vif all = row ∙ ap (λ (x : ℕ). Exact x all) vif in
     let m = sending_invariant-start n t out f i w all net v e row' in
     let k = run_invariant-sends n t out w.router w.vif w.ttl all m.0 all (without_waiting i f) net
-        m.1 clean in
+    m.1 clean in
     handled-step n t out f (sends n w.router w.ttl all (without_waiting i f)) i w v e k.0
     (λ d h. in_carried-sends n w.router w.ttl all (without_waiting i f) d h) (record {
       not_open = λ o. absurd (let z : Open ≡ Exact w.vif all = sym o ∙ row' in cc);
@@ -404,7 +405,7 @@ run_invariant-exact_row n t out f i w incoming all false q net v e row clean =
 run_invariant-row : (n : Net) (t : ℕ) (out : List Interface) (f : Flight) (i : ℕ) (w : Waiting) (row : Row) →
     n.row w.router ≡ row → IsNet n → RunInvariant n t out f → slice_get f.waiting i ≡ Some w →
     IsClean (handle_by_row n w row (without_waiting i f)) →
-        RunInvariant n t out (handle_by_row n w row (without_waiting i f))
+    RunInvariant n t out (handle_by_row n w row (without_waiting i f))
 run_invariant-row n t out f i w (Exact incoming all) q net v e clean =
     run_invariant-exact_row n t out f i w incoming all (incoming == w.vif) refl net v e q clean
 run_invariant-row n t out f i w Open q net v e clean = absurd (append-not_nil f.strays (w.router, w.vif)
@@ -462,7 +463,7 @@ InvariantAfter n t ps out f = (lost : List Interface) × RunInvariant n t lost f
 -- a copy is lost
 pub run_invariant-loss : (n : Net) (t : ℕ) (out : List Interface) (f : Flight) (i : ℕ) →
     i < length f.waiting → RunInvariant n t out f →
-        (lost : List Interface) × RunInvariant n t lost (without_waiting i f)
+    (lost : List Interface) × RunInvariant n t lost (without_waiting i f)
 run_invariant-loss n t out f i lt v = by n t out f i lt v (slice_get f.waiting i) refl
   where
     by : (n : Net) (t : ℕ) (out : List Interface) (f : Flight) (i : ℕ) → i < length f.waiting →

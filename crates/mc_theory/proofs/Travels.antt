@@ -293,7 +293,7 @@ not_right-from_fault_finding n count t numbers last is x net small low high trav
     let f = run n ps (start n t) in
     let r = right t ps low high (in_range-travel n count numbers last is (start n t) x travel) in
     let e = end_finding-not_clean n count f.carried f.waiting x
-        (sym (finding-of_clean_flight n count f r.clean) ∙
+    (sym (finding-of_clean_flight n count f r.clean) ∙
     finding-at_travel_end n count numbers last is (start n t) x travel) other in
     e.1.2 (r.served (is_lossless-handles is) e.0 e.1.0 e.1.1)
 
@@ -363,10 +363,10 @@ pub is_tree-from_clean_travel : (n : Net) (count : ℕ) (numbers : List ℕ) (la
 is_tree-from_clean_travel n count numbers last is net travel =
     let f = run n (handles is) (start n 255) in
     let a = is_clean-from_clean_finding n count f
-        (finding-at_travel_end n count numbers last is (start n 255) Clean
+    (finding-at_travel_end n count numbers last is (start n 255) Clean
     travel) in
     is_tree-from_clean_run n (handles is) net
-        (in_range-travel n count numbers last is (start n 255) Clean travel)
+    (in_range-travel n count numbers last is (start n 255) Clean travel)
     (is_lossless-handles is) a.1 a.0
 
 is-clean : (x : Finding) → (x ≢ Clean → ⊥) → x ≡ Clean

@@ -157,7 +157,7 @@ walk-fewer_than_copies n cs c c_in w =
 
 first_sender_on_step : (c : Copy) (cs : List Copy) (l : ℕ) (b : Copy) (test : Bool) →
     cond test (Some c) (first_copy_on cs l) ≡ Some b →
-        (first_copy_on cs l ≡ Some b → sender_on cs l ≡ b.sender)
+    (first_copy_on cs l ≡ Some b → sender_on cs l ≡ b.sender)
     → cond test c.sender (sender_on cs l) ≡ b.sender
 first_sender_on_step c cs l b true e ih = let same : c ≡ b = cc in ap (λ (x : Copy). x.sender) same
 first_sender_on_step c cs l b false e ih = ih e
@@ -196,7 +196,7 @@ pub walk_ends-travel : (n : Net) (count t : ℕ) (numbers : List ℕ) (last : Bo
 walk_ends-travel n count t numbers last is x travel c c_in =
     let cs = (run n (handles is) (start n t)).carried in
     let r = is_rooted-run_of_travel n count t numbers last is (start n t) x (all_heard-start n t)
-        (is_rooted-start n t)
+    (is_rooted-start n t)
     travel in
     let low = r.low c c_in in
     let w = walk_of_copy-by_ttl n t (t - c.ttl) cs c (omega (arith, low)) r c_in in

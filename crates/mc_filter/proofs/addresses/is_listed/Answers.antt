@@ -6,5 +6,5 @@ pub returns : goal.returns
 returns c = record {
   value = (
       c.is_ok.ensures.value
-          ∙ binary_search-is_ok _ _ _ c.requires.ascending c.binary_search.ensures.position);
+      ∙ binary_search-is_ok _ _ _ c.requires.ascending c.binary_search.ensures.position);
 }

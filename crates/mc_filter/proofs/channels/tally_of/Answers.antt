@@ -23,7 +23,7 @@ loop-group_record-preserved-in-Continue-branch-2 c =
       channels = c.in_ok-add.ensures.channels;
       each = c.in_ok-add.ensures.each c.args.groups.now c.args.reports.now c.next.new.self
           c.place_of.ensures.ascending (sym before.groups)
-              (found.1 ∙ c.from-group.ensures ∙ c.to_bits.ensures)
+          (found.1 ∙ c.from-group.ensures ∙ c.to_bits.ensures)
           (rw c.in-Some.ensures.steps at before.each);
     }
 

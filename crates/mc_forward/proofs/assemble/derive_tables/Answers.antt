@@ -37,5 +37,5 @@ returns-clause-derived c =
       interfaces = c.in_ok-interfaces.ensures.ok ∙ ap (λ ps. by ps c.lans.result) c.deref.ensures.value
           ∙ ap (by c.in_ok-vif_lans.vif_lans.items) c.lans.ensures.count
           ∙ interfaces_by_vif_lans-interfaces_of d c.in_ok-vif_lans.vif_lans.items ok
-              c.in_ok-vif_lans.ensures.vif_lans;
+          c.in_ok-vif_lans.ensures.vif_lans;
     }

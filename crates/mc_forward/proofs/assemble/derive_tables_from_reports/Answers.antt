@@ -7,9 +7,9 @@ use Rattle.mc_forward.proofs.assemble.derive_tables_from_reports.Goals as goal
 pub derive_tables-requires-clause-answers : goal.derive_tables-requires-clause-answers
 derive_tables-requires-clause-answers c =
     are_answers-from_reports c.args.topology.now c.args.tables.now c.args.reports.now
-        c.in_ok-wants.wants.items
+    c.in_ok-wants.wants.items
     c.requires.matching_counts (sym c.in_ok-wants.wants.ok.0 ∙ c.in_ok-wants.ensures.count)
-        c.in_ok-wants.ensures.each
+    c.in_ok-wants.ensures.each
 
 pub returns-clause-assembled : goal.returns-clause-assembled
 returns-clause-assembled c =

@@ -7,5 +7,5 @@ use Rattle.mc_forward.proofs.flow_rows.push_row.Goals as goal
 pub push-requires-clause-few : goal.push-requires-clause-few
 push-requires-clause-few c =
     let few = length_entry_oifs-at_most_32 c.in-Exact.entry
-        (subst HasValidEntry c.in-Exact.is c.requires.valid) in
+    (subst HasValidEntry c.in-Exact.is c.requires.valid) in
     omega (arith, few, ap (λ (e : EntryValue). length e.oifs) c.entry.view_is)

@@ -43,7 +43,7 @@ returns c = record {
       let end : c.loop-number.number ≡ length c.args.vif_lans.now =
       omega (arith, c.loop-number-test.false, c.loop-number.auto.number-end) in
       map_below-from_items c.loop-number.lists.items
-          (interfaces_by_vif_lans c.args.vif_lans.now (length c.args.vif_lans.now))
+      (interfaces_by_vif_lans c.args.vif_lans.now (length c.args.vif_lans.now))
       c.args.lans [] c.loop-number.invariant.count
       (λ lan lt. c.loop-number.invariant.each lan lt
       ∙ ap (λ (n : ℕ). interfaces_by_vif_lans c.args.vif_lans.now n lan) end));

@@ -15,8 +15,12 @@ loop-number-init c = record {
 pub loop-number-preserved : goal.loop-number-preserved
 loop-number-preserved c =
     let lt : c.loop-number.number < length c.args.tables.now =
-    omega (arith, c.loop-number-test.true, c.routers-number-end.ensures.count,
-        c.requires.tables_per_router) in
+    omega (
+      arith,
+      c.loop-number-test.true,
+      c.routers-number-end.ensures.count,
+      c.requires.tables_per_router,
+    ) in
     let found = slice_get-from_read c.args.tables.now c.loop-number.number _ lt c.index-tables-number.is in
     record {
       done = map_below-push _ c.loop-number.vif_lans.items c.push.new.self.items c.loop-number.number

@@ -8,7 +8,7 @@ loop-list-preserved c =
     let found = slice_get-from_read c.args.reports.now c.loop-list.list-index c.list-item.result
     c.loop-list-test.true c.list-item.is in
     let wanted = are_wanted-from_channels c.args.topology.now.flows c.list-item.result
-        c.in_ok-channels.channels
+    c.in_ok-channels.channels
     c.in_ok-wanted.field-0 c.in_ok-channels.ensures c.in_ok-wanted.ensures in
     record {
       count = length-push c.loop-list.wants.items c.push.new.self.items

@@ -11,5 +11,5 @@ pub returns-clause-found : goal.returns-clause-found
 returns-clause-found c taken decoded =
     let digits = sym c.are_hex_digits.ensures ∙ c.if-not-are_hex_digits.false in
     decoded_more 16 c.args.digits.now c.args.bytes.now c.bytes_of_hex_digits.result c.args.at
-        c.requires.digits
+    c.requires.digits
     c.requires.room digits (c.bytes_of_hex_digits.ensures digits) decoded

@@ -11,6 +11,6 @@ pub returns-clause-found : goal.returns-clause-found
 returns-clause-found c taken =
     let digits = sym c.are_hex_digits.ensures ∙ c.if-not-are_hex_digits.false in
     decode_of-short c.args.digits.now c.args.bytes.now c.concat_lanes-text.result
-        c.bytes_of_hex_digits-decoded.result
+    c.bytes_of_hex_digits-decoded.result
     c.requires.size c.requires.some c.requires.few c.concat_lanes-text.ensures digits
     (c.bytes_of_hex_digits-decoded.ensures digits)

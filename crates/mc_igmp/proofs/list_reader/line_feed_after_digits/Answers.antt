@@ -11,7 +11,7 @@ returns-in_err-place c = record {
       let text = c.args.text.now in
       let part = between_to_end text c.args.digits (length text) (omega (arith, c.requires.within)) in
       c.from_residual.ensures
-          ∙ sym (position-no_line_feed_after_digits c.args.digits text c.requires.within c.requires.digits
+      ∙ sym (position-no_line_feed_after_digits c.args.digits text c.requires.within c.requires.digits
       (ap (position (λ (b : ℕ). eqb b 10)) (sym part) ∙ sym c.in_err-place.ensures)));
 }
 
@@ -21,6 +21,6 @@ returns c = record {
       let text = c.args.text.now in
       let part = between_to_end text c.args.digits (length text) (omega (arith, c.requires.within)) in
       sym (position-line_feed_after_digits c.args.digits text c.in_ok-place.place c.requires.within
-          c.requires.digits
+      c.requires.digits
       (ap (position (λ (b : ℕ). eqb b 10)) (sym part) ∙ sym c.in_ok-place.ensures)));
 }

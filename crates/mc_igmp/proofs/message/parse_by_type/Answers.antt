@@ -7,7 +7,7 @@ pub returns-in-34 : goal.returns-in-34
 returns-in-34 c = record {
   value = (
       read_by_type-version_3_report c.args.bytes.now c.read_u16-count.result c.read.result c.map.result
-          c.map_err.result
+      c.map_err.result
       c.in-34.is c.read_u16-count.ensures c.read.ensures
       (c.map.ensures.cases, c.map_err.ensures.cases));
 }

@@ -9,4 +9,4 @@ returns-then-line-eq32-clause-words c =
     let read = c.from_hex_word.ensures in
     address_is_first_word c.args.order line c.from_hex_word.result c.if-line-gt8.true c.if-line-eq32.true
     (address_in-from_clauses c.args.order
-        (take 8 line) c.from_hex_word.result read.in_range read.found read.only)
+    (take 8 line) c.from_hex_word.result read.in_range read.found read.only)

@@ -8,7 +8,7 @@ returns c =
     let order = c.args.order in
     let digits = sym c.are_hex_digits.ensures ∙ c.if-not-are_hex_digits.false in
     let read = address_in-both_words order line c.digits_of_both-digits.result
-        c.bytes_of_hex_digits-bytes.result
+    c.bytes_of_hex_digits-bytes.result
     c.if-line.false c.digits_of_both-digits.ensures.value digits (c.bytes_of_hex_digits-bytes.ensures digits) in
     has_addresses-from_words order line c.from_printed_octets-group.result c.from_printed_octets-origin.result
     (omega (arith, c.if-line.false)) c.if-line-ne32.false c.if-line-ne32-2.false

@@ -7,9 +7,9 @@ pub loop-i-preserved : goal.loop-i-preserved
 loop-i-preserved c =
     let loop = c.loop-i in
     let put_in_slot = are_slotted-push loop.slots.items loop.others.items c.args.numbers.now loop.i
-        loop.invariant.0
+    loop.invariant.0
     c.put_in_slot.new.slots.items c.put_in_slot.new.others.items
-        (c.in_ok-put_in_slot.ensures.put c.if-not-branch.false) in
+    (c.in_ok-put_in_slot.ensures.put c.if-not-branch.false) in
     (put_in_slot.0, put_in_slot.1 ∙ loop.invariant.1, loop.invariant.2, loop.invariant.3)
 
 pub returns : goal.returns

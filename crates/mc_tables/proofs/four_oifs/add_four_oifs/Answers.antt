@@ -11,6 +11,10 @@ returns-clause-added c =
     let read = first_words-four_oifs c.args.line.now c.args.next a.result b.result d.result e.result
     a.ensures.word b.ensures.word d.ensures.word e.ensures.word (omega (arith, c.if-first-next.false))
     (omega (arith, c.if-second-first.false)) (omega (arith, c.if-third-second.false))
-    (omega (arith, c.if-fourth-third.false)) (omega (arith, c.if-fourth-gt-MAX_VIF.false)) in
-    (read.0, a.result ∷ b.result ∷ d.result ∷ e.result ∷ [], read.1, c.in_ok-extend_from_slice.ensures.items,
-        read.2)
+    (omega (arith, c.if-fourth-third.false)) (omega (arith, c.if-fourth-gt-MAX_VIF.false)) in (
+      read.0,
+      a.result ∷ b.result ∷ d.result ∷ e.result ∷ [],
+      read.1,
+      c.in_ok-extend_from_slice.ensures.items,
+      read.2,
+    )

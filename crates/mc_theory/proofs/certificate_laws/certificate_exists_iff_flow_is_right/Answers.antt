@@ -5,5 +5,7 @@ use Rattle.mc_theory.proofs.certificate_laws.certificate_exists_iff_flow_is_righ
     as goal
 
 pub returns : goal.returns
-returns c = λ n net low high. ((λ h. is_right-from_accepted n h.0 net low h.1),
-    is_accepted-from_right n net low high)
+returns c = λ n net low high. (
+  (λ h. is_right-from_accepted n h.0 net low h.1),
+  is_accepted-from_right n net low high,
+)

@@ -18,4 +18,3 @@ returns-clause-path c = λ n count t d hs net x numbers last is travel d_in by.
 pub returns-clause-ttl_left : goal.returns-clause-ttl_left
 returns-clause-ttl_left c = λ n count t d hs net x numbers last is travel d_in by.
     (is_path-from_travel n count t numbers last is x d hs net travel d_in by).2
-

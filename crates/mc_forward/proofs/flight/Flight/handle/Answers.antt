@@ -22,6 +22,6 @@ invariant_of-self c =
           (length n.domain.topology.routers)) c.handle.new.self (step (net_in n) c.args.index f) f
           c.handle.ensures.ok c.handle.ensures.err
           (copies_in_domain-step (net_in n) _ _ (are_placed_below-domain n.domain n.flow was.flow.domain)
-              c.args.index f
+          c.args.index f
           was.routers was.listed) was.listed;
     }

@@ -5,5 +5,5 @@ use Rattle.mc_forward.proofs.flow_view.FlowView.row.Goals as goal
 pub returns-else-router-routers-clause-row : goal.returns-else-router-routers-clause-row
 returns-else-router-routers-clause-row c =
     sym (row_of-none_past_last_router c.args.self.now.domain c.routers.ensures.rules.domain
-        c.args.self.now.flow c.args.router
+    c.args.self.now.flow c.args.router
     (omega (arith, c.routers.ensures.count)))

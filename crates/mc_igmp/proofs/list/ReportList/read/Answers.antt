@@ -14,8 +14,11 @@ returns-then-text-gt-MAX_TEXT c =
 
 pub loop-line-init : goal.loop-line-init
 loop-line-init c =
-    rw (c.into_iter-line-iterator.ensures.into_iter_gives, c.new-line-items.ensures.value,
-        c.none-list.ensures)
+    rw (
+      c.into_iter-line-iterator.ensures.into_iter_gives,
+      c.new-line-items.ensures.value,
+      c.none-list.ensures,
+    )
     (with_front-none (read_lines (lines_of c.args.text.now)))
 
 pub loop-line-preserved : goal.loop-line-preserved

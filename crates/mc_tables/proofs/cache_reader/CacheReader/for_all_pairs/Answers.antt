@@ -9,6 +9,6 @@ returns-clause-reads c = λ text within.
     let start : c.with_numbers.result ≡ cache_start c.args.order None =
     c.with_numbers.ensures.value
     ∙ ap (λ (keys : EntryNumbersValue). cache_start_for_set c.args.order keys.listed) c.for_all_pairs.ensures
-        in
+    in
     ap (λ (s : CacheSoFar). cache_if s text) start
     ∙ cache_if-start c.args.order None text within

@@ -9,6 +9,6 @@ returns-clause-reads c = λ text within.
     let start : c.with_numbers.result ≡ cache_start c.args.order (Some c.args.listed) =
     c.with_numbers.ensures.value
     ∙ ap (λ (keys : EntryNumbersValue). cache_start_for_set c.args.order keys.listed)
-        c.for_listed_pairs.ensures in
+    c.for_listed_pairs.ensures in
     ap (λ (s : CacheSoFar). cache_if s text) start
     ∙ cache_if-start c.args.order (Some c.args.listed) text within

@@ -7,4 +7,4 @@ use Rattle.mc_tables.proofs.cache_reader.CacheReader.with_numbers.Goals as goal
 pub invariant_of-result : goal.invariant_of-result
 invariant_of-result c = λ _.
     subst (λ (s : ListedRowsSoFar). IsValidCache s.rows.table)
-        (sym c.new-2.ensures.value) table_of_none-is_valid
+    (sym c.new-2.ensures.value) table_of_none-is_valid

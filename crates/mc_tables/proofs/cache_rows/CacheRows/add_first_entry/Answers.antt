@@ -6,12 +6,12 @@ pub returns-clause-added : goal.returns-clause-added
 returns-clause-added c =
     let entry : EntryValue = record { iif = c.args.iif; oifs = c.args.oifs.now } in
     entry_inserted-value c.args.key.now entry c.args.self.now c.insert_entry.new.self
-        c.in_ok-insert_entry.field-0
+    c.in_ok-insert_entry.field-0
     c.in_ok-insert_entry.ensures.inserted
 
 pub returns-clause-room : goal.returns-clause-room
 returns-clause-room c =
     let entry : EntryValue = record { iif = c.args.iif; oifs = c.args.oifs.now } in
     entry_inserted-room c.args.key.now entry c.args.self.now c.insert_entry.new.self
-        c.in_ok-insert_entry.field-0
+    c.in_ok-insert_entry.field-0
     c.in_ok-insert_entry.ensures.inserted

@@ -67,7 +67,7 @@ returns-in-Repeated-clause-inserted c =
       ap (λ (ls : List (ℕ × List Oif)). kept_rows_value c.add.new.self.listed c.add.new.self.numbers
           (entries_of ls) groups) c.in_ok-reserve.ensures.lists
           ∙ ap (λ (keys : EntryNumbersValue). kept_rows_value keys.listed keys.numbers
-              (entries_of lists) groups)
+          (entries_of lists) groups)
           own.2,
     )
 
@@ -86,6 +86,6 @@ returns-in-Unlisted-clause-inserted c =
       ap (λ (ls : List (ℕ × List Oif)). kept_rows_value c.add.new.self.listed c.add.new.self.numbers
           (entries_of ls) groups) c.in_ok-reserve.ensures.lists
           ∙ ap (λ (keys : EntryNumbersValue). kept_rows_value keys.listed keys.numbers
-              (entries_of lists) groups)
+          (entries_of lists) groups)
           own.1,
     )

@@ -11,7 +11,7 @@ returns-clause-within c =
     let key : ℕ × ℕ = (c.args.source, c.args.group) in
     let es = entries_of c.self.inside.entries.lists in
     subst (λ (t : KeptRowsValue). IfSome c.number_with_hint.result
-        (λ number. number < length t.table.numbered))
+    (λ number. number < length t.table.numbered))
     c.self.view_is
     (subst (λ (o : Option ℕ). IfSome o (λ number. number < length es))
     (sym c.number_with_hint.ensures) (c.self.invariant key))

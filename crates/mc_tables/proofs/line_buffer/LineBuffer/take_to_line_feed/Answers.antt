@@ -17,7 +17,7 @@ invariant_of-self-in-Some c =
     subst (λ (l : LinesSoFar). l.size + length c.args.rest.now ≤ 16777216) (sym c.self.view_is)
     c.requires.bounded in
     let within : end + 1 ≤ length c.args.rest.now =
-        position-within c.args.rest.now end (sym c.in-Some.ensures) in
+    position-within c.args.rest.now end (sym c.in-Some.ensures) in
     let kept = lines_so_far-with_begun lines (end + 1) taken c.self.invariant (omega arith)
     (omega (arith, length-take end c.args.rest.now))
     (no_line_feed-before_first c.args.rest.now end (sym c.in-Some.ensures)) in

@@ -26,9 +26,9 @@ returns-in_err-ensure_places-clause-refused c =
     let keys = c.self.inside.pairs in
     let more = c.in_err-ensure_places.ensures.more in
     on_err-kept (listed_numbers_value keys c.ensure_places.new.numbers.items ≡ c.args.self.now)
-        c.from_residual.result
+    c.from_residual.result
     (listed_numbers_value-append_zeros keys c.self.inside.numbers.items c.ensure_places.new.numbers.items
-        more.0 c.args.self.now more.1
+    more.0 c.args.self.now more.1
     c.self.view_is)
 
 pub returns-then-index-ne0-clause-numbered : goal.returns-then-index-ne0-clause-numbered
@@ -39,7 +39,7 @@ returns-then-index-ne0-clause-numbered c =
     let i = c.in-Some.place in
     let more = c.in_ok-ensure_places.ensures.more in
     let kept = listed_numbers_value-append_zeros keys c.self.inside.numbers.items ns more.0 c.args.self.now
-        more.1 c.self.view_is in
+    more.1 c.self.view_is in
     let place = c.in-Some.ensures.found in
     let within : i < length ns = omega (
       arith,
@@ -62,7 +62,7 @@ returns-clause-numbered c =
     let i = c.in-Some.place in
     let more = c.in_ok-ensure_places.ensures.more in
     let kept = listed_numbers_value-append_zeros keys c.self.inside.numbers.items ns more.0 c.args.self.now
-        more.1 c.self.view_is in
+    more.1 c.self.view_is in
     let place = c.in-Some.ensures.found in
     let within : i < length ns = omega (
       arith,

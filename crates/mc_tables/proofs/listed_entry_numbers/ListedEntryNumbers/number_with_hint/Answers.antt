@@ -8,7 +8,7 @@ returns-in_err-place c =
     let key = c.args.key.now in
     c.from_residual.ensures
     ∙ sym (number_of_key-missing key c.self.inside.pairs c.self.inside.numbers.items
-        c.in_err-place.ensures.none)
+    c.in_err-place.ensures.none)
     ∙ ap (λ (s : EntryNumbersValue). number_of_key s.numbers key) c.self.view_is
 
 pub returns : goal.returns

@@ -14,4 +14,4 @@ pub returns-clause-distinct : goal.returns-clause-distinct
 returns-clause-distinct c =
     subst (λ (keys : List (ℕ × ℕ)). IsDistinct same_key keys) c.self.view_is
     (pair_of-increasing_distinct c.self.inside.index.value
-        (rw c.deref.ensures at c.place_of.ensures.ascending))
+    (rw c.deref.ensures at c.place_of.ensures.ascending))

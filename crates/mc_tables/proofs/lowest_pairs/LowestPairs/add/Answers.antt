@@ -18,7 +18,7 @@ returns-then-le c =
     let last : ℕ × ℕ = c.index.result.now in
     let above : key_cmp pair (get_or ps 19 last) ≢ Less =
     subst (λ (x : ℕ × ℕ). key_cmp pair x ≢ Less) c.index.ensures
-        (key_cmp-not_less last pair c.if-le.ensures) in
+    (key_cmp-not_less last pair c.if-le.ensures) in
     subst (λ (l : List (ℕ × ℕ)). l ≡ take 20 (put_pair pair l)) c.self.view_is
     (sym (take_all 20 ps (omega arith))
     ∙ sym (take_put_pair-above pair last ps 19 c.self.invariant.0 (omega arith) above))

@@ -9,9 +9,9 @@ without_front-requires c = record {
   within = (
       let line = c.args.self.bytes.now in
       let known = digits_or_spaces-run c.args.self.digits c.args.self.spaces c.front_run_length.result
-          c.front_run_length.ensures in
+      c.front_run_length.ensures in
       let within = digits_or_spaces-within line c.args.self.digits c.args.self.spaces
-          c.front_run_length.result
+      c.front_run_length.result
       c.requires.marked.digits c.requires.marked.spaces known in
       omega (arith, within, c.if-front_run_length-end.false));
 }
@@ -31,9 +31,9 @@ returns c = record {
       c.requires.marked.digits c.requires.marked.spaces c.last_digits-ends.ensures
       (λ k less. known k (omega (arith, less, c.if-front_run_length-end.false)))
       a.ensures.lowest (a.ensures.set (omega (arith, c.if-packets-ge-MAX_COUNTER_WIDTH.false)))
-          c.if-packets-ge-MAX_COUNTER_WIDTH.false
+      c.if-packets-ge-MAX_COUNTER_WIDTH.false
       b.ensures.lowest (b.ensures.set (omega (arith, c.if-bytes-ge-MAX_COUNTER_WIDTH.false)))
-          c.if-bytes-ge-MAX_COUNTER_WIDTH.false
+      c.if-bytes-ge-MAX_COUNTER_WIDTH.false
       d.ensures.lowest (d.ensures.set (omega (arith, c.if-wrong_if-ge-MAX_COUNTER_WIDTH.false)))
-          c.if-wrong_if-ge-MAX_COUNTER_WIDTH.false));
+      c.if-wrong_if-ge-MAX_COUNTER_WIDTH.false));
 }

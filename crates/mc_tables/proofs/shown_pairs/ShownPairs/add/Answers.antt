@@ -17,6 +17,6 @@ returns-then-self c =
     let inside = c.self.inside in
     let kept : List (ℕ × ℕ) → KeptPairs = λ pairs. record { all = inside.all; pairs = pairs } in
     ap kept (shown_pairs-push_every inside.all inside.every.items c.push.new.self.items inside.lowest
-        c.args.pair
+    c.args.pair
     c.if-self.true c.in_ok-push.ensures.items)
     ∙ ap (with_pair c.args.pair) c.self.view_is

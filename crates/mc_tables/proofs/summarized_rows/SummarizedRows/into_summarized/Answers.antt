@@ -8,5 +8,5 @@ pub of-requires : goal.of-requires
 of-requires c = record {
   valid = (
       subst (λ (s : SummarizedRowsSoFar). HasValidEntries (finished_summary s.summary))
-          (sym c.self.view_is) c.requires.summary);
+      (sym c.self.view_is) c.requires.summary);
 }

@@ -12,8 +12,8 @@ returns-in-Ok-clause-is_valid c =
     let rows = c.add_summarized.new.self in
     let summary = c.add_summarized.new.summary in
     subst (λ (s : SummarizedRowsSoFar). IsValidCache s.rows.rows.table × HasValidEntries
-        (finished_summary s.summary)
+    (finished_summary s.summary)
     → IsValidCache rows.rows.table × HasValidEntries (finished_summary summary)) c.self.view_is
     (summary_with_line-keeps_valid c.self.inside.rows rows c.self.inside.summary summary
-        (line_text c.args.line.now)
+    (line_text c.args.line.now)
     c.in-Ok.ensures.added c.in-Ok.ensures.summarized)

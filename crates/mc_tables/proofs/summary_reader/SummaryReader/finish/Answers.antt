@@ -22,7 +22,7 @@ returns-in_err-check_end c =
     let p = err_from_is_err_and c.from_residual.result c.from_residual.ensures.1 in
     rw (p.1, p.2) (
     ap (λ r. r >>= λ _. both rows.rows.rows.table (finished_summary rows.summary))
-        c.in_err-check_end.ensures.end
+    c.in_err-check_end.ensures.end
     ∙ sym (summary_after-end lines rows c.check_end.ensures.rules.begun)
     ∙ ap (λ fault. unless_fault fault (summary_after lines rows [])) (sym c.in_default.is)
     ∙ ap (λ (s : SummarizedCacheSoFar). summary_if s []) c.self.view_is
@@ -36,9 +36,9 @@ returns c =
     (c.into_summarized.ensures.table ∙ c.in_ok-check_end.ensures.table)
     ∙ ap (λ (n : SummaryValue). both rows.rows.rows.table n)
     (c.into_summarized.ensures.summary
-        ∙ ap (λ (n : SummarySoFar). finished_summary n) c.in_ok-check_end.ensures.summary)
+    ∙ ap (λ (n : SummarySoFar). finished_summary n) c.in_ok-check_end.ensures.summary)
     ∙ ap (λ r. r >>= λ _. both rows.rows.rows.table (finished_summary rows.summary))
-        c.in_ok-check_end.ensures.end
+    c.in_ok-check_end.ensures.end
     ∙ sym (summary_after-end lines rows c.check_end.ensures.rules.begun)
     ∙ ap (λ fault. unless_fault fault (summary_after lines rows [])) (sym c.in_default.is)
     ∙ ap (λ (s : SummarizedCacheSoFar). summary_if s []) c.self.view_is

@@ -12,7 +12,7 @@ use Rattle.mc_tables.proofs.summary_reader.SummaryReader.new.Goals as goal
 pub invariant_of-result : goal.invariant_of-result
 invariant_of-result c = λ _.
     subst (λ (s : SummarizedRowsSoFar). IsValidCache s.rows.rows.table × HasValidEntries
-        (finished_summary s.summary))
+    (finished_summary s.summary))
     (sym c.new-2.ensures) (table_of_none-is_valid, empty_summary-is_valid c.args.all c.args.listed)
 
 pub returns-clause-reads : goal.returns-clause-reads

@@ -18,7 +18,7 @@ returns-in_err-write_part-clause-err g c =
     let at = bundle_spelling-split_at_part c.args.parts.now c.loop-part.part-index c.part-item.result
     c.loop-part-test.true c.part-item.is in
     OnErr-from _ _ (appends_prefix-after_front _ _ _ _
-        (spelled c.part-item.result) _ _ c.loop-part.invariant.bytes
+    (spelled c.part-item.result) _ _ c.loop-part.invariant.bytes
     c.in_err-write_part.ensures.err at)
 
 pub loop-part-preserved : goal.loop-part-preserved

@@ -29,13 +29,13 @@ filling-preserved g c =
 pub returns-in-Ok-eq0-clause-consumed : goal.returns-in-Ok-eq0-clause-consumed
 returns-in-Ok-eq0-clause-consumed g c =
     consumes_up_to-filled_buffer _ _ _ c.filling.buffer c.read.new.buffer _ c.filling.count
-        c.in-Ok-eq0.field-0
+    c.in-Ok-eq0.field-0
     c.filling.invariant.within c.in-Ok-eq0.ensures.bound.0 c.filling.invariant.bytes
     c.in-Ok-eq0.ensures.bytes.0
 
 pub returns-in-Err-clause-consumed : goal.returns-in-Err-clause-consumed
 returns-in-Err-clause-consumed g c =
     consumes_up_to-filled_buffer _ _ _ c.filling.buffer c.read.new.buffer _ c.filling.count 0
-        c.filling.invariant.within
+    c.filling.invariant.within
     (omega arith) c.filling.invariant.bytes
     (Consumes-kept _ _ _ [] (Consumes-nil _) c.in-Err.ensures.bytes)

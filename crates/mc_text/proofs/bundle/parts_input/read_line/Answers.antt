@@ -61,7 +61,7 @@ returns-in-Some-eq10-clause-consumed g c =
 pub returns-in-Some-eq10-clause-taken : goal.returns-in-Some-eq10-clause-taken
 returns-in-Some-eq10-clause-taken g c =
     consumes_up_to-after_consumes _ _ _ (take c.bytes.count c.bytes.line) 1
-        (c.bytes.count + 1) c.bytes.invariant.bytes
+    (c.bytes.count + 1) c.bytes.invariant.bytes
     c.in_ok-next_byte.ensures.consumed (omega (arith, length-take c.bytes.count c.bytes.line))
 
 pub returns-clause-consumed : goal.returns-clause-consumed

@@ -6,6 +6,6 @@ use Rattle.mc_text.proofs.bundle.parts_input.read_magic.Goals as goal
 pub returns-then-ne-clause-reads : goal.returns-then-ne-clause-reads
 returns-then-ne-clause-reads g c =
     reads_as-no_magic _ _ c.fill_buffer.new.buffer c.in_ok-count.count
-        (omega (arith, c.fill_buffer.auto.buffer))
+    (omega (arith, c.fill_buffer.auto.buffer))
     c.in_ok-count.ensures.bound c.in_ok-count.ensures.bytes c.in_ok-count.ensures.end
     (not-true _ (sym c.if-ne.ensures))

@@ -119,7 +119,7 @@ pub returns-in_err-next_byte-clause-consumed : goal.returns-in_err-next_byte-cla
 returns-in_err-next_byte-clause-consumed g c =
     let bytes = c.skipping.invariant.bytes in
     consumes_up_to-after_consumes _ _ _ bytes.0 1
-        (c.args.left + 1) bytes.1 c.in_err-next_byte.ensures.consumed
+    (c.args.left + 1) bytes.1 c.in_err-next_byte.ensures.consumed
     (omega (arith, bytes.2))
 
 pub returns-in-Some-eq10-clause-consumed : goal.returns-in-Some-eq10-clause-consumed

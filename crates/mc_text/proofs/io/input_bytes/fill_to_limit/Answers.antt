@@ -31,4 +31,4 @@ pub returns-in-Err-clause-consumed : goal.returns-in-Err-clause-consumed
 returns-in-Err-clause-consumed g c =
     let nothing = Consumes-kept _ _ _ [] (Consumes-nil _) c.in-Err.ensures.bytes in
     consumes_up_to-from_reads_onto _ _ _ _ _ [] _ c.reading.invariant.bytes nothing
-        (omega (arith, c.reading.bytes.ok.0))
+    (omega (arith, c.reading.bytes.ok.0))

@@ -4,4 +4,4 @@ use Rattle.mc_text.proofs.text.digit_lanes.bytes_of_hex_digits.Goals as goal
 pub returns : goal.returns
 returns c digits =
     zip2-pair_lane c.args.text c.digit_values-values.result c.fits-text.0 digits
-        (c.digit_values-values.ensures digits)
+    (c.digit_values-values.ensures digits)

@@ -9,5 +9,5 @@ returns c digits =
     let long = c.fits-text.0 in
     let small = zip2_splat bit_or v 32 32 long in
     select-smaller_lane _ _ v (zip2_splat lane_minus v 32 48 long)
-        (zip2-splat_lane lane_minus (λ x. bit_or x 32) 87 v long small)
+    (zip2-splat_lane lane_minus (λ x. bit_or x 32) 87 v long small)
     ∙ map-value_lane v c.fits-text.1 digits

@@ -52,7 +52,7 @@ returns-in-Ok-None-clause-ended g c = λ text done remaining _.
     ∙ ap (λ r. r >>= λ o. prepend_parts (current_part state done text) (parts_of_opened o.0 o.1)) read.2
     ∙ ap Ok (append-nil (current_part state done text)) in
     subst (λ (s : PartsState). parts_from_current s done text ≡ Ok (current_part s done text))
-        c.self.view_is all
+    c.self.view_is all
 
 pub returns-in-Err-clause-fault : goal.returns-in-Err-clause-fault
 returns-in-Err-clause-fault g c = λ text done remaining there.

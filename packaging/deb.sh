@@ -11,7 +11,10 @@ mkdir -p out "$room/DEBIAN" "$room/usr/share/doc/mcaudit"
 make -s install DESTDIR="$room" PREFIX=/usr ZSH=/usr/share/zsh/vendor-completions
 gzip -9n "$room"/usr/share/man/man1/*.1
 cp README.md docs/GUIDE.md docs/FORMATS.md docs/PROMISES.md docs/audit.schema.json "$room/usr/share/doc/mcaudit"
-gzip -9n < CHANGELOG.md > "$room/usr/share/doc/mcaudit/changelog.gz"
+maintainer=$(git log -1 --format='%an <%ae>')
+python3 -I packaging/debian_changelog.py "$maintainer" "$(git log -1 --format=%ct)" |
+    gzip -9n > "$room/usr/share/doc/mcaudit/changelog.gz"
+install -D -m 644 packaging/lintian-overrides "$room/usr/share/lintian/overrides/mcaudit"
 {
     echo 'mcaudit may be used by either of these two licences.'
     echo
@@ -23,7 +26,7 @@ cat > "$room/DEBIAN/control" <<END
 Package: mcaudit
 Version: $version
 Architecture: amd64
-Maintainer: $(git log -1 --format='%an <%ae>')
+Maintainer: $maintainer
 Section: net
 Priority: optional
 Installed-Size: $(du -sk "$room/usr" | cut -f 1)
@@ -53,5 +56,6 @@ else
 fi
 END
 chmod 755 "$room/DEBIAN/postinst" "$room/DEBIAN/prerm"
+(cd "$room" && find usr -type f -print0 | sort -z | xargs -0 md5sum > DEBIAN/md5sums)
 find "$room" -type d -exec chmod 755 {} +
 dpkg-deb --root-owner-group --build "$room" "out/mcaudit_${version}_amd64.deb"

@@ -5,9 +5,13 @@ A domain is told as parts (server.c): a line `@NAME` before each part of a bundl
 import glob
 import hashlib
 import os
+import sys
 import tomllib
 
 TOP = os.path.dirname(os.path.dirname(os.path.dirname(os.path.abspath(__file__))))
+sys.path.append(f"{TOP}/tests")
+import case_files
+
 MOST = 1 << 16  # bytes of a text; larger ones are left out, since they cost more than they show
 MAGIC = b"mcaudit bundle 1\n"
 
@@ -17,21 +21,23 @@ def read(path):
         return file.read(MOST + 1)
 
 
-def words_of(case):
-    return read(f"{case}/args").decode(errors="replace").split("\n")
+def cases():
+    """Yields the sections of each case of tests/cli."""
+    for path in sorted(glob.glob(f"{TOP}/tests/cli/cases/*.case")):
+        yield case_files.load(os.path.relpath(path, TOP))
 
 
 def inputs_of(commands):
-    """Yields the standard input of each case of these commands."""
-    for case in sorted(glob.glob(f"{TOP}/tests/cli/cases/*")):
-        if words_of(case)[0] not in commands:
+    """Yields the standard input of each case of these commands, but for what a script writes."""
+    for case in cases():
+        if case["args"].decode(errors="replace").split("\n")[0] not in commands:
             continue
-        if os.path.isfile(f"{case}/stdin"):
-            yield read(f"{case}/stdin")
-        elif os.path.isfile(f"{case}/stdin.path"):
-            path = read(f"{case}/stdin.path").decode().strip()
-            if os.path.isfile(f"{TOP}/{path}"):
-                yield read(f"{TOP}/{path}")
+        if isinstance(case.get("stdin", b""), case_files.Script):
+            continue
+        if "stdin" in case:
+            yield case["stdin"][:MOST + 1]
+        elif os.path.isfile(f"{TOP}/{case_files.value_of(case, 'stdin.path', 'nowhere')}"):
+            yield read(f"{TOP}/{case_files.value_of(case, 'stdin.path')}")
 
 
 def parts_of(bundle):
@@ -48,10 +54,14 @@ def parts_of(bundle):
     return found if rest == b"end\n" else []
 
 
-def parts_in(folder):
-    """Returns the parts that a folder's files are, in the order of a bundle where the topology can be read."""
-    names = {name.replace("-", "/", 1): read(f"{folder}/{name}") for name in os.listdir(folder)
-             if os.path.isfile(f"{folder}/{name}")}
+def texts_of(folder):
+    """Returns the texts of a folder's files, by their names."""
+    return {name: read(f"{folder}/{name}") for name in os.listdir(folder) if os.path.isfile(f"{folder}/{name}")}
+
+
+def parts_in(texts):
+    """Returns the parts that a folder's texts are, in the order of a bundle where the topology can be read."""
+    names = {name.replace("-", "/", 1): text for name, text in texts.items()}
     try:
         topology = tomllib.loads(names["topology"].decode())
         order = ["topology"]
@@ -64,11 +74,16 @@ def parts_in(folder):
 
 
 def folders():
-    yield from sorted(glob.glob(f"{TOP}/tests/cli/cases/*/folder"))
+    """Yields the texts of each folder, by their names."""
+    for case in cases():
+        texts = {name.removeprefix("folder/"): text[:MOST + 1] for name, text in case.items() if name.startswith("folder/")}
+        if texts:
+            yield {name: text for name, text in texts.items() if "/" not in name}
     for path in sorted(glob.glob(f"{TOP}/examples/*") + glob.glob(f"{TOP}/examples/faults/*")):
         if os.path.isfile(f"{path}/topology"):
-            yield path
-    yield from sorted(glob.glob(f"{TOP}/tests/cli/kernel_texts/*/"))
+            yield texts_of(path)
+    for path in sorted(glob.glob(f"{TOP}/tests/cli/kernel_texts/*/")):
+        yield texts_of(path)
 
 
 def bundles():

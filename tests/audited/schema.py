@@ -24,6 +24,8 @@ import random_domains
 import run
 
 TOP = os.path.join(os.path.dirname(os.path.abspath(__file__)), "..", "..")
+sys.path.append(f"{TOP}/tests")
+import case_files
 COUNT = 60
 
 
@@ -83,9 +85,8 @@ def look_at_examples(check):
 
 
 def look_at_cases(check):
-    for path in sorted(glob.glob(f"{TOP}/tests/cli/cases/audit_*/stdout")):
-        with open(path, encoding="utf-8") as file:
-            lines = file.read().splitlines()
+    for path in sorted(glob.glob(f"{TOP}/tests/cli/cases/audit_*.case")):
+        lines = case_files.load(os.path.relpath(path, TOP)).get("stdout", b"").decode().splitlines()
         if lines and lines[0].startswith("{"):
             for text in lines:
                 check.look_at(path, json.loads(text), True)

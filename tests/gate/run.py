@@ -14,7 +14,7 @@ It works on a copy of the repository, in steps:
   cases     tests/docs looks whether what the documents name is there, and runs what README and the tour show; tests/cli has cases of
             the program that was built; tests/audited works out anew what it says of random domains, and writes topologies in every form; tests/refusals
             refuses it each request for memory, each read and each write in turn, and the tests about memory each growth;
-            tests/tools tries the shell tools
+            tests/tools tries the tools
 
 Where a package is missing or the proofs fail, it ends there. At the end stands what each step and each crate took in
 processor time; with REPORT, a path, the same as a page in Markdown, and no proof that an earlier run passed on this
@@ -230,7 +230,7 @@ def try_program(gate):
     gate.step("the script for the edits", sys.executable, "tests/edits/try.py", "--selftest")
     gate.step("what documents name", sys.executable, "tests/docs/check.py")
     gate.step("what the page of proofs has", sys.executable, "tests/docs/proofs.py")
-    gate.step("cases of the program", "sh", "tests/cli/run.sh", program)
+    gate.step("cases of the program", sys.executable, "tests/cases.py", "cli", program)
     gate.step("tables of the program", sys.executable, "tests/cli/tables.py", program)
     gate.step("what README and the tour show", sys.executable, "tests/docs/run_blocks.py", program)
     gate.step("audits worked out anew", sys.executable, "tests/audited/run.py", program)

@@ -118,7 +118,7 @@ rule 'a failure with its status' 2..2 "$(lines '^class Failed\(' tools)"
 rule 'blocks of code in two functions: the checksum' 1..1 "$(python3 tests/house/tools.py copies | wc -l)"
 rule 'lines of more than 120 characters below tools/' 0..0 "$(python3 tests/house/tools.py lines | wc -l)"
 rule 'functions of more than 40 lines' 0..0 "$(python3 tests/house/tools.py functions | wc -l)"
-rule 'modules of more than 340 lines: the monitor' 0..1 "$(python3 tests/house/tools.py modules | wc -l)"
+rule 'modules of more than 340 lines' 0..0 "$(python3 tests/house/tools.py modules | wc -l)"
 
 printf '%s passed, %s failed\n' "$passed" "$failed"
 [ "$failed" -eq 0 ] && [ "$passed" -gt 0 ]

@@ -1,6 +1,7 @@
 #!/bin/sh
-# Installs the Debian package in a clean root, tries the program and its tools there, and removes it again: nothing is
-# left. Usage: run.sh PACKAGE, what `make deb` makes. It needs root, debootstrap, and a mirror of Debian.
+# Checks the Debian package with lintian, installs it in a clean root, tries the program and its tools there, and removes
+# it again: nothing is left. Usage: run.sh PACKAGE, what `make deb` makes. It needs root, lintian, debootstrap, and a
+# mirror of Debian.
 set -eu
 package=$(realpath "$1")
 sh "$(dirname "$0")/../packages.sh" package
@@ -22,6 +23,7 @@ print_files() {
         -o -path /var/lib/dpkg -o -path /var/lib/apt \) -prune -o -iname '*mcaudit*' -print
 }
 
+lintian --fail-on error,warning "$package" > "$room.log" 2>&1 || fail "$(cat "$room.log")"
 debootstrap --variant=minbase --include=python3 bookworm "$room" > "$room.log" 2>&1 || fail "$(tail -n 3 "$room.log")"
 rm "$room.log"
 cp "$package" "$room/tmp/mcaudit.deb"

@@ -33,7 +33,8 @@ from concurrent.futures import ThreadPoolExecutor
 
 TOP = os.path.dirname(os.path.dirname(os.path.dirname(os.path.abspath(__file__))))
 sys.dont_write_bytecode = True
-sys.path.append(f"{TOP}/tests/cli")
+sys.path += [f"{TOP}/tests", f"{TOP}/tests/cli"]
+import case_files
 from made import alone
 
 PIECES = (1, 2, 3, 7, 64, 4096)
@@ -43,7 +44,7 @@ FILE_CUTS = 500  # no file of the folders that are tried has so many bytes
 NO_MEMORY = (4, b"", b"no memory\n")
 READ_FAILED = (3, b"", b"failed: read\n")
 GAVE_UP = re.compile(rb"error: .*(Memory|AllocError|AllocFailed).*\nthe test failed: its result gives status 1\n\Z")
-REFUSED_FILES = f"{TOP}/tests/cli/cases/audit_file_before_the_next_one/folder"
+REFUSED_FILES = "tests/cli/cases/audit_file_before_the_next_one.case"
 CALLS, MEMORY = b"calls\n", b"Memory\n"  # what a test writes before a call, and of one without memory
 ABOUT_MEMORY = re.compile(r"\b(memory|pieces)::|refused_growth|failed_allocation")  # what the tests that are run are called
 
@@ -218,11 +219,12 @@ def runs_of(program):
     ]
 
 
-def tries(program, programs_of_tests, library):
+def tries(program, programs_of_tests, library, room):
     """Yields each run that is tried, of the program and of its tests."""
     for run in runs_of(program):
         yield Tried(program, library, *run)
-    yield TriedRefusal(program, library, ["audit", REFUSED_FILES], None)
+    case_files.write_folder(case_files.load(REFUSED_FILES), "folder", f"{room}/refused")
+    yield TriedRefusal(program, library, ["audit", f"{room}/refused"], None)
     for tests in programs_of_tests:
         yield from tests_about_memory(tests, library)
 
@@ -234,7 +236,7 @@ def main():
         library = f"{room}/refuse.so"
         source = f"{TOP}/tests/refusals/refuse.c"
         subprocess.run(["cc", "-O1", "-shared", "-fPIC", "-o", library, source, "-ldl"], check=True)
-        for tried in tries(program, tests, library):
+        for tried in tries(program, tests, library, room):
             for fault in pool.map(tried.fault_of, tried.refusals()):
                 counts[fault is None] += 1
                 if fault:

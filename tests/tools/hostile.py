@@ -204,6 +204,21 @@ def capture_of_several_interfaces(place):
 
 
 @case
+def capture_of_any_by_its_name(place):
+    """pcapng names its interfaces: one of `any` is refused whatever its packets are of, but not one beside it."""
+    tunnels = [(at, p.cooked(it, hardware=768)) for at, it in GOOD]
+    for name in (b"any", b"any\0"):
+        status, lines = place.captured((), file=p.pcapng(tunnels, 113, (name,)))
+        assert (status, lines) == (3, None) and "of all interfaces (any)" in place.said, (name, place.said)
+    assert place.captured((), file=p.pcapng(tunnels, 113, (b"l1", b"any"), 1))[0] == 3, place.said
+    for name in (b"", b"l1", b"anyone"):
+        assert place.captured((), file=p.pcapng(tunnels, 113, (name,))) == (0, LISTED), (name, place.said)
+        os.unlink(place.at("list"))
+    beside = p.pcapng(tunnels, 113, (b"l1", b"any"))
+    assert place.captured((), "--interface", "0", file=beside) == (0, LISTED), place.said
+
+
+@case
 def packets_that_receivers_ignore(place):
     """They are left aside, as long as they are few, and their senders are named."""
     bad = p.packet("10.0.1.66", p.ROUTERS, b"\x22\0\x12\x34\0\0\0\0")
@@ -447,6 +462,40 @@ def files_written_into_both_sets(place):
 
 
 @case
+def files_written_late_into_older_sets(place):
+    """They come into the next set, once; where two older sets have one, that of the newer of them does."""
+    ways = place.routers("r1", "r2")
+    place.site()
+    first, second, _ = (collected(place, ways) for _ in range(3))
+    place.write(f"{first}/igmp-l2", "first\n")
+    collected(place, ways)
+    assert place.read("site/igmp-l2") == "first\n", "the list is lost"
+    assert place.said.count("had been made of it") == 1 and "into 20260101T000000Z" in place.said, place.said
+    place.write("site/igmp-l2", "by hand\n")
+    for folder, text in ((first, "older"), (second, "newer")):
+        place.write(f"{folder}/notes", text)
+    collected(place, ways)
+    assert place.read("site/igmp-l2") == "by hand\n" and place.read("site/notes") == "newer", place.said
+    assert "igmp-l2" not in place.said and place.said.count("./site/notes") == 2, place.said
+    collected(place, ways)
+    assert "had been made" not in place.said and place.read("site/notes") == "newer", place.said
+
+
+@case
+def file_of_an_old_set_that_is_only_touched_by_others(place):
+    """Whoever changes its rights or links it elsewhere writes nothing: what is newer stays."""
+    ways = place.routers("r1", "r2")
+    place.site()
+    first, _ = (collected(place, ways) for _ in range(2))
+    place.write("site/igmp-l2", "new\n")
+    collected(place, ways)
+    os.chmod(f"{first}/igmp-l2", 0o600)
+    os.link(f"{first}/igmp-l2", place.at("backup"))
+    collected(place, ways)
+    assert place.read("site/igmp-l2") == "new\n" and "had been made" not in place.said, place.said
+
+
+@case
 def file_written_between_its_copy_and_the_swap(place):
     """It comes into the set after the new one."""
     ways = place.routers("r1", "r2")
@@ -487,6 +536,24 @@ def runs_that_were_killed(place):
         assert place.run("collect", "--pause", "0", "site", *ways) == 0, place.said
         assert alive.wait(20) == 0
     assert not glob.glob(place.at("site.sets/.*"))
+
+
+@case
+def runs_that_were_killed_as_they_swapped(place):
+    """What they left beside SITE is taken away by the next one, but nothing else that is called so."""
+    ways = place.routers("r1")
+    place.site()
+    for name in (".site.abcdefgh", ".site.a_c3efgh"):
+        os.mkdir(place.at(name))
+    os.symlink("site.sets/20260101T000000Z", place.at(".site.a_c3efgh/link"))
+    kept = [".site.abcdefgi/folder/topology", ".site.abcdefg/x", ".other.abcdefgh/x"]
+    for name in kept:
+        place.write(name, "precious")
+    place.write(".site.00000000", "a file")
+    assert place.run("collect", "--pause", "0", "site", *ways) == 0, place.said
+    assert [place.read(it) for it in kept] == ["precious"] * 3 and place.read(".site.00000000") == "a file"
+    left = sorted(os.path.basename(it) for it in glob.glob(place.at(".site.*")))
+    assert left == [".site.00000000", ".site.abcdefg", ".site.abcdefgi"], left
 
 
 @case
@@ -582,6 +649,22 @@ def router_under_two_names(place):
     assert place.run("collect", "--pause", "0", "site", ways[0], "r2=!env R=r1") == 1
     assert "r2: is the same router as r1" in place.said and not os.path.exists(place.at("site/vif-r1")), place.said
     assert place.run("collect", "--pause", "0", "site", *ways) == 0, place.said
+
+
+@case
+def routers_by_a_python_that_reads_no_toml(place):
+    """One router under two names is refused all the same, and that the topology can't be read is said."""
+    ways = place.routers("r1", "r2")
+    place.write("old/tomllib.py", "raise ImportError\n")
+    place.environment["PYTHONPATH"] = place.at("old")
+    place.site()
+    place.write("site/topology", 'router = [{name = "r1"}]\n')
+    assert place.run("collect", "--pause", "0", "site", ways[0], "r2=!env R=r1") == 1, place.said
+    assert "r2: is the same router as r1" in place.said and not os.path.exists(place.at("site/vif-r1")), place.said
+    assert place.run("collect", "--pause", "0", "site", *ways) == 0 and "of 3.11 or later" in place.said, place.said
+    for tool, words in (("site", ("lans", "site")), ("draft", ("--update", "site", "r1=!false")),
+                        ("reports", ("--all", "site", *ways))):
+        assert place.run(tool, *words) == 3 and "of 3.11 or later" in place.said, (tool, place.said)
 
 
 @case
@@ -884,9 +967,9 @@ def tried(function):
             return f"{type(fault).__name__}: {fault}"
 
 
-def main():
+def run_cases(cases):
     """Runs the cases, four side by side. Returns the status."""
-    chosen = [it for it in CASES if not sys.argv[1:] or it.__name__ in sys.argv[1:]]
+    chosen = [it for it in cases if not sys.argv[1:] or it.__name__ in sys.argv[1:]]
     with concurrent.futures.ThreadPoolExecutor(4) as pool:
         faults = list(pool.map(tried, chosen))
     for function, fault in zip(chosen, faults):
@@ -898,4 +981,4 @@ def main():
 
 
 if __name__ == "__main__":
-    sys.exit(main())
+    sys.exit(run_cases(CASES))

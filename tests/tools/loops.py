@@ -78,6 +78,9 @@ def check_next(place, ways, site="site"):
     assert place.run("collect", "--adopt", "--pause", "0", site, *ways) == 0, place.said
     check_whole(place, site)
     assert not glob.glob(place.at(f"{site}.sets/.*")), os.listdir(place.at(f"{site}.sets"))
+    folder, own = os.path.split(site)
+    left = glob.glob(place.at(folder, f".{own}.*"))
+    assert not any(map(os.path.isdir, left)), left
 
 
 # Ends at random moments

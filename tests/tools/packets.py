@@ -98,12 +98,16 @@ def block(kind, body):
     return struct.pack("<II", kind, len(body) + 12) + body + struct.pack("<I", len(body) + 12)
 
 
-def pcapng(frames, link=1):
-    """Returns a pcapng file of (seconds after the start, frame)."""
-    parts = [block(0x0A0D0D0A, struct.pack("<IHHq", 0x1A2B3C4D, 1, 0, -1)), block(1, struct.pack("<HHI", link, 0, 0))]
+def pcapng(frames, link=1, names=(b"",), number=0):
+    """Returns a pcapng file of (seconds after the start, frame), of interfaces with these names: of the one with this
+    number."""
+    parts = [block(0x0A0D0D0A, struct.pack("<IHHq", 0x1A2B3C4D, 1, 0, -1))]
+    for name in names:
+        option = struct.pack("<HH", 2, len(name)) + name + b"\0" * (-len(name) % 4) + bytes(4)
+        parts.append(block(1, struct.pack("<HHI", link, 0, 0) + option * bool(name)))
     for at, it in frames:
         units = int((START + at) * 1e6)
-        parts.append(block(6, struct.pack("<IIIII", 0, units >> 32, units & 0xFFFFFFFF, len(it), len(it)) + it))
+        parts.append(block(6, struct.pack("<IIIII", number, units >> 32, units & 0xFFFFFFFF, len(it), len(it)) + it))
     return b"".join(parts)
 
 

@@ -16,6 +16,7 @@ IPV4, TAGS = 0x0800, (0x8100, 0x88A8, 0x9100)
 ETHERNET, RAW, COOKED, COOKED_2 = 1, (12, 14, 101, 228), 113, 276
 HARDWARE_ETHERNET, HARDWARE_LOOPBACK = 1, 772  # of cooked frames (ARPHRD)
 TO_ALL, OWN = 2, 4  # packet types of cooked frames: multicast, and sent by this machine
+OF_ANY = "the capture is of all interfaces (any), and a list is of one LAN: capture on its interface"
 SECOND = 1_000_000_000  # times are whole nanoseconds
 MAGIC = {0xA1B2C3D4: 1000, 0xA1B23C4D: 1}  # nanoseconds of a unit of pcap's times
 SECTION, INTERFACE, OLD_PACKET, SIMPLE_PACKET, STATISTICS, PACKET = 0x0A0D0D0A, 1, 2, 3, 5, 6  # blocks of pcapng
@@ -157,13 +158,15 @@ class Decoder:
     def read_interface(self, body):
         """Reads what the packets of an interface are."""
         link, = struct.unpack_from(self.order + "H", body)
-        units, offset = (10, 6), 0
+        units, offset, name = (10, 6), 0, b""
         for code, value in self.options(body[8:]):
-            if code == 9:
+            if code == 2:
+                name = value.rstrip(b"\0")
+            elif code == 9:
                 units = (2 if value[0] & 128 else 10), value[0] & 127
             elif code == 14:
                 offset, = struct.unpack(self.order + "q", value)
-        self.interfaces.append((link, units[0] ** units[1], offset))
+        self.interfaces.append((link, units[0] ** units[1], offset, link == COOKED and name == b"any"))
 
     def read_packet(self, body):
         """Reads a packet."""
@@ -191,8 +194,10 @@ class Decoder:
         """Returns the frame of an interface's packet."""
         if number >= len(self.interfaces) or len(data) < captured:
             raise Broken("the capture is broken: no packet is such")
-        link, per_second, offset = self.interfaces[number]
+        link, per_second, offset, is_of_any = self.interfaces[number]
         check_link(link)
+        if is_of_any and self.interface in (None, number):
+            raise Broken(OF_ANY)
         time = None if units is None else units * SECOND // per_second + offset * SECOND
         frame = frame_of(link, time, data)
         if frame is not None and link != COOKED_2:
@@ -215,7 +220,7 @@ def frame_of(link, time, data):
     if link == COOKED:
         kind, hardware = struct.unpack_from("!HH", data.ljust(4, b"\xff"))
         if hardware in (HARDWARE_ETHERNET, HARDWARE_LOOPBACK):
-            raise Broken("the capture is of all interfaces (any), and a list is of one LAN: capture on its interface")
+            raise Broken(OF_ANY)
         return untagged(Frame(time, is_to_all=kind in (TO_ALL, OWN)), data[14:])
     index, kind = struct.unpack_from("!I2xB", data.ljust(11, b"\xff"), 4)
     return untagged(Frame(time, is_to_all=kind in (TO_ALL, OWN), interface=index), data[:2] + data[20:])

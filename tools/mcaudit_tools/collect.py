@@ -92,19 +92,12 @@ def read_arguments():
                         "with this standard input and output")
     parser.add_version()
     found = parser.parse_intermixed_args()
-    found.readings = number(parser, found.readings, 2, 100, "--readings takes 2 to 100")
-    found.pause = number(parser, found.pause, 0, 999, "--pause takes whole seconds, 0 to 999")
-    found.timeout = number(parser, found.timeout, 1, 999, "--timeout takes whole seconds, 1 to 999")
-    found.at_once = number(parser, found.at_once, 1, 100, "--at-once takes 1 to 100")
+    found.readings = parser.number(found.readings, 2, 100, "--readings takes 2 to 100")
+    found.pause = parser.number(found.pause, 0, 999, "--pause takes whole seconds, 0 to 999")
+    found.timeout = parser.number(found.timeout, 1, 999, "--timeout takes whole seconds, 1 to 999")
+    found.at_once = parser.number(found.at_once, 1, 100, "--at-once takes 1 to 100")
     take_words(parser, found)
     return found
-
-
-def number(parser, text, least, most, sentence):
-    """Reads a number of one to three digits within these bounds."""
-    if not (text.isascii() and text.isdigit() and len(text) <= 3 and least <= int(text) <= most):
-        parser.error(sentence)
-    return int(text)
 
 
 def take_words(parser, found):

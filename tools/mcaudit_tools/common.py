@@ -107,10 +107,35 @@ class Parser(argparse.ArgumentParser):
         version = f"%(prog)s {PROGRAM.version}"
         self.add_argument("--version", action="version", version=version, help="print the version")
 
+    def add_options(self, rows, repeated=()):
+        """Adds options: what each is called, its value or None for a flag, and its help."""
+        for option, value, about in rows:
+            how = "append" if option in repeated else "store" if value else "store_true"
+            self.add_argument(option, action=how, help=about, **({"metavar": value} if value else {}))
+
+    def number(self, text, least, most, sentence):
+        """Reads a whole number within these bounds, of no more digits than the greatest has."""
+        if not (text.isascii() and text.isdigit() and len(text) <= len(str(most)) and least <= int(text) <= most):
+            self.error(sentence)
+        return int(text)
+
     def error(self, message):
         """Tells what is wrong."""
         print(f"{PROGRAM.name}: {clean(sentence_of(message))}\nTry: {PROGRAM.name} --help", file=sys.stderr)
         sys.exit(5)
+
+
+def options_of(words, *names):
+    """Returns those of the options that were given, as words of another tool."""
+    found = []
+    for name in names:
+        value = getattr(words, name.removeprefix("--").replace("-", "_"))
+        for one in value if isinstance(value, list) else [value]:
+            if one is True:
+                found.append(name)
+            elif one is not None and one is not False:
+                found += [name, one]
+    return found
 
 
 def sentence_of(message):

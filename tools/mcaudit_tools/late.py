@@ -1,5 +1,6 @@
 """What was written into a set after the next one was made of it, by whoever had its path before: an editor, or a copy
-that took long. A set keeps in `.carried` of which set it was made, and how each file was in both then.
+that took long. A set keeps in `.carried` of which set it was made, how each file was in both then, and how the files of
+some sets before it were.
 """
 import contextlib
 import filecmp
@@ -12,6 +13,7 @@ from mcaudit_tools.files import read_json
 
 FILE = ".carried"
 MOST_BYTES = 16 << 20
+MOST_SETS = 8  # that are looked into, beside the one of which a set was made
 
 
 def state_of(path):
@@ -31,47 +33,63 @@ def states_of(folder, is_left_out):
     return {it: state_of(os.path.join(folder, it)) for it in sorted(os.listdir(folder)) if not is_left_out(it)}
 
 
-def text_of(name, before, after):
-    """Returns the text of `.carried`: of the set of this name, how its files were, and how those of the new set are."""
+def text_of(name, before, after, others):
+    """Returns the text of `.carried`: the states of the files in the set of this name and in the new one, and by name
+    those in other sets, as many as there is room for."""
     files = {it: [before.get(it), after.get(it)] for it in sorted({*before, *after})}
-    return json.dumps({"files": files, "from": name, "version": 1}, separators=(",", ":")).encode() + b"\n"
+    for most in range(len(others), -1, -1):
+        kept = {"files": files, "from": name, "others": dict(list(others.items())[:most]), "version": 1}
+        text = json.dumps(kept, separators=(",", ":")).encode() + b"\n"
+        if len(text) <= MOST_BYTES:
+            break
+    return text
 
 
 class Late:
-    """What was written late into the set of which another one was made."""
+    """What was written late into the set of which another one was made, and into some before it."""
 
-    def __init__(self, folder, is_left_out):
-        """Takes the folder of the set that was made, and which files are left aside."""
-        self.folder, self.earlier = folder, None
-        self.written, self.both = [], []  # names: of what is to be carried, and of what changed in both sets
+    def __init__(self, folder, is_left_out, is_replaced):
+        """Takes the folder of the set that was made, which files no set has from another, and which are left aside."""
+        self.folder, self.is_left_out, self.is_replaced = folder, is_left_out, is_replaced
+        self.files, self.seen = {}, {}  # how the files were, before and after; and how they are now, by set
+        self.written, self.both = {}, []  # the set by name of what is to be carried; name and set of what changed twice
         with contextlib.suppress(Failed, ValueError, KeyError, TypeError, AttributeError, RecursionError):
             found = read_json(os.path.join(folder, FILE), MOST_BYTES)
-            name, files = found["from"], {it: (before, after) for it, (before, after) in found["files"].items()}
-            if found["version"] == 1 and os.path.basename(name) == name:
-                self.look(os.path.join(os.path.dirname(folder), name), files, is_left_out)
+            self.files = {it: (before, after) for it, (before, after) in found["files"].items()}
+            told = {found["from"]: {it: before for it, (before, _) in self.files.items()}, **found.get("others", {})}
+            for name, states in told.items() if found["version"] == 1 else ():
+                if os.path.basename(name) == name:
+                    self.look(os.path.join(os.path.dirname(folder), name), states)
 
-    def look(self, earlier, files, is_left_out):
-        """Looks for what was written into the earlier set."""
+    def look(self, earlier, states):
+        """Looks for what was written into an earlier set, whose files were so."""
         if os.path.islink(earlier) or not os.path.isdir(earlier):
             return
-        self.earlier = earlier
-        for name, now in states_of(earlier, is_left_out).items():
-            before, after = files.get(name, (None, None))
+        self.seen[os.path.basename(earlier)] = states_of(earlier, self.is_left_out)
+        for name, now in self.seen[os.path.basename(earlier)].items():
             here = os.path.join(self.folder, name)
-            if now in (None, before) or is_same(os.path.join(earlier, name), here):
+            if self.is_replaced(name) or now in (None, states.get(name)) or is_same(os.path.join(earlier, name), here):
                 continue
+            before, after = self.files.get(name, (None, None))
             is_lost = state_of(here) != after or before is not None and after is None
-            (self.both if is_lost else self.written).append(name)
+            if is_lost or name in self.written:
+                self.both.append((name, earlier))
+            else:
+                self.written[name] = earlier
+
+    def others(self):
+        """Returns how the files of these sets are, as the next set keeps it."""
+        return dict(list(self.seen.items())[:MOST_SETS])
 
     def sentences(self, named):
         """Returns what a person is to know of it, of a site of this name."""
-        if self.earlier is None:
-            return []
-        old, new = os.path.basename(self.earlier), os.path.basename(self.folder)
+        new = os.path.basename(self.folder)
+        written, both = ([(it, os.path.basename(folder)) for it, folder in of]
+                         for of in (self.written.items(), self.both))
         return [*(f"{named}/{it} is what was written into {old} after {new} had been made of it"
-                  for it in self.written),
+                  for it, old in written),
                 *(f"{named}/{it} was written in {new} and also in {old}, after {new} had been made of it: what {old} "
-                  "has is not in the new set" for it in self.both)]
+                  "has is not in the new set" for it, old in both)]
 
 
 def is_same(one, two):

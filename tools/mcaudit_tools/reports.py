@@ -14,7 +14,7 @@ import time
 
 from mcaudit_tools import capture, igmp, origins, recording, ways
 from mcaudit_tools.common import Failed, Parser, say
-from mcaudit_tools.files import PIECE, open_regular, reason_of
+from mcaudit_tools.files import PIECE, open_regular, printing
 from mcaudit_tools.gather import gather_all, text_of, write_list
 from mcaudit_tools.live import Task, capture_list
 from mcaudit_tools.window import NO_LIST, REFUSED, SPOILT, WRITTEN, Gathering, List
@@ -104,8 +104,7 @@ OPTIONS = [
     ("--querier", "ADDRESS", "a query of this address counts too; may be given again"),
     ("--interface", "NUMBER", "with --capture, the interface of a file that has several: its index, or its number in "
      "the file"),
-    ("--routers", "FILE", "take the routers of FILE too: NAME=WAY, a line each"),
-    ("--ssh", "COMMAND", "reach a HOST by `COMMAND HOST sh`")]
+    *ways.REACH]
 REPEATED = "--static", "--empty-lan", "--routers", "--network", "--querier"
 
 
@@ -114,10 +113,7 @@ REPEATED = "--static", "--empty-lan", "--routers", "--network", "--querier"
 def read_arguments():
     """Reads the arguments."""
     parser = Parser(description=ABOUT, epilog=MORE, usage=USAGE)
-    for option, value, about in OPTIONS:
-        how = "append" if option in REPEATED else "store" if value else "store_true"
-        named = {"metavar": value} if value else {}
-        parser.add_argument(option, action=how, help=about, **named)
+    parser.add_options(OPTIONS, REPEATED)
     parser.add_argument("words", metavar="INTERFACE", nargs="*", help="an interface; with --all, NAME=WAY of routers")
     parser.add_version()
     found = parser.parse_intermixed_args()
@@ -139,23 +135,14 @@ def read_arguments():
     return found
 
 
-def number(parser, text, most_digits, least, sentence):
-    """Reads a number of at most so many digits."""
-    if not (text.isascii() and text.isdigit() and len(text) <= most_digits and int(text) >= least):
-        parser.error(sentence)
-    return int(text)
-
-
 def check_numbers(parser, found):
     """Reads the numbers."""
-    found.wait = number(parser, found.wait or "260", 4, 0, "--wait takes whole seconds, 0 to 9999")
-    found.slack = number(parser, found.slack or "1", 2, 0, "--slack takes whole seconds, 0 to 99")
-    found.tries = number(parser, found.tries or "1", 2, 1, "--tries takes 1 to 99")
-    found.queries = number(parser, found.queries or "1", 1, 1, "--queries takes 1 to 3")
-    if found.queries > 3:
-        parser.error("--queries takes 1 to 3")
+    found.wait = parser.number(found.wait or "260", 0, 9999, "--wait takes whole seconds, 0 to 9999")
+    found.slack = parser.number(found.slack or "1", 0, 99, "--slack takes whole seconds, 0 to 99")
+    found.tries = parser.number(found.tries or "1", 1, 99, "--tries takes 1 to 99")
+    found.queries = parser.number(found.queries or "1", 1, 3, "--queries takes 1 to 3")
     if found.interface is not None:
-        found.interface = number(parser, found.interface, 9, 0, "--interface takes a number")
+        found.interface = parser.number(found.interface, 0, 999_999_999, "--interface takes a number")
     found.ask = found.ask or found.ask_routers
 
 
@@ -272,11 +259,9 @@ def give(words, found, origin):
         return NO_LIST
     data = text_of(found.messages)
     if words.o is None:
-        try:
+        with printing():
             sys.stdout.buffer.write(data)
             sys.stdout.buffer.flush()
-        except OSError as fault:
-            raise Failed(f"standard output can't be written: {reason_of(fault)}") from fault
     elif found.status == WRITTEN:
         write_list(words.o, data, origin)
     return found.status

@@ -44,6 +44,7 @@ class Site:
         self.path = stripped if stripped.startswith(("/", "./", "../")) else f"./{stripped}"
         self.sets = f"{self.path}.sets"
         self.states = {}  # of the last set's files, as they were before they were copied
+        self.others = {}  # of the files of some sets before it
 
     # The lock
 
@@ -84,6 +85,7 @@ class Site:
             os.makedirs(self.sets, exist_ok=True)
             with self.writing():
                 self.clear_stale()
+                self.clear_links()
                 made = tempfile.mkdtemp(prefix=SCRATCH, dir=self.sets)
                 opened = locks.lock_folder(made)
         except OSError as fault:
@@ -110,6 +112,18 @@ class Site:
                     shutil.rmtree(entry.path, ignore_errors=True)
             finally:
                 os.close(opened)
+
+    def clear_links(self):
+        """Removes what a run that was killed as it swapped left beside SITE: a folder with a link in it, or with
+        nothing. The lock is held, so no live run has one."""
+        folder, own = os.path.split(self.path)
+        left = re.compile(re.escape(f".{own[:80]}.") + "[a-z0-9_]{8}")
+        for entry in list(os.scandir(folder)):
+            if left.fullmatch(entry.name) and entry.is_dir(follow_symlinks=False):
+                with contextlib.suppress(OSError):  # of another kind, or not empty
+                    if os.path.islink(os.path.join(entry.path, "link")):
+                        os.unlink(os.path.join(entry.path, "link"))
+                    os.rmdir(entry.path)
 
     def adopt(self):
         """Makes a plain folder the first set. Where the sets are on another disk it is copied there."""
@@ -221,20 +235,21 @@ class Site:
             raise
 
     def carry(self, last, made, is_replaced):
-        """Copies the other files of the last set into the one that is made, and what was written late into the set
+        """Copies the other files of the last set into the one that is made, and what was written late into those
         before it. Returns where they come from, and what a person is to know of it."""
         if last is None:
             return {}, []
-        found = late.Late(last, lambda name: is_left_out(name) or is_replaced(name))
-        self.states = late.states_of(last, is_left_out)
+        found = late.Late(last, is_left_out, is_replaced)
+        self.others, self.states = found.others(), late.states_of(last, is_left_out)
         for name in self.states:
             if is_replaced(name) and os.path.isdir(os.path.join(last, name)):
                 raise Failed(f"{os.path.join(self.path, name)} is a folder")
         names = [it for it in self.states if not is_replaced(it) and it not in found.written]
         told = self.carry_files(last, names, made, self.path)
-        if found.written:
-            named = os.path.join(self.sets, os.path.basename(found.earlier))
-            told.update(self.carry_files(found.earlier, found.written, made, named))
+        for earlier in dict.fromkeys(found.written.values()):
+            names = [it for it, folder in found.written.items() if folder == earlier]
+            named = os.path.join(self.sets, os.path.basename(earlier))
+            told.update(self.carry_files(earlier, names, made, named))
         return told, found.sentences(self.path)
 
     def carry_files(self, folder, names, made, named):
@@ -256,7 +271,8 @@ class Site:
     def note_states(self, last, made):
         """Notes in the set that is made how its files are, and how those of the last one were when they were copied."""
         with open(os.path.join(made, late.FILE), "wb") as file:
-            file.write(late.text_of(os.path.basename(last), self.states, late.states_of(made, is_left_out)))
+            file.write(late.text_of(os.path.basename(last), self.states, late.states_of(made, is_left_out),
+                                    self.others))
 
 
 def is_left_out(name):

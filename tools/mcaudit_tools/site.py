@@ -6,10 +6,11 @@ audit`, each by its own words. It takes nothing over from them but their statuse
 import os
 import subprocess
 
-from mcaudit_tools.common import Failed, Parser, find_tool, say
+from mcaudit_tools.common import Failed, Parser, find_tool, options_of, say
 from mcaudit_tools.files import read_regular
 from mcaudit_tools.programs import RUNNING
 from mcaudit_tools.topology import MOST_BYTES, read_topology
+from mcaudit_tools.ways import REACH
 
 ABOUT = """Makes the whole folder of a domain in one go, or tells the LANs of its topology.
 
@@ -22,16 +23,13 @@ Of lans: 0 printed, 3 the topology can't be read. 5 wrong words.
 Examples:
   mcaudit-site init site --routers routers --ssh 'ssh -l root'
   mcaudit-site lans site"""
-OPTIONS = [("--routers", "FILE", "take the routers of FILE too: NAME=WAY, a line each"),
-           ("--ssh", "COMMAND", "reach a HOST by `COMMAND HOST sh`"),
+OPTIONS = [*REACH,
            ("--ttl", "N", "the time to live of all flows; without it each is measured"),
            ("--wait", "SECONDS", "wait so long for a General Query on each LAN"),
            ("--tries", "N", "gather a LAN's reports so often, where they changed meanwhile"),
            ("--static", "LAN:GROUP[,SOURCE]", "what a host wants that can't be asked"),
            ("--empty-lan", "LAN", "where no host of this LAN answers, nobody on it wants anything")]
 REPEATED = "--static", "--empty-lan"
-
-
 GRACE = 5  # seconds that a step has to end what it began
 
 
@@ -61,8 +59,7 @@ def read_arguments():
                                description="Makes the folder SITE of the routers, and judges it.")
     init.add_argument("site", metavar="SITE")
     init.add_argument("ways", metavar="NAME=WAY", nargs="*", help="a router and the way to it, as for mcaudit-collect")
-    for option, value, about in OPTIONS:
-        init.add_argument(option, metavar=value, action="append" if option in REPEATED else "store", help=about)
+    init.add_options(OPTIONS, REPEATED)
     init.add_argument("--ask", action="store_true", help="ask the hosts where no querier does, as mcaudit-reports")
     init.add_argument("--ask-routers", action="store_true", help="on LANs that two routers lie on, too")
     init.add_argument("--empty", action="store_true",
@@ -71,19 +68,6 @@ def read_arguments():
                                description="Prints LAN ROUTER DEVICE for each interface, or a LAN without one alone.")
     lans.add_argument("site", metavar="SITE")
     return words.parse_args()
-
-
-def options_of(words, *names):
-    """Returns those of the options that were given, as words of another tool."""
-    found = []
-    for name in names:
-        value = getattr(words, name.removeprefix("--").replace("-", "_"))
-        for one in value if isinstance(value, list) else [value]:
-            if one is True:
-                found.append(name)
-            elif one is not None and one is not False:
-                found += [name, one]
-    return found
 
 
 def steps_of(words):

@@ -8,6 +8,8 @@ from mcaudit_tools.common import Failed, name_fault
 from mcaudit_tools.files import read_regular
 
 SSH = "ssh -o BatchMode=yes -o ConnectTimeout=10"
+REACH = [("--routers", "FILE", "take the routers of FILE too: NAME=WAY, a line each"),
+         ("--ssh", "COMMAND", "reach a HOST by `COMMAND HOST sh`")]  # options of whoever asks routers
 MOST_BYTES = 1 << 20  # of a file of routers
 HOST = re.compile(r"[A-Za-z0-9@:_.%][A-Za-z0-9@:_.%-]*")
 COMMAND = re.compile(r"!.+", re.DOTALL)

@@ -11,7 +11,7 @@ import os
 import sys
 import tempfile
 
-from mcaudit_tools.common import Failed, Parser, clean, whole_number
+from mcaudit_tools.common import Failed, Parser, clean, options_of, whole_number
 from mcaudit_tools.draft.ask import ask_routers
 from mcaudit_tools.draft.changes import print_changes, take_interfaces
 from mcaudit_tools.draft.flows import find_flows
@@ -23,6 +23,7 @@ from mcaudit_tools.files import beside, reason_of
 from mcaudit_tools.programs import RUNNING
 from mcaudit_tools.sets import site_of
 from mcaudit_tools.topology import read_toml
+from mcaudit_tools.ways import REACH
 
 GRACE = 3  # seconds that what it runs has to end what that began
 ABOUT = """Drafts SITE/topology of what the routers say, to be read before anything is judged by it.
@@ -65,8 +66,7 @@ def read_arguments():
     words = Parser(description=ABOUT, epilog=MORE)
     words.add_argument("site", metavar="SITE")
     words.add_argument("ways", metavar="NAME=WAY", nargs="*", help="a router and the way to it")
-    words.add_argument("--routers", metavar="FILE", help="take the routers of FILE too: NAME=WAY, a line each")
-    words.add_argument("--ssh", metavar="COMMAND", help="reach a HOST by `COMMAND HOST sh`")
+    words.add_options(REACH)
     words.add_argument("--timeout", metavar="SECONDS", type=whole_number(1, 999), default=60,
                        help="give a router up when a reading takes longer (60)")
     words.add_argument("--ttl", metavar="N", type=whole_number(1, 255),
@@ -78,8 +78,7 @@ def read_arguments():
     words.add_version()
     found = words.parse_args()
     found.timeout = str(found.timeout)
-    found.reach = [it for name in ("routers", "ssh") if getattr(found, name) is not None
-                   for it in (f"--{name}", getattr(found, name))]
+    found.reach = options_of(found, "--routers", "--ssh")
     return found
 
 

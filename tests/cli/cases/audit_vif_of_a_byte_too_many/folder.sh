@@ -1,3 +1,0 @@
-# a byte more than a file may have
-cp tests/cli/tables/one_router/* "$1"
-head -c 16777217 /dev/zero | tr '\0' '\n' > "$1/vif-r1"

@@ -1,2 +1,0 @@
-# a topology that lists no flow
-sed 's/^flow = .*/flow = []/' examples/network/topology > "$1/topology"

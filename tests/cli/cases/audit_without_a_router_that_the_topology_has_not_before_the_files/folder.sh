@@ -1,2 +1,0 @@
-# the topology alone
-cp examples/network/topology "$1"

@@ -87,6 +87,13 @@ rule 'facts by the name IsKept' 0..0 "$(lines "${head}(record )?IsKept" $specs)"
 rule 'files of definitions of at most 15 lines' 1..5 "$(small 15 $specs)"
 rule 'lemmas and definitions that nothing leads to' 0..0 "$(python3 tests/house/uncited.py | wc -l)"
 
+# --- what stands twice ---
+# (windows of 12 lines that are alike but for names, numbers and texts; these counts only fall)
+rule 'windows of code that stand again' 1..141 "$(python3 tests/house/duplicates.py code)"
+rule 'windows of definitions that stand again' 0..10 "$(python3 tests/house/duplicates.py definitions)"
+rule 'windows of proofs that stand again' 1..31 "$(python3 tests/house/duplicates.py proofs)"
+rule 'windows of the tools that stand again' 0..0 "$(python3 tests/house/duplicates.py tools)"
+
 # --- edits that must fail ---
 # (an edit that names a clause is refused by that clause alone, and not by a proof that no longer fits)
 first_five='mc_run mc_replay mc_forward mc_check mc_maker'

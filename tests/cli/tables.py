@@ -10,7 +10,8 @@ these lines, up to an empty one:
                             one's input, which then answers; FOLDER is a folder of its own
   file: topology            where a row's text stands: this file of FOLDER; without the line, standard input
   others: network           the files that FOLDER has beside it: those of this folder of tables/
-  text: network.topology    the file of tables/ that each row changes
+  text: network.topology    the file of tables/ that each row changes, or a text of a case, as
+                            cases/NAME.case/stdin
   refused: topology:        what stands before a block's answer: `flow 1: BadTtl` says that the program ends
                             with status 2, nothing on standard output, and the one line
                             `refused: topology: flow 1: BadTtl` on standard error
@@ -42,10 +43,13 @@ import tempfile
 from concurrent.futures import ThreadPoolExecutor
 
 sys.dont_write_bytecode = True
+HERE = os.path.dirname(os.path.abspath(__file__))
+sys.path.append(os.path.dirname(HERE))
+import case_files
 import domains
 import made
 
-TABLES = os.path.join(os.path.dirname(os.path.abspath(__file__)), "tables")
+TABLES = f"{HERE}/tables"
 SECONDS = 60
 STATUSES = {"refused": 2, "failed": 3, "verdict no": 1, "finding Clean": 0, "finding ": 1, "found ": 1, "not wanted": 1}
 
@@ -59,6 +63,8 @@ def unescaped(text):
 
 
 def text_of(name):
+    if name.startswith("cases/"):
+        return case_files.text_at(f"tests/cli/{name}")
     with open(f"{TABLES}/{name}", "rb") as file:
         return file.read()
 

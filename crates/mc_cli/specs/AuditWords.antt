@@ -5,7 +5,9 @@ use Rattle.std.specs.Bool.{then_some}
 use Rattle.std.specs.List.{list_any}
 use Rattle.std.specs.Str.{bytes_eq}
 use Rattle.mc_topology.specs.Names.{is_name}
-use Rattle.mc_cli.specs.declared.audit_words.AuditOptions.{AuditOptions}
+use Rattle.mc_cli.specs.AuditOptionWords.{faults_word, json_word, strict_word, travel_word, unlisted_word}
+use Rattle.mc_cli.specs.AuditOptionWords.{without_word}
+use Rattle.mc_cli.specs.declared.audit_options.AuditOptions.{AuditOptions}
 use Rattle.mc_cli.specs.declared.audit_words.AuditWords.{AuditWords}
 use Rattle.mc_cli.specs.declared.draft.Draft.{Draft}
 use Rattle.mc_cli.specs.declared.draft.NextWord.{NextWord}
@@ -53,12 +55,12 @@ unless_given given options = then_some (not given) options
 -- the options with the one that the word names; none where it names none, or one given before
 abbrev pub with_option : List ℕ → AuditOptions → Option AuditOptions
 with_option word o =
-    if bytes_eq word (codes "--travel") then unless_given o.travels (record o { travels = true })
-    else (if bytes_eq word (codes "--faults") then unless_given o.faults (record o { faults = true })
-    else (if bytes_eq word (codes "--unlisted")
+    if bytes_eq word travel_word then unless_given o.travels (record o { travels = true })
+    else (if bytes_eq word faults_word then unless_given o.faults (record o { faults = true })
+    else (if bytes_eq word unlisted_word
     then unless_given o.unlisted (record o { unlisted = true })
-    else (if bytes_eq word (codes "--strict") then unless_given o.strict (record o { strict = true })
-    else (if bytes_eq word (codes "--json") then unless_given o.json (record o { json = true })
+    else (if bytes_eq word strict_word then unless_given o.strict (record o { strict = true })
+    else (if bytes_eq word json_word then unless_given o.json (record o { json = true })
     else None))))
 
 -- with the folder, of which there is one
@@ -85,7 +87,7 @@ with_router_or_other None word given = if is_option word
 abbrev pub with_option_or_folder : List ℕ → Given → Option Given
 with_option_or_folder word given =
     if bytes_eq word (codes "--") then Some (record given { next_word = FolderOnly })
-    else (if bytes_eq word (codes "--without") then Some (record given { next_word = Router })
+    else (if bytes_eq word without_word then Some (record given { next_word = Router })
     else with_router_or_other (router_after_equals word) word given)
 
 -- what is given with the next word; none where it isn't valid there

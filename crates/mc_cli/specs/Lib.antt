@@ -1,3 +1,4 @@
+pub mod AuditOptionWords
 pub mod AuditWords
 pub mod Commands
 pub mod Task

@@ -6,6 +6,7 @@ ghost use Rattle.mc_cli.specs.AuditWords.{given_of, is_among, is_router_expected
 ghost use Rattle.mc_cli.specs.declared.audit_words.AuditWords.{AuditWords};
 ghost use Rattle.mc_cli.specs.declared.fault.WordsFault.TheVariants.{Memory};
 
+use crate::audit_options::AuditOptions;
 use crate::command::audit_command;
 use crate::draft::{Draft, NextWord, draft_of};
 use crate::fault::{FOLDER_RULE, WordsFault, refusal_explained_by_clap, usage_refusal};
@@ -21,21 +22,6 @@ pub struct AuditWords<'a> {
     pub options: AuditOptions,
     /// The excluded routers, in the order of the words: valid names, each once.
     pub without: Vec<&'a str>,
-}
-
-/// The options of `audit` that have no value.
-#[derive(Clone, Copy, Debug, PartialEq, Eq)]
-pub struct AuditOptions {
-    /// `--travel`: the travel of each packet that shows a fault is shown.
-    pub travels: bool,
-    /// `--faults`: the flows that are right and wanted are hidden.
-    pub faults: bool,
-    /// `--unlisted`: all unlisted sources and groups of the caches are shown, not the 20 lowest alone.
-    pub unlisted: bool,
-    /// `--strict`: the answer is no where nobody wants a flow that is right.
-    pub strict: bool,
-    /// `--json`: the output is JSON, one object a line.
-    pub json: bool,
 }
 
 const ROUTER_RULE: &str =

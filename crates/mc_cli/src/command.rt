@@ -7,6 +7,9 @@ ghost use Rattle.mc_cli.specs.Commands.{IsCommand, IsLeaf, check_shape, command_
 ghost use Rattle.mc_cli.specs.Commands.{flag_rule, make_shape, option_rule, pack_shape};
 ghost use Rattle.mc_cli.specs.Commands.{is_command, program_shape, replay_shape, required_rule, wants_shape};
 
+use crate::audit_options::{
+    FAULTS_WORD, JSON_WORD, STRICT_WORD, TRAVEL_WORD, UNLISTED_WORD, WITHOUT_WORD,
+};
 use clap::{Arg, ArgAction, Command};
 use std::alloc::{AllocError, Global};
 
@@ -72,6 +75,16 @@ fn flag<'a>(alloc: Global, name: &'a str, help: &'a str) -> Arg<'a>
         .long(name)
         .action(ArgAction::SetTrue)
         .help(help)
+}
+
+/// The name in a word `--name`.
+fn name_in_word(word: &str) -> &str {
+    word.trim_start_matches('-')
+}
+
+/// The flag that a word `--name` sets.
+fn flag_of_word<'a>(alloc: Global, word: &'a str, help: &'a str) -> Arg<'a> {
+    flag(alloc, name_in_word(word), help)
 }
 
 /// An option `--name` with a value, and its default value.
@@ -140,12 +153,15 @@ pub fn audit_command<'a>(alloc: Global) -> Result<Command<'a>, AllocError> {
     let json = "Writes one JSON object a line";
     let without = "Audits without the router's tables, and then can't say yes";
     let command = command.arg(required(alloc, "folder", FOLDER));
-    let command = with_argument(command, flag(alloc, "travel", travel));
-    let command = with_argument(command, flag(alloc, "faults", faults));
-    let command = with_argument(command, flag(alloc, "unlisted", unlisted));
-    let command = with_argument(command, flag(alloc, "strict", strict));
-    let command = with_argument(command, flag(alloc, "json", json));
-    with_argument(command, repeated(alloc, "without", "router", without))
+    let command = with_argument(command, flag_of_word(alloc, TRAVEL_WORD, travel));
+    let command = with_argument(command, flag_of_word(alloc, FAULTS_WORD, faults));
+    let command = with_argument(command, flag_of_word(alloc, UNLISTED_WORD, unlisted));
+    let command = with_argument(command, flag_of_word(alloc, STRICT_WORD, strict));
+    let command = with_argument(command, flag_of_word(alloc, JSON_WORD, json));
+    with_argument(
+        command,
+        repeated(alloc, name_in_word(WITHOUT_WORD), "router", without),
+    )
 }
 
 /// The command `check`, which has no arguments.

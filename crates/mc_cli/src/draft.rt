@@ -5,7 +5,9 @@ ghost use Rattle.mc_cli.specs.AuditWords.{IsNextGiven, given_of, router_after_eq
 ghost use Rattle.mc_cli.specs.AuditWords.{with_folder, with_option, with_option_or_folder, with_router};
 ghost use Rattle.mc_cli.specs.AuditWords.{with_word, with_words};
 
-use crate::audit_words::AuditOptions;
+use crate::audit_options::{
+    AuditOptions, FAULTS_WORD, JSON_WORD, STRICT_WORD, TRAVEL_WORD, UNLISTED_WORD, WITHOUT_WORD,
+};
 use std::alloc::{AllocError, Global};
 
 /// What the next word may be.
@@ -44,23 +46,23 @@ fn with_option(options: AuditOptions, word: &str) -> Option<AuditOptions>
     ensures { result ≡ with_option word.now options }
 {
     match word {
-        "--travel" => (!options.travels).then_some(AuditOptions {
+        TRAVEL_WORD => (!options.travels).then_some(AuditOptions {
             travels: true,
             ..options
         }),
-        "--faults" => (!options.faults).then_some(AuditOptions {
+        FAULTS_WORD => (!options.faults).then_some(AuditOptions {
             faults: true,
             ..options
         }),
-        "--unlisted" => (!options.unlisted).then_some(AuditOptions {
+        UNLISTED_WORD => (!options.unlisted).then_some(AuditOptions {
             unlisted: true,
             ..options
         }),
-        "--strict" => (!options.strict).then_some(AuditOptions {
+        STRICT_WORD => (!options.strict).then_some(AuditOptions {
             strict: true,
             ..options
         }),
-        "--json" => (!options.json).then_some(AuditOptions {
+        JSON_WORD => (!options.json).then_some(AuditOptions {
             json: true,
             ..options
         }),
@@ -117,7 +119,7 @@ impl<'a> Draft<'a> {
             self.next_word = NextWord::FolderOnly;
             return Ok(true);
         }
-        if word == "--without" {
+        if word == WITHOUT_WORD {
             self.next_word = NextWord::Router;
             return Ok(true);
         }

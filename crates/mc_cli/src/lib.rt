@@ -2,6 +2,7 @@
 #![tactic(auto)]
 
 mod arguments;
+mod audit_options;
 mod audit_words;
 mod command;
 mod draft;
@@ -9,7 +10,10 @@ mod fault;
 mod task;
 mod words;
 
-pub use audit_words::{AuditOptions, AuditWords};
+pub use audit_options::{
+    AuditOptions, FAULTS_WORD, JSON_WORD, STRICT_WORD, TRAVEL_WORD, UNLISTED_WORD, WITHOUT_WORD,
+};
+pub use audit_words::AuditWords;
 pub use fault::WordsFault;
 pub use task::{Task, command_of};
 pub use words::{borrow_words, words_of};

@@ -9,7 +9,7 @@ use Rattle.mc_explain.specs.UnlistedText.{unlisted_text}
 use Rattle.mc_json.specs.EndData.{summary_data, unlisted_lines, without_line}
 use Rattle.mc_json.specs.RowData.{line_of}
 use Rattle.mc_run.specs.AuditEnd.{end_objects, end_text, strict_lines, summary_line}
-use Rattle.mc_run.specs.declared.audit_options.AuditOptions.{AuditOptions}
+use Rattle.mc_cli.specs.declared.audit_options.AuditOptions.{AuditOptions}
 
 -- parts that are written one after the other
 append-two_parts : {A X : Type 0} (r : Result A X) (old a b c one two new : List ℕ) → one ≡ old ++ a

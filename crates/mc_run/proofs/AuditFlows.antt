@@ -45,7 +45,7 @@ use Rattle.mc_run.specs.AuditText.{Explanation}
 use Rattle.mc_run.specs.AuditFlowText.{is_hidden, right_flow_lines, status_of, status_of_right}
 use Rattle.mc_run.specs.AuditFlowText.{shown_trees_with, with_shown_tree, wrong_flow_lines}
 use Rattle.mc_run.specs.MakeRun.{IsExamined}
-use Rattle.mc_run.specs.declared.audit_options.AuditOptions.{AuditOptions}
+use Rattle.mc_cli.specs.declared.audit_options.AuditOptions.{AuditOptions}
 use Rattle.mc_run.specs.declared.flow_status.FlowStatus.{FlowStatus}
 use Rattle.mc_run.specs.declared.flow_status.FlowStatus.TheVariants.{Wrong}
 use Rattle.mc_run.specs.declared.flow_status.FlowCounts.{FlowCounts}

@@ -53,7 +53,7 @@ use Rattle.mc_run.specs.AuditRun.{AreYesWords, trees_shown, yes_object}
 use Rattle.mc_run.specs.AuditText.{Explanation, events_if_shown, explanation_lines, right_line}
 use Rattle.mc_run.specs.AuditText.{searched_lines}
 use Rattle.mc_run.specs.AuditFlowText.{answer_lines, is_hidden, right_lines_or_object, wrong_lines_or_object}
-use Rattle.mc_run.specs.declared.audit_options.AuditOptions.{AuditOptions}
+use Rattle.mc_cli.specs.declared.audit_options.AuditOptions.{AuditOptions}
 use Rattle.mc_run.specs.MakeRun.{found_line, found_lines, no_certificate_line}
 use Rattle.mc_run.specs.ReplayRun.{event_line, event_lines}
 use Rattle.mc_run.specs.VerdictText.{flow_words}

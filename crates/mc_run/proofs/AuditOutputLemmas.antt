@@ -9,7 +9,7 @@ use Rattle.mc_run.specs.AuditRun.{AreFoundInWhole, AuditSaysYes, HasUnwanted, Fi
 use Rattle.mc_run.specs.AuditRun.{MeansAudited, SaysOfEach, SaysWhichAreRight}
 use Rattle.mc_run.specs.Failures.{is_write}
 use Rattle.mc_run.specs.RunOutput.{IsOutputWritten, Writes, WritesPart}
-use Rattle.mc_run.specs.declared.audit_options.AuditOptions.{AuditOptions}
+use Rattle.mc_cli.specs.declared.audit_options.AuditOptions.{AuditOptions}
 use Rattle.mc_run.specs.declared.audit_output.AuditAnswer.{AuditAnswer}
 use Rattle.mc_run.specs.declared.audit_output.AuditOutput.{AuditOutput}
 use Rattle.mc_run.specs.declared.fault.RunFault.{RunFault}

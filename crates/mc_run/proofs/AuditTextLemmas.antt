@@ -16,7 +16,7 @@ use Rattle.mc_run.specs.AuditEnd.{is_unwanted, is_wrong, verdict_line}
 use Rattle.mc_run.specs.AuditPieces.{AreFlowsPushed, output_of, yes_of}
 use Rattle.mc_run.specs.AuditRun.{AuditSaysYes, IsAudited, MeansAudited, AuditedValue, is_whole, is_yes}
 use Rattle.mc_run.specs.AuditRun.{excluded}
-use Rattle.mc_run.specs.declared.audit_options.AuditOptions.{AuditOptions}
+use Rattle.mc_cli.specs.declared.audit_options.AuditOptions.{AuditOptions}
 use Rattle.mc_run.specs.declared.audit_output.AuditAnswer.{AuditAnswer}
 use Rattle.mc_run.specs.declared.audit_output.AuditOutput.{AuditOutput}
 use Rattle.mc_run.specs.declared.fault.RunFault.{RunFault}

@@ -41,7 +41,7 @@ use Rattle.mc_run.specs.MakeRun.{AreExamined, IsExamined, IsMakeOutput}
 use Rattle.mc_run.specs.MakeRun.{made_text}
 use Rattle.mc_run.specs.ReplayRun.{IsTextOfTravel, replay_text}
 use Rattle.mc_run.specs.VerdictText.{AreVerdicts, IsVerdict, check_text}
-use Rattle.mc_run.specs.declared.audit_options.AuditOptions.{AuditOptions}
+use Rattle.mc_cli.specs.declared.audit_options.AuditOptions.{AuditOptions}
 
 -- what holds of a domain by its topology and its flows' nets alone holds of any domain with the same facts
 transport_topology_and_nets : (P : TopologyValue → (ℕ → Net) → Type 0) {whole d : DomainValue}

@@ -46,7 +46,7 @@ use Rattle.mc_run.specs.AuditFlowText.{with_shown_tree}
 use Rattle.mc_run.specs.AuditFlowText.{wrong_lines_or_object}
 use Rattle.mc_run.specs.MakeRun.{IsExamined, found_lines}
 use Rattle.mc_run.specs.ReplayRun.{event_lines}
-use Rattle.mc_run.specs.declared.audit_options.AuditOptions.{AuditOptions}
+use Rattle.mc_cli.specs.declared.audit_options.AuditOptions.{AuditOptions}
 use Rattle.mc_run.proofs.UniqueExamination.{IsSameFinishedTravel, IsSameExplanation}
 use Rattle.mc_run.proofs.UniqueExamination.{HaveSameFlights, HaveSameSearch}
 use Rattle.mc_run.proofs.UniqueExamination.{is_explanation-unique, examined_flights-unique}

@@ -33,7 +33,7 @@ use Rattle.mc_run.specs.AuditRun.{IsChecked, IsFoundInWhole, MeansAudited, Audit
 use Rattle.mc_run.specs.AuditRun.{SaysYesOf, is_whole, excluded}
 use Rattle.mc_run.specs.AuditText.{Explanation}
 use Rattle.mc_run.specs.AuditFlowText.{answer_lines}
-use Rattle.mc_run.specs.declared.audit_options.AuditOptions.{AuditOptions}
+use Rattle.mc_cli.specs.declared.audit_options.AuditOptions.{AuditOptions}
 use Rattle.mc_run.specs.declared.fault.RunFault.{RunFault}
 use Rattle.mc_run.specs.declared.run_output.RunOutput.{RunOutput}
 use Rattle.mc_run.proofs.AuditFlows.{is_first_pick_travel-of_examined}

@@ -14,7 +14,7 @@ use Rattle.mc_run.specs.CheckRun.{BundleKeepsHeadline, IsLineStart, IsVerdictTex
 use Rattle.mc_run.specs.CheckRun.{WroteYes}
 use Rattle.mc_run.specs.RunOutput.{IsOutputWritten}
 use Rattle.mc_run.specs.VerdictText.{are_yes, flow_lines}
-use Rattle.mc_run.specs.declared.audit_options.AuditOptions.{AuditOptions}
+use Rattle.mc_cli.specs.declared.audit_options.AuditOptions.{AuditOptions}
 use Rattle.mc_run.specs.declared.fault.RunFault.{RunFault}
 use Rattle.mc_run.specs.declared.run_output.RunOutput.{RunOutput}
 use Rattle.mc_run.proofs.AuditLines.{no_yes_line-text_before_verdict, text_before_verdict}

@@ -16,8 +16,10 @@ use Rattle.mc_explain.specs.UnlistedText.{unlisted_text}
 use Rattle.mc_json.specs.DomainData.{domain_data}
 use Rattle.mc_json.specs.EndData.{summary_data, unlisted_lines, verdict_data, without_line}
 use Rattle.mc_json.specs.RowData.{line_of}
+use Rattle.mc_cli.specs.AuditOptionWords.{faults_word, json_word, strict_word, travel_word, unlisted_word}
+use Rattle.mc_cli.specs.AuditOptionWords.{without_word}
 use Rattle.mc_run.specs.VerdictText.{last_line}
-use Rattle.mc_run.specs.declared.audit_options.AuditOptions.{AuditOptions}
+use Rattle.mc_cli.specs.declared.audit_options.AuditOptions.{AuditOptions}
 use Rattle.mc_run.specs.declared.flow_status.FlowStatus.{FlowStatus}
 use Rattle.mc_run.specs.declared.flow_status.FlowStatus.TheVariants.{Wanted, Unwanted, Wrong}
 use Rattle.mc_run.specs.declared.flow_status.FlowCounts.{FlowCounts}
@@ -83,16 +85,16 @@ abbrev pub word_if_asked : Bool → (word : List ℕ) → List (List ℕ)
 word_if_asked asked word = if asked then word ∷ [] else []
 
 abbrev pub without_words : TopologyValue → (router : ℕ) → List (List ℕ)
-without_words t router = codes "--without" ∷ router_name t router ∷ []
+without_words t router = without_word ∷ router_name t router ∷ []
 
 -- the words of a call with these options that excludes the marked routers
 abbrev pub option_words : AuditOptions → TopologyValue → (excluded : List Bool) → List (List ℕ)
 option_words o t excluded =
-    word_if_asked o.travels (codes "--travel")
-    ++ (word_if_asked o.faults (codes "--faults")
-    ++ (word_if_asked o.unlisted (codes "--unlisted")
-    ++ (word_if_asked o.strict (codes "--strict")
-    ++ (word_if_asked o.json (codes "--json")
+    word_if_asked o.travels travel_word
+    ++ (word_if_asked o.faults faults_word
+    ++ (word_if_asked o.unlisted unlisted_word
+    ++ (word_if_asked o.strict strict_word
+    ++ (word_if_asked o.json json_word
     ++ flat_map (without_words t) (excluded_routers t excluded)))))
 
 -- in JSON a line with the domain and these words; in text nothing

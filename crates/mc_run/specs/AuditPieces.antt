@@ -18,7 +18,7 @@ use Rattle.mc_run.specs.AuditExplanation.{search_context}
 use Rattle.mc_run.specs.AuditRun.{IsFlowAnswer, AuditedValue, excluded, is_whole, trees_shown}
 use Rattle.mc_run.specs.AuditText.{Explanation, explanation_lines, right_lines, searched_lines, wrong_lines}
 use Rattle.mc_run.specs.AuditFlowText.{right_flow_lines, shown_trees_with, status_of, wrong_flow_lines}
-use Rattle.mc_run.specs.declared.audit_options.AuditOptions.{AuditOptions}
+use Rattle.mc_cli.specs.declared.audit_options.AuditOptions.{AuditOptions}
 use Rattle.mc_run.specs.declared.audited_domain.AuditedDomain.{AuditedDomain}
 use Rattle.mc_run.specs.declared.audit_output.AuditAnswer.{AuditAnswer}
 use Rattle.mc_run.specs.declared.audit_output.AuditOutput.{AuditOutput}

@@ -30,7 +30,7 @@ use Rattle.mc_run.specs.AuditText.{Explanation}
 use Rattle.mc_run.specs.AuditFlowText.{answer_lines, right_flow_lines, shown_trees_with, wrong_flow_lines}
 use Rattle.mc_run.specs.CheckRun.{IsLineStart, KeepsHeadline, WroteAtStart, WroteYes}
 use Rattle.mc_run.specs.MakeRun.{AreExamined, AreRight, IsExamined, certified_lists, no_certificate_line}
-use Rattle.mc_run.specs.declared.audit_options.AuditOptions.{AuditOptions}
+use Rattle.mc_cli.specs.declared.audit_options.AuditOptions.{AuditOptions}
 use Rattle.mc_run.specs.declared.fault.RunFault.{RunFault}
 
 -- ---- the text of a domain

@@ -12,7 +12,6 @@ use Rattle.mc_files.specs.Packing.{IsPacked}
 use Rattle.mc_files.specs.PackRun.{WritesPackedBundle, WritesPackedPrefix}
 use Rattle.mc_input.specs.Meaning.{MeansDomainWhere}
 use Rattle.mc_cli.specs.declared.audit_words.AuditWords.{AuditWords}
-use Rattle.mc_cli.specs.declared.audit_words.AuditOptions.{AuditOptions as WordsOptions}
 use Rattle.mc_run.specs.AuditPieces.{yes_of}
 use Rattle.mc_run.specs.AuditRun.{AuditSaysYes, HasUnwanted, FilesKeepHeadline}
 use Rattle.mc_run.specs.AuditRun.{IsAuditText, MeansAudited, SaysOfEach, SaysWhichAreRight}
@@ -24,7 +23,7 @@ use Rattle.mc_run.specs.ReplayRun.{IsReplayRefused, IsTravelText}
 use Rattle.mc_run.specs.RunOutput.{Answers, IsWrittenWhole, WritesPart}
 use Rattle.mc_run.specs.WantsRun.{answer_line, AnswersWants}
 use Rattle.mc_run.specs.WantsRun.{WritesPartOfLine}
-use Rattle.mc_run.specs.declared.audit_options.AuditOptions.{AuditOptions}
+use Rattle.mc_cli.specs.declared.audit_options.AuditOptions.{AuditOptions}
 use Rattle.mc_run.specs.declared.audit_output.AuditAnswer.{AuditAnswer}
 use Rattle.mc_run.specs.declared.fault.RunFault.{RunFault}
 use Rattle.mc_run.specs.declared.fault.RunFault.TheVariants.{Write}
@@ -99,16 +98,6 @@ abbrev pub enough_of : (strict : Bool) → Result AuditAnswer RunFault → Resul
 enough_of strict (Ok answer) = Ok (is_enough strict answer)
 enough_of strict (Err fault) = Err fault
 
--- the options of an audit, as the command line gives them
-abbrev pub options_of : WordsOptions → AuditOptions
-options_of words = record {
-  travels = words.travels;
-  faults = words.faults;
-  unlisted = words.unlisted;
-  strict = words.strict;
-  json = words.json;
-}
-
 -- the names of the excluded routers
 abbrev pub excluded_names : AuditWords → List (List ℕ)
 excluded_names words = map (λ name. name.now) words.without.items
@@ -135,7 +124,7 @@ pub record IsAuditResult (o : AuditOptions) (names : List (List ℕ)) (contents 
 pub record IsAuditRun (words : AuditWords) (contents : Option (List FileText))
     (result : Result Bool RunFault) (old new : Option (List ℕ)) : Type 0 where
   pub audited : Result AuditAnswer RunFault
-  pub answered : IsAuditResult (options_of words.options) (excluded_names words) contents audited old new
+  pub answered : IsAuditResult words.options (excluded_names words) contents audited old new
   pub enough : result ≡ enough_of words.options.strict audited
 
 -- ---- tasks that read nothing

@@ -18,7 +18,6 @@ ghost use Rattle.mc_run.specs.RunOutput.{Answers, IsWrittenWhole, WritesPart};
 
 use crate::audit_end::{begin_lines, push_end};
 use crate::audit_flow::push_flow;
-use crate::audit_options::AuditOptions;
 use crate::audit_output::{AuditAnswer, AuditOutput, with_unwanted};
 use crate::audited_domain::AuditedDomain;
 use crate::excluded::excluded_marks;
@@ -26,6 +25,7 @@ use crate::fault::RunFault;
 use crate::flow_status::FlowCounts;
 use crate::run_output::{RunOutput, write_output};
 use mc_cert::DistinctTrees;
+use mc_cli::AuditOptions;
 use mc_explain::InterfacesOfLans;
 use mc_files::PieceSource;
 use mc_input::{FolderDomain, read_folder_domain};

@@ -8,10 +8,12 @@ ghost use Rattle.mc_run.specs.AuditEnd.{strict_lines, summary_line, verdict_line
 ghost use Rattle.mc_run.specs.AuditEnd.{without_words};
 ghost use Rattle.mc_run.specs.AuditPieces.{end_objects_of, end_text_of, end_text_or_objects_of};
 
-use crate::audit_options::AuditOptions;
 use crate::audited_domain::AuditedDomain;
 use crate::flow_status::FlowCounts;
 use crate::verdict_text::push_overall_verdict;
+use mc_cli::{
+    AuditOptions, FAULTS_WORD, JSON_WORD, STRICT_WORD, TRAVEL_WORD, UNLISTED_WORD, WITHOUT_WORD,
+};
 use mc_explain::{push_excluded, push_unlisted, push_without_lines};
 use mc_forward::Domain;
 use mc_json::{
@@ -50,7 +52,7 @@ fn push_without_words(
     ensures { OnOk result (map string_bytes words.new.items
         ≡ map string_bytes words.old.items ++ without_words topology.now router) }
 {
-    words.push(String::from_str(alloc, "--without")?)?;
+    words.push(String::from_str(alloc, WITHOUT_WORD)?)?;
     let name = topology.router_name_or_empty(router);
     words.push(String::from_str(alloc, name)?)?;
     Ok(())
@@ -83,11 +85,11 @@ fn option_words(
         map string_bytes words.items ≡ option_words options topology.now excluded.now) }
 {
     let mut words = Vec::new(alloc);
-    push_option_word(alloc, &mut words, options.travels, "--travel")?;
-    push_option_word(alloc, &mut words, options.faults, "--faults")?;
-    push_option_word(alloc, &mut words, options.unlisted, "--unlisted")?;
-    push_option_word(alloc, &mut words, options.strict, "--strict")?;
-    push_option_word(alloc, &mut words, options.json, "--json")?;
+    push_option_word(alloc, &mut words, options.travels, TRAVEL_WORD)?;
+    push_option_word(alloc, &mut words, options.faults, FAULTS_WORD)?;
+    push_option_word(alloc, &mut words, options.unlisted, UNLISTED_WORD)?;
+    push_option_word(alloc, &mut words, options.strict, STRICT_WORD)?;
+    push_option_word(alloc, &mut words, options.json, JSON_WORD)?;
     let routers = list_excluded_routers(alloc, topology, excluded)?;
     push_all_without_words(alloc, &mut words, topology, &routers)?;
     Ok(words)

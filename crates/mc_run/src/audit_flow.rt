@@ -11,12 +11,12 @@ ghost use Rattle.mc_run.specs.AuditExplanation.{ArePrintedCauses, is_remedy as s
 ghost use Rattle.mc_run.specs.AuditRun.{is_whole};
 ghost use Rattle.mc_run.specs.MakeRun.{IsExamined};
 
-use crate::audit_options::AuditOptions;
 use crate::audit_right::push_checked;
 use crate::audit_wrong::{push_wrong, search_if_missed};
 use crate::audited_domain::AuditedDomain;
 use crate::flow_status::FlowStatus;
 use mc_cert::DistinctTrees;
+use mc_cli::AuditOptions;
 use mc_explain::{Cause, explain};
 use mc_maker::{ExaminedFlights, examine_to_end};
 use mc_replay::FinishedTravel;

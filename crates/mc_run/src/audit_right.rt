@@ -17,12 +17,12 @@ ghost use Rattle.mc_run.specs.AuditPieces.{right_lines_of, right_objects_of};
 ghost use Rattle.mc_run.specs.AuditText.{right_line};
 ghost use Rattle.mc_run.specs.AuditFlowText.{is_hidden, status_of_right, with_shown_tree};
 
-use crate::audit_options::AuditOptions;
 use crate::audited_domain::AuditedDomain;
 use crate::flow_status::FlowStatus;
 use crate::verdict_text::{FlowWords, push_flow_verdict};
 use mc_cert::{DistinctTrees, Reached};
 use mc_check::{Verdict, check_flow};
+use mc_cli::AuditOptions;
 use mc_explain::{count_wanted, push_wanted};
 use mc_forward::Domain;
 use mc_json::{push_right_line, push_tree_line};

@@ -10,10 +10,10 @@ ghost use Rattle.mc_run.specs.AuditPieces.{wrong_object_of};
 ghost use Rattle.mc_run.specs.AuditExplanation.{IsSearchIfMissed};
 ghost use Rattle.mc_run.specs.AuditText.{events_if_shown};
 
-use crate::audit_options::AuditOptions;
 use crate::audited_domain::AuditedDomain;
 use crate::found_text::push_found_lines;
 use crate::travel_text::push_events;
+use mc_cli::AuditOptions;
 use mc_explain::{Cause, LanSearch, push_also_missed, push_causes, push_search, search};
 use mc_json::{push_missed_line, push_wrong_line};
 use mc_replay::{Finding, FinishedTravel, Travel};

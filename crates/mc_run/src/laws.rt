@@ -8,7 +8,7 @@ ghost use Rattle.mc_forward.specs.Domains.{DomainValue, net_of};
 ghost use Rattle.mc_cert.specs.Certificate.{Tree};
 ghost use Rattle.mc_cert.specs.Reading.{parse_certificate};
 ghost use Rattle.mc_run.specs.AuditRun.{IsAuditText, IsYesLineLast, yes_words};
-ghost use Rattle.mc_run.specs.declared.audit_options.AuditOptions.{AuditOptions};
+ghost use Rattle.mc_cli.specs.declared.audit_options.AuditOptions.{AuditOptions};
 ghost use Rattle.mc_input.specs.Meaning.{MeansDomain, FilesMeanDomain};
 ghost use Rattle.mc_run.specs.InputMeaning.{MeansCertified};
 ghost use Rattle.mc_run.specs.CheckRun.{IsLineStart, IsVerdictText, WroteAtStart, WroteYes};

@@ -4,7 +4,6 @@
 mod audit;
 mod audit_end;
 mod audit_flow;
-mod audit_options;
 mod audit_output;
 mod audit_right;
 mod audit_wrong;
@@ -33,7 +32,6 @@ mod verdict_text;
 mod wants;
 
 pub use audit::run_audit;
-pub use audit_options::AuditOptions;
 pub use audit_output::AuditAnswer;
 pub use check::run_check;
 pub use fault::RunFault;

@@ -3,15 +3,14 @@
 ghost use Rattle.std.specs.Prelude.{◌≡◌, ◌≢◌, ◌<◌, IfErr};
 ghost use Rattle.mc_text.specs.Device.{failures_after};
 ghost use Rattle.mc_run.specs.Failures.{is_read, is_write};
-ghost use Rattle.mc_run.specs.TaskRuns.{IsAuditResult, IsAuditRun, IsPackRun, enough_of, is_enough};
-ghost use Rattle.mc_run.specs.TaskRuns.{excluded_names, options_of};
+ghost use Rattle.mc_run.specs.TaskRuns.{IsAuditResult, IsAuditRun, IsPackRun, enough_of, excluded_names};
+ghost use Rattle.mc_run.specs.TaskRuns.{is_enough};
 
 use crate::audit::run_audit;
-use crate::audit_options::AuditOptions;
 use crate::audit_output::AuditAnswer;
 use crate::fault::RunFault;
 use crate::pack::run_pack;
-use mc_cli::{AuditOptions as WordsOptions, AuditWords};
+use mc_cli::AuditWords;
 use mc_files::PieceSource;
 use mc_text::Output;
 use std::alloc::Global;
@@ -36,19 +35,6 @@ pub(crate) fn pack_task<F: PieceSource, W: Output>(
     match run_pack(alloc, files, certificate, output) {
         Ok(()) => Ok(true),
         Err(fault) => Err(fault),
-    }
-}
-
-/// The options of an audit, as the command line gives them.
-fn options_of(words: &WordsOptions) -> AuditOptions
-    ensures { result ≡ options_of words.now }
-{
-    AuditOptions {
-        travels: words.travels,
-        faults: words.faults,
-        unlisted: words.unlisted,
-        strict: words.strict,
-        json: words.json,
     }
 }
 
@@ -80,14 +66,13 @@ fn audit_with_words<F: PieceSource, W: Output>(
     requires writes { W.failed output.old < u64.MAX }
     ensures files_same { F.borrows files.new ≡ F.borrows files.old }
     ensures output_same { W.borrows output.new ≡ W.borrows output.old }
-    ensures answered { IsAuditResult (options_of words.now.options) (excluded_names words.now)
+    ensures answered { IsAuditResult words.now.options (excluded_names words.now)
         (F.contents files.old) result (W.written output.old) (W.written output.new) }
     ensures unwritten { IfErr result (λ fault. fault ≢ RunFault.Write → output.new ≡ output.old) }
     ensures read_failures { F.failed files.new ≡ failures_after is_read result (F.failed files.old) }
     ensures write_failures { W.failed output.new ≡ failures_after is_write result (W.failed output.old) }
 {
-    let options = options_of(&words.options);
-    run_audit(alloc, files, options, &words.without, output)
+    run_audit(alloc, files, words.options, &words.without, output)
 }
 
 /// `mcaudit audit`, which returns whether the audit's answer is enough.

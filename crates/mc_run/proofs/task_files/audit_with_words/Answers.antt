@@ -1,6 +1,5 @@
 use Rattle.std.proofs.Common.{◌≡◌, ℕ, List, map, ap, subst}
 use Rattle.mc_run.specs.TaskRuns.{IsAuditResult, excluded_names}
-use Rattle.mc_run.specs.declared.audit_options.AuditOptions.{AuditOptions}
 use Rattle.mc_run.proofs.task_files.audit_with_words.Goals as goal
 
 pub returns-clause-answered : goal.returns-clause-answered
@@ -8,7 +7,7 @@ returns-clause-answered g c =
     let contents = g.F.FileSource.contents c.args.files.now in
     let old = g.W.Output.written c.args.output.now in
     let new = g.W.Output.written c.run_audit.new.output in
-    let o = c.options_of-options.result in
+    let o = c.args.words.now.options in
     let borrows = map (λ name. name.now) c.deref.result.now in
     let answered : IsAuditResult o borrows contents c.run_audit.result old new = record {
       answer = c.run_audit.ensures.answer;
@@ -22,8 +21,5 @@ returns-clause-answered g c =
     } in
     let same : borrows ≡ excluded_names c.args.words.now = ap (map (λ name. name.now))
     c.deref.ensures.value in
-    subst (λ (o : AuditOptions). IsAuditResult o (excluded_names c.args.words.now) contents
-    c.run_audit.result old new)
-    c.options_of-options.ensures
-    (subst (λ (borrows : List (List ℕ)). IsAuditResult o borrows contents c.run_audit.result old
-    new) same answered)
+    subst (λ (borrows : List (List ℕ)). IsAuditResult o borrows contents c.run_audit.result old
+    new) same answered

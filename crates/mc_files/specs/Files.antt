@@ -1,7 +1,6 @@
 -- The files of a folder, and what the calls of a source of files answer.
 use Rattle.std.specs.Prelude.{◌≡◌, ℕ, ◌<◌, Bool, true, false, List, find, length}
 use Rattle.std.specs.Prelude.{Option, option_map, Some, None, Result, Ok, Err, ⊤}
-use denote.Ref.{Bor}
 use Rattle.std.specs.Str.{bytes_eq}
 use Rattle.mc_text.specs.Steps.{Gives}
 use Rattle.mc_text.specs.declared.io.input_bytes.ReadFault.{ReadFault}
@@ -41,17 +40,6 @@ abbrev pub GivesFromContents : {X Y E : Type 0} → (Silent : E → Type 0) → 
 GivesFromContents Silent contents view result step =
     (files : List FileText) → contents ≡ Some files → Gives Silent view result (step files)
 
--- what contracts see of a source of files in memory
-pub record FilesState : Type 0 where
-  -- the files, if known
-  pub contents : Option (List FileText)
-  -- whether a file is open
-  pub is_open : Bool
-  -- the bytes of the open file that aren't read yet, if known
-  pub left : Option (List ℕ)
-  -- how many calls failed
-  pub failed : ℕ
-
 -- what contracts see of a source over a folder of the file system
 pub record FolderState : Type 0 where
   -- the folder's path, which is empty for the current directory
@@ -60,10 +48,6 @@ pub record FolderState : Type 0 where
   pub is_open : Bool
   -- how many calls failed
   pub failed : ℕ
-
--- a name and bytes in memory, as a file
-abbrev pub file_text : Bor (List ℕ) × Bor (List ℕ) → FileText
-file_text file = record { name = file.0.now; bytes = file.1.now }
 
 -- a fault of reading, as a file's
 abbrev pub from_read_fault : ReadFault → FileFault

@@ -1,14 +1,13 @@
 //! The layout of a domain: its parts in their fixed order, and their names in a bundle and in a
-//! folder. Sources of files, which are a folder of the file system or files in memory and give a
-//! file whole or in pieces, and packing a bundle of a folder's files. Only the topology is parsed
-//! here: of the other files just the names are known.
+//! folder. Sources of files, as a folder of the file system, which give a file whole or in pieces,
+//! and packing a bundle of a folder's files. Only the topology is parsed here: of the other files
+//! just the names are known.
 #![tactic(auto)]
 
 mod fault;
 mod file_part;
 mod folder;
 mod laws;
-mod memory_files;
 mod packed_part;
 mod packing;
 mod piece_source;
@@ -23,7 +22,6 @@ pub use laws::{
     packed_files_are_read_back, packed_names_are_plain, packing_is_exact_and_unique,
     parts_match_slots_exactly_by_name, slot_names_are_part_names,
 };
-pub use memory_files::MemoryFiles;
 pub use packing::pack;
 pub use piece_source::PieceSource;
 pub use slot::{Slot, slot_at, slot_count};

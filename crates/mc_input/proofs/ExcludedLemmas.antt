@@ -4,13 +4,15 @@ use Rattle.std.specs.Prelude.{Option, Some, None, Result, Ok, Err, IfOk, Contain
 use Rattle.std.specs.Prelude.{length, map, option_map}
 use Rattle.std.specs.Prelude.{drop, refl}
 use Rattle.std.proofs.Common.{add-one, cond, ap, arith, subst, sym, ◌∙◌}
+use Rattle.std.specs.FinMap as map_of
 use Rattle.std.specs.List.{find, list_any, position_from}
 use Rattle.std.specs.Str.{bytes_eq}
 use Rattle.std.proofs.lemmas.Iterator.Adapters.{position_from-zero}
 use Rattle.std.proofs.lemmas.Slice.Eq.{bytes_eq-Decides}
 use Rattle.mc_text.specs.Steps.{◌>>=◌, map_fault}
 use Rattle.mc_text.specs.declared.text.addr.Order.{Order}
-use Rattle.mc_tables.specs.Summary.{SummaryValue}
+use Rattle.mc_tables.specs.CacheTable.{EntryValue, key_cmp}
+use Rattle.mc_tables.specs.Summary.{SummaryValue, summary_of}
 use denote.Ref.{Bor}
 use Rattle.mc_topology.specs.Lookup.{has_router, router_no_of}
 use Rattle.mc_topology.specs.SectionRows.{RouterRow}
@@ -20,9 +22,10 @@ use Rattle.mc_files.specs.FilePart.{file_part, bytes_within_max_part}
 use Rattle.mc_files.specs.Files.{FileText, file_named}
 use Rattle.mc_files.specs.Layout.{Slot, cache_slot, file_name, part_name, reports_slot, topology_slot}
 use Rattle.mc_files.specs.Layout.{vif_slot}
+use Rattle.mc_forward.specs.ListedTables.{IsListedPartOfTables, flow_pairs}
 use Rattle.mc_input.specs.FilesReading.{input_of_files, part_from_file}
 use Rattle.mc_input.specs.Kept.{GivesKept}
-use Rattle.mc_input.specs.ExcludedRouters.{AreRouterNames, header_only_files, cache_header}
+use Rattle.mc_input.specs.ExcludedRouters.{AreRouterNames, cache_header, empty_tables}
 use Rattle.mc_input.specs.ExcludedRouters.{check_router_names, input_of_files_without}
 use Rattle.mc_input.specs.ExcludedRouters.{files_with_exclusions, vif_header}
 use Rattle.mc_input.specs.SummariesOfFiles.{IsSummaryOf}
@@ -111,9 +114,6 @@ pub is_excluded_name-from_Contains : (names : List (List ℕ)) (name : List ℕ)
 is_excluded_name-from_Contains names name there = is_excluded_name-at names name there.0 there.1 there.2
 
 -- an excluded router has its header-only files
-is_excluded_name-own : (router : List ℕ) → is_excluded_name (router ∷ []) router ≡ true
-is_excluded_name-own router = ap (λ b. b || false) ((bytes_eq-Decides router router).1 refl)
-
 module _ (names : List (List ℕ)) (files : List FileText) (router : List ℕ) where
   pub file_named-excluded_vif : is_excluded_name names router ≡ true
       → file_named (files_with_exclusions names files) (file_name (vif_slot router)) ≡ Some vif_header
@@ -127,18 +127,6 @@ module _ (names : List (List ℕ)) (files : List FileText) (router : List ℕ) w
       file_named-cache_slot names files router
       ∙ ap (λ b. cond b (Some cache_header) (file_named files (file_name (cache_slot router)))) is
 
-  pub IsSameFile-excluded_vif : is_excluded_name names router ≡ true
-      → IsSameFile (files_with_exclusions names files) (header_only_files router) (vif_slot router)
-  IsSameFile-excluded_vif is =
-      file_named-excluded_vif is ∙ ap (λ b. cond b (Some vif_header) None) (sym (is_excluded_name-own router))
-      ∙ sym (file_named-vif_slot (router ∷ []) [] router)
-
-  pub IsSameFile-excluded_cache : is_excluded_name names router ≡ true
-      → IsSameFile (files_with_exclusions names files) (header_only_files router) (cache_slot router)
-  IsSameFile-excluded_cache is =
-      file_named-excluded_cache is ∙ ap (λ b. cond b (Some cache_header) None) (sym (is_excluded_name-own router))
-      ∙ sym (file_named-cache_slot (router ∷ []) [] router)
-
   -- and those of another router are the folder's
   pub IsSameFile-other_vif : is_excluded_name names router ≡ false
       → IsSameFile (files_with_exclusions names files) files (vif_slot router)
@@ -151,6 +139,38 @@ module _ (names : List (List ℕ)) (files : List FileText) (router : List ℕ) w
   IsSameFile-other_cache is =
       file_named-cache_slot names files router
       ∙ ap (λ b. cond b (Some cache_header) (file_named files (file_name (cache_slot router)))) is
+
+-- header-only files are read as empty tables,
+module _ (files : List FileText) where
+  pub router_tables-header_only : (n : ℕ) (name : List ℕ) (order : Order)
+      → file_named files (file_name (vif_slot name)) ≡ Some vif_header
+      → file_named files (file_name (cache_slot name)) ≡ Some cache_header
+      → router_tables Input (part_from_file files) n name order ≡ Ok empty_tables
+  unfolding router_tables
+  router_tables-header_only n name order vif cache = rw (vif, cache) refl
+
+  -- and the cache's summary is that of no row
+  pub IsSummaryOf-header_only : (all : Bool) (flows : List Flow) (r : RouterRow) (summary : SummaryValue)
+      → file_named files (file_name (cache_slot r.name)) ≡ Some cache_header
+      → summary ≡ summary_of all (flow_pairs flows) [] → IsSummaryOf all files flows r summary
+  IsSummaryOf-header_only all flows r summary cache summarized = record {
+    part = record { name = part_name (cache_slot r.name); bytes = cache_header };
+    rows = [];
+    made = rw cache refl;
+    read = refl;
+    summarized = summarized;
+  }
+
+-- empty tables have all that flows need of them
+pub IsListedPartOfTables-empty : (flows : List Flow) → IsListedPartOfTables flows empty_tables empty_tables
+IsListedPartOfTables-empty flows = record {
+  vifs = refl;
+  cache = record {
+    entries = λ key is. refl;
+    others = λ key is. map_of.get-empty {X = EntryValue} key_cmp key;
+    wildcards = refl;
+  };
+}
 
 -- ---- where the files are the same, the same is read
 

@@ -10,7 +10,7 @@ use Rattle.mc_text.specs.Bundle.{PartText}
 use Rattle.mc_text.specs.Steps.{◌>>=◌}
 use Rattle.mc_text.specs.declared.text.addr.Order.{Order}
 use Rattle.mc_text.proofs.StepLemmas.{bind_ok, ok_injective}
-use Rattle.mc_tables.specs.CacheTable.{EntryValue, key_cmp, table_of}
+use Rattle.mc_tables.specs.CacheTable.{EntryValue, key_cmp}
 use Rattle.mc_topology.specs.SectionRows.{RouterRow}
 use Rattle.mc_topology.specs.Topology.{TopologyValue}
 use Rattle.mc_topology.specs.declared.flow.Flow.{Flow}
@@ -22,7 +22,7 @@ use Rattle.mc_theory.specs.Nets.Row.{NoRow}
 use Rattle.mc_forward.specs.Domains.{DomainValue, TablesValue, lan_of_vif, row_at, vif_of}
 use Rattle.mc_input.specs.FilesReading.{part_from_file}
 use Rattle.mc_input.specs.Input.{InputValue}
-use Rattle.mc_input.specs.ExcludedRouters.{HasNoVifOrRow, cache_header, files_with_exclusions, vif_header}
+use Rattle.mc_input.specs.ExcludedRouters.{HasNoVifOrRow, empty_tables, files_with_exclusions}
 use Rattle.mc_input.specs.Meaning.{FilesMeanDomainAsListed}
 use Rattle.mc_input.specs.PartsReading.{all_reports, all_tables, read_tables_and_reports}
 use Rattle.mc_input.specs.PartsReading.{first_lan_number, read_input}
@@ -32,18 +32,7 @@ use Rattle.mc_input.specs.declared.source_fault.SourceFault.TheVariants.{Input}
 use Rattle.mc_input.proofs.FilesDenoteInputLemmas.{input_of_files-Ok}
 use Rattle.mc_input.proofs.ExcludedLemmas.{is_excluded_name, is_excluded_name-from_Contains}
 use Rattle.mc_input.proofs.ExcludedLemmas.{file_named-excluded_cache, file_named-excluded_vif}
-
--- tables without a vif and without an entry
-abbrev empty_tables : TablesValue
-empty_tables = record { vifs = finite.from_entries []; cache = table_of [] }
-
--- header-only files are read as empty tables
-router_tables-header_only : (files : List FileText) (n : ℕ) (name : List ℕ) (order : Order)
-    → file_named files (file_name (vif_slot name)) ≡ Some vif_header
-    → file_named files (file_name (cache_slot name)) ≡ Some cache_header
-    → router_tables Input (part_from_file files) n name order ≡ Ok empty_tables
-unfolding router_tables
-router_tables-header_only files n name order vif cache = rw (vif, cache) refl
+use Rattle.mc_input.proofs.ExcludedLemmas.{router_tables-header_only}
 
 -- ---- the tables of one router among those of all
 

@@ -4,10 +4,11 @@ use Rattle.std.specs.Prelude.{◌≡◌, ℕ, ◌+◌, min, Bool, true, false, I
 use Rattle.std.specs.Prelude.{Contains, flat_map, map, option_map, Option, None, Some, Result, Ok, Err}
 use Rattle.std.specs.Prelude.{if◌then◌else◌, slice_get}
 use denote.Ref.{Bor}
+use Rattle.std.specs.FinMap as map_of
 use Rattle.std.specs.List.{AllByRecursion, list_any}
 use Rattle.std.specs.Str.{bytes_eq}
 use Rattle.mc_text.specs.Steps.{◌>>=◌, map_fault}
-use Rattle.mc_text.specs.declared.text.addr.Order.{Order}
+use Rattle.mc_tables.specs.CacheTable.{table_of}
 use Rattle.mc_topology.specs.Lookup.{has_router}
 use Rattle.mc_topology.specs.SectionRows.{RouterRow}
 use Rattle.mc_topology.specs.Topology.{TopologyValue}
@@ -18,7 +19,7 @@ use Rattle.mc_theory.specs.ExcludedRouters.{ExcludesRouters}
 use Rattle.mc_forward.specs.Domains.{DomainValue, TablesValue, net_of, placed_of, row_of, vif_of}
 use Rattle.mc_input.specs.FilesReading.{input_of_files, part_from_file}
 use Rattle.mc_input.specs.Input.{InputValue}
-use Rattle.mc_input.specs.PartsReading.{read_part, read_tables_and_reports, router_tables, topology_of}
+use Rattle.mc_input.specs.PartsReading.{read_part, read_tables_and_reports, topology_of}
 use Rattle.mc_input.specs.SourceFault.{IsReadOrMemory, is_possible_for_files, is_read}
 use Rattle.mc_input.specs.declared.source_fault.SourceFault.{SourceFault}
 use Rattle.mc_input.specs.declared.source_fault.SourceFault.TheVariants.{Input}
@@ -54,10 +55,9 @@ files_with_exclusions names files = flat_map header_only_files names ++ files
 abbrev pub files_without : (names : List (Bor (List ℕ))) → List FileText → List FileText
 files_without names files = files_with_exclusions (names_of names) files
 
--- the tables of header-only files
-abbrev pub tables_of_headers : ℕ → (router : List ℕ) → Order → Result TablesValue SourceFault
-tables_of_headers n router order =
-    router_tables Input (part_from_file (header_only_files router)) n router order
+-- the tables that are read of header-only files: those without a vif and without a row
+abbrev pub empty_tables : TablesValue
+empty_tables = record { vifs = map_of.from_entries []; cache = table_of [] }
 
 -- ---- the names
 

@@ -15,7 +15,7 @@ ghost use Rattle.mc_input.specs.Kept.{AreContentsOf, AreWantedBy, GivesKeptFromC
 ghost use Rattle.mc_input.specs.ExcludedRouters.{files_without, input_of_other_files, names_of};
 ghost use Rattle.mc_input.specs.SummariesOfFiles.{AreSummariesOf};
 
-use crate::excluded::{header_only_tables, is_excluded};
+use crate::excluded::{empty_tables, is_excluded};
 use crate::file_part::{cache_in, vifs_in, wanted_in};
 use crate::part_result::summary_pairs;
 use crate::source_fault::SourceFault;
@@ -89,7 +89,7 @@ fn tables_unless_excluded<F: PieceSource>(
     ensures failures { F.failed files.new ≡ failures_after is_read result (F.failed files.old) }
 {
     if is_excluded(without, router) {
-        return Ok(header_only_tables(alloc, buffer, listed, router, order, all)?);
+        return Ok(empty_tables(alloc, listed, all)?);
     }
     tables_of(alloc, files, buffer, listed, router, order, all)
 }

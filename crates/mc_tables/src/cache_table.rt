@@ -1,16 +1,18 @@
 //! The forwarding cache, `/proc/net/ip_mr_cache`.
 
-ghost use Rattle.std.specs.Prelude.{◌≡◌, ◌≢◌, ◌<◌, ◌||◌, IfOk, IfSome, Ok, Err, None, Some};
+ghost use Rattle.std.specs.Prelude.{◌≡◌, ◌≢◌, ◌<◌, ◌||◌, [], IfOk, IfSome, Ok, Err, None, Some};
 ghost use Rattle.std.specs.Prelude.{length, slice_get, option_and_then};
 ghost use Rattle.std.specs.FinMap as map;
 ghost use Rattle.std.specs.FinSet as set;
 ghost use Rattle.mc_tables.specs.Steps.{out_of_memory};
 ghost use Rattle.mc_tables.specs.CacheTable.{CacheValue, IsValidEntry, IsValidCache, DenotesCache};
+ghost use Rattle.mc_tables.specs.CacheTable.{table_of};
 ghost use Rattle.mc_tables.specs.CacheReading.{cache_in};
 
 use crate::cache_reader::CacheReader;
 use crate::cache_rows::CacheRows;
 use crate::entry::Entry;
+use crate::entry_numbers::EntryNumbers;
 use crate::fault::TableFault;
 use mc_text::{Addr, Order};
 use std::alloc::Global;
@@ -64,6 +66,13 @@ impl CacheTable {
         let mut reader = CacheReader::for_all_pairs(alloc, order);
         reader.feed(text)?;
         reader.finish()
+    }
+
+    /// The table without a row.
+    pub fn empty(alloc: Global) -> CacheTable
+        ensures { result ≡ table_of [] }
+    {
+        CacheTable::from_rows(CacheRows::new(alloc, EntryNumbers::for_all_pairs(alloc)))
     }
 
     /// The table of rows that were read.

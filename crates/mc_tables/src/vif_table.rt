@@ -79,6 +79,13 @@ impl VifTable {
         reader.finish()
     }
 
+    /// The table without a vif.
+    pub fn empty(alloc: Global) -> VifTable
+        ensures { result ≡ map.from_entries [] }
+    {
+        VifTable::from_rows(VifRows::new(alloc))
+    }
+
     /// The table of rows that were read.
     pub(crate) fn from_rows(rows: VifRows) -> VifTable
         requires valid { AreValidVifRows rows }

@@ -3,10 +3,20 @@ use Rattle.std.specs.Prelude.{ℕ, Bool, true, false, List, [], ◌∷◌, ◌++
 use Rattle.std.specs.Prelude.{Option, Some, None}
 use Rattle.mc_topology.specs.SectionRows.{RouterRow}
 use Rattle.mc_topology.specs.Topology.{TopologyValue}
+use Rattle.mc_files.specs.declared.slot.SlotKind.{SlotKind}
+use Rattle.mc_files.specs.declared.slot.SlotKind.TheVariants.{Topology, Vifs, Cache, Reports, Certificate}
+
+-- the word of a kind of parts
+abbrev pub kind_word : SlotKind → List ℕ
+kind_word Topology = codes "topology"
+kind_word Vifs = codes "vif"
+kind_word Cache = codes "cache"
+kind_word Reports = codes "igmp"
+kind_word Certificate = codes "certificate"
 
 -- one of the parts of a domain: its kind, and its owner
 pub record Slot : Type 0 where
-  -- topology, vif, cache, igmp or certificate
+  -- its kind's word
   pub kind : List ℕ
   -- the router or LAN that it belongs to
   pub owner : Option (List ℕ)
@@ -27,22 +37,22 @@ file_name slot = joined (codes "-") slot.kind slot.owner
 -- ---- the slots of a domain
 
 abbrev pub topology_slot : Slot
-topology_slot = record { kind = codes "topology"; owner = None }
+topology_slot = record { kind = kind_word Topology; owner = None }
 
 -- a router's vifs
 abbrev pub vif_slot : (router : List ℕ) → Slot
-vif_slot router = record { kind = codes "vif"; owner = Some router }
+vif_slot router = record { kind = kind_word Vifs; owner = Some router }
 
 -- a router's forwarding cache
 abbrev pub cache_slot : (router : List ℕ) → Slot
-cache_slot router = record { kind = codes "cache"; owner = Some router }
+cache_slot router = record { kind = kind_word Cache; owner = Some router }
 
 -- the reports of a LAN
 abbrev pub reports_slot : (lan : List ℕ) → Slot
-reports_slot lan = record { kind = codes "igmp"; owner = Some lan }
+reports_slot lan = record { kind = kind_word Reports; owner = Some lan }
 
 abbrev pub certificate_slot : Slot
-certificate_slot = record { kind = codes "certificate"; owner = None }
+certificate_slot = record { kind = kind_word Certificate; owner = None }
 
 -- a router's two tables
 abbrev pub router_slots : RouterRow → List Slot

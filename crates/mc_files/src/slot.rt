@@ -6,8 +6,8 @@ ghost use Rattle.std.specs.Str.{bytes_eq};
 ghost use Rattle.std.specs.String.{string_bytes};
 ghost use Rattle.mc_text.specs.Bundle.{IsPartName};
 ghost use Rattle.mc_files.specs.Layout.{Slot as SlotText, cache_slot, certificate_slot, file_name};
-ghost use Rattle.mc_files.specs.Layout.{part_name, reports_slot, router_slots, slots, topology_slot};
-ghost use Rattle.mc_files.specs.Layout.{vif_slot};
+ghost use Rattle.mc_files.specs.Layout.{kind_word, part_name, reports_slot, router_slots, slots};
+ghost use Rattle.mc_files.specs.Layout.{topology_slot, vif_slot};
 ghost use Rattle.mc_topology.specs.Names.{is_name};
 
 use mc_text::PartName;
@@ -15,24 +15,54 @@ use mc_topology::{LanNo, RouterNo, Topology};
 use std::alloc::{AllocError, Global};
 use std::marker::Model;
 
+/// What a part of a domain is.
+#[derive(Clone, Copy, Debug, PartialEq, Eq)]
+enum SlotKind {
+    /// The topology.
+    Topology,
+    /// A router's table of vifs.
+    Vifs,
+    /// A router's forwarding cache.
+    Cache,
+    /// The reports of a LAN.
+    Reports,
+    /// The certificate.
+    Certificate,
+}
+
+impl SlotKind {
+    /// Its word, with which both names of a part of this kind begin.
+    fn word(self) -> &'static str
+        ensures { result.now ≡ kind_word self }
+    {
+        match self {
+            SlotKind::Topology => "topology",
+            SlotKind::Vifs => "vif",
+            SlotKind::Cache => "cache",
+            SlotKind::Reports => "igmp",
+            SlotKind::Certificate => "certificate",
+        }
+    }
+}
+
 /// One of the parts of a domain: its kind, and the router or LAN that it belongs to.
 #[derive(Debug, Drop)]
 pub struct Slot<'a> {
-    kind: &'a str,
+    kind: SlotKind,
     owner: Option<&'a str>,
 }
 
 impl<'a> Model for Slot<'a> {
     ghost use Rattle.std.specs.Prelude.{option_map};
     ghost use Rattle.mc_text.specs.Bundle.{IsPartName};
-    ghost use Rattle.mc_files.specs.Layout.{Slot, part_name};
+    ghost use Rattle.mc_files.specs.Layout.{Slot, kind_word, part_name};
 
     ghost Value = { Slot };
 
-    ghost view = { λ s. record { kind = s.kind.now; owner = option_map (λ o. o.now) s.owner } };
+    ghost view = { λ s. record { kind = kind_word s.kind; owner = option_map (λ o. o.now) s.owner } };
 
     ghost invariant = { λ s. IsPartName (part_name (record {
-      kind = s.kind.now;
+      kind = kind_word s.kind;
       owner = option_map (λ o. o.now) s.owner;
     })) };
 }
@@ -43,7 +73,7 @@ impl<'a> Slot<'a> {
         ensures { result ≡ topology_slot }
     {
         Slot {
-            kind: "topology",
+            kind: SlotKind::Topology,
             owner: None,
         }
     }
@@ -54,7 +84,7 @@ impl<'a> Slot<'a> {
         ensures value { result ≡ vif_slot router.now }
     {
         Slot {
-            kind: "vif",
+            kind: SlotKind::Vifs,
             owner: Some(router),
         }
     }
@@ -65,7 +95,7 @@ impl<'a> Slot<'a> {
         ensures value { result ≡ cache_slot router.now }
     {
         Slot {
-            kind: "cache",
+            kind: SlotKind::Cache,
             owner: Some(router),
         }
     }
@@ -76,7 +106,7 @@ impl<'a> Slot<'a> {
         ensures value { result ≡ reports_slot lan.now }
     {
         Slot {
-            kind: "igmp",
+            kind: SlotKind::Reports,
             owner: Some(lan),
         }
     }
@@ -86,7 +116,7 @@ impl<'a> Slot<'a> {
         ensures { result ≡ certificate_slot }
     {
         Slot {
-            kind: "certificate",
+            kind: SlotKind::Certificate,
             owner: None,
         }
     }
@@ -96,8 +126,8 @@ impl<'a> Slot<'a> {
         ensures { result ≡ bytes_eq name.now (part_name self.now) }
     {
         match self.owner {
-            None => name == self.kind.as_bytes(),
-            Some(owner) => is_joined_by_slash(name, self.kind.as_bytes(), owner.as_bytes()),
+            None => name == self.kind.word().as_bytes(),
+            Some(owner) => is_joined_by_slash(name, self.kind.word().as_bytes(), owner.as_bytes()),
         }
     }
 
@@ -105,7 +135,7 @@ impl<'a> Slot<'a> {
     pub fn part_name(&self, alloc: Global) -> Result<PartName, AllocError>
         ensures { IfOk result (λ name. name ≡ part_name self.now) }
     {
-        let kind = self.kind;
+        let kind = self.kind.word();
         match self.owner {
             None => Ok(to_part_name(kind)),
             Some(owner) => {
@@ -119,7 +149,7 @@ impl<'a> Slot<'a> {
     pub fn file_name(&self, alloc: Global) -> Result<String, AllocError>
         ensures { IfOk result (λ name. string_bytes name ≡ file_name self.now) }
     {
-        let kind = self.kind;
+        let kind = self.kind.word();
         match self.owner {
             None => String::from_str(alloc, kind),
             Some(owner) => format!(in alloc; "{kind}-{owner}"),

@@ -1,7 +1,7 @@
 //! The files of a folder of the file system.
 
-ghost use Rattle.std.specs.Prelude.{◌≡◌, ◌≢◌, ◌<◌, ◌≤◌, ◌+◌, IfOk, None, cond, false, vec_len};
-ghost use Rattle.mc_files.specs.Files.{is_failure};
+ghost use Rattle.std.specs.Prelude.{◌≡◌, ◌≢◌, ◌<◌, ◌≤◌, ◌+◌, IfOk, IsSome, None, cond, false, vec_len};
+ghost use Rattle.mc_files.specs.Files.{StaysKnown, is_failure};
 
 use crate::fault::FileFault;
 use crate::piece_source::PieceSource;
@@ -10,29 +10,35 @@ use crate::unread::Unread;
 use mc_text::{FromReader, ReadFault, read_to_limit};
 use std::alloc::{AllocError, Global};
 use std::fs;
-use std::io::Read;
+use std::io::{Error, ErrorKind, Read};
 use std::marker::Model;
-use std::path::Path;
+use std::path::{Path, PathBuf};
 use std::rt::Files;
 
-/// A source over a folder of the file system. Contracts don't know its contents.
+/// A source over a folder of the file system. Contracts don't know its contents. The folder's path is
+/// resolved once, before the first file: where it has links that lead elsewhere afterwards, all files
+/// still come from one folder.
 #[derive(Drop)]
 pub struct Folder<'a, R: Files> {
     system: &'a R,
     folder: &'a str,
+    // the path without links, from the first file on
+    real_path: Option<PathBuf>,
     file: Option<R::File>,
     failures: u64,
     unread: Option<Unread>,
 }
 
 impl<'a, R: Files> Model for Folder<'a, R> {
-    ghost use Rattle.std.specs.Prelude.{◌≡◌, is_some, nat_lt};
+    ghost use Rattle.std.specs.Prelude.{◌≡◌, is_some, nat_lt, option_map};
+    ghost use Rattle.std.specs.Path.{path_buf_bytes};
     ghost use Rattle.mc_files.specs.Files.{FolderState};
 
     ghost Value = { FolderState };
 
     ghost view = { λ s. record {
       folder = s.folder.now;
+      real_path = option_map (λ path. path_buf_bytes path) s.real_path;
       is_open = is_some s.file;
       failed = s.failures;
     } };
@@ -56,16 +62,27 @@ impl From<AllocError> for OpenFault {
     }
 }
 
+impl From<Error> for OpenFault {
+    fn from(error: Error) -> OpenFault {
+        match error.kind() {
+            ErrorKind::OutOfMemory => OpenFault::Memory,
+            _ => OpenFault::Unread(Unread::from_error(error)),
+        }
+    }
+}
+
 impl<'a, R: Files> Folder<'a, R> {
     /// A source over the folder with this path, or over the current directory if the path is empty.
     /// No file is open yet.
     pub fn new(system: &'a R, folder: &'a str) -> Folder<'a, R>
         ensures folder { result.folder ≡ folder.now }
         ensures unread { (result.is_open ≡ false) × (result.failed ≡ 0) }
+        ensures unresolved { result.real_path ≡ None }
     {
         Folder {
             system,
             folder,
+            real_path: None,
             file: None,
             failures: 0,
             unread: None,
@@ -96,6 +113,29 @@ impl<'a, R: Files> Folder<'a, R> {
             OpenFault::Memory => FileFault::Memory,
         }
     }
+
+    /// Opens a file of the folder, whose path is resolved before the first one.
+    fn open_file(&mut self, alloc: Global, name: &str) -> Result<R::File, OpenFault>
+        ensures state { self.new ≡ record self.old { real_path = self.new.real_path } }
+        ensures real_path { StaysKnown self.old.real_path self.new.real_path }
+        ensures resolved { IfOk result (λ _. IsSome self.new.real_path) }
+    {
+        if let Some(folder) = &self.real_path {
+            return open_in_folder(alloc, self.system, folder, name);
+        }
+        let folder = real_path_of(alloc, self.system, self.folder)?;
+        let file = open_in_folder(alloc, self.system, &folder, name);
+        self.real_path = Some(folder);
+        file
+    }
+}
+
+/// The path of a folder without links, or the empty one, which is the current directory's.
+fn real_path_of<R: Files>(alloc: Global, system: &R, folder: &str) -> Result<PathBuf, OpenFault> {
+    if folder.is_empty() {
+        return Ok(PathBuf::new(alloc));
+    }
+    Ok(system.canonicalize(alloc, folder)?)
 }
 
 /// Opens the regular file with this path, or the one that it links to.
@@ -112,13 +152,13 @@ fn open_regular_file<R: Files>(system: &R, path: Path<'_>) -> Result<R::File, Un
 fn open_in_folder<R: Files>(
     alloc: Global,
     system: &R,
-    folder: &str,
+    folder: &PathBuf,
     name: &str,
 ) -> Result<R::File, OpenFault> {
     if name.as_bytes().contains(&b'/') {
         return Err(OpenFault::Unread(Unread::NoSuchFile));
     }
-    let path = Path::new(folder).join(alloc, name)?;
+    let path = folder.join(alloc, name)?;
     match open_regular_file(system, path.as_path()) {
         Ok(file) => Ok(file),
         Err(unread) => Err(OpenFault::Unread(unread)),
@@ -145,10 +185,12 @@ impl<'a, R: Files> FileSource for Folder<'a, R> {
 
     ghost folder = { λ s. s.folder };
 
+    ghost real_path = { λ s. s.real_path };
+
     ghost failed = { λ s. s.failed };
 
     fn read(&mut self, alloc: Global, name: &str, limit: usize) -> Result<Vec<u8>, FileFault> {
-        match open_in_folder(alloc, self.system, self.folder, name) {
+        match self.open_file(alloc, name) {
             Ok(file) => match read_within_limit(alloc, file, limit) {
                 Err(FileFault::Failed) => Err(self.count_failure(Unread::Failed)),
                 answer => answer,
@@ -169,7 +211,7 @@ impl<'a, R: Files> PieceSource for Folder<'a, R> {
 
     fn open(&mut self, alloc: Global, name: &str) -> Result<(), FileFault> {
         self.close();
-        match open_in_folder(alloc, self.system, self.folder, name) {
+        match self.open_file(alloc, name) {
             Ok(file) => {
                 self.file = Some(file);
                 Ok(())

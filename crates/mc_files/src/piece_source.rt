@@ -5,7 +5,7 @@ ghost use Rattle.std.specs.Prelude.{IfErr, IfSome, IsSome, OnErr, OnOk};
 ghost use Rattle.std.specs.Io.{ReadsAtMost};
 ghost use Rattle.std.specs.Io.KnownBytes.{ReadConsumes};
 ghost use Rattle.mc_text.specs.Device.{failures_after};
-ghost use Rattle.mc_files.specs.Files.{file_named, is_failure};
+ghost use Rattle.mc_files.specs.Files.{StaysKnown, file_named, is_failure};
 
 use crate::fault::FileFault;
 use crate::source::FileSource;
@@ -32,6 +32,7 @@ pub trait PieceSource: FileSource {
         ensures same { Self.borrows self.new ≡ Self.borrows self.old }
         ensures kept { Self.contents self.new ≡ Self.contents self.old }
         ensures folder { Self.folder self.new ≡ Self.folder self.old }
+        ensures real_path { StaysKnown (Self.real_path self.old) (Self.real_path self.new) }
         // There is such a file, and none of its bytes is read yet.
         ensures bytes { IfSome (Self.contents self.old) (λ files. OnOk result
             ((bytes : List ℕ) × (file_named files name.now ≡ Some bytes)
@@ -53,6 +54,7 @@ pub trait PieceSource: FileSource {
         ensures same { Self.borrows self.new ≡ Self.borrows self.old }
         ensures kept { Self.contents self.new ≡ Self.contents self.old }
         ensures folder { Self.folder self.new ≡ Self.folder self.old }
+        ensures real_path { StaysKnown (Self.real_path self.old) (Self.real_path self.new) }
         ensures bound { ReadsAtMost result buffer.new }
         ensures bytes { ReadConsumes (left self.old) (left self.new) result buffer.new }
         ensures open { is_open self.new ≡ is_open self.old }
@@ -65,6 +67,7 @@ pub trait PieceSource: FileSource {
         ensures same { Self.borrows self.new ≡ Self.borrows self.old }
         ensures kept { Self.contents self.new ≡ Self.contents self.old }
         ensures folder { Self.folder self.new ≡ Self.folder self.old }
+        ensures real_path { StaysKnown (Self.real_path self.old) (Self.real_path self.new) }
         ensures closed { is_open self.new ≡ false }
         ensures none { left self.new ≡ None }
         ensures failures { Self.failed self.new ≡ Self.failed self.old };

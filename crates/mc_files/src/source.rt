@@ -1,9 +1,10 @@
 //! Sources of files, which may fail and count how often they did.
 
-ghost use Rattle.std.specs.Prelude.{◌≡◌, ◌<◌, ◌≤◌, ◌∷◌, ℕ, List, [], Option, IfOk, IfSome, vec_len};
+ghost use Rattle.std.specs.Prelude.{◌≡◌, ◌<◌, ◌≤◌, ◌∷◌, ℕ, List, [], None, Option};
+ghost use Rattle.std.specs.Prelude.{IfOk, IfSome, vec_len};
 ghost use Rattle.std.specs.Borrow.{GName};
 ghost use Rattle.mc_text.specs.Device.{failures_after};
-ghost use Rattle.mc_files.specs.Files.{FileText, file_named, is_failure, IsRead};
+ghost use Rattle.mc_files.specs.Files.{FileText, StaysKnown, file_named, is_failure, IsRead};
 
 use crate::fault::FileFault;
 use std::alloc::Global;
@@ -15,6 +16,9 @@ pub trait FileSource {
 
     // the path of their folder, which is empty for the current directory and for none
     ghost folder: { Self → List ℕ } = { λ _. [] };
+
+    // that path without links, by which the files are opened, if it is known
+    ghost real_path: { Self → Option (List ℕ) } = { λ _. None };
 
     // how many calls failed
     ghost failed: { Self → ℕ };
@@ -34,6 +38,7 @@ pub trait FileSource {
         ensures same { borrows self.new ≡ borrows self.old }
         ensures kept { contents self.new ≡ contents self.old }
         ensures folder { folder self.new ≡ folder self.old }
+        ensures real_path { StaysKnown (real_path self.old) (real_path self.new) }
         ensures bound { IfOk result (λ bytes. vec_len bytes ≤ limit) }
         ensures bytes { IfSome (contents self.old) (λ files.
             IsRead (λ bytes. bytes.items) (file_named files name.now) limit result) }
@@ -48,6 +53,8 @@ impl<F: FileSource> FileSource for &mut F {
     ghost contents = { λ files. F.contents files.now };
 
     ghost folder = { λ files. F.folder files.now };
+
+    ghost real_path = { λ files. F.real_path files.now };
 
     ghost failed = { λ files. F.failed files.now };
 

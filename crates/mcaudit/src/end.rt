@@ -8,10 +8,9 @@ ghost use Rattle.mcaudit.specs.Status.{exit_status_of_answer};
 use crate::failure::Failure;
 use crate::standard_error::ToStandardError;
 use mc_cli::{AuditWords, Task};
-use mc_files::Folder;
+use mc_files::PieceSource;
 use mc_run::{RunFault, print_refused_files};
 use std::process::ExitCode;
-use std::rt::Files;
 
 /// The status of an answer: 0 for yes, 1 for no, and the failure's own where there is none.
 fn exit_code_of(answer: &Result<bool, Failure>) -> ExitCode
@@ -34,19 +33,22 @@ pub(crate) fn end(rt: &impl Eprint, answer: Result<bool, Failure>) -> ExitCode
     exit_code_of(&answer)
 }
 
-/// Lists the refused files of an audit's folder on standard error. Where memory runs out, the list
-/// ends.
-fn list_refused_files(rt: &(impl AllocGlobal + Files + Eprint), words: &AuditWords<'_>) {
-    let mut files = Folder::new(rt, words.folder);
+/// Lists the refused files of an audit on standard error. Where memory runs out, the list ends.
+fn list_refused_files(
+    rt: &(impl AllocGlobal + Eprint),
+    words: &AuditWords<'_>,
+    files: &mut impl PieceSource,
+) {
     let mut output = ToStandardError::new(rt);
-    let _ = print_refused_files(rt.alloc(), &mut files, &words.without, &mut output);
+    let _ = print_refused_files(rt.alloc(), files, &words.without, &mut output);
 }
 
 /// Writes an audit's failure to standard error: the name of an excluded router that the topology
 /// doesn't have, or the fault followed by the refused files.
 fn print_failure(
-    rt: &(impl AllocGlobal + Files + Eprint),
+    rt: &(impl AllocGlobal + Eprint),
     words: &AuditWords<'_>,
+    files: &mut impl PieceSource,
     failure: &Failure,
 ) {
     if let Failure::Run(RunFault::NoSuchRouter(place)) = failure {
@@ -59,7 +61,7 @@ fn print_failure(
     }
     let _ = eprintln!(rt; "{failure}");
     if is_input_failure(failure) {
-        list_refused_files(rt, words);
+        list_refused_files(rt, words, files);
     }
 }
 
@@ -72,31 +74,34 @@ fn is_input_failure(failure: &Failure) -> bool {
 }
 
 /// Ends with the status of an audit's answer. A failure is written to standard error, with the refused
-/// files of the audit's folder.
+/// files of the audit.
 fn end_audit(
-    rt: &(impl AllocGlobal + Files + Eprint),
+    rt: &(impl AllocGlobal + Eprint),
     words: &AuditWords<'_>,
+    files: &mut impl PieceSource,
     answer: Result<bool, Failure>,
 ) -> ExitCode
     ensures { exit_status result ≡ exit_status_of_answer answer }
 {
     let code = exit_code_of(&answer);
     if let Err(failure) = answer {
-        print_failure(rt, words, &failure);
+        print_failure(rt, words, files, &failure);
     }
     code
 }
 
-/// Ends with the status of a task's answer. A failure is written to standard error.
+/// Ends with the status of a task's answer. A failure is written to standard error, with what the files
+/// of an audit are refused for.
 pub(crate) fn end_task(
-    rt: &(impl AllocGlobal + Files + Eprint),
+    rt: &(impl AllocGlobal + Eprint),
     task: &Task<'_>,
+    files: &mut impl PieceSource,
     answer: Result<bool, Failure>,
 ) -> ExitCode
     ensures { exit_status result ≡ exit_status_of_answer answer }
 {
     match task {
-        Task::Audit(words) => end_audit(rt, words, answer),
+        Task::Audit(words) => end_audit(rt, words, files, answer),
         _ => end(rt, answer),
     }
 }

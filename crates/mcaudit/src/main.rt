@@ -1,7 +1,7 @@
 //! mcaudit: an auditor of the multicast forwarding state of a domain of Linux routers.
 #![tactic(auto)]
 
-ghost use Rattle.std.specs.Prelude.{◌≡◌, IfErr, IfOk};
+ghost use Rattle.std.specs.Prelude.{◌≡◌, ◌<◌, IfErr, IfOk};
 ghost use Rattle.mc_cli.specs.Task.{IsAllowed};
 
 mod end;
@@ -13,6 +13,7 @@ use end::{end, end_task};
 use failure::Failure;
 use folder::folder_of;
 use mc_cli::{Task, borrow_words, command_of, words_of};
+use mc_files::PieceSource;
 use mc_run::{RunFault, run_task};
 use mc_text::{FromReader, ToWriter};
 use std::env::Env;
@@ -36,50 +37,59 @@ fn buffered_input<R: Read + Drop>(
 }
 
 /// Does a task that reads its input in large pieces, or not at all.
-fn run_unbuffered(
-    rt: &(impl AllocGlobal + Files + Input + Print),
+fn run_unbuffered<F: PieceSource>(
+    rt: &(impl AllocGlobal + Input + Print),
     task: &Task<'_>,
+    files: &mut F,
 ) -> Result<bool, RunFault>
-    requires { IsAllowed task.now }
+    requires allowed { IsAllowed task.now }
+    requires reads_files { F.failed files.old < u64.MAX }
 {
     let mut input = FromReader::new(rt.reader());
-    let mut files = folder_of(rt, task);
     let mut output = ToWriter::new(io::writer(rt));
-    run_task(rt.alloc(), task, &mut input, &mut files, &mut output)
+    run_task(rt.alloc(), task, &mut input, files, &mut output)
 }
 
 /// Does a task that reads a bundle, through a buffer.
-fn run_buffered(
-    rt: &(impl AllocGlobal + Files + Input + Print),
+fn run_buffered<F: PieceSource>(
+    rt: &(impl AllocGlobal + Input + Print),
     task: &Task<'_>,
+    files: &mut F,
 ) -> Result<bool, RunFault>
-    requires { IsAllowed task.now }
+    requires allowed { IsAllowed task.now }
+    requires reads_files { F.failed files.old < u64.MAX }
 {
     let mut input = buffered_input(rt, rt.reader())?;
-    let mut files = folder_of(rt, task);
     let mut output = ToWriter::new(io::writer(rt));
-    run_task(rt.alloc(), task, &mut input, &mut files, &mut output)
+    run_task(rt.alloc(), task, &mut input, files, &mut output)
 }
 
-/// Does the task, over the standard streams and its folder.
-fn run(rt: &(impl AllocGlobal + Files + Input + Print), task: &Task<'_>) -> Result<bool, Failure>
-    requires { IsAllowed task.now }
+/// Does the task, over the standard streams and the files of its folder.
+fn run<F: PieceSource>(
+    rt: &(impl AllocGlobal + Input + Print),
+    task: &Task<'_>,
+    files: &mut F,
+) -> Result<bool, Failure>
+    requires allowed { IsAllowed task.now }
+    requires reads_files { F.failed files.old < u64.MAX }
 {
     let answer = match task {
-        Task::Check | Task::Make | Task::Replay { .. } => run_buffered(rt, task),
-        _ => run_unbuffered(rt, task),
+        Task::Check | Task::Make | Task::Replay { .. } => run_buffered(rt, task, files),
+        _ => run_unbuffered(rt, task, files),
     };
     Ok(answer?)
 }
 
-/// Does the task of the command line.
+/// Does the task of the command line. One source gives the files to its run and to the list of those
+/// that are refused, so that both are of one folder.
 fn run_command_line<'a>(
     rt: &(impl Env + AllocGlobal + Files + Input + Print + Eprint),
     words: &'a [&'a str],
 ) -> Result<ExitCode, Failure> {
     let task = command_of(rt.alloc(), words)?;
-    let answer = run(rt, &task);
-    Ok(end_task(rt, &task, answer))
+    let mut files = folder_of(rt, &task);
+    let answer = run(rt, &task, &mut files);
+    Ok(end_task(rt, &task, &mut files, answer))
 }
 
 fn try_main(

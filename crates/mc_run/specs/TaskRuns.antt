@@ -13,9 +13,11 @@ use Rattle.mc_files.specs.PackRun.{WritesPackedBundle, WritesPackedPrefix}
 use Rattle.mc_input.specs.Meaning.{MeansDomainWhere}
 use Rattle.mc_cli.specs.declared.audit_words.AuditWords.{AuditWords}
 use Rattle.mc_run.specs.AuditPieces.{yes_of}
-use Rattle.mc_run.specs.AuditRun.{AuditSaysYes, HasUnwanted, FilesKeepHeadline}
+use Rattle.mc_run.specs.AuditRun.{AreFoundInWhole, AuditSaysYes, FilesKeepHeadline, HasUnwanted}
 use Rattle.mc_run.specs.AuditRun.{IsAuditText, MeansAudited, SaysOfEach, SaysWhichAreRight}
 use Rattle.mc_run.specs.CheckRun.{BundleKeepsHeadline, IsVerdictText, SaysYes}
+use Rattle.mc_run.specs.Faults.{IsFaultOfAudit, IsFaultOfCheck, IsFaultOfMake, IsFaultOfPack}
+use Rattle.mc_run.specs.Faults.{IsFaultOfReplay, IsFaultOfWants}
 use Rattle.mc_run.specs.InputMeaning.{AreRefusedWithout, IsRefusedFor}
 use Rattle.mc_run.specs.MakeRun.{IsMadeText, SaysAllRight}
 use Rattle.mc_run.specs.PackingRun.{IsPackRunAnswer, IsDeviceOrMemoryFault}
@@ -44,12 +46,14 @@ pub record IsWantsRun (group source : ℕ) (remaining left : Option (List ℕ))
   pub answer : IfSome remaining (λ text. AnswersWants text group source result)
   pub written : IfOk result (λ wanted. Appends old new (answer_line wanted))
   pub part : result ≡ Err Write → WritesPartOfLine remaining group source old new
+  pub faults : IfErr result IsFaultOfWants
   pub consumed : ConsumesUpTo (max_text + 1) remaining left
 
 -- `check`: the verdicts by the bundle's certificate; after a yes the headline holds
 pub record IsCheckRun (remaining left : Option (List ℕ)) (result : Result Bool RunFault)
     (old new : Option (List ℕ)) : Type 0 where
   pub run : IsRunResult IsVerdictText (IsRefusedFor true) remaining result old new
+  pub faults : IfErr result IsFaultOfCheck
   pub consumed : ConsumesUpTo max_input remaining left
   pub headline : SaysYes result old new → IfSome remaining BundleKeepsHeadline
 
@@ -57,6 +61,7 @@ pub record IsCheckRun (remaining left : Option (List ℕ)) (result : Result Bool
 pub record IsMakeRun (remaining left : Option (List ℕ)) (result : Result Bool RunFault)
     (old new : Option (List ℕ)) : Type 0 where
   pub run : IsRunResult IsMadeText (IsRefusedFor false) remaining result old new
+  pub faults : IfErr result IsFaultOfMake
   pub consumed : ConsumesUpTo max_input remaining left
   pub right : IfOk result (λ certified. IfSome remaining (λ text. SaysAllRight text certified))
 
@@ -70,6 +75,7 @@ pub record IsReplayRun (flow ttl : ℕ) (last : Bool) (remaining left : Option (
     (result : Result Bool RunFault) (old new : Option (List ℕ)) : Type 0 where
   pub run : IsRunResult (IsTravelText flow ttl (choices_of last)) (IsReplayRefused flow) remaining
       result old new
+  pub faults : IfErr result (IsFaultOfReplay flow)
   pub consumed : ConsumesUpTo max_input remaining left
 
 -- ---- tasks that read the files of a folder
@@ -89,6 +95,7 @@ pub record IsPackRun (certificate : Bool) (contents : Option (List FileText))
   pub written : OnOk result (IfSome contents (λ files. WritesPackedBundle certificate files old new))
   pub part : result ≡ Err Write
       → IfSome contents (λ files. WritesPackedPrefix certificate files old new)
+  pub faults : IfErr result IsFaultOfPack
 
 -- The answer of an audit is enough: it is yes and, with `strict`, no right flow is wanted by nobody.
 abbrev pub is_enough : (strict : Bool) → AuditAnswer → Bool
@@ -117,6 +124,8 @@ pub record IsAuditResult (o : AuditOptions) (names : List (List ℕ)) (contents 
   pub each : IsWrittenWhole (SaysOfEach o names) contents (yes_of audited) old new
   pub each_in_part : audited ≡ Err Write
       → IfSome contents (λ files. WritesPart (SaysOfEach o names) files old new)
+  pub excluded : IsWrittenWhole (AreFoundInWhole o names) contents (yes_of audited) old new
+  pub faults : IfErr audited IsFaultOfAudit
   pub headline : AuditSaysYes (yes_of audited) old new → IfSome contents FilesKeepHeadline
 
 -- `audit`: whether the answer of the audit is enough, with the options of the command line and without

@@ -22,7 +22,7 @@ use std::alloc::Global;
 /// `audit` read the files, which have to be those of the task's folder; `help` and `--version` read
 /// neither. Returns the answer of the run. For an audit, that is whether its answer is enough: yes, and
 /// with `--strict` no right flow that nobody wants. `pack`, `help` and `--version` return true once all is
-/// written. The clauses `faults` and `excluded` are those of the runs, and aren't repeated here.
+/// written.
 ///
 /// # Errors
 ///

@@ -17,6 +17,8 @@ returns-clause-answered g c =
       unwanted = c.run_audit.ensures.unwanted;
       each = c.run_audit.ensures.each;
       each_in_part = c.run_audit.ensures.each_in_part;
+      excluded = c.run_audit.ensures.excluded;
+      faults = c.run_audit.ensures.faults;
       headline = c.run_audit.ensures.headline;
     } in
     let same : borrows ≡ excluded_names c.args.words.now = ap (map (λ name. name.now))

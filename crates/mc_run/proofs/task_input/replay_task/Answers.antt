@@ -16,6 +16,7 @@ returns-then-last-clause-run g c =
         written = c.run_replay.ensures.written;
         part = c.run_replay.ensures.part;
       };
+      faults = c.run_replay.ensures.faults;
       consumed = c.run_replay.ensures.consumed;
     })
 
@@ -34,5 +35,6 @@ returns-else-last-clause-run g c =
         written = c.run_replay-else-last.ensures.written;
         part = c.run_replay-else-last.ensures.part;
       };
+      faults = c.run_replay-else-last.ensures.faults;
       consumed = c.run_replay-else-last.ensures.consumed;
     })

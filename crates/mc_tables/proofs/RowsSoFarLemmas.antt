@@ -18,7 +18,8 @@ use Rattle.mc_tables.specs.declared.fault.TableFaultKind.TheVariants.{TooLarge}
 use Rattle.mc_text.specs.Steps.{◌>>=◌}
 use Rattle.mc_tables.specs.Steps.{demand, at_line}
 use Rattle.mc_tables.specs.TableLines.{is_among, lines_after_header, rows_after}
-use Rattle.mc_tables.specs.LinesSoFar.{LinesSoFar, HasNoLineFeed, header_line, ReadsInSteps}
+use Rattle.mc_text.specs.Lines.{HasNoLineFeed}
+use Rattle.mc_tables.specs.LinesSoFar.{LinesSoFar, header_line, ReadsInSteps}
 use Rattle.mc_tables.specs.CacheTable.{RowValue, CacheValue, same_key}
 use Rattle.mc_tables.specs.CacheTable.{key_of, table_of}
 use Rattle.mc_tables.specs.CacheReading.{row_in_words, entry_repeats, row_in_line, row_at_line}

@@ -36,13 +36,6 @@ module _ {X : Type 0} where
         | inr last ↦ inr (omega (arith, last.0), last.1)
       ]
 
-  -- the element at a place begins the rest of the list from there
-  pub drop-slice_get : (xs : List X) (i : ℕ) (x : X) → slice_get xs i ≡ Some x
-      → drop i xs ≡ x ∷ drop (i + 1) xs
-  drop-slice_get [] i x e = absurd cc
-  drop-slice_get (y ∷ xs) zero x e = grind arith
-  drop-slice_get (y ∷ xs) (suc i) x e = grind (arith, drop-slice_get xs i x e)
-
 -- ---- the parts between separators
 
 module _ {X : Type 0} (p : X → Bool) where

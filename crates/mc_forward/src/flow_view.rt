@@ -2,6 +2,7 @@
 
 ghost use Rattle.std.specs.Prelude.{◌≡◌, ◌<◌, IfSome, length};
 ghost use Rattle.std.specs.Option.{option_copied};
+ghost use Rattle.mc_topology.specs.Topology.{flow_at};
 ghost use Rattle.mc_theory.specs.Nets.{interfaces};
 ghost use Rattle.mc_theory.specs.Findings.{from_lan, taken_from};
 ghost use Rattle.mc_forward.specs.Domains.{vif_of};
@@ -12,7 +13,7 @@ use crate::domain::Domain;
 use crate::interfaces::Interfaces;
 use crate::row::RowFor;
 use mc_tables::Vif;
-use mc_topology::{LanNo, RouterNo, Topology};
+use mc_topology::{Flow, LanNo, RouterNo, Topology};
 use std::marker::Model;
 
 /// A flow of a domain. Its value in contracts is the domain and the flow's number.
@@ -52,6 +53,13 @@ impl<'d> FlowView<'d> {
         ensures rules { IsFlowOfDomain self.now }
     {
         self.domain.topology()
+    }
+
+    /// The flow, as the topology lists it.
+    pub fn flow(&self) -> Flow
+        ensures { result ≡ flow_at self.now.domain.topology self.now.flow }
+    {
+        *self.topology().flow(self.flow)
     }
 
     /// How many routers there are.

@@ -38,7 +38,7 @@ fn reason_of_line(vif: &Vif) -> UnplacedReason
 
 /// Why a vif is placed on no LAN, by its line in its router's table.
 pub(crate) fn unplaced_reason(vif: Option<&Vif>) -> UnplacedReason
-    ensures { result ≡ unplaced_reason (option_copied vif) }
+    ensures { result ≡ unplaced_reason (option_copied vif.entry) }
 {
     match vif {
         Some(line) => reason_of_line(line),

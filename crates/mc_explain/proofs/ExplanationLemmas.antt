@@ -1,31 +1,32 @@
 -- The lines of causes begin with two spaces.
 use Rattle.std.proofs.Common.{◌==◌, ◌-◌, ℕ, List, [], ◌∷◌, ◌++◌, length, take}
-use Rattle.std.proofs.Common.{Option, Some, None, refl}
+use Rattle.std.proofs.Common.{refl}
 use Rattle.std.specs.Prelude.{nat_le, codes, decimal}
-use Rattle.std.specs.Str.{bytes_eq}
 use Rattle.mc_text.proofs.BundleWords.{HasNoByte}
 use Rattle.mc_tables.specs.Summary.{SummaryValue}
-use Rattle.mc_tables.specs.VifTable.{VifValue, no_device}
 use Rattle.mc_topology.specs.declared.flow.Flow.{Flow}
-use Rattle.mc_topology.specs.Topology.{TopologyValue, IsValidTopology, lan_name, router_name}
-use Rattle.mc_theory.specs.Flights.{Copy}
+use Rattle.mc_topology.specs.Topology.{TopologyValue, IsValidTopology, flow_at, lan_name, router_name}
 use Rattle.mc_forward.specs.ListedTables.{DomainFacts}
+use Rattle.mc_forward.specs.UnplacedReasons.{unplaced_reason}
+use Rattle.mc_forward.specs.declared.unplaced.UnplacedReason.{UnplacedReason}
+use Rattle.mc_forward.specs.declared.unplaced.UnplacedReason.TheVariants.{NoVifLine, RegisterVif, Tunnel}
+use Rattle.mc_forward.specs.declared.unplaced.UnplacedReason.TheVariants.{NoDevice, OnNoLan}
 use Rattle.mc_explain.specs.declared.causes.Cause.{Cause}
 use Rattle.mc_explain.specs.declared.causes.Cause.TheVariants.{SentOnto, Circle, TakeOut, Unplaced}
 use Rattle.mc_explain.specs.declared.causes.Cause.TheVariants.{LeastTtl, OnlyEverySource, StoppedAt}
 use Rattle.mc_explain.specs.EverySourceText.{every_source_text}
-use Rattle.mc_explain.specs.ExplanationText.{cost_text, low_ttl_cost_text, unplaced_reason_text, causes_text}
-use Rattle.mc_explain.specs.ExplanationText.{cause_text, unplaced_text}
+use Rattle.mc_explain.specs.ExplanationText.{cause_text, causes_text, cost_text, low_ttl_cost_text}
+use Rattle.mc_explain.specs.ExplanationText.{reason_text, unplaced_text}
 use Rattle.mc_explain.specs.Indented.{AreIndented}
-use Rattle.mc_explain.specs.RowText.{device_text, incoming_text}
-use Rattle.mc_explain.specs.RowText.{row_text}
-use Rattle.mc_explain.specs.WantedText.{lan_after_space, lans_text, also_missed, also_missed_line}
-use Rattle.mc_explain.specs.WantedText.{also_missed_text, more_text, wanted_line, wanted_text, lans_wanting}
+use Rattle.mc_explain.specs.RowText.{device_text, flow_row_text, incoming_text}
+use Rattle.mc_explain.specs.ShownNames.{lan_after_space, lans_text, more_text}
+use Rattle.mc_explain.specs.WantedText.{also_missed_text}
+use Rattle.mc_explain.specs.WantedText.{wanted_text}
 use Rattle.mc_explain.proofs.LineFeedLemmas.{no_feed-device_text, no_feed-flat_map, no_feed-cond}
 use Rattle.mc_explain.proofs.LineFeedLemmas.{no_feed-every_source_text}
 use Rattle.mc_explain.proofs.LineFeedLemmas.{no_feed-incoming_text, no_feed-lan_name, number}
 use Rattle.mc_explain.proofs.LineFeedLemmas.{no_feed-from_list_all, no_feed-router_name}
-use Rattle.mc_explain.proofs.LineFeedLemmas.{no_feed-row_text, no_feed-append_front, no_feed-append}
+use Rattle.mc_explain.proofs.LineFeedLemmas.{no_feed-flow_row_text, no_feed-append_front, no_feed-append}
 use Rattle.mc_explain.proofs.IndentedLemmas.{are_indented-from_line_rest, is_line_rest-feed_then_lines}
 use Rattle.mc_explain.proofs.IndentedLemmas.{is_line_rest-feed, is_line_rest-append}
 use Rattle.mc_explain.proofs.IndentedLemmas.{is_line_rest-append_front}
@@ -33,21 +34,23 @@ use Rattle.mc_explain.proofs.IndentedLemmas.{are_indented-flat_map, are_indented
 
 -- ---- causes
 
-no_feed-unplaced_reason : (v : VifValue) → HasNoByte 10 (unplaced_reason_text v)
-no_feed-unplaced_reason v =
-    no_feed-cond v.register _ _
-    (no_feed-append_front (codes "is PIM's register vif: copies go to the rendezvous point until its Register-Stop ")
+no_feed-reason_text : (router : List ℕ) (r : UnplacedReason) → HasNoByte 10 router
+    → HasNoByte 10 (reason_text router r)
+no_feed-reason_text router NoVifLine name = no_feed-append_front (codes "has no line in vif-") _ refl name
+no_feed-reason_text router RegisterVif name =
+    no_feed-append_front
+    (codes "is PIM's register vif: copies go to the rendezvous point until its Register-Stop ")
     (codes "comes; if this stays, look why it does not") refl
-    (no_feed-from_list_all (codes "comes; if this stays, look why it does not") refl))
-    (no_feed-cond v.tunnel _ _ (no_feed-from_list_all (codes "is a tunnel") refl)
-    (no_feed-cond (bytes_eq v.device no_device) _ _ (no_feed-from_list_all (codes "has lost its device") refl)
-    (no_feed-from_list_all (codes "is on no listed LAN") refl)))
+    (no_feed-from_list_all (codes "comes; if this stays, look why it does not") refl)
+no_feed-reason_text router Tunnel name = no_feed-from_list_all (codes "is a tunnel") refl
+no_feed-reason_text router NoDevice name = no_feed-from_list_all (codes "has lost its device") refl
+no_feed-reason_text router OnNoLan name = no_feed-from_list_all (codes "is on no listed LAN") refl
 
-no_feed-unplaced_text : (d : DomainFacts) (router : ℕ) (o : Option VifValue) → IsValidTopology d.topology
-    → HasNoByte 10 (unplaced_text d router o)
-no_feed-unplaced_text d router None ok =
-    no_feed-append_front (codes "has no line in vif-") _ refl (no_feed-router_name d.topology router ok)
-no_feed-unplaced_text d router (Some v) ok = no_feed-unplaced_reason v
+no_feed-unplaced_text : (d : DomainFacts) (router vif : ℕ) → IsValidTopology d.topology
+    → HasNoByte 10 (unplaced_text d router vif)
+no_feed-unplaced_text d router vif ok =
+    no_feed-reason_text (router_name d.topology router) (unplaced_reason (d.vifs router vif))
+    (no_feed-router_name d.topology router ok)
 
 no_feed-cost_text : (d : DomainFacts) (f : Flow) (lan least : ℕ) → IsValidTopology d.topology
     → HasNoByte 10 (cost_text d f lan least)
@@ -61,11 +64,9 @@ no_feed-cost_text d f lan least ok =
     (no_feed-append_front (codes " and LANs behind it, and this flow is listed with ttl ") _ refl
     (number f.ttl))))))
 
-are_indented-cause_text : (d : DomainFacts) (summary : List SummaryValue) (number_of : ℕ) (f : Flow)
-    (t : Cause)
-    → IsValidTopology d.topology → AreIndented (cause_text d summary number_of f t)
-are_indented-cause_text d summary k f (SentOnto lan router vif) ok =
-    let row = (d.nets k).row router in
+are_indented-cause_text : (d : DomainFacts) (summary : List SummaryValue) (flow : ℕ) (t : Cause)
+    → IsValidTopology d.topology → AreIndented (cause_text d summary flow t)
+are_indented-cause_text d summary flow (SentOnto lan router vif) ok =
     are_indented-from_line_rest _
     (is_line_rest-append_front (codes "sent onto ") _ refl
     (is_line_rest-append (lan_name d.topology lan) _ (no_feed-lan_name d.topology lan ok)
@@ -74,10 +75,9 @@ are_indented-cause_text d summary k f (SentOnto lan router vif) ok =
     (is_line_rest-append_front (codes " at ") _ refl
     (is_line_rest-append (device_text d router vif) _ (no_feed-device_text d router vif)
     (is_line_rest-append_front (codes ": ") _ refl
-    (is_line_rest-append (row_text d f router row) _ (no_feed-row_text d f router row ok)
+    (is_line_rest-append (flow_row_text d flow router) _ (no_feed-flow_row_text d flow router ok)
     is_line_rest-feed))))))))
-are_indented-cause_text d summary k f (Circle from onto router vif) ok =
-    let row = (d.nets k).row router in
+are_indented-cause_text d summary flow (Circle from onto router vif) ok =
     are_indented-from_line_rest _
     (is_line_rest-append (lan_name d.topology from) _ (no_feed-lan_name d.topology from ok)
     (is_line_rest-append_front (codes " to ") _ refl
@@ -85,36 +85,37 @@ are_indented-cause_text d summary k f (Circle from onto router vif) ok =
     (is_line_rest-append_front (codes " by ") _ refl
     (is_line_rest-append (router_name d.topology router) _ (no_feed-router_name d.topology router ok)
     (is_line_rest-append_front (codes " from ") _ refl
-    (is_line_rest-append (incoming_text d router row) _ (no_feed-incoming_text d router row)
+    (is_line_rest-append (incoming_text d router ((d.nets flow).row router)) _
+    (no_feed-incoming_text d router ((d.nets flow).row router))
     (is_line_rest-append_front (codes " to ") _ refl
     (is_line_rest-append (device_text d router vif) _ (no_feed-device_text d router vif)
     (is_line_rest-append_front (codes ": ") _ refl
-    (is_line_rest-append (row_text d f router row) _ (no_feed-row_text d f router row ok)
+    (is_line_rest-append (flow_row_text d flow router) _ (no_feed-flow_row_text d flow router ok)
     is_line_rest-feed)))))))))))
-are_indented-cause_text d summary k f (TakeOut lan router vif least) ok =
+are_indented-cause_text d summary flow (TakeOut lan router vif least) ok =
     are_indented-from_line_rest _
     (is_line_rest-append_front (codes "one way to end it: take ") _ refl
     (is_line_rest-append (device_text d router vif) _ (no_feed-device_text d router vif)
     (is_line_rest-append_front (codes " out of this row of ") _ refl
     (is_line_rest-append (router_name d.topology router) _ (no_feed-router_name d.topology router ok)
     (is_line_rest-append_front (codes "; ") _ refl
-    (is_line_rest-append (cost_text d f lan least) _ (no_feed-cost_text d f lan least ok)
+    (is_line_rest-append (cost_text d (flow_at d.topology flow) lan least) _
+    (no_feed-cost_text d (flow_at d.topology flow) lan least ok)
     (is_line_rest-feed_then_lines (codes "  audit again after each change\n")
     (are_indented-from_line_rest _ (is_line_rest-append_front (codes "audit again after each change") _ refl
     is_line_rest-feed)))))))))
-are_indented-cause_text d summary k f (Unplaced router vif) ok =
-    let row = (d.nets k).row router in
+are_indented-cause_text d summary flow (Unplaced router vif) ok =
     are_indented-from_line_rest _
     (is_line_rest-append (device_text d router vif) _ (no_feed-device_text d router vif)
     (is_line_rest-append_front (codes " of ") _ refl
     (is_line_rest-append (router_name d.topology router) _ (no_feed-router_name d.topology router ok)
     (is_line_rest-append_front (codes " ") _ refl
-    (is_line_rest-append (unplaced_text d router (d.vifs router vif)) _
-    (no_feed-unplaced_text d router (d.vifs router vif) ok)
+    (is_line_rest-append (unplaced_text d router vif) _
+    (no_feed-unplaced_text d router vif ok)
     (is_line_rest-feed_then_lines _ (are_indented-from_line_rest _
-    (is_line_rest-append (row_text d f router row) _ (no_feed-row_text d f router row ok)
+    (is_line_rest-append (flow_row_text d flow router) _ (no_feed-flow_row_text d flow router ok)
     is_line_rest-feed))))))))
-are_indented-cause_text d summary k f (OnlyEverySource router vif) ok =
+are_indented-cause_text d summary flow (OnlyEverySource router vif) ok =
     are_indented-from_line_rest _
     (is_line_rest-append_front (codes "a copy comes in at ") _ refl
     (is_line_rest-append (device_text d router vif) _ (no_feed-device_text d router vif)
@@ -122,20 +123,21 @@ are_indented-cause_text d summary k f (OnlyEverySource router vif) ok =
     (is_line_rest-append (router_name d.topology router) _ (no_feed-router_name d.topology router ok)
     (is_line_rest-append_front
     (codes ", which has no resolved row of this source and group, only one for every source: ") _ refl
-    (is_line_rest-append (every_source_text d summary f.group router) _
-    (no_feed-every_source_text d summary f.group router ok)
+    (is_line_rest-append (every_source_text d summary (flow_at d.topology flow).group router) _
+    (no_feed-every_source_text d summary (flow_at d.topology flow).group router ok)
     (is_line_rest-feed_then_lines (codes "  this may be healthy: mcaudit judges source trees alone\n")
     (are_indented-from_line_rest _
     (is_line_rest-append_front (codes "this may be healthy: mcaudit judges source trees alone") _ refl
     is_line_rest-feed)))))))))
-are_indented-cause_text d summary k f (LeastTtl lan least) ok =
+are_indented-cause_text d summary flow (LeastTtl lan least) ok =
     are_indented-from_line_rest _
     (is_line_rest-append (lan_name d.topology lan) _ (no_feed-lan_name d.topology lan ok)
     (is_line_rest-append_front (codes " is reached by packets sent with ttl ") _ refl
     (is_line_rest-append (decimal least) _ (number least)
     (is_line_rest-append_front (codes " or more; this flow is listed with ttl ") _ refl
-    (is_line_rest-append (decimal f.ttl) _ (number f.ttl) is_line_rest-feed)))))
-are_indented-cause_text d summary k f (StoppedAt router vif threshold ttl) ok =
+    (is_line_rest-append (decimal (flow_at d.topology flow).ttl) _
+    (number (flow_at d.topology flow).ttl) is_line_rest-feed)))))
+are_indented-cause_text d summary flow (StoppedAt router vif threshold ttl) ok =
     are_indented-from_line_rest _
     (is_line_rest-append_front (codes "stopped at ") _ refl
     (is_line_rest-append (router_name d.topology router) _ (no_feed-router_name d.topology router ok)
@@ -147,11 +149,11 @@ are_indented-cause_text d summary k f (StoppedAt router vif threshold ttl) ok =
     (is_line_rest-append (decimal threshold) _ (number threshold) is_line_rest-feed))))))))
 
 -- all causes
-pub are_indented-causes_text : (d : DomainFacts) (summary : List SummaryValue) (number_of : ℕ) (f : Flow)
-    (causes : List Cause) → IsValidTopology d.topology → AreIndented (causes_text d summary number_of f
-    causes)
-are_indented-causes_text d summary k f causes ok =
-    are_indented-flat_map (cause_text d summary k f) causes (λ t. are_indented-cause_text d summary k f t ok)
+pub are_indented-causes_text : (d : DomainFacts) (summary : List SummaryValue) (flow : ℕ)
+    (causes : List Cause) → IsValidTopology d.topology → AreIndented (causes_text d summary flow causes)
+are_indented-causes_text d summary flow causes ok =
+    are_indented-flat_map (cause_text d summary flow) causes
+    (λ t. are_indented-cause_text d summary flow t ok)
 
 -- ---- lists of LANs
 
@@ -191,12 +193,3 @@ are_indented-also_missed_text t (lan ∷ lans) ok =
     (is_line_rest-append_front (codes "also missed:") _ refl
     (is_line_rest-append (lans_text t (lan ∷ lans)) _ (no_feed-lans_text t (lan ∷ lans) ok)
     is_line_rest-feed))
-
-pub are_indented-wanted_line : (d : DomainFacts) (flow : ℕ) → IsValidTopology d.topology
-    → AreIndented (wanted_line d flow)
-are_indented-wanted_line d flow ok = are_indented-wanted_text d.topology (lans_wanting d flow) ok
-
-pub are_indented-also_missed_line : (d : DomainFacts) (flow : ℕ) (copies : List Copy) (missed : ℕ)
-    → IsValidTopology d.topology → AreIndented (also_missed_line d flow copies missed)
-are_indented-also_missed_line d flow copies missed ok = are_indented-also_missed_text d.topology
-    (also_missed d flow copies missed) ok

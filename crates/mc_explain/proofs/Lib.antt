@@ -2,7 +2,7 @@ pub mod DeviceLemmas
 pub mod LineFeedLemmas
 pub mod IndentedLemmas
 pub mod ExplanationLemmas
-pub mod FirstEightLemmas
+pub mod FilterLemmas
 pub mod CostLemmas
 pub mod BackLemmas
 pub mod NeedLemmas
@@ -19,7 +19,7 @@ pub mod SearchLemmas
 pub mod NextLanLemmas
 pub mod VisitedLemmas
 pub mod ReachLemmas
-pub mod RouterTextLemmas
+pub mod ShownNameLemmas
 pub mod SearchTextLemmas
 pub mod ShownLineLemmas
 pub mod UnlistedLemmas

@@ -1,13 +1,12 @@
 -- The text of a search, part by part.
-use Rattle.std.proofs.Common.{◌≡◌, ℕ, suc, ◌+◌, ◌-◌, ◌<◌, ◌≤◌, List, ◌∷◌, ◌++◌, take, flat_map, Some}
+use Rattle.std.proofs.Common.{◌≡◌, ℕ, suc, ◌+◌, ◌-◌, ◌<◌, ◌≤◌, List, ◌∷◌, ◌++◌, take, flat_map}
 use Rattle.std.proofs.Common.{Result, Ok, Err, ap, sym, ◌∙◌, append_assoc, arith}
-use Rattle.std.specs.Prelude.{OnOk, slice_get, unwrap_or}
+use Rattle.std.specs.Prelude.{OnOk}
 use Rattle.mc_tables.specs.Summary.{SummaryValue}
-use Rattle.mc_topology.specs.declared.flow.Flow.{Flow}
 use Rattle.mc_topology.specs.Topology.{TopologyValue}
 use Rattle.mc_forward.specs.Domains.{DomainValue}
 use Rattle.mc_forward.specs.FlightsInDomain.{FlowOfDomain}
-use Rattle.mc_forward.specs.ListedTables.{facts}
+use Rattle.mc_forward.specs.ListedTables.{DomainFacts, facts}
 use Rattle.mc_explain.specs.declared.search_line.SearchLine.{SearchLine}
 use Rattle.mc_explain.specs.SearchText.{first_lines_text, reach_text, search_text}
 use Rattle.mc_explain.specs.ShownLines.{shown_lines}
@@ -39,31 +38,19 @@ pub on_ok-map : {A B : Type 0} {P Q : Type 0} (r : Result A B) → OnOk r P → 
 on_ok-map (Ok x) p f = f p
 on_ok-map (Err e) p f = tt
 
--- the parts are those of the flow that the topology lists with this number
 pub search_text-from_parts : (d : DomainValue) (view : FlowOfDomain) (flow : ℕ) (t : TopologyValue)
-    (summary : List SummaryValue) (f listed : Flow) (lines seen : List SearchLine)
-    (sent_on took_none old reached new : List ℕ)
-    → view ≡ record { domain = d; flow = flow } → t ≡ d.topology
-    → slice_get t.flows flow ≡ Some f → slice_get d.topology.flows flow ≡ Some listed
-    → seen ≡ lines → reached ≡ old ++ reach_text t sent_on took_none
-    → new ≡ reached ++ first_lines_text (facts view.domain) summary view.flow f (shown_lines seen)
-    → new ≡ old ++ search_text (facts d) summary flow listed lines sent_on took_none
-search_text-from_parts d view flow t summary f listed lines seen sent_on took_none old reached new of_view
-    of_t at
-    at_listed of_lines reach all =
-    let same : f ≡ listed =
-    ap (λ o. unwrap_or o f) (sym at ∙ ap (λ (u : TopologyValue). slice_get u.flows flow) of_t
-    ∙ at_listed) in
+    (summary : List SummaryValue) (lines seen : List SearchLine) (sent_on took_none old reached new : List ℕ)
+    → view ≡ record { domain = d; flow = flow } → t ≡ d.topology → seen ≡ lines
+    → reached ≡ old ++ reach_text t sent_on took_none
+    → new ≡ reached ++ first_lines_text (facts view.domain) summary view.flow (shown_lines seen)
+    → new ≡ old ++ search_text (facts d) summary flow lines sent_on took_none
+search_text-from_parts d view flow t summary lines seen sent_on took_none old reached new of_view of_t
+    of_lines reach all =
+    let first = λ (e : DomainFacts) (n : ℕ) (ls : List SearchLine).
+    first_lines_text e summary n (shown_lines ls) in
     all
-    ∙ ap (λ (v : FlowOfDomain). reached ++ first_lines_text (facts v.domain) summary v.flow f
-    (shown_lines seen))
-    of_view
-    ∙ ap (λ (g : Flow). reached ++ first_lines_text (facts d) summary flow g (shown_lines seen)) same
-    ∙ ap (λ (ls : List SearchLine). reached ++ first_lines_text (facts d) summary flow listed
-    (shown_lines ls))
-    of_lines
-    ∙ ap (λ (l : List ℕ). l ++ first_lines_text (facts d) summary flow listed (shown_lines lines)) reach
-    ∙ append_assoc old (reach_text t sent_on took_none)
-    (first_lines_text (facts d) summary flow listed (shown_lines lines))
-    ∙ ap (λ (u : TopologyValue). old ++ (reach_text u sent_on took_none
-    ++ first_lines_text (facts d) summary flow listed (shown_lines lines))) of_t
+    ∙ ap (λ (v : FlowOfDomain). reached ++ first (facts v.domain) v.flow seen) of_view
+    ∙ ap (λ (ls : List SearchLine). reached ++ first (facts d) flow ls) of_lines
+    ∙ ap (λ (l : List ℕ). l ++ first (facts d) flow lines) reach
+    ∙ append_assoc old (reach_text t sent_on took_none) (first (facts d) flow lines)
+    ∙ ap (λ (u : TopologyValue). old ++ (reach_text u sent_on took_none ++ first (facts d) flow lines)) of_t

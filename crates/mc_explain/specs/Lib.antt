@@ -3,7 +3,6 @@ pub mod RowText
 pub mod EverySourceText
 pub mod ExplanationText
 pub mod Indented
-pub mod FirstEight
 pub mod WantedText
 pub mod LastFlights
 pub mod CauseFacts
@@ -13,7 +12,7 @@ pub mod SearchLine
 pub mod LanProbe
 pub mod SearchReach
 pub mod SearchNames
-pub mod RouterText
+pub mod ShownNames
 pub mod ExpectingRouters
 pub mod ShownLines
 pub mod SearchText

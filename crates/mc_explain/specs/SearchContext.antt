@@ -8,12 +8,12 @@ use Rattle.mc_explain.specs.SearchText.{first_lines_text, search_line_text, show
 
 abbrev pub search_line_text_in : LineContext → SearchLine → List ℕ
 search_line_text_in c line =
-    search_line_text (facts c.view.now.domain) c.summary.now c.view.now.flow c.flow.now line
+    search_line_text (facts c.view.now.domain) c.summary.now c.view.now.flow line
 
 abbrev pub shown_line_text_in : LineContext → ShownLine → List ℕ
 shown_line_text_in c line =
-    shown_line_text (facts c.view.now.domain) c.summary.now c.view.now.flow c.flow.now line
+    shown_line_text (facts c.view.now.domain) c.summary.now c.view.now.flow line
 
 abbrev pub first_lines_text_in : LineContext → List ShownLine → List ℕ
 first_lines_text_in c lines =
-    first_lines_text (facts c.view.now.domain) c.summary.now c.view.now.flow c.flow.now lines
+    first_lines_text (facts c.view.now.domain) c.summary.now c.view.now.flow lines

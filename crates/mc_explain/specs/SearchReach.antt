@@ -5,7 +5,6 @@ use Rattle.std.specs.List.{list_any}
 use Rattle.mc_theory.specs.Events.{Event, Outcome}
 use Rattle.mc_theory.specs.Events.Outcome.{Open, NoRow, OtherVif, Sent}
 use Rattle.mc_tables.specs.Summary.{SummaryValue}
-use Rattle.mc_topology.specs.declared.flow.Flow.{Flow}
 use Rattle.mc_forward.specs.ListedTables.{DomainFacts}
 use Rattle.mc_explain.specs.SearchText.{search_text}
 use Rattle.mc_explain.specs.SearchLine.{Search, append_new, lans_of_search, routers_on, search_lines}
@@ -48,6 +47,6 @@ pub record IsLanSearch (s : Search) (events : List Event) (missed : ℕ) (found 
   pub took_none : found.reach.took_none.items ≡ took_none events (routers_of_search s missed)
 
 -- the text of a search's result, of the flow with this number
-abbrev pub lan_search_text : DomainFacts → List SummaryValue → (number : ℕ) → Flow → LanSearch → List ℕ
-lan_search_text d summary number f found =
-    search_text d summary number f found.lines.items found.reach.sent_on.items found.reach.took_none.items
+abbrev pub lan_search_text : DomainFacts → List SummaryValue → (flow : ℕ) → LanSearch → List ℕ
+lan_search_text d summary flow found =
+    search_text d summary flow found.lines.items found.reach.sent_on.items found.reach.took_none.items

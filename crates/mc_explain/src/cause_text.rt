@@ -2,40 +2,23 @@
 
 ghost use Rattle.std.specs.Prelude.{◌≡◌, ◌<◌, ◌++◌, [], OnOk, Some, length};
 ghost use Rattle.std.specs.String.{string_bytes};
-ghost use Rattle.mc_forward.specs.Domains.{vif_of};
+ghost use Rattle.mc_topology.specs.Topology.{flow_at};
 ghost use Rattle.mc_forward.specs.ListedTables.{facts};
-ghost use Rattle.mc_explain.specs.ExplanationText.{cost_text, unplaced_reason_text, causes_text, cause_text};
+ghost use Rattle.mc_explain.specs.ExplanationText.{cause_text, causes_text, cost_text};
 ghost use Rattle.mc_explain.specs.ExplanationText.{only_every_source_text, stopped_text, unplaced_text};
-ghost use Rattle.mc_explain.specs.ExplanationText.{ForListedFlow};
 ghost use Rattle.mc_explain.specs.declared.causes.Cause.TheVariants.{SentOnto, Circle, TakeOut, Unplaced};
 ghost use Rattle.mc_explain.specs.declared.causes.Cause.TheVariants.{LeastTtl};
 
 use crate::causes::Cause;
-use crate::device_text::{NO_DEVICE, ShownDevice};
+use crate::device_text::ShownDevice;
 use crate::every_source_row::ShownEverySource;
 use crate::row_text::{ShownIncoming, ShownRow};
-use mc_forward::{Domain, FlowView};
-use mc_tables::{CacheSummary, Vif};
+use mc_forward::{Domain, FlowView, UnplacedReason};
+use mc_tables::CacheSummary;
 use mc_text::Memory;
-use mc_topology::{Flow, LanNo, RouterNo};
+use mc_topology::{LanNo, RouterNo};
 use std::alloc::AllocError;
 use std::fmt;
-
-/// Why a vif with a line in its router's table is placed on no LAN.
-fn unplaced_reason(vif: &Vif) -> &'static str
-    ensures { result.now ≡ unplaced_reason_text vif.now }
-{
-    if vif.register() {
-        "is PIM's register vif: copies go to the rendezvous point until its Register-Stop comes; \
-         if this stays, look why it does not"
-    } else if vif.tunnel() {
-        "is a tunnel"
-    } else if vif.device() == NO_DEVICE {
-        "has lost its device"
-    } else {
-        "is on no listed LAN"
-    }
-}
 
 /// Why a router's vif is placed on no LAN, such as `is a tunnel` or `has no line in vif-r1`.
 #[derive(Clone, Copy, Drop)]
@@ -47,16 +30,21 @@ struct ShownUnplacedReason<'v> {
 
 impl<'v> fmt::Display for ShownUnplacedReason<'v> {
     ghost output = { λ shown. Some (unplaced_text (facts shown.view.now.domain) shown.router
-        (vif_of shown.view.now.domain.tables shown.router shown.vif)) };
+        shown.vif) };
 
     fn fmt<W: fmt::Write>(&self, f: &mut fmt::Formatter<W>) -> fmt::Result {
-        let view = self.view;
-        match view.vif(self.router, self.vif) {
-            Some(vif) => f.write_str(unplaced_reason(vif)),
-            None => {
-                let router = view.topology().router_name_or_empty(self.router);
+        match self.view.unplaced_reason(self.router, self.vif) {
+            UnplacedReason::NoVifLine => {
+                let router = self.view.topology().router_name_or_empty(self.router);
                 write!(f, "has no line in vif-{router}")
             }
+            UnplacedReason::RegisterVif => f.write_str(
+                "is PIM's register vif: copies go to the rendezvous point until its \
+                 Register-Stop comes; if this stays, look why it does not",
+            ),
+            UnplacedReason::Tunnel => f.write_str("is a tunnel"),
+            UnplacedReason::NoDevice => f.write_str("has lost its device"),
+            UnplacedReason::OnNoLan => f.write_str("is on no listed LAN"),
         }
     }
 }
@@ -65,17 +53,17 @@ impl<'v> fmt::Display for ShownUnplacedReason<'v> {
 #[derive(Clone, Copy, Drop)]
 struct ShownCost<'v> {
     view: &'v FlowView<'v>,
-    flow: &'v Flow,
     lan: LanNo,
     least: u8,
 }
 
 impl<'v> fmt::Display for ShownCost<'v> {
     ghost output = { λ shown.
-        Some (cost_text (facts shown.view.now.domain) shown.flow.now shown.lan shown.least) };
+        Some (cost_text (facts shown.view.now.domain)
+        (flow_at shown.view.now.domain.topology shown.view.now.flow) shown.lan shown.least) };
 
     fn fmt<W: fmt::Write>(&self, f: &mut fmt::Formatter<W>) -> fmt::Result {
-        let (least, ttl) = (self.least, self.flow.ttl);
+        let (least, ttl) = (self.least, self.view.flow().ttl);
         if least <= ttl {
             return f.write_str("each LAN that this flow's packets reach is reached without it");
         }
@@ -92,17 +80,17 @@ impl<'v> fmt::Display for ShownCost<'v> {
 fn push_sent_onto(
     text: &mut String,
     view: &FlowView<'_>,
-    flow: &Flow,
     lan: LanNo,
     router: RouterNo,
     vif: u8,
 ) -> Result<(), AllocError>
     ensures { OnOk result (string_bytes text.new ≡ string_bytes text.old
-        ++ cause_text (facts view.now.domain) [] view.now.flow flow.now (SentOnto lan router vif)) }
+        ++ cause_text (facts view.now.domain) [] view.now.flow (SentOnto lan router vif)) }
 {
-    let device = ShownDevice { view, router, vif };
-    let row = ShownRow { view, flow, router };
     let topology = view.topology();
+    let view = &*view;
+    let device = ShownDevice { view, router, vif };
+    let row = ShownRow { view, router };
     let lan = topology.lan_name_or_empty(lan);
     let router = topology.router_name_or_empty(router);
     writeln!(text, "  sent onto {lan} by {router} at {device}: {row}")
@@ -112,19 +100,19 @@ fn push_sent_onto(
 fn push_circle(
     text: &mut String,
     view: &FlowView<'_>,
-    flow: &Flow,
     from: LanNo,
     onto: LanNo,
     router: RouterNo,
     vif: u8,
 ) -> Result<(), AllocError>
     ensures { OnOk result (string_bytes text.new ≡ string_bytes text.old
-        ++ cause_text (facts view.now.domain) [] view.now.flow flow.now (Circle from onto router vif)) }
+        ++ cause_text (facts view.now.domain) [] view.now.flow (Circle from onto router vif)) }
 {
+    let topology = view.topology();
+    let view = &*view;
     let incoming = ShownIncoming { view, router };
     let device = ShownDevice { view, router, vif };
-    let row = ShownRow { view, flow, router };
-    let topology = view.topology();
+    let row = ShownRow { view, router };
     let from = topology.lan_name_or_empty(from);
     let onto = topology.lan_name_or_empty(onto);
     let router = topology.router_name_or_empty(router);
@@ -138,26 +126,21 @@ fn push_circle(
 fn push_take_out(
     text: &mut String,
     view: &FlowView<'_>,
-    flow: &Flow,
     lan: LanNo,
     router: RouterNo,
     vif: u8,
     least: u8,
 ) -> Result<(), AllocError>
     ensures { OnOk result (string_bytes text.new ≡ string_bytes text.old
-        ++ cause_text (facts view.now.domain) [] view.now.flow flow.now (TakeOut lan router vif least)) }
+        ++ cause_text (facts view.now.domain) [] view.now.flow (TakeOut lan router vif least)) }
 {
+    let name = view.topology().router_name_or_empty(router);
+    let view = &*view;
     let device = ShownDevice { view, router, vif };
-    let cost = ShownCost {
-        view,
-        flow,
-        lan,
-        least,
-    };
-    let router = view.topology().router_name_or_empty(router);
+    let cost = ShownCost { view, lan, least };
     writeln!(
         text,
-        "  one way to end it: take {device} out of this row of {router}; {cost}\n  \
+        "  one way to end it: take {device} out of this row of {name}; {cost}\n  \
          audit again after each change"
     )
 }
@@ -166,33 +149,32 @@ fn push_take_out(
 fn push_unplaced(
     text: &mut String,
     view: &FlowView<'_>,
-    flow: &Flow,
     router: RouterNo,
     vif: u8,
 ) -> Result<(), AllocError>
     ensures { OnOk result (string_bytes text.new ≡ string_bytes text.old
-        ++ cause_text (facts view.now.domain) [] view.now.flow flow.now (Unplaced router vif)) }
+        ++ cause_text (facts view.now.domain) [] view.now.flow (Unplaced router vif)) }
 {
+    let name = view.topology().router_name_or_empty(router);
+    let view = &*view;
     let device = ShownDevice { view, router, vif };
     let reason = ShownUnplacedReason { view, router, vif };
-    let row = ShownRow { view, flow, router };
-    let router = view.topology().router_name_or_empty(router);
-    writeln!(text, "  {device} of {router} {reason}\n  {row}")
+    let row = ShownRow { view, router };
+    writeln!(text, "  {device} of {name} {reason}\n  {row}")
 }
 
 /// Writes a `LeastTtl` cause: the least TTL with which packets reach a LAN.
 fn push_least_ttl(
     text: &mut String,
     view: &FlowView<'_>,
-    flow: &Flow,
     lan: LanNo,
     least: u8,
 ) -> Result<(), AllocError>
     ensures { OnOk result (string_bytes text.new ≡ string_bytes text.old
-        ++ cause_text (facts view.now.domain) [] view.now.flow flow.now (LeastTtl lan least)) }
+        ++ cause_text (facts view.now.domain) [] view.now.flow (LeastTtl lan least)) }
 {
     let lan = view.topology().lan_name_or_empty(lan);
-    let ttl = flow.ttl;
+    let ttl = view.flow().ttl;
     writeln!(
         text,
         "  {lan} is reached by packets sent with ttl {least} or more; \
@@ -227,18 +209,17 @@ fn push_only_every_source(
     text: &mut String,
     view: &FlowView<'_>,
     summary: &[CacheSummary],
-    flow: &Flow,
     router: RouterNo,
     vif: u8,
 ) -> Result<(), AllocError>
     ensures { OnOk result (string_bytes text.new ≡ string_bytes text.old
-        ++ only_every_source_text (facts view.now.domain) summary.now flow.now router vif) }
+        ++ only_every_source_text (facts view.now.domain) summary.now
+        (flow_at view.now.domain.topology view.now.flow).group router vif) }
 {
     let device = ShownDevice { view, router, vif };
     let row = ShownEverySource {
         view,
         summary,
-        group: flow.group,
         router,
     };
     let name = view.topology().router_name_or_empty(router);
@@ -255,31 +236,30 @@ fn push_cause(
     text: &mut String,
     view: &FlowView<'_>,
     summary: &[CacheSummary],
-    flow: &Flow,
     cause: Cause,
 ) -> Result<(), AllocError>
     ensures { OnOk result (string_bytes text.new ≡ string_bytes text.old
-        ++ cause_text (facts view.now.domain) summary.now view.now.flow flow.now cause) }
+        ++ cause_text (facts view.now.domain) summary.now view.now.flow cause) }
 {
     match cause {
-        Cause::SentOnto { lan, router, vif } => push_sent_onto(text, view, flow, lan, router, vif),
+        Cause::SentOnto { lan, router, vif } => push_sent_onto(text, view, lan, router, vif),
         Cause::Circle {
             from,
             onto,
             router,
             vif,
-        } => push_circle(text, view, flow, from, onto, router, vif),
+        } => push_circle(text, view, from, onto, router, vif),
         Cause::TakeOut {
             lan,
             router,
             vif,
             least,
-        } => push_take_out(text, view, flow, lan, router, vif, least),
-        Cause::Unplaced { router, vif } => push_unplaced(text, view, flow, router, vif),
+        } => push_take_out(text, view, lan, router, vif, least),
+        Cause::Unplaced { router, vif } => push_unplaced(text, view, router, vif),
         Cause::OnlyEverySource { router, vif } => {
-            push_only_every_source(text, view, summary, flow, router, vif)
+            push_only_every_source(text, view, summary, router, vif)
         }
-        Cause::LeastTtl { lan, least } => push_least_ttl(text, view, flow, lan, least),
+        Cause::LeastTtl { lan, least } => push_least_ttl(text, view, lan, least),
         Cause::StoppedAt {
             router,
             vif,
@@ -294,14 +274,13 @@ fn push_cause_lines(
     text: &mut String,
     view: &FlowView<'_>,
     summary: &[CacheSummary],
-    flow: &Flow,
     causes: &[Cause],
 ) -> Result<(), Memory>
     ensures { OnOk result (string_bytes text.new ≡ string_bytes text.old
-        ++ causes_text (facts view.now.domain) summary.now view.now.flow flow.now causes.now) }
+        ++ causes_text (facts view.now.domain) summary.now view.now.flow causes.now) }
 {
     for line in causes {
-        push_cause(text, view, summary, flow, *line)?;
+        push_cause(text, view, summary, *line)?;
     }
     Ok(())
 }
@@ -321,9 +300,9 @@ pub fn push_causes(
     causes: &[Cause],
 ) -> Result<(), Memory>
     requires flow { flow < length domain.now.topology.flows }
-    ensures lines { OnOk result (ForListedFlow domain.now flow (λ f. string_bytes text.new
-        ≡ string_bytes text.old ++ causes_text (facts domain.now) summary.now flow f causes.now)) }
+    ensures lines { OnOk result (string_bytes text.new ≡ string_bytes text.old
+        ++ causes_text (facts domain.now) summary.now flow causes.now) }
 {
     let view = FlowView::new(domain, flow);
-    push_cause_lines(text, &view, summary, domain.topology().flow(flow), causes)
+    push_cause_lines(text, &view, summary, causes)
 }

@@ -8,9 +8,6 @@ use mc_forward::FlowView;
 use mc_topology::RouterNo;
 use std::fmt;
 
-/// The device name that the kernel prints for a vif without a device.
-pub(crate) const NO_DEVICE: &[u8] = b"none";
-
 /// Whether a byte of a device's name is written unescaped.
 fn is_plain(byte: u8) -> bool
     ensures { result ≡ is_plain byte }
@@ -75,7 +72,7 @@ impl<'v> fmt::Display for ShownDevice<'v> {
     fn fmt<W: fmt::Write>(&self, f: &mut fmt::Formatter<W>) -> fmt::Result {
         let vif = self.vif;
         match self.view.vif(self.router, vif) {
-            Some(line) if line.device() != NO_DEVICE => {
+            Some(line) if line.has_device() => {
                 let name = ShownDeviceName {
                     name: line.device(),
                 };

@@ -4,14 +4,14 @@ ghost use Rattle.std.specs.Prelude.{◌≡◌, Some};
 ghost use Rattle.mc_forward.specs.Domains.{oif_pairs};
 ghost use Rattle.mc_forward.specs.FlightsInDomain.{net_in};
 ghost use Rattle.mc_forward.specs.ListedTables.{facts};
-ghost use Rattle.mc_explain.specs.RowText.{address_text, entry_text, incoming_text};
-ghost use Rattle.mc_explain.specs.RowText.{oif_text, oifs_text, row_text};
+ghost use Rattle.mc_explain.specs.RowText.{address_text, entry_text, flow_row_text, incoming_text};
+ghost use Rattle.mc_explain.specs.RowText.{oif_text, oifs_text};
 
 use crate::device_text::ShownDevice;
 use mc_forward::{FlowView, RowFor};
 use mc_tables::Oif;
 use mc_text::Addr;
-use mc_topology::{Flow, RouterNo};
+use mc_topology::RouterNo;
 use std::fmt;
 
 /// An outgoing vif of a row, such as ` eth1` or ` eth1:5`. A threshold of 1 isn't written.
@@ -131,18 +131,17 @@ impl<'v> fmt::Display for ShownEntry<'v> {
 pub(crate) struct ShownRow<'v> {
     /// The flow in its domain.
     pub(crate) view: &'v FlowView<'v>,
-    /// The same flow as the topology lists it.
-    pub(crate) flow: &'v Flow,
     /// The router.
     pub(crate) router: RouterNo,
 }
 
 impl<'v> fmt::Display for ShownRow<'v> {
-    ghost output = { λ shown. Some (row_text (facts shown.view.now.domain) shown.flow.now shown.router
-        ((net_in shown.view.now).row shown.router)) };
+    ghost output = { λ shown.
+        Some (flow_row_text (facts shown.view.now.domain) shown.view.now.flow shown.router) };
 
     fn fmt<W: fmt::Write>(&self, f: &mut fmt::Formatter<W>) -> fmt::Result {
-        let (view, flow, router) = (self.view, self.flow, self.router);
+        let (view, router) = (self.view, self.router);
+        let flow = view.flow();
         match view.row(router) {
             RowFor::Exact(entry) => {
                 let row = ShownEntry {

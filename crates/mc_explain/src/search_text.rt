@@ -1,17 +1,15 @@
 //! The text of the search for a missed LAN.
 
-ghost use Rattle.std.specs.Prelude.{◌≡◌, ◌<◌, ◌++◌, ◌==◌, ◌&&◌, ℕ, List, IfOk, OnOk, Some, codes};
+ghost use Rattle.std.specs.Prelude.{◌≡◌, ◌<◌, ◌++◌, ◌==◌, ◌&&◌, IfOk, OnOk, Some, codes};
 ghost use Rattle.std.specs.Prelude.{flat_map, length, take};
 ghost use Rattle.std.specs.String.{string_bytes};
 ghost use Rattle.mc_forward.specs.FlightsInDomain.{net_in};
 ghost use Rattle.mc_forward.specs.ListedTables.{facts};
-ghost use Rattle.mc_explain.specs.FirstEight.{IsFirstEightOf};
-ghost use Rattle.mc_explain.specs.ExplanationText.{ForListedFlow};
 ghost use Rattle.mc_explain.specs.SearchContext.{first_lines_text_in, search_line_text_in};
 ghost use Rattle.mc_explain.specs.SearchContext.{shown_line_text_in};
 ghost use Rattle.mc_explain.specs.SearchReach.{lan_search_text};
 ghost use Rattle.mc_explain.specs.SearchText.{carries_text, expected_text, from_no_lan_text, interface_text};
-ghost use Rattle.mc_explain.specs.SearchText.{more_lines_text, no_lan_reason, lan_line_text};
+ghost use Rattle.mc_explain.specs.SearchText.{incoming_reason_text, lan_line_text, more_lines_text};
 ghost use Rattle.mc_explain.specs.SearchText.{router_line_text, lan_router_text, reach_text, routers_line};
 ghost use Rattle.mc_explain.specs.ShownLines.{shown_lines};
 ghost use Rattle.mc_explain.specs.declared.search_line.SearchLine.TheVariants.{DoesNotSend, FromUnplaced};
@@ -19,19 +17,19 @@ ghost use Rattle.mc_explain.specs.declared.search_line.SearchLine.TheVariants.{N
 ghost use Rattle.mc_explain.specs.declared.search_line.SearchLine.TheVariants.{EverySource, Stopped};
 ghost use Rattle.mc_explain.specs.declared.search_line.SearchLine.TheVariants.{WaitsFor};
 
-use crate::device_text::{NO_DEVICE, ShownDevice, ShownDeviceName};
+use crate::device_text::{ShownDevice, ShownDeviceName};
 use crate::every_source_row::ShownEverySource;
-use crate::first_eight_routers::{FirstEightRouters, ShownRouters};
 use crate::reach::Reach;
 use crate::row_text::{ShownIncoming, ShownRow};
 use crate::search_line::SearchLine;
 use crate::searching::LanSearch;
 use crate::shown_line::{ShownLine, ShownLines};
-use mc_forward::{Domain, FlowView, RowFor};
-use mc_tables::{CacheSummary, Vif};
+use crate::shown_names::ShownRouters;
+use mc_forward::{Domain, FlowView, RowFor, UnplacedReason};
+use mc_tables::CacheSummary;
 use mc_text::Memory;
-use mc_topology::{Flow, LanNo, RouterNo, Topology};
-use std::alloc::AllocError;
+use mc_topology::{LanNo, RouterNo, Topology};
+use std::alloc::{AllocError, Global};
 use std::fmt;
 
 /// How many lines are shown at most.
@@ -77,18 +75,28 @@ impl<'t> fmt::Display for ShownInterface<'t> {
     }
 }
 
-/// Why an incoming vif with a line in its router's table is placed on no LAN.
-fn no_lan_reason(vif: &Vif) -> &'static str
-    ensures { result.now ≡ no_lan_reason vif.now }
-{
-    if vif.register() {
-        "PIM's register vif"
-    } else if vif.tunnel() {
-        "a tunnel"
-    } else if vif.device() == NO_DEVICE {
-        "which has lost its device"
-    } else {
-        "which is on no listed LAN"
+/// Why an incoming vif is placed on no LAN, such as `a tunnel`.
+#[derive(Clone, Copy, Drop)]
+struct ShownIncomingReason<'t> {
+    /// The name of its router.
+    router: &'t str,
+    reason: UnplacedReason,
+}
+
+impl<'t> fmt::Display for ShownIncomingReason<'t> {
+    ghost output = { λ shown. Some (incoming_reason_text shown.router.now shown.reason) };
+
+    fn fmt<W: fmt::Write>(&self, f: &mut fmt::Formatter<W>) -> fmt::Result {
+        match self.reason {
+            UnplacedReason::NoVifLine => {
+                let router = self.router;
+                write!(f, "which has no line in vif-{router}")
+            }
+            UnplacedReason::RegisterVif => f.write_str("PIM's register vif"),
+            UnplacedReason::Tunnel => f.write_str("a tunnel"),
+            UnplacedReason::NoDevice => f.write_str("which has lost its device"),
+            UnplacedReason::OnNoLan => f.write_str("which is on no listed LAN"),
+        }
     }
 }
 
@@ -106,13 +114,12 @@ impl<'v> fmt::Display for ShownNoLanReason<'v> {
 
     fn fmt<W: fmt::Write>(&self, f: &mut fmt::Formatter<W>) -> fmt::Result {
         match self.view.row(self.router) {
-            RowFor::Exact(entry) => match self.view.vif(self.router, entry.iif) {
-                Some(vif) => f.write_str(no_lan_reason(vif)),
-                None => {
-                    let router = self.view.topology().router_name_or_empty(self.router);
-                    write!(f, "which has no line in vif-{router}")
-                }
-            },
+            RowFor::Exact(entry) => {
+                let reason = self.view.unplaced_reason(self.router, entry.iif);
+                let router = self.view.topology().router_name_or_empty(self.router);
+                let reason = ShownIncomingReason { router, reason };
+                write!(f, "{reason}")
+            }
             RowFor::Open | RowFor::NoRow => Ok(()),
         }
     }
@@ -137,12 +144,10 @@ impl fmt::Display for ShownMoreLines {
     }
 }
 
-/// What the lines of a flow are made from: the flow in its domain, the same flow as the topology lists it,
-/// and the summary of each router's cache.
+/// What the lines of a flow are made from: the flow in its domain, and the summary of each router's cache.
 #[derive(Clone, Copy, Drop)]
 struct LineContext<'v> {
     view: &'v FlowView<'v>,
-    flow: &'v Flow,
     summary: &'v [CacheSummary],
 }
 
@@ -246,7 +251,6 @@ fn push_every_source(
     let row = ShownEverySource {
         view,
         summary: context.summary,
-        group: context.flow.group,
         router,
     };
     writeln!(
@@ -265,7 +269,7 @@ fn push_from_unplaced(
     ensures { OnOk result (string_bytes text.new ≡ string_bytes text.old
         ++ search_line_text_in context.now (FromUnplaced lan router)) }
 {
-    let (view, flow) = (context.view, context.flow);
+    let view = context.view;
     let topology = view.topology();
     let place = ShownLanRouter {
         topology,
@@ -274,7 +278,7 @@ fn push_from_unplaced(
     };
     let incoming = ShownIncoming { view, router };
     let reason = ShownNoLanReason { view, router };
-    let row = ShownRow { view, flow, router };
+    let row = ShownRow { view, router };
     writeln!(text, "{place} expects it from {incoming}, {reason}: {row}")
 }
 
@@ -298,7 +302,7 @@ fn push_does_not_send(
     ensures { OnOk result (string_bytes text.new ≡ string_bytes text.old
         ++ search_line_text_in context.now (DoesNotSend lan router vif from carried)) }
 {
-    let (view, flow) = (context.view, context.flow);
+    let view = context.view;
     let topology = view.topology();
     let place = ShownLanRouter {
         topology,
@@ -306,7 +310,7 @@ fn push_does_not_send(
         router,
     };
     let device = ShownDevice { view, router, vif };
-    let row = ShownRow { view, flow, router };
+    let row = ShownRow { view, router };
     let from = topology.lan_name_or_empty(from);
     let carries = carries_text(carried);
     writeln!(
@@ -353,7 +357,7 @@ fn push_waits_for(
     ensures { OnOk result (string_bytes text.new ≡ string_bytes text.old
         ++ search_line_text_in context.now (WaitsFor lan router vif from)) }
 {
-    let (view, flow) = (context.view, context.flow);
+    let view = context.view;
     let topology = view.topology();
     let place = ShownLanRouter {
         topology,
@@ -361,7 +365,7 @@ fn push_waits_for(
         router,
     };
     let incoming = ShownIncoming { view, router };
-    let row = ShownRow { view, flow, router };
+    let row = ShownRow { view, router };
     let from = topology.lan_name_or_empty(from);
     writeln!(text, "{place} waits for it on {from} at {incoming}: {row}")
 }
@@ -371,13 +375,13 @@ fn push_expected(
     text: &mut String,
     topology: &Topology,
     lan: LanNo,
-    front: &FirstEightRouters,
+    routers: &[RouterNo],
 ) -> Result<(), AllocError>
-    ensures { (routers : List ℕ) → IsFirstEightOf front.now routers → OnOk result (string_bytes text.new ≡
-        string_bytes text.old ++ expected_text topology.now lan routers) }
+    ensures { OnOk result (string_bytes text.new ≡ string_bytes text.old
+        ++ expected_text topology.now lan routers.now) }
 {
     let lan = topology.lan_name_or_empty(lan);
-    let routers = ShownRouters { front, topology };
+    let routers = ShownRouters { routers, topology };
     writeln!(text, "  {lan}: expected from this LAN by{routers}")
 }
 
@@ -438,7 +442,7 @@ fn push_search_line(
             from,
         } => push_waits_for(text, context, lan, router, vif, from),
         SearchLine::ExpectedFromHere { lan, router } => {
-            push_expected(text, topology, lan, &FirstEightRouters::of(&[router]))
+            push_expected(text, topology, lan, &[router])
         }
         SearchLine::NoRouter { lan } => push_lan_line(text, topology, lan, "no router is on it"),
         SearchLine::NoSender { lan } => {
@@ -449,23 +453,26 @@ fn push_search_line(
 
 /// Writes a shown line of a search.
 fn push_shown_line(
+    alloc: Global,
     text: &mut String,
     context: &LineContext<'_>,
-    line: &ShownLine<'_>,
+    line: ShownLine<'_>,
 ) -> Result<(), AllocError>
     ensures { OnOk result (string_bytes text.new ≡ string_bytes text.old
-        ++ shown_line_text_in context.now line.now) }
+        ++ shown_line_text_in context.now line.entry) }
 {
     match line {
-        ShownLine::One(line) => push_search_line(text, context, *line),
+        ShownLine::One(line) => push_search_line(text, context, line),
         ShownLine::Expected { lan, routers } => {
-            push_expected(text, context.view.topology(), *lan, &routers.front())
+            let routers = routers.into_vec(alloc)?;
+            push_expected(text, context.view.topology(), lan, &routers)
         }
     }
 }
 
 /// Writes the first 40 lines of a search, and returns how many lines there are.
 fn push_first_lines(
+    alloc: Global,
     text: &mut String,
     context: &LineContext<'_>,
     lines: &[SearchLine],
@@ -477,7 +484,7 @@ fn push_first_lines(
     let mut count: usize = 0;
     for line in ShownLines::new(lines) {
         if count < MAX_SHOWN_LINES {
-            push_shown_line(text, context, &line)?;
+            push_shown_line(alloc, text, context, line)?;
         }
         count += 1;
     }
@@ -486,6 +493,7 @@ fn push_first_lines(
 
 /// Writes the first 40 lines of a search, and how many more there are.
 fn push_shown_lines(
+    alloc: Global,
     text: &mut String,
     context: &LineContext<'_>,
     lines: &[SearchLine],
@@ -493,7 +501,7 @@ fn push_shown_lines(
     ensures { OnOk result (string_bytes text.new ≡ string_bytes text.old
         ++ first_lines_text_in context.now (shown_lines lines.now)) }
 {
-    let count = push_first_lines(text, context, lines)?;
+    let count = push_first_lines(alloc, text, context, lines)?;
     let more = ShownMoreLines {
         more: count.saturating_sub(MAX_SHOWN_LINES),
     };
@@ -514,11 +522,7 @@ fn push_routers(
     if routers.is_empty() {
         return Ok(());
     }
-    let front = FirstEightRouters::of(routers);
-    let routers = ShownRouters {
-        front: &front,
-        topology,
-    };
+    let routers = ShownRouters { routers, topology };
     writeln!(text, "{what}{routers}")
 }
 
@@ -556,6 +560,7 @@ fn push_reach(text: &mut String, topology: &Topology, reach: &Reach) -> Result<(
 ///
 /// `Memory` if an allocation fails.
 pub fn push_search(
+    alloc: Global,
     text: &mut String,
     domain: &Domain,
     summary: &[CacheSummary],
@@ -563,16 +568,15 @@ pub fn push_search(
     search: &LanSearch,
 ) -> Result<(), Memory>
     requires flow { flow < length domain.now.topology.flows }
-    ensures lines { OnOk result (ForListedFlow domain.now flow (λ f. string_bytes text.new
-        ≡ string_bytes text.old ++ lan_search_text (facts domain.now) summary.now flow f search.now)) }
+    ensures lines { OnOk result (string_bytes text.new ≡ string_bytes text.old
+        ++ lan_search_text (facts domain.now) summary.now flow search.now) }
 {
     let view = FlowView::new(domain, flow);
     let topology = domain.topology();
     push_reach(text, topology, &search.reach)?;
     let context = LineContext {
         view: &view,
-        flow: topology.flow(flow),
         summary,
     };
-    push_shown_lines(text, &context, &search.lines)
+    push_shown_lines(alloc, text, &context, &search.lines)
 }

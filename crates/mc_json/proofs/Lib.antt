@@ -1,5 +1,4 @@
 pub mod NoFloatLemmas
-pub mod FilterLemmas
 pub mod SearchNoFloatLemmas
 pub mod LoopStepLemmas
 pub mod DomainNoFloatLemmas

@@ -5,7 +5,7 @@ use Rattle.std.proofs.lemmas.Bool.{or_parts}
 use Rattle.mc_tables.specs.CacheTable.{EntryValue}
 use Rattle.mc_tables.specs.Summary.{SummaryValue}
 use Rattle.mc_tables.specs.VifTable.{VifValue}
-use Rattle.mc_topology.specs.Topology.{TopologyValue}
+use Rattle.mc_topology.specs.Topology.{TopologyValue, flow_at}
 use Rattle.mc_topology.specs.declared.flow.Flow.{Flow}
 use Rattle.mc_theory.specs.Certificates.{Entry}
 use Rattle.mc_theory.specs.Events.{Event, Outcome}
@@ -25,7 +25,7 @@ use Rattle.serde_json.specs.Data.{Data}
 use Rattle.serde_json.specs.View.{items_of}
 use Rattle.serde_json.specs.Written.{has_float, items_have_float}
 use Rattle.mc_json.specs.RowData.{device_data_of, entry_data, every_source_row_data, oif_data}
-use Rattle.mc_json.specs.RowData.{row_data}
+use Rattle.mc_json.specs.RowData.{flow_row_data, row_data}
 use Rattle.mc_json.specs.CauseData.{causes_data, incoming_device, incoming_vif, lan_data}
 use Rattle.mc_json.specs.CauseData.{router_data, cause_data}
 use Rattle.mc_json.specs.FlowData.{event_data, events_if_asked, finding_data}
@@ -67,12 +67,17 @@ no_float-entry_data d router source group incoming pairs =
           (no_float-oif_data d router) pairs,
     )
 
-pub no_float-row_data : (d : DomainFacts) (f : Flow) (router : ℕ) (row : Row)
+no_float-row_data : (d : DomainFacts) (f : Flow) (router : ℕ) (row : Row)
     → has_float (row_data d f router row) ≡ false
 no_float-row_data d f router (Exact incoming pairs) = no_float-entry_data d router f.source f.group incoming
     pairs
 no_float-row_data d f router Open = refl
 no_float-row_data d f router NoRow = refl
+
+pub no_float-flow_row_data : (d : DomainFacts) (flow router : ℕ)
+    → has_float (flow_row_data d flow router) ≡ false
+no_float-flow_row_data d flow router =
+    no_float-row_data d (flow_at d.topology flow) router ((d.nets flow).row router)
 
 pub no_float-every_source_row_data : (d : DomainFacts) (router : ℕ) (o : Option (ℕ × EntryValue))
     → has_float (every_source_row_data d router o) ≡ false
@@ -93,37 +98,37 @@ no_float-incoming_vif NoRow = refl
 
 -- ---- causes
 
-no_float-cause_data : (d : DomainFacts) (summary : List SummaryValue) (number : ℕ) (f : Flow) (causes : Cause)
-    → HaveNoFloat (cause_data d summary number f causes)
-no_float-cause_data d summary number f (SentOnto lan router vif) =
-    rw (no_float-device_data (d.vifs router vif), no_float-row_data d f router ((d.nets number).row router))
-no_float-cause_data d summary number f (Circle from onto router vif) =
+no_float-cause_data : (d : DomainFacts) (summary : List SummaryValue) (flow : ℕ) (cause : Cause)
+    → HaveNoFloat (cause_data d summary flow cause)
+no_float-cause_data d summary flow (SentOnto lan router vif) =
+    rw (no_float-device_data (d.vifs router vif), no_float-flow_row_data d flow router)
+no_float-cause_data d summary flow (Circle from onto router vif) =
     rw (
-      no_float-incoming_device d router ((d.nets number).row router),
-      no_float-incoming_vif ((d.nets number).row router),
-      no_float-row_data d f router ((d.nets number).row router),
+      no_float-incoming_device d router ((d.nets flow).row router),
+      no_float-incoming_vif ((d.nets flow).row router),
+      no_float-flow_row_data d flow router,
       no_float-device_data (d.vifs router vif),
     )
-no_float-cause_data d summary number f (TakeOut lan router vif least) =
+no_float-cause_data d summary flow (TakeOut lan router vif least) =
     rw (no_float-device_data (d.vifs router vif))
-no_float-cause_data d summary number f (Unplaced router vif) =
-    rw (no_float-device_data (d.vifs router vif), no_float-row_data d f router ((d.nets number).row router))
-no_float-cause_data d summary number f (LeastTtl lan least) = refl
-no_float-cause_data d summary number f (OnlyEverySource router vif) =
+no_float-cause_data d summary flow (Unplaced router vif) =
+    rw (no_float-device_data (d.vifs router vif), no_float-flow_row_data d flow router)
+no_float-cause_data d summary flow (LeastTtl lan least) = refl
+no_float-cause_data d summary flow (OnlyEverySource router vif) =
     rw (
       no_float-device_data (d.vifs router vif),
       no_float-every_source_row_data d router
-          (every_source_of summary f.group router),
+          (every_source_of summary (flow_at d.topology flow).group router),
     )
-no_float-cause_data d summary number f (StoppedAt router vif threshold ttl) =
+no_float-cause_data d summary flow (StoppedAt router vif threshold ttl) =
     rw (no_float-device_data (d.vifs router vif))
 
-pub no_float-causes_data : (d : DomainFacts) (summary : List SummaryValue) (number : ℕ) (f : Flow)
-    (causes : List Cause) → HaveNoFloat (causes_data d summary number f causes)
-no_float-causes_data d summary number f [] = refl
-no_float-causes_data d summary number f (causes ∷ more) =
-    no_float-append (cause_data d summary number f causes) (causes_data d summary number f more)
-    (no_float-cause_data d summary number f causes) (no_float-causes_data d summary number f more)
+pub no_float-causes_data : (d : DomainFacts) (summary : List SummaryValue) (flow : ℕ)
+    (causes : List Cause) → HaveNoFloat (causes_data d summary flow causes)
+no_float-causes_data d summary flow [] = refl
+no_float-causes_data d summary flow (cause ∷ more) =
+    no_float-append (cause_data d summary flow cause) (causes_data d summary flow more)
+    (no_float-cause_data d summary flow cause) (no_float-causes_data d summary flow more)
 
 -- ---- flows
 

@@ -4,7 +4,7 @@ use Rattle.std.specs.Prelude.{ℕ, List, [], ◌∷◌, ◌++◌, map, Option, S
 use Rattle.mc_tables.specs.CacheTable.{EntryValue}
 use Rattle.mc_tables.specs.Summary.{SummaryValue}
 use Rattle.mc_tables.specs.VifTable.{VifValue}
-use Rattle.mc_topology.specs.Topology.{router_name}
+use Rattle.mc_topology.specs.Topology.{flow_at, router_name}
 use Rattle.mc_topology.specs.declared.flow.Flow.{Flow}
 use Rattle.mc_theory.specs.Nets.{Row}
 use Rattle.mc_theory.specs.Nets.Row.{Exact, Open, NoRow}
@@ -77,6 +77,10 @@ row_data d f router (Exact incoming pairs) =
     entry_data d router f.source f.group incoming pairs
 row_data d f router Open = null
 row_data d f router NoRow = null
+
+-- the same, for the flow with this number
+abbrev pub flow_row_data : DomainFacts → (flow router : ℕ) → Data
+flow_row_data d flow router = row_data d (flow_at d.topology flow) router ((d.nets flow).row router)
 
 -- a router's row for every source, as the summary of its cache has it
 abbrev pub every_source_row_data : DomainFacts → (router : ℕ) → Option (ℕ × EntryValue) → Data

@@ -2,7 +2,6 @@
 
 ghost use Rattle.std.specs.Prelude.{◌≡◌, ◌++◌, IfOk, OnOk, Some, map};
 ghost use Rattle.serde_json.specs.View.{view as data_of};
-ghost use Rattle.mc_forward.specs.Domains.{vif_of};
 ghost use Rattle.mc_forward.specs.FlightsInDomain.{net_in};
 ghost use Rattle.mc_forward.specs.ListedTables.{facts};
 ghost use Rattle.mc_explain.specs.declared.causes.Cause.TheVariants.{Unplaced};
@@ -11,13 +10,12 @@ ghost use Rattle.mc_json.specs.CauseData.{only_every_source_data, row_only_data,
 ghost use Rattle.mc_json.specs.CauseData.{stopped_at_data, take_out_data, unplaced_data, unplaced_kind};
 ghost use Rattle.mc_json.specs.ContextData.{cause_data_in, causes_data_in};
 
-use crate::device_value::{NO_DEVICE, device_value};
+use crate::device_value::device_value;
 use crate::fields::Fields;
 use crate::line_context::LineContext;
 use crate::row_value::{every_source_value, row_value};
 use mc_explain::Cause;
-use mc_forward::{FlowView, RowFor};
-use mc_tables::Vif;
+use mc_forward::{FlowView, RowFor, UnplacedReason};
 use mc_topology::{LanNo, RouterNo};
 use serde_json::Value;
 use std::alloc::{AllocError, Global};
@@ -56,7 +54,7 @@ fn sent_onto_value(
     vif: u8,
 ) -> Result<Value, AllocError>
     ensures { IfOk result (λ value. data_of value ≡ sent_onto_data (facts context.now.view.now.domain)
-        context.now.flow.now ((net_in context.now.view.now).row router) lan router vif) }
+        context.now.view.now.flow lan router vif) }
 {
     let topology = context.view.topology();
     Fields::new(alloc)
@@ -64,7 +62,7 @@ fn sent_onto_value(
         .text("kind", "sent_onto")
         .lan("lan", topology, lan)
         .router("router", topology, router)
-        .value("row", row_value(alloc, context.view, context.flow, router))
+        .value("row", row_value(alloc, context.view, router))
         .count("vif", vif as u64)
         .object()
 }
@@ -79,7 +77,7 @@ fn circle_value(
     vif: u8,
 ) -> Result<Value, AllocError>
     ensures { IfOk result (λ value. data_of value ≡ circle_data (facts context.now.view.now.domain)
-        context.now.flow.now ((net_in context.now.view.now).row router) from onto router vif) }
+        context.now.view.now.flow from onto router vif) }
 {
     let topology = context.view.topology();
     Fields::new(alloc)
@@ -88,7 +86,7 @@ fn circle_value(
         .value("from_vif", Ok(incoming_vif(context.view, router)))
         .text("kind", "circle")
         .router("router", topology, router)
-        .value("row", row_value(alloc, context.view, context.flow, router))
+        .value("row", row_value(alloc, context.view, router))
         .value("to_device", device_value(alloc, context.view, router, vif))
         .lan("to_lan", topology, onto)
         .count("to_vif", vif as u64)
@@ -105,9 +103,9 @@ fn take_out_value(
     least: u8,
 ) -> Result<Value, AllocError>
     ensures { IfOk result (λ value. data_of value ≡ take_out_data (facts context.now.view.now.domain)
-        context.now.flow.now lan router vif least) }
+        context.now.view.now.flow lan router vif least) }
 {
-    let ttl = context.flow.ttl;
+    let ttl = context.view.flow().ttl;
     let topology = context.view.topology();
     Fields::new(alloc)
         .value("device", device_value(alloc, context.view, router, vif))
@@ -120,28 +118,16 @@ fn take_out_value(
         .object()
 }
 
-/// Why a vif with a line in its router's table is placed on no LAN.
-fn unplaced_vif_kind(vif: &Vif) -> &'static str
-    ensures { result.now ≡ unplaced_kind (Some vif.now) }
+/// Why a vif is placed on no LAN.
+fn unplaced_kind(reason: UnplacedReason) -> &'static str
+    ensures { result.now ≡ unplaced_kind reason }
 {
-    if vif.register() {
-        "register_vif"
-    } else if vif.tunnel() {
-        "tunnel"
-    } else if vif.device() == NO_DEVICE {
-        "no_device"
-    } else {
-        "on_no_lan"
-    }
-}
-
-/// Why a router's vif is placed on no LAN.
-fn unplaced_kind(view: &FlowView<'_>, router: RouterNo, vif: u8) -> &'static str
-    ensures { result.now ≡ unplaced_kind (vif_of view.now.domain.tables router vif) }
-{
-    match view.vif(router, vif) {
-        Some(line) => unplaced_vif_kind(line),
-        None => "no_vif_line",
+    match reason {
+        UnplacedReason::NoVifLine => "no_vif_line",
+        UnplacedReason::RegisterVif => "register_vif",
+        UnplacedReason::Tunnel => "tunnel",
+        UnplacedReason::NoDevice => "no_device",
+        UnplacedReason::OnNoLan => "on_no_lan",
     }
 }
 
@@ -154,7 +140,7 @@ fn unplaced_value(
 ) -> Result<Value, AllocError>
     ensures { IfOk result (λ value. data_of value ≡ unplaced_data (facts view.now.domain) router vif) }
 {
-    let kind = unplaced_kind(view, router, vif);
+    let kind = unplaced_kind(view.unplaced_reason(router, vif));
     Fields::new(alloc)
         .value("device", device_value(alloc, view, router, vif))
         .text("kind", kind)
@@ -170,11 +156,11 @@ fn row_only_value(
     router: RouterNo,
 ) -> Result<Value, AllocError>
     ensures { IfOk result (λ value. data_of value ≡ row_only_data (facts context.now.view.now.domain)
-        context.now.flow.now ((net_in context.now.view.now).row router) router) }
+        context.now.view.now.flow router) }
 {
     Fields::new(alloc)
         .text("kind", "row")
-        .value("row", row_value(alloc, context.view, context.flow, router))
+        .value("row", row_value(alloc, context.view, router))
         .object()
 }
 
@@ -186,9 +172,9 @@ fn least_ttl_value(
     least: u8,
 ) -> Result<Value, AllocError>
     ensures { IfOk result (λ value. data_of value ≡ least_ttl_data (facts context.now.view.now.domain)
-        context.now.flow.now lan least) }
+        context.now.view.now.flow lan least) }
 {
-    let ttl = context.flow.ttl;
+    let ttl = context.view.flow().ttl;
     Fields::new(alloc)
         .text("kind", "least_ttl")
         .lan("lan", context.view.topology(), lan)
@@ -205,7 +191,7 @@ fn only_every_source_value(
     vif: u8,
 ) -> Result<Value, AllocError>
     ensures { IfOk result (λ value. data_of value ≡ only_every_source_data
-        (facts context.now.view.now.domain) context.now.summary.now context.now.flow.now router vif) }
+        (facts context.now.view.now.domain) context.now.summary.now context.now.view.now.flow router vif) }
 {
     Fields::new(alloc)
         .value("device", device_value(alloc, context.view, router, vif))
@@ -213,13 +199,7 @@ fn only_every_source_value(
         .router("router", context.view.topology(), router)
         .value(
             "row",
-            every_source_value(
-                alloc,
-                context.view,
-                context.summary,
-                context.flow.group,
-                router,
-            ),
+            every_source_value(alloc, context.view, context.summary, router),
         )
         .count("vif", vif as u64)
         .object()

@@ -2,15 +2,12 @@
 
 use mc_forward::FlowView;
 use mc_tables::CacheSummary;
-use mc_topology::Flow;
 
 /// What the lines of a flow are made from.
 #[derive(Clone, Copy, Drop)]
 pub(crate) struct LineContext<'v> {
     /// The flow in its domain.
     pub(crate) view: &'v FlowView<'v>,
-    /// The same flow as the topology lists it.
-    pub(crate) flow: &'v Flow,
     /// The summary of each router's cache, in the topology's order.
     pub(crate) summary: &'v [CacheSummary],
 }

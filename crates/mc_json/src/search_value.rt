@@ -10,19 +10,19 @@ ghost use Rattle.mc_explain.specs.ShownLines.{shown_lines};
 ghost use Rattle.mc_explain.specs.TopologyLans.{interface_at};
 ghost use Rattle.mc_json.specs.ContextData.{search_data_in, search_line_data_in, shown_line_data_in};
 ghost use Rattle.mc_json.specs.SearchData.{does_not_send_line, every_source_line, expected_line};
-ghost use Rattle.mc_json.specs.SearchData.{incoming_kind, incoming_kind_of, from_unplaced_line, kind_and_lan};
+ghost use Rattle.mc_json.specs.SearchData.{from_unplaced_line, incoming_kind, incoming_reason_kind};
+ghost use Rattle.mc_json.specs.SearchData.{kind_and_lan};
 ghost use Rattle.mc_json.specs.SearchData.{kind_lan_router, kind_lan_router_device, reach_line};
 ghost use Rattle.mc_json.specs.SearchData.{stopped_line, waits_for_line};
 
 use crate::cause_value::{incoming_device, incoming_vif};
-use crate::device_value::{NO_DEVICE, device_name, device_value};
+use crate::device_value::{device_name, device_value};
 use crate::fields::Fields;
 use crate::line_context::LineContext;
 use crate::name_values::router_names;
 use crate::row_value::{every_source_value, row_value};
-use mc_explain::{ExpectingRouters, LanSearch, SearchLine, ShownLine, ShownLines};
-use mc_forward::{FlowView, RowFor};
-use mc_tables::Vif;
+use mc_explain::{LanSearch, SearchLine, ShownLine, ShownLines};
+use mc_forward::{FlowView, RowFor, UnplacedReason};
 use mc_topology::{LanNo, RouterNo, Topology};
 use serde_json::Value;
 use std::alloc::{AllocError, Global};
@@ -98,7 +98,7 @@ fn every_source_line_value(
     router: RouterNo,
 ) -> Result<Value, AllocError>
     ensures { IfOk result (λ value. data_of value ≡ every_source_line (facts context.now.view.now.domain)
-        context.now.summary.now context.now.flow.now lan router) }
+        context.now.summary.now context.now.view.now.flow lan router) }
 {
     let topology = context.view.topology();
     Fields::new(alloc)
@@ -107,29 +107,21 @@ fn every_source_line_value(
         .router("router", topology, router)
         .value(
             "row",
-            every_source_value(
-                alloc,
-                context.view,
-                context.summary,
-                context.flow.group,
-                router,
-            ),
+            every_source_value(alloc, context.view, context.summary, router),
         )
         .object()
 }
 
-/// Why an incoming vif with a line in its router's table is placed on no LAN.
-fn incoming_vif_kind(vif: &Vif) -> &'static str
-    ensures { result.now ≡ incoming_kind_of (Some vif.now) }
+/// Why an incoming vif is placed on no LAN.
+fn incoming_reason_kind(reason: UnplacedReason) -> &'static str
+    ensures { result.now ≡ incoming_reason_kind reason }
 {
-    if vif.register() {
-        "from_register"
-    } else if vif.tunnel() {
-        "from_tunnel"
-    } else if vif.device() == NO_DEVICE {
-        "from_no_device"
-    } else {
-        "from_no_lan"
+    match reason {
+        UnplacedReason::NoVifLine => "from_no_vif_line",
+        UnplacedReason::RegisterVif => "from_register",
+        UnplacedReason::Tunnel => "from_tunnel",
+        UnplacedReason::NoDevice => "from_no_device",
+        UnplacedReason::OnNoLan => "from_no_lan",
     }
 }
 
@@ -138,10 +130,7 @@ fn incoming_kind(view: &FlowView<'_>, router: RouterNo) -> &'static str
     ensures { result.now ≡ incoming_kind (facts view.now.domain) router ((net_in view.now).row router) }
 {
     match view.row(router) {
-        RowFor::Exact(entry) => match view.vif(router, entry.iif) {
-            Some(vif) => incoming_vif_kind(vif),
-            None => "from_no_vif_line",
-        },
+        RowFor::Exact(entry) => incoming_reason_kind(view.unplaced_reason(router, entry.iif)),
         RowFor::Open | RowFor::NoRow => "",
     }
 }
@@ -154,7 +143,7 @@ fn from_unplaced_value(
     router: RouterNo,
 ) -> Result<Value, AllocError>
     ensures { IfOk result (λ value. data_of value ≡ from_unplaced_line (facts context.now.view.now.domain)
-        context.now.flow.now ((net_in context.now.view.now).row router) lan router) }
+        context.now.view.now.flow lan router) }
 {
     let topology = context.view.topology();
     Fields::new(alloc)
@@ -163,7 +152,7 @@ fn from_unplaced_value(
         .text("kind", incoming_kind(context.view, router))
         .lan("lan", topology, lan)
         .router("router", topology, router)
-        .value("row", row_value(alloc, context.view, context.flow, router))
+        .value("row", row_value(alloc, context.view, router))
         .object()
 }
 
@@ -178,7 +167,7 @@ fn does_not_send_value(
     carried: bool,
 ) -> Result<Value, AllocError>
     ensures { IfOk result (λ value. data_of value ≡ does_not_send_line (facts context.now.view.now.domain)
-        context.now.flow.now ((net_in context.now.view.now).row router) lan router vif from carried) }
+        context.now.view.now.flow lan router vif from carried) }
 {
     let topology = context.view.topology();
     Fields::new(alloc)
@@ -188,7 +177,7 @@ fn does_not_send_value(
         .text("kind", "does_not_send")
         .lan("lan", topology, lan)
         .router("router", topology, router)
-        .value("row", row_value(alloc, context.view, context.flow, router))
+        .value("row", row_value(alloc, context.view, router))
         .count("vif", vif as u64)
         .object()
 }
@@ -204,7 +193,7 @@ fn stopped_value(
     ttl: u8,
 ) -> Result<Value, AllocError>
     ensures { IfOk result (λ value. data_of value ≡ stopped_line (facts context.now.view.now.domain)
-        context.now.flow.now ((net_in context.now.view.now).row router) lan router vif threshold ttl) }
+        context.now.view.now.flow lan router vif threshold ttl) }
 {
     let topology = context.view.topology();
     Fields::new(alloc)
@@ -212,7 +201,7 @@ fn stopped_value(
         .text("kind", "stopped")
         .lan("lan", topology, lan)
         .router("router", topology, router)
-        .value("row", row_value(alloc, context.view, context.flow, router))
+        .value("row", row_value(alloc, context.view, router))
         .count("threshold", threshold as u64)
         .count("ttl", ttl as u64)
         .count("vif", vif as u64)
@@ -229,7 +218,7 @@ fn waits_for_value(
     from: LanNo,
 ) -> Result<Value, AllocError>
     ensures { IfOk result (λ value. data_of value ≡ waits_for_line (facts context.now.view.now.domain)
-        context.now.flow.now ((net_in context.now.view.now).row router) lan router vif from) }
+        context.now.view.now.flow lan router vif from) }
 {
     let topology = context.view.topology();
     Fields::new(alloc)
@@ -240,7 +229,7 @@ fn waits_for_value(
         .text("kind", "waits_for")
         .lan("lan", topology, lan)
         .router("router", topology, router)
-        .value("row", row_value(alloc, context.view, context.flow, router))
+        .value("row", row_value(alloc, context.view, router))
         .count("vif", vif as u64)
         .object()
 }
@@ -324,20 +313,6 @@ fn search_line_value(
     }
 }
 
-/// The routers of one `Expected` line.
-fn collect_routers(
-    alloc: Global,
-    routers: ExpectingRouters<'_>,
-) -> Result<Vec<RouterNo>, AllocError>
-    ensures { IfOk result (λ list. list.items ≡ routers.entry) }
-{
-    let mut list = Vec::new(alloc);
-    for router in routers {
-        list.push(router)?;
-    }
-    Ok(list)
-}
-
 /// A shown line of a search.
 fn shown_line_value(
     alloc: Global,
@@ -349,7 +324,7 @@ fn shown_line_value(
     match line {
         ShownLine::One(line) => search_line_value(alloc, context, line),
         ShownLine::Expected { lan, routers } => {
-            let routers = collect_routers(alloc, routers)?;
+            let routers = routers.into_vec(alloc)?;
             expected_value(alloc, context.view.topology(), lan, &routers)
         }
     }

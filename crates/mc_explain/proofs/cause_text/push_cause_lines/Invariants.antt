@@ -8,5 +8,5 @@ use Rattle.mc_explain.proofs.cause_text.push_cause_lines.Given as goal
 abbrev pub invariant-loop-line : goal.invariant-loop-line
 invariant-loop-line l =
     string_bytes l.text
-    ++ causes_text (facts l.view.domain) l.summary l.view.flow l.flow (drop l.line-index l.causes)
-    ≡ string_bytes l.initial.text ++ causes_text (facts l.view.domain) l.summary l.view.flow l.flow l.causes
+    ++ causes_text (facts l.view.domain) l.summary l.view.flow (drop l.line-index l.causes)
+    ≡ string_bytes l.initial.text ++ causes_text (facts l.view.domain) l.summary l.view.flow l.causes

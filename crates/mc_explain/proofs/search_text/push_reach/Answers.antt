@@ -2,7 +2,7 @@ use Rattle.std.proofs.Common.{◌≡◌, ℕ, ◌++◌, List, codes, ap, sym, �
 use Rattle.std.specs.Prelude.{OnOk}
 use Rattle.std.specs.String.{string_bytes}
 use Rattle.mc_explain.specs.SearchText.{routers_line}
-use Rattle.mc_explain.proofs.RouterTextLemmas.{reach_text-some_router}
+use Rattle.mc_explain.proofs.ShownNameLemmas.{reach_text-some_router}
 use Rattle.mc_explain.proofs.search_text.push_reach.Goals as goal
 
 pub returns : goal.returns

@@ -6,13 +6,12 @@ pub returns : goal.returns
 returns c =
     let search = c.args.search.now in
     record {
-      lines = on_ok-map c.push_shown_lines.result c.push_shown_lines.ensures (λ written listed at.
+      lines = on_ok-map c.push_shown_lines.result c.push_shown_lines.ensures (λ written.
           search_text-from_parts c.args.domain.now c.new-view.result c.args.flow
-          c.topology-topology.result.now
-          c.args.summary.now c.flow.result.now listed search.lines.items c.deref.result.now
+          c.topology-topology.result.now c.args.summary.now search.lines.items c.deref.result.now
           search.reach.sent_on.items search.reach.took_none.items
           (string_bytes c.args.text.now) (string_bytes c.push_reach.new.text)
           (string_bytes c.push_shown_lines.new.text) c.new-view.ensures.flow
-          c.topology-topology.ensures.topology c.flow.ensures.flow at c.deref.ensures.value
+          c.topology-topology.ensures.topology c.deref.ensures.value
           c.in_ok-push_reach.ensures written);
     }

@@ -17,8 +17,8 @@ returns-in-ExpectedFromHere c =
     (ap (λ (t : TopologyValue). old ++ expected_text t lan (router ∷ []))
     c.topology-topology.ensures.topology
     ∙ ap (λ (line : SearchLine). old ++ search_line_text (facts context.view.now.domain) context.summary.now
-    context.view.now.flow context.flow.now line) (sym c.in-ExpectedFromHere.is))
-    (c.push_expected.ensures (router ∷ []) c.of.ensures)
+    context.view.now.flow line) (sym c.in-ExpectedFromHere.is))
+    c.push_expected.ensures
 
 pub returns-in-NoSender : goal.returns-in-NoSender
 returns-in-NoSender c =
@@ -30,5 +30,5 @@ returns-in-NoSender c =
     (ap (λ (t : TopologyValue). old ++ lan_line_text t lan (codes "no row of this source sends onto it"))
     c.topology-topology.ensures.topology
     ∙ ap (λ (line : SearchLine). old ++ search_line_text (facts context.view.now.domain) context.summary.now
-    context.view.now.flow context.flow.now line) (sym c.in-NoSender.is))
+    context.view.now.flow line) (sym c.in-NoSender.is))
     c.push_lan_line-in-NoSender.ensures

@@ -9,4 +9,4 @@ abbrev pub invariant-loop-line : goal.invariant-loop-line
 invariant-loop-line l =
     map data_of l.values.items ≡ map data_of l.initial.values.items
     ++ causes_data (facts l.fn.context.view.now.domain) l.fn.context.summary.now l.fn.context.view.now.flow
-    l.fn.context.flow.now (take l.line-index l.causes)
+    (take l.line-index l.causes)

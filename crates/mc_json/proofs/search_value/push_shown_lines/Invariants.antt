@@ -10,6 +10,6 @@ abbrev pub invariant-loop-line : goal.invariant-loop-line
 invariant-loop-line l =
     map data_of l.values.items ++ map (shown_line_data (facts l.fn.context.view.now.domain)
     l.fn.context.summary.now
-    l.fn.context.view.now.flow l.fn.context.flow.now) l.line-iterator
+    l.fn.context.view.now.flow) l.line-iterator
     ≡ map data_of l.initial.values.items ++ map (shown_line_data (facts l.fn.context.view.now.domain)
-    l.fn.context.summary.now l.fn.context.view.now.flow l.fn.context.flow.now) (shown_lines l.fn.lines)
+    l.fn.context.summary.now l.fn.context.view.now.flow) (shown_lines l.fn.lines)

@@ -119,6 +119,20 @@ fn push_right_objects(
 
 // ---- both
 
+/// The LANs that want a flow.
+fn lans_wanting_flow(
+    alloc: Global,
+    audited: &AuditedDomain<'_>,
+    flow: u32,
+) -> Result<Vec<LanNo>, NoMemory>
+    requires known { flow < length (audited_value audited.now).domain.topology.flows }
+    ensures lans { IfOk result (λ lans. lans.items ≡ lans_wanting_flow audited.now flow) }
+{
+    let view = FlowView::new(audited.domain, flow);
+    let lans = lans_wanting(alloc, &view)?;
+    Ok(lans)
+}
+
 /// The status of a right flow that these LANs want.
 fn status_of_right(wanted: &[LanNo]) -> FlowStatus
     ensures { result ≡ status_of_right wanted.now }
@@ -152,8 +166,7 @@ fn push_right(
     ensures lines { OnOk result (string_bytes text.new ≡ string_bytes text.old
         ++ right_flow_lines_of audited.now options shown_trees.old flow entries.now) }
 {
-    let view = FlowView::new(audited.domain, flow);
-    let wanted = lans_wanting(alloc, &view)?;
+    let wanted = lans_wanting_flow(alloc, audited, flow)?;
     let flow_status = status_of_right(&wanted);
     if options.faults && !wanted.is_empty() {
         return Ok(flow_status);

@@ -176,8 +176,8 @@ placed_on-from_is_domain : (d : DomainValue) (flow k : ℕ) (i : InterfaceRow) �
     i) i.lan
 placed_on-from_is_domain d flow k i ok at vif found real =
     lan_of_vif-from_device d.topology k i ok.topology.distinct_interfaces at
-    (ok.topology.valid_interfaces k i at).device (vif_of d.tables i.router vif)
-    (find-passes (λ v. vif_has_device i.device (vif_of d.tables i.router v)) (below 32) vif found) real
+    (ok.topology.valid_interfaces k i at).device (vif_of d.vifs i.router vif)
+    (find-passes (λ v. vif_has_device i.device (vif_of d.vifs i.router v)) (below 32) vif found) real
 
 -- ---- the lines of a router
 

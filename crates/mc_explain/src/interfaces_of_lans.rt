@@ -78,7 +78,7 @@ fn interface_numbers_by_router(
 
 /// Whether a router's vif has this device.
 fn vif_has_device(domain: &Domain, router: RouterNo, vif: u8, device: &[u8]) -> bool
-    ensures { result ≡ vif_has_device device.now (vif_of domain.now.tables router vif) }
+    ensures { result ≡ vif_has_device device.now (vif_of domain.now.vifs router vif) }
 {
     match domain.vif(router, vif) {
         Some(found) => found.device() == device,

@@ -165,7 +165,7 @@ impl<'s> LanProbe<'s> {
 
     /// Whether a router's vif is a tunnel or a register vif.
     fn is_virtual(&self, router: RouterNo, vif: u8) -> bool
-        ensures { result ≡ is_virtual (vif_of self.now.view.now.domain.tables router vif) }
+        ensures { result ≡ is_virtual (vif_of self.now.view.now.domain.vifs router vif) }
     {
         match self.view.vif(router, vif) {
             Some(found) => found.tunnel() || found.register(),

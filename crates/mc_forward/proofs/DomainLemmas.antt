@@ -6,22 +6,22 @@ use Rattle.std.proofs.Common.{arith}
 use Rattle.std.specs.Prelude.{IfSome, slice_index_or, option_and_then}
 use Rattle.std.specs.Str.{bytes_eq}
 use Rattle.std.specs.FinMap as finite
-use Rattle.std.specs.FinSet as set
+use Rattle.std.specs.List.{AllByRecursion}
 use Rattle.std.specs.List.Sorted.{IsStrictlyIncreasing}
 use Rattle.std.proofs.lemmas.List.{length-map}
 use Rattle.std.proofs.lemmas.Option.{slice_get_within, slice_get_read, slice_get_past}
 use Rattle.mc_tables.proofs.EntryLemmas.{tail-ascends}
-use Rattle.mc_tables.specs.CacheTable.{EntryValue, IsValidEntry}
+use Rattle.mc_tables.specs.CacheTable.{to_oif}
 use Rattle.mc_tables.specs.declared.entry.Oif.{Oif}
 use Rattle.mc_tables.specs.VifTable.{VifValue, no_device}
 use Rattle.mc_topology.specs.declared.flow.Flow.{Flow}
-use Rattle.mc_topology.specs.Topology.{TopologyValue, lan_of_interface}
+use Rattle.mc_topology.specs.Topology.{TopologyValue, IsValidTopology, lan_of_interface}
 use Rattle.mc_theory.specs.Lists.{In, Distinct, below}
-use Rattle.mc_theory.specs.Nets.{IsNet, Interface, interfaces}
-use Rattle.mc_theory.specs.Nets.Row.{Exact}
+use Rattle.mc_theory.specs.Nets.{IsNet, Interface, Row, interfaces}
+use Rattle.mc_theory.specs.Nets.Row.{Exact, NoRow}
 use Rattle.mc_topology.proofs.InterfaceLemmas.{lan_of_interface-below_length}
-use Rattle.mc_forward.specs.Domains.{TablesValue, DomainValue, IsDomain, lan_of_vif, vif_of}
-use Rattle.mc_forward.specs.Domains.{placed_in, placed_of, oif_pairs, row_by_entry, row_at, row_of}
+use Rattle.mc_forward.specs.Domains.{VifsValue, DomainValue, AreVifs, IsDomain, IsValidRow, lan_of_vif}
+use Rattle.mc_forward.specs.Domains.{placed_in, placed_of, row_of, vif_of}
 use Rattle.mc_forward.specs.Domains.{wants_of, source_of, ttl_of, net_of}
 use Rattle.mc_forward.specs.DomainParts.{vif_lans_of, interfaces_of}
 use Rattle.mc_forward.proofs.BelowLemmas.{length-below, slice_get-map_below}
@@ -29,46 +29,47 @@ use Rattle.mc_forward.proofs.BelowLemmas.{length-below, slice_get-map_below}
 -- ---- placed
 
 -- a placed vif is in its router's table
-vif_exists-from_placed : (t : TopologyValue) (tables : List TablesValue) (router vif lan : ℕ)
-    → placed_in t tables router vif ≡ Some lan
-    → (own : TablesValue) × (slice_get tables router ≡ Some own) × IsSome (finite.get own.vifs vif)
-vif_exists-from_placed t tables router vif lan e = by_tables t tables router vif lan
-    (slice_get tables router) refl e
+vif_exists-from_placed : (t : TopologyValue) (vifs : List VifsValue) (router vif lan : ℕ)
+    → placed_in t vifs router vif ≡ Some lan
+    → (own : VifsValue) × (slice_get vifs router ≡ Some own) × IsSome (finite.get own vif)
+vif_exists-from_placed t vifs router vif lan e = by_vifs t vifs router vif lan (slice_get vifs router) refl e
   where
     by_vif : (t : TopologyValue) (router lan : ℕ) (o : Option VifValue)
         → option_and_then (lan_of_vif t router) o ≡ Some lan → IsSome o
     by_vif t router lan None e = absurd cc
     by_vif t router lan (Some v) e = refl
 
-    by_tables : (t : TopologyValue) (tables : List TablesValue) (router vif lan : ℕ)
-        (o : Option TablesValue) → slice_get tables router ≡ o
-        → option_and_then (lan_of_vif t router) (option_and_then (λ own. finite.get own.vifs vif) o)
+    by_vifs : (t : TopologyValue) (vifs : List VifsValue) (router vif lan : ℕ)
+        (o : Option VifsValue) → slice_get vifs router ≡ o
+        → option_and_then (lan_of_vif t router) (option_and_then (λ own. finite.get own vif) o)
         ≡ Some lan
-        → (own : TablesValue) × (slice_get tables router ≡ Some own)
-        × IsSome (finite.get own.vifs vif)
-    by_tables t tables router vif lan None at e = absurd cc
-    by_tables t tables router vif lan (Some own) at e =
-        (own, at, by_vif t router lan (finite.get own.vifs vif) e)
+        → (own : VifsValue) × (slice_get vifs router ≡ Some own) × IsSome (finite.get own vif)
+    by_vifs t vifs router vif lan None at e = absurd cc
+    by_vifs t vifs router vif lan (Some own) at e =
+        (own, at, by_vif t router lan (finite.get own vif) e)
 
 -- a vif is placed on a LAN of the topology
-pub placed-below_lan_count : (d : DomainValue) (router vif : ℕ) → IsDomain d → (o : Option ℕ)
-    → placed_of d router vif ≡ o
-    → IfSome o (λ lan. lan < length d.topology.lans)
-placed-below_lan_count d router vif ok None e = tt
-placed-below_lan_count d router vif ok (Some lan) e = by_vif d router lan ok (vif_of d.tables router vif) e
+pub placed_in-below_lan_count : (t : TopologyValue) (vifs : List VifsValue) (router vif : ℕ)
+    → IsValidTopology t → (o : Option ℕ) → placed_in t vifs router vif ≡ o
+    → IfSome o (λ lan. lan < length t.lans)
+placed_in-below_lan_count t vifs router vif ok None e = tt
+placed_in-below_lan_count t vifs router vif ok (Some lan) e = by_vif t router lan ok (vif_of vifs router vif) e
   where
-    by_kind : (d : DomainValue) (router lan : ℕ) → IsDomain d → (v : VifValue) (b : Bool)
-        → cond b None (lan_of_interface router v.device d.topology.interfaces) ≡ Some lan
-        → lan < length d.topology.lans
-    by_kind d router lan ok v true e = absurd cc
-    by_kind d router lan ok v false e = lan_of_interface-below_length d.topology router v.device
-        (Some lan) ok.topology e
+    by_kind : (t : TopologyValue) (router lan : ℕ) → IsValidTopology t → (v : VifValue) (b : Bool)
+        → cond b None (lan_of_interface router v.device t.interfaces) ≡ Some lan
+        → lan < length t.lans
+    by_kind t router lan ok v true e = absurd cc
+    by_kind t router lan ok v false e = lan_of_interface-below_length t router v.device (Some lan) ok e
 
-    by_vif : (d : DomainValue) (router lan : ℕ) → IsDomain d → (o : Option VifValue)
-        → option_and_then (lan_of_vif d.topology router) o ≡ Some lan → lan < length d.topology.lans
-    by_vif d router lan ok None e = absurd cc
-    by_vif d router lan ok (Some v) e = by_kind d router lan ok v
+    by_vif : (t : TopologyValue) (router lan : ℕ) → IsValidTopology t → (o : Option VifValue)
+        → option_and_then (lan_of_vif t router) o ≡ Some lan → lan < length t.lans
+    by_vif t router lan ok None e = absurd cc
+    by_vif t router lan ok (Some v) e = by_kind t router lan ok v
         ((v.tunnel || v.register) || bytes_eq v.device no_device) e
+
+pub placed-below_lan_count : (d : DomainValue) (router vif : ℕ) → IsDomain d → (o : Option ℕ)
+    → placed_of d router vif ≡ o → IfSome o (λ lan. lan < length d.topology.lans)
+placed-below_lan_count d router vif ok = placed_in-below_lan_count d.topology d.vifs router vif ok.topology
 
 -- ---- rows
 
@@ -90,46 +91,48 @@ distinct-from_increasing (x ∷ xs) h = (
   distinct-from_increasing xs (tail-ascends x xs h),
 )
 
-map_fst-oif_pairs : (oifs : List Oif) → map (λ (p : ℕ × ℕ). p.0) (oif_pairs oifs)
-    ≡ map (λ (o : Oif). o.vif) oifs
-map_fst-oif_pairs [] = refl
-map_fst-oif_pairs (o ∷ oifs) = ap (λ (vs : List ℕ). o.vif ∷ vs) (map_fst-oif_pairs oifs)
+map_vif-to_oif : (pairs : List (ℕ × ℕ)) → map (λ (o : Oif). o.vif) (map to_oif pairs)
+    ≡ map (λ (p : ℕ × ℕ). p.0) pairs
+map_vif-to_oif [] = refl
+map_vif-to_oif (p ∷ pairs) = ap (λ (vs : List ℕ). p.0 ∷ vs) (map_vif-to_oif pairs)
 
--- an exact row is that of an entry
-row_by_entry-exact : (wild : Bool) (o : Option EntryValue) (v : ℕ) (pairs : List (ℕ × ℕ))
-    → row_by_entry wild o ≡ Exact v pairs → (entry : EntryValue) × (o ≡ Some entry)
-    × (oif_pairs entry.oifs ≡ pairs)
-row_by_entry-exact wild (Some entry) v pairs e = (entry, refl, cc)
-row_by_entry-exact true None v pairs e = absurd cc
-row_by_entry-exact false None v pairs e = absurd cc
+-- each row of a router is valid, and so is none past the last
+is_valid_row-at_flow : (own : List Row) (flow : ℕ) → AllByRecursion IsValidRow own
+    → IsValidRow (slice_index_or own flow NoRow)
+is_valid_row-at_flow [] flow all = tt
+is_valid_row-at_flow (row ∷ own) zero all = all.0
+is_valid_row-at_flow (row ∷ own) (suc flow) all = is_valid_row-at_flow own flow all.1
+
+are_valid_rows-at_router : (rows : List (List Row)) (router : ℕ)
+    → ((r : ℕ) (own : List Row) → slice_get rows r ≡ Some own → AllByRecursion IsValidRow own)
+    → AllByRecursion IsValidRow (slice_index_or rows router [])
+are_valid_rows-at_router [] router each = tt
+are_valid_rows-at_router (own ∷ rows) zero each = each 0 own refl
+are_valid_rows-at_router (own ∷ rows) (suc router) each =
+    are_valid_rows-at_router rows router (λ r other at. each (suc r) other at)
+
+-- each row of a domain is valid
+pub is_valid_row-row_of : (d : DomainValue) (flow router : ℕ) → IsDomain d
+    → IsValidRow (row_of d flow router)
+is_valid_row-row_of d flow router ok =
+    is_valid_row-at_flow (slice_index_or d.rows router []) flow
+    (are_valid_rows-at_router d.rows router ok.rows.valid)
 
 -- the outgoing vifs of an exact row ascend
 pub row_of-vifs_ascend : (d : DomainValue) (flow router v : ℕ) (pairs : List (ℕ × ℕ)) → IsDomain d
     → row_of d flow router ≡ Exact v pairs → IsStrictlyIncreasing (map (λ (p : ℕ × ℕ). p.0) pairs)
-row_of-vifs_ascend d flow router v pairs ok e = by d ok flow router v pairs (slice_get d.tables router)
-    (slice_get d.topology.flows flow) refl e
-  where
-    by : (d : DomainValue) → IsDomain d → (flow router v : ℕ) (pairs : List (ℕ × ℕ))
-        (own : Option TablesValue) (f : Option Flow) → slice_get d.tables router ≡ own
-        → row_at own f ≡ Exact v pairs → IsStrictlyIncreasing (map (λ (p : ℕ × ℕ). p.0) pairs)
-    by d ok flow router v pairs None f at e = absurd cc
-    by d ok flow router v pairs (Some own) None at e = absurd cc
-    by d ok flow router v pairs (Some own) (Some f) at e =
-        let found = row_by_entry-exact (set.contains own.cache.wildcards f.group || set.contains
-        own.cache.wildcards 0) (finite.get own.cache.entries (f.source, f.group)) v pairs e in
-        let entry = subst (λ (o : Option EntryValue). IfSome o IsValidEntry) found.1
-        ((ok.tables router own at).cache.entries (f.source, f.group)) in
-        subst (λ (ps : List (ℕ × ℕ)). IsStrictlyIncreasing (map (λ (p : ℕ × ℕ). p.0) ps)) found.2
-        (subst IsStrictlyIncreasing (sym (map_fst-oif_pairs found.0.oifs)) entry.ascending)
+row_of-vifs_ascend d flow router v pairs ok e =
+    let entry : IsValidRow (Exact v pairs) = subst IsValidRow e (is_valid_row-row_of d flow router ok) in
+    subst IsStrictlyIncreasing (map_vif-to_oif pairs) entry.ascending
 
 -- ---- the laws
 
 pub is_net-net_of : (d : DomainValue) (flow : ℕ) → IsDomain d → IsNet (net_of d flow)
 is_net-net_of d flow ok = record {
-  router = λ r v l e. (let own = vif_exists-from_placed d.topology d.tables r v l e in let lt =
-      slice_get_within d.tables r own.0 own.1 in subst (λ (n : ℕ). r < n) ok.routers lt);
-  vif = λ r v l e. (let own = vif_exists-from_placed d.topology d.tables r v l e in let le =
-      (ok.tables r own.0 own.1).vifs.numbered v own.2 in omega (arith, le));
+  router = λ r v l e. (let own = vif_exists-from_placed d.topology d.vifs r v l e in let lt =
+      slice_get_within d.vifs r own.0 own.1 in subst (λ (n : ℕ). r < n) ok.vifs.routers lt);
+  vif = λ r v l e. (let own = vif_exists-from_placed d.topology d.vifs r v l e in let le =
+      (ok.vifs.valid r own.0 own.1).numbered v own.2 in omega (arith, le));
   vifs = λ r v pairs e. distinct-from_increasing (map (λ (p : ℕ × ℕ). p.0) pairs)
       (row_of-vifs_ascend d flow r v pairs ok e);
 }
@@ -185,17 +188,17 @@ length-interfaces_of d = length-map (below (length d.topology.lans)) (interfaces
     ∙ length-below (length d.topology.lans)
 
 -- no vif from 32 on is placed
-placed_of-none_from_vif_32 : (d : DomainValue) (router vif : ℕ) → IsDomain d → 32 ≤ vif → (o : Option ℕ)
+placed_of-none_from_vif_32 : (d : DomainValue) (router vif : ℕ) → AreVifs d.topology d.vifs → 32 ≤ vif → (o : Option ℕ)
     → placed_of d router vif ≡ o → None ≡ placed_of d router vif
 placed_of-none_from_vif_32 d router vif ok h None e = sym e
 placed_of-none_from_vif_32 d router vif ok h (Some lan) e =
-    let own = vif_exists-from_placed d.topology d.tables router vif lan e in
-    let le = (ok.tables router own.0 own.1).vifs.numbered vif own.2 in
+    let own = vif_exists-from_placed d.topology d.vifs router vif lan e in
+    let le = (ok.valid router own.0 own.1).numbered vif own.2 in
     absurd (omega (arith, le))
 
 -- the vif's place in the row of its router
 pub vif_lans-placed_of : (d : DomainValue) (ps : List (List (Option ℕ))) (own : List (Option ℕ))
-    (router vif : ℕ) → IsDomain d → ps ≡ vif_lans_of d
+    (router vif : ℕ) → AreVifs d.topology d.vifs → ps ≡ vif_lans_of d
     → router < length d.topology.routers → own ≡ get_or ps router own
     → unwrap_or (slice_get own vif) None ≡ placed_of d router vif
 vif_lans-placed_of d ps own router vif ok e h read =

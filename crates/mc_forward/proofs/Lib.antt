@@ -10,6 +10,7 @@ pub mod WantsLemmas
 pub mod RunLemmas
 pub mod PerLanLemmas
 pub mod RowLemmas
+pub mod TableFactLemmas
 pub mod ListedTableLemmas
 pub mod OutgoingLemmas
 pub mod ThresholdLemmas

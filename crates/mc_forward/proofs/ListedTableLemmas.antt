@@ -1,20 +1,16 @@
--- A domain whose caches have the rows of the listed flows alone has the same facts of each flow as the
--- whole one.
-use Rattle.std.proofs.Common.{◌≡◌, ℕ, zero, suc, Bool, true, List, [], ◌∷◌, ◌++◌, length}
-use Rattle.std.proofs.Common.{slice_get, Option, Some, None, refl, ap, sym, subst, arith, ◌||◌}
-use Rattle.std.specs.Prelude.{option_and_then}
-use Rattle.std.specs.FinMap as finite
+-- Of tables whose caches have the rows of the listed flows alone the same is kept as of the whole ones.
+use Rattle.std.proofs.Common.{◌≡◌, ℕ, zero, suc, Bool, true, List, [], ◌∷◌, ◌++◌, map, length}
+use Rattle.std.proofs.Common.{slice_get, Some, refl, ap, ap₂, sym, subst, arith, ◌∙◌, ◌||◌}
 use Rattle.std.proofs.lemmas.Bool.{eq-eqb}
 use Rattle.mc_tables.specs.ListedRows.{is_listed}
 use Rattle.mc_topology.specs.declared.flow.Flow.{Flow}
-use Rattle.mc_topology.specs.Topology.{TopologyValue}
-use Rattle.mc_forward.specs.Domains.{DomainValue, TablesValue, vif_of, row_at, lan_of_vif, wants_of}
-use Rattle.mc_forward.specs.Domains.{source_of, ttl_of}
-use Rattle.mc_forward.specs.Assembling.{RelatedAtEachIndex}
-use Rattle.mc_forward.specs.DomainParts.{domain_with}
-use Rattle.mc_forward.specs.ListedTables.{AreListedPartsOfTables, IsListedPartOfTables, Pairwise}
-use Rattle.mc_forward.specs.ListedTables.{HaveSameFacts}
-use Rattle.mc_forward.specs.ListedTables.{facts, flow_pairs}
+use Rattle.mc_theory.specs.Nets.{Row}
+use Rattle.mc_forward.specs.Domains.{TablesValue, VifsValue, row_in_cache}
+use Rattle.mc_forward.specs.Assembling.{RelatedAtEachIndex, rows_by_tables, vifs_by_tables}
+use Rattle.mc_forward.specs.ListedTables.{IsListedPartOfTables, Pairwise, flow_pairs}
+use Rattle.mc_forward.specs.RouterTables.{RouterTablesValue, kept_of_tables, router_tables_with}
+use Rattle.mc_forward.specs.RouterTables.{with_router}
+use Rattle.mc_forward.proofs.BelowLemmas.{map-push}
 
 or-true : (b : Bool) → (b || true) ≡ true
 or-true b = grind arith
@@ -28,68 +24,35 @@ is_listed-of_flow (g ∷ flows) zero f e =
     rw (same, eq-eqb f.source f.source refl, eq-eqb f.group f.group refl) refl
 is_listed-of_flow (g ∷ flows) (suc k) f e = rw (is_listed-of_flow flows k f e) (or-true _)
 
--- so a router has for it what the whole table has,
-row_at-of_listed_part : (flows : List Flow) (part whole : TablesValue) → IsListedPartOfTables flows part whole
-    → (k : ℕ) (f : Option Flow) → slice_get flows k ≡ f
-    → row_at (Some part) f ≡ row_at (Some whole) f
-row_at-of_listed_part flows part whole listed k None at = refl
-row_at-of_listed_part flows part whole listed k (Some f) at =
+-- so a router has for it what the whole table has
+row_in_cache-of_listed_part : (flows : List Flow) (part whole : TablesValue)
+    → IsListedPartOfTables flows part whole → (k : ℕ) (f : Flow) → slice_get flows k ≡ Some f
+    → row_in_cache part.cache f ≡ row_in_cache whole.cache f
+row_in_cache-of_listed_part flows part whole listed k f at =
     rw (listed.cache.entries (f.source, f.group) (is_listed-of_flow flows k f at), listed.cache.wildcards)
     refl
 
-row_at-of_listed_parts : (flows : List Flow) (parts wholes : List TablesValue) →
-    AreListedPartsOfTables flows parts wholes
-    → (k router : ℕ) → row_at (slice_get parts router) (slice_get flows k)
-    ≡ row_at (slice_get wholes router) (slice_get flows k)
-row_at-of_listed_parts flows [] [] are k router = refl
-row_at-of_listed_parts flows [] (whole ∷ wholes) are k router = absurd are
-row_at-of_listed_parts flows (part ∷ parts) [] are k router = absurd are
-row_at-of_listed_parts flows (part ∷ parts) (whole ∷ wholes) are k zero =
-    row_at-of_listed_part flows part whole are.0 k (slice_get flows k) refl
-row_at-of_listed_parts flows (part ∷ parts) (whole ∷ wholes) are k (suc router) =
-    row_at-of_listed_parts flows parts wholes are.1 k router
+map-equal_at_each_index : {A B : Type 0} (xs : List A) (f g : A → B)
+    → ((k : ℕ) (x : A) → slice_get xs k ≡ Some x → f x ≡ g x) → map f xs ≡ map g xs
+map-equal_at_each_index [] f g each = refl
+map-equal_at_each_index (x ∷ xs) f g each =
+    let first = each 0 x refl in
+    let rest = map-equal_at_each_index xs f g (λ k y at. each (suc k) y at) in cc
 
--- and its vifs are placed alike
-vif_of-of_listed_parts : (flows : List Flow) (parts wholes : List TablesValue) →
-    AreListedPartsOfTables flows parts wholes
-    → (router vif : ℕ) → vif_of parts router vif ≡ vif_of wholes router vif
-vif_of-of_listed_parts flows [] [] are router vif = refl
-vif_of-of_listed_parts flows [] (whole ∷ wholes) are router vif = absurd are
-vif_of-of_listed_parts flows (part ∷ parts) [] are router vif = absurd are
-vif_of-of_listed_parts flows (part ∷ parts) (whole ∷ wholes) are zero vif =
-    ap (λ vs. finite.get vs vif) are.0.vifs
-vif_of-of_listed_parts flows (part ∷ parts) (whole ∷ wholes) are (suc router) vif =
-    vif_of-of_listed_parts flows parts wholes are.1 router vif
-
-pub have_same_facts-of_listed_parts : (t : TopologyValue) (parts wholes : List TablesValue)
-    (wants : List (List Bool))
-    → AreListedPartsOfTables t.flows parts wholes
-    → HaveSameFacts (domain_with t wholes wants) (domain_with t parts wants)
-have_same_facts-of_listed_parts t parts wholes wants are =
-    let whole = domain_with t wholes wants in
-    let row = λ (flow router : ℕ). sym (row_at-of_listed_parts t.flows parts wholes are flow router) in
-    let placed = λ (router vif : ℕ). ap (option_and_then (lan_of_vif t router))
-    (sym (vif_of-of_listed_parts t.flows parts wholes are router vif)) in
-    record {
-      topology = refl;
-      nets = λ flow. λ i. record {
-        routers = length t.routers;
-        placed = λ router vif. placed router vif i;
-        row = λ router. row flow router i;
-        wants = wants_of whole flow;
-        source = source_of whole flow;
-        ttl = ttl_of whole flow;
-      };
-      vifs = λ router vif. sym (vif_of-of_listed_parts t.flows parts wholes are router vif);
-    }
-
--- so both domains have the same facts
-pub facts-of_same_facts : {d e : DomainValue} → HaveSameFacts d e → facts d ≡ facts e
-facts-of_same_facts same = λ i. record {
-  topology = same.topology i;
-  nets = λ flow. same.nets flow i;
-  vifs = λ router vif. same.vifs router vif i;
-}
+-- so the same is kept of it as of the whole, behind what is kept of others
+pub with_router-of_listed_part : (flows : List Flow) (kept : RouterTablesValue) (wholes : List TablesValue)
+    (part whole : TablesValue) → kept ≡ kept_of_tables flows wholes → IsListedPartOfTables flows part whole
+    → with_router flows kept part ≡ kept_of_tables flows (wholes ++ whole ∷ [])
+with_router-of_listed_part flows kept wholes part whole same listed =
+    let rows : map (row_in_cache part.cache) flows ≡ map (row_in_cache whole.cache) flows =
+    map-equal_at_each_index flows (row_in_cache part.cache) (row_in_cache whole.cache)
+    (λ k f at. row_in_cache-of_listed_part flows part whole listed k f at) in
+    ap (λ (k : RouterTablesValue). with_router flows k part) same
+    ∙ ap₂ (λ (vifs : VifsValue) (own : List Row). router_tables_with (length flows)
+    (vifs_by_tables wholes ++ vifs ∷ []) (rows_by_tables flows wholes ++ own ∷ [])) listed.vifs rows
+    ∙ ap₂ (router_tables_with (length flows))
+    (sym (map-push (λ (t : TablesValue). t.vifs) wholes whole))
+    (sym (map-push (λ (t : TablesValue). map (row_in_cache t.cache) flows) wholes whole))
 
 -- ---- item by item
 

@@ -11,16 +11,17 @@ use Rattle.std.proofs.lemmas.List.Elements.{filter-append}
 use Rattle.std.proofs.lemmas.List.Concat.{flat_map-append}
 use Rattle.std.proofs.lemmas.Option.{unwrap_or-slice_get, get_or_from_slice_get}
 use Rattle.std.specs.FinMap as finite
-use Rattle.mc_topology.specs.Topology.{TopologyValue}
+use Rattle.mc_topology.specs.Topology.{TopologyValue, IsValidTopology}
 use Rattle.mc_theory.specs.Lists.{below}
 use Rattle.mc_theory.specs.Nets.{Interface, interfaces, is_lan, router_vif_pairs}
-use Rattle.mc_forward.specs.Domains.{TablesValue, DomainValue, IsDomain, lan_of_vif, placed_in}
+use Rattle.mc_forward.specs.Domains.{VifsValue, DomainValue, AreVifs, lan_of_vif, placed_in}
 use Rattle.mc_forward.specs.Domains.{placed_of}
 use Rattle.mc_forward.specs.DomainParts.{vif_lans_of, interfaces_of}
-use Rattle.mc_forward.specs.Assembling.{vif_lan_in, interfaces_by_vif_lans, vifs_on, vif_lans_by_tables}
+use Rattle.mc_forward.specs.Assembling.{vif_lan_in, interfaces_by_vif_lans, vifs_on, vif_lans_by_vifs}
 use Rattle.mc_forward.proofs.BelowLemmas.{below-more, map_below-more, slice_get-map_below}
-use Rattle.mc_forward.proofs.DomainLemmas.{is_net-net_of, vif_lans-placed_of}
-use Rattle.mc_forward.proofs.DomainLemmas.{placed-below_lan_count, length-vif_lans_of}
+use Rattle.mc_forward.proofs.DomainLemmas.{length-vif_lans_of, placed_in-below_lan_count}
+use Rattle.mc_forward.proofs.DomainLemmas.{vif_lans-placed_of}
+use Rattle.mc_forward.proofs.UnknownRouterLemmas.{placed_of-none_past_last_router}
 
 -- ---- one vif more
 
@@ -142,16 +143,8 @@ interfaces_by_vif_lans-more vif_lans r lan =
 
 -- ---- the table of a domain
 
-placed_of-none_past_routers : (d : DomainValue) (router vif : ℕ) → IsDomain d
-    → length d.topology.routers ≤ router → (o : Option ℕ)
-    → placed_of d router vif ≡ o → None ≡ o
-placed_of-none_past_routers d router vif ok past None e = refl
-placed_of-none_past_routers d router vif ok past (Some lan) e =
-    let lt = (is_net-net_of d 0 ok).router router vif lan e in absurd (omega (arith, lt, past))
-
-vif_lan_in-placed_of : (d : DomainValue) (vif_lans : List (List (Option ℕ))) → IsDomain d →
-    vif_lans ≡ vif_lans_of d
-    → (router vif : ℕ)
+vif_lan_in-placed_of : (d : DomainValue) (vif_lans : List (List (Option ℕ)))
+    → AreVifs d.topology d.vifs → vif_lans ≡ vif_lans_of d → (router vif : ℕ)
     → vif_lan_in vif_lans router vif ≡ placed_of d router vif
 vif_lan_in-placed_of d vif_lans ok e router vif = elim (cases_lt router (length d.topology.routers)) [
   | inl lt ↦ (
@@ -164,14 +157,14 @@ vif_lan_in-placed_of d vif_lans ok e router vif = elim (cases_lt router (length 
       let size : length vif_lans ≡ length d.topology.routers = ap length e ∙ length-vif_lans_of d in
       ap (λ (row : List (Option ℕ)). get_or row vif None)
       (get_or_past vif_lans router [] (omega (arith, size, past)))
-      ∙ placed_of-none_past_routers d router vif ok past (placed_of d router vif) refl)
+      ∙ sym (placed_of-none_past_last_router d ok router vif past))
 ]
 
-pub vif_lan_in-below_lan_count : (d : DomainValue) (vif_lans : List (List (Option ℕ))) → IsDomain d
-    → vif_lans ≡ vif_lans_of d → (router vif lan : ℕ)
-    → vif_lan_in vif_lans router vif ≡ Some lan → lan < length d.topology.lans
-vif_lan_in-below_lan_count d vif_lans ok e router vif lan at =
-    placed-below_lan_count d router vif ok (Some lan)
+pub vif_lan_in-below_lan_count : (d : DomainValue) (vif_lans : List (List (Option ℕ)))
+    → IsValidTopology d.topology → AreVifs d.topology d.vifs → vif_lans ≡ vif_lans_of d
+    → (router vif lan : ℕ) → vif_lan_in vif_lans router vif ≡ Some lan → lan < length d.topology.lans
+vif_lan_in-below_lan_count d vif_lans rules ok e router vif lan at =
+    placed_in-below_lan_count d.topology d.vifs router vif rules (Some lan)
     (sym (vif_lan_in-placed_of d vif_lans ok e router vif) ∙ at)
 
 filter-by_placed_of : (d : DomainValue) (place : ℕ → ℕ → Option ℕ) (routers : ℕ) → place ≡ placed_of d
@@ -186,8 +179,8 @@ filter-by_placed_of d place routers e size =
     ∙ ap (λ (n : ℕ). map (λ lan. filter (λ (i : Interface). is_lan (placed_of d i.0 i.1) lan)
     (router_vif_pairs 32 n)) lans) size
 
-pub interfaces_by_vif_lans-interfaces_of : (d : DomainValue) (vif_lans : List (List (Option ℕ))) → IsDomain d
-    → vif_lans ≡ vif_lans_of d
+pub interfaces_by_vif_lans-interfaces_of : (d : DomainValue) (vif_lans : List (List (Option ℕ)))
+    → AreVifs d.topology d.vifs → vif_lans ≡ vif_lans_of d
     → map (interfaces_by_vif_lans vif_lans (length vif_lans)) (below (length d.topology.lans))
     ≡ interfaces_of d
 interfaces_by_vif_lans-interfaces_of d vif_lans ok e =
@@ -218,13 +211,13 @@ pub map_below-none : {A : Type 0} (f : ℕ → A) (xs : List A) → xs ≡ [] �
 unfolding below
 map_below-none f xs e = e
 
--- the places by a router's own tables are those by all tables
-pub vif_lans_by_tables-own : (t : TopologyValue) (ts : List TablesValue) (router : ℕ) (own : TablesValue)
-    → slice_get ts router ≡ Some own
-    → vif_lans_by_tables t router own ≡ map (placed_in t ts router) (below 32)
-vif_lans_by_tables-own t ts router own at =
-    ap (λ (o : Option TablesValue). map (λ vif. option_and_then (lan_of_vif t router)
-    (option_and_then (λ x. finite.get x.vifs vif) o)) (below 32)) (sym at)
+-- the places by a router's own vifs are those by all routers'
+pub vif_lans_by_vifs-own : (t : TopologyValue) (vifs : List VifsValue) (router : ℕ) (own : VifsValue)
+    → slice_get vifs router ≡ Some own
+    → vif_lans_by_vifs t router own ≡ map (placed_in t vifs router) (below 32)
+vif_lans_by_vifs-own t vifs router own at =
+    ap (λ (o : Option VifsValue). map (λ vif. option_and_then (lan_of_vif t router)
+    (option_and_then (λ x. finite.get x vif) o)) (below 32)) (sym at)
 
 -- no vif of a router was added yet
 pub have_vifs-start : (lists : List (List Interface)) (vif_lans : List (Option ℕ)) (router : ℕ)

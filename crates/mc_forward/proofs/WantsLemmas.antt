@@ -1,17 +1,17 @@
 -- Which flows are wanted, list by list.
 use Rattle.std.proofs.Common.{◌≡◌, ℕ, ◌<◌, Bool, false, List, [], length}
 use Rattle.std.proofs.Common.{get_or, slice_get, Some, option_map, refl, ap, sym, subst, ◌∙◌, arith}
-use Rattle.std.specs.Prelude.{◌↔◌, IfOk, IsTrue, Result, Ok, Err, slice_index_or}
+use Rattle.std.specs.Prelude.{◌↔◌, IsTrue, slice_index_or}
 use Rattle.std.proofs.lemmas.List.{length-map}
 use Rattle.std.proofs.lemmas.Option.{slice_get-map, slice_get_within, get_or_from_slice_get}
 use Rattle.mc_igmp.specs.declared.record.Record.{Record}
 use Rattle.mc_igmp.specs.Wants.{Wants}
 use Rattle.mc_topology.specs.declared.flow.Flow.{Flow}
 use Rattle.mc_topology.specs.Topology.{TopologyValue, IsValidTopology}
-use Rattle.mc_forward.specs.Domains.{TablesValue, AreTables, IsDomain}
-use Rattle.mc_forward.specs.DomainParts.{domain_with}
+use Rattle.mc_theory.specs.Nets.{Row}
+use Rattle.mc_forward.specs.Domains.{TablesValue, VifsValue, AreRows, AreVifs, IsDomain}
 use Rattle.mc_forward.specs.Assembling.{RelatedAtEachIndex, AreAnswers, HaveMatchingCounts}
-use Rattle.mc_forward.specs.Assembling.{IsAssembled, AreWanted}
+use Rattle.mc_forward.specs.Assembling.{IsAssembled, AreWanted, domain_of_tables, domain_with}
 use Rattle.mc_forward.specs.Assembling.{AreChannelsWanted}
 use Rattle.mc_forward.specs.ListedTables.{flow_pairs}
 use Rattle.mc_forward.proofs.IndexLemmas.{slice_get-exists}
@@ -39,14 +39,13 @@ wants-at_lan_and_flow flows reports wants size each lan flow records f at here =
     (own.each flow f flag.0 here flag.1)
 
 -- the answers make a domain
-pub is_domain-from_parts : (t : TopologyValue) (ts : List TablesValue) (wants : List (List Bool))
-    → IsValidTopology t → length ts ≡ length t.routers
-    → ((router : ℕ) (own : TablesValue) → slice_get ts router ≡ Some own → AreTables own)
-    → AreAnswers t wants → IsDomain (domain_with t ts wants)
-is_domain-from_parts t ts wants rules counted tables answers = record {
+pub is_domain-from_parts : (t : TopologyValue) (vifs : List VifsValue) (rows : List (List Row))
+    (wants : List (List Bool)) → IsValidTopology t → AreVifs t vifs → AreRows t rows
+    → AreAnswers t wants → IsDomain (domain_with t vifs rows wants)
+is_domain-from_parts t vifs rows wants rules are_vifs are_rows answers = record {
   topology = rules;
-  routers = counted;
-  tables = tables;
+  vifs = are_vifs;
+  rows = are_rows;
   lans = answers.lans;
   flows = answers.flows;
 }
@@ -66,10 +65,11 @@ are_answers-from_reports t ts rs wants counted size each = record {
 pub is_assembled-from_reports : (t : TopologyValue) (ts : List TablesValue) (rs : List (List Record))
     (wants : List (List Bool))
     → length wants ≡ length rs → RelatedAtEachIndex (AreWanted t.flows) rs wants
-    → IsAssembled t ts rs (domain_with t ts wants)
+    → IsAssembled t ts rs (domain_of_tables t ts wants)
 is_assembled-from_reports t ts rs wants size each = record {
   topology = refl;
-  tables = refl;
+  vifs = refl;
+  rows = refl;
   wants =
       wants-at_lan_and_flow t.flows rs wants size each;
 }
@@ -91,9 +91,3 @@ are_wanted-from_channels flows records channels wanted are own = record {
       ∙ slice_get-map (λ (g : Flow). (g.source, g.group)) flows k
       ∙ ap (λ o. option_map (λ (g : Flow). (g.source, g.group)) o) at) wanted_is;
 }
-
--- what holds of every answer holds of this one
-pub if_ok-implies : {A E : Type 0} (P Q : A → Type 0) (r : Result A E) → IfOk r P
-    → ((x : A) → P x → Q x) → IfOk r Q
-if_ok-implies P Q (Ok x) holds then = then x holds
-if_ok-implies P Q (Err e) holds then = tt

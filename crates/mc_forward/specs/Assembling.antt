@@ -7,8 +7,28 @@ use Rattle.mc_igmp.specs.Wants.{Wants}
 use Rattle.mc_topology.specs.declared.flow.Flow.{Flow}
 use Rattle.mc_topology.specs.Topology.{TopologyValue}
 use Rattle.mc_theory.specs.Lists.{below}
-use Rattle.mc_theory.specs.Nets.{Interface, is_lan, router_vif_pairs}
-use Rattle.mc_forward.specs.Domains.{TablesValue, DomainValue, lan_of_vif, wants_of}
+use Rattle.mc_theory.specs.Nets.{Interface, Row, is_lan, router_vif_pairs}
+use Rattle.mc_forward.specs.Domains.{TablesValue, VifsValue, DomainValue, lan_of_vif, row_in_cache}
+use Rattle.mc_forward.specs.Domains.{wants_of}
+
+-- the domain of these facts
+abbrev pub domain_with : TopologyValue → List VifsValue → List (List Row) → List (List Bool)
+    → DomainValue
+domain_with topology vifs rows wants =
+    record { topology = topology; vifs = vifs; rows = rows; wants = wants }
+
+-- each router's vifs
+abbrev pub vifs_by_tables : List TablesValue → List VifsValue
+vifs_by_tables tables = map (λ t. t.vifs) tables
+
+-- what each router's cache has for the flows
+abbrev pub rows_by_tables : List Flow → List TablesValue → List (List Row)
+rows_by_tables flows tables = map (λ t. map (row_in_cache t.cache) flows) tables
+
+-- the domain of a topology, of the routers' tables, and of which LAN wants which flow
+abbrev pub domain_of_tables : TopologyValue → List TablesValue → List (List Bool) → DomainValue
+domain_of_tables t tables wants =
+    domain_with t (vifs_by_tables tables) (rows_by_tables t.flows tables) wants
 
 -- tables for each router, and a list of reports for each LAN
 pub record HaveMatchingCounts (t : TopologyValue) (ts : List TablesValue) (rs : List (List Record))
@@ -21,7 +41,8 @@ pub record HaveMatchingCounts (t : TopologyValue) (ts : List TablesValue) (rs : 
 pub record IsAssembled (t : TopologyValue) (ts : List TablesValue) (rs : List (List Record))
     (d : DomainValue) : Type 0 where
   pub topology : d.topology ≡ t
-  pub tables : d.tables ≡ ts
+  pub vifs : d.vifs ≡ vifs_by_tables ts
+  pub rows : d.rows ≡ rows_by_tables t.flows ts
   pub wants : (lan flow : ℕ) (records : List Record) (f : Flow) → slice_get rs lan ≡ Some records
       → slice_get t.flows flow ≡ Some f
       → IsTrue (wants_of d flow lan) ↔ Wants records f.group f.source
@@ -59,10 +80,9 @@ pub record AreAnswers (t : TopologyValue) (wants : List (List Bool)) : Type 0 wh
       → length wanted ≡ length t.flows
 
 -- the LAN of each vif of one router
-abbrev pub vif_lans_by_tables : TopologyValue → ℕ → TablesValue → List (Option ℕ)
-vif_lans_by_tables topology router tables =
-    map (λ vif. option_and_then (lan_of_vif topology router) (finite.get tables.vifs vif))
-    (below 32)
+abbrev pub vif_lans_by_vifs : TopologyValue → ℕ → VifsValue → List (Option ℕ)
+vif_lans_by_vifs topology router vifs =
+    map (λ vif. option_and_then (lan_of_vif topology router) (finite.get vifs vif)) (below 32)
 
 -- the LAN of a vif, from a table of the LANs of each router's vifs
 abbrev pub vif_lan_in : List (List (Option ℕ)) → ℕ → ℕ → Option ℕ

@@ -1,32 +1,57 @@
 -- How a domain is stored: the look-up tables that are computed once beside its value.
-use Rattle.std.specs.Prelude.{◌≡◌, ℕ, Bool, List, map, length, Option, refl}
-use Rattle.std.specs.Coded.{Coded, code_by, coded×, coded_list, coded_ℕ, coded_bool}
+use Rattle.std.specs.Prelude.{◌≡◌, ℕ, Bool, List, map, length, Option, Some, None, refl}
+use Rattle.std.specs.Coded.{Coded, code_by, coded×, coded_list, coded_option, coded_ℕ, coded_bool}
 use Rattle.std.specs.FinMap as finite
-use Rattle.std.specs.Ordering.{nat_cmp}
-use Rattle.mc_tables.specs.VifTable.{VifValue, vif_code}
+use Rattle.mc_tables.specs.VifTable.{vif_code}
 use Rattle.mc_tables.specs.CacheTable.{CacheValue, cache_code}
 use Rattle.mc_topology.specs.Topology.{TopologyValue, topology_code}
 use Rattle.mc_theory.specs.Lists.{below}
-use Rattle.mc_topology.specs.declared.flow.Flow.{Flow}
 use Rattle.mc_theory.specs.Nets.{Interface, Row, interfaces}
-use Rattle.mc_forward.specs.Domains.{TablesValue, DomainValue, IsDomain, placed_of, row_in_cache, net_of}
+use Rattle.mc_theory.specs.Nets.Row.{Exact, Open, NoRow}
+use Rattle.mc_forward.specs.Assembling.{AreAnswers, domain_with}
+use Rattle.mc_forward.specs.Domains.{TablesValue, VifsValue, DomainValue, AreRows, IsDomain, placed_of}
+use Rattle.mc_forward.specs.Domains.{net_of}
 
--- a router's tables, and a domain, are stored as their fields
+-- a router's vifs are stored as a map
+abbrev pub vifs_code : Coded VifsValue
+vifs_code = finite.code coded_ℕ vif_code
+
+-- a router's tables are stored as their fields
 abbrev pub tables_code : Coded TablesValue
 tables_code =
-    code_by (finite.FinMap nat_cmp VifValue × CacheValue)
-    (coded× (finite.code coded_ℕ vif_code) cache_code)
+    code_by (VifsValue × CacheValue) (coded× vifs_code cache_code)
     (λ t. (t.vifs, t.cache)) (λ p. record { vifs = p.0; cache = p.1 }) (λ _. refl)
 
+-- a row is stored as its entry, or as whether there is a row for every source
+abbrev pub stored_row : Row → Option (Option (ℕ × List (ℕ × ℕ)))
+stored_row (Exact incoming pairs) = Some (Some (incoming, pairs))
+stored_row Open = Some None
+stored_row NoRow = None
+
+abbrev pub row_from_stored : Option (Option (ℕ × List (ℕ × ℕ))) → Row
+row_from_stored (Some (Some p)) = Exact p.0 p.1
+row_from_stored (Some None) = Open
+row_from_stored None = NoRow
+
+abbrev pub row_from_stored-stored_row : (row : Row) → row_from_stored (stored_row row) ≡ row
+row_from_stored-stored_row (Exact incoming pairs) = refl
+row_from_stored-stored_row Open = refl
+row_from_stored-stored_row NoRow = refl
+
+abbrev pub row_code : Coded Row
+row_code =
+    code_by (Option (Option (ℕ × List (ℕ × ℕ))))
+    (coded_option (coded_option (coded× coded_ℕ (coded_list (coded× coded_ℕ coded_ℕ)))))
+    stored_row row_from_stored row_from_stored-stored_row
+
+-- a domain is stored as its fields
 abbrev pub domain_code : Coded DomainValue
 domain_code =
-    code_by (TopologyValue × (List TablesValue × List (List Bool)))
-    (coded× topology_code (coded× (coded_list tables_code) (coded_list (coded_list coded_bool))))
-    (λ d. (d.topology, (d.tables, d.wants)))
-    (λ p. record { topology = p.0; tables = p.1.0; wants = p.1.1 }) (λ _. refl)
-
-abbrev pub domain_with : TopologyValue → List TablesValue → List (List Bool) → DomainValue
-domain_with topology tables wants = record { topology = topology; tables = tables; wants = wants }
+    code_by (TopologyValue × (List VifsValue × (List (List Row) × List (List Bool))))
+    (coded× topology_code (coded× (coded_list vifs_code)
+    (coded× (coded_list (coded_list row_code)) (coded_list (coded_list coded_bool)))))
+    (λ d. (d.topology, (d.vifs, (d.rows, d.wants))))
+    (λ p. domain_with p.0 p.1.0 p.1.1.0 p.1.1.1) (λ _. refl)
 
 -- the LAN of each vif from 0 to 31, router by router
 abbrev pub vif_lans_of : DomainValue → List (List (Option ℕ))
@@ -37,14 +62,16 @@ vif_lans_of d =
 abbrev pub interfaces_of : DomainValue → List (List Interface)
 interfaces_of d = map (interfaces (net_of d 0)) (below (length d.topology.lans))
 
--- what each router's cache has for the flows
-abbrev pub rows_by_tables : List Flow → List TablesValue → List (List Row)
-rows_by_tables flows tables = map (λ t. map (row_in_cache t.cache) flows) tables
-
 -- the look-up tables are those of the domain
 pub record AreDerivedTables (d : DomainValue) (ps : List (List (Option ℕ)))
-    (is : List (List Interface)) (rs : List (List Row)) : Type 0 where
+    (is : List (List Interface)) : Type 0 where
   pub domain : IsDomain d
   pub vif_lans : ps ≡ vif_lans_of d
   pub interfaces : is ≡ interfaces_of d
-  pub rows : rs ≡ rows_by_tables d.topology.flows d.tables
+
+-- they are those of each domain of this topology and these vifs
+abbrev pub AreDerivedFrom : TopologyValue → List VifsValue → List (List (Option ℕ))
+    → List (List Interface) → Type 0
+AreDerivedFrom t vifs ps is =
+    (rows : List (List Row)) (wants : List (List Bool)) → AreRows t rows → AreAnswers t wants
+    → AreDerivedTables (domain_with t vifs rows wants) ps is

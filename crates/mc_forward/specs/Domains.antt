@@ -3,12 +3,13 @@
 use Rattle.std.specs.Prelude.{◌≡◌, ℕ, Bool, true, false, ◌||◌, List, [], map, length, Option, Some}
 use Rattle.std.specs.Prelude.{None, slice_get, slice_index_or, option_map, option_and_then}
 use Rattle.std.specs.Prelude.{unwrap_or, if◌then◌else◌}
+use Rattle.std.specs.List.{AllByRecursion}
 use Rattle.std.specs.Ordering.{nat_cmp}
 use Rattle.std.specs.Str.{bytes_eq}
 use Rattle.std.specs.FinMap as finite
 use Rattle.std.specs.FinSet as set
 use Rattle.mc_tables.specs.declared.entry.Oif.{Oif}
-use Rattle.mc_tables.specs.CacheTable.{EntryValue, CacheValue, IsValidCache}
+use Rattle.mc_tables.specs.CacheTable.{EntryValue, CacheValue, IsValidEntry, to_oif}
 use Rattle.mc_tables.specs.VifTable.{VifValue, no_device}
 use Rattle.mc_tables.specs.VifLookups.{IsValidVifTable}
 use Rattle.mc_topology.specs.declared.flow.Flow.{Flow}
@@ -16,16 +17,22 @@ use Rattle.mc_topology.specs.Topology.{TopologyValue, IsValidTopology, lan_of_in
 use Rattle.mc_theory.specs.Nets.{Net, Row}
 use Rattle.mc_theory.specs.Nets.Row.{Exact, Open, NoRow}
 
--- the two tables of a router's kernel: its vifs by their indexes, and its forwarding cache
+-- a router's vifs by their indexes
+abbrev pub VifsValue : Type 0
+VifsValue = finite.FinMap nat_cmp VifValue
+
+-- the two tables of a router's kernel: its vifs, and its forwarding cache
 pub record TablesValue : Type 0 where
-  pub vifs : finite.FinMap nat_cmp VifValue
+  pub vifs : VifsValue
   pub cache : CacheValue
 
--- The topology, the tables of each router, and for each LAN whether it wants each flow. Routers,
--- LANs and flows come in the order of the topology, and their numbers count from 0.
+-- A domain is its facts: the topology, each router's vifs, each router's row for each flow, and for each
+-- LAN whether it wants each flow. Routers, LANs and flows come in the order of the topology, and their
+-- numbers count from 0.
 pub record DomainValue : Type 0 where
   pub topology : TopologyValue
-  pub tables : List TablesValue
+  pub vifs : List VifsValue
+  pub rows : List (List Row)
   pub wants : List (List Bool)
 
 -- ---- placed
@@ -38,16 +45,16 @@ lan_of_vif topology router vif =
     else lan_of_interface router vif.device topology.interfaces
 
 -- a router's vif of this index
-abbrev pub vif_of : List TablesValue → ℕ → ℕ → Option VifValue
-vif_of tables router vif = option_and_then (λ t. finite.get t.vifs vif) (slice_get tables router)
+abbrev pub vif_of : List VifsValue → ℕ → ℕ → Option VifValue
+vif_of vifs router vif = option_and_then (λ own. finite.get own vif) (slice_get vifs router)
 
-abbrev pub placed_in : TopologyValue → List TablesValue → ℕ → ℕ → Option ℕ
-placed_in topology tables router vif =
-    option_and_then (lan_of_vif topology router) (vif_of tables router vif)
+abbrev pub placed_in : TopologyValue → List VifsValue → ℕ → ℕ → Option ℕ
+placed_in topology vifs router vif =
+    option_and_then (lan_of_vif topology router) (vif_of vifs router vif)
 
 -- the LAN that a router's vif is placed on
 abbrev pub placed_of : DomainValue → ℕ → ℕ → Option ℕ
-placed_of d router vif = placed_in d.topology d.tables router vif
+placed_of d router vif = placed_in d.topology d.vifs router vif
 
 -- ---- row
 
@@ -67,14 +74,9 @@ row_in_cache cache flow =
     row_by_entry (set.contains cache.wildcards flow.group || set.contains cache.wildcards 0)
     (finite.get cache.entries (flow.source, flow.group))
 
-abbrev pub row_at : Option TablesValue → Option Flow → Row
-row_at None flow = NoRow
-row_at (Some tables) None = NoRow
-row_at (Some tables) (Some flow) = row_in_cache tables.cache flow
-
 -- what a router has for a flow
 abbrev pub row_of : DomainValue → (flow router : ℕ) → Row
-row_of d flow router = row_at (slice_get d.tables router) (slice_get d.topology.flows flow)
+row_of d flow router = slice_index_or (slice_index_or d.rows router []) flow NoRow
 
 -- ---- wants, and the flow
 
@@ -103,16 +105,30 @@ net_of d flow = record {
 
 -- ---- what holds of every domain
 
--- a router's tables, as a kernel has them
-pub record AreTables (t : TablesValue) : Type 0 where
-  pub vifs : IsValidVifTable t.vifs
-  pub cache : IsValidCache t.cache
+-- vifs for each router, as a kernel has them
+pub record AreVifs (t : TopologyValue) (vifs : List VifsValue) : Type 0 where
+  pub routers : length vifs ≡ length t.routers
+  pub valid : (router : ℕ) (own : VifsValue) → slice_get vifs router ≡ Some own → IsValidVifTable own
 
--- Tables for each router of the topology, and an answer for each LAN and flow.
+-- the rules of a row: those of its entry, if it has one
+abbrev pub IsValidRow : Row → Type 0
+IsValidRow (Exact incoming pairs) = IsValidEntry (record { iif = incoming; oifs = map to_oif pairs })
+IsValidRow Open = Unit {0}
+IsValidRow NoRow = Unit {0}
+
+-- a row for each router and flow, as a kernel has them
+pub record AreRows (t : TopologyValue) (rows : List (List Row)) : Type 0 where
+  pub routers : length rows ≡ length t.routers
+  pub flows : (router : ℕ) (own : List Row) → slice_get rows router ≡ Some own
+      → length own ≡ length t.flows
+  pub valid : (router : ℕ) (own : List Row) → slice_get rows router ≡ Some own
+      → AllByRecursion IsValidRow own
+
+-- Vifs and rows for each router of the topology, and an answer for each LAN and flow.
 pub record IsDomain (d : DomainValue) : Type 0 where
   pub topology : IsValidTopology d.topology
-  pub routers : length d.tables ≡ length d.topology.routers
-  pub tables : (router : ℕ) (t : TablesValue) → slice_get d.tables router ≡ Some t → AreTables t
+  pub vifs : AreVifs d.topology d.vifs
+  pub rows : AreRows d.topology d.rows
   pub lans : length d.wants ≡ length d.topology.lans
   pub flows : (lan : ℕ) (wanted : List Bool) → slice_get d.wants lan ≡ Some wanted
       → length wanted ≡ length d.topology.flows

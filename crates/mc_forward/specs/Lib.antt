@@ -3,6 +3,7 @@ pub mod Assembling
 pub mod ListedTables
 pub mod FlatRows
 pub mod DomainParts
+pub mod RouterTables
 pub mod RowValues
 pub mod UnplacedReasons
 pub mod FlightsInDomain

@@ -1,5 +1,4 @@
--- A router's tables that keep the rows of the listed flows alone, and domains that have the same facts
--- of each flow.
+-- A router's tables that keep the rows of the listed flows alone, and the facts of each flow.
 use Rattle.std.specs.Prelude.{◌≡◌, ℕ, List, [], ◌∷◌, map, Option, Some}
 use Rattle.mc_tables.specs.ListedRows.{IsListedPart}
 use Rattle.mc_tables.specs.VifTable.{VifValue}
@@ -23,10 +22,6 @@ Pairwise R [] [] = Unit {0}
 Pairwise R (x ∷ xs) (y ∷ ys) = R x y × Pairwise R xs ys
 Pairwise R _ _ = ⊥
 
--- the same, router by router
-abbrev pub AreListedPartsOfTables : List Flow → List TablesValue → List TablesValue → Type 0
-AreListedPartsOfTables flows parts wholes = Pairwise (IsListedPartOfTables flows) parts wholes
-
 -- The facts of a domain: its topology, the net of each flow, and each router's vifs.
 pub record DomainFacts : Type 0 where
   pub topology : TopologyValue
@@ -34,10 +29,4 @@ pub record DomainFacts : Type 0 where
   pub vifs : (router vif : ℕ) → Option VifValue
 
 abbrev pub facts : DomainValue → DomainFacts
-facts d = record { topology = d.topology; nets = net_of d; vifs = vif_of d.tables }
-
--- Two domains have the same topology, the same net for each flow, and the same vifs.
-pub record HaveSameFacts (d e : DomainValue) : Type 0 where
-  pub topology : d.topology ≡ e.topology
-  pub nets : (flow : ℕ) → net_of d flow ≡ net_of e flow
-  pub vifs : (router vif : ℕ) → vif_of d.tables router vif ≡ vif_of e.tables router vif
+facts d = record { topology = d.topology; nets = net_of d; vifs = vif_of d.vifs }

@@ -1,71 +1,100 @@
 //! How a domain is put together.
 
-ghost use Rattle.std.specs.Prelude.{◌≡◌, ◌↔◌, IfOk, IfErr, IsErrAnd, length};
+ghost use Rattle.std.specs.Prelude.{◌≡◌, ◌≤◌, ◌↔◌, [], IfOk, IfErr, IsErrAnd, length, map, vec_capacity};
 ghost use Rattle.mc_forward.specs.declared.refused.DomainFault.TheVariants.{Count};
-ghost use Rattle.mc_forward.specs.Assembling.{AreAnswers, HaveMatchingCounts, IsAssembled};
+ghost use Rattle.mc_forward.specs.Assembling.{AreAnswers, HaveMatchingCounts, IsAssembled, domain_with};
+ghost use Rattle.mc_forward.specs.Assembling.{vifs_by_tables};
 ghost use Rattle.mc_forward.specs.Domains.{IsDomain};
-ghost use Rattle.mc_forward.specs.DomainParts.{domain_with, AreDerivedTables};
+ghost use Rattle.mc_forward.specs.DomainParts.{AreDerivedFrom, AreDerivedTables};
+ghost use Rattle.mc_forward.specs.RouterTables.{AreTablesFor};
 
 use crate::domain::{DerivedTables, Domain};
-use crate::flow_rows::rows_of_routers;
+use crate::flow_rows::{RouterRows, rows_of_routers};
 use crate::interfaces::interfaces_of_lans;
 use crate::items::Items;
 use crate::refused::{DomainFault, Refused};
-use crate::tables::Tables;
+use crate::router_tables::RouterTables;
+use crate::tables::{HasVifs, Tables};
 use crate::vif_lans::vif_lans_of_routers;
 use crate::wants::wants_of_lans;
 use mc_igmp::ReportList;
+use mc_tables::VifTable;
 use mc_text::Memory;
 use mc_topology::Topology;
 use std::alloc::Global;
 
-/// The look-up tables of a topology, the routers' tables, and which LAN wants which flow.
-fn derive_tables(
+/// The look-up tables of a topology and the routers' vifs.
+fn derive_tables<T: HasVifs>(
     alloc: Global,
     topology: &Topology,
-    tables: &[Tables],
-    wants: Vec<Items<bool>>,
+    tables: &[T],
 ) -> Result<DerivedTables, Memory>
-    requires routers { length tables.now ≡ length topology.now.routers }
-    requires answers { AreAnswers topology.now wants.items }
-    ensures derived { IfOk result (λ w.
-        AreDerivedTables (domain_with topology.now tables.now w.wants.items)
-        w.vif_lans.items w.interfaces.items w.rows.items) }
-    ensures wants { IfOk result (λ w. w.wants.items ≡ wants.items) }
+    requires { length tables.now ≡ length topology.now.routers }
+    ensures { IfOk result (λ w. AreDerivedFrom topology.now (map T.vifs_of tables.now)
+        w.vif_lans.items w.interfaces.items) }
 {
     let vif_lans = vif_lans_of_routers(alloc, topology, tables)?;
     let interfaces = interfaces_of_lans(alloc, topology.lans(), &vif_lans)?;
-    let rows = rows_of_routers(alloc, topology, tables)?;
     Ok(DerivedTables {
-        wants,
         vif_lans,
         interfaces,
-        rows,
     })
 }
 
-/// The look-up tables of a topology, the routers' tables, and the reports of each LAN.
-fn derive_tables_from_reports(
+/// What is worked out of the routers' tables and the LANs' reports, and room for the routers' vifs.
+#[derive(Drop)]
+struct AssembledParts {
+    vifs: Vec<VifTable>,
+    rows: Vec<RouterRows>,
+    wants: Vec<Items<bool>>,
+    derived: DerivedTables,
+}
+
+/// Works out what the tables and the reports have for the flows of a topology.
+fn assemble_parts(
     alloc: Global,
     topology: &Topology,
     tables: &[Tables],
     reports: &[ReportList],
-) -> Result<DerivedTables, Memory>
+) -> Result<AssembledParts, Memory>
     requires matching_counts { HaveMatchingCounts topology.now tables.now reports.now }
-    ensures derived { IfOk result (λ w.
-        AreDerivedTables (domain_with topology.now tables.now w.wants.items)
-        w.vif_lans.items w.interfaces.items w.rows.items) }
-    ensures assembled { IfOk result (λ w. IsAssembled topology.now tables.now reports.now
-        (domain_with topology.now tables.now w.wants.items)) }
+    ensures none { IfOk result (λ parts. parts.vifs.items ≡ []) }
+    ensures room { IfOk result (λ parts. length tables.now ≤ vec_capacity parts.vifs) }
+    ensures derived { IfOk result (λ parts. AreDerivedTables
+        (domain_with topology.now (vifs_by_tables tables.now) parts.rows.items parts.wants.items)
+        parts.derived.vif_lans.items parts.derived.interfaces.items) }
+    ensures assembled { IfOk result (λ parts. IsAssembled topology.now tables.now reports.now
+        (domain_with topology.now (vifs_by_tables tables.now) parts.rows.items parts.wants.items)) }
 {
+    let vifs = Vec::with_capacity(alloc, tables.len())?;
+    let rows = rows_of_routers(alloc, topology, tables)?;
     let wants = wants_of_lans(alloc, topology, reports)?;
-    derive_tables(alloc, topology, tables, wants)
+    let derived = derive_tables(alloc, topology, tables)?;
+    Ok(AssembledParts {
+        vifs,
+        rows,
+        wants,
+        derived,
+    })
+}
+
+/// Moves the vifs out of tables, whose caches are dropped, to where there is room for them.
+fn move_vifs(tables: Vec<Tables>, vifs: Vec<VifTable>) -> Vec<VifTable>
+    requires none { vifs.items ≡ [] }
+    requires room { length tables.items ≤ vec_capacity vifs }
+    ensures { result.items ≡ vifs_by_tables tables.items }
+{
+    let mut vifs = vifs;
+    for own in tables {
+        vifs.push_reserved(own.vifs);
+    }
+    vifs
 }
 
 impl Domain {
     /// Puts a domain together: its topology, the tables of each router and the reports of each LAN,
     /// in the topology's order of routers and LANs. The reports are dropped once it is known which LAN
-    /// wants which flow.
+    /// wants which flow, and the caches once it is known what each router has for each flow.
     ///
     /// # Errors
     ///
@@ -95,8 +124,11 @@ impl Domain {
                 fault: DomainFault::Count,
             });
         }
-        match derive_tables_from_reports(alloc, &topology, &tables, &reports) {
-            Ok(derived) => Ok(Domain::new(topology, tables, derived)),
+        match assemble_parts(alloc, &topology, &tables, &reports) {
+            Ok(parts) => {
+                let vifs = move_vifs(tables, parts.vifs);
+                Ok(Domain::new(topology, vifs, parts.rows, parts.wants, parts.derived))
+            }
             Err(Memory) => Err(Refused {
                 topology,
                 tables,
@@ -106,9 +138,9 @@ impl Domain {
         }
     }
 
-    /// Puts a domain together: its topology, the tables of each router, and for each LAN whether it
-    /// wants each flow, in the topology's order of routers, LANs and flows. There have to be as many
-    /// of each.
+    /// Puts a domain together: its topology, what is kept of the tables of each router, and for each LAN
+    /// whether it wants each flow, in the topology's order of routers, LANs and flows. There have to be
+    /// as many of each.
     ///
     /// # Errors
     ///
@@ -116,16 +148,16 @@ impl Domain {
     pub fn from_wants(
         alloc: Global,
         topology: Topology,
-        tables: Vec<Tables>,
+        tables: RouterTables,
         wants: Vec<Items<bool>>,
     ) -> Result<Domain, Memory>
-        requires routers { length tables.items ≡ length topology.routers }
+        requires tables { AreTablesFor topology tables }
         requires answers { AreAnswers topology wants.items }
         ensures domain { IfOk result (λ domain.
-            domain ≡ domain_with topology tables.items wants.items) }
+            domain ≡ domain_with topology tables.vifs tables.rows wants.items) }
         ensures rules { IfOk result IsDomain }
     {
-        let derived = derive_tables(alloc, &topology, &tables, wants)?;
-        Ok(Domain::new(topology, tables, derived))
+        let derived = derive_tables(alloc, &topology, &tables.vifs)?;
+        Ok(Domain::new(topology, tables.vifs, tables.rows, wants, derived))
     }
 }

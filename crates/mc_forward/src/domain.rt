@@ -4,36 +4,37 @@ ghost use Rattle.std.specs.Prelude.{◌≡◌, ◌<◌, ℕ, None, IfSome, lengt
 ghost use Rattle.std.specs.Option.{option_copied};
 ghost use Rattle.mc_theory.specs.Nets.{interfaces};
 ghost use Rattle.mc_forward.specs.Domains.{IsDomain, net_of, placed_of, row_of, vif_of, wants_of};
-ghost use Rattle.mc_forward.specs.DomainParts.{domain_with, AreDerivedTables};
+ghost use Rattle.mc_forward.specs.Assembling.{domain_with};
+ghost use Rattle.mc_forward.specs.DomainParts.{AreDerivedTables};
 ghost use Rattle.mc_forward.specs.RowValues.{row_value, HasValidEntry};
 
 use crate::flow_rows::RouterRows;
 use crate::interfaces::Interfaces;
 use crate::items::Items;
 use crate::row::RowFor;
-use crate::tables::Tables;
 use crate::vif_lans::VifLans;
-use mc_tables::Vif;
+use mc_tables::{Vif, VifTable};
 use mc_topology::{LanNo, RouterNo, Topology};
 use std::marker::Model;
 
 /// Look-up tables that are computed once from the parts of a domain.
 #[derive(Drop)]
 pub(crate) struct DerivedTables {
-    /// For each LAN, whether it wants each flow.
-    pub(crate) wants: Vec<Items<bool>>,
     /// For each router, the LAN of each vif.
     pub(crate) vif_lans: Vec<VifLans>,
     /// For each LAN, the vifs that are placed on it, with the router of each.
     pub(crate) interfaces: Vec<Items<(RouterNo, u8)>>,
-    /// For each router, the row of each flow.
-    pub(crate) rows: Vec<RouterRows>,
 }
 
-/// A topology with the kernel tables of each router, and which LAN wants which flow.
+/// A topology with the vifs of each router and its row for each flow, and which LAN wants which flow.
 pub struct Domain {
     topology: Topology,
-    tables: Vec<Tables>,
+    /// For each router, its vifs.
+    vifs: Vec<VifTable>,
+    /// For each router, the row of each flow.
+    rows: Vec<RouterRows>,
+    /// For each LAN, whether it wants each flow.
+    wants: Vec<Items<bool>>,
     derived: DerivedTables,
 }
 
@@ -42,25 +43,28 @@ impl Drop for Domain {
     fn drop(self) {
         let Self {
             topology,
-            tables,
+            vifs,
+            rows,
+            wants,
             derived,
         } = self;
     }
 }
 
 impl Model for Domain {
+    ghost use Rattle.mc_forward.specs.Assembling.{domain_with};
     ghost use Rattle.mc_forward.specs.Domains.{DomainValue};
-    ghost use Rattle.mc_forward.specs.DomainParts.{domain_code, domain_with, AreDerivedTables};
+    ghost use Rattle.mc_forward.specs.DomainParts.{domain_code, AreDerivedTables};
 
     ghost Value = { DomainValue };
 
     ghost coded = { domain_code };
 
-    ghost view = { λ d. domain_with d.topology d.tables.items d.derived.wants.items };
+    ghost view = { λ d. domain_with d.topology d.vifs.items d.rows.items d.wants.items };
 
     ghost invariant = { λ d.
-        AreDerivedTables (domain_with d.topology d.tables.items d.derived.wants.items)
-        d.derived.vif_lans.items d.derived.interfaces.items d.derived.rows.items };
+        AreDerivedTables (domain_with d.topology d.vifs.items d.rows.items d.wants.items)
+        d.derived.vif_lans.items d.derived.interfaces.items };
 }
 
 /// The LAN of a vif, from those of its router's vifs.
@@ -74,25 +78,33 @@ fn vif_lan(vif_lans: &[Option<LanNo>], vif: u8) -> Option<LanNo>
 }
 
 /// The vif of a router with this index.
-fn vif_of_router(tables: &[Tables], router: RouterNo, vif: u8) -> Option<&Vif>
-    ensures { option_copied result ≡ vif_of tables.now router vif }
+fn vif_of_router(vifs: &[VifTable], router: RouterNo, vif: u8) -> Option<&Vif>
+    ensures { option_copied result ≡ vif_of vifs.now router vif }
 {
-    match tables.get(router.0 as usize) {
-        Some(own) => own.vifs.vif(vif),
+    match vifs.get(router.0 as usize) {
+        Some(own) => own.vif(vif),
         None => None,
     }
 }
 
 impl Domain {
-    /// The domain of a topology and the routers' tables, with the look-up tables of these.
-    pub(crate) fn new(topology: Topology, tables: Vec<Tables>, derived: DerivedTables) -> Domain
-        requires valid { AreDerivedTables (domain_with topology tables.items derived.wants.items)
-            derived.vif_lans.items derived.interfaces.items derived.rows.items }
-        ensures value { result ≡ domain_with topology tables.items derived.wants.items }
+    /// The domain of these facts, with the look-up tables of them.
+    pub(crate) fn new(
+        topology: Topology,
+        vifs: Vec<VifTable>,
+        rows: Vec<RouterRows>,
+        wants: Vec<Items<bool>>,
+        derived: DerivedTables,
+    ) -> Domain
+        requires valid { AreDerivedTables (domain_with topology vifs.items rows.items wants.items)
+            derived.vif_lans.items derived.interfaces.items }
+        ensures value { result ≡ domain_with topology vifs.items rows.items wants.items }
     {
         Domain {
             topology,
-            tables,
+            vifs,
+            rows,
+            wants,
             derived,
         }
     }
@@ -120,9 +132,9 @@ impl Domain {
     /// The vif of a router with this index, from its table. None where that has no line of the index,
     /// and for a router that isn't in the topology.
     pub fn vif(&self, router: RouterNo, vif: u8) -> Option<&Vif>
-        ensures { option_copied result ≡ vif_of self.now.tables router vif }
+        ensures { option_copied result ≡ vif_of self.now.vifs router vif }
     {
-        vif_of_router(&self.tables, router, vif)
+        vif_of_router(&self.vifs, router, vif)
     }
 
     /// What a router's forwarding cache has for a flow.
@@ -132,7 +144,7 @@ impl Domain {
         ensures row { row_value result ≡ row_of self.now flow router }
         ensures valid { HasValidEntry result }
     {
-        let rows = &self.derived.rows[router.0 as usize];
+        let rows = &self.rows[router.0 as usize];
         rows.row(flow)
     }
 
@@ -143,7 +155,7 @@ impl Domain {
         requires flow { flow < length self.now.topology.flows }
         ensures value { result ≡ wants_of self.now flow lan }
     {
-        let wanted = &self.derived.wants[lan.0 as usize];
+        let wanted = &self.wants[lan.0 as usize];
         wanted.items[flow as usize]
     }
 

@@ -3,9 +3,11 @@
 
 ghost use Rattle.std.specs.Prelude.{◌≡◌, ◌<◌, ◌++◌, ◌∷◌, [], IfOk, OnOk, Some, length, map};
 ghost use Rattle.std.specs.Prelude.{slice_get};
-ghost use Rattle.mc_forward.specs.DomainParts.{rows_by_tables};
-ghost use Rattle.mc_forward.specs.Domains.{row_in_cache};
+ghost use Rattle.std.specs.List.{AllByRecursion};
+ghost use Rattle.mc_forward.specs.Assembling.{rows_by_tables};
+ghost use Rattle.mc_forward.specs.Domains.{IsValidRow, row_in_cache};
 ghost use Rattle.mc_forward.specs.FlatRows.{rows_of};
+ghost use Rattle.mc_forward.specs.RouterTables.{HaveRows};
 ghost use Rattle.mc_forward.specs.RowValues.{row_value, HasValidEntry};
 
 use crate::row::RowFor;
@@ -93,20 +95,21 @@ fn row_of<'c>(cache: &'c CacheTable, flow: &Flow, hint: &mut usize) -> RowFor<'c
 }
 
 /// A router's rows for the flows. The hints are the places at which other routers' caches had them.
-fn flow_rows_of(
+pub(crate) fn flow_rows_of(
     alloc: Global,
     topology: &Topology,
-    tables: &Tables,
+    cache: &CacheTable,
     hints: &mut Vec<usize>,
 ) -> Result<RouterRows, Memory>
     requires hint_per_flow { length hints.old.items ≡ length topology.now.flows }
-    ensures rows { IfOk result (λ rows. rows ≡ map (row_in_cache tables.now.cache) topology.now.flows) }
-    ensures hints { OnOk result (length hints.new.items ≡ length topology.now.flows) }
+    ensures rows { IfOk result (λ rows. rows ≡ map (row_in_cache cache.now) topology.now.flows) }
+    ensures valid { IfOk result (λ rows. AllByRecursion IsValidRow rows) }
+    ensures hints { length hints.new.items ≡ length topology.now.flows }
 {
     let mut rows = FlatOifs::with_capacity(alloc, topology.flows() as usize)?;
     for flow in 0..topology.flows() {
         let hint = &mut hints[flow as usize];
-        let row = row_of(&tables.cache, topology.flow(flow), hint);
+        let row = row_of(cache, topology.flow(flow), hint);
         push_row(&mut rows, &row)?;
     }
     Ok(RouterRows { rows })
@@ -118,12 +121,14 @@ pub(crate) fn rows_of_routers(
     topology: &Topology,
     tables: &[Tables],
 ) -> Result<Vec<RouterRows>, Memory>
-    ensures { IfOk result (λ rows. rows.items ≡ rows_by_tables topology.now.flows tables.now) }
+    ensures rows { IfOk result (λ rows. rows.items ≡ rows_by_tables topology.now.flows tables.now) }
+    ensures each { IfOk result (λ rows.
+        AllByRecursion (HaveRows (length topology.now.flows)) rows.items) }
 {
     let mut hints = vec![in alloc; 0; topology.flows() as usize]?;
     let mut rows = Vec::with_capacity(alloc, tables.len())?;
     for own in tables {
-        rows.push(flow_rows_of(alloc, topology, own, &mut hints)?)?;
+        rows.push(flow_rows_of(alloc, topology, &own.cache, &mut hints)?)?;
     }
     Ok(rows)
 }

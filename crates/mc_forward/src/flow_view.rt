@@ -119,14 +119,14 @@ impl<'d> FlowView<'d> {
     /// The vif of a router with this index, from its table. None where that has no line of the index,
     /// and for a router that isn't in the topology.
     pub fn vif(&self, router: RouterNo, vif: u8) -> Option<&'d Vif>
-        ensures { option_copied result ≡ vif_of self.now.domain.tables router vif }
+        ensures { option_copied result ≡ vif_of self.now.domain.vifs router vif }
     {
         self.domain.vif(router, vif)
     }
 
     /// Why a router's vif is placed on no LAN: `OnNoLan` also where it is placed on one.
     pub fn unplaced_reason(&self, router: RouterNo, vif: u8) -> UnplacedReason
-        ensures reason { result ≡ unplaced_reason (vif_of self.now.domain.tables router vif) }
+        ensures reason { result ≡ unplaced_reason (vif_of self.now.domain.vifs router vif) }
         ensures unplaced { result ≢ OnNoLan → (net_in self.now).placed router vif ≡ None }
     {
         unplaced_reason(self.vif(router, vif))

@@ -1,5 +1,8 @@
 //! The kernel tables of a router.
 
+ghost use Rattle.std.specs.Prelude.{◌≡◌};
+ghost use Rattle.mc_forward.specs.Domains.{VifsValue};
+
 use mc_tables::{CacheTable, VifTable};
 use std::marker::Model;
 
@@ -21,4 +24,30 @@ impl Model for Tables {
     ghost coded = { tables_code };
 
     ghost view = { λ t. record { vifs = t.vifs; cache = t.cache } };
+}
+
+/// What has the vifs of a router.
+pub(crate) trait HasVifs {
+    // the vifs
+    ghost vifs_of: { Self → VifsValue };
+
+    /// The vifs.
+    fn vif_table(&self) -> &VifTable
+        ensures { result.now ≡ vifs_of self.now };
+}
+
+impl HasVifs for Tables {
+    ghost vifs_of = { λ tables. tables.vifs };
+
+    fn vif_table(&self) -> &VifTable {
+        &self.vifs
+    }
+}
+
+impl HasVifs for VifTable {
+    ghost vifs_of = { λ vifs. vifs };
+
+    fn vif_table(&self) -> &VifTable {
+        self
+    }
 }

@@ -1,15 +1,16 @@
 //! On which LAN each vif of a router is placed.
 
-ghost use Rattle.std.specs.Prelude.{◌≡◌, ◌<◌, ℕ, IfOk, Some, length, map, slice_get};
+ghost use Rattle.std.specs.Prelude.{◌≡◌, IfOk, length, map};
 ghost use Rattle.std.specs.Prelude.{option_and_then};
 ghost use Rattle.std.specs.FinMap as finite;
 ghost use Rattle.mc_theory.specs.Lists.{below};
-ghost use Rattle.mc_forward.specs.Domains.{TablesValue, AreTables, lan_of_vif, placed_in};
-ghost use Rattle.mc_forward.specs.Assembling.{vif_lans_by_tables};
+ghost use Rattle.mc_tables.specs.VifLookups.{IsValidVifTable};
+ghost use Rattle.mc_forward.specs.Domains.{AreVifs, lan_of_vif, placed_in};
+ghost use Rattle.mc_forward.specs.Assembling.{vif_lans_by_vifs};
 
-use crate::tables::Tables;
-use mc_tables::Vif;
-use mc_text::{Addr, Memory};
+use crate::tables::HasVifs;
+use mc_tables::{Vif, VifTable};
+use mc_text::Memory;
 use mc_topology::{LanNo, RouterNo, Topology};
 use std::alloc::Global;
 
@@ -30,56 +31,47 @@ fn lan_of_vif(topology: &Topology, router: RouterNo, vif: &Vif) -> Option<LanNo>
 fn lan_of_vif_number(
     topology: &Topology,
     router: RouterNo,
-    tables: &Tables,
+    vifs: &VifTable,
     vif: u8,
 ) -> Option<LanNo>
-    ensures { result ≡
-        option_and_then (lan_of_vif topology.now router) (finite.get tables.now.vifs vif) }
+    ensures { result ≡ option_and_then (lan_of_vif topology.now router) (finite.get vifs.now vif) }
 {
-    match tables.vifs.vif(vif) {
+    match vifs.vif(vif) {
         Some(found) => lan_of_vif(topology, router, found),
         None => None,
     }
 }
 
-/// The rules that all tables keep, wherever they were read. They are facts of the look-ups' contracts.
-fn recall_table_rules(tables: &Tables)
-    ensures { AreTables tables.now }
-{
-    let _vif = tables.vifs.vif(0);
-    let _wildcard = tables.cache.has_wildcard(Addr::from_octets([0, 0, 0, 0]));
-}
-
 /// The LANs of a router's vifs.
-fn vif_lans_of_router(topology: &Topology, router: RouterNo, tables: &Tables) -> VifLans
-    ensures vif_lans { result ≡ vif_lans_by_tables topology.now router tables.now }
-    ensures rules { AreTables tables.now }
+fn vif_lans_of_router(topology: &Topology, router: RouterNo, vifs: &VifTable) -> VifLans
+    ensures vif_lans { result ≡ vif_lans_by_vifs topology.now router vifs.now }
+    ensures rules { IsValidVifTable vifs.now }
 {
-    recall_table_rules(tables);
+    // what holds of every table is a fact of a look-up
+    let _first = vifs.vif(0);
     let mut vif_lans = [None; 32];
     for vif in 0..32u8 {
-        vif_lans[vif as usize] = lan_of_vif_number(topology, router, tables, vif);
+        vif_lans[vif as usize] = lan_of_vif_number(topology, router, vifs, vif);
     }
     vif_lans
 }
 
 /// The LANs of all routers' vifs.
-pub(crate) fn vif_lans_of_routers(
+pub(crate) fn vif_lans_of_routers<T: HasVifs>(
     alloc: Global,
     topology: &Topology,
-    tables: &[Tables],
+    tables: &[T],
 ) -> Result<Vec<VifLans>, Memory>
-    requires tables_per_router { length tables.now ≡ length topology.now.routers }
+    requires vifs_per_router { length tables.now ≡ length topology.now.routers }
     ensures vif_lans { IfOk result (λ vif_lans. vif_lans.items ≡
-        map (λ router. map (placed_in topology.now tables.now router) (below 32))
+        map (λ router. map (placed_in topology.now (map T.vifs_of tables.now) router) (below 32))
         (below (length topology.now.routers))) }
-    ensures rules { IfOk result (λ _. (router : ℕ) (t : TablesValue) →
-        slice_get tables.now router ≡ Some t → AreTables t) }
+    ensures rules { IfOk result (λ _. AreVifs topology.now (map T.vifs_of tables.now)) }
 {
     let mut vif_lans = Vec::new(alloc);
     for number in 0..topology.routers() {
-        let router = RouterNo(number);
-        vif_lans.push(vif_lans_of_router(topology, router, &tables[number as usize]))?;
+        let vifs = tables[number as usize].vif_table();
+        vif_lans.push(vif_lans_of_router(topology, RouterNo(number), vifs))?;
     }
     Ok(vif_lans)
 }

@@ -11,10 +11,14 @@ use Rattle.mc_topology.specs.Topology.{TopologyValue}
 use Rattle.mc_files.specs.Files.{FileText}
 use Rattle.mc_theory.specs.ExcludedRouters.{ExcludesRouters}
 use Rattle.mc_forward.specs.Assembling.{IsAssembled}
-use Rattle.mc_forward.specs.Domains.{DomainValue, TablesValue, lan_of_vif, net_of, row_at}
+use Rattle.mc_tables.specs.VifTable.{VifValue}
+use Rattle.mc_theory.specs.Nets.{Row}
+use Rattle.mc_theory.specs.Nets.Row.{NoRow}
+use Rattle.mc_forward.specs.Domains.{DomainValue, TablesValue, VifsValue, lan_of_vif, net_of, row_of, vif_of}
+use Rattle.mc_forward.proofs.TableFactLemmas.{row_at, rows_by_tables-at_router, vif_of-vifs_by_tables}
 use Rattle.mc_input.specs.FilesReading.{part_from_file}
 use Rattle.mc_input.specs.ExcludedRouters.{has_name_among, is_excluded, files_with_exclusions}
-use Rattle.mc_input.specs.Meaning.{FilesMeanDomainAsListed, FilesMeanDomain}
+use Rattle.mc_input.specs.Meaning.{FilesMeanDomain}
 use Rattle.mc_input.specs.PartsReading.{all_reports, all_tables, first_lan_number}
 use Rattle.mc_input.specs.declared.source_fault.SourceFault.{SourceFault}
 use Rattle.mc_input.specs.declared.source_fault.SourceFault.TheVariants.{Input}
@@ -61,13 +65,6 @@ RouterRow-excluded : (names : List (List ℕ)) (o : Option RouterRow) → has_na
 RouterRow-excluded names None e = absurd cc
 RouterRow-excluded names (Some r) e = (r, refl, e)
 
-FilesMeanDomainAsListed-from_exact : (files : List FileText) (d : DomainValue) → FilesMeanDomain files d → FilesMeanDomainAsListed files d
-FilesMeanDomainAsListed-from_exact files d means = record {
-  whole = d;
-  means = means;
-  same = record { topology = refl; nets = λ flow. refl; vifs = λ router vif. refl };
-}
-
 module _ (names : List (List ℕ)) (files : List FileText) (part whole : DomainValue)
     (m : FilesMeanDomain (files_with_exclusions names files) part) (n : FilesMeanDomain files whole) where
   topology_read : m.input.topology ≡ n.input.topology
@@ -91,18 +88,36 @@ module _ (names : List (List ℕ)) (files : List FileText) (part whole : DomainV
       ∙ all_reports-with_exclusions names files m.input.topology ∙ theirs)
 
   tables_same : (router : ℕ) → is_excluded whole.topology names router ≡ false
-      → slice_get part.tables router ≡ slice_get whole.tables router
+      → slice_get m.input.tables router ≡ slice_get n.input.tables router
   tables_same router known =
       let theirs = subst (λ (t : TopologyValue).
       all_tables Input (part_from_file files) 1 t.routers ≡ Ok n.input.tables) (sym topology_read)
       (read_input-tables (part_from_file files) n.input (input_of_files-Ok files n.input n.denotes)) in
       let here = subst (λ (t : TopologyValue). is_excluded t names router ≡ false)
       (n.assembled.topology ∙ sym topology_read) known in
-      ap (λ (ts : List TablesValue). slice_get ts router) m.assembled.tables
-      ∙ all_tables-with_exclusions names files 1 m.input.topology.routers m.input.tables n.input.tables router
+      all_tables-with_exclusions names files 1 m.input.topology.routers m.input.tables n.input.tables router
       (read_input-tables (part_from_file (files_with_exclusions names files)) m.input
       (input_of_files-Ok (files_with_exclusions names files) m.input m.denotes)) theirs here
-      ∙ sym (ap (λ (ts : List TablesValue). slice_get ts router) n.assembled.tables)
+
+  vifs_same : (router vif : ℕ) → is_excluded whole.topology names router ≡ false
+      → vif_of part.vifs router vif ≡ vif_of whole.vifs router vif
+  vifs_same router vif known =
+      let own : List VifsValue → Option VifValue = λ vs. vif_of vs router vif in
+      ap own m.assembled.vifs ∙ vif_of-vifs_by_tables m.input.tables router vif
+      ∙ ap (λ (o : Option TablesValue). option_and_then (λ t. finite.get t.vifs vif) o)
+      (tables_same router known)
+      ∙ sym (ap own n.assembled.vifs ∙ vif_of-vifs_by_tables n.input.tables router vif)
+
+  row_same : (flow router : ℕ) → is_excluded whole.topology names router ≡ false
+      → row_of part flow router ≡ row_of whole flow router
+  row_same flow router known =
+      let own : List (List Row) → Row = λ rs. slice_index_or (slice_index_or rs router []) flow NoRow in
+      ap own m.assembled.rows
+      ∙ rows_by_tables-at_router m.input.topology.flows m.input.tables flow router
+      ∙ ap₂ (λ (t : TopologyValue) (o : Option TablesValue). row_at o (slice_get t.flows flow))
+      topology_read (tables_same router known)
+      ∙ sym (ap own n.assembled.rows
+      ∙ rows_by_tables-at_router n.input.topology.flows n.input.tables flow router)
 
   wants_alike : part.wants ≡ whole.wants
   wants_alike =
@@ -123,14 +138,11 @@ module _ (names : List (List ℕ)) (files : List FileText) (part whole : DomainV
         topology_same;
     wants = λ lan. ap (λ (ws : List (List Bool)). slice_index_or (slice_index_or ws lan []) flow false)
         wants_alike;
-    placed = λ router vif known. ap₂ (λ (t : TopologyValue) (o : Option TablesValue).
-        option_and_then (lan_of_vif t router) (option_and_then (λ x. finite.get x.vifs vif) o))
-        topology_same (tables_same router known);
-    row = λ router known. ap₂ (λ (t : TopologyValue) (o : Option TablesValue).
-        row_at o (slice_get t.flows flow)) topology_same (tables_same router known);
+    placed = λ router vif known. ap₂ (λ (t : TopologyValue) (o : Option VifValue).
+        option_and_then (lan_of_vif t router) o) topology_same (vifs_same router vif known);
+    row = λ router known. row_same flow router known;
     nothing = λ router vif out.
         let row = RouterRow-excluded names (slice_get part.topology.routers router)
         (subst (λ (t : TopologyValue). is_excluded t names router ≡ true) (sym topology_same) out) in
-        (HasNoVifOrRow-at names files part router row.0 (FilesMeanDomainAsListed-from_exact (files_with_exclusions names files) part m)
-        row.1 row.2).placed vif;
+        (HasNoVifOrRow-at names files part router row.0 m row.1 row.2).placed vif;
   }

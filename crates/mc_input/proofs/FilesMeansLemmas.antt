@@ -1,4 +1,4 @@
--- The domain that is assembled of what was kept of files has the facts per flow that the files mean.
+-- The domain that consists of what was kept of files is the one that the files mean.
 use Rattle.std.specs.Prelude.{◌≡◌, ℕ, List, Option, Some, None, Result, Ok, Err, IfErr, IfOk, IfSome}
 use Rattle.std.specs.Prelude.{MatchResult, refl}
 use Rattle.std.proofs.Common.{◌∙◌, ap, sym, subst}
@@ -6,29 +6,27 @@ use Rattle.mc_text.specs.Steps.{map_fault}
 use Rattle.mc_topology.specs.Topology.{TopologyValue}
 use Rattle.mc_files.specs.Files.{FileText}
 use Rattle.mc_forward.specs.Domains.{DomainValue, IsDomain}
-use Rattle.mc_forward.specs.ListedTables.{HaveSameFacts}
 use Rattle.mc_input.specs.FilesInput.{FilesDenoteInput}
 use Rattle.mc_input.specs.FilesReading.{input_of_files, part_from_file}
 use Rattle.mc_input.specs.Input.{InputValue}
 use Rattle.mc_input.specs.Kept.{IsDomainOf}
 use Rattle.mc_input.specs.ExcludedRouters.{AreRouterNames, IsReadOrMemoryWithout}
 use Rattle.mc_input.specs.ExcludedRouters.{input_of_files_without, files_with_exclusions}
-use Rattle.mc_input.specs.Meaning.{FilesMeanDomainAsListed, FilesMeanDomain}
+use Rattle.mc_input.specs.Meaning.{FilesMeanDomain}
 use Rattle.mc_input.specs.declared.without_fault.WithoutFault.{WithoutFault}
 use Rattle.mc_input.specs.declared.without_fault.WithoutFault.TheVariants.{Source, NoSuchRouter}
 use Rattle.mc_input.proofs.FilesDenoteInputLemmas.{input_of_files-Ok, FilesDenoteInput-from_input_of_files}
 use Rattle.mc_input.proofs.ExcludedLemmas.{input_of_files_without-names_Ok, check_router_names-Ok}
 use Rattle.mc_input.proofs.ExcludedLemmas.{read_part-same_topology_file, IsSameFile-topology_slot}
 use Rattle.mc_input.proofs.HasNoVifOrRowLemmas.{read_input-topology}
-use Rattle.mc_input.proofs.MeansLemmas.{MeansSamePerFlow-from_denotes, IsReadOrMemory-by_contradiction}
+use Rattle.mc_input.proofs.MeansLemmas.{Means-from_denotes, IsReadOrMemory-by_contradiction}
 use Rattle.mc_input.proofs.UniqueDomain.{FilesMeanDomain-unique}
 
--- what was kept of the files is of a domain that they mean
-FilesMeanDomainAsListed-from_input : (files : List FileText) (v : InputValue) (d : DomainValue) → input_of_files files ≡ Ok v
-    → IsDomainOf d v → IsDomain d → FilesMeanDomainAsListed files d
-FilesMeanDomainAsListed-from_input files v d read kept rules =
-    let denotes = FilesDenoteInput-from_input_of_files files v read in
-    MeansSamePerFlow-from_denotes FilesDenoteInput files denotes.parts None v d denotes denotes.parts_denote kept rules
+-- the domain that consists of what was kept of files is the one that they mean
+FilesMeanDomain-from_input : (files : List FileText) (v : InputValue) (d : DomainValue)
+    → input_of_files files ≡ Ok v → IsDomainOf d v → IsDomain d → FilesMeanDomain files d
+FilesMeanDomain-from_input files v d read kept rules =
+    Means-from_denotes FilesDenoteInput files v d (FilesDenoteInput-from_input_of_files files v read) kept rules
 
 -- files that mean a domain with routers excluded, each of them one of its topology, are read
 input_of_files_without-Ok : (names : List (List ℕ)) (files : List FileText) (d : DomainValue)
@@ -63,18 +61,18 @@ IsReadOrMemoryWithout-by_contradiction (Source fault) P loud none = IsReadOrMemo
 IsReadOrMemoryWithout-by_contradiction (NoSuchRouter n) P loud none = none (loud (λ silent. silent))
 
 module _ {X : Type 0} (d : X → DomainValue) (names : List (List ℕ)) where
-  pub FilesMeanDomainAsListed-from_result : (o : Option (List FileText)) (r : Result X WithoutFault)
+  pub FilesMeanDomain-from_result : (o : Option (List FileText)) (r : Result X WithoutFault)
       → ((files : List FileText) → o ≡ Some files → IfOk r (λ x. (v : InputValue)
       × IsDomainOf (d x) v × (input_of_files (files_with_exclusions names files) ≡ Ok v)))
       → IfOk r (λ x. IsDomain (d x))
-      → IfOk r (λ x. IfSome o (λ files. FilesMeanDomainAsListed (files_with_exclusions names files) (d x)))
-  FilesMeanDomainAsListed-from_result None (Ok x) keeps rules = tt
-  FilesMeanDomainAsListed-from_result (Some files) (Ok x) keeps rules =
+      → IfOk r (λ x. IfSome o (λ files. FilesMeanDomain (files_with_exclusions names files) (d x)))
+  FilesMeanDomain-from_result None (Ok x) keeps rules = tt
+  FilesMeanDomain-from_result (Some files) (Ok x) keeps rules =
       let read = keeps files refl in
-      FilesMeanDomainAsListed-from_input (files_with_exclusions names files) read.0 (d x) read.2 read.1 rules
-  FilesMeanDomainAsListed-from_result o (Err fault) keeps rules = tt
+      FilesMeanDomain-from_input (files_with_exclusions names files) read.0 (d x) read.2 read.1 rules
+  FilesMeanDomain-from_result o (Err fault) keeps rules = tt
 
-  pub HaveSameFacts-from_files : (o : Option (List FileText)) (r : Result X WithoutFault)
+  pub same_domain-from_files : (o : Option (List FileText)) (r : Result X WithoutFault)
       → ((files : List FileText) → o ≡ Some files → IfOk r (λ x. (v : InputValue)
       × IsDomainOf (d x) v × (input_of_files (files_with_exclusions names files) ≡ Ok v)))
       → IfOk r (λ x. IsDomain (d x))
@@ -82,14 +80,13 @@ module _ {X : Type 0} (d : X → DomainValue) (names : List (List ℕ)) where
       → input_of_files_without names files ≡ Err fault))
       → (files : List FileText) (domain : DomainValue) → o ≡ Some files
       → FilesMeanDomain (files_with_exclusions names files) domain → AreRouterNames domain.topology names
-      → MatchResult r (λ x. HaveSameFacts domain (d x)) IsReadOrMemoryWithout
-  HaveSameFacts-from_files o (Ok x) keeps rules refused files domain contents means are =
+      → MatchResult r (λ x. d x ≡ domain) IsReadOrMemoryWithout
+  same_domain-from_files o (Ok x) keeps rules refused files domain contents means are =
       let whole = files_with_exclusions names files in
       let read = keeps files contents in
-      let listed = FilesMeanDomainAsListed-from_input whole read.0 (d x) read.2 read.1 rules in
-      subst (λ e. HaveSameFacts e (d x))
-      (FilesMeanDomain-unique whole listed.whole domain listed.means means) listed.same
-  HaveSameFacts-from_files o (Err fault) keeps rules refused files domain contents means are =
+      FilesMeanDomain-unique whole (d x) domain
+      (FilesMeanDomain-from_input whole read.0 (d x) read.2 read.1 rules) means
+  same_domain-from_files o (Err fault) keeps rules refused files domain contents means are =
       IsReadOrMemoryWithout-by_contradiction fault (input_of_files_without names files ≡ Err fault) (refused files contents)
       (input_of_files_without-not_Err names files domain fault means are)
 

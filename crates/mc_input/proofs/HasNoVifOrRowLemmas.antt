@@ -1,7 +1,7 @@
 -- An excluded router has no vif and no row in the domain.
 use Rattle.std.specs.Prelude.{◌≡◌, ℕ, zero, suc, ◌+◌, true, List, [], ◌∷◌, Contains}
 use Rattle.std.specs.Prelude.{Option, Some, None, Result, Ok, option_and_then, option_map, refl}
-use Rattle.std.specs.Prelude.{slice_get}
+use Rattle.std.specs.Prelude.{slice_get, slice_index_or}
 use Rattle.std.proofs.Common.{ap, subst, sym, ◌∙◌}
 use Rattle.std.specs.FinMap as finite
 use Rattle.std.specs.Ordering.{nat_cmp}
@@ -17,13 +17,14 @@ use Rattle.mc_topology.specs.declared.flow.Flow.{Flow}
 use Rattle.mc_igmp.specs.declared.record.Record.{Record}
 use Rattle.mc_files.specs.Files.{FileText, file_named}
 use Rattle.mc_files.specs.Layout.{Slot, cache_slot, file_name, topology_slot, vif_slot}
-use Rattle.mc_theory.specs.Nets.{Net}
+use Rattle.mc_theory.specs.Nets.{Row}
 use Rattle.mc_theory.specs.Nets.Row.{NoRow}
-use Rattle.mc_forward.specs.Domains.{DomainValue, TablesValue, lan_of_vif, row_at, vif_of}
+use Rattle.mc_forward.specs.Domains.{DomainValue, TablesValue, VifsValue, lan_of_vif, vif_of}
+use Rattle.mc_forward.proofs.TableFactLemmas.{row_at, rows_by_tables-at_router, vif_of-vifs_by_tables}
 use Rattle.mc_input.specs.FilesReading.{part_from_file}
 use Rattle.mc_input.specs.Input.{InputValue}
 use Rattle.mc_input.specs.ExcludedRouters.{HasNoVifOrRow, empty_tables, files_with_exclusions}
-use Rattle.mc_input.specs.Meaning.{FilesMeanDomainAsListed}
+use Rattle.mc_input.specs.Meaning.{FilesMeanDomain}
 use Rattle.mc_input.specs.PartsReading.{all_reports, all_tables, read_tables_and_reports}
 use Rattle.mc_input.specs.PartsReading.{first_lan_number, read_input}
 use Rattle.mc_input.specs.PartsReading.{router_tables, read_part, topology_of}
@@ -152,37 +153,41 @@ RouterRow-from_name None name e = absurd cc
 RouterRow-from_name (Some r) name e = (r, refl, cc)
 
 module _ (names : List (List ℕ)) (files : List FileText) (d : DomainValue) (router : ℕ)
-    (row : RouterRow) (means : FilesMeanDomainAsListed (files_with_exclusions names files) d)
+    (row : RouterRow) (means : FilesMeanDomain (files_with_exclusions names files) d)
     (here : slice_get d.topology.routers router ≡ Some row) (is : is_excluded_name names row.name ≡ true) where
-  empty_tables-excluded : (t : TablesValue) → slice_get means.whole.tables router ≡ Some t → empty_tables ≡ t
+  empty_tables-excluded : (t : TablesValue) → slice_get means.input.tables router ≡ Some t → empty_tables ≡ t
   empty_tables-excluded t there =
-      let input = means.means.input in
-      let whole = means.means.assembled in
-      let source = part_from_file (files_with_exclusions names files) in
-      let at = ap (λ (t : TopologyValue). slice_get t.routers router)
-      (sym whole.topology ∙ means.same.topology) ∙ here in
-      let tables_unless_excluded = all_tables-slice_get source 1 input.topology.routers input.tables router row t
-      (read_input-tables source input (input_of_files-Ok (files_with_exclusions names files) input means.means.denotes)) at
-      (ap (λ (ts : List TablesValue). slice_get ts router) (sym whole.tables) ∙ there) in
+      let input = means.input in
+      let all = files_with_exclusions names files in
+      let source = part_from_file all in
+      let at = ap (λ (t : TopologyValue). slice_get t.routers router) (sym means.assembled.topology) ∙ here in
+      let own = all_tables-slice_get source 1 input.topology.routers input.tables router row t
+      (read_input-tables source input (input_of_files-Ok all input means.denotes)) at there in
       ok_injective {E = SourceFault} empty_tables t
-      (sym (router_tables-header_only (files_with_exclusions names files) tables_unless_excluded.0 row.name row.order
-      (file_named-excluded_vif names files row.name is) (file_named-excluded_cache names files row.name is)) ∙ tables_unless_excluded.1)
+      (sym (router_tables-header_only all own.0 row.name row.order
+      (file_named-excluded_vif names files row.name is) (file_named-excluded_cache names files row.name is))
+      ∙ own.1)
 
   pub HasNoVifOrRow-at : HasNoVifOrRow d router
   HasNoVifOrRow-at =
-      let whole = means.whole in
-      let vifs : (vif : ℕ) → vif_of d.tables router vif ≡ None = λ vif.
-      sym (means.same.vifs router vif) ∙ vif-empty_tables (slice_get whole.tables router) empty_tables-excluded vif in
+      let t = means.input.topology in
+      let tables = means.input.tables in
+      let vifs : (vif : ℕ) → vif_of d.vifs router vif ≡ None = λ vif.
+      ap (λ (vs : List VifsValue). vif_of vs router vif) means.assembled.vifs
+      ∙ vif_of-vifs_by_tables tables router vif
+      ∙ vif-empty_tables (slice_get tables router) empty_tables-excluded vif in
       record {
         vifs = vifs;
         placed = λ vif. ap (option_and_then (lan_of_vif d.topology router)) (vifs vif);
         rows = λ flow.
-            sym (ap (λ (net : Net). net.row router) (means.same.nets flow))
-            ∙ row_at-empty_tables (slice_get whole.tables router) empty_tables-excluded (slice_get whole.topology.flows flow);
+            ap (λ (rs : List (List Row)). slice_index_or (slice_index_or rs router []) flow NoRow)
+            means.assembled.rows
+            ∙ rows_by_tables-at_router t.flows tables flow router
+            ∙ row_at-empty_tables (slice_get tables router) empty_tables-excluded (slice_get t.flows flow);
       }
 
 pub HasNoVifOrRow-excluded : (names : List (List ℕ)) (files : List FileText) (d : DomainValue) (router : ℕ)
-    (name : List ℕ) → FilesMeanDomainAsListed (files_with_exclusions names files) d → Contains names name
+    (name : List ℕ) → FilesMeanDomain (files_with_exclusions names files) d → Contains names name
     → option_map (λ r. r.name) (slice_get d.topology.routers router) ≡ Some name
     → HasNoVifOrRow d router
 HasNoVifOrRow-excluded names files d router name means named own =

@@ -1,5 +1,5 @@
--- The domain that is assembled of what was kept has the facts per flow that the bundle means.
-use Rattle.std.specs.Prelude.{◌≡◌, ℕ, zero, suc, Bool, List, [], ◌∷◌, slice_get, Option, Some}
+-- The domain that consists of what was kept is the one that the bundle means.
+use Rattle.std.specs.Prelude.{◌≡◌, ℕ, Bool, List, [], ◌∷◌, Option, Some}
 use Rattle.std.specs.declared.alloc.Global.{Global}
 use Rattle.std.specs.Prelude.{None, Vec, is_some, Result, Ok, Err, IfErr, IfOk, IfSome, MatchResult, refl}
 use Rattle.std.proofs.Common.{ap, ◌∙◌, sym, subst, inl, inr, arith}
@@ -11,22 +11,16 @@ use Rattle.mc_text.specs.RestOfBundle.{rest_of_bundle}
 use Rattle.mc_text.specs.ReadFault.{ConsumesUpTo}
 use Rattle.mc_text.specs.Steps.{map_fault}
 use Rattle.mc_text.specs.declared.bundle.stage.Stage.TheVariants as stages
-use Rattle.mc_tables.proofs.LawLemmas.{vif_table-is_valid}
-use Rattle.mc_tables.proofs.TableRuleLemmas.{cache-is_valid}
-use Rattle.mc_topology.specs.SectionRows.{RouterRow}
 use Rattle.mc_topology.specs.Topology.{TopologyValue}
 use Rattle.mc_files.specs.Layout.{part_name, topology_slot}
-use Rattle.mc_forward.specs.Assembling.{AreAnswers, AreWanted, IsAssembled}
-use Rattle.mc_forward.specs.Domains.{AreTables, DomainValue, IsDomain, TablesValue}
-use Rattle.mc_forward.specs.DomainParts.{domain_with}
-use Rattle.mc_forward.specs.ListedTables.{IsListedPartOfTables, HaveSameFacts}
-use Rattle.mc_forward.proofs.ListedTableLemmas.{have_same_facts-of_listed_parts, pairwise-count}
-use Rattle.mc_forward.proofs.ListedTableLemmas.{pairwise-each}
-use Rattle.mc_forward.proofs.WantsLemmas.{is_assembled-from_reports, is_domain-from_parts}
-use Rattle.mc_input.specs.Input.{InputValue, DenotesInput, PartsDenoteInput, PartsDenoteTables}
+use Rattle.mc_forward.specs.Assembling.{AreWanted, IsAssembled}
+use Rattle.mc_forward.specs.Domains.{DomainValue, IsDomain}
+use Rattle.mc_forward.proofs.ListedTableLemmas.{pairwise-count, pairwise-each}
+use Rattle.mc_forward.proofs.WantsLemmas.{is_assembled-from_reports}
+use Rattle.mc_input.specs.Input.{InputValue, DenotesInput}
 use Rattle.mc_input.specs.InputReading.{input_of_bundle}
 use Rattle.mc_input.specs.InputView.{certificate_text}
-use Rattle.mc_input.specs.Meaning.{Means, MeansDomain, MeansDomainAsListed, MeansSamePerFlow}
+use Rattle.mc_input.specs.Meaning.{Means, MeansDomain}
 use Rattle.mc_input.specs.PartsOneByOne.{ReadsDomain, IsFaultOf, read_rest, check_names_then}
 use Rattle.mc_input.specs.PartsOneByOne.{finish_with_tables, read_all_parts}
 use Rattle.mc_input.specs.Kept.{IsDomainOf}
@@ -84,56 +78,33 @@ ConsumesUpTo-from_ConsumesWithin most after old new is spends = (spends.0, omega
 
 -- ---- what it means
 
-AreTables-from_PartsDenoteTables : (rs : List RouterRow) (here : List PartText) (ts : List TablesValue)
-    (rest : List PartText) → PartsDenoteTables rs here ts rest
-    → (router : ℕ) (own : TablesValue) → slice_get ts router ≡ Some own → AreTables own
-AreTables-from_PartsDenoteTables [] here [] rest h router own at = absurd cc
-AreTables-from_PartsDenoteTables [] here (t ∷ ts) rest h router own at = absurd h
-AreTables-from_PartsDenoteTables (r ∷ rs) [] ts rest h router own at = absurd h
-AreTables-from_PartsDenoteTables (r ∷ rs) (vif ∷ []) ts rest h router own at = absurd h
-AreTables-from_PartsDenoteTables (r ∷ rs) (vif ∷ cache ∷ here) [] rest h router own at = absurd h
-AreTables-from_PartsDenoteTables (r ∷ rs) (vif ∷ cache ∷ here) (t ∷ ts) rest h zero own at =
-    let same : t ≡ own = cc in
-    subst AreTables same (record {
-      vifs = vif_table-is_valid vif.bytes t.vifs h.0.vifs;
-      cache = cache-is_valid r.order cache.bytes t.cache h.0.entries;
-    })
-AreTables-from_PartsDenoteTables (r ∷ rs) (vif ∷ cache ∷ here) (t ∷ ts) rest h (suc router) own at =
-    AreTables-from_PartsDenoteTables rs here ts rest h.1 router own at
-
--- the input means a domain with the same facts per flow as this one
-pub MeansSamePerFlow-from_denotes : {X : Type 0} (Denotes : X → InputValue → Type 0) (x : X) (parts : List PartText)
-    (certificate : Option (List ℕ)) (v : InputValue) (d : DomainValue) → Denotes x v
-    → PartsDenoteInput parts v certificate → IsDomainOf d v → IsDomain d → MeansSamePerFlow (Means Denotes) x d
-MeansSamePerFlow-from_denotes Denotes x parts certificate v d denotes parts_denote kept rules =
+-- the domain that consists of what is kept of an input is the one that is meant
+pub Means-from_denotes : {X : Type 0} (Denotes : X → InputValue → Type 0) (x : X) (v : InputValue)
+    (d : DomainValue) → Denotes x v → IsDomainOf d v → IsDomain d → Means Denotes x d
+Means-from_denotes Denotes x v d denotes kept rules =
     let t = d.topology in
-    let whole = domain_with t v.tables d.wants in
-    let count = pairwise-count (IsListedPartOfTables t.flows) d.tables v.tables kept.listed in
     let each = pairwise-each (AreWanted t.flows) v.reports d.wants kept.wanted in
     let size = pairwise-count (AreWanted t.flows) v.reports d.wants kept.wanted in
-    let assembled = is_assembled-from_reports t v.tables v.reports d.wants (sym size) each in
-    let answers : AreAnswers t d.wants = record { lans = rules.lans; flows = rules.flows } in
-    let remaining = AreTables-from_PartsDenoteTables v.topology.routers parts_denote.of_routers v.tables parts_denote.of_lans parts_denote.tables in
-    let is = is_domain-from_parts t v.tables d.wants rules.topology (sym count ∙ rules.routers) remaining answers in
+    let wants = is_assembled-from_reports t v.tables v.reports d.wants (sym size) each in
     record {
-      whole = whole;
-      means = record {
-        input = v;
-        denotes = denotes;
-        assembled = subst (λ u. IsAssembled u v.tables v.reports whole) (sym kept.topology) assembled;
-        rules = is;
-      };
-      same = have_same_facts-of_listed_parts t d.tables v.tables d.wants kept.listed;
+      input = v;
+      denotes = denotes;
+      assembled = subst (λ u. IsAssembled u v.tables v.reports d) (sym kept.topology) (record {
+            topology = refl;
+            vifs = kept.vifs_kept;
+            rows = kept.rows_kept;
+            wants = wants.wants;
+          });
+      rules = rules;
     }
 
-pub MeansDomainAsListed-from_ReadsDomain : (certified : Bool) (s : PartsState) (text : List ℕ) (d : DomainValue)
+pub MeansDomain-from_ReadsDomain : (certified : Bool) (s : PartsState) (text : List ℕ) (d : DomainValue)
     (certificate : Option (List ℕ)) → s.stage ≡ stages.Start → IsDomain d
-    → ReadsDomain s text certified d certificate → MeansDomainAsListed text certificate d
-MeansDomainAsListed-from_ReadsDomain certified s text d certificate start rules read =
-    let denotes = DenotesInput-from_read_bundle certified text read.0 certificate
-    (sym (read_rest-at_start certified s text start) ∙ read.2) in
-    MeansSamePerFlow-from_denotes (λ t input. DenotesInput t input certificate) text denotes.parts certificate read.0 d
-    denotes denotes.parts_denote read.1 rules
+    → ReadsDomain s text certified d certificate → MeansDomain text certificate d
+MeansDomain-from_ReadsDomain certified s text d certificate start rules read =
+    Means-from_denotes (λ t input. DenotesInput t input certificate) text read.0 d
+    (DenotesInput-from_read_bundle certified text read.0 certificate
+    (sym (read_rest-at_start certified s text start) ∙ read.2)) read.1 rules
 
 -- ---- and why it is refused
 
@@ -165,38 +136,36 @@ IsReadOrMemory-from_MeansDomain certified text certificate d own is means refuse
     never e = cc
 
 -- the domain that was read is the one that it means
-pub HaveSameFacts-from_MeansDomain : (certified : Bool) (text : List ℕ) (certificate own : Option (List ℕ))
+same_domain-from_MeansDomain : (certified : Bool) (text : List ℕ) (certificate own : Option (List ℕ))
     (d read : DomainValue) → is_some certificate ≡ certified → is_some own ≡ certified
-    → MeansDomain text certificate d → MeansDomainAsListed text own read
-    → HaveSameFacts d read × (own ≡ certificate)
-HaveSameFacts-from_MeansDomain certified text certificate own d read is own_is means listed =
-    let one = MeansDomain-unique text own certificate listed.whole d (is ∙ sym own_is) listed.means means in
-    (subst (λ e. HaveSameFacts e read) one.0 listed.same, one.1)
+    → MeansDomain text certificate d → MeansDomain text own read → (read ≡ d) × (own ≡ certificate)
+same_domain-from_MeansDomain certified text certificate own d read is own_is means remaining =
+    MeansDomain-unique text own certificate read d (is ∙ sym own_is) remaining means
 
 -- ---- the answer
 
 module _ {X : Type 0} (d : X → DomainValue) (cert : X → Option (List ℕ)) (certified : Bool)
     (s : PartsState) (start : s.stage ≡ stages.Start) where
-  pub MeansDomainAsListed-from_result : (o : Option (List ℕ)) (r : Result X SourceFault) → s.remaining ≡ o
+  pub MeansDomain-from_result : (o : Option (List ℕ)) (r : Result X SourceFault) → s.remaining ≡ o
       → IfOk r (λ x. IsDomain (d x))
       → IfOk r (λ x. (text : List ℕ) → s.remaining ≡ Some text → ReadsDomain s text certified (d x) (cert x))
-      → IfOk r (λ x. IfSome o (λ text. MeansDomainAsListed text (cert x) (d x)))
-  MeansDomainAsListed-from_result None (Ok x) remaining rules read = tt
-  MeansDomainAsListed-from_result (Some text) (Ok x) remaining rules read =
-      MeansDomainAsListed-from_ReadsDomain certified s text (d x) (cert x) start rules (read text remaining)
-  MeansDomainAsListed-from_result o (Err fault) remaining rules read = tt
+      → IfOk r (λ x. IfSome o (λ text. MeansDomain text (cert x) (d x)))
+  MeansDomain-from_result None (Ok x) remaining rules read = tt
+  MeansDomain-from_result (Some text) (Ok x) remaining rules read =
+      MeansDomain-from_ReadsDomain certified s text (d x) (cert x) start rules (read text remaining)
+  MeansDomain-from_result o (Err fault) remaining rules read = tt
 
-  pub HaveSameFacts-from_result : (r : Result X SourceFault) (text : List ℕ) (certificate : Option (List ℕ))
+  pub same_domain-from_result : (r : Result X SourceFault) (text : List ℕ) (certificate : Option (List ℕ))
       (domain : DomainValue) → s.remaining ≡ Some text → is_some certificate ≡ certified
       → MeansDomain text certificate domain → IfOk r (λ x. IsDomain (d x))
       → IfOk r (λ x. is_some (cert x) ≡ certified)
       → IfOk r (λ x. (text : List ℕ) → s.remaining ≡ Some text → ReadsDomain s text certified (d x) (cert x))
       → IfErr r (IsFaultOf s (read_all_parts certified))
-      → MatchResult r (λ x. HaveSameFacts domain (d x) × (cert x ≡ certificate)) IsReadOrMemory
-  HaveSameFacts-from_result (Ok x) text certificate domain remaining is means rules own read refused =
-      HaveSameFacts-from_MeansDomain certified text certificate (cert x) domain (d x) is own means
-      (MeansDomainAsListed-from_ReadsDomain certified s text (d x) (cert x) start rules (read text remaining))
-  HaveSameFacts-from_result (Err fault) text certificate domain remaining is means rules own read refused =
+      → MatchResult r (λ x. (d x ≡ domain) × (cert x ≡ certificate)) IsReadOrMemory
+  same_domain-from_result (Ok x) text certificate domain remaining is means rules own read refused =
+      same_domain-from_MeansDomain certified text certificate (cert x) domain (d x) is own means
+      (MeansDomain-from_ReadsDomain certified s text (d x) (cert x) start rules (read text remaining))
+  same_domain-from_result (Err fault) text certificate domain remaining is means rules own read refused =
       IsReadOrMemory-from_MeansDomain certified text certificate domain fault is means
       (input_of_bundle-Err certified s text fault start remaining refused)
 

@@ -73,9 +73,10 @@ same_domain-from_IsAssembled : (v : InputValue) (d e : DomainValue) → IsDomain
     → IsAssembled v.topology v.tables v.reports e → d ≡ e
 same_domain-from_IsAssembled v d e ok_d ok_e count is_d is_e =
     let topology : d.topology ≡ e.topology = is_d.topology ∙ sym is_e.topology in
-    let tables : d.tables ≡ e.tables = is_d.tables ∙ sym is_e.tables in
+    let vifs : d.vifs ≡ e.vifs = is_d.vifs ∙ sym is_e.vifs in
+    let rows : d.rows ≡ e.rows = is_d.rows ∙ sym is_e.rows in
     let wants : d.wants ≡ e.wants = same_wants-from_IsAssembled v v.tables d e ok_d ok_e count is_d is_e in
-    λ i. record { topology = topology i; tables = tables i; wants = wants i }
+    λ i. record { topology = topology i; vifs = vifs i; rows = rows i; wants = wants i }
 
 -- the domains of two inputs that are the same
 same_domain-from_same_inputs : (v w : InputValue) (c : Option (List ℕ)) (parts : List PartText) (d e : DomainValue)

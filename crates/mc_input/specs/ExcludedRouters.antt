@@ -123,7 +123,7 @@ is_possible_for_files_without (NoSuchRouter n) = true
 
 -- The router has no vif, so none is placed on a LAN, and no row for any flow.
 pub record HasNoVifOrRow (d : DomainValue) (router : ℕ) : Type 0 where
-  pub vifs : (vif : ℕ) → vif_of d.tables router vif ≡ None
+  pub vifs : (vif : ℕ) → vif_of d.vifs router vif ≡ None
   pub placed : (vif : ℕ) → placed_of d router vif ≡ None
   pub rows : (flow : ℕ) → row_of d flow router ≡ NoRow
 

@@ -4,9 +4,11 @@ use Rattle.mc_igmp.specs.declared.record.Record.{Record}
 use Rattle.mc_files.specs.Files.{FileText}
 use Rattle.mc_topology.specs.Topology.{TopologyValue}
 use Rattle.mc_topology.specs.declared.flow.Flow.{Flow}
-use Rattle.mc_forward.specs.Assembling.{AreChannelsWanted, AreWanted}
-use Rattle.mc_forward.specs.Domains.{DomainValue, TablesValue}
-use Rattle.mc_forward.specs.ListedTables.{AreListedPartsOfTables, Pairwise, flow_pairs}
+use Rattle.mc_theory.specs.Nets.{Row}
+use Rattle.mc_forward.specs.Assembling.{AreChannelsWanted, AreWanted, rows_by_tables, vifs_by_tables}
+use Rattle.mc_forward.specs.Domains.{DomainValue, VifsValue}
+use Rattle.mc_forward.specs.ListedTables.{Pairwise, flow_pairs}
+use Rattle.mc_forward.specs.RouterTables.{RouterTablesValue}
 use Rattle.mc_input.specs.Input.{InputValue}
 use Rattle.mc_input.specs.SourceFault.{IsReadOrMemory}
 use Rattle.mc_input.specs.declared.source_fault.SourceFault.{SourceFault}
@@ -27,20 +29,21 @@ AreWantedBy t reports wants = Pairwise (AreWanted t.flows) reports wants
 abbrev pub AreWantsOf : (channels : List (ℕ × ℕ)) → List Bool → List Record → Type 0
 AreWantsOf channels wants records = AreChannelsWanted channels records wants
 
--- This is kept of an input: its tables' rows for the flows, and which LAN wants which flow.
-pub record AreListedContents (input : InputValue) (t : TopologyValue) (tables : List TablesValue)
-    (wants : List (List Bool)) : Type 0 where
+-- This is kept of an input: the routers' vifs, their rows for the flows, and which LAN wants which flow.
+pub record AreKeptContents (input : InputValue) (t : TopologyValue) (vifs : List VifsValue)
+    (rows : List (List Row)) (wants : List (List Bool)) : Type 0 where
   pub topology : input.topology ≡ t
-  pub listed : AreListedPartsOfTables t.flows tables input.tables
+  pub vifs_kept : vifs ≡ vifs_by_tables input.tables
+  pub rows_kept : rows ≡ rows_by_tables t.flows input.tables
   pub wanted : AreWantedBy t input.reports wants
 
 -- the same, with the input last
-abbrev pub AreContentsOf : TopologyValue → List TablesValue → List (List Bool) → InputValue → Type 0
-AreContentsOf t tables wants input = AreListedContents input t tables wants
+abbrev pub AreContentsOf : TopologyValue → RouterTablesValue → List (List Bool) → InputValue → Type 0
+AreContentsOf t tables wants input = AreKeptContents input t tables.vifs tables.rows wants
 
 -- the domain consists of what is kept of the input
 abbrev pub IsDomainOf : DomainValue → InputValue → Type 0
-IsDomainOf d input = AreListedContents input d.topology d.tables d.wants
+IsDomainOf d input = AreKeptContents input d.topology d.vifs d.rows d.wants
 
 -- the input was read, and the domain consists of what is kept of it
 abbrev pub IsDomainRead : Result InputValue SourceFault → DomainValue → Type 0

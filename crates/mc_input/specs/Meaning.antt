@@ -3,7 +3,6 @@ use Rattle.std.specs.Prelude.{ℕ, List, Option, None}
 use Rattle.mc_files.specs.Files.{FileText}
 use Rattle.mc_forward.specs.Assembling.{IsAssembled}
 use Rattle.mc_forward.specs.Domains.{DomainValue, IsDomain}
-use Rattle.mc_forward.specs.ListedTables.{HaveSameFacts}
 use Rattle.mc_input.specs.FilesInput.{FilesDenoteInput}
 use Rattle.mc_input.specs.Input.{InputValue, DenotesInput}
 
@@ -26,21 +25,6 @@ MeansUncertifiedDomain text d = MeansDomain text None d
 -- the files mean the domain
 abbrev pub FilesMeanDomain : List FileText → DomainValue → Type 0
 FilesMeanDomain = Means FilesDenoteInput
-
--- It means a domain that has the same facts per flow as this one.
-pub record MeansSamePerFlow {X : Type 0} (Means : X → DomainValue → Type 0) (x : X) (d : DomainValue)
-    : Type 0 where
-  pub whole : DomainValue
-  pub means : Means x whole
-  pub same : HaveSameFacts whole d
-
--- the bundle, with this text of a certificate or none, means a domain with the same facts per flow
-abbrev pub MeansDomainAsListed : List ℕ → (certificate : Option (List ℕ)) → DomainValue → Type 0
-MeansDomainAsListed text certificate d = MeansSamePerFlow (λ t e. MeansDomain t certificate e) text d
-
--- the files mean a domain with the same facts per flow
-abbrev pub FilesMeanDomainAsListed : List FileText → DomainValue → Type 0
-FilesMeanDomainAsListed = MeansSamePerFlow FilesMeanDomain
 
 -- It means a domain for which the property holds.
 pub record MeansDomainWhere {X D : Type 0} (Means : X → D → Type 0) (Holds : D → Type 0) (x : X) : Type 0

@@ -16,11 +16,12 @@ use Rattle.mc_topology.specs.SectionRows.{RouterRow}
 use Rattle.mc_topology.specs.Topology.{TopologyValue}
 use Rattle.mc_files.specs.Layout.{Slot, part_name, slots, topology_slot}
 use Rattle.mc_forward.specs.Domains.{DomainValue, TablesValue}
-use Rattle.mc_forward.specs.ListedTables.{AreListedPartsOfTables, IsListedPartOfTables}
+use Rattle.mc_forward.specs.ListedTables.{IsListedPartOfTables}
+use Rattle.mc_forward.specs.RouterTables.{RouterTablesValue, kept_of_tables}
 use Rattle.mc_input.specs.Input.{InputValue}
 use Rattle.mc_input.specs.InputReading.{named, part_at}
 use Rattle.mc_input.specs.InputView.{input_with}
-use Rattle.mc_input.specs.Kept.{AreListedContents, AreWantedBy, IsDomainOf}
+use Rattle.mc_input.specs.Kept.{AreContentsOf, AreWantedBy, IsDomainOf}
 use Rattle.mc_input.specs.PartsReading.{topology_of, vifs_of, cache_of, reports_of, first_lan_number}
 use Rattle.mc_input.specs.SourceFault.{IsReadOrMemory}
 use Rattle.mc_input.specs.declared.fault.InputFault.{InputFault}
@@ -227,12 +228,12 @@ ReadsTables old new certified t router tables =
     read_rest old text (read_from_router certified t router before)
     ≡ read_rest new later (read_from_router certified t (router + 1) (before ++ whole ∷ [])))
 
--- The parts of all routers' tables were read, and these tables are kept of them.
+-- The parts of all routers' tables were read, and this is kept of them.
 abbrev pub ReadsAllTables : PartsState → List ℕ → PartsState → (certified : Bool)
-    → TopologyValue → List TablesValue → Type 0
+    → TopologyValue → RouterTablesValue → Type 0
 ReadsAllTables old text new certified t tables =
     (later : List ℕ) × (wholes : List TablesValue) × (new.remaining ≡ Some later)
-    × AreListedPartsOfTables t.flows tables wholes
+    × (tables ≡ kept_of_tables t.flows wholes)
     × (read_rest old text (read_after_topology certified t)
     ≡ read_rest new later (read_from_reports certified t wholes))
 
@@ -253,11 +254,11 @@ ReadsCertificate state certified t certificate =
     read_rest state text (read_from_certificate certified t input) ≡ Ok (input, certificate)
 
 -- All parts after the topology's were read, and this is kept of them, with this text of a certificate.
-abbrev pub ReadsContents : PartsState → (certified : Bool) → TopologyValue → List TablesValue
+abbrev pub ReadsContents : PartsState → (certified : Bool) → TopologyValue → RouterTablesValue
     → List (List Bool) → Option (List ℕ) → Type 0
 ReadsContents state certified t tables wants certificate =
     (text : List ℕ) → state.remaining ≡ Some text →
-    (input : InputValue) × AreListedContents input t tables wants
+    (input : InputValue) × AreContentsOf t tables wants input
     × (read_rest state text (read_after_topology certified t) ≡ Ok (input, certificate))
 
 -- All parts were read: the domain is what is kept of the input, and the certificate has this text.

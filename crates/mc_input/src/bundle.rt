@@ -6,6 +6,7 @@ ghost use Rattle.mc_text.specs.Device.{failures_after};
 ghost use Rattle.mc_text.specs.RestOfBundle.{Advances};
 ghost use Rattle.mc_forward.specs.Assembling.{AreAnswers};
 ghost use Rattle.mc_forward.specs.Domains.{TablesValue};
+ghost use Rattle.mc_forward.specs.RouterTables.{AreTablesFor};
 ghost use Rattle.mc_input.specs.Input.{InputValue};
 ghost use Rattle.mc_input.specs.InputView.{certificate_text};
 ghost use Rattle.mc_input.specs.Kept.{AreFlowPairs};
@@ -20,7 +21,7 @@ use crate::part_result::listed_pairs;
 use crate::slot_part::check_names_to_end;
 use crate::source_fault::SourceFault;
 use mc_files::slot_count;
-use mc_forward::{FlowChannels, Items, Tables};
+use mc_forward::{FlowChannels, Items, RouterTables, Tables};
 use mc_tables::{CacheReader, ListedPairs};
 use mc_text::{Input, Parts};
 use mc_topology::{RouterNo, Topology};
@@ -29,8 +30,8 @@ use std::alloc::Global;
 /// What is kept of the parts after the topology.
 #[derive(Drop)]
 pub(crate) struct BundleContents {
-    /// Each router's vifs, and the rows of its cache for the flows.
-    pub(crate) tables: Vec<Tables>,
+    /// Each router's vifs, and its rows for the flows.
+    pub(crate) tables: RouterTables,
     /// For each LAN, which flows it wants.
     pub(crate) wants: Vec<Items<bool>>,
     /// The text of the certificate, if one was asked for.
@@ -67,27 +68,28 @@ fn tables_of<R: Input>(
     Ok(Tables { vifs, cache })
 }
 
-/// Reads the tables of each router.
+/// Reads the tables of each router, of which what the flows need is kept.
 fn read_tables<R: Input>(
     alloc: Global,
     parts: &mut Parts<R>,
     buffer: &mut [u8],
     topology: &Topology,
     certified: bool,
-) -> Result<Vec<Tables>, SourceFault>
+) -> Result<RouterTables, SourceFault>
     requires room { 0 < length buffer.old }
     requires failures { parts.old.failed < u64.MAX }
     ensures tables { IfOk result (λ tables. (text : List ℕ) → parts.old.remaining ≡ Some text →
-        ReadsAllTables parts.old text parts.new certified topology.now tables.items) }
-    ensures count { IfOk result (λ tables. length tables.items ≡ length topology.now.routers) }
+        ReadsAllTables parts.old text parts.new certified topology.now tables) }
+    ensures counts { IfOk result (AreTablesFor topology.now) }
     ensures fault { IfErr result (IsFaultOf parts.old (read_after_topology certified topology.now)) }
     ensures advances { Advances parts.old parts.new }
     ensures failures { parts.new.failed ≡ failures_after is_read result parts.old.failed }
 {
     let listed = listed_pairs(alloc, topology)?;
-    let mut tables = Vec::new(alloc);
+    let mut tables = RouterTables::new(alloc, topology)?;
     for router in 0..topology.routers() {
-        tables.push(tables_of(alloc, parts, buffer, topology, certified, &listed, router)?)?;
+        let own = tables_of(alloc, parts, buffer, topology, certified, &listed, router)?;
+        tables.add(alloc, topology, own)?;
     }
     Ok(tables)
 }
@@ -168,8 +170,8 @@ pub(crate) fn read_contents<R: Input>(
     requires room { 0 < length buffer.old }
     requires failures { parts.old.failed < u64.MAX }
     ensures read { IfOk result (λ listed. ReadsContents parts.old certified topology.now
-        listed.tables.items listed.wants.items (certificate_text listed.certificate)) }
-    ensures count { IfOk result (λ listed. length listed.tables.items ≡ length topology.now.routers) }
+        listed.tables listed.wants.items (certificate_text listed.certificate)) }
+    ensures counts { IfOk result (λ listed. AreTablesFor topology.now listed.tables) }
     ensures answers { IfOk result (λ listed. AreAnswers topology.now listed.wants.items) }
     ensures certified { IfOk result (λ listed. is_some listed.certificate ≡ certified) }
     ensures fault { IfErr result (IsFaultOf parts.old (read_after_topology certified topology.now)) }

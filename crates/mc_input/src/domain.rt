@@ -16,7 +16,7 @@ ghost use Rattle.mc_input.specs.Kept.{GivesKeptFromContents, IsDomainOf, IsDomai
 ghost use Rattle.mc_input.specs.ExcludedRouters.{AreRouterNames, IsReadOrMemoryWithout, files_without};
 ghost use Rattle.mc_input.specs.ExcludedRouters.{input_of_files_without, input_of_other_files};
 ghost use Rattle.mc_input.specs.ExcludedRouters.{is_possible_for_files_without, is_read_without, names_of};
-ghost use Rattle.mc_input.specs.Meaning.{FilesMeanDomainAsListed, MeansDomainAsListed};
+ghost use Rattle.mc_input.specs.Meaning.{FilesMeanDomain, MeansDomain};
 ghost use Rattle.mc_input.specs.ReadAsMeant.{AreFilesReadAsMeant, IsBundleReadAsMeant};
 ghost use Rattle.mc_input.specs.SummariesOfFiles.{AreSummariesOf};
 ghost use Rattle.mc_input.specs.PartsOneByOne.{ReadsDomain, IsFaultOf, read_all_parts};
@@ -87,7 +87,7 @@ fn read_with_buffer<R: Input>(
     requires failures { R.failed input.old < u64.MAX }
     ensures same { R.borrows input.new ≡ R.borrows input.old }
     ensures means { IfOk result (λ read. IfSome (R.remaining input.old) (λ text.
-        MeansDomainAsListed text (certificate_text read.certificate) read.domain)) }
+        MeansDomain text (certificate_text read.certificate) read.domain)) }
     ensures certified { IfOk result (λ read. is_some read.certificate ≡ certified) }
     ensures rules { IfOk result (λ read. IsDomain read.domain) }
     ensures only { IsBundleReadAsMeant (R.remaining input.old) certified (λ read. read.domain)
@@ -122,9 +122,9 @@ pub fn read_bundle_domain<R: Input>(
 ) -> Result<BundleDomain, SourceFault>
     requires failures { R.failed input.old < u64.MAX }
     ensures same { R.borrows input.new ≡ R.borrows input.old }
-    // The bundle means a domain with this certificate, and the result has the same facts per flow.
+    // The bundle means the domain, with this certificate.
     ensures means { IfOk result (λ read. IfSome (R.remaining input.old) (λ text.
-        MeansDomainAsListed text (certificate_text read.certificate) read.domain)) }
+        MeansDomain text (certificate_text read.certificate) read.domain)) }
     // It has the text of a certificate exactly where one was asked for.
     ensures certified { IfOk result (λ read. is_some read.certificate ≡ certified) }
     ensures rules { IfOk result (λ read. IsDomain read.domain) }
@@ -233,9 +233,9 @@ pub fn read_folder_domain<F: PieceSource>(
     requires failures { F.failed files.old < u64.MAX }
     ensures same { F.borrows files.new ≡ F.borrows files.old }
     ensures kept { F.contents files.new ≡ F.contents files.old }
-    // With the routers excluded the files mean a domain, and the result has the same facts per flow.
+    // With the routers excluded the files mean the domain.
     ensures means { IfOk result (λ read. IfSome (F.contents files.old) (λ contents.
-        FilesMeanDomainAsListed (files_without without.now contents) read.domain)) }
+        FilesMeanDomain (files_without without.now contents) read.domain)) }
     // Each of the names is that of a router.
     ensures routers { IfOk result (λ read. AreRouterNames read.domain.topology (names_of without.now)) }
     ensures rules { IfOk result (λ read. IsDomain read.domain) }

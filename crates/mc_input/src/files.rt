@@ -6,7 +6,7 @@ ghost use Rattle.std.specs.Prelude.{◌≡◌, ◌<◌, List, IfErr, IfOk, IsTru
 ghost use Rattle.mc_text.specs.Device.{failures_after};
 ghost use Rattle.mc_topology.specs.Names.{is_name};
 ghost use Rattle.mc_forward.specs.Assembling.{AreAnswers};
-ghost use Rattle.mc_forward.specs.ListedTables.{AreListedPartsOfTables};
+ghost use Rattle.mc_forward.specs.RouterTables.{AreTablesFor, kept_of_tables};
 ghost use Rattle.mc_files.specs.Files.{FileText};
 ghost use Rattle.mc_input.specs.SourceFault.{is_possible_for_files, is_read};
 ghost use Rattle.mc_input.specs.FilesKept.{KeepsRouterTables, SummarizesRouter};
@@ -20,7 +20,7 @@ use crate::file_part::{cache_in, vifs_in, wanted_in};
 use crate::part_result::summary_pairs;
 use crate::source_fault::SourceFault;
 use mc_files::PieceSource;
-use mc_forward::{FlowChannels, Items, Tables};
+use mc_forward::{FlowChannels, Items, RouterTables, Tables};
 use mc_tables::{CacheSummary, SummaryPairs};
 use mc_text::Order;
 use mc_topology::{LanNo, RouterNo, Topology};
@@ -29,8 +29,8 @@ use std::alloc::Global;
 /// What is kept of the files after the topology.
 #[derive(Drop)]
 pub(crate) struct FolderContents {
-    /// Each router's vifs, and the rows of its cache for the flows.
-    pub(crate) tables: Vec<Tables>,
+    /// Each router's vifs, and its rows for the flows.
+    pub(crate) tables: RouterTables,
     /// The summary of each router's cache.
     pub(crate) summary: Vec<CacheSummary>,
     /// For each LAN, which flows it wants.
@@ -94,7 +94,7 @@ fn tables_unless_excluded<F: PieceSource>(
     tables_of(alloc, files, buffer, listed, router, order, all)
 }
 
-/// Reads the tables of each router, and the summary of its cache.
+/// Reads the tables of each router, of which what the flows need is kept, and the summary of its cache.
 fn read_tables<F: PieceSource>(
     alloc: Global,
     files: &mut F,
@@ -102,29 +102,29 @@ fn read_tables<F: PieceSource>(
     topology: &Topology,
     without: &[&str],
     all: bool,
-) -> Result<(Vec<Tables>, Vec<CacheSummary>), SourceFault>
+) -> Result<(RouterTables, Vec<CacheSummary>), SourceFault>
     requires room { 0 < length buffer.old }
     requires reads { F.failed files.old < u64.MAX }
     ensures same { F.borrows files.new ≡ F.borrows files.old }
     ensures kept { F.contents files.new ≡ F.contents files.old }
     ensures tables { GivesKeptFromContents (F.contents files.old)
-        (λ read. AreListedPartsOfTables topology.now.flows read.0.items) result
+        (λ read wholes. read.0 ≡ kept_of_tables topology.now.flows wholes) result
         (λ contents. read_all_tables topology.now (files_without without.now contents)) }
     ensures summary { (contents : List FileText) → F.contents files.old ≡ Some contents →
         IfOk result (λ read.
         AreSummariesOf all (files_without without.now contents) topology.now read.1.items) }
-    ensures count { IfOk result (λ read. length read.0.items ≡ length topology.now.routers) }
+    ensures counts { IfOk result (λ read. AreTablesFor topology.now read.0) }
     ensures faults { IfErr result (λ fault. is_possible_for_files fault ≡ true) }
     ensures failures { F.failed files.new ≡ failures_after is_read result (F.failed files.old) }
 {
     let listed = summary_pairs(alloc, topology)?;
-    let mut tables = Vec::new(alloc);
+    let mut tables = RouterTables::new(alloc, topology)?;
     let mut summary = Vec::new(alloc);
     for router in 0..topology.routers() {
         let name = topology.router_name(RouterNo(router));
         let order = topology.order(RouterNo(router));
         let own = tables_unless_excluded(alloc, files, buffer, &listed, name, order, without, all)?;
-        tables.push(own.0)?;
+        tables.add(alloc, topology, own.0)?;
         summary.push(own.1)?;
     }
     Ok((tables, summary))
@@ -171,13 +171,12 @@ pub(crate) fn read_contents<F: PieceSource>(
     ensures same { F.borrows files.new ≡ F.borrows files.old }
     ensures kept { F.contents files.new ≡ F.contents files.old }
     ensures read { GivesKeptFromContents (F.contents files.old)
-        (λ listed. AreContentsOf topology.now listed.tables.items listed.wants.items) result
+        (λ listed. AreContentsOf topology.now listed.tables listed.wants.items) result
         (input_of_other_files topology.now (names_of without.now)) }
     ensures summary { (contents : List FileText) → F.contents files.old ≡ Some contents →
         IfOk result (λ listed.
         AreSummariesOf all (files_without without.now contents) topology.now listed.summary.items) }
-    ensures count { IfOk result (λ listed.
-        length listed.tables.items ≡ length topology.now.routers) }
+    ensures counts { IfOk result (λ listed. AreTablesFor topology.now listed.tables) }
     ensures answers { IfOk result (λ listed. AreAnswers topology.now listed.wants.items) }
     ensures faults { IfErr result (λ fault. is_possible_for_files fault ≡ true) }
     ensures failures { F.failed files.new ≡ failures_after is_read result (F.failed files.old) }

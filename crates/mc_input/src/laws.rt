@@ -11,7 +11,7 @@ ghost use Rattle.mc_input.specs.FilesInput.{FilesDenoteInput};
 ghost use Rattle.mc_input.specs.Input.{InputValue, DenotesInput};
 ghost use Rattle.mc_input.specs.ExcludedRouters.{ExcludesRoutersPerFlow, HasExcludedName, HasNoVifOrRow};
 ghost use Rattle.mc_input.specs.Meaning.{FilesMeanDomain};
-ghost use Rattle.mc_input.specs.ReadAsMeant.{FilesMeanDomainAsListedWithout, FilesMeanDomainWithout};
+ghost use Rattle.mc_input.specs.ReadAsMeant.{FilesMeanDomainWithout};
 ghost use Rattle.mc_input.specs.SummariesOfFiles.{AreSummariesOf};
 
 /// The text of a bundle denotes at most one input and one certificate, among those with a certificate
@@ -48,7 +48,7 @@ pub fn packed_bundle_denotes_input_of_files()
 /// no row.
 pub fn excluded_routers_have_no_vif_or_row()
     ensures { (names : List (List ℕ)) (files : List FileText) (d : DomainValue) (router : ℕ)
-        → FilesMeanDomainAsListedWithout names files d → HasExcludedName names d.topology router
+        → FilesMeanDomainWithout names files d → HasExcludedName names d.topology router
         → HasNoVifOrRow d router }
 {}
 

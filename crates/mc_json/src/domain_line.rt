@@ -63,7 +63,7 @@ fn push_vif(
 ) -> Result<(), AllocError>
     requires known { router < length domain.now.topology.routers }
     ensures added { OnOk result (map data_of values.new.items ≡ map data_of values.old.items
-        ++ vif_data (facts domain.now) router vif (vif_of domain.now.tables router vif)) }
+        ++ vif_data (facts domain.now) router vif (vif_of domain.now.vifs router vif)) }
 {
     let topology = domain.topology();
     let Some(line) = domain.vif(router, vif) else {

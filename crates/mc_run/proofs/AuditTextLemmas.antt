@@ -6,10 +6,10 @@ use Rattle.mc_files.specs.Files.{FileText}
 use Rattle.mc_tables.specs.Summary.{SummaryValue}
 use Rattle.mc_topology.specs.Topology.{TopologyValue}
 use Rattle.mc_forward.specs.Domains.{DomainValue}
-use Rattle.mc_forward.specs.ListedTables.{HaveSameFacts, facts}
+use Rattle.mc_forward.specs.ListedTables.{facts}
 use Rattle.mc_cert.specs.Certificate.{Tree}
 use Rattle.mc_input.specs.ExcludedRouters.{AreRouterNames, files_with_exclusions}
-use Rattle.mc_input.specs.Meaning.{FilesMeanDomainAsListed, MeansDomainWhere}
+use Rattle.mc_input.specs.Meaning.{FilesMeanDomain, MeansDomainWhere}
 use Rattle.mc_input.specs.SummariesOfFiles.{AreSummariesOf}
 use Rattle.mc_run.specs.AuditEnd.{are_right, begin_lines, count as count_of, end_text_or_objects, is_right}
 use Rattle.mc_run.specs.AuditEnd.{is_unwanted, is_wrong, verdict_line}
@@ -83,29 +83,18 @@ is_audited-all_pushed v o s printed marks count every begin lines text same size
 -- what holds of the domain that was read, with its summaries, holds of the one that the files mean
 pub of_domain-means_audited : (Holds : AuditedValue → Type 0) (o : AuditOptions) (names : List (List ℕ))
     (contents : Option (List FileText)) (d : DomainValue) (summary : List SummaryValue)
-    → ((whole : DomainValue) → HaveSameFacts whole d
-    → Holds (record { domain = d; summary = summary; without = names })
-    → Holds (record { domain = whole; summary = summary; without = names }))
-    → IfSome contents (λ files. FilesMeanDomainAsListed (files_with_exclusions names files) d)
+    → IfSome contents (λ files. FilesMeanDomain (files_with_exclusions names files) d)
     → AreRouterNames d.topology names
     → IfSome contents (λ files. AreSummariesOf o.unlisted (files_with_exclusions names files)
     d.topology summary)
     → Holds (record { domain = d; summary = summary; without = names })
     → IfSome contents (MeansDomainWhere (MeansAudited o names) Holds)
-of_domain-means_audited Holds o names None d summary moves means routers audited_value holds = tt
-of_domain-means_audited Holds o names (Some files) d summary moves means routers audited_value holds
-    = record {
-      domain = record { domain = means.whole; summary = summary; without = names };
-      means = record {
-        means = means.means;
-        routers = subst (λ (t : TopologyValue). AreRouterNames t names) (sym means.same.topology) routers;
-        summary = subst (λ (t : TopologyValue).
-            AreSummariesOf o.unlisted (files_with_exclusions names files) t summary)
-            (sym means.same.topology) audited_value;
-        without = refl;
-      };
-      holds = moves means.whole means.same holds;
-    }
+of_domain-means_audited Holds o names None d summary means routers summarized holds = tt
+of_domain-means_audited Holds o names (Some files) d summary means routers summarized holds = record {
+  domain = record { domain = d; summary = summary; without = names };
+  means = record { means = means; routers = routers; summary = summarized; without = refl };
+  holds = holds;
+}
 
 -- ---- the answer, with the number of unwanted flows
 

@@ -21,8 +21,8 @@ use Rattle.mc_check.specs.Verdicts.{NoGivesFirstReason}
 use Rattle.mc_check.specs.Verdicts.{YesKeepsHeadline}
 use Rattle.mc_check.specs.declared.verdict.Verdict.{Verdict}
 use Rattle.mc_check.specs.declared.verdict.Verdict.TheVariants.{Yes, No}
-use Rattle.mc_input.specs.Meaning.{MeansDomain, MeansDomainAsListed}
-use Rattle.mc_run.specs.InputMeaning.{HasBadCertificate, IsRefusedFor, MeansListedWith}
+use Rattle.mc_input.specs.Meaning.{MeansDomain}
+use Rattle.mc_run.specs.InputMeaning.{HasBadCertificate, IsRefusedFor, MeansCertified}
 use Rattle.mc_run.specs.CheckRun.{IsTextOfVerdicts, KeepsHeadline}
 use Rattle.mc_run.specs.RunFault.{from_cert_fault, of_certificate_kind}
 use Rattle.mc_run.specs.VerdictText.{IsVerdict, AreVerdicts, are_yes, check_text}
@@ -45,33 +45,25 @@ is_refused_for-cert_fault_kind text f kinds.Memory is bad = tt
 
 -- a certificate that is refused, or for which memory ran out
 pub is_refused_for-cert_fault : (text read : List ℕ) (o : Option (List ℕ)) (d : DomainValue)
-    (t : TopologyValue) (f : CertFault) → MeansDomainAsListed text o d → o ≡ Some read → t ≡ d.topology
+    (t : TopologyValue) (f : CertFault) → MeansDomain text o d → o ≡ Some read → t ≡ d.topology
     → (f ≢ out_of_memory → parse_certificate t read ≡ Err f) → IsRefusedFor true text (from_cert_fault f)
 is_refused_for-cert_fault text read o d t f means there same refused =
-    let domain : MeansDomain text (Some read) means.whole =
-    subst (λ (c : Option (List ℕ)). MeansDomain text c means.whole) there means.means in
     is_refused_for-cert_fault_kind text f f.kind refl (λ other. (
       read,
-      means.whole,
-      domain,
-      subst (λ (x : TopologyValue). parse_certificate x read ≡ Err f) (same ∙ sym means.same.topology)
-          (refused other),
+      d,
+      subst (λ (c : Option (List ℕ)). MeansDomain text c d) there means,
+      subst (λ (x : TopologyValue). parse_certificate x read ≡ Err f) same (refused other),
     ))
 
 -- a certificate that is read
-pub means_listed_with-denoted_lists : (text read : List ℕ) (o : Option (List ℕ)) (d : DomainValue)
-    (t : TopologyValue) (lists : List Tree) → MeansDomainAsListed text o d → o ≡ Some read → t ≡ d.topology
-    → DenotesCertificate t read lists → MeansListedWith text d lists
-means_listed_with-denoted_lists text read o d t lists means there same denotes = (
-  means.whole,
-  record {
-    certificate = read;
-    domain = subst (λ (c : Option (List ℕ)). MeansDomain text c means.whole) there means.means;
-    lists_denoted = subst (λ (x : TopologyValue). DenotesCertificate x read lists)
-        (same ∙ sym means.same.topology) denotes;
-  },
-  means.same,
-)
+pub means_certified-denoted_lists : (text read : List ℕ) (o : Option (List ℕ)) (d : DomainValue)
+    (t : TopologyValue) (lists : List Tree) → MeansDomain text o d → o ≡ Some read → t ≡ d.topology
+    → DenotesCertificate t read lists → MeansCertified text d lists
+means_certified-denoted_lists text read o d t lists means there same denotes = record {
+  certificate = read;
+  domain = subst (λ (c : Option (List ℕ)). MeansDomain text c d) there means;
+  lists_denoted = subst (λ (x : TopologyValue). DenotesCertificate x read lists) same denotes;
+}
 
 -- the LANs of a certificate's entries are the topology's
 pub certificate_lans-of_topology : (t : TopologyValue) (lists : List Tree) → BelongsTo t lists

@@ -18,7 +18,6 @@ pub mod ExplanationLemmas
 mod RefusalTextLemmas
 pub mod ReplayLemmas
 pub mod RunLemmas
-pub mod SameFactsLemmas
 pub mod CheckTextLemmas
 pub mod VerdictLines
 pub mod WantsLemmas

@@ -10,11 +10,10 @@ use Rattle.mc_replay.specs.Travels.{IsRunOfChoices, replay_of}
 use Rattle.mc_replay.specs.declared.travel.Travel.{Travel}
 use Rattle.mc_run.specs.declared.run_output.RunOutput.{RunOutput}
 use Rattle.mc_run.specs.declared.fault.RunFault.{RunFault}
-use Rattle.mc_input.specs.Meaning.{MeansDomainAsListed}
+use Rattle.mc_input.specs.Meaning.{MeansUncertifiedDomain}
 use Rattle.mc_run.specs.Failures.{IsNoDeviceFault}
 use Rattle.mc_run.specs.ReplayRun.{HasNoTravel, IsReplayRefused, IsTextOfTravel, is_clean}
 use Rattle.mc_run.specs.ReplayRun.{replay_text}
-use Rattle.mc_run.proofs.SameFactsLemmas.{has_no_flow-same_domain}
 
 -- the text of a travel through a domain
 pub is_text_of_travel-replayed : (d : DomainValue) (flow ttl : ℕ) (choices : Choices) (place : ℕ)
@@ -37,7 +36,7 @@ is_text_of_travel-replayed d flow ttl choices place t f travel clean written cou
 
 -- the domain's topology lists no such flow, or memory ran out
 pub is_replay_refused-no_travel : (contents : Option (List ℕ)) (flow : ℕ) (d : DomainValue)
-    (r : Result RunOutput RunFault) → IfSome contents (λ text. MeansDomainAsListed text None d)
+    (r : Result RunOutput RunFault) → IfSome contents (λ text. MeansUncertifiedDomain text d)
     → IfErr r (HasNoTravel d flow) → IfErr r (λ f. IfSome contents (λ text. IsReplayRefused flow text f))
 is_replay_refused-no_travel contents flow d (Ok run_output) means is = tt
 is_replay_refused-no_travel None flow d (Err f) means is = tt
@@ -45,9 +44,9 @@ is_replay_refused-no_travel (Some text) flow d (Err f) means (inl is) =
     rw (is.0) (
       refl,
       record {
-        domain = means.whole;
-        means = means.means;
-        holds = has_no_flow-same_domain means.same flow is.1;
+        domain = d;
+        means = means;
+        holds = is.1;
       },
     )
 is_replay_refused-no_travel (Some text) flow d (Err f) means (inr is) = rw is tt

@@ -9,7 +9,6 @@ use Rattle.std.specs.Io.KnownBytes.{Appends}
 use Rattle.std.proofs.lemmas.Bool.{false≢true}
 use Rattle.std.proofs.lemmas.List.{take_all, length-append, take-append-drop}
 use Rattle.mc_forward.specs.Domains.{DomainValue}
-use Rattle.mc_cert.specs.Certificate.{Tree}
 use Rattle.mc_input.specs.InputReading.{input_of_bundle}
 use Rattle.mc_input.specs.declared.fault.InputFault.{InputFault}
 use Rattle.mc_input.specs.declared.fault.InputFault.TheVariants as input
@@ -17,15 +16,14 @@ use Rattle.mc_run.specs.RunFault.{from_source_fault}
 use Rattle.mc_run.specs.declared.fault.RunFault.{RunFault}
 use Rattle.mc_run.specs.declared.fault.RunFault.TheVariants.{Write}
 use Rattle.mc_run.specs.declared.run_output.RunOutput.{RunOutput}
-use Rattle.mc_forward.specs.ListedTables.{HaveSameFacts}
 use Rattle.mc_text.specs.Steps.{map_fault}
 use Rattle.mc_input.specs.Input.{InputValue}
 use Rattle.mc_input.specs.InputView.{certificate_text}
-use Rattle.mc_input.specs.Meaning.{MeansDomainAsListed, MeansSamePerFlow, MeansDomainWhere}
+use Rattle.mc_input.specs.Meaning.{MeansDomain, MeansDomainWhere, MeansUncertifiedDomain}
 use Rattle.mc_input.specs.SourceFault.{IsReadOrMemory}
 use Rattle.mc_input.specs.declared.source_fault.SourceFault.{SourceFault}
 use Rattle.mc_input.specs.declared.source_fault.SourceFault.TheVariants as source
-use Rattle.mc_run.specs.InputMeaning.{IsRefusedFor, MeansListedWith, MeansWithLists}
+use Rattle.mc_run.specs.InputMeaning.{IsRefusedFor}
 use Rattle.mc_run.specs.AuditRun.{AreYesWords, AuditSaysYes, yes_object}
 use Rattle.mc_run.specs.CheckRun.{IsLineStart, SaysYes, WroteAtStart}
 use Rattle.mc_text.specs.Device.{failures_after}
@@ -85,51 +83,33 @@ is_refused_for-source_of_contents (Some text) with f is = is_refused_for-source_
 -- ---- the meaning of an input
 
 -- without a certificate asked for, none was read
-pub means_listed-no_certificate : (contents : Option (List ℕ)) (certificate : Option (Vec ℕ Global))
-    (d : DomainValue)
-    → is_some certificate ≡ false
-    → IfSome contents (λ text. MeansDomainAsListed text (certificate_text certificate) d)
-    → IfSome contents (λ text. MeansDomainAsListed text None d)
-means_listed-no_certificate None certificate d none means = tt
-means_listed-no_certificate (Some text) None d none means = means
-means_listed-no_certificate (Some text) (Some bytes) d none means = absurd cc
+pub means_domain-no_certificate : (contents : Option (List ℕ)) (certificate : Option (Vec ℕ Global))
+    (d : DomainValue) → is_some certificate ≡ false
+    → IfSome contents (λ text. MeansDomain text (certificate_text certificate) d)
+    → IfSome contents (λ text. MeansUncertifiedDomain text d)
+means_domain-no_certificate None certificate d none means = tt
+means_domain-no_certificate (Some text) None d none means = means
+means_domain-no_certificate (Some text) (Some bytes) d none means = absurd cc
 
--- what holds of a domain holds of the meant one, if that has the same facts of each flow
-pub of_domain-means_same : {X : Type 0} (Means : X → DomainValue → Type 0) (Holds : DomainValue → Type 0)
-    (contents : Option X) (d : DomainValue)
-    → ((whole : DomainValue) → HaveSameFacts whole d → Holds d → Holds whole)
-    → IfSome contents (λ x. MeansSamePerFlow Means x d) → Holds d
+-- what holds of a domain holds of the meant one
+pub of_domain-meant : {X D : Type 0} (Means : X → D → Type 0) (Holds : D → Type 0)
+    (contents : Option X) (d : D) → IfSome contents (λ x. Means x d) → Holds d
     → IfSome contents (MeansDomainWhere Means Holds)
-of_domain-means_same Means Holds None d moves means holds = tt
-of_domain-means_same Means Holds (Some x) d moves means holds = record {
-  domain = means.whole;
-  means = means.means;
-  holds = moves means.whole means.same holds;
+of_domain-meant Means Holds None d means holds = tt
+of_domain-meant Means Holds (Some x) d means holds = record {
+  domain = d;
+  means = means;
+  holds = holds;
 }
 
 -- the same for the result of a call
 pub of_domain-ok_result : {X A F : Type 0} (Means : X → DomainValue → Type 0)
-    (Holds : A → DomainValue → Type 0)
-    (contents : Option X) (d : DomainValue) (r : Result A F)
-    → ((a : A) (whole : DomainValue) → HaveSameFacts whole d → Holds a d → Holds a whole)
-    → IfSome contents (λ x. MeansSamePerFlow Means x d)
+    (Holds : A → DomainValue → Type 0) (contents : Option X) (d : DomainValue) (r : Result A F)
+    → IfSome contents (λ x. Means x d)
     → IfOk r (λ a. Holds a d) → IfOk r (λ a. IfSome contents (MeansDomainWhere Means (Holds a)))
-of_domain-ok_result Means Holds contents d (Ok a) moves means holds =
-    of_domain-means_same Means (Holds a) contents d (moves a) means holds
-of_domain-ok_result Means Holds contents d (Err f) moves means holds = tt
-
--- the same with a certificate's lists
-pub of_domain-listed_with : (Holds : DomainValue → List Tree → Type 0) (contents : Option (List ℕ))
-    (d : DomainValue) (lists : List Tree)
-    → ((whole : DomainValue) → HaveSameFacts whole d → Holds d lists → Holds whole lists)
-    → IfSome contents (λ text. MeansListedWith text d lists) → Holds d lists
-    → IfSome contents (MeansDomainWhere MeansWithLists (λ c. Holds c.domain c.lists))
-of_domain-listed_with Holds None d lists moves means holds = tt
-of_domain-listed_with Holds (Some text) d lists moves means holds = record {
-  domain = record { domain = means.0; lists = lists };
-  means = means.1;
-  holds = moves means.0 means.2 holds;
-}
+of_domain-ok_result Means Holds contents d (Ok a) means holds =
+    of_domain-meant Means (Holds a) contents d means holds
+of_domain-ok_result Means Holds contents d (Err f) means holds = tt
 
 -- what holds of all possible contents of an input holds of its contents
 pub means-known_contents : {X A F : Type 0} (Means : X → Type 0) (So : A → X → Type 0) (contents : Option X)

@@ -2,7 +2,6 @@
 -- a bundle, or a folder's files, are refused.
 use Rattle.std.specs.Prelude.{◌≡◌, ℕ, Bool, IsTrue, List, Some, Err, ⊤}
 use Rattle.mc_forward.specs.Domains.{DomainValue}
-use Rattle.mc_forward.specs.ListedTables.{HaveSameFacts}
 use Rattle.mc_cert.specs.Certificate.{Tree}
 use Rattle.mc_cert.specs.Denotation.{DenotesCertificate}
 use Rattle.mc_cert.specs.Reading.{parse_certificate}
@@ -37,11 +36,6 @@ pub record CertifiedDomain : Type 0 where
 -- and a bundle that means them
 abbrev pub MeansWithLists : List ℕ → CertifiedDomain → Type 0
 MeansWithLists text c = MeansCertified text c.domain c.lists
-
--- The text means a domain with these lists, and this domain has the same facts of each flow.
-abbrev pub MeansListedWith : List ℕ → DomainValue → List Tree → Type 0
-MeansListedWith text d lists =
-    (whole : DomainValue) × MeansCertified text whole lists × HaveSameFacts whole d
 
 -- ---- why an input is refused
 

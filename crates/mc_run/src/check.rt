@@ -9,8 +9,8 @@ ghost use Rattle.mc_text.specs.ReadFault.{ConsumesUpTo};
 ghost use Rattle.mc_cert.specs.Certificate.{BelongsTo};
 ghost use Rattle.mc_forward.specs.Domains.{IsDomain};
 ghost use Rattle.mc_input.specs.InputView.{certificate_text};
-ghost use Rattle.mc_input.specs.Meaning.{MeansDomainAsListed};
-ghost use Rattle.mc_run.specs.InputMeaning.{IsRefusedFor, MeansListedWith};
+ghost use Rattle.mc_input.specs.Meaning.{MeansDomain};
+ghost use Rattle.mc_run.specs.InputMeaning.{IsRefusedFor, MeansCertified};
 ghost use Rattle.mc_run.specs.CheckRun.{BundleKeepsHeadline, IsTextOfVerdicts, IsVerdictText};
 ghost use Rattle.mc_run.specs.CheckRun.{KeepsHeadline, SaysYes};
 ghost use Rattle.mc_text.specs.Device.{failures_after};
@@ -40,11 +40,11 @@ fn with_certificate(alloc: Global, read: BundleDomain) -> Result<DomainWithCerti
     requires rules { IsDomain read.domain }
     requires certified { is_some read.certificate ≡ true }
     ensures means { (text : List ℕ) →
-        MeansDomainAsListed text (certificate_text read.certificate) read.domain →
-        IfOk result (λ read. MeansListedWith text read.domain read.certificate) }
+        MeansDomain text (certificate_text read.certificate) read.domain →
+        IfOk result (λ read. MeansCertified text read.domain read.certificate) }
     ensures belongs { IfOk result (λ read. BelongsTo read.domain.topology read.certificate) }
     ensures refused { (text : List ℕ) →
-        MeansDomainAsListed text (certificate_text read.certificate) read.domain →
+        MeansDomain text (certificate_text read.certificate) read.domain →
         IfErr result (IsRefusedFor true text) }
     ensures no_device { IfErr result IsNoDeviceFault }
     ensures faults { IfErr result IsFaultOfCheck }
@@ -63,13 +63,12 @@ fn with_certificate(alloc: Global, read: BundleDomain) -> Result<DomainWithCerti
     })
 }
 
-/// Reads the domain and the certificate of an input's bundle. The domain has the facts of each flow that
-/// the bundle has.
+/// Reads the domain and the certificate of an input's bundle.
 fn read_certified<R: Input>(alloc: Global, input: &mut R) -> Result<DomainWithCertificate, RunFault>
     requires failures { R.failed input.old < u64.MAX }
     ensures same { R.borrows input.new ≡ R.borrows input.old }
     ensures means { IfOk result (λ read. IfSome (R.remaining input.old) (λ text.
-        MeansListedWith text read.domain read.certificate)) }
+        MeansCertified text read.domain read.certificate)) }
     ensures belongs { IfOk result (λ read. BelongsTo read.domain.topology read.certificate) }
     ensures refused { IfErr result (λ fault.
         IfSome (R.remaining input.old) (λ text. IsRefusedFor true text fault)) }

@@ -13,12 +13,12 @@ loop-vif-init c = refl
 pub returns-then-vif_has_device : goal.returns-then-vif_has_device
 returns-then-vif_has_device c =
     sym (find_below-first
-    (λ (v : ℕ). vif_has_device c.args.device.now (vif_of c.args.domain.now.tables c.args.router v))
+    (λ (v : ℕ). vif_has_device c.args.device.now (vif_of c.args.domain.now.vifs c.args.router v))
     c.loop-vif.vif 32 c.loop-vif.invariant (sym c.vif_has_device.ensures ∙ c.if-vif_has_device.true)
     c.loop-vif-test.true)
 
 pub loop-vif-preserved : goal.loop-vif-preserved
 loop-vif-preserved c =
-    find_below-none_more (λ (v : ℕ). vif_has_device c.args.device.now (vif_of c.args.domain.now.tables
+    find_below-none_more (λ (v : ℕ). vif_has_device c.args.device.now (vif_of c.args.domain.now.vifs
     c.args.router v))
     c.loop-vif.vif c.loop-vif.invariant (sym c.vif_has_device.ensures ∙ c.if-vif_has_device.false)

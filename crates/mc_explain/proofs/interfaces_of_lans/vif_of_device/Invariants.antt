@@ -6,5 +6,5 @@ use Rattle.mc_explain.proofs.interfaces_of_lans.vif_of_device.Given as goal
 
 abbrev pub invariant-loop-vif : goal.invariant-loop-vif
 invariant-loop-vif l =
-    find (λ (v : ℕ). vif_has_device l.fn.device (vif_of l.fn.domain.tables l.fn.router v)) (below l.vif)
+    find (λ (v : ℕ). vif_has_device l.fn.device (vif_of l.fn.domain.vifs l.fn.router v)) (below l.vif)
     ≡ None

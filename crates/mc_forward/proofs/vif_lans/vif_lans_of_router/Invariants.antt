@@ -9,5 +9,5 @@ abbrev pub invariant-loop-vif : goal.invariant-loop-vif
 invariant-loop-vif l = record {
   size : length l.vif_lans ≡ 32;
   done : take l.vif l.vif_lans ≡ map (λ vif. option_and_then (lan_of_vif l.fn.topology l.fn.router)
-      (get l.fn.tables.vifs vif)) (below l.vif);
+      (get l.fn.vifs vif)) (below l.vif);
 }

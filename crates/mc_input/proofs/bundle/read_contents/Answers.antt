@@ -2,6 +2,7 @@ use Rattle.std.proofs.Common.{ap, ◌∙◌, refl}
 use Rattle.std.proofs.lemmas.Result.{err_from_is_err_and}
 use Rattle.mc_text.specs.Steps.{map_fault}
 use Rattle.mc_text.proofs.RestOfBundleLemmas.{advances_trans}
+use Rattle.mc_forward.specs.RouterTables.{RouterTablesValue}
 use Rattle.mc_input.specs.InputView.{input_with}
 use Rattle.mc_input.specs.declared.source_fault.SourceFault.TheVariants.{Input as refused}
 use Rattle.mc_input.proofs.bundle.read_contents.Goals as goal
@@ -43,7 +44,12 @@ returns-clause-read g c = λ text remaining.
     let y = c.in_ok-wants.ensures.wants x.0 x.1 x.2 in
     let input = input_with t x.1 y.1 in (
       input,
-      record { topology = refl; listed = x.3; wanted = y.3 },
+      record {
+        topology = refl;
+        vifs_kept = ap (λ (k : RouterTablesValue). k.vifs) x.3;
+        rows_kept = ap (λ (k : RouterTablesValue). k.rows) x.3;
+        wanted = y.3;
+      },
       x.4 ∙ y.4 ∙ c.in_ok-certificate.ensures.certificate y.0 input y.2,
     )
 

@@ -3,19 +3,19 @@ use Rattle.mc_input.specs.ExcludedRouters.{IsReadOrMemoryWithout, input_of_files
 use Rattle.mc_input.specs.ExcludedRouters.{files_with_exclusions}
 use Rattle.mc_input.specs.SummariesOfFiles.{AreSummariesOf}
 use Rattle.mc_input.proofs.FilesMeansLemmas.{IfErr-from_known_contents}
-use Rattle.mc_input.proofs.FilesMeansLemmas.{FilesMeanDomainAsListed-from_result}
-use Rattle.mc_input.proofs.FilesMeansLemmas.{HaveSameFacts-from_files, IfOk-from_known_contents}
+use Rattle.mc_input.proofs.FilesMeansLemmas.{FilesMeanDomain-from_result}
+use Rattle.mc_input.proofs.FilesMeansLemmas.{same_domain-from_files, IfOk-from_known_contents}
 use Rattle.mc_input.proofs.domain.read_folder_domain.Goals as goal
 
 pub returns-clause-means : goal.returns-clause-means
 returns-clause-means g c =
-    FilesMeanDomainAsListed-from_result (λ read. read.domain) (map (λ n. n.now) c.args.without.now)
+    FilesMeanDomain-from_result (λ read. read.domain) (map (λ n. n.now) c.args.without.now)
     (g.F.FileSource.contents c.args.files.now) c.read_files_with_buffer.result
     c.read_files_with_buffer.ensures.domain c.read_files_with_buffer.ensures.rules
 
 pub returns-clause-only : goal.returns-clause-only
 returns-clause-only g c =
-    HaveSameFacts-from_files (λ read. read.domain) (map (λ n. n.now) c.args.without.now)
+    same_domain-from_files (λ read. read.domain) (map (λ n. n.now) c.args.without.now)
     (g.F.FileSource.contents c.args.files.now) c.read_files_with_buffer.result
     c.read_files_with_buffer.ensures.domain c.read_files_with_buffer.ensures.rules c.read_files_with_buffer.ensures.fault
 

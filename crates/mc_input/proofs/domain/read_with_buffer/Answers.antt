@@ -1,6 +1,6 @@
 use Rattle.std.proofs.Common.{◌∙◌, rules}
 use Rattle.mc_input.specs.InputView.{certificate_text}
-use Rattle.mc_input.proofs.MeansLemmas.{MeansDomainAsListed-from_result, HaveSameFacts-from_result}
+use Rattle.mc_input.proofs.MeansLemmas.{MeansDomain-from_result, same_domain-from_result}
 use Rattle.mc_input.proofs.MeansLemmas.{input_of_bundle-Err_of_result, certificate_text-expected}
 use Rattle.mc_input.proofs.MeansLemmas.{ConsumesUpTo-from_ConsumesWithin}
 use Rattle.mc_input.proofs.MeansLemmas.{ConsumesUpTo-same}
@@ -8,14 +8,14 @@ use Rattle.mc_input.proofs.domain.read_with_buffer.Goals as goal
 
 pub returns-clause-means : goal.returns-clause-means
 returns-clause-means g c =
-    MeansDomainAsListed-from_result (λ read. read.domain) (λ read. certificate_text read.certificate) c.args.certified
+    MeansDomain-from_result (λ read. read.domain) (λ read. certificate_text read.certificate) c.args.certified
     c.new-parts.result c.new-parts.ensures.start (g.R.Input.remaining c.args.input.now)
     c.read_parts-read.result c.new-parts.ensures.remaining c.read_parts-read.ensures.rules
     c.read_parts-read.ensures.read
 
 pub returns-clause-only : goal.returns-clause-only
 returns-clause-only g c = λ text certificate domain remaining is means.
-    HaveSameFacts-from_result (λ read. read.domain) (λ read. certificate_text read.certificate) c.args.certified
+    same_domain-from_result (λ read. read.domain) (λ read. certificate_text read.certificate) c.args.certified
     c.new-parts.result c.new-parts.ensures.start c.read_parts-read.result text certificate domain
     (c.new-parts.ensures.remaining ∙ remaining) is means c.read_parts-read.ensures.rules
     (certificate_text-expected (λ read. read.certificate) c.args.certified c.read_parts-read.result

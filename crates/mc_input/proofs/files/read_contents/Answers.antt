@@ -1,5 +1,6 @@
 use Rattle.std.proofs.Common.{◌∙◌, ap, Err, map, refl}
 use Rattle.std.proofs.lemmas.Result.{err_from_is_err_and}
+use Rattle.mc_forward.specs.RouterTables.{RouterTablesValue}
 use Rattle.mc_input.specs.FilesReading.{part_from_file}
 use Rattle.mc_input.specs.InputView.{input_with}
 use Rattle.mc_input.specs.ExcludedRouters.{files_without}
@@ -36,5 +37,10 @@ returns-clause-read g c = λ contents is.
       input_with t tables.0 reports.0,
       read_tables_and_reports-Ok Input (part_from_file (files_without c.args.without.now contents)) t tables.0 reports.0 tables.1
           (all_reports-with_exclusions (map (λ n. n.now) c.args.without.now) contents t ∙ reports.1),
-      record { topology = refl; listed = tables.2; wanted = reports.2 },
+      record {
+        topology = refl;
+        vifs_kept = ap (λ (k : RouterTablesValue). k.vifs) tables.2;
+        rows_kept = ap (λ (k : RouterTablesValue). k.rows) tables.2;
+        wanted = reports.2;
+      },
     )

@@ -16,7 +16,7 @@ pub loop-vif-preserved : goal.loop-vif-preserved
 loop-vif-preserved c =
     let d = c.args.domain.now in
     let row : ℕ → List Data =
-    λ vif. vif_data (facts d) c.args.router vif (vif_of d.tables c.args.router vif) in
+    λ vif. vif_data (facts d) c.args.router vif (vif_of d.vifs c.args.router vif) in
     flat_map-below_more row (map data_of c.args.values.now.items) (map data_of c.loop-vif.values.items)
     (map data_of c.push_vif.new.values.items) c.loop-vif.vif c.loop-vif.invariant
     c.in_ok-push_vif.ensures.added

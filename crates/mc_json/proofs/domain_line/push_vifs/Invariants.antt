@@ -10,5 +10,5 @@ use Rattle.mc_json.proofs.domain_line.push_vifs.Given as goal
 abbrev pub invariant-loop-vif : goal.invariant-loop-vif
 invariant-loop-vif l =
     map data_of l.values.items ≡ map data_of l.initial.values.items
-    ++ flat_map (λ vif. vif_data (facts l.domain) l.router vif (vif_of l.domain.tables l.router vif))
+    ++ flat_map (λ vif. vif_data (facts l.domain) l.router vif (vif_of l.domain.vifs l.router vif))
     (below l.vif)

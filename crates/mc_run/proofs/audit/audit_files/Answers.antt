@@ -2,7 +2,6 @@ use Rattle.std.proofs.Common.{map}
 use Rattle.std.specs.String.{string_bytes}
 use Rattle.mc_run.specs.AuditRun.{HasUnwanted, IsAudited}
 use Rattle.mc_run.proofs.AuditTextLemmas.{of_domain-means_audited}
-use Rattle.mc_run.proofs.SameFactsLemmas.{is_audited-same_domain, has_unwanted-same_domain}
 use Rattle.std.proofs.lemmas.Result.{err_from_is_err_and}
 use Rattle.mc_run.proofs.FaultLemmas.{is_fault_of_audit-without_fault}
 use Rattle.mc_run.proofs.audit.audit_files.Goals as goal
@@ -16,7 +15,7 @@ returns-in-Ok-clause-text g c =
     let summary = c.in_ok-read.read.summary.items in
     of_domain-means_audited (λ v. IsAudited v o all written) o names
     (g.F.FileSource.contents c.args.files.now)
-    c.in_ok-read.read.domain summary (λ whole same. is_audited-same_domain same summary names o all written)
+    c.in_ok-read.read.domain summary
     c.in_ok-read.ensures.means c.in_ok-read.ensures.routers c.in_ok-read.ensures.summary
     c.in-Ok.ensures.text
 
@@ -27,7 +26,7 @@ returns-in-Ok-clause-unwanted g c =
     let unwanted = c.in-Ok.audit.unwanted in
     let summary = c.in_ok-read.read.summary.items in
     of_domain-means_audited (λ v. HasUnwanted v o unwanted) o names (g.F.FileSource.contents c.args.files.now)
-    c.in_ok-read.read.domain summary (λ whole same. has_unwanted-same_domain same summary names o unwanted)
+    c.in_ok-read.read.domain summary
     c.in_ok-read.ensures.means c.in_ok-read.ensures.routers c.in_ok-read.ensures.summary
     c.in-Ok.ensures.unwanted
 

@@ -1,6 +1,6 @@
 use Rattle.mc_input.specs.InputView.{certificate_text}
-use Rattle.mc_input.specs.Meaning.{MeansDomainAsListed}
-use Rattle.mc_run.specs.InputMeaning.{MeansListedWith}
+use Rattle.mc_input.specs.Meaning.{MeansDomain}
+use Rattle.mc_run.specs.InputMeaning.{MeansCertified}
 use Rattle.mc_run.proofs.RunLemmas.{means-known_contents}
 use Rattle.std.proofs.lemmas.Result.{err_from_is_err_and}
 use Rattle.mc_run.specs.RunFault.{from_source_fault}
@@ -10,8 +10,8 @@ use Rattle.mc_run.proofs.check.read_certified.Goals as goal
 pub returns-clause-means : goal.returns-clause-means
 returns-clause-means g c =
     let read = c.in_ok-read.read in
-    means-known_contents (λ text. MeansDomainAsListed text (certificate_text read.certificate) read.domain)
-    (λ certified text. MeansListedWith text certified.domain certified.certificate)
+    means-known_contents (λ text. MeansDomain text (certificate_text read.certificate) read.domain)
+    (λ certified text. MeansCertified text certified.domain certified.certificate)
     (g.R.Input.remaining c.args.input.now) c.with_certificate.result c.with_certificate.ensures.means
     c.in_ok-read.ensures.means
 

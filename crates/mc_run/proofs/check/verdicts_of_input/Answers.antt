@@ -1,28 +1,26 @@
 use Rattle.std.proofs.Common.{ℕ, List, Option, Some, None, true}
 use Rattle.std.specs.Prelude.{IfSome}
 use Rattle.std.proofs.lemmas.Result.{err_from_is_err_and}
-use Rattle.mc_run.specs.InputMeaning.{IsRefusedFor}
+use Rattle.mc_run.specs.InputMeaning.{IsRefusedFor, MeansWithLists}
 use Rattle.mc_run.specs.declared.fault.RunFault.TheVariants.{Memory}
 use Rattle.std.specs.String.{string_bytes}
 use Rattle.mc_run.specs.CheckRun.{IsTextOfVerdicts, KeepsHeadline}
-use Rattle.mc_run.proofs.RunLemmas.{of_domain-listed_with}
-use Rattle.mc_run.proofs.SameFactsLemmas.{keeps_headline-same_domain, is_text_of_verdicts-same_domain}
+use Rattle.mc_run.proofs.RunLemmas.{of_domain-meant}
 use Rattle.mc_run.proofs.check.verdicts_of_input.Goals as goal
 
 pub returns-in-Ok-clause-text : goal.returns-in-Ok-clause-text
 returns-in-Ok-clause-text g c =
     let read = c.in_ok-read.read in
     let written = string_bytes c.in-Ok.run_output.text in
-    of_domain-listed_with (λ d lists. IsTextOfVerdicts d lists c.in-Ok.run_output.yes written)
-    (g.R.Input.remaining c.args.input.now) read.domain read.certificate
-    (λ whole same. is_text_of_verdicts-same_domain same read.certificate c.in-Ok.run_output.yes written)
+    of_domain-meant MeansWithLists (λ r. IsTextOfVerdicts r.domain r.lists c.in-Ok.run_output.yes written)
+    (g.R.Input.remaining c.args.input.now) (record { domain = read.domain; lists = read.certificate })
     c.in_ok-read.ensures.means c.in-Ok.ensures.text
 
 pub returns-in-Ok-clause-headline : goal.returns-in-Ok-clause-headline
 returns-in-Ok-clause-headline g c = λ all.
     let read = c.in_ok-read.read in
-    of_domain-listed_with (λ d lists. KeepsHeadline d lists) (g.R.Input.remaining c.args.input.now)
-    read.domain read.certificate (λ whole same. keeps_headline-same_domain same read.certificate)
+    of_domain-meant MeansWithLists (λ r. KeepsHeadline r.domain r.lists)
+    (g.R.Input.remaining c.args.input.now) (record { domain = read.domain; lists = read.certificate })
     c.in_ok-read.ensures.means (c.in-Ok.ensures.headline all)
 
 pub returns-in_err-read-clause-refused : goal.returns-in_err-read-clause-refused

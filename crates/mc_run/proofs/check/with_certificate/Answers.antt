@@ -3,7 +3,7 @@ use Rattle.std.proofs.lemmas.Result.{err_from_is_err_and}
 use Rattle.mc_cert.proofs.BelongsLemmas.{BelongsTo-from_denotes}
 use Rattle.mc_cert.specs.Certificate.{BelongsTo}
 use Rattle.mc_input.specs.InputView.{certificate_text}
-use Rattle.mc_run.proofs.CheckLemmas.{is_refused_for-cert_fault, means_listed_with-denoted_lists}
+use Rattle.mc_run.proofs.CheckLemmas.{is_refused_for-cert_fault, means_certified-denoted_lists}
 use Rattle.mc_run.proofs.FaultLemmas.{is_fault_of_check-cert_fault}
 use Rattle.mc_run.proofs.check.with_certificate.Goals as goal
 
@@ -18,7 +18,7 @@ returns-in_err-certificate-clause-refused c = λ text means.
 pub returns-clause-means : goal.returns-clause-means
 returns-clause-means c = λ text means.
     let there = ap certificate_text c.in-Some.is ∙ ap Some (sym c.deref.ensures.value) in
-    means_listed_with-denoted_lists text c.deref.result.now _ c.args.read.domain c.topology.result.now
+    means_certified-denoted_lists text c.deref.result.now _ c.args.read.domain c.topology.result.now
     c.in_ok-certificate.certificate means there c.topology.ensures.topology
     c.in_ok-certificate.ensures.found
 

@@ -1,6 +1,6 @@
 use Rattle.std.proofs.Common.{false}
 use Rattle.std.proofs.lemmas.Result.{err_from_is_err_and}
-use Rattle.mc_run.proofs.RunLemmas.{means_listed-no_certificate, is_refused_for-source_of_contents}
+use Rattle.mc_run.proofs.RunLemmas.{means_domain-no_certificate, is_refused_for-source_of_contents}
 use Rattle.mc_run.proofs.FaultLemmas.{is_fault_of_make-source_fault}
 use Rattle.mc_run.proofs.domain_input.read_domain.Goals as goal
 
@@ -13,7 +13,7 @@ returns-in_err-read-clause-refused g c =
 
 pub returns-clause-means : goal.returns-clause-means
 returns-clause-means g c =
-    means_listed-no_certificate (g.R.Input.remaining c.args.input.now) c.in_ok-read.read.certificate
+    means_domain-no_certificate (g.R.Input.remaining c.args.input.now) c.in_ok-read.read.certificate
     c.in_ok-read.read.domain c.in_ok-read.ensures.certified c.in_ok-read.ensures.means
 
 pub returns-in_err-read-clause-faults : goal.returns-in_err-read-clause-faults

@@ -4,7 +4,6 @@ use Rattle.mc_run.proofs.ReplayLemmas.{is_no_device_fault-no_travel, is_replay_r
 use Rattle.mc_input.specs.Meaning.{MeansUncertifiedDomain}
 use Rattle.mc_run.proofs.RunLemmas.{is_write_fault-other_fault, of_domain-ok_result}
 use Rattle.mc_run.proofs.RunLemmas.{counted_reads-no_device_fault}
-use Rattle.mc_run.proofs.SameFactsLemmas.{is_text_of_travel-same_domain}
 use Rattle.std.proofs.Common.{◌∙◌}
 use Rattle.std.proofs.lemmas.Result.{err_from_is_err_and}
 use Rattle.mc_run.proofs.FaultLemmas.{is_fault_of_replay-make}
@@ -15,9 +14,7 @@ returns-clause-text g c =
     of_domain-ok_result MeansUncertifiedDomain (λ run_output d. IsTextOfTravel d c.args.flow
     c.args.ttl _ run_output.yes
     (string_bytes run_output.text)) (g.R.Input.remaining c.args.input.now) c.in_ok-domain.domain
-    c.travel_in_domain.result (λ run_output whole same holds. is_text_of_travel-same_domain same
-    c.args.flow c.args.ttl _ run_output.yes
-    (string_bytes run_output.text) holds) c.in_ok-domain.ensures.means c.travel_in_domain.ensures.text
+    c.travel_in_domain.result c.in_ok-domain.ensures.means c.travel_in_domain.ensures.text
 
 pub returns-clause-refused : goal.returns-clause-refused
 returns-clause-refused g c =

@@ -15,7 +15,8 @@ returns-clause-lan c =
     let ok = subst IsDomain c.self.view_is c.self.invariant.domain in
     let derived = c.self.invariant.vif_lans ∙ ap vif_lans_of c.self.view_is in
     c.vif_lan.ensures
-    ∙ vif_lans-placed_of c.args.self.now all _ c.args.router c.args.vif ok derived c.requires.listed_router
+    ∙ vif_lans-placed_of c.args.self.now all _ c.args.router c.args.vif ok.vifs derived
+    c.requires.listed_router
     (c.index-vif_lans.ensures
     ∙ ap (λ (k : ℕ). get_or all k c.index-vif_lans.result.now) c.router.view_is)
 

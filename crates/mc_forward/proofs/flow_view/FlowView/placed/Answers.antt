@@ -4,6 +4,6 @@ use Rattle.mc_forward.proofs.flow_view.FlowView.placed.Goals as goal
 
 pub returns-else-router-routers-clause-lan : goal.returns-else-router-routers-clause-lan
 returns-else-router-routers-clause-lan c =
-    sym (placed_of-none_past_last_router c.args.self.now.domain c.routers.ensures.rules.domain
+    sym (placed_of-none_past_last_router c.args.self.now.domain c.routers.ensures.rules.domain.vifs
     c.args.router c.args.vif
     (omega (arith, c.routers.ensures.count)))

@@ -4,6 +4,6 @@ use Rattle.mc_forward.proofs.flow_view.FlowView.row.Goals as goal
 
 pub returns-else-router-routers-clause-row : goal.returns-else-router-routers-clause-row
 returns-else-router-routers-clause-row c =
-    sym (row_of-none_past_last_router c.args.self.now.domain c.routers.ensures.rules.domain
+    sym (row_of-none_past_last_router c.args.self.now.domain c.routers.ensures.rules.domain.rows
     c.args.self.now.flow c.args.router
     (omega (arith, c.routers.ensures.count)))

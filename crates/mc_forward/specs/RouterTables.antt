@@ -1,0 +1,53 @@
+-- What is kept of routers' tables for a topology's flows.
+use Rattle.std.specs.Prelude.{◌≡◌, ℕ, List, [], ◌∷◌, ◌++◌, length, map, refl}
+use Rattle.std.specs.Coded.{Coded, code_by, coded×, coded_list, coded_ℕ}
+use Rattle.std.specs.List.{AllByRecursion}
+use Rattle.mc_topology.specs.Topology.{TopologyValue}
+use Rattle.mc_topology.specs.declared.flow.Flow.{Flow}
+use Rattle.mc_theory.specs.Nets.{Row}
+use Rattle.mc_forward.specs.Assembling.{rows_by_tables, vifs_by_tables}
+use Rattle.mc_forward.specs.DomainParts.{row_code, vifs_code}
+use Rattle.mc_forward.specs.Domains.{TablesValue, VifsValue, IsValidRow, row_in_cache}
+
+-- how many flows there are, and of each router its vifs and its row for each flow
+pub record RouterTablesValue : Type 0 where
+  pub flows : ℕ
+  pub vifs : List VifsValue
+  pub rows : List (List Row)
+
+abbrev pub router_tables_with : ℕ → List VifsValue → List (List Row) → RouterTablesValue
+router_tables_with flows vifs rows = record { flows = flows; vifs = vifs; rows = rows }
+
+-- what is kept of these tables for the flows
+abbrev pub kept_of_tables : List Flow → List TablesValue → RouterTablesValue
+kept_of_tables flows tables =
+    router_tables_with (length flows) (vifs_by_tables tables) (rows_by_tables flows tables)
+
+-- the same with what is kept of one router's tables more
+abbrev pub with_router : List Flow → RouterTablesValue → TablesValue → RouterTablesValue
+with_router flows kept own =
+    router_tables_with kept.flows (kept.vifs ++ own.vifs ∷ [])
+    (kept.rows ++ map (row_in_cache own.cache) flows ∷ [])
+
+-- each router has a row for each of so many flows, as a kernel has them
+pub record HaveRows (flows : ℕ) (own : List Row) : Type 0 where
+  pub count : length own ≡ flows
+  pub valid : AllByRecursion IsValidRow own
+
+-- each router has these, and the vifs are those of as many routers
+pub record AreRouterTables (kept : RouterTablesValue) : Type 0 where
+  pub routers : length kept.vifs ≡ length kept.rows
+  pub rows : AllByRecursion (HaveRows kept.flows) kept.rows
+
+-- they are those of the routers and the flows of a topology
+pub record AreTablesFor (t : TopologyValue) (kept : RouterTablesValue) : Type 0 where
+  pub routers : length kept.vifs ≡ length t.routers
+  pub flows : kept.flows ≡ length t.flows
+
+-- they are stored as their fields
+abbrev pub router_tables_code : Coded RouterTablesValue
+router_tables_code =
+    code_by (ℕ × (List VifsValue × List (List Row)))
+    (coded× coded_ℕ (coded× (coded_list vifs_code) (coded_list (coded_list row_code))))
+    (λ k. (k.flows, (k.vifs, k.rows)))
+    (λ p. router_tables_with p.0 p.1.0 p.1.1) (λ _. refl)

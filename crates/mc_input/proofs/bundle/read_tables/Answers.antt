@@ -19,12 +19,12 @@ returns-in_err-own-clause-fault g c =
 
 pub returns-in_err-own-clause-advances : goal.returns-in_err-own-clause-advances
 returns-in_err-own-clause-advances g c =
-    advances_trans c.args.parts.now c.loop-router.parts c.tables_of-own.new.parts
+    advances_trans c.args.parts.now c.loop-router.parts c.tables_of.new.parts
     c.loop-router.invariant.advances c.in_err-own.ensures.advances
 
 pub returns-in_err-add-clause-advances : goal.returns-in_err-add-clause-advances
 returns-in_err-add-clause-advances g c =
-    advances_trans c.args.parts.now c.loop-router.parts c.tables_of-own.new.parts
+    advances_trans c.args.parts.now c.loop-router.parts c.tables_of.new.parts
     c.loop-router.invariant.advances c.in_ok-own.ensures.advances
 
 pub loop-router-preserved : goal.loop-router-preserved
@@ -33,7 +33,7 @@ loop-router-preserved g c =
     let own = c.in_ok-own.own in
     let added = c.in_ok-add.ensures.added in
     record {
-      advances = advances_trans c.args.parts.now c.loop-router.parts c.tables_of-own.new.parts
+      advances = advances_trans c.args.parts.now c.loop-router.parts c.tables_of.new.parts
           c.loop-router.invariant.advances c.in_ok-own.ensures.advances;
       failures = c.in_ok-own.ensures.failures ∙ c.loop-router.invariant.failures;
       room = search rules;

@@ -23,12 +23,10 @@ class Collected:
     def write(self, piece):
         """Takes a piece of what is printed."""
         *lines, self.rest = (self.rest + piece).split(b"\n")
-        for line in lines:
-            found = COLLECTED.match(line.decode("ascii", "replace"))
-            if found:
-                self.orders[found[1]] = found[2]
-                if self.is_shown:
-                    print(found.string, flush=True)
+        for found in filter(None, (COLLECTED.match(it.decode("ascii", "replace")) for it in lines)):
+            self.orders[found[1]] = found[2]
+            if self.is_shown:
+                print(found.string, flush=True)
 
 
 def collect(words, folder, is_first):
@@ -50,13 +48,12 @@ def as_counted(name):
 
 
 def ask_routers(words, scratch):
-    """Returns the routers in the order of their names, those that are missing, and doubts."""
+    """Returns the routers in the order of their names, and doubts, which name those that are missing."""
     first, second = os.path.join(scratch, "first"), os.path.join(scratch, "second")
     orders = collect(words, first, True)
     asked = read_routers(words.ways, [words.routers] if words.routers else [])
-    missing = [it.name for it in asked if it.name not in orders]
     routers = [read_router(first, name, orders[name]) for name in sorted(orders, key=as_counted)]
-    doubts = [f"{it}: could not be asked" for it in missing]
+    doubts = [f"{it.name}: could not be asked" for it in asked if it.name not in orders]
     doubts += [f"{it}: its byte order is not known, and taken as little" for it in orders if orders[it] == "not known"]
     if not routers:
         raise Failed("no router could be asked")
@@ -81,7 +78,6 @@ def measure_rates(router, first, second):
             continue
         packets, octets = later[key].packets - row.packets, max(0, later[key].octets - row.octets)
         taken = max(0, packets - max(0, later[key].strangers - row.strangers))
-        bits = octets * 8 * taken / packets if packets else 0
-        router.rates[key] = taken / seconds, bits / seconds
+        router.rates[key] = taken / seconds, octets * 8 * taken / packets / seconds if packets else 0
         if packets:
             router.counted.add(key)

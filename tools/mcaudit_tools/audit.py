@@ -5,7 +5,7 @@ import json
 import sys
 
 from mcaudit_tools.common import Failed, Refused
-from mcaudit_tools.files import open_regular, reason_of
+from mcaudit_tools.files import failing, open_regular
 from mcaudit_tools.programs import run
 
 AUDITING = 300  # seconds that an audit may take
@@ -105,19 +105,11 @@ def lines_of(file):
     lines.finish()
 
 
-def lines_of_file(path):
-    """Yields the objects of a file of what an audit printed."""
-    with open_regular(path) as file:
-        try:
-            yield from lines_of(file)
-        except OSError as fault:
-            raise Failed(f"{path} can't be read: {reason_of(fault)}") from fault
-
-
 def objects_of(path, standard):
     """Yields the objects of a file of what an audit printed, or of standard input, which has this name."""
     if path != standard:
-        yield from lines_of_file(path)
+        with open_regular(path) as file:
+            yield from lines_of(file)
     elif sys.stdin is None:
         raise Failed("standard input is closed")
     else:
@@ -128,11 +120,10 @@ def objects_of(path, standard):
 def telling(path):
     """Tells by its path what is refused here, or can't be read."""
     try:
-        yield
+        with failing(f"{path} can't be read"):
+            yield
     except Refused as fault:
         raise Refused(f"refused: {path}: {fault}") from fault
-    except OSError as fault:
-        raise Failed(f"{path} can't be read: {reason_of(fault)}") from fault
 
 
 def run_audit(words, named):

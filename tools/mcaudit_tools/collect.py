@@ -15,7 +15,7 @@ import threading
 import time
 
 from mcaudit_tools import answers, origins, topology, ways
-from mcaudit_tools.common import PROGRAM, Ended, Failed, Parser, clean, say
+from mcaudit_tools.common import PROGRAM, Ended, Failed, Parser, Wrong, clean, say
 from mcaudit_tools.programs import RUNNING, run
 from mcaudit_tools.sets import Site
 
@@ -47,6 +47,20 @@ Examples:
   mcaudit-collect --routers routers --timeout 20 site
   mcaudit-collect --ssh 'ssh -p 2222' site r1=10.9.0.1
   mcaudit-collect site here= 'r1=!ip netns exec r1' 'r2=!docker exec -i frr2'"""
+OPTIONS = [
+    ("--routers", "FILE", "take the routers of FILE too: NAME=WAY, a line each; empty lines and those that begin with "
+     "# are left aside"),
+    ("--adopt", None, "if SITE is a plain folder, make it the first set; without routers do just that"),
+    ("--readings", "N", "read a router at most N times, 2 to 100 (5)", 2, 100, 5),
+    ("--pause", "SECONDS", "wait so long between two readings of a router (1)", 0, 999, 1),
+    ("--timeout", "SECONDS", "give a router up when a reading takes longer (60)", 1, 999, 60),
+    ("--at-once", "N", "read at most N routers side by side, 1 to 100 (8)", 1, 100, 8),
+    ("--ssh", "COMMAND", f"reach a HOST by `COMMAND HOST sh` ({ways.SSH})"),
+    ("--facts", None, "bring the router's addresses and routes too, as address-NAME and route-NAME: what `ip -j "
+     "address` says, or where it can't, `ip -o -4 address`, and /proc/net/route. mcaudit-draft reads them; what a "
+     "router has not is empty"),
+    ("--shell", "NAME", "collect nothing: run a shell on the router NAME by its way, with this standard input and "
+     "output")]
 FILES = {  # the tables that a set has
     "ip_mr_vif": "vif", "ip_mr_cache": "cache", "route": "route", "address": "address"}
 
@@ -73,29 +87,10 @@ def read_arguments():
                     usage="mcaudit-collect [option ...] SITE [NAME=WAY ...]\n"
                           "       mcaudit-collect [option ...] --shell NAME [NAME=WAY ...]")
     parser.add_argument("words", nargs="*", metavar="SITE [NAME=WAY ...]", help="the folder, and the routers")
-    parser.add_argument("--routers", metavar="FILE", help="take the routers of FILE too: NAME=WAY, a line each; empty "
-                        "lines and those that begin with # are left aside")
-    parser.add_argument("--adopt", action="store_true", help="if SITE is a plain folder, make it the first set; "
-                        "without routers do just that")
-    parser.add_argument("--readings", metavar="N", default="5", help="read a router at most N times, 2 to 100 (5)")
-    parser.add_argument("--pause", metavar="SECONDS", default="1", help="wait so long between two readings of a router "
-                        "(1)")
-    parser.add_argument("--timeout", metavar="SECONDS", default="60", help="give a router up when a reading takes "
-                        "longer (60)")
-    parser.add_argument("--at-once", metavar="N", default="8", help="read at most N routers side by side, 1 to 100 (8)")
-    parser.add_argument("--ssh", metavar="COMMAND", default=ways.SSH,
-                        help=f"reach a HOST by `COMMAND HOST sh` ({ways.SSH})")
-    parser.add_argument("--facts", action="store_true", help="bring the router's addresses and routes too, as "
-                        "address-NAME and route-NAME: what `ip -j address` says, or where it can't, `ip -o -4 "
-                        "address`, and /proc/net/route. mcaudit-draft reads them; what a router has not is empty")
-    parser.add_argument("--shell", metavar="NAME", help="collect nothing: run a shell on the router NAME by its way, "
-                        "with this standard input and output")
+    parser.add_options(OPTIONS)
     parser.add_version()
     found = parser.parse_intermixed_args()
-    found.readings = parser.number(found.readings, 2, 100, "--readings takes 2 to 100")
-    found.pause = parser.number(found.pause, 0, 999, "--pause takes whole seconds, 0 to 999")
-    found.timeout = parser.number(found.timeout, 1, 999, "--timeout takes whole seconds, 1 to 999")
-    found.at_once = parser.number(found.at_once, 1, 100, "--at-once takes 1 to 100")
+    found.ssh = ways.SSH if found.ssh is None else found.ssh
     take_words(parser, found)
     return found
 
@@ -109,9 +104,7 @@ def take_words(parser, found):
                 parser.error("a site and a router are wanted")
             found.site = Site(found.words.pop(0))
         found.all = ways.read_routers(found.words, [found.routers] if found.routers else [])
-    except Failed as fault:
-        if fault.status != 5:
-            raise
+    except Wrong as fault:
         parser.error(str(fault))
     if not found.all and not found.adopt and found.shell is None:
         parser.error("a site and a router are wanted")
@@ -202,10 +195,8 @@ class Reading:
 
 def collect_router(words, router, scratch):
     """Collects one router, and prints what came of it."""
-    try:
+    with words.site.failing():
         found = Reading(words, router, os.path.join(scratch, router.name)).collect()
-    except OSError as fault:
-        raise words.site.unwritable(fault) from fault
     if RUNNING.ended.is_set():
         raise Ended
     if found.fault:
@@ -219,11 +210,8 @@ def collect_router(words, router, scratch):
 
 def show(words, line):
     """Prints a line, as long as that can be."""
-    try:
-        with PRINTING:
-            print(line, flush=True)
-    except OSError as fault:
-        raise words.site.unwritable(fault) from fault
+    with words.site.failing(), PRINTING:
+        print(line, flush=True)
 
 
 # All routers

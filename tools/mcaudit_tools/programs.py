@@ -101,11 +101,7 @@ class Running:
             process.wait(grace)
         signal_session(process, signal.SIGKILL)
         process.wait()
-        self.forget(process)
-
-    def forget(self, process):
-        """Takes a program off, which has ended, with what it left behind in its session."""
-        signal_session(process, signal.SIGKILL)
+        signal_session(process, signal.SIGKILL)  # what it left behind
         for pipe in (process.stdin, process.stdout, process.stderr):
             if pipe is not None:
                 with contextlib.suppress(OSError):
@@ -144,39 +140,22 @@ def run(words, text=b"", seconds=None, most=None, into=None, grace=GRACE, keeps_
     once."""
     process = RUNNING.begin(words, stdin=subprocess.PIPE if text else subprocess.DEVNULL, stdout=subprocess.PIPE,
                             stderr=subprocess.PIPE if keeps_words else None)
-    came = Came(0, b"", b"")
-    kept = bytearray()
+    came, kept = Came(0, b"", b""), bytearray()
     try:
-        exchange(process, text, deadline_in(seconds), most, into.write if into else kept.extend, came)
+        exchange(process, text, seconds, most, into.write if into else kept.extend, came)
         if not came.is_late and not came.is_long:
-            wait_until(process, deadline_in(seconds), came)
+            process.wait(seconds)
+    except subprocess.TimeoutExpired:
+        came.is_late = True
     finally:
         RUNNING.end(process, 0 if process.poll() is not None else grace)
     came.status, came.printed = process.returncode, bytes(kept)
     return came
 
 
-def deadline_in(seconds):
-    """Returns when so many seconds are over; None never is."""
-    return None if seconds is None else time.monotonic() + seconds
-
-
-def left_until(deadline):
-    """Returns how many seconds are left until then."""
-    return None if deadline is None else max(0.0, deadline - time.monotonic())
-
-
-def wait_until(process, deadline, came):
-    """Waits for the end of a program whose output has ended."""
-    try:
-        process.wait(left_until(deadline))
-    except subprocess.TimeoutExpired:
-        came.is_late = True
-
-
-def exchange(process, text, deadline, most, keep, came):
+def exchange(process, text, seconds, most, keep, came):
     """Hands a program the text, and takes what it prints and says, until both have ended or a limit is reached."""
-    rest, taken = memoryview(text), 0
+    rest, taken, begun = memoryview(text), 0, time.monotonic()
     with selectors.DefaultSelector() as selector:
         for pipe, event in ((process.stdin, selectors.EVENT_WRITE), (process.stdout, selectors.EVENT_READ),
                             (process.stderr, selectors.EVENT_READ)):
@@ -184,10 +163,11 @@ def exchange(process, text, deadline, most, keep, came):
                 os.set_blocking(pipe.fileno(), False)
                 selector.register(pipe, event)
         while selector.get_map():
-            if deadline is not None and time.monotonic() >= deadline:
+            left = None if seconds is None else begun + seconds - time.monotonic()
+            if left is not None and left <= 0:
                 came.is_late = True
                 return
-            for key, _ in selector.select(left_until(deadline)):
+            for key, _ in selector.select(left):
                 if key.fileobj is process.stdin:
                     rest = hand_on(process.stdin, rest)
                     if not rest:

@@ -15,8 +15,8 @@ import tempfile
 import time
 
 from mcaudit_tools import late, locks, origins
-from mcaudit_tools.common import Failed, say
-from mcaudit_tools.files import reason_of, sync_files, sync_folder, write_beside
+from mcaudit_tools.common import Failed, Wrong, say
+from mcaudit_tools.files import failing, sync_files, sync_folder, write_beside
 from mcaudit_tools.programs import RUNNING
 
 SCRATCH = ".reading."  # what the folders are called in which sets are made
@@ -27,12 +27,6 @@ NOT_CARRIED = origins.FILE, "audit.json"
 PLAIN_NAME = re.compile(r"[A-Za-z0-9_.-]+")  # of files that collected.json tells of
 
 
-class BadName(Failed):
-    """A site's path that names no folder."""
-
-    status = 5
-
-
 class Site:
     """The link, the sets and the lock of one site."""
 
@@ -40,7 +34,7 @@ class Site:
         """Takes the path of the link."""
         stripped = path.rstrip("/")
         if os.path.basename(stripped) in ("", ".", ".."):
-            raise BadName("the site is wanted by its folder's name")
+            raise Wrong("the site is wanted by its folder's name")
         self.path = stripped if stripped.startswith(("/", "./", "../")) else f"./{stripped}"
         self.sets = f"{self.path}.sets"
         self.states = {}  # of the last set's files, as they were before they were copied
@@ -67,29 +61,25 @@ class Site:
             if not may_adopt:
                 raise Failed(f"{self.path} is a plain folder: --adopt makes it the first set")
         elif os.path.lexists(self.path):
-            raise self.unwritable()
+            raise Failed(f"{self.path} can't be written")
 
-    def unwritable(self, fault=None):
-        """Returns what tells that the site can't be written."""
-        reason = f": {reason_of(fault)}" if isinstance(fault, OSError) else ""
-        return Failed(f"{self.path} can't be written{reason}")
+    def failing(self):
+        """Tells that the site can't be written, where a call of the system fails in it."""
+        return failing(f"{self.path} can't be written")
 
     # What is made
 
     @contextlib.contextmanager
     def scratch(self):
         """Gives a folder in which a set can be made, beside the sets. Those of dead runs are taken away first."""
-        made = None
         is_new = not os.path.lexists(self.sets)
-        try:
+        with self.failing():
             os.makedirs(self.sets, exist_ok=True)
             with self.writing():
                 self.clear_stale()
                 self.clear_links()
                 made = tempfile.mkdtemp(prefix=SCRATCH, dir=self.sets)
                 opened = locks.lock_folder(made)
-        except OSError as fault:
-            raise self.unwritable(fault) from fault
         try:
             yield made
         finally:
@@ -133,13 +123,11 @@ class Site:
                 return
             folder = self.free_folder()
             moved = moved_links(self.path, folder)
-            try:
+            with self.failing():
                 if os.stat(self.path).st_dev == os.stat(self.sets).st_dev:
                     self.adopt_by_rename(folder, moved)
                 else:
                     self.adopt_by_copy(folder, moved)
-            except (OSError, shutil.Error) as fault:
-                raise self.unwritable(fault) from fault
 
     def adopt_by_rename(self, folder, moved):
         """Moves the plain folder among the sets; where anything fails it is as it was."""
@@ -199,27 +187,26 @@ class Site:
         """Makes a set of the new files, {name: (path, origin)}, and of those of the last set that aren't replaced, and
         has the site lead to it. Announces the set's path before that. Returns that path."""
         made = os.path.join(scratch, "set")
-        with self.writing():
+        with self.writing(), self.failing():
             self.check(False)
             last = self.folder() if os.path.lexists(self.path) else None
-            try:
-                os.mkdir(made)
-                told, sentences = self.carry(last, made, lambda name: name in new or is_replaced(name))
-                for name, (path, origin) in new.items():
-                    os.rename(path, os.path.join(made, name))
-                    origins.keep_time(os.path.join(made, name), origin)
-                    told[name] = origin
-                with open(os.path.join(made, origins.FILE), "wb") as file:
-                    file.write(origins.text_of(told))
-                if last is not None:
-                    self.note_states(last, made)
-                sync_files(made)
-                folder = self.free_folder()
-                announce(folder)
-                with RUNNING.unheeded():
-                    self.take_set(made, folder)
-            except OSError as fault:
-                raise self.unwritable(fault) from fault
+            os.mkdir(made)
+            told, sentences = self.carry(last, made, lambda name: name in new or is_replaced(name))
+            for name, (path, origin) in new.items():
+                os.rename(path, os.path.join(made, name))
+                origins.keep_time(os.path.join(made, name), origin)
+                told[name] = origin
+            with open(os.path.join(made, origins.FILE), "wb") as file:
+                file.write(origins.text_of(told))
+            if last is not None:
+                with open(os.path.join(made, late.FILE), "wb") as file:
+                    file.write(late.text_of(os.path.basename(last), self.states, late.states_of(made, is_left_out),
+                                            self.others))
+            sync_files(made)
+            folder = self.free_folder()
+            announce(folder)
+            with RUNNING.unheeded():
+                self.take_set(made, folder)
         for sentence in sentences:
             say(sentence)
         return folder
@@ -268,12 +255,6 @@ class Site:
                     origins.keep_time(os.path.join(made, name), told[name])
         return told
 
-    def note_states(self, last, made):
-        """Notes in the set that is made how its files are, and how those of the last one were when they were copied."""
-        with open(os.path.join(made, late.FILE), "wb") as file:
-            file.write(late.text_of(os.path.basename(last), self.states, late.states_of(made, is_left_out),
-                                    self.others))
-
 
 def is_left_out(name):
     """Whether a file of a set is never taken into the next one."""
@@ -282,10 +263,8 @@ def is_left_out(name):
 
 def copy(path, target, named):
     """Copies a file, a link or a folder as it is; what leads nowhere or is neither is named."""
-    try:
+    with failing(f"{named} can't be read"):
         kind = os.stat(path).st_mode
-    except OSError as fault:
-        raise Failed(f"{named} can't be read: {reason_of(fault)}") from fault
     if os.path.islink(path):
         os.symlink(os.readlink(path), target)
     elif stat.S_ISDIR(kind):

@@ -16,15 +16,10 @@ LEAST = (3, 9)
 FAILED = 3
 
 
-def report_to_plugin(sentence):
-    """Tells a monitor that nothing is known."""
-    print("MCAUDIT UNKNOWN - " + sentence)
-
-
 def fail(program, sentence):
     """Tells why nothing came of it. Returns the status."""
     if program == "mcaudit-monitor" and "--plugin" in sys.argv[1:] and sys.stdout is not None:
-        report_to_plugin(sentence)
+        print("MCAUDIT UNKNOWN - " + sentence)
     elif sys.stderr is not None:
         print(program + ": " + sentence, file=sys.stderr)
     return FAILED
@@ -64,7 +59,7 @@ def run(name, version):
         if sys.stdout is None:
             raise common.Failed("standard output is closed")
         buffer_output()
-        common.PROGRAM.take(program, version)
+        common.PROGRAM.name, common.PROGRAM.version = program, version
         running.heed_signals()
         status = importlib.import_module("mcaudit_tools." + name).main()
     except common.Ended as fault:

@@ -10,13 +10,13 @@ import contextlib
 import os
 import tempfile
 
-from mcaudit_tools.common import Failed, Parser, options_of, say, whole_number
+from mcaudit_tools.common import Failed, Parser, options_of, say
 from mcaudit_tools.draft.ask import ask_routers
 from mcaudit_tools.draft.lans import place_vifs
 from mcaudit_tools.draft.measure import IDLE, measure_flows
 from mcaudit_tools.draft.text import measuring_words, print_changes, take_interfaces, text_of
 from mcaudit_tools.draft.told import Draft
-from mcaudit_tools.files import beside, reason_of
+from mcaudit_tools.files import beside, failing
 from mcaudit_tools.programs import RUNNING
 from mcaudit_tools.sets import site_of
 from mcaudit_tools.topology import read_toml
@@ -38,19 +38,24 @@ Examples:
   mcaudit-draft --routers routers --ssh 'ssh -l root' site
   mcaudit-draft --ttl 16 site r1=10.9.0.1 r2=admin@10.9.0.2"""
 
+OPTIONS = [*REACH, ("--timeout", "SECONDS", "give a router up when a reading takes longer (60)", 1, 999, 60),
+           ("--ttl", "N", "the time to live of all flows: none is measured", 1, 255, None),
+           ("--measure", "SECONDS", "wait so long for packets of a flow (5)", 1, 600, 5),
+           ("--update", None, "change nothing, and print what differs from the topology that is there, which gives the "
+            "names and the times to live that weren't measured")]
+
 
 def write_topology(site, text):
     """Writes the topology whole, and not over another."""
     path = os.path.join(site, "topology")
     made = None if os.path.isdir(site) else site
     try:
-        os.makedirs(site, exist_ok=True)
-        locked = site_of(site)
-        with locked.writing() if locked else contextlib.nullcontext(), beside(path, is_new=True) as file:
-            file.write(text.encode("ascii"))
-        made = None
-    except OSError as fault:
-        raise Failed(f"{path} can't be written: {reason_of(fault)}") from fault
+        with failing(f"{path} can't be written"):
+            os.makedirs(site, exist_ok=True)
+            locked = site_of(site)
+            with locked.writing() if locked else contextlib.nullcontext(), beside(path, is_new=True) as file:
+                file.write(text.encode("ascii"))
+            made = None
     finally:
         if made:
             with contextlib.suppress(OSError):  # it holds something else by now
@@ -62,15 +67,7 @@ def read_arguments():
     words = Parser(description=ABOUT, epilog=MORE)
     words.add_argument("site", metavar="SITE")
     words.add_argument("ways", metavar="NAME=WAY", nargs="*", help="a router and the way to it")
-    words.add_options(REACH)
-    words.add_argument("--timeout", metavar="SECONDS", type=whole_number(1, 999), default=60,
-                       help="give a router up when a reading takes longer (60)")
-    words.add_argument("--ttl", metavar="N", type=whole_number(1, 255),
-                       help="the time to live of all flows: none is measured")
-    words.add_argument("--measure", metavar="SECONDS", type=whole_number(1, 600), default=5,
-                       help="wait so long for packets of a flow (5)")
-    words.add_argument("--update", action="store_true", help="change nothing, and print what differs from the topology "
-                       "that is there, which gives the names and the times to live that weren't measured")
+    words.add_options(OPTIONS)
     words.add_version()
     found = words.parse_args()
     found.timeout = str(found.timeout)

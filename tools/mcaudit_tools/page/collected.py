@@ -52,42 +52,31 @@ def text_of_time(seconds):
     return time.strftime("%Y-%m-%dT%H:%M:%SZ", time.gmtime(seconds))
 
 
-def collected_times(folder):
-    """Returns when each file of the folder was written, by name, as its collected.json says."""
+def told_times(domain, folder):
+    """Returns when each file of the folder was written, by name, as its collected.json says; and a sentence on how old
+    what was judged was when the page was made. Both are nothing where that isn't known."""
     try:
-        return {name: text_of_time(it.time) for name, it in origins.read(folder.path, folder.named).items()}
+        known = origins.read(folder.path, folder.named)
+        ages = ", ".join(Ages(folder.path, known, domain.routers, domain.lans).sentences())
+        return ({name: text_of_time(it.time) for name, it in known.items()},
+                f" When this page was made, at {text_of_time(time.time())}: {ages}." if ages else "")
     except (Failed, OverflowError, ValueError, OSError) as fault:
         say(str(fault))
-        return {}
-
-
-def own_times(folder, names):
-    """Returns when those of the files that the folder has were written, by name, as the files themselves say."""
-    found = {}
-    for name in names:
-        with contextlib.suppress(OSError, ValueError):  # no such file, or no name of one
-            found[name] = text_of_time(os.stat(os.path.join(folder, name)).st_mtime)
-    return found
-
-
-def ages_text(domain, folder):
-    """Returns a sentence on how old what was judged was when the page was made, or nothing where that isn't known."""
-    with contextlib.suppress(Failed):
-        found = Ages(folder.path, origins.read(folder.path), domain.routers, domain.lans).sentences()
-        return f" When this page was made, at {text_of_time(time.time())}: {', '.join(found)}." if found else ""
-    return ""
+        return {}, ""
 
 
 def collected_section(domain, folder):
     """Returns when what was judged was collected."""
-    times = collected_times(folder) if folder else {}
-    ages = ages_text(domain, folder) if folder else ""
+    times, ages = told_times(domain, folder) if folder else ({}, "")
     if not times:
         return [tag("p", "When the files were written isn't known: there is no list of times beside them, as "
                          "mcaudit-collect writes it.", ages)]
     needed = ["topology", *(f"{kind}-{router}" for router in domain.routers for kind in ("vif", "cache")),
               *(f"igmp-{lan}" for lan in domain.lans)]
-    is_set, own = folder.is_set, own_times(folder.path, needed)
+    is_set, own = folder.is_set, {}
+    for name in needed:
+        with contextlib.suppress(OSError, ValueError):  # no such file, or no name of one
+            own[name] = text_of_time(os.stat(os.path.join(folder.path, name)).st_mtime)
     later = {name: when for name, when in own.items()
              if name not in times or (is_set and name.startswith("igmp-") and when > times[name])}
     absent = [name for name in needed if name not in times and name not in own]
@@ -95,13 +84,13 @@ def collected_section(domain, folder):
     about = {name: file_about(domain, name) for name in all_times}
     order = sorted(all_times, key=lambda name: (about[name][:2], name))
     tables = sorted(times[name] for name in times if about[name][0] == 1)
-    said = [f"Set {os.path.basename(folder.path)}"] if is_set else []
-    said += [f"{len(order)} files"]
-    said += [f"the routers' tables were written from {tables[0]} to {tables[-1]}"] if tables else []
-    said = ["; ".join(said) + "."]
-    said += ["Gathered or written after the tables, so that collected.json doesn't have their times, but read by the "
-             f"audit all the same: {some(list(later))}."] if later else []
-    said += [f"Not in the folder: {some(absent)}."] if absent else []
+    said = [f"Set {os.path.basename(folder.path)}; " * is_set + f"{len(order)} files"
+            + (f"; the routers' tables were written from {tables[0]} to {tables[-1]}" if tables else "") + "."]
+    if later:
+        said.append("Gathered or written after the tables, so that collected.json doesn't have their times, but read "
+                    f"by the audit all the same: {some(list(later))}.")
+    if absent:
+        said.append(f"Not in the folder: {some(absent)}.")
     rows = [tag("tr", tag("td", tag("code", name)), tag("td", about[name][2]), tag("td", all_times[name]))
             for name in order]
     return [tag("p", " ".join(said), ages),

@@ -28,30 +28,23 @@ def comments_of(folder):
 
 def unjudged_section(audit, folder):
     """Returns what this verdict doesn't judge."""
-    domain, items = audit.domain, []
-    if audit.without:
-        items.append((f"Routers that were left out, whose tables are not known: {' '.join(audit.without)}", []))
-    if audit.unlisted:
-        items.append((f"Sources and groups that are no flow's: {len(audit.unlisted)}, told above", []))
-    lone = collections.defaultdict(list)
+    domain, lone = audit.domain, collections.defaultdict(list)
     for port in domain.ports:
         if port.lan is None:
             lone[port.router].append(port.device)
-    if lone:
-        items.append(("Vifs on no LAN of the topology. A copy that is sent there has left the domain, which is a Stray",
-                      [f"{domain.routers[router]}: {' '.join(lone[router])}" for router in sorted(lone)]))
     absent = [f"{domain.routers[it.router]}: {it.device} on {domain.lans[it.lan]}" for it in domain.ports
               if it.vif is None and domain.routers[it.router] not in audit.without]
-    if absent:
-        items.append(("Interfaces of the topology that the router's table of vifs hasn't", absent))
     known = {port.lan for port in domain.ports}
     alone = [name for lan, name in enumerate(domain.lans) if lan not in known]
-    if alone:
-        items.append((f"LANs that no router is on: {' '.join(alone)}", []))
     comments = comments_of(folder) if folder else []
-    if comments:
-        items.append(("Comments of the topology, which nobody judges", comments))
-    items.append((UNSEEN, []))
+    items = [(words, more) for is_there, words, more in (
+        (audit.without, f"Routers that were left out, whose tables are not known: {' '.join(audit.without)}", []),
+        (audit.unlisted, f"Sources and groups that are no flow's: {len(audit.unlisted)}, told above", []),
+        (lone, "Vifs on no LAN of the topology. A copy that is sent there has left the domain, which is a Stray",
+         [f"{domain.routers[router]}: {' '.join(lone[router])}" for router in sorted(lone)]),
+        (absent, "Interfaces of the topology that the router's table of vifs hasn't", absent),
+        (alone, f"LANs that no router is on: {' '.join(alone)}", []),
+        (comments, "Comments of the topology, which nobody judges", comments), (True, UNSEEN, [])) if is_there]
     return [tag("ul", *(tag("li", f"{words}.", *([tag("ul", *(tag("li", it) for it in more))] if more else []))
                         for words, more in items))]
 

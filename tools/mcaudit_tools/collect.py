@@ -127,8 +127,7 @@ class Reading:
 
     def __init__(self, words, router, folder):
         """Takes the arguments, the router and the folder, which it makes."""
-        self.words, self.router, self.folder = words, router, folder
-        self.sentences = []
+        self.words, self.router, self.folder, self.sentences = words, router, folder, []
         os.mkdir(folder)
 
     def ask(self, tables):
@@ -144,7 +143,8 @@ class Reading:
                 return f"the answer has more than {answers.MOST_ANSWER} bytes"
             if came.is_late:
                 raise answers.Late("late")
-            return answers.take_apart(path, word, tables, self.folder, deadline)
+            with open(path, "rb") as file:
+                return answers.Answer(file, word, tables, self.folder, deadline).fault()
         except answers.Late:
             return f"no whole answer in {self.words.timeout} s"
         finally:
@@ -163,17 +163,14 @@ class Reading:
             try:
                 shape = answers.shape_of(self.folder, deadline)
                 if shape == earlier:
-                    return self.ask_more(Collected(line=self.line(count, deadline), folder=self.folder, time=when))
+                    vifs, rows = (answers.rows_of(os.path.join(self.folder, it), deadline) for it in answers.TABLES[:2])
+                    order = answers.order_of(os.path.join(self.folder, "igmp"), deadline)
+                    return self.ask_more(Collected(line=f"vifs {vifs}, rows {rows}, readings {count}, {order}",
+                                                   folder=self.folder, time=when))
             except answers.Late:
                 return Collected(f"no whole answer in {self.words.timeout} s")
             earlier = shape
         return Collected(f"did not hold still in {self.words.readings} readings")
-
-    def line(self, count, deadline):
-        """Returns what is printed of the router."""
-        vifs, rows = (answers.rows_of(os.path.join(self.folder, it), deadline) for it in answers.TABLES[:2])
-        order = answers.order_of(os.path.join(self.folder, "igmp"), deadline)
-        return f"vifs {vifs}, rows {rows}, readings {count}, {order}"
 
     def ask_more(self, found):
         """Asks for what goes beyond the three tables, which a key that is restricted to them doesn't answer."""
@@ -251,19 +248,16 @@ def refuse_twins(words, found):
 def new_files(words, found):
     """Returns the files of the new set: where each lies, and where it comes from."""
     files = {}
-    for router in words.all:
-        one = found[router.name]
-        for table in (*answers.TABLES[:2], *(answers.FACTS if words.facts else ())):
-            if not one.fault:
-                origin = origins.Origin(origins.COLLECT, router.name, one.time)
-                files[f"{FILES[table]}-{router.name}"] = os.path.join(one.folder, table), origin
+    for name, one in found.items():
+        for table in tables_of(words) if not one.fault else ():
+            files[f"{FILES[table]}-{name}"] = (os.path.join(one.folder, table),
+                                               origins.Origin(origins.COLLECT, name, one.time))
     return files
 
 
-def is_replaced(words, name):
-    """Whether a file of the last set isn't carried into the new one: the tables of a router that was not collected are
-    not."""
-    return name.startswith(("vif-", "cache-")) or words.facts and name.startswith(("address-", "route-"))
+def tables_of(words):
+    """Returns the tables that a set has of each router."""
+    return (*answers.TABLES[:2], *(answers.FACTS if words.facts else ()))
 
 
 def unlisted_of(words, folder):
@@ -286,7 +280,8 @@ def publish(words, found, scratch):
     """Makes the new set. Returns whether all routers are in it, and in its topology."""
     missing = [name for name, one in found.items() if one.fault]
     count = f"{len(words.all) - len(missing)} of {len(words.all)} routers collected"
-    folder = words.site.publish(new_files(words, found), lambda it: is_replaced(words, it), scratch,
+    replaced = tuple(f"{FILES[it]}-" for it in tables_of(words))  # also of routers that were not collected
+    folder = words.site.publish(new_files(words, found), lambda it: it.startswith(replaced), scratch,
                                 lambda folder: show(words, f"{count}: {folder}"))
     if missing:
         say(f"not collected: {' '.join(missing)}")
@@ -301,11 +296,10 @@ def main():
     words = read_arguments()
     if words.shell is not None:
         return shell_on_router(words)
-    site = words.site
-    site.check(words.adopt)
-    with site.scratch() as scratch:
+    words.site.check(words.adopt)
+    with words.site.scratch() as scratch:
         if words.adopt:
-            site.adopt()
+            words.site.adopt()
         if not words.all:
             return 0
         found = collect_all(words, scratch)

@@ -11,18 +11,13 @@ from mcaudit_tools.common import Failed
 PIECE = 65536  # bytes that are read at a time
 
 
-def reason_of(fault):
-    """Returns why a call of the system failed."""
-    return fault.strerror or type(fault).__name__
-
-
 @contextlib.contextmanager
 def failing(sentence):
     """Fails with the sentence and the reason, where a call of the system fails in it."""
     try:
         yield
     except OSError as fault:
-        raise Failed(f"{sentence}: {reason_of(fault)}") from fault
+        raise Failed(f"{sentence}: {fault.strerror or type(fault).__name__}") from fault
 
 
 def open_regular(path, named=None):

@@ -15,6 +15,7 @@ LEAST_TENTHS, MOST_TENTHS = 10, 255  # of the answers' time of a query that coun
 MOST_MESSAGES, MOST_BYTES = 65_536, 16 << 20  # of a list, as mcaudit takes it
 MOST_IGNORED, MOST_IGNORED_SENDERS = 8, 2  # packets that receivers ignore, of a list that is given out
 NOBODY = bytes(4)
+VERSIONS = {igmp.REPORT_1: "1", igmp.REPORT_2: "2"}  # of IGMP, whose reports ask for every source of their group
 WRITTEN, NO_LIST, REFUSED, SPOILT = 0, 1, 2, 4  # SPOILT: there is no list, and a second try may have one
 
 
@@ -64,7 +65,7 @@ class Window:
         for group, is_every in igmp.groups_of(report):
             self.wants.add((sender, group))
             if is_every and group[0] == igmp.SSM:
-                key = kind_of(report), group
+                key = VERSIONS.get(report[0], "3 in EXCLUDE mode"), group
                 self.unheeded[key] = self.unheeded.get(key, 0) + 1
         return report_fault(report)
 
@@ -75,11 +76,6 @@ class Window:
     def silent(self):
         """Returns the senders from whom nothing came but what receivers ignore."""
         return [it for it in self.ignored if it not in self.whole]
-
-
-def kind_of(report):
-    """Returns the version of a report that asks for every source of its group."""
-    return {igmp.REPORT_1: "1", igmp.REPORT_2: "2"}.get(report[0], "3 in EXCLUDE mode")
 
 
 def report_fault(report):
@@ -274,11 +270,6 @@ class Gathering:
             return SPOILT
         return None
 
-    def missed(self):
-        """Yields who asked for which group in an earlier window, and not in the last one."""
-        earlier = {it for window in self.done[:-1] for it in window.wants}
-        yield from sorted(earlier - self.done[-1].wants)
-
 
 @dataclasses.dataclass
 class List:
@@ -298,8 +289,10 @@ def list_of(gathering, statics, is_empty_allowed, option):
     window = gathering.done[-1]
     static = f", static {len(statics)}" if statics else ""
     say(f"query of {dotted(window.querier)}: reports {len(window.reports)}, other messages {window.aside}{static}")
-    tell_ignored(window, say)
-    for sender, group in gathering.missed():
+    for sender, count in window.ignored.items():
+        alone = ", and nothing else of it came" if sender in window.silent() else ""
+        say(f"left aside of {dotted(sender)}, too short or with a wrong checksum: {count}{alone}")
+    for sender, group in sorted({it for earlier in gathering.done[:-1] for it in earlier.wants} - window.wants):
         say(f"{dotted(sender)} asked for {dotted(group)} in an earlier window, and not in the last one")
     is_silent = not window.is_wanting() and not window.is_refused
     if is_silent:
@@ -310,21 +303,8 @@ def list_of(gathering, statics, is_empty_allowed, option):
             return List(NO_LIST)
     if window.is_refused:
         say("mcaudit will refuse this list: ask again")
-    else:
-        tell_unheeded(window, say)
-    unchecked = [f"sender {dotted(it)}" for it in window.silent()]
-    return List(REFUSED if window.is_refused else WRITTEN, window.reports + statics, is_silent, unchecked)
-
-
-def tell_ignored(window, say):
-    """Names whose packets were left aside."""
-    for sender, count in window.ignored.items():
-        silent = ", and nothing else of it came" if sender in window.silent() else ""
-        say(f"left aside of {dotted(sender)}, too short or with a wrong checksum: {count}{silent}")
-
-
-def tell_unheeded(window, say):
-    """Names the groups of SSM that are asked for in vain."""
-    for (kind, group), count in window.unheeded.items():
+    for (kind, group), count in window.unheeded.items() if not window.is_refused else ():
         say(f"SSM group {dotted(group)}: reports of IGMP version {kind}, which ask for every source, so that SSM "
             f"routers ignore them: {count}")
+    unchecked = [f"sender {dotted(it)}" for it in window.silent()]
+    return List(REFUSED if window.is_refused else WRITTEN, window.reports + statics, is_silent, unchecked)

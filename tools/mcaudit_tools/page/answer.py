@@ -42,6 +42,10 @@ class Domain:
             self.add(Port(key[0], device_text(None, vif), vif, None))
         return self.by_vif[key]
 
+    def beside(self, port):
+        """Returns the vifs on LANs of the router of a vif."""
+        return self.of_router[self.ports[port].router]
+
     def port_of_device(self, router, device):
         """Returns the number of the router's interface of this name."""
         router = self.router_numbers[router]

@@ -24,12 +24,9 @@ class Graph:
         self.boxes, self.paths, self.size = {}, {}, (0, 0)
         near = self.distances()
         for number, port in enumerate(domain.ports):
-            if port.lan is None:
-                self.other[port.router].append(number)
-            elif near["l", port.lan] < near["r", port.router]:
-                self.left[port.router].append(number)
-            else:
-                self.right[port.router].append(number)
+            side = (self.other if port.lan is None else
+                    self.left if near["l", port.lan] < near["r", port.router] else self.right)
+            side[port.router].append(number)
 
     def distances(self):
         """Returns how far each LAN and router is from the nearest root; where none reaches it, from its lowest LAN."""
@@ -141,9 +138,9 @@ class Graph:
                    name_markup(self.domain.routers[router], middle, box.y + 16),
                    *cells, id=f"r{router}", class_="router")
 
-    def lan_markup(self, lan):
-        """Returns a LAN."""
-        box, name = self.boxes[f"l{lan}"], self.domain.lans[lan]
+    def lan_markup(self, lan, name):
+        """Returns a LAN of this name."""
+        box = self.boxes[f"l{lan}"]
         return tag("g", tag("title", f"LAN {name}"),
                    tag("rect", x=box.x, y=box.y + SIGN, width=box.width, height=PILL, rx=PILL // 2),
                    name_markup(name, round(box.x + box.width / 2, 1), box.y + SIGN + 20), id=f"l{lan}", class_="lan")
@@ -159,7 +156,7 @@ class Graph:
                  for number, (first, *points) in sorted(self.paths.items())]
         return tag("svg", tag("defs", *arrows), tag("g", *paths, id="paths"),
                    *(self.router_markup(it) for it in range(len(self.domain.routers))),
-                   *(self.lan_markup(it) for it in range(len(self.domain.lans))), tag("g", id="signs"),
+                   *(self.lan_markup(*it) for it in enumerate(self.domain.lans)), tag("g", id="signs"),
                    id="drawing", viewBox=f"0 0 {width} {height}", width=width, height=height, role="img",
                    aria_label="The domain's LANs and routers; what is marked in it is told in words beside it")
 

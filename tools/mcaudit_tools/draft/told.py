@@ -76,14 +76,6 @@ class Draft:
     flows: list = dataclasses.field(default_factory=list)
 
 
-def address_of(text):
-    """Returns the address of a dotted text, or None."""
-    try:
-        return ipaddress.IPv4Address(text) if isinstance(text, str) else None
-    except ValueError:
-        return None
-
-
 def address_word(word, order):
     """Returns the address that the kernel prints as a number of its machine, or None."""
     if not re.fullmatch(rb"[0-9A-Fa-f]{8}", word):
@@ -93,12 +85,15 @@ def address_word(word, order):
 
 def told_address(local, peer, prefix):
     """Returns what a device's address says, or None if it is none."""
-    local, peer = address_of(local), address_of(peer)
-    if local is None or local.is_loopback or not isinstance(prefix, int) or not 0 <= prefix <= 32:
+    try:
+        own, other = (ipaddress.IPv4Interface(f"{it}/{prefix}") for it in (local, peer or local))
+    except ValueError:
         return None
-    if peer is not None and peer != local:
-        return Address(local, Link(min(local, peer), max(local, peer)))
-    return Address(local, ipaddress.IPv4Network((local, prefix), strict=False) if prefix < 32 else None)
+    if own.ip.is_loopback or not isinstance(prefix, int):
+        return None
+    if own.ip != other.ip:
+        return Address(own.ip, Link(*sorted((own.ip, other.ip))))
+    return Address(own.ip, own.network if prefix < 32 else None)
 
 
 def told_addresses(text):

@@ -11,7 +11,7 @@ from mcaudit_tools.common import Parser, find_tool
 from mcaudit_tools.files import beside, failing, printing
 from mcaudit_tools.page.answer import read_audit, run_audit
 from mcaudit_tools.page.graph import Graph, roots_of
-from mcaudit_tools.page.collected import folder_of
+from mcaudit_tools.page.collected import Folder
 from mcaudit_tools.page.render import page_of
 
 ABOUT = """Makes one page, an HTML file, of what `mcaudit audit` answers of the folder SITE: the verdict, the domain as
@@ -70,7 +70,7 @@ def main():
     """Makes the page that is asked for: of one set, whatever SITE leads to meanwhile. Returns the verdict's status."""
     words = read_arguments()
     find_tool("dot", ": it comes with graphviz")
-    folder = folder_of(words.site)
+    folder = None if words.site is None else Folder(words.site)
     audit = read_audit(words.audit) if words.audit is not None else run_audit(words, folder)
     graph = Graph(audit.domain, roots_of(audit))
     page = page_of(audit, graph if graph.lay_out() else None, folder)

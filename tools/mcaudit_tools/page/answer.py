@@ -59,7 +59,7 @@ class Audit:
         """Begins with nothing."""
         self.domain = self.summary = self.verdict = None
         self.trees, self.flows, self.unlisted, self.without = [], [], [], []
-        self.reasons, self.travels = Once(), Once()
+        self.reasons, self.travels = {}, {}  # their numbers by their JSON, each once
         self.unlisted_more = 0
 
     def take(self, line):
@@ -108,21 +108,8 @@ class Audit:
             place, words = f"l{domain.lan_numbers[finding['lan']]}", finding["lan"]
         told.insert(0, ["", [[place, "fault", SEEN[finding["kind"]]]]])
         return {"kind": finding["kind"], "place": str(words), "found_ttl": int(line["found_ttl"]),
-                "why": self.reasons.number(told), "travel": self.travels.number(travel.steps())}
-
-
-class Once:
-    """Values, each different one once."""
-
-    def __init__(self):
-        """Begins with none."""
-        self.numbers, self.values = {}, []
-
-    def number(self, value):
-        """Returns the number of the value."""
-        number = self.numbers.setdefault(json.dumps(value), len(self.values))
-        self.values += [value] * (number == len(self.values))
-        return number
+                "why": self.reasons.setdefault(json.dumps(told), len(self.reasons)),
+                "travel": self.travels.setdefault(json.dumps(travel.steps()), len(self.travels))}
 
 
 def audit_of(objects):

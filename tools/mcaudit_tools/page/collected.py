@@ -1,6 +1,5 @@
 """The folder that a page is of, and when what lies in it was collected."""
 import contextlib
-import dataclasses
 import os
 import time
 
@@ -11,28 +10,19 @@ from mcaudit_tools.page.explain import some
 from mcaudit_tools.page.markup import table_of, tag
 
 
-@dataclasses.dataclass
 class Folder:
     """The folder that a page is of: its name as it was given, and the set that it led to when the page was begun."""
 
-    named: str
-    path: str
-    is_set: bool
-    was_there: bool = True
+    def __init__(self, name):
+        """Takes the folder of this name, as it is now."""
+        self.named = name.rstrip("/") or name
+        self.path, self.is_set = os.path.realpath(self.named), os.path.islink(self.named)
+        self.was_there = os.path.isdir(self.path)
 
     def check(self):
         """Fails where the set is gone."""
         if self.was_there and not os.path.isdir(self.path):
             raise Failed(f"{self.named}: the set was removed meanwhile")
-
-
-def folder_of(site):
-    """Returns the folder of this name, as it is now; None where none was given."""
-    if site is None:
-        return None
-    named = site.rstrip("/") or site
-    path = os.path.realpath(named)
-    return Folder(named, path, os.path.islink(named), os.path.isdir(path))
 
 
 def file_about(domain, name):

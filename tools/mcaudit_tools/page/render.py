@@ -1,5 +1,6 @@
 """The page: one file of HTML with the verdict, the flows, the graph, and what its script draws on demand."""
 import collections
+import json
 import pathlib
 
 from mcaudit_tools.common import PROGRAM
@@ -120,7 +121,8 @@ def page_data(audit, graph):
     return {"lans": domain.lans, "routers": domain.routers, "outcomes": OUTCOMES, "mark": FLOW,
             "means": MEANS | ({"Missed": MISSED_PERHAPS} if audit.without else {}),
             "ports": [[it.router, it.device, it.lan, number in left] for number, it in enumerate(domain.ports)],
-            "trees": audit.trees, "reasons": audit.reasons.values, "travels": audit.travels.values,
+            "trees": audit.trees, "reasons": [*map(json.loads, audit.reasons)],
+            "travels": [*map(json.loads, audit.travels)],
             "right": right_words(audit), "flows": audit.flows}
 
 

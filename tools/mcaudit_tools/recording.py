@@ -53,13 +53,8 @@ class Recording:
 
     def frames(self, file):
         """Yields the frames of a text."""
-        for line in lines_of(file):
-            frame = self.take(line)
-            if frame is not None:
-                yield frame
-        frame = self.end()
-        if frame is not None:
-            yield frame
+        yield from filter(None, map(self.take, lines_of(file)))
+        yield from filter(None, [self.end()])
 
     def take(self, line):
         """Takes a line. Returns the frame that it ends, or None."""

@@ -42,15 +42,10 @@ def parse_router(word):
     return Router(name, way)
 
 
-def words_of_file(path):
-    """Returns the lines of a file of routers that are none of its comments."""
-    lines = os.fsdecode(read_regular(path, MOST_BYTES)).split("\n")
-    return [it for it in lines if it and not it.startswith("#")]
-
-
 def read_routers(words, files):
-    """Returns the routers of the arguments and of the files, of which no name comes twice."""
-    routers = [parse_router(it) for it in [*words, *(line for path in files for line in words_of_file(path))]]
+    """Returns the routers of the arguments and of the files, whose comments are left aside; no name comes twice."""
+    lines = (line for path in files for line in os.fsdecode(read_regular(path, MOST_BYTES)).split("\n"))
+    routers = [parse_router(it) for it in [*words, *(it for it in lines if it and not it.startswith("#"))]]
     names = [it.name for it in routers]
     for number, name in enumerate(names):
         if name in names[:number]:

@@ -58,7 +58,7 @@ def loaded_tool():
     """The names of the tool's modules."""
     sys.path.insert(0, os.path.join(TOP, "tools"))
     found = {}
-    for name in ("answer", "collected", "graph", "render"):
+    for name in ("answer", "graph", "remarks", "render"):
         found.update(vars(importlib.import_module(f"mcaudit_tools.page.{name}")))
     return types.SimpleNamespace(**found)
 

@@ -61,13 +61,9 @@ def sync_folder(path):
 def sync_files(folder):
     """Puts a folder and its files on the disk."""
     for entry in os.scandir(folder):
-        if not entry.is_file():
-            continue
-        opened = os.open(entry.path, os.O_RDONLY | os.O_CLOEXEC)
-        try:
-            os.fsync(opened)
-        finally:
-            os.close(opened)
+        if entry.is_file():
+            with open(entry.path, "rb") as file:
+                os.fsync(file.fileno())
     sync_folder(folder)
 
 

@@ -11,11 +11,10 @@ import os
 import tempfile
 
 from mcaudit_tools.common import Failed, Parser, options_of, say
-from mcaudit_tools.draft.ask import ask_routers
 from mcaudit_tools.draft.lans import place_vifs
 from mcaudit_tools.draft.measure import IDLE, measure_flows
 from mcaudit_tools.draft.text import measuring_words, print_changes, take_interfaces, text_of
-from mcaudit_tools.draft.told import Draft
+from mcaudit_tools.draft.told import Draft, ask_routers
 from mcaudit_tools.files import beside, failing
 from mcaudit_tools.programs import RUNNING
 from mcaudit_tools.sets import site_of

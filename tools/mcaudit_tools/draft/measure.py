@@ -8,8 +8,7 @@ import shlex
 
 from mcaudit_tools import igmp, recording
 from mcaudit_tools.common import Failed, clean, find_tool
-from mcaudit_tools.draft.ask import PAUSE
-from mcaudit_tools.draft.told import Flow
+from mcaudit_tools.draft.told import PAUSE, Flow
 from mcaudit_tools.programs import run
 
 MOST_FLOWS = 4096

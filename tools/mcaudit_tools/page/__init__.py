@@ -11,7 +11,7 @@ from mcaudit_tools.common import Parser, find_tool
 from mcaudit_tools.files import beside, failing, printing
 from mcaudit_tools.page.answer import read_audit, run_audit
 from mcaudit_tools.page.graph import Graph, roots_of
-from mcaudit_tools.page.collected import Folder
+from mcaudit_tools.page.remarks import Folder
 from mcaudit_tools.page.render import page_of
 
 ABOUT = """Makes one page, an HTML file, of what `mcaudit audit` answers of the folder SITE: the verdict, the domain as

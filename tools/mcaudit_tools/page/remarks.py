@@ -1,10 +1,14 @@
-"""What a page says beside the verdict: the sources and groups that no flow lists, and what isn't judged."""
+"""What a page says beside the verdict: the sources and groups that no flow lists, when what was judged was
+collected, and what isn't judged."""
 import collections
+import contextlib
 import os
 import re
+import time
 
-from mcaudit_tools import topology
-from mcaudit_tools.common import Failed
+from mcaudit_tools import origins, topology
+from mcaudit_tools.ages import Ages
+from mcaudit_tools.common import Failed, say
 from mcaudit_tools.files import read_regular
 from mcaudit_tools.page.explain import some
 from mcaudit_tools.page.markup import table_of, tag
@@ -13,6 +17,85 @@ SHOWN_UNLISTED = 1000
 UNSEEN = ("What the files don't show: rows for every source (*,G) and shared trees, netfilter, rp_filter, other "
           "multicast tables, links that are down, losses, and whatever changed since they were written. The guide "
           "tells of each under “What lies outside”")
+
+
+class Folder:
+    """The folder that a page is of: its name as it was given, and the set that it led to when the page was begun."""
+
+    def __init__(self, name):
+        """Takes the folder of this name, as it is now."""
+        self.named = name.rstrip("/") or name
+        self.path, self.is_set = os.path.realpath(self.named), os.path.islink(self.named)
+        self.was_there = os.path.isdir(self.path)
+
+    def check(self):
+        """Fails where the set is gone."""
+        if self.was_there and not os.path.isdir(self.path):
+            raise Failed(f"{self.named}: the set was removed meanwhile")
+
+
+def file_about(domain, name):
+    """Returns the rank of a file of the folder among the others, and what it is."""
+    prefix, _, rest = name.partition("-")
+    if name == "topology":
+        return 0, 0, "the topology"
+    if prefix in ("vif", "cache") and rest in domain.router_numbers:
+        return 1, domain.router_numbers[rest], f"{'vifs' if prefix == 'vif' else 'rows'} of the router {rest}"
+    if prefix == "igmp" and rest in domain.lan_numbers:
+        return 2, domain.lan_numbers[rest], f"reports of the LAN {rest}"
+    return 3, 0, "not read by an audit"
+
+
+def text_of_time(seconds):
+    """Returns a time as it is shown."""
+    return time.strftime("%Y-%m-%dT%H:%M:%SZ", time.gmtime(seconds))
+
+
+def told_times(domain, folder):
+    """Returns when each file of the folder was written, by name, as its collected.json says; and a sentence on how old
+    what was judged was when the page was made. Both are nothing where that isn't known."""
+    try:
+        known = origins.read(folder.path, folder.named)
+        ages = ", ".join(Ages(folder.path, known, domain.routers, domain.lans).sentences())
+        return ({name: text_of_time(it.time) for name, it in known.items()},
+                f" When this page was made, at {text_of_time(time.time())}: {ages}." if ages else "")
+    except (Failed, OverflowError, ValueError, OSError) as fault:
+        say(str(fault))
+        return {}, ""
+
+
+def collected_section(domain, folder):
+    """Returns when what was judged was collected."""
+    times, ages = told_times(domain, folder) if folder else ({}, "")
+    if not times:
+        return [tag("p", "When the files were written isn't known: there is no list of times beside them, as "
+                         "mcaudit-collect writes it.", ages)]
+    needed = ["topology", *(f"{kind}-{router}" for router in domain.routers for kind in ("vif", "cache")),
+              *(f"igmp-{lan}" for lan in domain.lans)]
+    is_set, own = folder.is_set, {}
+    for name in needed:
+        with contextlib.suppress(OSError, ValueError):  # no such file, or no name of one
+            own[name] = text_of_time(os.stat(os.path.join(folder.path, name)).st_mtime)
+    later = {name: when for name, when in own.items()
+             if name not in times or (is_set and name.startswith("igmp-") and when > times[name])}
+    absent = [name for name in needed if name not in times and name not in own]
+    all_times = {**times, **{name: f"{when}, by the file itself" for name, when in later.items()}}
+    about = {name: file_about(domain, name) for name in all_times}
+    order = sorted(all_times, key=lambda name: (about[name][:2], name))
+    tables = sorted(times[name] for name in times if about[name][0] == 1)
+    said = [f"Set {os.path.basename(folder.path)}; " * is_set + f"{len(order)} files"
+            + (f"; the routers' tables were written from {tables[0]} to {tables[-1]}" if tables else "") + "."]
+    if later:
+        said.append("Gathered or written after the tables, so that collected.json doesn't have their times, but read "
+                    f"by the audit all the same: {some(list(later))}.")
+    if absent:
+        said.append(f"Not in the folder: {some(absent)}.")
+    rows = [tag("tr", tag("td", tag("code", name)), tag("td", about[name][2]), tag("td", all_times[name]))
+            for name in order]
+    return [tag("p", " ".join(said), ages),
+            tag("details", tag("summary", "Each file, and when it was written"),
+                table_of(("File", "What it is", "Written, by collected.json"), rows),
+                open=None if len(rows) > 40 else "")]
 
 
 def comments_of(folder):

@@ -7,8 +7,7 @@ from mcaudit_tools.common import PROGRAM
 from mcaudit_tools.page.explain import FLOW, MEANS, MISSED_PERHAPS, SEEN, some
 from mcaudit_tools.page.graph import DRAWING
 from mcaudit_tools.page.markup import Markup, digest, json_markup, table_of, tag
-from mcaudit_tools.page.collected import collected_section
-from mcaudit_tools.page.remarks import unjudged_section, unlisted_section
+from mcaudit_tools.page.remarks import collected_section, unjudged_section, unlisted_section
 from mcaudit_tools.page.travel import OUTCOMES
 
 # Where the page's script runs, the table is laid out once, when it is whole, and not again and again

@@ -15,7 +15,7 @@ import threading
 import time
 
 from mcaudit_tools import answers, origins, topology, ways
-from mcaudit_tools.common import PROGRAM, Ended, Failed, Parser, clean, say
+from mcaudit_tools.common import PROGRAM, Ended, Failed, Parser, clean, printable, say
 from mcaudit_tools.programs import RUNNING, run
 from mcaudit_tools.sets import Site
 
@@ -135,13 +135,14 @@ class Reading:
     def __init__(self, words, router, folder):
         """Takes the arguments, the router and the folder, which it makes."""
         self.words, self.router, self.folder = words, router, folder
-        self.sentences = []
-        os.mkdir(folder)
+        self.sentences, self.deadline = [], 0.0
+        os.makedirs(folder)
 
     def ask(self, tables):
-        """Asks the router for these tables, for at most the time that a reading has. Returns what is wrong, or None."""
+        """Asks the router for these tables, for at most the time that a reading has, in which all has to be done with
+        the answer too. Returns what is wrong, or None."""
         word, path = answers.random_word(), os.path.join(self.folder, "answer")
-        deadline = time.monotonic() + self.words.timeout
+        self.deadline = time.monotonic() + self.words.timeout
         try:
             with open(path, "wb") as file:
                 came = run(self.router.shell(self.words.ssh), answers.questions(word, tables), self.words.timeout,
@@ -151,7 +152,7 @@ class Reading:
                 return f"the answer has more than {answers.MOST_ANSWER} bytes"
             if came.is_late:
                 raise answers.Late("late")
-            return answers.take_apart(path, word, tables, self.folder, deadline)
+            return answers.take_apart(path, word, tables, self.folder, self.deadline)
         except answers.Late:
             return f"no whole answer in {self.words.timeout} s"
         finally:
@@ -166,20 +167,20 @@ class Reading:
             fault = self.ask(answers.TABLES)
             if fault:
                 return Collected(fault, self.sentences)
-            when, deadline = int(time.time()), time.monotonic() + self.words.timeout
+            when = int(time.time())
             try:
-                shape = answers.shape_of(self.folder, deadline)
+                shape = answers.shape_of(self.folder, self.deadline)
                 if shape == earlier:
-                    return self.ask_more(Collected(line=self.line(count, deadline), folder=self.folder, time=when))
+                    return self.ask_more(Collected(line=self.line(count), folder=self.folder, time=when))
             except answers.Late:
                 return Collected(f"no whole answer in {self.words.timeout} s")
             earlier = shape
         return Collected(f"did not hold still in {self.words.readings} readings")
 
-    def line(self, count, deadline):
+    def line(self, count):
         """Returns what is printed of the router."""
-        vifs, rows = (answers.rows_of(os.path.join(self.folder, it), deadline) for it in answers.TABLES[:2])
-        order = answers.order_of(os.path.join(self.folder, "igmp"), deadline)
+        vifs, rows = (answers.rows_of(os.path.join(self.folder, it), self.deadline) for it in answers.TABLES[:2])
+        order = answers.order_of(os.path.join(self.folder, "igmp"), self.deadline)
         return f"vifs {vifs}, rows {rows}, readings {count}, {order}"
 
     def ask_more(self, found):
@@ -203,7 +204,7 @@ class Reading:
 def collect_router(words, router, scratch):
     """Collects one router, and prints what came of it."""
     try:
-        found = Reading(words, router, os.path.join(scratch, router.name)).collect()
+        found = Reading(words, router, os.path.join(scratch, "routers", router.name)).collect()
     except OSError as fault:
         raise words.site.unwritable(fault) from fault
     if RUNNING.ended.is_set():
@@ -221,7 +222,7 @@ def show(words, line):
     """Prints a line, as long as that can be."""
     try:
         with PRINTING:
-            print(line, flush=True)
+            print(printable(line), flush=True)
     except OSError as fault:
         raise words.site.unwritable(fault) from fault
 
@@ -245,13 +246,14 @@ def collect_all(words, scratch):
 
 def refuse_twins(words, found):
     """Refuses the routers that are one under two names: by what they say of themselves, and else by their ways."""
-    for key in (lambda it: found[it.name].identity, lambda it: None if found[it.name].identity else it.way):
+    for key, is_sure in (lambda it: found[it.name].identity, True), (lambda it: it.way, False):
         same = {}
         for router in words.all:
             if not found[router.name].fault and key(router) is not None:
                 same.setdefault(key(router), []).append(router.name)
         for names in same.values():
-            for name in names if len(names) > 1 else ():
+            is_one = is_sure or not all(found[it].identity for it in names)
+            for name in names if len(names) > 1 and is_one else ():
                 others = " ".join(it for it in names if it != name)
                 found[name] = Collected(f"is the same router as {others}")
                 print(f"{name}: {found[name].fault}", file=sys.stderr, flush=True)

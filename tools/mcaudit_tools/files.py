@@ -9,6 +9,7 @@ import tempfile
 from mcaudit_tools.common import Failed
 
 PIECE = 65536  # bytes that are read at a time
+MOST_DIGITS = 20  # of a number of JSON
 
 
 def reason_of(fault):
@@ -45,10 +46,17 @@ def read_regular(path, most, named=None):
     return data
 
 
+def whole(digits):
+    """Reads a number of JSON, which is a whole one of at most so many digits: a longer one may take hours."""
+    if len(digits) > MOST_DIGITS:
+        raise ValueError("a number of too many digits")
+    return int(digits)
+
+
 def read_json(path, most):
     """Returns the value of a regular file of JSON, which has at most so many bytes. Where its text is no JSON, that is
     a ValueError, or a RecursionError."""
-    return json.loads(read_regular(path, most))
+    return json.loads(read_regular(path, most), parse_int=whole)
 
 
 def sync_folder(path):

@@ -47,6 +47,16 @@ def hold(path):
         yield
 
 
+@contextlib.contextmanager
+def open_folder(path):
+    """Gives the descriptor of an open folder."""
+    opened = os.open(path, os.O_RDONLY | os.O_DIRECTORY | os.O_CLOEXEC)
+    try:
+        yield opened
+    finally:
+        os.close(opened)
+
+
 def lock_folder(path):
     """Opens a folder and takes its lock. Returns the descriptor, with which the lock ends."""
     opened = os.open(path, os.O_RDONLY | os.O_DIRECTORY | os.O_CLOEXEC)

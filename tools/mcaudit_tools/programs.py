@@ -53,13 +53,12 @@ class Running:
             signal.signal(number, self.end_at_signal)
 
     def end_at_signal(self, *_):
-        """Ends the tool, or has it ended as soon as the program that just begins can be ended with it."""
-        if self.is_unheeded:
-            return
+        """Ends the tool, or has it ended as soon as the program that just begins can be ended with it, or as the next
+        one would begin behind steps that no signal may part."""
         for number in SIGNALS:
             signal.signal(number, signal.SIG_IGN)
         self.ended.set()
-        if not self.is_beginning:
+        if not self.is_beginning and not self.is_unheeded:
             raise Ended
 
     @contextlib.contextmanager
@@ -144,12 +143,12 @@ def run(words, text=b"", seconds=None, most=None, into=None, grace=GRACE, keeps_
     once."""
     process = RUNNING.begin(words, stdin=subprocess.PIPE if text else subprocess.DEVNULL, stdout=subprocess.PIPE,
                             stderr=subprocess.PIPE if keeps_words else None)
-    came = Came(0, b"", b"")
+    came, deadline = Came(0, b"", b""), deadline_in(seconds)
     kept = bytearray()
     try:
-        exchange(process, text, deadline_in(seconds), most, into.write if into else kept.extend, came)
+        exchange(process, text, deadline, most, into.write if into else kept.extend, came)
         if not came.is_late and not came.is_long:
-            wait_until(process, deadline_in(seconds), came)
+            wait_until(process, deadline, came)
     finally:
         RUNNING.end(process, 0 if process.poll() is not None else grace)
     came.status, came.printed = process.returncode, bytes(kept)

@@ -5,25 +5,17 @@ import json
 import sys
 
 from mcaudit_tools.common import Failed, Refused
-from mcaudit_tools.files import failing, open_regular
+from mcaudit_tools.files import failing, open_regular, whole
 from mcaudit_tools.programs import run
 
 AUDITING = 300  # seconds that an audit may take
 MOST_BYTES = 256 << 20
 MOST_LINE = 16 << 20
-MOST_DIGITS = 20
 COUNTS = "flows", "right", "wrong", "unwanted"
 
 
 class NoAudit(Refused):
     """Why lines are none that an audit printed."""
-
-
-def whole(digits):
-    """Reads a number, which is a whole one of at most so many digits."""
-    if len(digits) > MOST_DIGITS:
-        raise ValueError("a number of too many digits")
-    return int(digits)
 
 
 def refuse(text):

@@ -15,7 +15,7 @@ import threading
 import time
 
 from mcaudit_tools import answers, origins, topology, ways
-from mcaudit_tools.common import PROGRAM, Ended, Failed, Parser, Wrong, clean, say
+from mcaudit_tools.common import PROGRAM, Ended, Failed, Parser, Wrong, clean, printable, say
 from mcaudit_tools.programs import RUNNING, run
 from mcaudit_tools.sets import Site
 
@@ -127,13 +127,15 @@ class Reading:
 
     def __init__(self, words, router, folder):
         """Takes the arguments, the router and the folder, which it makes."""
-        self.words, self.router, self.folder, self.sentences = words, router, folder, []
-        os.mkdir(folder)
+        self.words, self.router, self.folder = words, router, folder
+        self.sentences, self.deadline = [], 0.0
+        os.makedirs(folder)
 
     def ask(self, tables):
-        """Asks the router for these tables, for at most the time that a reading has. Returns what is wrong, or None."""
+        """Asks the router for these tables, for at most the time that a reading has, in which all has to be done with
+        the answer too. Returns what is wrong, or None."""
         word, path = answers.random_word(), os.path.join(self.folder, "answer")
-        deadline = time.monotonic() + self.words.timeout
+        self.deadline = time.monotonic() + self.words.timeout
         try:
             with open(path, "wb") as file:
                 came = run(self.router.shell(self.words.ssh), answers.questions(word, tables), self.words.timeout,
@@ -144,7 +146,7 @@ class Reading:
             if came.is_late:
                 raise answers.Late("late")
             with open(path, "rb") as file:
-                return answers.Answer(file, word, tables, self.folder, deadline).fault()
+                return answers.Answer(file, word, tables, self.folder, self.deadline).fault()
         except answers.Late:
             return f"no whole answer in {self.words.timeout} s"
         finally:
@@ -159,12 +161,13 @@ class Reading:
             fault = self.ask(answers.TABLES)
             if fault:
                 return Collected(fault, self.sentences)
-            when, deadline = int(time.time()), time.monotonic() + self.words.timeout
+            when = int(time.time())
             try:
-                shape = answers.shape_of(self.folder, deadline)
+                shape = answers.shape_of(self.folder, self.deadline)
                 if shape == earlier:
-                    vifs, rows = (answers.rows_of(os.path.join(self.folder, it), deadline) for it in answers.TABLES[:2])
-                    order = answers.order_of(os.path.join(self.folder, "igmp"), deadline)
+                    vifs, rows = (answers.rows_of(os.path.join(self.folder, it), self.deadline)
+                                  for it in answers.TABLES[:2])
+                    order = answers.order_of(os.path.join(self.folder, "igmp"), self.deadline)
                     return self.ask_more(Collected(line=f"vifs {vifs}, rows {rows}, readings {count}, {order}",
                                                    folder=self.folder, time=when))
             except answers.Late:
@@ -193,7 +196,7 @@ class Reading:
 def collect_router(words, router, scratch):
     """Collects one router, and prints what came of it."""
     with words.site.failing():
-        found = Reading(words, router, os.path.join(scratch, router.name)).collect()
+        found = Reading(words, router, os.path.join(scratch, "routers", router.name)).collect()
     if RUNNING.ended.is_set():
         raise Ended
     if found.fault:
@@ -208,7 +211,7 @@ def collect_router(words, router, scratch):
 def show(words, line):
     """Prints a line, as long as that can be."""
     with words.site.failing(), PRINTING:
-        print(line, flush=True)
+        print(printable(line), flush=True)
 
 
 # All routers
@@ -230,13 +233,14 @@ def collect_all(words, scratch):
 
 def refuse_twins(words, found):
     """Refuses the routers that are one under two names: by what they say of themselves, and else by their ways."""
-    for key in (lambda it: found[it.name].identity, lambda it: None if found[it.name].identity else it.way):
+    for key, is_sure in (lambda it: found[it.name].identity, True), (lambda it: it.way, False):
         same = {}
         for router in words.all:
             if not found[router.name].fault and key(router) is not None:
                 same.setdefault(key(router), []).append(router.name)
         for names in same.values():
-            for name in names if len(names) > 1 else ():
+            is_one = is_sure or not all(found[it].identity for it in names)
+            for name in names if len(names) > 1 and is_one else ():
                 others = " ".join(it for it in names if it != name)
                 found[name] = Collected(f"is the same router as {others}")
                 print(f"{name}: {found[name].fault}", file=sys.stderr, flush=True)

@@ -52,6 +52,11 @@ def clean(text, without=""):
     return "".join(it if " " <= it <= "~" and it not in without else "?" for it in text)
 
 
+def printable(text):
+    """Returns the text with each character as `?` that may command a terminal, or has no bytes."""
+    return "".join(it if it.isprintable() else "?" for it in text)
+
+
 def clean_lines(data):
     """Returns the lines of bytes that another program wrote, each of them clean."""
     return [clean(it) for it in data.decode("ascii", "replace").replace("\r", "").split("\n") if it]

@@ -138,7 +138,7 @@ def judged(path):
     folder = os.path.realpath(path)
     command = [find_tool("mcaudit"), "audit", "--json", "--unlisted", folder]
     status, objects = audits.run_audit(command, f"{path}: mcaudit")
-    if status not in (0, 1) and not os.path.isdir(folder):
+    if not os.path.isdir(folder):
         raise Failed(f"{path}: the set was removed meanwhile")
     if status == 2:
         raise Refused("mcaudit refuses it")

@@ -9,6 +9,7 @@ import tempfile
 from mcaudit_tools.common import Failed
 
 PIECE = 65536  # bytes that are read at a time
+MOST_DIGITS = 20  # of a number of JSON
 
 
 @contextlib.contextmanager
@@ -40,22 +41,37 @@ def read_regular(path, most, named=None):
     return data
 
 
+def whole(digits):
+    """Reads a number of JSON, which is a whole one of at most so many digits: a longer one may take hours."""
+    if len(digits) > MOST_DIGITS:
+        raise ValueError("a number of too many digits")
+    return int(digits)
+
+
 def read_json(path, most):
     """Returns the value of a regular file of JSON, which has at most so many bytes. Where its text is no JSON, that is
     a ValueError, or a RecursionError."""
-    return json.loads(read_regular(path, most))
+    return json.loads(read_regular(path, most), parse_int=whole)
+
+
+@contextlib.contextmanager
+def open_folder(path):
+    """Gives the descriptor of an open folder."""
+    opened = os.open(path, os.O_RDONLY | os.O_DIRECTORY | os.O_CLOEXEC)
+    try:
+        yield opened
+    finally:
+        os.close(opened)
 
 
 def sync_folder(path):
     """Puts the names of a folder on the disk."""
-    opened = os.open(path, os.O_RDONLY | os.O_DIRECTORY | os.O_CLOEXEC)
-    try:
-        os.fsync(opened)
-    except OSError as fault:
-        if fault.errno != errno.EINVAL:  # of a file system that has no such call
-            raise
-    finally:
-        os.close(opened)
+    with open_folder(path) as opened:
+        try:
+            os.fsync(opened)
+        except OSError as fault:
+            if fault.errno != errno.EINVAL:  # of a file system that has no such call
+                raise
 
 
 def sync_files(folder):

@@ -19,10 +19,9 @@ def lock_file(path):
             opened = os.open(path, os.O_RDWR | os.O_CREAT | flags, 0o644)
         except PermissionError:
             opened = os.open(path, os.O_RDONLY | flags)
-    try:
+        file = os.fdopen(opened, "rb")
+    with file:
         yield opened
-    finally:
-        os.close(opened)
 
 
 def try_lock(opened):

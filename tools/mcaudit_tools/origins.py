@@ -31,6 +31,7 @@ class Origin:
     of: "str | None"
     time: int
     unchecked: list = dataclasses.field(default_factory=list)
+    is_timed: bool = True  # the file was given that time
 
 
 class Unknown(Failed):
@@ -53,7 +54,12 @@ def old_origin(name, text):
     """Returns what version 1 says of a file."""
     when = calendar.timegm(time.strptime(text, "%Y-%m-%dT%H:%M:%SZ"))
     prefix = next((it for it in TABLES if name.startswith(it)), None)
-    return Origin(COLLECT, name[len(prefix):], when) if prefix else Origin(OPERATOR, None, when)
+    return Origin(COLLECT if prefix else OPERATOR, name[len(prefix):] if prefix else None, when, is_timed=False)
+
+
+def is_file_name(name):
+    """Whether it names a file of a folder: a path that leads elsewhere is none."""
+    return "/" not in name and name not in ("", ".", "..")
 
 
 def parse(path):
@@ -62,6 +68,8 @@ def parse(path):
         found = read_json(path, MOST_BYTES)
         if found["version"] not in (1, 2) or isinstance(found["version"], bool):
             raise Unknown("it is of a version that is not known")
+        if not all(map(is_file_name, found["files"])):
+            raise ValueError
         if found["version"] == 1:
             return {name: old_origin(name, it) for name, it in found["files"].items()
                     if isinstance(it, str) and OLD_TIME.fullmatch(it)}
@@ -82,28 +90,37 @@ def read(folder, named=None):
 
 def is_copy(folder, known):
     """Whether the folder is a copy whose files have the times of copying: all that are told of are newer than told, but
-    for those that are told of a time too far ahead. A copy is as old as what it copies."""
-    last = time.time() + AHEAD
-    written = {name: os.stat(path).st_mtime for name, path in ((it, os.path.join(folder, it)) for it in known)
-               if known[name].time <= last and os.path.isfile(path)}
-    return bool(written) and all(when > known[name].time + CHANGED for name, when in written.items())
+    for those that are told of a time too far ahead, and those that are older than told. A copy is as old as what it
+    copies."""
+    paths = [(os.path.join(folder, name), origin) for name, origin in known.items() if not is_ahead(origin)]
+    later = [os.stat(path).st_mtime - origin.time for path, origin in paths if os.path.isfile(path)]
+    newer = [it > CHANGED for it in later if it >= -CHANGED]
+    return bool(newer) and all(newer)
+
+
+def is_ahead(origin):
+    """Whether it is told of a time too far ahead."""
+    return origin.time > time.time() + AHEAD
 
 
 def current(path, origin, is_copied):
     """Returns the origin of the file as it is now: where it is newer than told, somebody changed it by hand, unless the
-    whole folder is a copy."""
+    whole folder is a copy; and where it is older, somebody put another one in its place."""
     written = os.stat(path).st_mtime
-    is_told = origin is not None and (written <= origin.time + CHANGED or is_copied)
-    return origin if is_told else Origin(OPERATOR, None, int(written))
+    later = 0 if origin is None else written - origin.time
+    is_changed = origin is None or later > CHANGED and not is_copied
+    is_replaced = later < -CHANGED and origin.is_timed and not is_ahead(origin)
+    return Origin(OPERATOR, None, int(written)) if is_changed or is_replaced else origin
 
 
 def keep_time(path, origin):
-    """Gives a file the time that is told of it, so that whoever changes it by hand is seen."""
-    os.utime(path, (origin.time, origin.time))
+    """Gives a file the time that is told of it, so that whoever changes it by hand is seen. A link has no such time."""
+    if not os.path.islink(path):
+        os.utime(path, (origin.time, origin.time))
 
 
 def text_of(origins):
     """Returns the text of a collected.json."""
-    files = {name: {key: it for key, it in vars(origin).items() if key != "unchecked" or it}
-             for name, origin in sorted(origins.items())}
+    files = {name: {"by": it.by, "of": it.of, "time": it.time, **({"unchecked": it.unchecked} if it.unchecked else {})}
+             for name, it in sorted(origins.items())}
     return json.dumps({"files": files, "version": 2}, sort_keys=True, separators=(",", ":")).encode() + b"\n"

@@ -53,13 +53,12 @@ class Running:
             signal.signal(number, self.end_at_signal)
 
     def end_at_signal(self, *_):
-        """Ends the tool, or has it ended as soon as the program that just begins can be ended with it."""
-        if self.is_unheeded:
-            return
+        """Ends the tool, or has it ended as soon as the program that just begins can be ended with it, or as the next
+        one would begin behind steps that no signal may part."""
         for number in SIGNALS:
             signal.signal(number, signal.SIG_IGN)
         self.ended.set()
-        if not self.is_beginning:
+        if not self.is_beginning and not self.is_unheeded:
             raise Ended
 
     @contextlib.contextmanager
@@ -141,10 +140,11 @@ def run(words, text=b"", seconds=None, most=None, into=None, grace=GRACE, keeps_
     process = RUNNING.begin(words, stdin=subprocess.PIPE if text else subprocess.DEVNULL, stdout=subprocess.PIPE,
                             stderr=subprocess.PIPE if keeps_words else None)
     came, kept = Came(0, b"", b""), bytearray()
+    deadline = None if seconds is None else time.monotonic() + seconds
     try:
-        exchange(process, text, seconds, most, into.write if into else kept.extend, came)
+        exchange(process, text, deadline, most, into.write if into else kept.extend, came)
         if not came.is_late and not came.is_long:
-            process.wait(seconds)
+            process.wait(left_until(deadline))
     except subprocess.TimeoutExpired:
         came.is_late = True
     finally:
@@ -153,9 +153,14 @@ def run(words, text=b"", seconds=None, most=None, into=None, grace=GRACE, keeps_
     return came
 
 
-def exchange(process, text, seconds, most, keep, came):
+def left_until(deadline):
+    """Returns how many seconds are left until then; None, where that never comes."""
+    return None if deadline is None else max(0.0, deadline - time.monotonic())
+
+
+def exchange(process, text, deadline, most, keep, came):
     """Hands a program the text, and takes what it prints and says, until both have ended or a limit is reached."""
-    rest, taken, begun = memoryview(text), 0, time.monotonic()
+    rest, taken = memoryview(text), 0
     with selectors.DefaultSelector() as selector:
         for pipe, event in ((process.stdin, selectors.EVENT_WRITE), (process.stdout, selectors.EVENT_READ),
                             (process.stderr, selectors.EVENT_READ)):
@@ -163,11 +168,10 @@ def exchange(process, text, seconds, most, keep, came):
                 os.set_blocking(pipe.fileno(), False)
                 selector.register(pipe, event)
         while selector.get_map():
-            left = None if seconds is None else begun + seconds - time.monotonic()
-            if left is not None and left <= 0:
+            if left_until(deadline) == 0:
                 came.is_late = True
                 return
-            for key, _ in selector.select(left):
+            for key, _ in selector.select(left_until(deadline)):
                 if key.fileobj is process.stdin:
                     rest = hand_on(process.stdin, rest)
                     if not rest:

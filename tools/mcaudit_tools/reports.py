@@ -210,6 +210,8 @@ def file_list(task, path):
 
 def text_list(task):
     """Reads a recorded text on standard input. Returns its list."""
+    if sys.stdin is None:
+        raise Failed("standard input is closed")
     reader = recording.Recording()
     gathering = Gathering(task.rules(None, False), task.say)
     for frame in reader.frames(sys.stdin.buffer):

@@ -16,12 +16,13 @@ import time
 
 from mcaudit_tools import late, locks, origins
 from mcaudit_tools.common import Failed, Wrong, say
-from mcaudit_tools.files import failing, sync_files, sync_folder, write_beside
+from mcaudit_tools.files import failing, open_folder, sync_files, sync_folder, write_beside
 from mcaudit_tools.programs import RUNNING
 
 SCRATCH = ".reading."  # what the folders are called in which sets are made
 OLD_SCRATCH = re.compile(r"\.reading\.[0-9]+")  # of 0.2.0, which locked none
 STALE = 3600  # seconds after which one of those is nobody's
+MOST_LINKS = 40  # that are followed from a name of a site to it
 SET_NAME = re.compile(r"\d{8}T\d{6}Z", re.ASCII)
 NOT_CARRIED = origins.FILE, "audit.json"
 PLAIN_NAME = re.compile(r"[A-Za-z0-9_.-]+")  # of files that collected.json tells of
@@ -76,6 +77,7 @@ class Site:
         with self.failing():
             os.makedirs(self.sets, exist_ok=True)
             with self.writing():
+                os.makedirs(self.sets, exist_ok=True)  # another run may have taken away its own
                 self.clear_stale()
                 self.clear_links()
                 made = tempfile.mkdtemp(prefix=SCRATCH, dir=self.sets)
@@ -86,7 +88,7 @@ class Site:
             shutil.rmtree(made, ignore_errors=True)
             os.close(opened)
             if is_new:
-                with contextlib.suppress(OSError):
+                with contextlib.suppress(OSError, Failed), self.writing():
                     os.rmdir(self.sets)
 
     def clear_stale(self):
@@ -94,14 +96,11 @@ class Site:
         for entry in list(os.scandir(self.sets)):
             if not entry.name.startswith(SCRATCH) or not entry.is_dir(follow_symlinks=False):
                 continue
-            if OLD_SCRATCH.fullmatch(entry.name) and time.time() - entry.stat().st_mtime < STALE:
+            if OLD_SCRATCH.fullmatch(entry.name) and is_young(entry.path):
                 continue
-            opened = os.open(entry.path, os.O_RDONLY | os.O_DIRECTORY | os.O_CLOEXEC)
-            try:
+            with contextlib.suppress(FileNotFoundError), open_folder(entry.path) as opened:  # its run may end now
                 if locks.try_lock(opened):
                     shutil.rmtree(entry.path, ignore_errors=True)
-            finally:
-                os.close(opened)
 
     def clear_links(self):
         """Removes what a run that was killed as it swapped left beside SITE: a folder with a link in it, or with
@@ -146,7 +145,7 @@ class Site:
         """Copies the plain folder among the sets, and puts the link in its place; it stays beside SITE until then."""
         aside = tempfile.mkdtemp(prefix=f".{os.path.basename(self.path)[:80]}.", dir=os.path.dirname(self.path))
         try:
-            shutil.copytree(self.path, folder, symlinks=True)
+            shutil.copytree(self.path, folder, symlinks=True, copy_function=copy_file)
             for name, (_, target) in moved.items():
                 replace_link(os.path.join(folder, name), target)
             sync_files(folder)
@@ -251,9 +250,16 @@ class Site:
             copy(path, os.path.join(made, name), os.path.join(named, name))
             if PLAIN_NAME.fullmatch(name) and os.path.isfile(path):
                 told[name] = origins.current(path, known.get(name), is_copied)
-                if is_copied and not os.path.islink(path):
+                if is_copied:
                     origins.keep_time(os.path.join(made, name), told[name])
         return told
+
+
+def is_young(path):
+    """Whether a folder of 0.2.0 may be that of a live run."""
+    with contextlib.suppress(FileNotFoundError):
+        return time.time() - os.stat(path).st_mtime < STALE
+    return True
 
 
 def is_left_out(name):
@@ -268,11 +274,18 @@ def copy(path, target, named):
     if os.path.islink(path):
         os.symlink(os.readlink(path), target)
     elif stat.S_ISDIR(kind):
-        shutil.copytree(path, target, symlinks=True)
+        shutil.copytree(path, target, symlinks=True, copy_function=copy_file)
     elif stat.S_ISREG(kind):
         shutil.copy2(path, target)
     else:
         raise Failed(f"{named} is no regular file")
+
+
+def copy_file(path, target):
+    """Copies a file of a folder, which is a regular one: what is none may have no end."""
+    if not stat.S_ISREG(os.lstat(path).st_mode):
+        raise Failed(f"{path} is no regular file")
+    shutil.copy2(path, target)
 
 
 def moved_links(folder, place):
@@ -297,11 +310,18 @@ def replace_link(path, target):
 
 
 def site_of(folder):
-    """Returns the site that a folder is, by its path: a link to a set, or what has a topology; else None."""
+    """Returns the site that a folder is, by its path: a link to a set, or what has a topology; else None. A link that
+    leads to a site is another name of it, and has its lock."""
     is_site = os.path.islink(folder.rstrip("/")) or os.path.lexists(os.path.join(folder, "topology"))
     if not is_site or os.path.basename(folder.rstrip("/")) in ("", ".", ".."):
         return None
-    return Site(folder)
+    path = folder.rstrip("/")
+    for _ in range(MOST_LINKS):
+        target = os.path.join(os.path.dirname(path), os.readlink(path)) if os.path.islink(path) else path
+        if not os.path.islink(target.rstrip("/")):
+            break
+        path = target.rstrip("/")
+    return Site(path)
 
 
 def record(folder, told):

@@ -1,13 +1,17 @@
 """The topology of a site: its routers, LANs and interfaces, whose names are checked before anything is made of them."""
+import contextlib
 import dataclasses
 import os
 import re
+import signal
 
 from mcaudit_tools.common import Failed, is_name
 from mcaudit_tools.files import read_regular
 
 MOST_BYTES = 16 << 20
-DEVICE = re.compile(r"[^\s/\x00-\x20\x7f]{1,15}")  # as the kernel has it
+MOST_DEVICE = 15  # bytes of the name of a device
+DEVICE = re.compile(r"[^\s/:\x00-\x20\x7f-\x9f]+")  # as the kernel has it, but for what commands a terminal
+READING = 10  # seconds that the reading of a topology may take
 
 
 class NoReader(Failed):
@@ -34,11 +38,27 @@ def read_toml(folder, named):
         raise NoReader from fault
     data = read_regular(path, MOST_BYTES, named)
     try:
-        return tomllib.loads(data.decode())
+        with limited(READING, f"{named} can't be read: that takes more than {READING} s"):
+            return tomllib.loads(data.decode())
     except RecursionError as fault:
         raise Failed(f"{named} can't be read: it is nested too deep") from fault
     except ValueError as fault:  # of UTF-8, of TOML, or a number of too many digits
         raise Failed(f"{named} can't be read: {fault}") from fault
+
+
+@contextlib.contextmanager
+def limited(seconds, sentence):
+    """Fails with the sentence where what is done here takes more seconds. It is done in the main thread."""
+    def fail(*_):
+        """Ends it."""
+        raise Failed(sentence)
+    before = signal.signal(signal.SIGALRM, fail)
+    signal.setitimer(signal.ITIMER_REAL, seconds)
+    try:
+        yield
+    finally:
+        signal.setitimer(signal.ITIMER_REAL, 0)
+        signal.signal(signal.SIGALRM, before)
 
 
 def tables_of(path, topology, key):
@@ -51,7 +71,8 @@ def tables_of(path, topology, key):
 
 def checked_name(path, kind, name):
     """Returns the name, where mcaudit would take it, or of a device the kernel."""
-    if not (isinstance(name, str) and DEVICE.fullmatch(name) if kind == "device" else is_name(name)):
+    is_device = isinstance(name, str) and DEVICE.fullmatch(name) and len(os.fsencode(name)) <= MOST_DEVICE
+    if not (is_device if kind == "device" else is_name(name)):
         raise Failed(f"{path}: {name!r} is no name of a {kind}")
     return name
 

@@ -14,6 +14,7 @@ TENTH = SECOND // 10
 LEAST_TENTHS, MOST_TENTHS = 10, 255  # of the answers' time of a query that counts
 MOST_MESSAGES, MOST_BYTES = 65_536, 16 << 20  # of a list, as mcaudit takes it
 MOST_IGNORED, MOST_IGNORED_SENDERS = 8, 2  # packets that receivers ignore, of a list that is given out
+MOST_TOLD = 20  # sentences of each kind on what hosts sent: they may send as much as they like
 NOBODY = bytes(4)
 VERSIONS = {igmp.REPORT_1: "1", igmp.REPORT_2: "2"}  # of IGMP, whose reports ask for every source of their group
 WRITTEN, NO_LIST, REFUSED, SPOILT = 0, 1, 2, 4  # SPOILT: there is no list, and a second try may have one
@@ -89,12 +90,33 @@ def report_fault(report):
     return f"record {cut} doesn't end within the message" if cut else None
 
 
+class Remarks:
+    """Tells a person what was sent: so many sentences of a kind, and then how many more there are."""
+
+    def __init__(self, say):
+        """Takes what tells a person a sentence."""
+        self.say, self.counts = say, {}
+
+    def tell(self, kind, sentence):
+        """Tells a sentence, as long as there aren't too many of its kind."""
+        self.counts[kind] = self.counts.get(kind, 0) + 1
+        if self.counts[kind] <= MOST_TOLD:
+            self.say(sentence)
+
+    def finish(self):
+        """Tells how many more there were of each kind."""
+        for kind, count in self.counts.items():
+            if count > MOST_TOLD:
+                self.say(f"and {count - MOST_TOLD} more {kind}")
+        self.counts.clear()
+
+
 class Gathering:
     """Takes the frames of a capture in their order, and finds the window or the windows."""
 
     def __init__(self, rules, say):
         """Takes the rules, and what tells a person a sentence."""
-        self.rules, self.say = rules, say
+        self.rules, self.say, self.remarks = rules, say, Remarks(say)
         self.window, self.done = None, []
         self.asker, self.others = None, None  # this machine's address, where it asks; who else sent a query
         self.last = None  # when the last frame came
@@ -124,7 +146,7 @@ class Gathering:
         """Takes a frame without a time, which may be an answer."""
         if frame.data[:1] and frame.data[0] >> 4 == 4:
             at = f"line {frame.line}: " if frame.line else ""
-            self.say(f"{at}a packet without a time; record with tcpdump -n -tt -x")
+            self.remarks.tell("packets without a time", f"{at}a packet without a time; record with tcpdump -n -tt -x")
             self.is_lost = True
 
     def see_time(self, time):
@@ -148,7 +170,7 @@ class Gathering:
 
     def spoil(self, sentence):
         """Notes why the list of the window that is open, or was the last, is none of all answers."""
-        self.say(sentence)
+        self.remarks.tell("of what spoils the list", sentence)
         (self.window or self.done[-1]).is_spoilt = True
 
     # Outside of a window
@@ -176,7 +198,7 @@ class Gathering:
             self.window = Window(packet.sender, frame.time, tenths, self.rules.slack)
             if self.rules.is_live and self.asker is None:
                 self.say(f"query of {dotted(packet.sender)}: its answers have {self.window.seconds():g} s")
-        elif self.asker is None and (packet.sender, reason) not in self.told and len(self.told) < 100:
+        elif self.asker is None and (packet.sender, reason) not in self.told and len(self.told) < MOST_TOLD:
             self.told.add((packet.sender, reason))
             self.say(f"a General Query of {dotted(packet.sender)} didn't count: {reason}")
 
@@ -227,7 +249,7 @@ class Gathering:
             window.whole.add(packet.sender)
             window.aside += 1
             if message[0] == igmp.LEAVE:
-                self.say(f"{sender} left a group: its report may still be in the list")
+                self.remarks.tell("leaves", f"{sender} left a group: its report may still be in the list")
             elif igmp.is_general_query(message):
                 self.take_further_query(frame, packet)
 
@@ -235,7 +257,8 @@ class Gathering:
         """Takes a report, and names it where mcaudit would refuse it."""
         fault = self.window.take_report(packet.sender, packet.message)
         if fault and not (self.window.is_refused and fault.startswith("more than")):
-            self.say(f"line {len(self.window.reports)} of {sender}: {fault}")
+            at = f"line {len(self.window.reports)} of {sender}"
+            self.remarks.tell("reports that mcaudit would refuse", f"{at}: {fault}")
         self.window.is_refused |= fault is not None
 
     def take_further_query(self, frame, packet):
@@ -251,6 +274,7 @@ class Gathering:
 
     def finish(self):
         """Ends a recording. Returns the status that it has of itself, or None where there is a list to judge."""
+        self.remarks.finish()
         if self.window is not None and self.last is not None and self.last >= self.window.ends:
             self.close()
         if self.window is not None and not self.rules.is_live:
@@ -292,8 +316,11 @@ def list_of(gathering, statics, is_empty_allowed, option):
     for sender, count in window.ignored.items():
         alone = ", and nothing else of it came" if sender in window.silent() else ""
         say(f"left aside of {dotted(sender)}, too short or with a wrong checksum: {count}{alone}")
+    remarks = Remarks(say)
     for sender, group in sorted({it for earlier in gathering.done[:-1] for it in earlier.wants} - window.wants):
-        say(f"{dotted(sender)} asked for {dotted(group)} in an earlier window, and not in the last one")
+        remarks.tell("wants of an earlier window",
+                     f"{dotted(sender)} asked for {dotted(group)} in an earlier window, and not in the last one")
+    remarks.finish()
     is_silent = not window.is_wanting() and not window.is_refused
     if is_silent:
         of = " for a group that routers forward" if window.reports else ""
@@ -304,7 +331,8 @@ def list_of(gathering, statics, is_empty_allowed, option):
     if window.is_refused:
         say("mcaudit will refuse this list: ask again")
     for (kind, group), count in window.unheeded.items() if not window.is_refused else ():
-        say(f"SSM group {dotted(group)}: reports of IGMP version {kind}, which ask for every source, so that SSM "
-            f"routers ignore them: {count}")
+        remarks.tell("such groups", f"SSM group {dotted(group)}: reports of IGMP version {kind}, which ask for every "
+                     f"source, so that SSM routers ignore them: {count}")
+    remarks.finish()
     unchecked = [f"sender {dotted(it)}" for it in window.silent()]
     return List(REFUSED if window.is_refused else WRITTEN, window.reports + statics, is_silent, unchecked)

@@ -66,7 +66,7 @@ class Answer:
 
     def fault(self):
         """Takes the answer apart. Returns what is wrong with it, or None."""
-        fields = self.first_line()
+        fields = self.line(is_first=True)
         for table in self.tables:
             if fields is None:
                 return "the answer was cut short" if table != self.tables[0] else "could not be reached"
@@ -80,30 +80,23 @@ class Answer:
                     return fault
             else:
                 return "the answer is not what was asked for"
-            fields = self.next_line()
+            fields = self.line()
         if fields is None:
             return "the answer was cut short"
         return None if fields[1:] == [b"end"] else "the answer is not what was asked for"
 
-    def first_line(self):
-        """Returns the fields of the first line that the word begins, whatever was said before; None at the end."""
+    def line(self, is_first=False):
+        """Returns the fields of the next line, which the word has to begin, or of the first one that it begins,
+        whatever was said before; None at the end."""
         while True:
             line = self.file.readline(MOST_LINE)
             if not line:
                 return None
             fields = line.split() if self.is_at_line else []
             self.is_at_line = line.endswith(b"\n")
-            if fields[:1] == [self.word]:
-                return fields
+            if fields[:1] == [self.word] or not is_first:
+                return fields if fields[:1] == [self.word] else [self.word, b""]
             self.check_time()
-
-    def next_line(self):
-        """Returns the fields of the next line, which the word has to begin; None at the end."""
-        line = self.file.readline(MOST_LINE)
-        if not line:
-            return None
-        fields = line.split()
-        return fields if fields[:1] == [self.word] else [self.word, b""]
 
     def take_table(self, table, length):
         """Takes a table of this length, behind which stands a point. Returns what is wrong, or None."""

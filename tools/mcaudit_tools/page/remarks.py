@@ -34,16 +34,12 @@ class Folder:
             raise Failed(f"{self.named}: the set was removed meanwhile")
 
 
-def file_about(domain, name):
-    """Returns the rank of a file of the folder among the others, and what it is."""
-    prefix, _, rest = name.partition("-")
-    if name == "topology":
-        return 0, 0, "the topology"
-    if prefix in ("vif", "cache") and rest in domain.router_numbers:
-        return 1, domain.router_numbers[rest], f"{'vifs' if prefix == 'vif' else 'rows'} of the router {rest}"
-    if prefix == "igmp" and rest in domain.lan_numbers:
-        return 2, domain.lan_numbers[rest], f"reports of the LAN {rest}"
-    return 3, 0, "not read by an audit"
+def files_of(domain):
+    """Returns what each file is that an audit reads, by name."""
+    found = {"topology": "the topology"}
+    for router in domain.routers:
+        found |= {f"vif-{router}": f"vifs of the router {router}", f"cache-{router}": f"rows of the router {router}"}
+    return found | {f"igmp-{lan}": f"reports of the LAN {lan}" for lan in domain.lans}
 
 
 def text_of_time(seconds):
@@ -70,19 +66,16 @@ def collected_section(domain, folder):
     if not times:
         return [tag("p", "When the files were written isn't known: there is no list of times beside them, as "
                          "mcaudit-collect writes it.", ages)]
-    needed = ["topology", *(f"{kind}-{router}" for router in domain.routers for kind in ("vif", "cache")),
-              *(f"igmp-{lan}" for lan in domain.lans)]
-    is_set, own = folder.is_set, {}
-    for name in needed:
+    is_set, own, about = folder.is_set, {}, files_of(domain)
+    for name in about:
         with contextlib.suppress(OSError, ValueError):  # no such file, or no name of one
             own[name] = text_of_time(os.stat(os.path.join(folder.path, name)).st_mtime)
     later = {name: when for name, when in own.items()
              if name not in times or (is_set and name.startswith("igmp-") and when > times[name])}
-    absent = [name for name in needed if name not in times and name not in own]
+    absent = [name for name in about if name not in times and name not in own]
     all_times = {**times, **{name: f"{when}, by the file itself" for name, when in later.items()}}
-    about = {name: file_about(domain, name) for name in all_times}
-    order = sorted(all_times, key=lambda name: (about[name][:2], name))
-    tables = sorted(times[name] for name in times if about[name][0] == 1)
+    order = [it for it in about if it in all_times] + sorted(it for it in all_times if it not in about)
+    tables = sorted(times[it] for it in times if it in about and it.startswith(("vif-", "cache-")))
     said = [f"Set {os.path.basename(folder.path)}; " * is_set + f"{len(order)} files"
             + (f"; the routers' tables were written from {tables[0]} to {tables[-1]}" if tables else "") + "."]
     if later:
@@ -90,8 +83,8 @@ def collected_section(domain, folder):
                     f"by the audit all the same: {some(list(later))}.")
     if absent:
         said.append(f"Not in the folder: {some(absent)}.")
-    rows = [tag("tr", tag("td", tag("code", name)), tag("td", about[name][2]), tag("td", all_times[name]))
-            for name in order]
+    rows = [tag("tr", *(tag("td", it) for it in (tag("code", name), about.get(name, "not read by an audit"),
+                                                 all_times[name]))) for name in order]
     return [tag("p", " ".join(said), ages),
             tag("details", tag("summary", "Each file, and when it was written"),
                 table_of(("File", "What it is", "Written, by collected.json"), rows),

@@ -15,7 +15,7 @@ import threading
 import time
 
 from mcaudit_tools import answers, origins, topology, ways
-from mcaudit_tools.common import PROGRAM, Ended, Failed, Parser, Wrong, clean, printable, say
+from mcaudit_tools.common import Ended, Failed, Parser, Wrong, printable, say
 from mcaudit_tools.programs import RUNNING, run
 from mcaudit_tools.sets import Site
 
@@ -108,16 +108,8 @@ def take_words(parser, found):
         parser.error(str(fault))
     if not found.all and not found.adopt and found.shell is None:
         parser.error("a site and a router are wanted")
-
-
-def shell_on_router(parser_words):
-    """Becomes the shell on the router that --shell names."""
-    for router in parser_words.all:
-        if router.name == parser_words.shell:
-            ways.become_shell(router, parser_words.ssh)
-    print(f"{PROGRAM.name}: {clean(parser_words.shell)} is none of the routers\nTry: {PROGRAM.name} --help",
-          file=sys.stderr)
-    return 5
+    if found.shell is not None and found.shell not in [it.name for it in found.all]:
+        parser.error(f"{found.shell} is none of the routers")
 
 
 # One router
@@ -299,7 +291,7 @@ def main():
     """Collects. Returns the status."""
     words = read_arguments()
     if words.shell is not None:
-        return shell_on_router(words)
+        ways.become_shell(next(it for it in words.all if it.name == words.shell), words.ssh)
     words.site.check(words.adopt)
     with words.site.scratch() as scratch:
         if words.adopt:

@@ -122,7 +122,7 @@ class Gathering:
         self.last = None  # when the last frame came
         self.is_watching = False  # the first report after the window is still to come
         self.is_lost = False  # something came that can't be told in time
-        self.told, self.tagged = set(), 0
+        self.told = set()
 
     def take(self, frame):
         """Takes a frame."""
@@ -131,10 +131,7 @@ class Gathering:
             return
         if not self.rules.is_live:
             self.see_time(frame.time)
-        if any(frame.vlans):
-            self.tagged += 1
-            return
-        packet = igmp.packet_of(frame.data) if frame.data else None
+        packet = igmp.packet_of(frame.data) if frame.data and not any(frame.vlans) else None
         if packet is None:
             return
         if self.window is not None:

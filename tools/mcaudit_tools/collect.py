@@ -263,12 +263,9 @@ def unlisted_of(words, folder):
         return []
     try:
         listed = topology.read_routers(folder, words.site.path)
-    except topology.NoReader as fault:
-        say(f"whether the topology lists all routers isn't known: {fault}")
-        return []
     except Failed as fault:
         say(f"whether the topology lists all routers isn't known: {fault}")
-        return [it.name for it in words.all]
+        return [] if isinstance(fault, topology.NoReader) else [it.name for it in words.all]
     return [it.name for it in words.all if listed and it.name not in listed]
 
 

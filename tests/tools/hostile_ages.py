@@ -142,6 +142,53 @@ def metrics_of_times_that_are_none(place):
     assert read[0] == 0 and age[0] > 1 << 30 and read[1] > 1 << 30 and 30 <= age[1] < 60, (read, age)
 
 
+def told(place, name, age):
+    """Makes the example's folder a site of this name, whose tables and lists are told and dated so many seconds old."""
+    shutil.copytree(NETWORK, place.at(name))
+    now = int(time.time())
+    files = {it: {"by": "collect", "of": None, "time": now - age} for it in os.listdir(NETWORK) if "-" in it}
+    place.write(f"{name}/collected.json", json.dumps({"version": 2, "files": files}))
+    for it in files:
+        os.utime(place.at(name, it), (now - age, now - age))
+
+
+@case
+def older_list_that_is_put_in_the_place_of_a_new_one(place):
+    """It is as old as it is, also where whoever puts it there keeps its time."""
+    told(place, "site", 100)
+    assert place.run("monitor", "--plugin", "--no-collect", "site") == 0, place.said
+    for name, what in (("igmp-l1", "reports of l1 are"), ("cache-r2", "tables of r2 are")):
+        os.utime(place.at("site", name), (time.time() - 9000, time.time() - 9000))
+        assert place.run("monitor", "--plugin", "--no-collect", "site") == 1 and what in place.said, place.said
+        assert re.search(f"{what} 90[0-9][0-9] s old", place.said), place.said
+
+
+@case
+def copy_with_one_file_of_an_older_time(place):
+    """The other files are as old as told, though one of them kept a time from before that."""
+    told(place, "site", 5000)
+    shutil.copytree(place.at("site"), place.at("copy"), copy_function=shutil.copyfile)
+    for written in (time.time() - 20000, time.time()):
+        os.utime(place.at("copy/igmp-l1"), (written, written))
+        assert place.run("monitor", "--plugin", "--no-collect", "copy") == 1, place.said
+        assert place.said.count("are 50") >= 2, place.said
+        assert "tables of r1" in place.said and "tables of r2" in place.said, place.said
+
+
+@case
+def old_table_carried_by_hand_into_the_next_set(place):
+    """A list that was put back by hand stays as old in the sets after it, and is told to be an operator's."""
+    ways = place.routers("r1", "r2")
+    place.site()
+    collected(place, ways)
+    assert place.run("reports", "-o", "site/igmp-l1", "--static", "239.1.2.3") == 0, place.said
+    written = int(time.time()) - 7000
+    os.utime(place.at("site/igmp-l1"), (written, written))
+    collected(place, ways)
+    found = json.loads(place.read("site/collected.json"))["files"]["igmp-l1"]
+    assert found == {"by": "operator", "of": None, "time": written}, found
+
+
 # What 0.2.0 kept
 
 @case

@@ -1,12 +1,15 @@
 """Tries names, bounds and statuses: names are data, nobody waits without end, and what fails has its status."""
+import glob
+import json
 import os
+import re
 import shutil
 import subprocess
 import sys
 import time
 
 import packets as p
-from place import HERE, TOOLS, TOP, case
+from place import GOOD, HERE, LISTED, NETWORK, PROGRAM, TOOLS, TOP, case
 
 
 # Names are data
@@ -93,6 +96,77 @@ except OSError:
     subprocess.run([sys.executable, "-c", script], env={**os.environ, "PYTHONPATH": TOOLS}, check=True)
 
 
+@case
+def signals_within_steps_that_none_may_part(_):
+    """They are heeded behind them, before another program begins."""
+    script = """import os, signal, time
+from mcaudit_tools.common import Ended
+from mcaudit_tools.programs import RUNNING
+RUNNING.heed_signals()
+with RUNNING.unheeded():
+    os.kill(os.getpid(), signal.SIGTERM)
+    time.sleep(.1)
+for wait in (lambda: RUNNING.begin(["true"]), lambda: RUNNING.rest(9)):
+    try:
+        wait()
+        raise SystemExit("it was not heeded")
+    except Ended:
+        pass"""
+    subprocess.run([sys.executable, "-c", script], env={**os.environ, "PYTHONPATH": TOOLS}, check=True)
+
+
+@case
+def topology_that_takes_long_to_read(place):
+    """It is given up, by all who read it: a key of many parts takes more than its length in steps."""
+    place.write("site/topology", ".".join(["a"] * 200000) + " = 1\n")
+    begun = time.monotonic()
+    assert place.run("site", "lans", "site") == 3 and "takes more than 10 s" in place.said, place.said
+    ways = place.routers("r1")
+    assert place.run("collect", "--adopt", "--pause", "0", "site", *ways) == 1, place.said
+    assert "takes more than 10 s" in place.said and time.monotonic() - begun < 60, place.said
+
+
+@case
+def answers_have_one_time(place):
+    """--timeout holds over the answer and what is done with it, also where the way goes on behind it."""
+    place.routers("r1")
+    place.script("lingers", "env R=r1 sh; sleep 4; exec >&- 2>&-; exec sleep 60")
+    begun = time.monotonic()
+    assert place.run("collect", "--timeout", "5", "--pause", "0", "site", "r1=!lingers; :") == 1, place.said
+    assert "no whole answer in 5 s" in place.said and time.monotonic() - begun < 8.5, place.said
+
+
+@case
+def memory_of_a_collector(place):
+    """It is at most 64 MiB, however long answers and their lines are and however many routers there are at once."""
+    place.script("lines", """word=$(sed -n 's/.*"\\(mcaudit-[0-9a-f]*\\) end"/\\1/p')
+printf '%s table ip_mr_vif 1\\n.\\n%s table ip_mr_cache 16000001\\n' "$word" "$word"
+head -c 16000000 /dev/zero | tr '\\0' "$1"; printf '.\\n%s table igmp 1\\n.\\n%s end\\n' "$word" "$word\"""")
+    place.script("long", "head -c 50000000 /dev/zero | tr '\\0' x")
+    ways = [f"r{it}=!{way}" for it, way in enumerate(("lines x", "lines '\\n'", "long; :", "yes; :") * 3)]
+    status, most = place.run_measured("collect", "--at-once", "100", "--timeout", "9", "--pause", "0", "site", *ways)
+    assert status == 1 and most < 64 << 20, (status, most, place.said)
+
+
+@case
+def changes_beyond_number(place):
+    """The first are told, and how many there are: a domain in which all has changed is judged all the same."""
+    ways = place.routers("r1", "r2")
+    place.site()
+    assert place.run("monitor", "--pause", "0", "site", *ways) == 0, place.said
+    shutil.copytree(TOOLS, place.at("tools"), ignore=shutil.ignore_patterns("__pycache__"))
+    place.write("tools/mcaudit-diff", """#!/bin/sh
+yes 'flow 10.0.0.5 239.1.2.3: new fault: Missed l2' | head -n 99999; exit 1
+""")
+    for words, status in ((["--plugin"], 0), ([], 0)):
+        command = [sys.executable, place.at("tools", "mcaudit-monitor"), *words, "--pause", "0", "site", *ways]
+        done = subprocess.run(command, cwd=place.folder, env=place.environment, capture_output=True, check=False)
+        said = done.stdout.decode()
+        assert done.returncode == status and ("changes 99999" in said or "more changes" in said), (done, said[-300:])
+    assert said.count("new fault: Missed l2") + int(re.search("and ([0-9]+) more changes", said)[1]) == 99999
+    assert json.loads(place.read("site.monitor.json"))["last_fault_change"]
+
+
 # Statuses
 
 @case
@@ -142,6 +216,108 @@ def diff_that_crashes(place):
     words = [sys.executable, place.at("tools", "mcaudit-monitor"), "--plugin", "--pause", "0", "site", *ways]
     done = subprocess.run(words, cwd=place.folder, env=place.environment, capture_output=True, check=False)
     assert done.returncode == 3 and done.stdout.startswith(b"MCAUDIT UNKNOWN"), done
+
+
+def words_that_fail():
+    """Yields a tool and words with which nothing comes of it."""
+    yield from (("diff", "no", "no"), ("monitor", "--no-collect", "no"), ("monitor", "--plugin", "--no-collect", "no"),
+                ("reports", "--capture", "no"), ("site", "lans", "no"), ("page", "no"), ("draft", "no", "r1=!false"),
+                ("query", "no"), ("collect", "no/", "r1=!false", "--at-once", "0"))
+
+
+@case
+def failures_that_cannot_be_told(place):
+    """They have the status of a failure, and never that of a verdict or a change, whatever standard error is."""
+    for tool, *words in words_that_fail():
+        for error in ("2> /dev/full", "2>&-", "2>&- < /dev/null", "<&- 2>&-", "> /dev/full 2> /dev/full"):
+            done = subprocess.run(["sh", "-c", f'exec "$@" {error}', "sh", sys.executable, f"{TOOLS}/mcaudit-{tool}",
+                                   *words], cwd=place.folder, env=place.environment, capture_output=True, check=False)
+            wanted = (3, 5) if tool == "collect" else (3,)
+            assert done.returncode in wanted and b"Traceback" not in done.stderr, (tool, words, error, done)
+            assert b"mcaudit-" not in done.stdout, (tool, words, error, done)
+
+
+@case
+def words_beside_a_list_on_standard_output(place):
+    """None comes among its lines, though standard error is closed."""
+    place.write("l1.pcap", p.pcap([(at, p.frame(it)) for at, it in GOOD]))
+    command = 'exec "$@" 2>&-', "sh", sys.executable, f"{TOOLS}/mcaudit-reports", "--capture", "l1.pcap"
+    done = subprocess.run(["sh", "-c", *command], cwd=place.folder, env=place.environment, capture_output=True,
+                          check=False)
+    assert (done.returncode, done.stdout.decode().splitlines()) == (0, LISTED), done
+
+
+@case
+def inputs_and_outputs_that_are_closed_or_full(place):
+    """Each has a sentence and the status 3, the help's and the version's too."""
+    for tool in sorted(os.path.basename(it) for it in glob.glob(f"{TOOLS}/mcaudit-*")):
+        for word in ("--help", "--version"):
+            for output in ("/dev/full", "&-"):
+                command = f'exec "$@" >{output}', "sh", sys.executable, f"{TOOLS}/{tool}", word
+                done = subprocess.run(["sh", "-c", *command], env=place.environment, capture_output=True, check=False)
+                assert done.returncode == 3 and b"standard output" in done.stderr, (tool, word, output, done)
+                assert b"Traceback" not in done.stderr and b"Exception" not in done.stderr, (tool, word, output, done)
+    for tool, *words in (("reports", "--text"), ("diff", "/dev/stdin", "no"), ("page", "--audit", "-")):
+        done = subprocess.run(["sh", "-c", 'exec "$@" <&-', "sh", sys.executable, f"{TOOLS}/mcaudit-{tool}", *words],
+                              env=place.environment, capture_output=True, check=False)
+        assert done.returncode == 3 and b"standard input is closed" in done.stderr, (tool, done)
+
+
+@case
+def tools_that_are_not_installed_whole(place):
+    """A missing or an empty module is told with the status 3, and to a monitor as UNKNOWN."""
+    shutil.copytree(TOOLS, place.at("whole"), ignore=shutil.ignore_patterns("__pycache__"))
+    for path in glob.glob(place.at("whole/mcaudit-*")):
+        place.write(f"bin/{os.path.basename(path)}", open(path, "rb").read())
+    tools = sorted(os.path.basename(it) for it in glob.glob(place.at("bin/mcaudit-*")) if not it.endswith("query"))
+    for broken in (None, "start.py", "common.py", "programs.py", "topology.py", "files.py"):
+        shutil.rmtree(place.at("share"), ignore_errors=True)
+        if broken:
+            shutil.copytree(place.at("whole/mcaudit_tools"), place.at("share/mcaudit/mcaudit_tools"))
+            place.write(f"share/mcaudit/mcaudit_tools/{broken}", "")
+        for tool in tools:
+            for words in (["--no-such-word"], ["--plugin"]):
+                done = subprocess.run([sys.executable, place.at("bin", tool), *words], cwd=place.folder,
+                                      env=place.environment, capture_output=True, check=False)
+                is_plugin = tool == "mcaudit-monitor" and words == ["--plugin"]
+                assert done.returncode == 3 or done.returncode == 5 and broken == "topology.py", (tool, broken, done)
+                assert b"Traceback" not in done.stderr, (tool, broken, done)
+                assert done.stdout.startswith(b"MCAUDIT UNKNOWN") or not is_plugin, (tool, broken, done)
+
+
+@case
+def escapes_of_paths_and_devices(place):
+    """They come to no terminal, and a monitor has its one line."""
+    name = "a\033[2J|\nb"
+    for tool, *words in (("site", "lans", name), ("site", "init", name, "r1=!false"), ("reports", "--capture", name),
+                         ("diff", name, name), ("monitor", "--no-collect", name), ("collect", name, "r1=!false"),
+                         ("monitor", "--plugin", "--no-collect", name), ("page", name), ("draft", name, "r1=!false"),
+                         ("reports", "-o", f"no{name}/x", "lo"), ("collect", "--routers", name, "site")):
+        place.run(tool, *words)
+        assert "\033" not in place.said, (tool, words, place.said)
+        assert "--plugin" not in words or place.said.count("\n") == 1 == place.said.count("|") + 1, place.said
+    for device in ("\\u009b2J", "\\u001b[2J", "a:b", "é" * 8, "a/b", ""):
+        place.write("site/topology", f'lans = ["l1"]\nrouter = [{{name = "r1"}}]\n'
+                    f'interface = [{{router = "r1", lan = "l1", device = "{device}"}}]\n')
+        assert place.run("site", "lans", "site") == 3 and "no name of a device" in place.said, (device, place.said)
+        assert place.said.isascii() and place.said.count("\n") == 1 and place.said[:-1].isprintable(), place.said
+
+
+@case
+def sites_whose_names_are_no_text(place):
+    """A name of any letters is one like others, and so is one of bytes that are no UTF-8, but that mcaudit judges none
+    of those, and whoever runs it says so."""
+    ways = place.routers("r1", "r2")
+    for name in ("é\u202e\u2028b", os.fsdecode(b"s\xff\xe9")):
+        is_text = name.isascii() or "\udcff" not in name
+        shutil.copytree(NETWORK, place.at(name))
+        assert place.run("collect", "--adopt", "--pause", "0", name, *ways) == 0, place.said
+        assert place.run("reports", "-o", f"{name}/igmp-l2", "--static", "239.1.2.3") == 0, place.said
+        assert place.run("site", "lans", name) == 0, place.said
+        for tool, *words in (["monitor", "--pause", "0", "--prometheus", f"{name}.prom", name, *ways],
+                             ["page", "--program", PROGRAM, name, "-o", f"{name}.html"], ["diff", name, name]):
+            status = place.run(tool, *words)
+            assert status == 0 if is_text else status in (3, 5) and place.said, (tool, place.said)
 
 
 @case

@@ -159,7 +159,7 @@ class Site:
             shutil.rmtree(folder, ignore_errors=True)
             raise
         finally:
-            if os.path.lexists(self.path):
+            if os.path.isdir(self.path):
                 shutil.rmtree(aside, ignore_errors=True)
 
     def free_folder(self):
@@ -171,14 +171,26 @@ class Site:
             time.sleep(0.1)
 
     def lead_to(self, name):
-        """Makes the site a link to the set of this name. The new link is made beside SITE, on its disk."""
+        """Makes the site a link to the set of this name; where that doesn't come to the disk, the site is as it was."""
+        before = os.readlink(self.path) if os.path.islink(self.path) else None
+        self.link_to(os.path.join(os.path.basename(self.sets), name))
+        try:
+            sync_folder(os.path.dirname(self.path))
+        except BaseException:
+            if before is None:
+                os.unlink(self.path)
+            else:
+                self.link_to(before)
+            raise
+
+    def link_to(self, target):
+        """Makes the site a link that leads there. The new link is made beside SITE, on its disk."""
         folder, own = os.path.split(self.path)
         made = tempfile.mkdtemp(prefix=f".{own[:80]}.", dir=folder)
         try:
             link = os.path.join(made, "link")
-            os.symlink(os.path.join(os.path.basename(self.sets), name), link)
+            os.symlink(target, link)
             os.replace(link, self.path)
-            sync_folder(folder)
         finally:
             shutil.rmtree(made, ignore_errors=True)
 

@@ -3,6 +3,7 @@ import contextlib
 import errno
 import json
 import os
+import shutil
 import stat
 import tempfile
 
@@ -81,6 +82,25 @@ def sync_files(folder):
             with open(entry.path, "rb") as file:
                 os.fsync(file.fileno())
     sync_folder(folder)
+
+
+def copy(path, target, named):
+    """Copies a file, a link or a folder as it is; what leads nowhere or is neither is told by this name."""
+    with failing(f"{named} can't be read"):
+        kind = os.stat(path).st_mode
+    if os.path.islink(path):
+        os.symlink(os.readlink(path), target)
+    elif stat.S_ISDIR(kind):
+        shutil.copytree(path, target, symlinks=True, copy_function=copy_file)
+    else:
+        copy_file(path, target, named)
+
+
+def copy_file(path, target, named=None):
+    """Copies a file, of a folder or of this name, which is a regular one: what is none may have no end."""
+    if not stat.S_ISREG(os.lstat(path).st_mode):
+        raise Failed(f"{named or path} is no regular file")
+    shutil.copy2(path, target)
 
 
 def printing():

@@ -10,13 +10,12 @@ import contextlib
 import os
 import re
 import shutil
-import stat
 import tempfile
 import time
 
 from mcaudit_tools import late, locks, origins
 from mcaudit_tools.common import Failed, Wrong, say
-from mcaudit_tools.files import failing, open_folder, sync_files, sync_folder, write_beside
+from mcaudit_tools.files import copy, copy_file, failing, open_folder, sync_files, sync_folder, write_beside
 from mcaudit_tools.programs import RUNNING
 
 SCRATCH = ".reading."  # what the folders are called in which sets are made
@@ -277,27 +276,6 @@ def is_young(path):
 def is_left_out(name):
     """Whether a file of a set is never taken into the next one."""
     return name.startswith(".") or name in NOT_CARRIED
-
-
-def copy(path, target, named):
-    """Copies a file, a link or a folder as it is; what leads nowhere or is neither is named."""
-    with failing(f"{named} can't be read"):
-        kind = os.stat(path).st_mode
-    if os.path.islink(path):
-        os.symlink(os.readlink(path), target)
-    elif stat.S_ISDIR(kind):
-        shutil.copytree(path, target, symlinks=True, copy_function=copy_file)
-    elif stat.S_ISREG(kind):
-        shutil.copy2(path, target)
-    else:
-        raise Failed(f"{named} is no regular file")
-
-
-def copy_file(path, target):
-    """Copies a file of a folder, which is a regular one: what is none may have no end."""
-    if not stat.S_ISREG(os.lstat(path).st_mode):
-        raise Failed(f"{path} is no regular file")
-    shutil.copy2(path, target)
 
 
 def moved_links(folder, place):

@@ -22,7 +22,7 @@ import time
 
 sys.dont_write_bytecode = True
 import packets as p  # noqa: E402 pylint: disable=wrong-import-position
-from hostile import NETWORK, PROGRAM, Place  # noqa: E402 pylint: disable=wrong-import-position
+from place import NETWORK, PROGRAM, Place  # noqa: E402 pylint: disable=wrong-import-position
 
 KILLS, FORGERIES = 32, 37
 FREE = range(0, 176, 11)  # KB that a disk has left: from none to what all of them want

@@ -52,6 +52,11 @@ def packet(sender, target, message, ttl=1, protocol=2, fragment=0):
     return head[:10] + struct.pack("!H", checksum(head)) + head[12:] + message
 
 
+def with_a_bad_header(packet):
+    """Returns the packet with a wrong checksum of its header."""
+    return packet[:10] + bytes([packet[10] ^ 255]) + packet[11:]
+
+
 def asked(sender="10.0.1.1", tenths=100, target=ALL_HOSTS, **how):
     """Returns the packet of a General Query."""
     return packet(sender, target, query(tenths), **how)

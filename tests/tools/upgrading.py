@@ -20,7 +20,7 @@ import time
 sys.dont_write_bytecode = True
 sys.path.insert(0, os.path.dirname(os.path.abspath(__file__)))
 import packets as p  # noqa: E402 pylint: disable=wrong-import-position
-from hostile import GOOD, HERE, LISTED, NETWORK, TOOLS, TOP, collected, framed, kept, run_cases  # noqa: E402
+from place import GOOD, HERE, LISTED, NETWORK, TOOLS, TOP, collected, framed, kept, run_cases  # noqa: E402
 
 with open(os.path.join(TOP, "docs", "GUIDE.md"), encoding="utf-8") as opened:
     GUIDE = opened.read()

@@ -12,40 +12,40 @@ class Ages:
     """The times of a set's tables and lists, by where its files come from."""
 
     def __init__(self, folder, known, routers=None, lans=None):
-        """Takes the set's folder, what is told of its files, and the names of what is judged; all, where that isn't
-        known."""
-        self.folder, self.known, self.routers, self.lans = folder, known, routers, lans
-
-    def origins_of(self, prefixes, names):
-        """Yields the name of a router or a LAN and the origin of each of its files."""
+        """Takes the set's folder, which is read at once, what is told of its files, and the names of what is judged;
+        all, where that isn't known."""
+        self.files = {"vif": [], "cache": [], "igmp": []}  # of each kind, whose file it is, and where it comes from
+        judged, entries = {"vif": routers, "cache": routers, "igmp": lans}, []
         with contextlib.suppress(OSError):
-            is_copied = origins.is_copy(self.folder, self.known)
-            for entry in sorted(os.scandir(self.folder), key=lambda it: it.name):
-                prefix, dash, name = entry.name.partition("-")
-                if dash and prefix in prefixes and (names is None or name in names):
-                    yield name, origins.current(entry.path, self.known.get(entry.name), is_copied)
+            is_copied = origins.is_copy(folder, known)
+            entries = sorted(os.scandir(folder), key=lambda it: it.name)
+        for entry in entries:
+            kind, _, name = entry.name.partition("-")
+            if kind in judged and (judged[kind] is None or name in judged[kind]):
+                with contextlib.suppress(OSError):
+                    self.files[kind].append((name, origins.current(entry.path, known.get(entry.name), is_copied)))
 
-    def times(self, prefixes, names):
-        """Returns for each name when the oldest of its files was written, in Unix seconds, by name; LATER, where one of
-        them has a time too far ahead. What an operator decided has no age."""
-        found, last = {}, time.time() + origins.AHEAD
-        for name, origin in self.origins_of(prefixes, names):
+    def times(self, *kinds):
+        """Returns for each name when the oldest of its files of these kinds was written, in Unix seconds, by name;
+        LATER, where one of them has a time too far ahead. What an operator decided has no age."""
+        found = {}
+        for name, origin in (it for kind in kinds for it in self.files[kind]):
             if origin.by != origins.STATIC:
-                when = origin.time if origin.time <= last else LATER
+                when = LATER if origins.is_ahead(origin) else origin.time
                 found[name] = min(when, found.get(name, when))
         return dict(sorted(found.items()))
 
     def tables(self):
         """Returns when each router's tables were read."""
-        return self.times(("vif", "cache"), self.routers)
+        return self.times("vif", "cache")
 
     def reports(self):
         """Returns when each LAN's reports were gathered."""
-        return self.times(("igmp",), self.lans)
+        return self.times("igmp")
 
     def decided(self):
         """Returns the LANs whose lists an operator decided."""
-        return sorted({name for name, it in self.origins_of(("igmp",), self.lans) if it.by == origins.STATIC})
+        return sorted({name for name, it in self.files["igmp"] if it.by == origins.STATIC})
 
     def sentences(self):
         """Returns how old the oldest of the tables and of the lists are, and which lists were decided."""

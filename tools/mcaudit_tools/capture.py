@@ -11,6 +11,7 @@ MOST_BYTES = 1 << 30
 MOST_PACKETS = 10_000_000
 MOST_PACKET = 262_144
 MOST_BLOCK = 1 << 20
+MOST_INTERFACES = 4096
 ALL_HOSTS_MAC = bytes([1, 0, 0x5E, 0, 0, 1])
 IPV4, TAGS = 0x0800, (0x8100, 0x88A8, 0x9100)
 ETHERNET, RAW, COOKED, COOKED_2 = 1, (12, 14, 101, 228), 113, 276
@@ -166,6 +167,8 @@ class Decoder:
                 units = (2 if value[0] & 128 else 10), value[0] & 127
             elif code == 14:
                 offset, = struct.unpack(self.order + "q", value)
+        if len(self.interfaces) >= MOST_INTERFACES:
+            raise Broken(f"the capture has more than {MOST_INTERFACES} interfaces")
         self.interfaces.append((link, units[0] ** units[1], offset, link == COOKED and name == b"any"))
 
     def read_packet(self, body):

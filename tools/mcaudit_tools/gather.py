@@ -1,5 +1,7 @@
 """The lists of all LANs of a site, gathered side by side, and how lists come into a site."""
+import contextlib
 import os
+import resource
 import sys
 import threading
 import time
@@ -16,6 +18,7 @@ from mcaudit_tools.window import NO_LIST, WRITTEN, List
 from mcaudit_tools.ways import SSH
 
 A_SECOND = 10  # LANs that are begun in a second
+MOST_FILES = 8192  # that are open at a time
 
 
 def text_of(messages):
@@ -80,7 +83,7 @@ class Lan:
             raise NoCapture("the router could not be reached")
         others = len({it for it, _ in self.places}) if self.words.ask and not self.words.ask_routers else 0
         return Task(self.words, way.shell(self.words.ssh or SSH), device, self.statics,
-                    lambda sentence: self.say_of(router, device, sentence), router,
+                    lambda sentence: self.say_of(router, device, sentence),
                     self.words.empty or self.is_empty_named(), f"--empty-lan {self.name}",
                     self.words.ask and others < 2, others if others > 1 else None)
 
@@ -109,8 +112,17 @@ def check_lans(words, lans):
                 raise Failed(f"{option}: the topology has no LAN {name}", 5)
 
 
+def allow_files():
+    """Lets as many files be open as the system allows: each LAN has four, and a domain may have 1,024 LANs."""
+    now, most = resource.getrlimit(resource.RLIMIT_NOFILE)
+    if 0 <= now < MOST_FILES:
+        with contextlib.suppress(OSError, ValueError):
+            resource.setrlimit(resource.RLIMIT_NOFILE, (MOST_FILES if most < 0 else min(most, MOST_FILES), most))
+
+
 def gather_side_by_side(lans):
     """Gathers all lists, some more each second, and tells of each what came of it."""
+    allow_files()
     threads = []
     for count, lan in enumerate(lans, 1):
         threads.append(threading.Thread(target=lan.gather, daemon=True))

@@ -58,7 +58,7 @@ class Late:
             self.files = {it: (before, after) for it, (before, after) in found["files"].items()}
             told = {found["from"]: {it: before for it, (before, _) in self.files.items()}, **found.get("others", {})}
             for name, states in told.items() if found["version"] == 1 else ():
-                if os.path.basename(name) == name:
+                if os.path.basename(name) == name and name not in ("", ".", ".."):
                     self.look(os.path.join(os.path.dirname(folder), name), states)
 
     def look(self, earlier, states):

@@ -29,7 +29,6 @@ class Task:
     device: "str | None"
     statics: list
     say: object
-    router: "str | None" = None
     is_empty_allowed: bool = False
     empty_option: str = "--empty"
     is_asking: bool = False
@@ -82,15 +81,24 @@ class Live:
         """Returns the list of the capture."""
         self.say(f"waiting on {self.task.device} for a General Query, at most {self.words.wait} s")
         session.await_start()
-        while self.gathering is None or not self.gathering.is_done():
+        for count in range(self.words.queries):
+            if count > 0:
+                self.close()
             if not self.await_window(session):
                 return List(NO_LIST)
-        dropped = session.end()
-        if dropped:
-            self.say(dropped)
+        lost = session.end()
+        self.close()
+        if lost:
+            self.say(lost)
             self.say("no list: it would lack a report")
             return List(SPOILT)
         return self.task.list_of(self.gathering)
+
+    def close(self):
+        """Ends the window that is open. The last one is, once all has come that the capture gave until its end: it may
+        come late, by a slow way to the router."""
+        if self.gathering is not None and self.gathering.window is not None:
+            self.gathering.close()
 
     def await_window(self, session):
         """Waits for a General Query and for the end of its answers. Returns whether one came."""
@@ -101,7 +109,6 @@ class Live:
             return self.ask_hosts(session)
         session.pump(time.monotonic() + window.seconds() + self.words.slack + MARGIN)
         session.check()
-        self.gathering.close()
         return True
 
     def ask_hosts(self, session):
@@ -126,9 +133,10 @@ class Live:
             self.gathering.take(frame)
         session.pump(time.monotonic() + ANSWERS_SECONDS + self.words.slack + MARGIN)
         session.check()
-        if self.gathering.window is not None:
-            self.gathering.close()
-        return self.gathering.is_done() or self.gathering.finish() is None
+        if len(self.gathering.done) + (self.gathering.window is not None) < self.words.queries:
+            self.close()
+            return self.gathering.finish() is None
+        return True
 
     def send_queries(self, session):
         """Sends the queries on the router or here, while the capture goes on. Returns their address."""

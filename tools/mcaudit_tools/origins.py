@@ -17,6 +17,7 @@ FILE = "collected.json"
 MOST_BYTES = 16 << 20
 TABLES = "vif-", "cache-", "address-", "route-"
 MOST_SECONDS = 1 << 40
+OLD_TIME = re.compile(r"\d{4}-\d\d-\d\dT\d\d:\d\d:\d\dZ", re.ASCII)  # as version 1 has it
 AHEAD = 60  # seconds that a time may be later than now
 CHANGED = 2  # seconds that a file may be newer than its time says
 COLLECT, CAPTURE, STATIC, OPERATOR = "collect", "capture", "static", "operator"
@@ -30,36 +31,19 @@ class Origin:
     of: "str | None"
     time: int
     unchecked: list = dataclasses.field(default_factory=list)
-
-    def as_json(self):
-        """Returns it as collected.json has it."""
-        unchecked = {"unchecked": self.unchecked} if self.unchecked else {}
-        return {"by": self.by, "of": self.of, "time": self.time, **unchecked}
+    is_timed: bool = True  # the file was given that time
 
 
 class Unknown(Failed):
     """A collected.json that says nothing of use."""
 
 
-def is_old_time(value):
-    """Whether it is a time as version 1 has it."""
-    return isinstance(value, str) and re.fullmatch(r"\d{4}-\d\d-\d\dT\d\d:\d\d:\d\dZ", value, re.ASCII) is not None
-
-
-def seconds_of(text):
-    """Returns the time of a text of version 1."""
-    return calendar.timegm(time.strptime(text, "%Y-%m-%dT%H:%M:%SZ"))
-
-
-def is_seconds(value):
-    """Whether it is a time in seconds."""
-    return isinstance(value, int) and not isinstance(value, bool) and 0 <= value <= MOST_SECONDS
-
-
 def origin_of(value):
     """Reads an origin of version 2."""
     by, of, when, unchecked = value["by"], value["of"], value["time"], value.get("unchecked", [])
-    if not isinstance(by, str) or not (of is None or isinstance(of, str)) or not is_seconds(when):
+    if not isinstance(by, str) or not (of is None or isinstance(of, str)):
+        raise ValueError
+    if not isinstance(when, int) or isinstance(when, bool) or not 0 <= when <= MOST_SECONDS:
         raise ValueError
     if not isinstance(unchecked, list) or not all(isinstance(it, str) for it in unchecked):
         raise ValueError
@@ -68,10 +52,14 @@ def origin_of(value):
 
 def old_origin(name, text):
     """Returns what version 1 says of a file."""
+    when = calendar.timegm(time.strptime(text, "%Y-%m-%dT%H:%M:%SZ"))
     prefix = next((it for it in TABLES if name.startswith(it)), None)
-    if prefix:
-        return Origin(COLLECT, name[len(prefix):], seconds_of(text))
-    return Origin(OPERATOR, None, seconds_of(text))
+    return Origin(COLLECT if prefix else OPERATOR, name[len(prefix):] if prefix else None, when, is_timed=False)
+
+
+def is_file_name(name):
+    """Whether it names a file of a folder: a path that leads elsewhere is none."""
+    return "/" not in name and name not in ("", ".", "..")
 
 
 def parse(path):
@@ -80,8 +68,11 @@ def parse(path):
         found = read_json(path, MOST_BYTES)
         if found["version"] not in (1, 2) or isinstance(found["version"], bool):
             raise Unknown("it is of a version that is not known")
+        if not all(map(is_file_name, found["files"])):
+            raise ValueError
         if found["version"] == 1:
-            return {name: old_origin(name, it) for name, it in found["files"].items() if is_old_time(it)}
+            return {name: old_origin(name, it) for name, it in found["files"].items()
+                    if isinstance(it, str) and OLD_TIME.fullmatch(it)}
         return {name: origin_of(it) for name, it in found["files"].items()}
     except (ValueError, KeyError, TypeError, AttributeError, RecursionError, OverflowError) as fault:
         raise Unknown("it is none that a tool wrote") from fault
@@ -97,34 +88,39 @@ def read(folder, named=None):
         raise Unknown(f"{os.path.join(named or folder, FILE)}: {fault}") from fault
 
 
-def by_hand(path):
-    """Returns the origin of a file that nothing tells anything of."""
-    return Origin(OPERATOR, None, int(os.stat(path).st_mtime))
-
-
 def is_copy(folder, known):
     """Whether the folder is a copy whose files have the times of copying: all that are told of are newer than told, but
-    for those that are told of a time too far ahead. A copy is as old as what it copies."""
-    last = time.time() + AHEAD
-    written = {name: os.stat(path).st_mtime for name, path in ((it, os.path.join(folder, it)) for it in known)
-               if known[name].time <= last and os.path.isfile(path)}
-    return bool(written) and all(when > known[name].time + CHANGED for name, when in written.items())
+    for those that are told of a time too far ahead, and those that are older than told. A copy is as old as what it
+    copies."""
+    paths = [(os.path.join(folder, name), origin) for name, origin in known.items() if not is_ahead(origin)]
+    later = [os.stat(path).st_mtime - origin.time for path, origin in paths if os.path.isfile(path)]
+    newer = [it > CHANGED for it in later if it >= -CHANGED]
+    return bool(newer) and all(newer)
+
+
+def is_ahead(origin):
+    """Whether it is told of a time too far ahead."""
+    return origin.time > time.time() + AHEAD
 
 
 def current(path, origin, is_copied):
     """Returns the origin of the file as it is now: where it is newer than told, somebody changed it by hand, unless the
-    whole folder is a copy."""
-    if origin is None or (os.stat(path).st_mtime > origin.time + CHANGED and not is_copied):
-        return by_hand(path)
-    return origin
+    whole folder is a copy; and where it is older, somebody put another one in its place."""
+    written = os.stat(path).st_mtime
+    later = 0 if origin is None else written - origin.time
+    is_changed = origin is None or later > CHANGED and not is_copied
+    is_replaced = later < -CHANGED and origin.is_timed and not is_ahead(origin)
+    return Origin(OPERATOR, None, int(written)) if is_changed or is_replaced else origin
 
 
 def keep_time(path, origin):
-    """Gives a file the time that is told of it, so that whoever changes it by hand is seen."""
-    os.utime(path, (origin.time, origin.time))
+    """Gives a file the time that is told of it, so that whoever changes it by hand is seen. A link has no such time."""
+    if not os.path.islink(path):
+        os.utime(path, (origin.time, origin.time))
 
 
 def text_of(origins):
     """Returns the text of a collected.json."""
-    files = {name: origin.as_json() for name, origin in sorted(origins.items())}
+    files = {name: {"by": it.by, "of": it.of, "time": it.time, **({"unchecked": it.unchecked} if it.unchecked else {})}
+             for name, it in sorted(origins.items())}
     return json.dumps({"files": files, "version": 2}, sort_keys=True, separators=(",", ":")).encode() + b"\n"

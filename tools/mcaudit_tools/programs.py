@@ -53,13 +53,12 @@ class Running:
             signal.signal(number, self.end_at_signal)
 
     def end_at_signal(self, *_):
-        """Ends the tool, or has it ended as soon as the program that just begins can be ended with it."""
-        if self.is_unheeded:
-            return
+        """Ends the tool, or has it ended as soon as the program that just begins can be ended with it, or as the next
+        one would begin behind steps that no signal may part."""
         for number in SIGNALS:
             signal.signal(number, signal.SIG_IGN)
         self.ended.set()
-        if not self.is_beginning:
+        if not self.is_beginning and not self.is_unheeded:
             raise Ended
 
     @contextlib.contextmanager
@@ -101,11 +100,7 @@ class Running:
             process.wait(grace)
         signal_session(process, signal.SIGKILL)
         process.wait()
-        self.forget(process)
-
-    def forget(self, process):
-        """Takes a program off, which has ended, with what it left behind in its session."""
-        signal_session(process, signal.SIGKILL)
+        signal_session(process, signal.SIGKILL)  # what it left behind
         for pipe in (process.stdin, process.stdout, process.stderr):
             if pipe is not None:
                 with contextlib.suppress(OSError):
@@ -144,34 +139,23 @@ def run(words, text=b"", seconds=None, most=None, into=None, grace=GRACE, keeps_
     once."""
     process = RUNNING.begin(words, stdin=subprocess.PIPE if text else subprocess.DEVNULL, stdout=subprocess.PIPE,
                             stderr=subprocess.PIPE if keeps_words else None)
-    came = Came(0, b"", b"")
-    kept = bytearray()
+    came, kept = Came(0, b"", b""), bytearray()
+    deadline = None if seconds is None else time.monotonic() + seconds
     try:
-        exchange(process, text, deadline_in(seconds), most, into.write if into else kept.extend, came)
+        exchange(process, text, deadline, most, into.write if into else kept.extend, came)
         if not came.is_late and not came.is_long:
-            wait_until(process, deadline_in(seconds), came)
+            process.wait(left_until(deadline))
+    except subprocess.TimeoutExpired:
+        came.is_late = True
     finally:
         RUNNING.end(process, 0 if process.poll() is not None else grace)
     came.status, came.printed = process.returncode, bytes(kept)
     return came
 
 
-def deadline_in(seconds):
-    """Returns when so many seconds are over; None never is."""
-    return None if seconds is None else time.monotonic() + seconds
-
-
 def left_until(deadline):
-    """Returns how many seconds are left until then."""
+    """Returns how many seconds are left until then; None, where that never comes."""
     return None if deadline is None else max(0.0, deadline - time.monotonic())
-
-
-def wait_until(process, deadline, came):
-    """Waits for the end of a program whose output has ended."""
-    try:
-        process.wait(left_until(deadline))
-    except subprocess.TimeoutExpired:
-        came.is_late = True
 
 
 def exchange(process, text, deadline, most, keep, came):
@@ -184,7 +168,7 @@ def exchange(process, text, deadline, most, keep, came):
                 os.set_blocking(pipe.fileno(), False)
                 selector.register(pipe, event)
         while selector.get_map():
-            if deadline is not None and time.monotonic() >= deadline:
+            if left_until(deadline) == 0:
                 came.is_late = True
                 return
             for key, _ in selector.select(left_until(deadline)):

@@ -24,7 +24,8 @@ MOST_GREETING, MOST_WORDS = 65536, 16384  # bytes
 MOST_BYTES = 256 << 20  # bytes of a capture until its window is over
 ADDRESS = re.compile(rb"^\s*inet ([0-9.]+)(?: peer ([0-9.]+))?/([0-9]{1,2})\s", re.MULTILINE)
 DROPPED = re.compile(r"[1-9][0-9]* packets? dropped.*")
-COUNTED = re.compile(r"[0-9]+ packets? captured")
+COUNTED = re.compile(r"([0-9]{1,18}) packets? captured")
+RECEIVED = re.compile(r"([0-9]{1,18}) packets? received by filter")
 SCRIPT = """{{
     LC_ALL=C
     export LC_ALL
@@ -136,7 +137,8 @@ class Session:
             raise self.failed()
 
     def end(self):
-        """Ends the capture, and takes all that it still has. Returns what tells how much was dropped, or None."""
+        """Ends the capture, and takes all that it still has. Returns what tells how much was dropped, or left unread as
+        it ended, or None."""
         with contextlib.suppress(OSError):
             self.process.stdin.close()
         self.pump(time.monotonic() + END)
@@ -146,11 +148,14 @@ class Session:
             status = self.process.wait(END)
         except subprocess.TimeoutExpired as fault:
             raise self.failed() from fault
-        sentences = self.sentences()
-        if status != 0 or not any(map(COUNTED.search, sentences)):
+        captured, received, dropped = (next((found for found in map(it.search, self.sentences()) if found), None)
+                                       for it in (COUNTED, RECEIVED, DROPPED))
+        if status != 0 or not captured:
             raise self.failed()
         self.decoder.finish()
-        return next((found[0] for found in map(DROPPED.search, sentences) if found), None)
+        if not dropped and received and int(received[1]) > int(captured[1]):
+            return f"{int(received[1]) - int(captured[1])} packets were left unread as the capture ended"
+        return dropped and dropped[0]
 
     def failed(self):
         """Returns the failure of the capture."""
@@ -159,9 +164,10 @@ class Session:
 
 
 def networks_of(text):
-    """Returns the networks of an interface, of what `ip -4 address` says of it."""
+    """Returns the networks of an interface, of what `ip -4 address` says of it; of a link both ends."""
     found = []
     for local, peer, prefix in ADDRESS.findall(text):
-        with contextlib.suppress(ValueError):
-            found.append(ipaddress.IPv4Network(f"{(peer or local).decode()}/{prefix.decode()}", strict=False))
+        for address, length in ((peer or local, prefix), *([(local, b"32")] if peer else [])):
+            with contextlib.suppress(ValueError):
+                found.append(ipaddress.IPv4Network(f"{address.decode()}/{length.decode()}", strict=False))
     return found

@@ -6,7 +6,7 @@ audit`, each by its own words. It takes nothing over from them but their statuse
 import os
 import subprocess
 
-from mcaudit_tools.common import Failed, Parser, find_tool, options_of, say
+from mcaudit_tools.common import Failed, Parser, find_tool, options_of, printable, say
 from mcaudit_tools.files import read_regular
 from mcaudit_tools.programs import RUNNING
 from mcaudit_tools.topology import MOST_BYTES, read_topology
@@ -82,7 +82,7 @@ def steps_of(words):
               [find_tool("mcaudit-reports"), *reach, *gather, "--all", words.site, *words.ways]),
              ("audit", "judge the folder", [find_tool("mcaudit"), "audit", "--travel"])]
     if os.path.lexists(os.path.join(words.site, "topology")):
-        print(f"{words.site}/topology is there, and stays as it is", flush=True)
+        print(f"{printable(words.site)}/topology is there, and stays as it is", flush=True)
         tell_missing(words.site)
         return steps[1:]
     return steps

@@ -16,17 +16,16 @@ LEAST = (3, 9)
 FAILED = 3
 
 
-def report_to_plugin(sentence):
-    """Tells a monitor that nothing is known."""
-    print("MCAUDIT UNKNOWN - " + sentence)
-
-
 def fail(program, sentence):
-    """Tells why nothing came of it. Returns the status."""
-    if program == "mcaudit-monitor" and "--plugin" in sys.argv[1:] and sys.stdout is not None:
-        report_to_plugin(sentence)
-    elif sys.stderr is not None:
-        print(program + ": " + sentence, file=sys.stderr)
+    """Tells why nothing came of it, in printable characters of ASCII. Returns the status, also where that can't be
+    told."""
+    sentence = "".join(it if " " <= it <= "~" else "?" for it in sentence)
+    is_plugin = program == "mcaudit-monitor" and "--plugin" in sys.argv[1:] and sys.stdout is not None
+    line = "MCAUDIT UNKNOWN - " + sentence.replace("|", "?") if is_plugin else program + ": " + sentence
+    try:
+        print(line, file=sys.stdout if is_plugin else sys.stderr, flush=True)
+    except OSError:
+        give_up(1 if is_plugin else 2)
     return FAILED
 
 
@@ -36,47 +35,65 @@ def finish_output(program, status):
         if sys.stdout is not None:
             sys.stdout.flush()
     except OSError as fault:
-        drop_output()
+        give_up(1)
         return fail(program, "standard output can't be written: {}".format(fault.strerror))
     return status
 
 
-def drop_output():
-    """Gives up what can't be printed, so that the interpreter doesn't try it once more at its end."""
-    os.dup2(os.open(os.devnull, os.O_WRONLY), 1)
+def give_up(number):
+    """Gives up what can't be printed on a descriptor, so that the interpreter doesn't try it once more at its end."""
+    os.dup2(os.open(os.devnull, os.O_WRONLY), number)
+
+
+def open_closed():
+    """Opens what is closed of the standard input and outputs, so that no file of the tool is taken for one of them."""
+    for number in range(3):
+        try:
+            os.fstat(number)
+        except OSError:
+            os.open(os.devnull, os.O_RDWR)
+    if sys.stderr is None:
+        sys.stderr = open(os.devnull, "w")  # noqa: SIM115 pylint: disable=consider-using-with,unspecified-encoding
 
 
 def buffer_output():
-    """Sees that what is printed is written whole or fails: without a buffer (PYTHONUNBUFFERED) a part may be lost."""
-    if sys.stdout is not None and isinstance(sys.stdout.buffer, io.RawIOBase):
+    """Sees that what is printed is written whole or fails: without a buffer (PYTHONUNBUFFERED) a part may be lost. What
+    has no bytes is printed by an escape."""
+    if isinstance(sys.stdout.buffer, io.RawIOBase):
         buffer = io.BufferedWriter(io.FileIO(sys.stdout.fileno(), "wb", closefd=False))
-        sys.stdout = io.TextIOWrapper(buffer, encoding=sys.stdout.encoding, errors=sys.stdout.errors)
+        sys.stdout = io.TextIOWrapper(buffer, encoding=sys.stdout.encoding)
+    if isinstance(sys.stdout, io.TextIOWrapper):
+        sys.stdout.reconfigure(errors="backslashreplace")
 
 
 def run(name, version):
     """Runs the tool of the module with this name, whose script says this version. Returns its status."""
     program = "mcaudit-" + name
+    open_closed()
     if sys.version_info < LEAST:
         return fail(program, "python3 of {}.{} or later is wanted, and this is {}.{}".format(*LEAST, *sys.version_info))
-    common = importlib.import_module("mcaudit_tools.common")
-    running = importlib.import_module("mcaudit_tools.programs").RUNNING
+    try:
+        common = importlib.import_module("mcaudit_tools.common")
+        running = importlib.import_module("mcaudit_tools.programs").RUNNING
+        main = importlib.import_module("mcaudit_tools." + name).main
+    except Exception as fault:  # pylint: disable=broad-exception-caught
+        return fail(program, "it is not installed whole: {}: {}".format(type(fault).__name__, fault))
     try:
         if sys.stdout is None:
             raise common.Failed("standard output is closed")
         buffer_output()
-        common.PROGRAM.take(program, version)
+        common.PROGRAM.name, common.PROGRAM.version = program, version
         running.heed_signals()
-        status = importlib.import_module("mcaudit_tools." + name).main()
+        status = main()
+    except SystemExit as end:
+        status = end.code or 0
     except common.Ended as fault:
         return fault.status
     except common.Failed as fault:
-        try:
-            sys.stdout.flush()
-        except (OSError, AttributeError):
-            drop_output()
-        return fail(program, str(fault)) and fault.status
+        status = finish_output(program, fault.status)
+        return fail(program, str(fault)) and status
     except (BrokenPipeError, OSError) as fault:
-        drop_output()
+        give_up(1)
         return fail(program, "{}: {}".format(type(fault).__name__, fault.strerror or fault))
     except MemoryError:
         return fail(program, "no memory is left")

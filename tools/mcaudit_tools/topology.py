@@ -1,21 +1,23 @@
 """The topology of a site: its routers, LANs and interfaces, whose names are checked before anything is made of them."""
+import contextlib
 import dataclasses
 import os
 import re
+import signal
 
 from mcaudit_tools.common import Failed, is_name
 from mcaudit_tools.files import read_regular
 
 MOST_BYTES = 16 << 20
-DEVICE = re.compile(r"[^\s/\x00-\x20\x7f]{1,15}")  # as the kernel has it
+MOST_DEVICE = 15  # bytes of the name of a device
+DEVICE = re.compile(r"[^\s/:\x00-\x20\x7f-\x9f]+")  # as the kernel has it, but for what commands a terminal
+READING = 10  # seconds that the reading of a topology may take
 
 
 class NoReader(Failed):
     """This Python reads no TOML."""
 
-    def __init__(self):
-        """Takes nothing."""
-        super().__init__("a topology is read by python3 of 3.11 or later")
+    sentence = "a topology is read by python3 of 3.11 or later"
 
 
 @dataclasses.dataclass
@@ -36,11 +38,27 @@ def read_toml(folder, named):
         raise NoReader from fault
     data = read_regular(path, MOST_BYTES, named)
     try:
-        return tomllib.loads(data.decode())
+        with limited(READING, f"{named} can't be read: that takes more than {READING} s"):
+            return tomllib.loads(data.decode())
     except RecursionError as fault:
         raise Failed(f"{named} can't be read: it is nested too deep") from fault
     except ValueError as fault:  # of UTF-8, of TOML, or a number of too many digits
         raise Failed(f"{named} can't be read: {fault}") from fault
+
+
+@contextlib.contextmanager
+def limited(seconds, sentence):
+    """Fails with the sentence where what is done here takes more seconds. It is done in the main thread."""
+    def fail(*_):
+        """Ends it."""
+        raise Failed(sentence)
+    before = signal.signal(signal.SIGALRM, fail)
+    signal.setitimer(signal.ITIMER_REAL, seconds)
+    try:
+        yield
+    finally:
+        signal.setitimer(signal.ITIMER_REAL, 0)
+        signal.signal(signal.SIGALRM, before)
 
 
 def tables_of(path, topology, key):
@@ -52,16 +70,10 @@ def tables_of(path, topology, key):
 
 
 def checked_name(path, kind, name):
-    """Returns the name, where mcaudit would take it."""
-    if not is_name(name):
+    """Returns the name, where mcaudit would take it, or of a device the kernel."""
+    is_device = isinstance(name, str) and DEVICE.fullmatch(name) and len(os.fsencode(name)) <= MOST_DEVICE
+    if not (is_device if kind == "device" else is_name(name)):
         raise Failed(f"{path}: {name!r} is no name of a {kind}")
-    return name
-
-
-def checked_device(path, name):
-    """Returns the name of a device, where the kernel would take it."""
-    if not isinstance(name, str) or not DEVICE.fullmatch(name):
-        raise Failed(f"{path}: {name!r} is no name of a device")
     return name
 
 
@@ -71,8 +83,8 @@ def read_topology(folder, named):
     lans = topology.get("lans", [])
     if not isinstance(lans, list):
         raise Failed(f"{path}: lans is no list")
-    interfaces = [(checked_name(path, "LAN", it.get("lan")), checked_name(path, "router", it.get("router")),
-                   checked_device(path, it.get("device"))) for it in tables_of(path, topology, "interface")]
+    interfaces = [tuple(checked_name(path, kind, it.get(kind.lower())) for kind in ("LAN", "router", "device"))
+                  for it in tables_of(path, topology, "interface")]
     return Topology(router_names(path, topology), [checked_name(path, "LAN", it) for it in lans], interfaces)
 
 

@@ -14,7 +14,9 @@ TENTH = SECOND // 10
 LEAST_TENTHS, MOST_TENTHS = 10, 255  # of the answers' time of a query that counts
 MOST_MESSAGES, MOST_BYTES = 65_536, 16 << 20  # of a list, as mcaudit takes it
 MOST_IGNORED, MOST_IGNORED_SENDERS = 8, 2  # packets that receivers ignore, of a list that is given out
+MOST_TOLD = 20  # sentences of each kind on what hosts sent: they may send as much as they like
 NOBODY = bytes(4)
+VERSIONS = {igmp.REPORT_1: "1", igmp.REPORT_2: "2"}  # of IGMP, whose reports ask for every source of their group
 WRITTEN, NO_LIST, REFUSED, SPOILT = 0, 1, 2, 4  # SPOILT: there is no list, and a second try may have one
 
 
@@ -64,7 +66,7 @@ class Window:
         for group, is_every in igmp.groups_of(report):
             self.wants.add((sender, group))
             if is_every and group[0] == igmp.SSM:
-                key = kind_of(report), group
+                key = VERSIONS.get(report[0], "3 in EXCLUDE mode"), group
                 self.unheeded[key] = self.unheeded.get(key, 0) + 1
         return report_fault(report)
 
@@ -75,11 +77,6 @@ class Window:
     def silent(self):
         """Returns the senders from whom nothing came but what receivers ignore."""
         return [it for it in self.ignored if it not in self.whole]
-
-
-def kind_of(report):
-    """Returns the version of a report that asks for every source of its group."""
-    return {igmp.REPORT_1: "1", igmp.REPORT_2: "2"}.get(report[0], "3 in EXCLUDE mode")
 
 
 def report_fault(report):
@@ -93,18 +90,39 @@ def report_fault(report):
     return f"record {cut} doesn't end within the message" if cut else None
 
 
+class Remarks:
+    """Tells a person what was sent: so many sentences of a kind, and then how many more there are."""
+
+    def __init__(self, say):
+        """Takes what tells a person a sentence."""
+        self.say, self.counts = say, {}
+
+    def tell(self, kind, sentence):
+        """Tells a sentence, as long as there aren't too many of its kind."""
+        self.counts[kind] = self.counts.get(kind, 0) + 1
+        if self.counts[kind] <= MOST_TOLD:
+            self.say(sentence)
+
+    def finish(self):
+        """Tells how many more there were of each kind."""
+        for kind, count in self.counts.items():
+            if count > MOST_TOLD:
+                self.say(f"and {count - MOST_TOLD} more {kind}")
+        self.counts.clear()
+
+
 class Gathering:
     """Takes the frames of a capture in their order, and finds the window or the windows."""
 
     def __init__(self, rules, say):
         """Takes the rules, and what tells a person a sentence."""
-        self.rules, self.say = rules, say
+        self.rules, self.say, self.remarks = rules, say, Remarks(say)
         self.window, self.done = None, []
         self.asker, self.others = None, None  # this machine's address, where it asks; who else sent a query
         self.last = None  # when the last frame came
         self.is_watching = False  # the first report after the window is still to come
         self.is_lost = False  # something came that can't be told in time
-        self.told, self.tagged = set(), 0
+        self.told = set()
 
     def take(self, frame):
         """Takes a frame."""
@@ -113,10 +131,7 @@ class Gathering:
             return
         if not self.rules.is_live:
             self.see_time(frame.time)
-        if any(frame.vlans):
-            self.tagged += 1
-            return
-        packet = igmp.packet_of(frame.data) if frame.data else None
+        packet = igmp.packet_of(frame.data) if frame.data and not any(frame.vlans) else None
         if packet is None:
             return
         if self.window is not None:
@@ -128,7 +143,7 @@ class Gathering:
         """Takes a frame without a time, which may be an answer."""
         if frame.data[:1] and frame.data[0] >> 4 == 4:
             at = f"line {frame.line}: " if frame.line else ""
-            self.say(f"{at}a packet without a time; record with tcpdump -n -tt -x")
+            self.remarks.tell("packets without a time", f"{at}a packet without a time; record with tcpdump -n -tt -x")
             self.is_lost = True
 
     def see_time(self, time):
@@ -152,7 +167,7 @@ class Gathering:
 
     def spoil(self, sentence):
         """Notes why the list of the window that is open, or was the last, is none of all answers."""
-        self.say(sentence)
+        self.remarks.tell("of what spoils the list", sentence)
         (self.window or self.done[-1]).is_spoilt = True
 
     # Outside of a window
@@ -180,7 +195,7 @@ class Gathering:
             self.window = Window(packet.sender, frame.time, tenths, self.rules.slack)
             if self.rules.is_live and self.asker is None:
                 self.say(f"query of {dotted(packet.sender)}: its answers have {self.window.seconds():g} s")
-        elif self.asker is None and (packet.sender, reason) not in self.told and len(self.told) < 100:
+        elif self.asker is None and (packet.sender, reason) not in self.told and len(self.told) < MOST_TOLD:
             self.told.add((packet.sender, reason))
             self.say(f"a General Query of {dotted(packet.sender)} didn't count: {reason}")
 
@@ -231,7 +246,7 @@ class Gathering:
             window.whole.add(packet.sender)
             window.aside += 1
             if message[0] == igmp.LEAVE:
-                self.say(f"{sender} left a group: its report may still be in the list")
+                self.remarks.tell("leaves", f"{sender} left a group: its report may still be in the list")
             elif igmp.is_general_query(message):
                 self.take_further_query(frame, packet)
 
@@ -239,7 +254,8 @@ class Gathering:
         """Takes a report, and names it where mcaudit would refuse it."""
         fault = self.window.take_report(packet.sender, packet.message)
         if fault and not (self.window.is_refused and fault.startswith("more than")):
-            self.say(f"line {len(self.window.reports)} of {sender}: {fault}")
+            at = f"line {len(self.window.reports)} of {sender}"
+            self.remarks.tell("reports that mcaudit would refuse", f"{at}: {fault}")
         self.window.is_refused |= fault is not None
 
     def take_further_query(self, frame, packet):
@@ -255,6 +271,7 @@ class Gathering:
 
     def finish(self):
         """Ends a recording. Returns the status that it has of itself, or None where there is a list to judge."""
+        self.remarks.finish()
         if self.window is not None and self.last is not None and self.last >= self.window.ends:
             self.close()
         if self.window is not None and not self.rules.is_live:
@@ -273,11 +290,6 @@ class Gathering:
             self.say("no list: it would lack a report")
             return SPOILT
         return None
-
-    def missed(self):
-        """Yields who asked for which group in an earlier window, and not in the last one."""
-        earlier = {it for window in self.done[:-1] for it in window.wants}
-        yield from sorted(earlier - self.done[-1].wants)
 
 
 @dataclasses.dataclass
@@ -298,9 +310,14 @@ def list_of(gathering, statics, is_empty_allowed, option):
     window = gathering.done[-1]
     static = f", static {len(statics)}" if statics else ""
     say(f"query of {dotted(window.querier)}: reports {len(window.reports)}, other messages {window.aside}{static}")
-    tell_ignored(window, say)
-    for sender, group in gathering.missed():
-        say(f"{dotted(sender)} asked for {dotted(group)} in an earlier window, and not in the last one")
+    for sender, count in window.ignored.items():
+        alone = ", and nothing else of it came" if sender in window.silent() else ""
+        say(f"left aside of {dotted(sender)}, too short or with a wrong checksum: {count}{alone}")
+    remarks = Remarks(say)
+    for sender, group in sorted({it for earlier in gathering.done[:-1] for it in earlier.wants} - window.wants):
+        remarks.tell("wants of an earlier window",
+                     f"{dotted(sender)} asked for {dotted(group)} in an earlier window, and not in the last one")
+    remarks.finish()
     is_silent = not window.is_wanting() and not window.is_refused
     if is_silent:
         of = " for a group that routers forward" if window.reports else ""
@@ -310,21 +327,9 @@ def list_of(gathering, statics, is_empty_allowed, option):
             return List(NO_LIST)
     if window.is_refused:
         say("mcaudit will refuse this list: ask again")
-    else:
-        tell_unheeded(window, say)
+    for (kind, group), count in window.unheeded.items() if not window.is_refused else ():
+        remarks.tell("such groups", f"SSM group {dotted(group)}: reports of IGMP version {kind}, which ask for every "
+                     f"source, so that SSM routers ignore them: {count}")
+    remarks.finish()
     unchecked = [f"sender {dotted(it)}" for it in window.silent()]
     return List(REFUSED if window.is_refused else WRITTEN, window.reports + statics, is_silent, unchecked)
-
-
-def tell_ignored(window, say):
-    """Names whose packets were left aside."""
-    for sender, count in window.ignored.items():
-        silent = ", and nothing else of it came" if sender in window.silent() else ""
-        say(f"left aside of {dotted(sender)}, too short or with a wrong checksum: {count}{silent}")
-
-
-def tell_unheeded(window, say):
-    """Names the groups of SSM that are asked for in vain."""
-    for (kind, group), count in window.unheeded.items():
-        say(f"SSM group {dotted(group)}: reports of IGMP version {kind}, which ask for every source, so that SSM "
-            f"routers ignore them: {count}")

@@ -17,14 +17,15 @@ from mcaudit_tools import audit as audits
 from mcaudit_tools import locks, origins, sets
 from mcaudit_tools.ages import Ages
 from mcaudit_tools.common import Failed, Refused, clean, find_tool
-from mcaudit_tools.files import printing, read_json, reason_of, write_beside
+from mcaudit_tools.files import failing, printing, read_json, write_beside
 from mcaudit_tools.monitor import metrics, plugin
 from mcaudit_tools.monitor.judged import judged_of
 from mcaudit_tools.monitor.words import read_arguments
 from mcaudit_tools.programs import RUNNING, run
 
 MOST_SHOWN = 20  # flows that are wrong
-MOST_TEXT = 1 << 20  # bytes of what mcaudit-collect and mcaudit-diff print
+MOST_TEXT = 1 << 20  # bytes of what mcaudit-collect prints, and of what is kept of what mcaudit-diff does
+MOST_CHANGES = 1 << 30  # bytes of what mcaudit-diff prints
 MOST_STATE = 1 << 20  # bytes of what is kept
 AUDITING = 300  # seconds that an audit may take
 GRACE = 5  # seconds that what it runs has to end what that began
@@ -37,6 +38,23 @@ class Busy(Failed):
     """Another run is at work."""
 
 
+class Head:
+    """Keeps the first of what is printed, and counts the lines of all."""
+
+    def __init__(self):
+        """Begins with nothing."""
+        self.kept, self.count = bytearray(), 0
+
+    def write(self, piece):
+        """Takes a piece."""
+        self.count += piece.count(b"\n")
+        self.kept += piece[:MOST_TEXT - len(self.kept)]
+
+    def lines(self):
+        """Returns those lines that are kept whole."""
+        return self.kept.decode(errors="replace").splitlines()[:bytes(self.kept).count(b"\n")]
+
+
 # One run
 
 class Run:
@@ -46,17 +64,17 @@ class Run:
         """Takes the words."""
         self.words, self.site = words, words.site
         self.state, self.folder, self.is_locked = {}, None, False
-        self.judged, self.text, self.changes, self.faults = None, None, None, []
-        self.origins, self.origins_fault, self.is_comparing = {}, None, True
+        self.judged, self.text, self.changes, self.count, self.faults = None, None, None, 0, []
+        self.origins, self.origins_fault, self.known_ages, self.is_comparing = {}, None, None, True
 
     def is_answered(self):
         """Whether there is an answer: nothing failed, or the verdict is no in spite of what failed behind it."""
         return self.judged is not None and not (self.faults and self.judged.is_right)
 
-    def command(self, words, most, text=b"", limit=None):
-        """Runs a command to its end. Returns its status, what it printed and, for a plugin, what it said; else that is
-        seen."""
-        came = run(words, text, limit, most, keeps_words=self.words.plugin, grace=GRACE)
+    def command(self, words, most, text=b"", limit=None, into=None):
+        """Runs a command to its end. Returns its status, what it printed, unless that goes into a file, and, for a
+        plugin, what it said; else that is seen."""
+        came = run(words, text, limit, most, into, keeps_words=self.words.plugin, grace=GRACE)
         if came.is_late:
             raise Failed(f"{os.path.basename(words[0])} took more than {limit} s")
         if came.is_long:
@@ -94,7 +112,7 @@ class Run:
     def say(self, text):
         """Says what isn't the answer, where a monitor doesn't read it."""
         if not self.words.plugin:
-            print(f"mcaudit-monitor: {text}", file=sys.stderr)
+            print(f"mcaudit-monitor: {clean(str(text))}", file=sys.stderr)
 
     def collect(self):
         """Makes a new set."""
@@ -110,8 +128,8 @@ class Run:
         self.folder = os.path.realpath(self.site)
         status, self.text, said = self.command([find_tool("mcaudit"), "audit", "--json", "--unlisted", self.folder],
                                                audits.MOST_BYTES, limit=AUDITING)
-        if status not in (0, 1) and os.path.lexists(self.site) and not os.path.isdir(self.folder):
-            raise Failed("the set was removed meanwhile")
+        if os.path.lexists(self.site):
+            self.check_folder()
         if status not in (0, 1):
             kind = "mcaudit refuses the folder" if status == 2 else f"mcaudit ended with status {status}"
             raise Failed(said or kind, status if status in (2, 4) else 3)
@@ -123,14 +141,24 @@ class Run:
             raise Failed(f"mcaudit printed another verdict than that of its status {status}")
         self.read_origins()
         self.check_routers()
+        self.known_ages = Ages(self.folder, self.origins, self.judged.routers, self.judged.lans)
+        self.check_folder()
+
+    def check_folder(self):
+        """Fails where the set that is judged is gone."""
+        if not os.path.isdir(self.folder):
+            raise Failed("the set was removed meanwhile")
 
     def check_routers(self):
         """Fails where routers were collected that the topology doesn't list: a yes would be said as if they weren't
-        there. mcaudit-collect sees that by itself only where its Python reads TOML."""
-        if self.words.no_collect or not self.judged.is_right:
+        there. mcaudit-collect sees that by itself only where its Python reads TOML, and whoever judges what SITE has
+        doesn't see what it ended with."""
+        if not self.judged.is_right:
             return
-        read = sorted(it.removeprefix("vif-") for it in os.listdir(self.folder) if it.startswith("vif-"))
-        unlisted = [it for it in read if it not in self.judged.routers]
+        read = sorted(it for it in os.listdir(self.folder) if it.startswith("vif-"))
+        if self.words.no_collect:
+            read = [it for it in read if it in self.origins and self.origins[it].by == origins.COLLECT]
+        unlisted = [it.removeprefix("vif-") for it in read if it.removeprefix("vif-") not in self.judged.routers]
         if unlisted:
             raise Failed(f"not in the topology, so that nobody judges them: {' '.join(unlisted)}")
 
@@ -148,16 +176,17 @@ class Run:
         path = f"{self.site}.sets/{last}/audit.json"
         if not last or not os.path.exists(path):
             return
-        status, output, said = self.command([find_tool("mcaudit-diff"), path, "/dev/stdin"], MOST_TEXT, self.text,
-                                            AUDITING)
+        head = Head()
+        status, _, said = self.command([find_tool("mcaudit-diff"), path, "/dev/stdin"], MOST_CHANGES, self.text,
+                                       AUDITING, head)
         if status == 2:
             self.say(said or f"mcaudit-diff refuses the audit of {last}")
             self.is_comparing = False
             return
         if status not in (0, 1):
             raise Failed(said or f"mcaudit-diff ended with status {status}: what changed isn't known")
-        self.changes = output.decode(errors="replace").splitlines()
-        if bool(self.changes) != bool(status):
+        self.changes, self.count = head.lines(), head.count
+        if bool(self.count) != bool(status):
             raise Failed("mcaudit-diff printed other changes than its status says")
 
     def work(self):
@@ -181,7 +210,8 @@ class Run:
         if len(judged.wrong) > MOST_SHOWN:
             lines.append(f"and {len(judged.wrong) - MOST_SHOWN} more")
         if self.changes is not None:
-            lines += [f"changed since {last}:", *self.changes] if self.changes else [f"nothing changed since {last}"]
+            more = [f"and {self.count - len(self.changes)} more changes"] * (self.count > len(self.changes))
+            lines += [f"changed since {last}:" if self.count else f"nothing changed since {last}", *self.changes, *more]
         elif not self.is_comparing:
             lines.append(f"what changed since {last} isn't known")
         elif not self.words.no_collect:
@@ -219,13 +249,11 @@ class Run:
     def remove(self, folder, name):
         """Removes a set, which is none from the first moment on."""
         gone = f"{folder}/.removed"
-        try:
+        with failing(f"{folder}/{name} can't be removed"):
             with contextlib.suppress(FileNotFoundError):
                 shutil.rmtree(gone)
             os.rename(f"{folder}/{name}", gone)
             shutil.rmtree(gone)
-        except OSError as fault:
-            raise Failed(f"{folder}/{name} can't be removed: {reason_of(fault)}") from fault
 
     def keep_audit(self):
         """Keeps the audit."""
@@ -233,7 +261,7 @@ class Run:
             write_beside(f"{self.folder}/audit.json", self.text)
             now = int(time.time())
             self.state.update(last_success=now, judged=os.path.basename(self.folder))
-            if self.changes:
+            if self.count:
                 self.state["last_change"] = now
             if any(map(FAULT_CHANGE.match, self.changes or ())):
                 self.state["last_fault_change"] = now
@@ -251,10 +279,8 @@ class Run:
             write_beside(self.words.prometheus, metrics.text_of(self), 0o644)
 
     def ages(self):
-        """Returns how old the files of the set are."""
-        judged = self.judged
-        return Ages(self.folder or os.path.realpath(self.site), self.origins, judged and judged.routers,
-                    judged and judged.lans)
+        """Returns how old the files of the set that was judged are, or of what the site has."""
+        return self.known_ages or Ages(self.folder or os.path.realpath(self.site), self.origins)
 
 
 @contextlib.contextmanager

@@ -27,7 +27,7 @@ def warnings_of(work):
     return found
 
 
-def changes_text(changes):
+def changes_text(count, changes):
     """Returns how many changes there are, and the first of them, among which faults that came or went are the
     first."""
     text = ""
@@ -36,7 +36,7 @@ def changes_text(changes):
             text += CUT if text else ""
             break
         text += f"; {change}" if text else f": {change}"
-    return f"changes {len(changes)}{text}"
+    return f"changes {count}{text}"
 
 
 def line_of(work):
@@ -52,8 +52,8 @@ def line_of(work):
     if status != 3:
         parts = [cut(it, MOST_AGES) for it in work.ages().sentences()]
     most = MOST_LETTERS
-    if status != 3 and work.changes:
-        parts.append(changes_text(work.changes))
+    if status != 3 and work.count:
+        parts.append(changes_text(work.count, work.changes))
         most -= len(parts[-1]) + len(", " + CUT)
     line = f"MCAUDIT {WORDS[status]} - {clean(', '.join([cut(text, most), *parts]), '|')}"
     if status != 3:

@@ -313,7 +313,8 @@ def is_alive(number):
 
 def python_of(path):
     """Returns the path of the interpreter that a command runs."""
-    return subprocess.check_output([path, "-c", "import sys; print(sys.executable)"], text=True).strip()
+    words = [path, "-c", "import sys; print(sys.executable)"]
+    return subprocess.check_output(words, stderr=subprocess.DEVNULL, text=True).strip()
 
 
 def old_pythons():

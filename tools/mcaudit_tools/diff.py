@@ -106,7 +106,7 @@ def names(value):
     """Returns the value, which has to be a list of texts."""
     if not isinstance(value, list):
         raise TypeError
-    return [text(it) for it in value]
+    return [sys.intern(text(it)) for it in value]  # told again and again, of one pair after the other
 
 
 def address(value):

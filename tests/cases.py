@@ -8,7 +8,7 @@ routers is dash; collect and reports also run with bash, and with busybox and it
 Python that reads TOML also run with python3.9 or python3.10, if it is on the PATH. The stand-ins in
 tests/tools/commands replace ssh, tcpdump and what else reaches a router. The program is crates/mcaudit/out/mcaudit, or
 the value of PROGRAM. Each process whose id a stand-in writes to the file `pids` must end with the tool, and no case may
-take 50 s.
+take 120 s.
 
 The last line counts: N passed, M failed. The status is 0 if none failed and at least one ran.
 """
@@ -40,7 +40,7 @@ ALL = (*ASKING, "diff", "draft", "monitor", "page", "query", "site")
 APPLETS = ("cp date grep ln ls mkdir mkfifo mktemp mv od readlink rm rmdir sed setsid sh sleep sync tail timeout tr "
            "wc").split()
 FIRST = "20260101T000000Z"  # the set that exists at first
-PATIENCE = 50  # seconds
+PATIENCE = 120  # seconds
 MOST_LINES = 200  # printed of one difference
 
 
@@ -185,8 +185,8 @@ class ToolCase:
         return subprocess.Popen(command, cwd=self.place, stdin=given, stdout=told, stderr=error, env=environment)
 
     def wait_for_term(self):
-        """Waits until all files of `term` have content, at most 10 s."""
-        until = time.monotonic() + 10
+        """Waits until all files of `term` have content, at most 40 s."""
+        until = time.monotonic() + 40
         for path in (f"{self.place}/{name}" for name in self.value("term").split()):
             while time.monotonic() < until and not (os.path.exists(path) and os.path.getsize(path)):
                 time.sleep(0.1)

@@ -17,6 +17,7 @@ from mcaudit_tools.files import PIECE
 
 SIGNALS = signal.SIGHUP, signal.SIGINT, signal.SIGTERM
 GRACE = 1.0  # seconds that a program has to end by itself
+TURN = 0.5  # seconds after which a thread that runs one looks whether the tool is to end
 MOST_WORDS = 4096  # bytes that are kept of what a program says
 
 
@@ -144,9 +145,7 @@ def run(words, text=b"", seconds=None, most=None, into=None, grace=GRACE, keeps_
     try:
         exchange(process, text, deadline, most, into.write if into else kept.extend, came)
         if not came.is_late and not came.is_long:
-            process.wait(left_until(deadline))
-    except subprocess.TimeoutExpired:
-        came.is_late = True
+            wait_until(process, deadline, came)
     finally:
         RUNNING.end(process, 0 if process.poll() is not None else grace)
     came.status, came.printed = process.returncode, bytes(kept)
@@ -156,6 +155,23 @@ def run(words, text=b"", seconds=None, most=None, into=None, grace=GRACE, keeps_
 def left_until(deadline):
     """Returns how many seconds are left until then; None, where that never comes."""
     return None if deadline is None else max(0.0, deadline - time.monotonic())
+
+
+def turn_until(deadline):
+    """Returns for how many seconds to wait before the next look, at most until then. Fails where the tool is to end: a
+    signal comes to its main thread alone."""
+    if RUNNING.ended.is_set():
+        raise Ended
+    left = left_until(deadline)
+    return TURN if left is None else min(TURN, left)
+
+
+def wait_until(process, deadline, came):
+    """Waits for the end of a program whose output has ended."""
+    while process.poll() is None and not came.is_late:
+        with contextlib.suppress(subprocess.TimeoutExpired):
+            process.wait(turn_until(deadline))
+        came.is_late = left_until(deadline) == 0 and process.poll() is None
 
 
 def exchange(process, text, deadline, most, keep, came):
@@ -171,7 +187,7 @@ def exchange(process, text, deadline, most, keep, came):
             if left_until(deadline) == 0:
                 came.is_late = True
                 return
-            for key, _ in selector.select(left_until(deadline)):
+            for key, _ in selector.select(turn_until(deadline)):
                 if key.fileobj is process.stdin:
                     rest = hand_on(process.stdin, rest)
                     if not rest:

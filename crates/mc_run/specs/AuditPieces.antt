@@ -4,6 +4,7 @@ use Rattle.std.specs.Prelude.{Option, Result, Ok, Err}
 use Rattle.mc_forward.specs.ListedTables.{facts}
 use Rattle.mc_cert.specs.Certificate.{Tree}
 use Rattle.mc_replay.specs.declared.travel.FinishedTravel.{FinishedTravel}
+use Rattle.mc_replay.specs.declared.travel.Travel.{Travel}
 use Rattle.mc_explain.specs.TopologyLans.{interfaces_on_lans}
 use Rattle.mc_explain.specs.SearchLine.{Search}
 use Rattle.mc_explain.specs.WantedText.{lans_wanting, missed_besides}

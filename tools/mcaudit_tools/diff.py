@@ -89,7 +89,7 @@ def typed(kind, value):
 
 def names(value):
     """Returns the value, which has to be a list of texts."""
-    return [sys.intern(typed(str, it)) for it in typed(list, value)]  # named again and again, of one pair after the other
+    return [sys.intern(typed(str, it)) for it in typed(list, value)]  # the same names come often
 
 
 def address(value):

@@ -80,16 +80,24 @@ fn run<F: PieceSource>(
     Ok(answer?)
 }
 
-/// Does the task of the command line. One source gives the files to its run and to the list of those
-/// that are refused, so that both are of one folder.
+/// Does a task and ends with its answer's status. One source gives the files to its run and to the list
+/// of those that are refused, so that both are of one folder.
+fn run_and_end(
+    rt: &(impl AllocGlobal + Files + Input + Print + Eprint),
+    task: &Task<'_>,
+) -> ExitCode {
+    let mut files = folder_of(rt, task);
+    let answer = run(rt, task, &mut files);
+    end_task(rt, task, &mut files, answer)
+}
+
+/// Does the task of the command line.
 fn run_command_line<'a>(
     rt: &(impl Env + AllocGlobal + Files + Input + Print + Eprint),
     words: &'a [&'a str],
 ) -> Result<ExitCode, Failure> {
     let task = command_of(rt.alloc(), words)?;
-    let mut files = folder_of(rt, &task);
-    let answer = run(rt, &task, &mut files);
-    Ok(end_task(rt, &task, &mut files, answer))
+    Ok(run_and_end(rt, &task))
 }
 
 fn try_main(

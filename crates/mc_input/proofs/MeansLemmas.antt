@@ -90,11 +90,11 @@ Means-from_denotes Denotes x v d denotes kept rules =
       input = v;
       denotes = denotes;
       assembled = subst (λ u. IsAssembled u v.tables v.reports d) (sym kept.topology) (record {
-            topology = refl;
-            vifs = kept.vifs_kept;
-            rows = kept.rows_kept;
-            wants = wants.wants;
-          });
+        topology = refl;
+        vifs = kept.vifs_kept;
+        rows = kept.rows_kept;
+        wants = wants.wants;
+      });
       rules = rules;
     }
 

@@ -85,7 +85,9 @@ fn run<F: PieceSource>(
 fn run_and_end(
     rt: &(impl AllocGlobal + Files + Input + Print + Eprint),
     task: &Task<'_>,
-) -> ExitCode {
+) -> ExitCode
+    requires { IsAllowed task.now }
+{
     let mut files = folder_of(rt, task);
     let answer = run(rt, task, &mut files);
     end_task(rt, task, &mut files, answer)

@@ -36,7 +36,7 @@ argparse.ArgumentParser.parse_intermixed_args = catch  # type: ignore
 def parser_of(tool):
     """Returns what reads the arguments of a tool."""
     module_name = "mcaudit_tools." + tool.removeprefix("mcaudit-")
-    PROGRAM.take(tool, "")
+    PROGRAM.name = tool
     if importlib.util.find_spec(module_name):
         read = importlib.import_module(module_name).read_arguments
     else:

@@ -104,7 +104,7 @@ rule 'how a program is run under limits' 1..1 "$(lines 'subprocess\.(Popen|run|c
 rule 'what a tool becomes: the shell on a router' 1..1 "$(lines 'os\.(exec|posix_spawn)' $tools)"
 rule 'how a session of programs is ended' 1..1 "$(lines 'os\.killpg\(' $tools)"
 # (an interrupt before any is heeded is start.py's, which a Python reads that is too old for the others)
-rule 'signals: an interrupt before any is heeded, those that are heeded, those of an end, and that of a closed pipe' 4..4 "$(lines 'signal\.signal\(' $tools)"
+rule 'signals: an interrupt before any is heeded, those heeded, those of an end, that of a closed pipe, and of a limit of time' 6..6 "$(lines 'signal\.signal\(' $tools)"
 rule 'a lock: of a site, and of a scratch folder' 2..2 "$(lines 'fcntl\.flock\(' $tools)"
 rule 'how a file is opened that may be no regular one' 1..1 "$(lines 'O_RDONLY \| os\.O_NONBLOCK' $tools)"
 rule "a reader of the audit's JSON" 1..1 "$(lines '\["format"\]' $tools)"

@@ -6,10 +6,11 @@ import os
 import shutil
 import signal
 import stat
+import tempfile
 import time
 
 import packets as p
-from place import PROGRAM, case, collected
+from place import NETWORK, PROGRAM, case, collected
 
 
 # Nothing that was written is lost, and one moment is judged
@@ -388,3 +389,48 @@ def names_of_other_folders_in_what_a_set_keeps(place):
         collected(place, ways)
         assert "had been made" not in place.said, place.said
         assert not {"bin", "precious"} & {*os.listdir(place.at("site"))}
+
+
+# A disk that fails once the link is renamed
+
+UNSYNCED = """import errno, os
+fsync = os.fsync
+def failing(opened):
+    is_led = os.path.islink({site!r}) and os.readlink({site!r}) != {before!r}
+    if is_led and os.path.samestat(os.fstat(opened), os.stat({folder!r})):
+        raise OSError(errno.EIO, os.strerror(errno.EIO))
+    fsync(opened)
+os.fsync = failing
+"""
+
+
+def without_the_link(place, before):
+    """Has no link of `site` come to the disk but the one that leads there."""
+    text = UNSYNCED.format(folder=place.folder, site=place.at("site"), before=before)
+    place.write("unsynced/sitecustomize.py", text)
+    place.environment["PYTHONPATH"] = place.at("unsynced")
+
+
+@case
+def link_that_does_not_come_to_the_disk(place):
+    """The site leads where it led, to a set that is there."""
+    ways = place.routers("r1", "r2")
+    place.site()
+    without_the_link(place, os.readlink(place.at("site")))
+    assert place.run("collect", "--pause", "0", "site", *ways) == 3, place.said
+    assert os.listdir(place.at("site.sets")) == ["20260101T000000Z"] and place.read("site/topology"), place.said
+
+
+@case
+def folder_whose_link_does_not_come_to_the_disk(place):
+    """What was to be adopted is as it was, also where the sets are on another disk: no copy of it is the last one."""
+    shutil.copytree(NETWORK, place.at("site"))
+    without_the_link(place, "")
+    with tempfile.TemporaryDirectory(dir="/dev/shm" if os.path.isdir("/dev/shm") else None) as sets:
+        for is_elsewhere in False, True:
+            if is_elsewhere:
+                os.symlink(sets, place.at("site.sets"))
+            assert place.run("collect", "--adopt", "site") == 3 and "Input/output error" in place.said, place.said
+            assert not os.path.islink(place.at("site")) and place.read("site/topology"), place.said
+        del place.environment["PYTHONPATH"]
+        assert place.run("collect", "--adopt", "site") == 0 and place.read("site/topology"), place.said

@@ -58,7 +58,7 @@ def loaded_tool():
     """The names of the tool's modules."""
     sys.path.insert(0, os.path.join(TOP, "tools"))
     found = {}
-    for name in ("answer", "collected", "graph", "render"):
+    for name in ("answer", "graph", "remarks", "render"):
         found.update(vars(importlib.import_module(f"mcaudit_tools.page.{name}")))
     return types.SimpleNamespace(**found)
 
@@ -211,7 +211,7 @@ def look_at_hostile_names(check, tool):
                 audit = tool.audit_of(turned(json.loads(line), names) for line in lines)
                 graph = tool.Graph(audit.domain, tool.roots_of(audit))
                 graph.lay_out()
-                folder = tool.Folder("a folder <b onclick=alert(1)>&amp;", "nowhere", False)
+                folder = tool.Folder("a folder <b onclick=alert(1)>&amp;")
                 page = tool.page_of(audit, graph, folder).encode("utf-8", "replace").decode()
                 read = check.whole(f"{example} with {names}", page)
                 told = json.dumps(read.data())
@@ -260,7 +260,7 @@ def look_at_travels(check, tool):
         for said, flow in zip(answer.answers, audit.flows):
             if said.is_right:
                 continue
-            for event, step in zip(said.travel.events, audit.travels.values[flow["travel"]][1:]):
+            for event, step in zip(said.travel.events, json.loads(list(audit.travels)[flow["travel"]])[1:]):
                 router = answer.domain.routers.index(event["router"])
                 row = answer.domain.exact(router, said.flow)
                 pairs = row.pairs if event["outcome"] == "sent" else []

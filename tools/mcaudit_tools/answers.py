@@ -6,6 +6,7 @@ are believed; where a table goes is made of our own name of it.
 """
 import hashlib
 import os
+import re
 import secrets
 import shlex
 import time
@@ -18,6 +19,7 @@ FACTS = "route", "address"
 IDENTITY = "boot", "net"
 MOST_TABLE = 16 << 20  # bytes of a table, as mcaudit takes it
 MOST_ANSWER = 3 * MOST_TABLE + (1 << 20)
+LENGTH = re.compile(rb"[1-9][0-9]{0,8}")  # of a table and its point
 MOST_LINE = 4096  # bytes of a line that is looked into: a kernel's row is far shorter
 SCRIPT = """LC_ALL=C
 export LC_ALL
@@ -64,48 +66,37 @@ class Answer:
 
     def fault(self):
         """Takes the answer apart. Returns what is wrong with it, or None."""
-        fields = self.first_line()
+        fields = self.line(is_first=True)
         for table in self.tables:
             if fields is None:
                 return "the answer was cut short" if table != self.tables[0] else "could not be reached"
             if fields[1:2] == [b"failed"] and fields[2:] == [table.encode()]:
                 open(os.path.join(self.folder, table), "wb").close()
                 if table.startswith("ip_mr_"):
-                    return self.unread(table)
-            elif fields[1:3] == [b"table", table.encode()] and len(fields) == 4 and is_length(fields[3]):
+                    return f"/proc/net/{table} could not be read"
+            elif fields[1:3] == [b"table", table.encode()] and len(fields) == 4 and LENGTH.fullmatch(fields[3]):
                 fault = self.take_table(table, int(fields[3]) - 1)
                 if fault:
                     return fault
             else:
                 return "the answer is not what was asked for"
-            fields = self.next_line()
+            fields = self.line()
         if fields is None:
             return "the answer was cut short"
         return None if fields[1:] == [b"end"] else "the answer is not what was asked for"
 
-    def unread(self, table):
-        """Returns what a router says that could not read the table, where the rest of its answer is whole."""
-        return f"/proc/net/{table} could not be read"
-
-    def first_line(self):
-        """Returns the fields of the first line that the word begins, whatever was said before; None at the end."""
+    def line(self, is_first=False):
+        """Returns the fields of the next line, which the word has to begin, or of the first one that it begins,
+        whatever was said before; None at the end."""
         while True:
             line = self.file.readline(MOST_LINE)
             if not line:
                 return None
             fields = line.split() if self.is_at_line else []
             self.is_at_line = line.endswith(b"\n")
-            if fields[:1] == [self.word]:
-                return fields
+            if fields[:1] == [self.word] or not is_first:
+                return fields if fields[:1] == [self.word] else [self.word, b""]
             self.check_time()
-
-    def next_line(self):
-        """Returns the fields of the next line, which the word has to begin; None at the end."""
-        line = self.file.readline(MOST_LINE)
-        if not line:
-            return None
-        fields = line.split()
-        return fields if fields[:1] == [self.word] else [self.word, b""]
 
     def take_table(self, table, length):
         """Takes a table of this length, behind which stands a point. Returns what is wrong, or None."""
@@ -128,17 +119,6 @@ class Answer:
         """Fails where the time is over."""
         if time.monotonic() > self.deadline:
             raise Late("late")
-
-
-def is_length(field):
-    """Whether it is how long a table and its point are."""
-    return field.isdigit() and not field.startswith(b"0") and len(field) < 10
-
-
-def take_apart(path, word, tables, folder, deadline):
-    """Takes the answer of the file apart, into a file of the folder for each table. Returns what is wrong, or None."""
-    with open(path, "rb") as file:
-        return Answer(file, word, tables, folder, deadline).fault()
 
 
 def lines_of(path, deadline):

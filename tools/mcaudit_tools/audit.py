@@ -5,7 +5,7 @@ import json
 import sys
 
 from mcaudit_tools.common import Failed, Refused
-from mcaudit_tools.files import open_regular, reason_of, whole
+from mcaudit_tools.files import failing, open_regular, whole
 from mcaudit_tools.programs import run
 
 AUDITING = 300  # seconds that an audit may take
@@ -24,34 +24,15 @@ def refuse(text):
 
 
 class Lines:
-    """The lines of an audit, each checked for its place, and at the end that they are all."""
+    """What the lines of an audit have had so far."""
 
     def __init__(self):
         """Begins before the first one."""
-        self.count, self.bytes, self.flows, self.wrong, self.doubtful = 0, 0, 0, 0, 0
+        self.flows, self.wrong, self.doubtful = 0, 0, 0
         self.has_domain, self.summary, self.verdict = False, None, None
 
-    def take(self, line):
-        """Takes a line, with its end. Returns its object."""
-        self.count += 1
-        self.bytes += len(line)
-        try:
-            if not line.endswith(b"\n"):
-                raise NoAudit("it is cut short")
-            if self.bytes > MOST_BYTES or len(line) > MOST_LINE:
-                raise NoAudit("audit prints no such length")
-            value = json.loads(line, parse_int=whole, parse_float=refuse, parse_constant=refuse)
-            if not isinstance(value, dict):
-                raise NoAudit("it is no line of audit")
-            self.see(value)
-            return value
-        except NoAudit as fault:
-            raise NoAudit(f"line {self.count}: {fault}") from fault
-        except (ValueError, KeyError, TypeError, AttributeError, RecursionError) as fault:
-            raise NoAudit(f"line {self.count}: it is no line of audit") from fault
-
     def see(self, value):
-        """Sees that an object has its place among the others."""
+        """Sees that an object has its place among the others, and that the counts and the verdict are theirs."""
         if self.has_domain == ("domain" in value) or (self.summary is not None) != ("verdict" in value) or self.verdict:
             raise NoAudit("no such line stands here in what audit prints")
         if "domain" in value:
@@ -63,53 +44,47 @@ class Lines:
             self.wrong += value["right"] is False
             self.doubtful += value["right"] is None
         elif "summary" in value:
-            self.take_summary(value["summary"])
+            self.summary = value["summary"]
+            if not all(type(self.summary[it]) is int for it in COUNTS):  # pylint: disable=unidiomatic-typecheck
+                raise TypeError
+            if self.summary["flows"] != self.flows:
+                raise NoAudit("it doesn't tell all flows: it was made with --faults, or lines are missing")
+            if self.summary["wrong"] != self.wrong:
+                raise NoAudit("it counts other flows as wrong than it tells")
         elif "verdict" in value:
-            self.take_verdict(value["verdict"])
-
-    def take_summary(self, summary):
-        """Takes how many flows there are, and how many of each kind."""
-        if not all(type(summary[it]) is int for it in COUNTS):  # pylint: disable=unidiomatic-typecheck
-            raise TypeError
-        if summary["flows"] != self.flows:
-            raise NoAudit("it doesn't tell all flows: it was made with --faults, or lines are missing")
-        if summary["wrong"] != self.wrong:
-            raise NoAudit("it counts other flows as wrong than it tells")
-        self.summary = summary
-
-    def take_verdict(self, verdict):
-        """Takes the verdict, which is yes only where no flow is wrong or not known."""
-        self.verdict = {"yes": "yes", "no": "no"}[verdict]
-        if verdict == "yes" and (self.wrong or self.doubtful):
-            raise NoAudit("it is a yes with a flow that is wrong or not known")
-
-    def finish(self):
-        """Sees that all lines have come."""
-        if self.verdict is None:
-            raise NoAudit("it has no verdict: it is cut short")
+            self.verdict = {"yes": "yes", "no": "no"}[value["verdict"]]
+            if self.verdict == "yes" and (self.wrong or self.doubtful):
+                raise NoAudit("it is a yes with a flow that is wrong or not known")
 
 
 def lines_of(file):
     """Yields the objects of an open file's lines, which are those of a whole audit."""
-    lines = Lines()
-    for line in iter(lambda: file.readline(MOST_LINE + 1), b""):
-        yield lines.take(line)
-    lines.finish()
-
-
-def lines_of_file(path):
-    """Yields the objects of a file of what an audit printed."""
-    with open_regular(path) as file:
+    lines, taken = Lines(), 0
+    for count, line in enumerate(iter(lambda: file.readline(MOST_LINE + 1), b""), 1):
+        taken += len(line)
         try:
-            yield from lines_of(file)
-        except OSError as fault:
-            raise Failed(f"{path} can't be read: {reason_of(fault)}") from fault
+            if not line.endswith(b"\n"):
+                raise NoAudit("it is cut short")
+            if taken > MOST_BYTES or len(line) > MOST_LINE:
+                raise NoAudit("audit prints no such length")
+            value = json.loads(line, parse_int=whole, parse_float=refuse, parse_constant=refuse)
+            if not isinstance(value, dict):
+                raise TypeError
+            lines.see(value)
+        except NoAudit as fault:
+            raise NoAudit(f"line {count}: {fault}") from fault
+        except (ValueError, KeyError, TypeError, AttributeError, RecursionError) as fault:
+            raise NoAudit(f"line {count}: it is no line of audit") from fault
+        yield value
+    if lines.verdict is None:
+        raise NoAudit("it has no verdict: it is cut short")
 
 
 def objects_of(path, standard):
     """Yields the objects of a file of what an audit printed, or of standard input, which has this name."""
     if path != standard:
-        yield from lines_of_file(path)
+        with open_regular(path) as file:
+            yield from lines_of(file)
     elif sys.stdin is None:
         raise Failed("standard input is closed")
     else:
@@ -120,11 +95,10 @@ def objects_of(path, standard):
 def telling(path):
     """Tells by its path what is refused here, or can't be read."""
     try:
-        yield
+        with failing(f"{path} can't be read"):
+            yield
     except Refused as fault:
         raise Refused(f"refused: {path}: {fault}") from fault
-    except OSError as fault:
-        raise Failed(f"{path} can't be read: {reason_of(fault)}") from fault
 
 
 def run_audit(words, named):

@@ -15,7 +15,7 @@ import threading
 import time
 
 from mcaudit_tools import answers, origins, topology, ways
-from mcaudit_tools.common import PROGRAM, Ended, Failed, Parser, clean, printable, say
+from mcaudit_tools.common import Ended, Failed, Parser, Wrong, printable, say
 from mcaudit_tools.programs import RUNNING, run
 from mcaudit_tools.sets import Site
 
@@ -47,6 +47,20 @@ Examples:
   mcaudit-collect --routers routers --timeout 20 site
   mcaudit-collect --ssh 'ssh -p 2222' site r1=10.9.0.1
   mcaudit-collect site here= 'r1=!ip netns exec r1' 'r2=!docker exec -i frr2'"""
+OPTIONS = [
+    ("--routers", "FILE", "take the routers of FILE too: NAME=WAY, a line each; empty lines and those that begin with "
+     "# are left aside"),
+    ("--adopt", None, "if SITE is a plain folder, make it the first set; without routers do just that"),
+    ("--readings", "N", "read a router at most N times, 2 to 100 (5)", 2, 100, 5),
+    ("--pause", "SECONDS", "wait so long between two readings of a router (1)", 0, 999, 1),
+    ("--timeout", "SECONDS", "give a router up when a reading takes longer (60)", 1, 999, 60),
+    ("--at-once", "N", "read at most N routers side by side, 1 to 100 (8)", 1, 100, 8),
+    ("--ssh", "COMMAND", f"reach a HOST by `COMMAND HOST sh` ({ways.SSH})"),
+    ("--facts", None, "bring the router's addresses and routes too, as address-NAME and route-NAME: what `ip -j "
+     "address` says, or where it can't, `ip -o -4 address`, and /proc/net/route. mcaudit-draft reads them; what a "
+     "router has not is empty"),
+    ("--shell", "NAME", "collect nothing: run a shell on the router NAME by its way, with this standard input and "
+     "output")]
 FILES = {  # the tables that a set has
     "ip_mr_vif": "vif", "ip_mr_cache": "cache", "route": "route", "address": "address"}
 
@@ -73,29 +87,10 @@ def read_arguments():
                     usage="mcaudit-collect [option ...] SITE [NAME=WAY ...]\n"
                           "       mcaudit-collect [option ...] --shell NAME [NAME=WAY ...]")
     parser.add_argument("words", nargs="*", metavar="SITE [NAME=WAY ...]", help="the folder, and the routers")
-    parser.add_argument("--routers", metavar="FILE", help="take the routers of FILE too: NAME=WAY, a line each; empty "
-                        "lines and those that begin with # are left aside")
-    parser.add_argument("--adopt", action="store_true", help="if SITE is a plain folder, make it the first set; "
-                        "without routers do just that")
-    parser.add_argument("--readings", metavar="N", default="5", help="read a router at most N times, 2 to 100 (5)")
-    parser.add_argument("--pause", metavar="SECONDS", default="1", help="wait so long between two readings of a router "
-                        "(1)")
-    parser.add_argument("--timeout", metavar="SECONDS", default="60", help="give a router up when a reading takes "
-                        "longer (60)")
-    parser.add_argument("--at-once", metavar="N", default="8", help="read at most N routers side by side, 1 to 100 (8)")
-    parser.add_argument("--ssh", metavar="COMMAND", default=ways.SSH,
-                        help=f"reach a HOST by `COMMAND HOST sh` ({ways.SSH})")
-    parser.add_argument("--facts", action="store_true", help="bring the router's addresses and routes too, as "
-                        "address-NAME and route-NAME: what `ip -j address` says, or where it can't, `ip -o -4 "
-                        "address`, and /proc/net/route. mcaudit-draft reads them; what a router has not is empty")
-    parser.add_argument("--shell", metavar="NAME", help="collect nothing: run a shell on the router NAME by its way, "
-                        "with this standard input and output")
+    parser.add_options(OPTIONS)
     parser.add_version()
     found = parser.parse_intermixed_args()
-    found.readings = parser.number(found.readings, 2, 100, "--readings takes 2 to 100")
-    found.pause = parser.number(found.pause, 0, 999, "--pause takes whole seconds, 0 to 999")
-    found.timeout = parser.number(found.timeout, 1, 999, "--timeout takes whole seconds, 1 to 999")
-    found.at_once = parser.number(found.at_once, 1, 100, "--at-once takes 1 to 100")
+    found.ssh = ways.SSH if found.ssh is None else found.ssh
     take_words(parser, found)
     return found
 
@@ -109,22 +104,12 @@ def take_words(parser, found):
                 parser.error("a site and a router are wanted")
             found.site = Site(found.words.pop(0))
         found.all = ways.read_routers(found.words, [found.routers] if found.routers else [])
-    except Failed as fault:
-        if fault.status != 5:
-            raise
+    except Wrong as fault:
         parser.error(str(fault))
     if not found.all and not found.adopt and found.shell is None:
         parser.error("a site and a router are wanted")
-
-
-def shell_on_router(parser_words):
-    """Becomes the shell on the router that --shell names."""
-    for router in parser_words.all:
-        if router.name == parser_words.shell:
-            ways.become_shell(router, parser_words.ssh)
-    print(f"{PROGRAM.name}: {clean(parser_words.shell)} is none of the routers\nTry: {PROGRAM.name} --help",
-          file=sys.stderr)
-    return 5
+    if found.shell is not None and found.shell not in [it.name for it in found.all]:
+        parser.error(f"{found.shell} is none of the routers")
 
 
 # One router
@@ -152,7 +137,8 @@ class Reading:
                 return f"the answer has more than {answers.MOST_ANSWER} bytes"
             if came.is_late:
                 raise answers.Late("late")
-            return answers.take_apart(path, word, tables, self.folder, self.deadline)
+            with open(path, "rb") as file:
+                return answers.Answer(file, word, tables, self.folder, self.deadline).fault()
         except answers.Late:
             return f"no whole answer in {self.words.timeout} s"
         finally:
@@ -171,17 +157,15 @@ class Reading:
             try:
                 shape = answers.shape_of(self.folder, self.deadline)
                 if shape == earlier:
-                    return self.ask_more(Collected(line=self.line(count), folder=self.folder, time=when))
+                    vifs, rows = (answers.rows_of(os.path.join(self.folder, it), self.deadline)
+                                  for it in answers.TABLES[:2])
+                    order = answers.order_of(os.path.join(self.folder, "igmp"), self.deadline)
+                    return self.ask_more(Collected(line=f"vifs {vifs}, rows {rows}, readings {count}, {order}",
+                                                   folder=self.folder, time=when))
             except answers.Late:
                 return Collected(f"no whole answer in {self.words.timeout} s")
             earlier = shape
         return Collected(f"did not hold still in {self.words.readings} readings")
-
-    def line(self, count):
-        """Returns what is printed of the router."""
-        vifs, rows = (answers.rows_of(os.path.join(self.folder, it), self.deadline) for it in answers.TABLES[:2])
-        order = answers.order_of(os.path.join(self.folder, "igmp"), self.deadline)
-        return f"vifs {vifs}, rows {rows}, readings {count}, {order}"
 
     def ask_more(self, found):
         """Asks for what goes beyond the three tables, which a key that is restricted to them doesn't answer."""
@@ -203,10 +187,8 @@ class Reading:
 
 def collect_router(words, router, scratch):
     """Collects one router, and prints what came of it."""
-    try:
+    with words.site.failing():
         found = Reading(words, router, os.path.join(scratch, "routers", router.name)).collect()
-    except OSError as fault:
-        raise words.site.unwritable(fault) from fault
     if RUNNING.ended.is_set():
         raise Ended
     if found.fault:
@@ -220,11 +202,8 @@ def collect_router(words, router, scratch):
 
 def show(words, line):
     """Prints a line, as long as that can be."""
-    try:
-        with PRINTING:
-            print(printable(line), flush=True)
-    except OSError as fault:
-        raise words.site.unwritable(fault) from fault
+    with words.site.failing(), PRINTING:
+        print(printable(line), flush=True)
 
 
 # All routers
@@ -265,19 +244,16 @@ def refuse_twins(words, found):
 def new_files(words, found):
     """Returns the files of the new set: where each lies, and where it comes from."""
     files = {}
-    for router in words.all:
-        one = found[router.name]
-        for table in (*answers.TABLES[:2], *(answers.FACTS if words.facts else ())):
-            if not one.fault:
-                origin = origins.Origin(origins.COLLECT, router.name, one.time)
-                files[f"{FILES[table]}-{router.name}"] = os.path.join(one.folder, table), origin
+    for name, one in found.items():
+        for table in tables_of(words) if not one.fault else ():
+            files[f"{FILES[table]}-{name}"] = (os.path.join(one.folder, table),
+                                               origins.Origin(origins.COLLECT, name, one.time))
     return files
 
 
-def is_replaced(words, name):
-    """Whether a file of the last set isn't carried into the new one: the tables of a router that was not collected are
-    not."""
-    return name.startswith(("vif-", "cache-")) or words.facts and name.startswith(("address-", "route-"))
+def tables_of(words):
+    """Returns the tables that a set has of each router."""
+    return (*answers.TABLES[:2], *(answers.FACTS if words.facts else ()))
 
 
 def unlisted_of(words, folder):
@@ -287,12 +263,9 @@ def unlisted_of(words, folder):
         return []
     try:
         listed = topology.read_routers(folder, words.site.path)
-    except topology.NoReader as fault:
-        say(f"whether the topology lists all routers isn't known: {fault}")
-        return []
     except Failed as fault:
         say(f"whether the topology lists all routers isn't known: {fault}")
-        return [it.name for it in words.all]
+        return [] if isinstance(fault, topology.NoReader) else [it.name for it in words.all]
     return [it.name for it in words.all if listed and it.name not in listed]
 
 
@@ -300,7 +273,8 @@ def publish(words, found, scratch):
     """Makes the new set. Returns whether all routers are in it, and in its topology."""
     missing = [name for name, one in found.items() if one.fault]
     count = f"{len(words.all) - len(missing)} of {len(words.all)} routers collected"
-    folder = words.site.publish(new_files(words, found), lambda it: is_replaced(words, it), scratch,
+    replaced = tuple(f"{FILES[it]}-" for it in tables_of(words))  # also of routers that were not collected
+    folder = words.site.publish(new_files(words, found), lambda it: it.startswith(replaced), scratch,
                                 lambda folder: show(words, f"{count}: {folder}"))
     if missing:
         say(f"not collected: {' '.join(missing)}")
@@ -314,12 +288,11 @@ def main():
     """Collects. Returns the status."""
     words = read_arguments()
     if words.shell is not None:
-        return shell_on_router(words)
-    site = words.site
-    site.check(words.adopt)
-    with site.scratch() as scratch:
+        ways.become_shell(next(it for it in words.all if it.name == words.shell), words.ssh)
+    words.site.check(words.adopt)
+    with words.site.scratch() as scratch:
         if words.adopt:
-            site.adopt()
+            words.site.adopt()
         if not words.all:
             return 0
         found = collect_all(words, scratch)

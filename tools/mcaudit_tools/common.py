@@ -4,6 +4,7 @@ import os
 import re
 import shutil
 import sys
+import types
 
 CUT = " .."  # stands for what is left out
 NAME = re.compile(r"[A-Za-z0-9_.-]{1,32}")  # of a router or a LAN, as mcaudit has it; but for `.` and `..`
@@ -12,13 +13,12 @@ NAME = re.compile(r"[A-Za-z0-9_.-]{1,32}")  # of a router or a LAN, as mcaudit h
 class Failed(Exception):
     """What couldn't be done, as a sentence, and the status that the tool ends with."""
 
-    status = 3
+    status, sentence = 3, ""
 
-    def __init__(self, sentence, status=None):
-        """Takes the sentence, and the status where it isn't the usual one."""
-        super().__init__(sentence)
-        if status is not None:
-            self.status = status
+    def __init__(self, sentence=None, status=None):
+        """Takes the sentence and the status, where they aren't those of its kind."""
+        super().__init__(self.sentence if sentence is None else sentence)
+        self.status = self.status if status is None else status
 
 
 class Refused(Failed):
@@ -27,27 +27,19 @@ class Refused(Failed):
     status = 2
 
 
+class Wrong(Failed):
+    """What is wrong with an argument, as a sentence."""
+
+    status = 5
+
+
 class Ended(Failed):
     """A signal ended the tool."""
 
-    def __init__(self):
-        """Takes nothing: all signals are alike."""
-        super().__init__("ended by a signal")
+    sentence = "ended by a signal"
 
 
-class Program:
-    """The tool that runs: its name and its version."""
-
-    def __init__(self):
-        """Begins without a name."""
-        self.name, self.version = "mcaudit", ""
-
-    def take(self, name, version):
-        """Takes the name and the version."""
-        self.name, self.version = name, version
-
-
-PROGRAM = Program()
+PROGRAM = types.SimpleNamespace(name="mcaudit", version="")  # the tool that runs
 
 
 def say(sentence):
@@ -89,12 +81,13 @@ def name_fault(text):
     return None if is_name(text) else "a name has at most 32 letters"
 
 
-def find_tool(name):
-    """Returns the path of a tool, which lies beside the one that runs or on the path."""
+def find_tool(name, about=""):
+    """Returns the path of a tool, which lies beside the one that runs or on the path. Where it is missing, that is told
+    with what is said about it."""
     beside = os.path.join(os.path.dirname(os.path.realpath(sys.argv[0])), name)
     found = beside if os.access(beside, os.X_OK) else shutil.which(name)
     if not found:
-        raise Failed(f"there is no {name} beside this program or on the path")
+        raise Failed(f"there is no {name} beside this program or on the path{about}")
     return found
 
 
@@ -113,16 +106,13 @@ class Parser(argparse.ArgumentParser):
         self.add_argument("--version", action="version", version=version, help="print the version")
 
     def add_options(self, rows, repeated=()):
-        """Adds options: what each is called, its value or None for a flag, and its help."""
-        for option, value, about in rows:
+        """Adds options: what each is called, its value or None for a flag, its help, and of a number the least, the
+        most and what it is where it isn't given."""
+        for option, value, about, *number in rows:
             how = "append" if option in repeated else "store" if value else "store_true"
-            self.add_argument(option, action=how, help=about, **({"metavar": value} if value else {}))
-
-    def number(self, text, least, most, sentence):
-        """Reads a whole number within these bounds, of no more digits than the greatest has."""
-        if not (text.isascii() and text.isdigit() and len(text) <= len(str(most)) and least <= int(text) <= most):
-            self.error(sentence)
-        return int(text)
+            unit = "whole seconds, " if value == "SECONDS" else ""
+            more = {"type": whole_number(*number[:2], unit), "default": number[2]} if number else {}
+            self.add_argument(option, action=how, help=about, **({"metavar": value} if value else {}), **more)
 
     def error(self, message):
         """Tells what is wrong."""
@@ -146,18 +136,20 @@ def options_of(words, *names):
 def sentence_of(message):
     """Returns what argparse says is wrong in the words of the tools."""
     for pattern, sentence in ((r"unrecognized arguments: (.*)", r"there is no option \1"),
-                              (r"argument (?:-\w/)?([-\w]+)(?:/[-\w]+)*: expected one argument", r"\1 wants a value")):
+                              (r"argument (?:-\w/)?([-\w]+)(?:/[-\w]+)*: expected one argument", r"\1 wants a value"),
+                              (r"argument ([-\w]+): (takes .*)", r"\1 \2")):
         found = re.fullmatch(pattern, message, re.DOTALL)
         if found:
             return found.expand(sentence)
     return message
 
 
-def whole_number(least, most):
-    """Returns what reads an argument that is a whole number from the least to the most."""
+def whole_number(least, most, unit):
+    """Returns what reads an argument that is a whole number of a unit, within these bounds and of no more digits than
+    the greatest has."""
     def read(text):
         """Reads the argument."""
-        if not re.fullmatch(r"[0-9]{1,12}", text, re.ASCII) or not least <= int(text) <= most:
-            raise argparse.ArgumentTypeError(f"{text} is no whole number from {least} to {most}")
+        if not (text.isascii() and text.isdigit() and len(text) <= len(str(most)) and least <= int(text) <= most):
+            raise argparse.ArgumentTypeError(f"takes {unit}{least} to {most}")
         return int(text)
     return read

@@ -41,11 +41,12 @@ class Audit:
     def take(self, line):
         """Takes one line."""
         if "domain" in line:
-            self.take_domain(line)
+            self.devices = {(typed(str, it["router"]), typed(int, it["vif"])): it["device"] and typed(str, it["device"])
+                            for it in line["domain"]["interfaces"] if it["vif"] is not None}
         elif "entries" in line:
-            self.ways[number(line["tree"])] = {text(it["lan"]): self.sender(it) for it in line["entries"]}
+            self.ways[typed(int, line["tree"])] = {typed(str, it["lan"]): self.sender(it) for it in line["entries"]}
         elif "flow" in line:
-            self.flows[text(line["source"]), text(line["group"])] = self.flow(line)
+            self.flows[typed(str, line["source"]), typed(str, line["group"])] = self.flow(line)
         elif "unlisted" in line:
             pair = line["unlisted"]
             self.unlisted[address(pair["group"]), address(pair["source"])] = names(pair["routers"])
@@ -55,63 +56,46 @@ class Audit:
             self.left_out = names(line["without"])
         elif "verdict" in line:
             self.verdict = line["verdict"]
-        else:
-            self.take_summary(line["summary"])
-
-    def take_summary(self, summary):
-        """Sees that no flow came twice."""
-        if summary["flows"] != len(self.flows):
+        elif line["summary"]["flows"] != len(self.flows):
             raise Refused("it has a flow twice")
-
-    def take_domain(self, line):
-        """Takes the first line."""
-        self.devices = {(text(it["router"]), number(it["vif"])): it["device"] and text(it["device"])
-                        for it in line["domain"]["interfaces"] if it["vif"] is not None}
 
     def vif(self, router, vif):
         """Returns a vif by its router and device, or by its number where it has none."""
-        device = self.devices.get((router, vif))
+        device = self.devices.get((typed(str, router), typed(int, vif)))
         return f"{router} vif/{vif}" if device is None else f"{router} {device}"
 
     def sender(self, entry):
         """Returns who sends onto the LAN of an entry, and the least time to live that reaches it."""
-        return entry["router"] and self.vif(text(entry["router"]), number(entry["vif"])), number(entry["need"])
+        return entry["router"] and self.vif(entry["router"], entry["vif"]), typed(int, entry["need"])
 
     def flow(self, line):
         """Returns what is told of a flow, as the parts that are compared."""
         if line["right"] is not False:
-            return {"ttl": number(line["ttl"]), "fault": None, "said": "right" if line["right"] else UNKNOWN,
-                    "copies": number(line["copies"]), "wanted": names(line["wanted"]), "way": self.ways[line["tree"]]}
+            return {"ttl": typed(int, line["ttl"]), "fault": None, "said": "right" if line["right"] else UNKNOWN,
+                    "copies": typed(int, line["copies"]), "wanted": names(line["wanted"]),
+                    "way": self.ways[line["tree"]]}
         finding = line["finding"]
-        place = self.vif(text(finding["router"]), number(finding["vif"])) if "vif" in finding else text(finding["lan"])
+        place = self.vif(finding["router"], finding["vif"]) if "vif" in finding else typed(str, finding["lan"])
         told = without_vifs([line["found_ttl"], line["also"], line["why"]])
-        return {"ttl": number(line["ttl"]), "fault": f"{text(finding['kind'])} {place}", "told": told}
+        return {"ttl": typed(int, line["ttl"]), "fault": f"{typed(str, finding['kind'])} {place}", "told": told}
 
 
-def text(value):
-    """Returns the value, which has to be a text."""
-    if not isinstance(value, str):
-        raise TypeError
-    return value
-
-
-def number(value):
-    """Returns the value, which has to be a number."""
-    if type(value) is not int:  # pylint: disable=unidiomatic-typecheck
+def typed(kind, value):
+    """Returns the value, which has to be of this kind: a number is none that is a truth value."""
+    if type(value) is not kind:  # pylint: disable=unidiomatic-typecheck
         raise TypeError
     return value
 
 
 def names(value):
     """Returns the value, which has to be a list of texts."""
-    if not isinstance(value, list):
-        raise TypeError
-    return [sys.intern(text(it)) for it in value]  # told again and again, of one pair after the other
+    # the same texts are told again and again, of one pair after the other
+    return [sys.intern(typed(str, it)) for it in typed(list, value)]
 
 
 def address(value):
     """Returns an address as a number, in whose order audit has them."""
-    return int(ipaddress.IPv4Address(text(value)))
+    return int(ipaddress.IPv4Address(typed(str, value)))
 
 
 def without_vifs(told):
@@ -141,7 +125,7 @@ def audit_of(objects):
     for count, it in enumerate(objects, 1):
         try:
             if not is_printed(it):
-                raise Refused("it is no line of audit")
+                raise ValueError
             audit.take(it)
         except Refused as fault:
             raise Refused(f"line {count}: {fault}") from fault
@@ -245,15 +229,10 @@ def all_changes(old, new):
 
 
 def faults_first(changes):
-    """Returns the changes in an order in which a fault that came or went isn't lost among paths that moved.
-
-    So it is with a fault of a flow that is in one audit alone."""
-    return sorted(changes, key=lambda it: it[1] not in ("left_out", "fault") and not is_of_a_fault(*it[1:]))
-
-
-def is_of_a_fault(change, was, now):
-    """Returns whether a flow with a fault is in one audit alone."""
-    return change == "listed" and (was or now).startswith("fault ")
+    """Returns the changes in an order in which a fault that came or went isn't lost among paths that moved, nor that of
+    a flow that is in one audit alone."""
+    return sorted(changes, key=lambda it: it[1] not in ("left_out", "fault")
+                  and not (it[1] == "listed" and (it[2] or it[3]).startswith("fault ")))
 
 
 def sides(change, was, now):

@@ -3,6 +3,7 @@ import contextlib
 import errno
 import json
 import os
+import shutil
 import stat
 import tempfile
 
@@ -12,35 +13,30 @@ PIECE = 65536  # bytes that are read at a time
 MOST_DIGITS = 20  # of a number of JSON
 
 
-def reason_of(fault):
-    """Returns why a call of the system failed."""
-    return fault.strerror or type(fault).__name__
+@contextlib.contextmanager
+def failing(sentence):
+    """Fails with the sentence and the reason, where a call of the system fails in it."""
+    try:
+        yield
+    except OSError as fault:
+        raise Failed(f"{sentence}: {fault.strerror or type(fault).__name__}") from fault
 
 
 def open_regular(path, named=None):
     """Opens a file to be read as bytes, where it is a regular one: a pipe, a device or a folder is never waited for. It
     is told by its path, or by another name."""
-    opened = None
-    try:
+    with failing(f"{named or path} can't be read"):
         opened = os.open(path, os.O_RDONLY | os.O_NONBLOCK | os.O_CLOEXEC | os.O_NOCTTY)
-        if not stat.S_ISREG(os.fstat(opened).st_mode):
-            raise Failed(f"{named or path} can't be read: it is no regular file")
-        return os.fdopen(opened, "rb")
-    except BaseException as fault:
-        if opened is not None:
-            os.close(opened)
-        if isinstance(fault, OSError):
-            raise Failed(f"{named or path} can't be read: {reason_of(fault)}") from fault
-        raise
+        if stat.S_ISREG(os.fstat(opened).st_mode):
+            return os.fdopen(opened, "rb")
+        os.close(opened)
+        raise Failed(f"{named or path} can't be read: it is no regular file")
 
 
 def read_regular(path, most, named=None):
     """Returns the bytes of a regular file, which has at most so many."""
-    with open_regular(path, named) as file:
-        try:
-            data = file.read(most + 1)
-        except OSError as fault:
-            raise Failed(f"{named or path} can't be read: {reason_of(fault)}") from fault
+    with open_regular(path, named) as file, failing(f"{named or path} can't be read"):
+        data = file.read(most + 1)
     if len(data) > most:
         raise Failed(f"{named or path} can't be read: it has more than {most} bytes")
     return data
@@ -59,38 +55,57 @@ def read_json(path, most):
     return json.loads(read_regular(path, most), parse_int=whole)
 
 
-def sync_folder(path):
-    """Puts the names of a folder on the disk."""
+@contextlib.contextmanager
+def open_folder(path):
+    """Gives the descriptor of an open folder."""
     opened = os.open(path, os.O_RDONLY | os.O_DIRECTORY | os.O_CLOEXEC)
     try:
-        os.fsync(opened)
-    except OSError as fault:
-        if fault.errno != errno.EINVAL:  # of a file system that has no such call
-            raise
+        yield opened
     finally:
         os.close(opened)
+
+
+def sync_folder(path):
+    """Puts the names of a folder on the disk."""
+    with open_folder(path) as opened:
+        try:
+            os.fsync(opened)
+        except OSError as fault:
+            if fault.errno != errno.EINVAL:  # of a file system that has no such call
+                raise
 
 
 def sync_files(folder):
     """Puts a folder and its files on the disk."""
     for entry in os.scandir(folder):
-        if not entry.is_file():
-            continue
-        opened = os.open(entry.path, os.O_RDONLY | os.O_CLOEXEC)
-        try:
-            os.fsync(opened)
-        finally:
-            os.close(opened)
+        if entry.is_file():
+            with open(entry.path, "rb") as file:
+                os.fsync(file.fileno())
     sync_folder(folder)
 
 
-@contextlib.contextmanager
+def copy(path, target, named):
+    """Copies a file, a link or a folder as it is; what leads nowhere or is neither is told by this name."""
+    with failing(f"{named} can't be read"):
+        kind = os.stat(path).st_mode
+    if os.path.islink(path):
+        os.symlink(os.readlink(path), target)
+    elif stat.S_ISDIR(kind):
+        shutil.copytree(path, target, symlinks=True, copy_function=copy_file)
+    else:
+        copy_file(path, target, named)
+
+
+def copy_file(path, target, named=None):
+    """Copies a file, of a folder or of this name, which is a regular one: what is none may have no end."""
+    if not stat.S_ISREG(os.lstat(path).st_mode):
+        raise Failed(f"{named or path} is no regular file")
+    shutil.copy2(path, target)
+
+
 def printing():
-    """Tells that standard output can't be written, where that fails here."""
-    try:
-        yield
-    except OSError as fault:
-        raise Failed(f"standard output can't be written: {reason_of(fault)}") from fault
+    """Tells that standard output can't be written, where that fails in it."""
+    return failing("standard output can't be written")
 
 
 @contextlib.contextmanager
@@ -98,31 +113,26 @@ def beside(path, mode=None, is_new=False):
     """Gives a file beside the path, or what a link there leads to, to be written. At the end it is put on the disk and
     renamed; where anything fails, the path stays as it was, and nothing is left. Nothing may be there of a new one."""
     folder, name = os.path.split(path if is_new else os.path.realpath(path))
-    made = None
-    try:
+    with failing(f"{path} can't be written"):
         opened, made = tempfile.mkstemp(prefix=f".{name[:80]}.", dir=folder)
-        with os.fdopen(opened, "wb") as file:
-            os.fchmod(file.fileno(), 0o666 & ~umask() if mode is None else mode)
-            yield file
-            file.flush()
-            os.fsync(file.fileno())
-            if os.fstat(file.fileno()).st_size != file.tell():
-                raise Failed(f"{path} can't be written: the disk has not what was written")
-        if is_new:
-            os.link(made, path)
-            os.unlink(made)
-        elif os.path.lexists(path) and not os.path.isfile(path):
-            raise Failed(f"{path} is no plain file")
-        else:
-            os.replace(made, os.path.join(folder, name))
-        made = None
-        sync_folder(folder)
-    except OSError as fault:
-        raise Failed(f"{path} can't be written: {reason_of(fault)}") from fault
-    finally:
-        if made is not None:
-            with contextlib.suppress(OSError):
+        try:
+            with os.fdopen(opened, "wb") as file:
+                os.fchmod(file.fileno(), 0o666 & ~umask() if mode is None else mode)
+                yield file
+                file.flush()
+                os.fsync(file.fileno())
+                if os.fstat(file.fileno()).st_size != file.tell():
+                    raise Failed(f"{path} can't be written: the disk has not what was written")
+            if is_new:
+                os.link(made, path)
+            elif os.path.lexists(path) and not os.path.isfile(path):
+                raise Failed(f"{path} is no plain file")
+            else:
+                os.replace(made, os.path.join(folder, name))
+        finally:
+            with contextlib.suppress(OSError):  # renamed, it is there no more
                 os.unlink(made)
+        sync_folder(folder)
 
 
 def write_beside(path, data, mode=None):

@@ -83,7 +83,7 @@ class Lan:
             raise NoCapture("the router could not be reached")
         others = len({it for it, _ in self.places}) if self.words.ask and not self.words.ask_routers else 0
         return Task(self.words, way.shell(self.words.ssh or SSH), device, self.statics,
-                    lambda sentence: self.say_of(router, device, sentence), router,
+                    lambda sentence: self.say_of(router, device, sentence),
                     self.words.empty or self.is_empty_named(), f"--empty-lan {self.name}",
                     self.words.ask and others < 2, others if others > 1 else None)
 

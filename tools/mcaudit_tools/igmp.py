@@ -2,6 +2,7 @@
 import dataclasses
 import ipaddress
 import struct
+import typing
 
 QUERY, LEAVE = 0x11, 0x17
 REPORT_1, REPORT_2, REPORT_3 = 0x12, 0x16, 0x22
@@ -104,13 +105,11 @@ def tenths_to_answer(query):
     return code if code < 128 else (code & 15 | 16) << ((code >> 4 & 7) + 3)
 
 
-@dataclasses.dataclass
-class Record:
+class Record(typing.NamedTuple):
     """A group record of a report."""
 
     kind: int
     group: bytes
-    sources: list
 
 
 def records_of(report):
@@ -119,12 +118,10 @@ def records_of(report):
     for number in range(1, int.from_bytes(report[6:8], "big") + 1):
         if at + 8 > len(report):
             return found, number
-        sources = int.from_bytes(report[at + 2:at + 4], "big")
-        end = at + 8 + 4 * sources + 4 * report[at + 1]
+        end = at + 8 + 4 * int.from_bytes(report[at + 2:at + 4], "big") + 4 * report[at + 1]
         if end > len(report):
             return found, number
-        found.append(Record(report[at], report[at + 4:at + 8],
-                            [report[it:it + 4] for it in range(at + 8, at + 8 + 4 * sources, 4)]))
+        found.append(Record(report[at], report[at + 4:at + 8]))
         at = end
     return found, None
 

@@ -29,7 +29,6 @@ class Task:
     device: "str | None"
     statics: list
     say: object
-    router: "str | None" = None
     is_empty_allowed: bool = False
     empty_option: str = "--empty"
     is_asking: bool = False

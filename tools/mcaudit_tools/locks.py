@@ -5,7 +5,7 @@ import os
 import time
 
 from mcaudit_tools.common import Failed
-from mcaudit_tools.files import reason_of
+from mcaudit_tools.files import failing
 
 PATIENCE = 10  # seconds that a lock is waited for
 
@@ -13,17 +13,15 @@ PATIENCE = 10  # seconds that a lock is waited for
 @contextlib.contextmanager
 def lock_file(path):
     """Gives the descriptor of a lock's file, which is made where it isn't there."""
-    try:
+    flags = os.O_NOFOLLOW | os.O_CLOEXEC | os.O_NONBLOCK
+    with failing(f"{path} can't be locked"):
         try:
-            opened = os.open(path, os.O_RDWR | os.O_CREAT | os.O_NOFOLLOW | os.O_CLOEXEC | os.O_NONBLOCK, 0o644)
+            opened = os.open(path, os.O_RDWR | os.O_CREAT | flags, 0o644)
         except PermissionError:
-            opened = os.open(path, os.O_RDONLY | os.O_NOFOLLOW | os.O_CLOEXEC | os.O_NONBLOCK)
-    except OSError as fault:
-        raise Failed(f"{path} can't be locked: {reason_of(fault)}") from fault
-    try:
+            opened = os.open(path, os.O_RDONLY | flags)
+        file = os.fdopen(opened, "rb")
+    with file:
         yield opened
-    finally:
-        os.close(opened)
 
 
 def try_lock(opened):
@@ -45,16 +43,6 @@ def hold(path):
                 raise Failed(f"{path} is held by another run for {PATIENCE} s")
             time.sleep(0.05)
         yield
-
-
-@contextlib.contextmanager
-def open_folder(path):
-    """Gives the descriptor of an open folder."""
-    opened = os.open(path, os.O_RDONLY | os.O_DIRECTORY | os.O_CLOEXEC)
-    try:
-        yield opened
-    finally:
-        os.close(opened)
 
 
 def lock_folder(path):

@@ -17,6 +17,7 @@ FILE = "collected.json"
 MOST_BYTES = 16 << 20
 TABLES = "vif-", "cache-", "address-", "route-"
 MOST_SECONDS = 1 << 40
+OLD_TIME = re.compile(r"\d{4}-\d\d-\d\dT\d\d:\d\d:\d\dZ", re.ASCII)  # as version 1 has it
 AHEAD = 60  # seconds that a time may be later than now
 CHANGED = 2  # seconds that a file may be newer than its time says
 COLLECT, CAPTURE, STATIC, OPERATOR = "collect", "capture", "static", "operator"
@@ -32,35 +33,17 @@ class Origin:
     unchecked: list = dataclasses.field(default_factory=list)
     is_timed: bool = True  # the file was given that time
 
-    def as_json(self):
-        """Returns it as collected.json has it."""
-        unchecked = {"unchecked": self.unchecked} if self.unchecked else {}
-        return {"by": self.by, "of": self.of, "time": self.time, **unchecked}
-
 
 class Unknown(Failed):
     """A collected.json that says nothing of use."""
 
 
-def is_old_time(value):
-    """Whether it is a time as version 1 has it."""
-    return isinstance(value, str) and re.fullmatch(r"\d{4}-\d\d-\d\dT\d\d:\d\d:\d\dZ", value, re.ASCII) is not None
-
-
-def seconds_of(text):
-    """Returns the time of a text of version 1."""
-    return calendar.timegm(time.strptime(text, "%Y-%m-%dT%H:%M:%SZ"))
-
-
-def is_seconds(value):
-    """Whether it is a time in seconds."""
-    return isinstance(value, int) and not isinstance(value, bool) and 0 <= value <= MOST_SECONDS
-
-
 def origin_of(value):
     """Reads an origin of version 2."""
     by, of, when, unchecked = value["by"], value["of"], value["time"], value.get("unchecked", [])
-    if not isinstance(by, str) or not (of is None or isinstance(of, str)) or not is_seconds(when):
+    if not isinstance(by, str) or not (of is None or isinstance(of, str)):
+        raise ValueError
+    if not isinstance(when, int) or isinstance(when, bool) or not 0 <= when <= MOST_SECONDS:
         raise ValueError
     if not isinstance(unchecked, list) or not all(isinstance(it, str) for it in unchecked):
         raise ValueError
@@ -69,10 +52,9 @@ def origin_of(value):
 
 def old_origin(name, text):
     """Returns what version 1 says of a file."""
+    when = calendar.timegm(time.strptime(text, "%Y-%m-%dT%H:%M:%SZ"))
     prefix = next((it for it in TABLES if name.startswith(it)), None)
-    if prefix:
-        return Origin(COLLECT, name[len(prefix):], seconds_of(text), is_timed=False)
-    return Origin(OPERATOR, None, seconds_of(text), is_timed=False)
+    return Origin(COLLECT if prefix else OPERATOR, name[len(prefix):] if prefix else None, when, is_timed=False)
 
 
 def is_file_name(name):
@@ -89,7 +71,8 @@ def parse(path):
         if not all(map(is_file_name, found["files"])):
             raise ValueError
         if found["version"] == 1:
-            return {name: old_origin(name, it) for name, it in found["files"].items() if is_old_time(it)}
+            return {name: old_origin(name, it) for name, it in found["files"].items()
+                    if isinstance(it, str) and OLD_TIME.fullmatch(it)}
         return {name: origin_of(it) for name, it in found["files"].items()}
     except (ValueError, KeyError, TypeError, AttributeError, RecursionError, OverflowError) as fault:
         raise Unknown("it is none that a tool wrote") from fault
@@ -103,11 +86,6 @@ def read(folder, named=None):
         return parse(path) if os.path.lexists(path) else {}
     except Unknown as fault:
         raise Unknown(f"{os.path.join(named or folder, FILE)}: {fault}") from fault
-
-
-def by_hand(path):
-    """Returns the origin of a file that nothing tells anything of."""
-    return Origin(OPERATOR, None, int(os.stat(path).st_mtime))
 
 
 def is_copy(folder, known):
@@ -128,12 +106,11 @@ def is_ahead(origin):
 def current(path, origin, is_copied):
     """Returns the origin of the file as it is now: where it is newer than told, somebody changed it by hand, unless the
     whole folder is a copy; and where it is older, somebody put another one in its place."""
-    if origin is None:
-        return by_hand(path)
-    later = os.stat(path).st_mtime - origin.time
-    is_changed = later > CHANGED and not is_copied
+    written = os.stat(path).st_mtime
+    later = 0 if origin is None else written - origin.time
+    is_changed = origin is None or later > CHANGED and not is_copied
     is_replaced = later < -CHANGED and origin.is_timed and not is_ahead(origin)
-    return by_hand(path) if is_changed or is_replaced else origin
+    return Origin(OPERATOR, None, int(written)) if is_changed or is_replaced else origin
 
 
 def keep_time(path, origin):
@@ -144,5 +121,6 @@ def keep_time(path, origin):
 
 def text_of(origins):
     """Returns the text of a collected.json."""
-    files = {name: origin.as_json() for name, origin in sorted(origins.items())}
+    files = {name: {"by": it.by, "of": it.of, "time": it.time, **({"unchecked": it.unchecked} if it.unchecked else {})}
+             for name, it in sorted(origins.items())}
     return json.dumps({"files": files, "version": 2}, sort_keys=True, separators=(",", ":")).encode() + b"\n"

@@ -101,11 +101,7 @@ class Running:
             process.wait(grace)
         signal_session(process, signal.SIGKILL)
         process.wait()
-        self.forget(process)
-
-    def forget(self, process):
-        """Takes a program off, which has ended, with what it left behind in its session."""
-        signal_session(process, signal.SIGKILL)
+        signal_session(process, signal.SIGKILL)  # what it left behind
         for pipe in (process.stdin, process.stdout, process.stderr):
             if pipe is not None:
                 with contextlib.suppress(OSError):
@@ -144,21 +140,23 @@ def run(words, text=b"", seconds=None, most=None, into=None, grace=GRACE, keeps_
     once."""
     process = RUNNING.begin(words, stdin=subprocess.PIPE if text else subprocess.DEVNULL, stdout=subprocess.PIPE,
                             stderr=subprocess.PIPE if keeps_words else None)
-    came, deadline = Came(0, b"", b""), deadline_in(seconds)
-    kept = bytearray()
+    came, kept = Came(0, b"", b""), bytearray()
+    deadline = None if seconds is None else time.monotonic() + seconds
     try:
         exchange(process, text, deadline, most, into.write if into else kept.extend, came)
-        if not came.is_late and not came.is_long:
-            wait_until(process, deadline, came)
+        while not (came.is_late or came.is_long) and process.poll() is None:
+            with contextlib.suppress(subprocess.TimeoutExpired):
+                process.wait(turn_until(deadline))
+            came.is_late = left_until(deadline) == 0 and process.poll() is None
     finally:
         RUNNING.end(process, 0 if process.poll() is not None else grace)
     came.status, came.printed = process.returncode, bytes(kept)
     return came
 
 
-def deadline_in(seconds):
-    """Returns when so many seconds are over; None never is."""
-    return None if seconds is None else time.monotonic() + seconds
+def left_until(deadline):
+    """Returns how many seconds are left until then; None, where that never comes."""
+    return None if deadline is None else max(0.0, deadline - time.monotonic())
 
 
 def turn_until(deadline):
@@ -166,15 +164,8 @@ def turn_until(deadline):
     signal comes to its main thread alone."""
     if RUNNING.ended.is_set():
         raise Ended
-    return TURN if deadline is None else min(TURN, max(0.0, deadline - time.monotonic()))
-
-
-def wait_until(process, deadline, came):
-    """Waits for the end of a program whose output has ended."""
-    while process.poll() is None and not came.is_late:
-        with contextlib.suppress(subprocess.TimeoutExpired):
-            process.wait(turn_until(deadline))
-        came.is_late = deadline is not None and time.monotonic() >= deadline and process.poll() is None
+    left = left_until(deadline)
+    return TURN if left is None else min(TURN, left)
 
 
 def exchange(process, text, deadline, most, keep, came):
@@ -187,7 +178,7 @@ def exchange(process, text, deadline, most, keep, came):
                 os.set_blocking(pipe.fileno(), False)
                 selector.register(pipe, event)
         while selector.get_map():
-            if deadline is not None and time.monotonic() >= deadline:
+            if left_until(deadline) == 0:
                 came.is_late = True
                 return
             for key, _ in selector.select(turn_until(deadline)):

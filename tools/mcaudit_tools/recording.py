@@ -49,17 +49,12 @@ class Recording:
     def __init__(self):
         """Begins before the first line."""
         self.clock, self.frame, self.count = Clock(), None, 0
-        self.has_links, self.lacks_links = False, False
+        self.lacks_links = False
 
     def frames(self, file):
         """Yields the frames of a text."""
-        for line in lines_of(file):
-            frame = self.take(line)
-            if frame is not None:
-                yield frame
-        frame = self.end()
-        if frame is not None:
-            yield frame
+        yield from filter(None, map(self.take, lines_of(file)))
+        yield from filter(None, [self.end()])
 
     def take(self, line):
         """Takes a line. Returns the frame that it ends, or None."""
@@ -93,7 +88,6 @@ class Recording:
         """Returns the frame that has come in whole: of a line that tells a time alone, without a packet; or None."""
         frame, self.frame = self.frame, None
         if frame is not None and frame.data:
-            self.has_links |= frame.is_to_all is not None
             self.lacks_links |= frame.is_to_all is None
         return frame if frame is not None and (frame.data or frame.time is not None) else None
 

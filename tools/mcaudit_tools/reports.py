@@ -13,7 +13,7 @@ import sys
 import time
 
 from mcaudit_tools import capture, igmp, origins, recording, ways
-from mcaudit_tools.common import Failed, Parser, say
+from mcaudit_tools.common import Failed, Parser, Wrong, say
 from mcaudit_tools.files import PIECE, open_regular, printing
 from mcaudit_tools.gather import gather_all, text_of, write_list
 from mcaudit_tools.live import Task, capture_list
@@ -93,17 +93,17 @@ OPTIONS = [
      "other routers meanwhile. With --all no LAN is asked that two routers of the topology lie on"),
     ("--ask-routers", None, "with --all, ask on those LANs too"),
     ("--tries", "N", "gather again where a host joined or left meanwhile, or a report was lost, 1 to 99 times in all "
-     "(1)"),
+     "(1)", 1, 99, 1),
     ("--queries", "N", "gather the answers to so many queries of the same querier, one after the other, 1 to 3 (1): "
-     "the list is the last one's, and what an earlier one had beyond it is named"),
+     "the list is the last one's, and what an earlier one had beyond it is named", 1, 3, 1),
     ("--wait", "SECONDS", "wait so long for a General Query, at most 9999 (260: after 255 seconds without one, by RFC "
-     "3376, another router of the LAN would have taken over)"),
-    ("--slack", "SECONDS", "take answers that are so late, at most 99 (1)"),
+     "3376, another router of the LAN would have taken over)", 0, 9999, 260),
+    ("--slack", "SECONDS", "take answers that are so late, at most 99 (1)", 0, 99, 1),
     ("--network", "PREFIX", "the LAN's network, as 10.0.1.0/24, whose addresses a query may come from; may be given "
      "again"),
     ("--querier", "ADDRESS", "a query of this address counts too; may be given again"),
     ("--interface", "NUMBER", "with --capture, the interface of a file that has several: its index, or its number in "
-     "the file"),
+     "the file", 0, 999_999_999, None),
     *ways.REACH]
 REPEATED = "--static", "--empty-lan", "--routers", "--network", "--querier"
 
@@ -117,7 +117,7 @@ def read_arguments():
     parser.add_argument("words", metavar="INTERFACE", nargs="*", help="an interface; with --all, NAME=WAY of routers")
     parser.add_version()
     found = parser.parse_intermixed_args()
-    check_numbers(parser, found)
+    found.ask = found.ask or found.ask_routers
     check_sources(parser, found)
     try:
         take_statics(parser, found)
@@ -126,24 +126,11 @@ def read_arguments():
         found.all_routers = ways.read_routers(found.ways, found.routers or [])
         if found.by is not None:
             ways.parse_router(f"router={found.by}")
-    except ValueError as fault:
-        parser.error(str(fault))
-    except ways.Wrong as fault:
+    except (ValueError, Wrong) as fault:
         parser.error(str(fault))
     if found.ask and bytes(4) in found.queriers:
         parser.error("--querier 0.0.0.0 goes without --ask")
     return found
-
-
-def check_numbers(parser, found):
-    """Reads the numbers."""
-    found.wait = parser.number(found.wait or "260", 0, 9999, "--wait takes whole seconds, 0 to 9999")
-    found.slack = parser.number(found.slack or "1", 0, 99, "--slack takes whole seconds, 0 to 99")
-    found.tries = parser.number(found.tries or "1", 1, 99, "--tries takes 1 to 99")
-    found.queries = parser.number(found.queries or "1", 1, 3, "--queries takes 1 to 3")
-    if found.interface is not None:
-        found.interface = parser.number(found.interface, 0, 999_999_999, "--interface takes a number")
-    found.ask = found.ask or found.ask_routers
 
 
 def check_sources(parser, found):

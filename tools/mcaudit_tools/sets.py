@@ -10,13 +10,12 @@ import contextlib
 import os
 import re
 import shutil
-import stat
 import tempfile
 import time
 
 from mcaudit_tools import late, locks, origins
-from mcaudit_tools.common import Failed, say
-from mcaudit_tools.files import reason_of, sync_files, sync_folder, write_beside
+from mcaudit_tools.common import Failed, Wrong, say
+from mcaudit_tools.files import copy, copy_file, failing, open_folder, sync_files, sync_folder, write_beside
 from mcaudit_tools.programs import RUNNING
 
 SCRATCH = ".reading."  # what the folders are called in which sets are made
@@ -28,12 +27,6 @@ NOT_CARRIED = origins.FILE, "audit.json"
 PLAIN_NAME = re.compile(r"[A-Za-z0-9_.-]+")  # of files that collected.json tells of
 
 
-class BadName(Failed):
-    """A site's path that names no folder."""
-
-    status = 5
-
-
 class Site:
     """The link, the sets and the lock of one site."""
 
@@ -41,7 +34,7 @@ class Site:
         """Takes the path of the link."""
         stripped = path.rstrip("/")
         if os.path.basename(stripped) in ("", ".", ".."):
-            raise BadName("the site is wanted by its folder's name")
+            raise Wrong("the site is wanted by its folder's name")
         self.path = stripped if stripped.startswith(("/", "./", "../")) else f"./{stripped}"
         self.sets = f"{self.path}.sets"
         self.states = {}  # of the last set's files, as they were before they were copied
@@ -68,12 +61,11 @@ class Site:
             if not may_adopt:
                 raise Failed(f"{self.path} is a plain folder: --adopt makes it the first set")
         elif os.path.lexists(self.path):
-            raise self.unwritable()
+            raise Failed(f"{self.path} can't be written")
 
-    def unwritable(self, fault=None):
-        """Returns what tells that the site can't be written."""
-        reason = f": {reason_of(fault)}" if isinstance(fault, OSError) else ""
-        return Failed(f"{self.path} can't be written{reason}")
+    def failing(self):
+        """Tells that the site can't be written, where a call of the system fails in it."""
+        return failing(f"{self.path} can't be written")
 
     # What is made
 
@@ -81,7 +73,7 @@ class Site:
     def scratch(self):
         """Gives a folder in which a set can be made, beside the sets. Those of dead runs are taken away first."""
         is_new = not os.path.lexists(self.sets)
-        try:
+        with self.failing():
             os.makedirs(self.sets, exist_ok=True)
             with self.writing():
                 os.makedirs(self.sets, exist_ok=True)  # another run may have taken away its own
@@ -89,8 +81,6 @@ class Site:
                 self.clear_links()
                 made = tempfile.mkdtemp(prefix=SCRATCH, dir=self.sets)
                 opened = locks.lock_folder(made)
-        except OSError as fault:
-            raise self.unwritable(fault) from fault
         try:
             yield made
         finally:
@@ -107,7 +97,7 @@ class Site:
                 continue
             if OLD_SCRATCH.fullmatch(entry.name) and is_young(entry.path):
                 continue
-            with contextlib.suppress(FileNotFoundError), locks.open_folder(entry.path) as opened:  # its run may end now
+            with contextlib.suppress(FileNotFoundError), open_folder(entry.path) as opened:  # its run may end now
                 if locks.try_lock(opened):
                     shutil.rmtree(entry.path, ignore_errors=True)
 
@@ -131,13 +121,11 @@ class Site:
                 return
             folder = self.free_folder()
             moved = moved_links(self.path, folder)
-            try:
+            with self.failing():
                 if os.stat(self.path).st_dev == os.stat(self.sets).st_dev:
                     self.adopt_by_rename(folder, moved)
                 else:
                     self.adopt_by_copy(folder, moved)
-            except (OSError, shutil.Error) as fault:
-                raise self.unwritable(fault) from fault
 
     def adopt_by_rename(self, folder, moved):
         """Moves the plain folder among the sets; where anything fails it is as it was."""
@@ -170,7 +158,7 @@ class Site:
             shutil.rmtree(folder, ignore_errors=True)
             raise
         finally:
-            if os.path.lexists(self.path):
+            if os.path.isdir(self.path):
                 shutil.rmtree(aside, ignore_errors=True)
 
     def free_folder(self):
@@ -182,14 +170,26 @@ class Site:
             time.sleep(0.1)
 
     def lead_to(self, name):
-        """Makes the site a link to the set of this name. The new link is made beside SITE, on its disk."""
+        """Makes the site a link to the set of this name; where that doesn't come to the disk, the site is as it was."""
+        before = os.readlink(self.path) if os.path.islink(self.path) else None
+        self.link_to(os.path.join(os.path.basename(self.sets), name))
+        try:
+            sync_folder(os.path.dirname(self.path))
+        except BaseException:
+            if before is None:
+                os.unlink(self.path)
+            else:
+                self.link_to(before)
+            raise
+
+    def link_to(self, target):
+        """Makes the site a link that leads there. The new link is made beside SITE, on its disk."""
         folder, own = os.path.split(self.path)
         made = tempfile.mkdtemp(prefix=f".{own[:80]}.", dir=folder)
         try:
             link = os.path.join(made, "link")
-            os.symlink(os.path.join(os.path.basename(self.sets), name), link)
+            os.symlink(target, link)
             os.replace(link, self.path)
-            sync_folder(folder)
         finally:
             shutil.rmtree(made, ignore_errors=True)
 
@@ -197,27 +197,26 @@ class Site:
         """Makes a set of the new files, {name: (path, origin)}, and of those of the last set that aren't replaced, and
         has the site lead to it. Announces the set's path before that. Returns that path."""
         made = os.path.join(scratch, "set")
-        with self.writing():
+        with self.writing(), self.failing():
             self.check(False)
             last = self.folder() if os.path.lexists(self.path) else None
-            try:
-                os.mkdir(made)
-                told, sentences = self.carry(last, made, lambda name: name in new or is_replaced(name))
-                for name, (path, origin) in new.items():
-                    os.rename(path, os.path.join(made, name))
-                    origins.keep_time(os.path.join(made, name), origin)
-                    told[name] = origin
-                with open(os.path.join(made, origins.FILE), "wb") as file:
-                    file.write(origins.text_of(told))
-                if last is not None:
-                    self.note_states(last, made)
-                sync_files(made)
-                folder = self.free_folder()
-                announce(folder)
-                with RUNNING.unheeded():
-                    self.take_set(made, folder)
-            except OSError as fault:
-                raise self.unwritable(fault) from fault
+            os.mkdir(made)
+            told, sentences = self.carry(last, made, lambda name: name in new or is_replaced(name))
+            for name, (path, origin) in new.items():
+                os.rename(path, os.path.join(made, name))
+                origins.keep_time(os.path.join(made, name), origin)
+                told[name] = origin
+            with open(os.path.join(made, origins.FILE), "wb") as file:
+                file.write(origins.text_of(told))
+            if last is not None:
+                with open(os.path.join(made, late.FILE), "wb") as file:
+                    file.write(late.text_of(os.path.basename(last), self.states, late.states_of(made, is_left_out),
+                                            self.others))
+            sync_files(made)
+            folder = self.free_folder()
+            announce(folder)
+            with RUNNING.unheeded():
+                self.take_set(made, folder)
         for sentence in sentences:
             say(sentence)
         return folder
@@ -266,12 +265,6 @@ class Site:
                     origins.keep_time(os.path.join(made, name), told[name])
         return told
 
-    def note_states(self, last, made):
-        """Notes in the set that is made how its files are, and how those of the last one were when they were copied."""
-        with open(os.path.join(made, late.FILE), "wb") as file:
-            file.write(late.text_of(os.path.basename(last), self.states, late.states_of(made, is_left_out),
-                                    self.others))
-
 
 def is_young(path):
     """Whether a folder of 0.2.0 may be that of a live run."""
@@ -283,29 +276,6 @@ def is_young(path):
 def is_left_out(name):
     """Whether a file of a set is never taken into the next one."""
     return name.startswith(".") or name in NOT_CARRIED
-
-
-def copy(path, target, named):
-    """Copies a file, a link or a folder as it is; what leads nowhere or is neither is named."""
-    try:
-        kind = os.stat(path).st_mode
-    except OSError as fault:
-        raise Failed(f"{named} can't be read: {reason_of(fault)}") from fault
-    if os.path.islink(path):
-        os.symlink(os.readlink(path), target)
-    elif stat.S_ISDIR(kind):
-        shutil.copytree(path, target, symlinks=True, copy_function=copy_file)
-    elif stat.S_ISREG(kind):
-        shutil.copy2(path, target)
-    else:
-        raise Failed(f"{named} is no regular file")
-
-
-def copy_file(path, target):
-    """Copies a file of a folder, which is a regular one: what is none may have no end."""
-    if not stat.S_ISREG(os.lstat(path).st_mode):
-        raise Failed(f"{path} is no regular file")
-    shutil.copy2(path, target)
 
 
 def moved_links(folder, place):

@@ -82,7 +82,7 @@ def run(name, version):
         if sys.stdout is None:
             raise common.Failed("standard output is closed")
         buffer_output()
-        common.PROGRAM.take(program, version)
+        common.PROGRAM.name, common.PROGRAM.version = program, version
         running.heed_signals()
         status = main()
     except SystemExit as end:

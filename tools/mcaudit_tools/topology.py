@@ -17,9 +17,7 @@ READING = 10  # seconds that the reading of a topology may take
 class NoReader(Failed):
     """This Python reads no TOML."""
 
-    def __init__(self):
-        """Takes nothing."""
-        super().__init__("a topology is read by python3 of 3.11 or later")
+    sentence = "a topology is read by python3 of 3.11 or later"
 
 
 @dataclasses.dataclass
@@ -72,16 +70,10 @@ def tables_of(path, topology, key):
 
 
 def checked_name(path, kind, name):
-    """Returns the name, where mcaudit would take it."""
-    if not is_name(name):
+    """Returns the name, where mcaudit would take it, or of a device the kernel."""
+    is_device = isinstance(name, str) and DEVICE.fullmatch(name) and len(os.fsencode(name)) <= MOST_DEVICE
+    if not (is_device if kind == "device" else is_name(name)):
         raise Failed(f"{path}: {name!r} is no name of a {kind}")
-    return name
-
-
-def checked_device(path, name):
-    """Returns the name of a device, where the kernel would take it."""
-    if not isinstance(name, str) or not DEVICE.fullmatch(name) or len(os.fsencode(name)) > MOST_DEVICE:
-        raise Failed(f"{path}: {name!r} is no name of a device")
     return name
 
 
@@ -91,8 +83,8 @@ def read_topology(folder, named):
     lans = topology.get("lans", [])
     if not isinstance(lans, list):
         raise Failed(f"{path}: lans is no list")
-    interfaces = [(checked_name(path, "LAN", it.get("lan")), checked_name(path, "router", it.get("router")),
-                   checked_device(path, it.get("device"))) for it in tables_of(path, topology, "interface")]
+    interfaces = [tuple(checked_name(path, kind, it.get(kind.lower())) for kind in ("LAN", "router", "device"))
+                  for it in tables_of(path, topology, "interface")]
     return Topology(router_names(path, topology), [checked_name(path, "LAN", it) for it in lans], interfaces)
 
 

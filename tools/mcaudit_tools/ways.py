@@ -4,8 +4,8 @@ import os
 import re
 import signal
 
-from mcaudit_tools.common import Failed, name_fault
-from mcaudit_tools.files import read_regular
+from mcaudit_tools.common import Wrong, name_fault
+from mcaudit_tools.files import failing, read_regular
 
 SSH = "ssh -o BatchMode=yes -o ConnectTimeout=10"
 REACH = [("--routers", "FILE", "take the routers of FILE too: NAME=WAY, a line each"),
@@ -13,12 +13,6 @@ REACH = [("--routers", "FILE", "take the routers of FILE too: NAME=WAY, a line e
 MOST_BYTES = 1 << 20  # of a file of routers
 HOST = re.compile(r"[A-Za-z0-9@:_.%][A-Za-z0-9@:_.%-]*")
 COMMAND = re.compile(r"!.+", re.DOTALL)
-
-
-class Wrong(Failed):
-    """What is wrong with an argument."""
-
-    status = 5
 
 
 @dataclasses.dataclass
@@ -48,15 +42,10 @@ def parse_router(word):
     return Router(name, way)
 
 
-def words_of_file(path):
-    """Returns the lines of a file of routers that are none of its comments."""
-    lines = os.fsdecode(read_regular(path, MOST_BYTES)).split("\n")
-    return [it for it in lines if it and not it.startswith("#")]
-
-
 def read_routers(words, files):
-    """Returns the routers of the arguments and of the files, of which no name comes twice."""
-    routers = [parse_router(it) for it in [*words, *(line for path in files for line in words_of_file(path))]]
+    """Returns the routers of the arguments and of the files, whose comments are left aside; no name comes twice."""
+    lines = (line for path in files for line in os.fsdecode(read_regular(path, MOST_BYTES)).split("\n"))
+    routers = [parse_router(it) for it in [*words, *(it for it in lines if it and not it.startswith("#"))]]
     names = [it.name for it in routers]
     for number, name in enumerate(names):
         if name in names[:number]:
@@ -68,7 +57,5 @@ def become_shell(router, ssh):
     """Becomes the shell on the router, with this standard input and output."""
     signal.signal(signal.SIGPIPE, signal.SIG_DFL)
     words = router.shell(ssh)
-    try:
+    with failing(f"{words[0]} can't be run"):
         os.execvp(words[0], words)
-    except OSError as fault:
-        raise Failed(f"{words[0]} can't be run: {fault.strerror}") from fault

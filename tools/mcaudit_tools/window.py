@@ -16,6 +16,7 @@ MOST_MESSAGES, MOST_BYTES = 65_536, 16 << 20  # of a list, as mcaudit takes it
 MOST_IGNORED, MOST_IGNORED_SENDERS = 8, 2  # packets that receivers ignore, of a list that is given out
 MOST_TOLD = 20  # sentences of each kind on what hosts sent: they may send as much as they like
 NOBODY = bytes(4)
+VERSIONS = {igmp.REPORT_1: "1", igmp.REPORT_2: "2"}  # of IGMP, whose reports ask for every source of their group
 WRITTEN, NO_LIST, REFUSED, SPOILT = 0, 1, 2, 4  # SPOILT: there is no list, and a second try may have one
 
 
@@ -65,7 +66,7 @@ class Window:
         for group, is_every in igmp.groups_of(report):
             self.wants.add((sender, group))
             if is_every and group[0] == igmp.SSM:
-                key = kind_of(report), group
+                key = VERSIONS.get(report[0], "3 in EXCLUDE mode"), group
                 self.unheeded[key] = self.unheeded.get(key, 0) + 1
         return report_fault(report)
 
@@ -76,11 +77,6 @@ class Window:
     def silent(self):
         """Returns the senders from whom nothing came but what receivers ignore."""
         return [it for it in self.ignored if it not in self.whole]
-
-
-def kind_of(report):
-    """Returns the version of a report that asks for every source of its group."""
-    return {igmp.REPORT_1: "1", igmp.REPORT_2: "2"}.get(report[0], "3 in EXCLUDE mode")
 
 
 def report_fault(report):
@@ -126,7 +122,7 @@ class Gathering:
         self.last = None  # when the last frame came
         self.is_watching = False  # the first report after the window is still to come
         self.is_lost = False  # something came that can't be told in time
-        self.told, self.tagged = set(), 0
+        self.told = set()
 
     def take(self, frame):
         """Takes a frame."""
@@ -135,10 +131,7 @@ class Gathering:
             return
         if not self.rules.is_live:
             self.see_time(frame.time)
-        if any(frame.vlans):
-            self.tagged += 1
-            return
-        packet = igmp.packet_of(frame.data) if frame.data else None
+        packet = igmp.packet_of(frame.data) if frame.data and not any(frame.vlans) else None
         if packet is None:
             return
         if self.window is not None:
@@ -298,11 +291,6 @@ class Gathering:
             return SPOILT
         return None
 
-    def missed(self):
-        """Yields who asked for which group in an earlier window, and not in the last one."""
-        earlier = {it for window in self.done[:-1] for it in window.wants}
-        yield from sorted(earlier - self.done[-1].wants)
-
 
 @dataclasses.dataclass
 class List:
@@ -322,9 +310,11 @@ def list_of(gathering, statics, is_empty_allowed, option):
     window = gathering.done[-1]
     static = f", static {len(statics)}" if statics else ""
     say(f"query of {dotted(window.querier)}: reports {len(window.reports)}, other messages {window.aside}{static}")
-    tell_ignored(window, say)
+    for sender, count in window.ignored.items():
+        alone = ", and nothing else of it came" if sender in window.silent() else ""
+        say(f"left aside of {dotted(sender)}, too short or with a wrong checksum: {count}{alone}")
     remarks = Remarks(say)
-    for sender, group in gathering.missed():
+    for sender, group in sorted({it for earlier in gathering.done[:-1] for it in earlier.wants} - window.wants):
         remarks.tell("wants of an earlier window",
                      f"{dotted(sender)} asked for {dotted(group)} in an earlier window, and not in the last one")
     remarks.finish()
@@ -337,23 +327,9 @@ def list_of(gathering, statics, is_empty_allowed, option):
             return List(NO_LIST)
     if window.is_refused:
         say("mcaudit will refuse this list: ask again")
-    else:
-        tell_unheeded(window, say)
-    unchecked = [f"sender {dotted(it)}" for it in window.silent()]
-    return List(REFUSED if window.is_refused else WRITTEN, window.reports + statics, is_silent, unchecked)
-
-
-def tell_ignored(window, say):
-    """Names whose packets were left aside."""
-    for sender, count in window.ignored.items():
-        silent = ", and nothing else of it came" if sender in window.silent() else ""
-        say(f"left aside of {dotted(sender)}, too short or with a wrong checksum: {count}{silent}")
-
-
-def tell_unheeded(window, say):
-    """Names the groups of SSM that are asked for in vain."""
-    remarks = Remarks(say)
-    for (kind, group), count in window.unheeded.items():
+    for (kind, group), count in window.unheeded.items() if not window.is_refused else ():
         remarks.tell("such groups", f"SSM group {dotted(group)}: reports of IGMP version {kind}, which ask for every "
                      f"source, so that SSM routers ignore them: {count}")
     remarks.finish()
+    unchecked = [f"sender {dotted(it)}" for it in window.silent()]
+    return List(REFUSED if window.is_refused else WRITTEN, window.reports + statics, is_silent, unchecked)

@@ -8,18 +8,14 @@ the names of its own devices in escapes, or as printable letters of a comment.
 """
 import contextlib
 import os
-import sys
 import tempfile
 
-from mcaudit_tools.common import Failed, Parser, clean, options_of, whole_number
-from mcaudit_tools.draft.ask import ask_routers
-from mcaudit_tools.draft.changes import print_changes, take_interfaces
-from mcaudit_tools.draft.flows import find_flows
+from mcaudit_tools.common import Failed, Parser, options_of, say
 from mcaudit_tools.draft.lans import place_vifs
 from mcaudit_tools.draft.measure import IDLE, measure_flows
-from mcaudit_tools.draft.shape import Draft
-from mcaudit_tools.draft.text import measuring_words, text_of
-from mcaudit_tools.files import beside, reason_of
+from mcaudit_tools.draft.text import measuring_words, print_changes, take_interfaces, text_of
+from mcaudit_tools.draft.told import Draft, ask_routers
+from mcaudit_tools.files import beside, failing
 from mcaudit_tools.programs import RUNNING
 from mcaudit_tools.sets import site_of
 from mcaudit_tools.topology import read_toml
@@ -41,24 +37,28 @@ Examples:
   mcaudit-draft --routers routers --ssh 'ssh -l root' site
   mcaudit-draft --ttl 16 site r1=10.9.0.1 r2=admin@10.9.0.2"""
 
+OPTIONS = [*REACH, ("--timeout", "SECONDS", "give a router up when a reading takes longer (60)", 1, 999, 60),
+           ("--ttl", "N", "the time to live of all flows: none is measured", 1, 255, None),
+           ("--measure", "SECONDS", "wait so long for packets of a flow (5)", 1, 600, 5),
+           ("--update", None, "change nothing, and print what differs from the topology that is there, which gives the "
+            "names and the times to live that weren't measured")]
+
 
 def write_topology(site, text):
     """Writes the topology whole, and not over another."""
     path = os.path.join(site, "topology")
-    is_made, is_written = not os.path.isdir(site), False
+    made = None if os.path.isdir(site) else site
     try:
-        if is_made:
-            os.makedirs(site)
-        locked = site_of(site)
-        with locked.writing() if locked else contextlib.nullcontext(), beside(path, is_new=True) as file:
-            file.write(text.encode("ascii"))
-        is_written = True
-    except OSError as fault:
-        raise Failed(f"{path} can't be written: {reason_of(fault)}") from fault
+        with failing(f"{path} can't be written"):
+            os.makedirs(site, exist_ok=True)
+            locked = site_of(site)
+            with locked.writing() if locked else contextlib.nullcontext(), beside(path, is_new=True) as file:
+                file.write(text.encode("ascii"))
+            made = None
     finally:
-        if is_made and not is_written:
+        if made:
             with contextlib.suppress(OSError):  # it holds something else by now
-                os.rmdir(site)
+                os.rmdir(made)
 
 
 def read_arguments():
@@ -66,15 +66,7 @@ def read_arguments():
     words = Parser(description=ABOUT, epilog=MORE)
     words.add_argument("site", metavar="SITE")
     words.add_argument("ways", metavar="NAME=WAY", nargs="*", help="a router and the way to it")
-    words.add_options(REACH)
-    words.add_argument("--timeout", metavar="SECONDS", type=whole_number(1, 999), default=60,
-                       help="give a router up when a reading takes longer (60)")
-    words.add_argument("--ttl", metavar="N", type=whole_number(1, 255),
-                       help="the time to live of all flows: none is measured")
-    words.add_argument("--measure", metavar="SECONDS", type=whole_number(1, 600), default=5,
-                       help="wait so long for packets of a flow (5)")
-    words.add_argument("--update", action="store_true", help="change nothing, and print what differs from the topology "
-                       "that is there, which gives the names and the times to live that weren't measured")
+    words.add_options(OPTIONS)
     words.add_version()
     found = words.parse_args()
     found.timeout = str(found.timeout)
@@ -87,28 +79,20 @@ def tell(draft, is_update):
     topology that is there, which an operator has read, interfaces that aren't sure and idle flows are told alone."""
     others = [it for it in draft.flows if it.ttl is None]
     unsure = [it for it in draft.unsure if not it[2].startswith("a register vif")]
-    for it in draft.doubts:
-        print(f"mcaudit-draft: missing: {it}", file=sys.stderr)
-    for router, device, why, _ in unsure:
-        print(f"mcaudit-draft: unsure: {router} {clean(device)}: {why}", file=sys.stderr)
-    for it in others:
-        print(f"mcaudit-draft: not judged: {it.source} {it.group}: {it.said}{measuring_words(it)}", file=sys.stderr)
+    for sentence in [*(f"missing: {it}" for it in draft.doubts),
+                     *(f"unsure: {router} {device}: {why}" for router, device, why, _ in unsure),
+                     *(f"not judged: {it.source} {it.group}: {it.said}{measuring_words(it)}" for it in others)]:
+        say(sentence)
     if is_update:
         return bool(draft.doubts or any(it.said != IDLE for it in others))
     return bool(draft.doubts or unsure or others)
-
-
-def draft_flows(words, draft):
-    """Gives the draft its flows, with their times to live."""
-    find_flows(draft)
-    measure_flows(words, draft)
 
 
 def compare(words, draft, path, topology):
     """Compares the draft with the topology that is there. Returns whether something differs."""
     try:
         take_interfaces(draft, topology)
-        draft_flows(words, draft)
+        measure_flows(words, draft)
         return print_changes(draft, topology)
     except (KeyError, TypeError, AttributeError) as fault:
         raise Failed(f"{path} is no topology: see what mcaudit says of it") from fault
@@ -120,17 +104,15 @@ def draft_topology(words, scratch):
     if os.path.lexists(path) and not words.update:
         raise Failed(f"{path} is there already: --update prints what has changed")
     topology = read_toml(os.path.realpath(words.site), words.site) if words.update else None
-    routers, doubts = ask_routers(words, scratch)
-    draft = Draft(routers, doubts=doubts)
+    draft = Draft(*ask_routers(words, scratch))
     place_vifs(draft)
     if words.update:
         differs = compare(words, draft, path, topology)
         return 1 if tell(draft, True) or differs else 0
-    draft_flows(words, draft)
+    measure_flows(words, draft)
     write_topology(words.site, text_of(draft))
-    judged = sum(it.ttl is not None for it in draft.flows)
-    interfaces = sum(map(len, draft.lans.values()))
-    print(f"{path}: LANs {len(draft.lans)}, routers {len(routers)}, interfaces {interfaces}, flows {judged}")
+    judged, interfaces = sum(it.ttl is not None for it in draft.flows), sum(map(len, draft.lans.values()))
+    print(f"{path}: LANs {len(draft.lans)}, routers {len(draft.routers)}, interfaces {interfaces}, flows {judged}")
     return 1 if tell(draft, False) else 0
 
 

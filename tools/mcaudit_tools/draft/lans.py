@@ -3,39 +3,25 @@ import itertools
 import re
 
 from mcaudit_tools.common import clean
+from mcaudit_tools.draft.told import Link
 
 LEAST_PREFIX = 8  # of a network that can be a LAN
 MOST_NETWORKS = 16  # on one interface
 REGISTER, TUNNEL = 4, 1  # flags of a vif
 
 
-def name_of(network):
-    """Returns the name of a LAN by its network, or its link by both ends."""
-    if isinstance(network, tuple):
-        return f"{network[0]}-{network[1]}"
-    return f"{network.network_address}-{network.prefixlen}"
-
-
 def place_of(network):
     """Returns by what networks are put in order: networks by their addresses, and then links by their ends."""
-    if isinstance(network, tuple):
-        return 1, *network
-    return 0, network.network_address, network.prefixlen
-
-
-def shown_network(network):
-    """Returns a network or link for people."""
-    return f"{network[0]} to {network[1]}" if isinstance(network, tuple) else str(network)
+    return (1, *network) if isinstance(network, Link) else (0, network.network_address, network.prefixlen)
 
 
 def fault_of_device(device, flags, addresses):
     """Returns why the device of a vif can't be placed by what its router says, or None."""
-    octets = device.encode()
     if flags & REGISTER:
         return "a register vif is on no LAN"
     if flags & TUNNEL:
         return "a tunnel is on no LAN"
-    if "\ufffd" in device or not 1 <= len(octets) <= 15 or device == "none" or re.search("[\t-\r /:]", device):
+    if not 1 <= len(device.encode()) <= 15 or device == "none" or re.search("[\ufffd\t-\r /:]", device):
         return "its name is none that a topology can have"
     if not addresses:
         return "unnumbered: it has no IPv4 address"
@@ -43,9 +29,9 @@ def fault_of_device(device, flags, addresses):
     if not networks:
         return f"unnumbered: {addresses[0].local} is a lone address"
     for network in networks:
-        if not isinstance(network, tuple) and network.prefixlen < LEAST_PREFIX:
+        if not isinstance(network, Link) and network.prefixlen < LEAST_PREFIX:
             return f"{network} is no network of a LAN"
-        if not isinstance(network, tuple) and network.is_link_local:
+        if not isinstance(network, Link) and network.is_link_local:
             return f"{network} can be any link"
     return None
 
@@ -61,11 +47,10 @@ def find_bridges(interfaces):
         if len(networks) > MOST_NETWORKS:
             doubts[key] = f"it has more than {MOST_NETWORKS} networks"
             continue
-        others = [{it for it in members[network] if it[0] != key[0]} for network in networks]
-        for one, two in itertools.combinations(range(len(networks)), 2):
+        others = {network: {it for it in members[network] if it[0] != key[0]} for network in networks}
+        for one, two in itertools.combinations(networks, 2):
             if others[one] - others[two] and others[two] - others[one]:
-                both = " and ".join(shown_network(networks[it]) for it in (one, two))
-                doubts[key] = f"it has the networks of two LANs, {both}"
+                doubts[key] = f"it has the networks of two LANs, {one} and {two}"
     return doubts
 
 
@@ -75,16 +60,14 @@ def join_networks(interfaces, apart):
     joined = {it: {it} for key in apart for it in interfaces[key]}
     for networks in (it for key, it in interfaces.items() if key not in apart):
         whole = set(networks).union(*(joined[it] for it in networks if it in joined))
-        for it in whole:
-            joined[it] = whole
+        joined.update(dict.fromkeys(whole, whole))
     return joined
 
 
 def overlapping(networks):
     """Returns for each network one that it overlaps, by going through them in order."""
     found, widest = {}, None
-    plain = [it for it in networks if not isinstance(it, tuple)]
-    for network in sorted(plain, key=lambda it: (int(it.network_address), it.prefixlen)):
+    for network in sorted((it for it in networks if not isinstance(it, Link)), key=place_of):
         if widest is not None and network.subnet_of(widest):
             found[network] = widest
             found.setdefault(widest, network)
@@ -111,18 +94,12 @@ def doubts_of(interfaces, joined, addresses):
             others = [it[1] for it in keys if it[0] == key[0]]
             if len(others) > 1:
                 doubts[key] = f"the router has this network twice, on {clean(', '.join(others))}"
-        if len(keys) == 1 and all(is_link(it) for it in whole):
-            link = shown_network(min(whole, key=place_of))
-            doubts[keys[0]] = f"a link without a peer: no router has the other end of {link}"
+        if len(keys) == 1 and all(isinstance(it, Link) or it.prefixlen >= 30 for it in whole):
+            doubts[keys[0]] = f"a link without a peer: no router has the other end of {min(whole, key=place_of)}"
     for local, keys in holders.items():
         if len(keys) > 1:
             doubts.update({key: f"{local} is an address of more than one interface" for key in keys})
     return doubts
-
-
-def is_link(network):
-    """Whether the network has room for two ends alone."""
-    return isinstance(network, tuple) or network.prefixlen >= 30
 
 
 def place_vifs(draft):
@@ -130,25 +107,23 @@ def place_vifs(draft):
     interfaces, addresses = {}, {}
     for router in draft.routers:
         for device, flags in router.vifs.values():
-            found = router.addresses.get(device, [])
+            key, found = (router.name, device), router.addresses.get(device, [])
             fault = fault_of_device(device, flags, found)
             if fault:
-                draft.unsure.append((router.name, device, fault, "?"))
-                continue
-            addresses[router.name, device] = found
-            interfaces[router.name, device] = [it.network for it in found if it.network is not None]
-        devices = {it[0] for it in router.vifs.values()}
-        for device in sorted(set(router.addresses) - devices):
-            networks = ", ".join(shown_network(it.network or it.local) for it in router.addresses[device])
+                draft.unsure.append((*key, fault, "?"))
+            else:
+                addresses[key], interfaces[key] = found, [it.network for it in found if it.network is not None]
+        for device in sorted(set(router.addresses) - {it[0] for it in router.vifs.values()}):
+            networks = ", ".join(str(it.network or it.local) for it in router.addresses[device])
             draft.remarks.append(f"{router.name} {clean(device)}, {networks}: it has no vif, so no multicast")
     apart = find_bridges(interfaces)
     joined = join_networks(interfaces, apart)
     doubts = {**doubts_of(interfaces, joined, addresses), **apart}
     for key, networks in interfaces.items():
         whole = joined[networks[0]]
-        name = name_of(min(whole, key=place_of))
+        name = str(min(whole, key=place_of)).replace(" to ", "-").replace("/", "-")
         if key in doubts:
             draft.unsure.append((*key, doubts[key], name))
-            continue
-        draft.lans.setdefault(name, []).append(key)
-        draft.networks[name] = whole
+        else:
+            draft.lans.setdefault(name, []).append(key)
+            draft.networks[name] = whole

@@ -1,4 +1,5 @@
-"""The times to live of flows, as packets have them that tcpdump sees come in on the LANs of their sources."""
+"""Flows: the rows of one source, each with its LAN and its rate, and with its time to live, as packets have it that
+tcpdump sees come in on the source's LAN."""
 import concurrent.futures
 import io
 import ipaddress
@@ -7,26 +8,46 @@ import shlex
 
 from mcaudit_tools import igmp, recording
 from mcaudit_tools.common import Failed, clean, find_tool
-from mcaudit_tools.draft.ask import PAUSE
+from mcaudit_tools.draft.told import PAUSE, Flow
 from mcaudit_tools.programs import run
 
+MOST_FLOWS = 4096
 IDLE = f"it is idle: no packet of it was counted in {PAUSE} s"
 PACKETS = 3  # packets of a flow that are looked at
 MOST_PACKETS = 16 << 20  # bytes of the packets that a router prints
 
 
-def command_of(flow, device):
+def flow_of(draft, key):
+    """Returns the flow of a source and group: with the interfaces on the source's LAN, first those by which their
+    routers take it in, and with its rate where it comes in from its source, or else the greatest one."""
+    lan = next((it for it, networks in draft.networks.items() if any(key[0] in network for network in networks)), None)
+    rows = [(it, it.rows[key].iif) for it in draft.routers if key in it.rows]
+    inlets = {(router.name, router.vifs[iif][0]) for router, iif in rows if iif in router.vifs}
+    points = sorted(draft.lans.get(lan, []), key=inlets.__contains__, reverse=True)
+    rates = {it.name: it.rates[key] for it in draft.routers if key in it.rates}
+    rate = next((rates[it] for it, _ in points if it in rates), max(rates.values(), default=None))
+    return Flow(*key, lan, rate, points, said="" if lan else "its source is on no LAN of these routers")
+
+
+def find_flows(draft):
+    """Gives the draft the flows that the routers have rows of, the busiest first where they are too many."""
+    found = sorted({key for router in draft.routers for key in router.rows})
+    draft.flows = [flow_of(draft, it) for it in found]
+    if not found:
+        draft.doubts.append("no router has a row of one source, so there is no flow")
+    groups = {group for _, group in found}
+    for router in draft.routers:
+        for group in sorted(router.wildcards - groups):
+            draft.doubts.append(f"{router.name}: a row of every source of {group}, whose flows can't be told")
+    busiest = sorted(draft.flows, key=lambda it: (it.rate is None, -(it.rate or (0, 0))[0]))
+    for flow in busiest[MOST_FLOWS:]:
+        flow.lan, flow.said = None, f"there are more than {MOST_FLOWS} flows"
+
+
+def command_of(flow, device, options):
     """Returns the words that show packets of the flow as they come in on the device."""
-    return f"tcpdump -n -v -c 1 -Q in -i {shlex.quote(device)} 'src host {flow.source} and dst host {flow.group}'"
-
-
-def measure_words(flows, seconds):
-    """Returns what a router's shell is handed to print packets of each flow, with the device that sees it."""
-    lines = ["LC_ALL=C", "export LC_ALL"]
-    for flow, device in flows:
-        lines.append(f"timeout {seconds} tcpdump -l -n -x -s 96 -c {PACKETS} -Q in -i {shlex.quote(device)} "
-                     f"'src host {flow.source} and dst host {flow.group}' < /dev/null")
-    return "\n".join(lines) + "\n"
+    return (f"tcpdump {options} -Q in -i {shlex.quote(device)} "
+            f"'src host {flow.source} and dst host {flow.group}'")
 
 
 def times_to_live(printed):
@@ -42,45 +63,41 @@ def times_to_live(printed):
 
 
 def ask_packets(words, router, flows):
-    """Returns what the router says when it is asked for packets of the flows, and what it complains of."""
+    """Returns what the router prints when it is asked for packets of the flows, and what it complains of."""
     command = [find_tool("mcaudit-collect"), *words.reach, "--shell", router, *words.ways]
-    seconds = len(flows) * (words.measure + 2) + 20
-    came = run(command, measure_words(flows, words.measure).encode(), seconds, MOST_PACKETS)
+    script = "LC_ALL=C\nexport LC_ALL\n" + "".join(
+        f"timeout {words.measure} {command_of(flow, device, f'-l -n -x -s 96 -c {PACKETS}')} < /dev/null\n"
+        for flow, device in flows)
+    came = run(command, script.encode(), len(flows) * (words.measure + 2) + 20, MOST_PACKETS)
     if came.is_late or came.is_long:
         return b"", ["it did not answer" if came.is_late else f"it printed more than {MOST_PACKETS} bytes"]
     return came.printed, came.sentences()
-
-
-def judge_flow(flow, router, device, lives):
-    """Takes what was seen of the flow as its time to live, where that is one."""
-    found = sorted(lives.get((flow.source, flow.group), ()))
-    if len(found) == 1 and 1 <= found[0] <= 255:
-        flow.ttl, flow.said = found[0], f"measured on {router} {clean(device)}"
-    elif found:
-        lives_said = ", ".join(map(str, found))
-        flow.said = f"its packets come with other times to live: {lives_said}"
-    else:
-        flow.said = f"no packet of it was seen on {router} {clean(device)}"
 
 
 def measure_on(words, router, flows):
     """Measures the flows on the router. Returns doubts."""
     print(f"{router}: measuring the times to live of {len(flows)} flows", flush=True)
     printed, said = ask_packets(words, router, flows)
+    lives = {}
     try:
         lives = times_to_live(printed)
     except Failed as fault:
-        lives, said = {}, [str(fault)]
+        said = [str(fault)]
     for flow, device in flows:
-        judge_flow(flow, router, device, lives)
-    if any(flow.ttl is None for flow, _ in flows):
-        last = [it for it in said if not re.match(r"\d+ packets? |listening on |.*verbose output", it)]
-        return [f"{router}: {clean(last[-1])[:200]}"] if last else []
-    return []
+        found = sorted(lives.get((flow.source, flow.group), ()))
+        if not found:
+            flow.said = f"no packet of it was seen on {router} {clean(device)}"
+        elif len(found) == 1 and found[0]:
+            flow.ttl, flow.said = found[0], f"measured on {router} {clean(device)}"
+        else:
+            flow.said = f"its packets come with other times to live: {', '.join(map(str, found))}"
+    last = [it for it in said if not re.match(r"\d+ packets? |listening on |.*verbose output", it)]
+    return [f"{router}: {clean(last[-1])[:200]}"] if last and any(flow.ttl is None for flow, _ in flows) else []
 
 
 def measure_flows(words, draft):
-    """Gives each flow its time to live, as it was told by hand or as it is measured."""
+    """Gives the draft its flows, each with its time to live, as it was told by hand or as it is measured."""
+    find_flows(draft)
     tasks = {}
     for flow in draft.flows:
         if flow.lan is None:

@@ -1,17 +1,21 @@
-"""The text of a topology."""
+"""The text of a topology that is drafted, and what it has otherwise than one that is there."""
+import difflib
+
 from mcaudit_tools.common import clean
 from mcaudit_tools.draft.measure import command_of
+
+TABLES = {"router": ("name", "order"), "interface": ("router", "device", "lan"), "flow": ("source", "group", "ttl")}
 
 
 def toml_text(text):
     """Returns a text of TOML, in letters of ASCII."""
-    letters = []
-    for it in text:
-        if it in "\"\\":
-            letters.append("\\" + it)
-        else:
-            letters.append(it if " " <= it <= "~" else f"\\U{ord(it):08X}")
-    return '"' + "".join(letters) + '"'
+    letters = (f"\\{it}" if it in "\"\\" else it if " " <= it <= "~" else f"\\U{ord(it):08X}" for it in text)
+    return f'"{"".join(letters)}"'
+
+
+def table_text(**fields):
+    """Returns a table of TOML in one line, of texts and a flow's time to live."""
+    return "{" + ", ".join(f"{key} = {it if key == 'ttl' else toml_text(it)}" for key, it in fields.items()) + "}"
 
 
 def shown_number(number):
@@ -30,64 +34,91 @@ def shown_rate(rate):
     return f"{shown_number(rate[0])} packets/s, {shown_number(bits)} {unit}/s"
 
 
-def interface_line(router, device, lan):
-    """Returns an interface as a table."""
-    return f"{{router = {toml_text(router)}, device = {toml_text(device)}, lan = {toml_text(lan)}}}"
-
-
-def router_line(router):
-    """Returns a router as a table."""
-    order = ', order = "big"' if router.order == "big" else ""
-    return f"{{name = {toml_text(router.name)}{order}}}"
-
-
-def source_line(source, lan):
-    """Returns a source as a table."""
-    return f'{{address = "{source}", lan = {toml_text(lan)}}},'
-
-
-def flow_line(source, group, ttl):
-    """Returns a flow as a table."""
-    return f'{{source = "{source}", group = "{group}", ttl = {ttl}}}'
-
-
 def measuring_words(flow):
     """Returns how the flow's time to live can be measured by hand, or nothing."""
     if not flow.points:
         return ""
     router, device = flow.points[0]
-    return f"; on {router}: {clean(command_of(flow, device))}"
+    return f"; on {router}: {clean(command_of(flow, device, '-n -v -c 1'))}"
 
 
-def unsure_lines(draft):
-    """Returns the interfaces that aren't sure, as comments: without their first letter they are tables."""
-    return [f"# {interface_line(router, device, lan)}, # unsure: {why}" for router, device, why, lan in draft.unsure]
+def topology_of(draft):
+    """Returns what is sure of the draft, as a topology has it."""
+    names = [it.name for it in draft.routers]
+    placed = [(router, device, lan) for lan, keys in draft.lans.items() for router, device in keys]
+    placed.sort(key=lambda it: names.index(it[0]))
+    judged = [it for it in draft.flows if it.ttl is not None]
+    sources = {str(it.source): it.lan for it in judged}
+    return {"lans": list(draft.lans), "router": [{"name": it.name, "order": it.order} for it in draft.routers],
+            "interface": [dict(zip(TABLES["interface"], it)) for it in placed],
+            "source": [{"address": source, "lan": lan} for source, lan in sources.items()],
+            "flow": [{"source": str(it.source), "group": str(it.group), "ttl": it.ttl} for it in judged]}
 
 
-def section(name, lines):
-    """Returns the lines of a section: a list of tables."""
-    return [f"{name} = [", *lines, "]"]
+def tables_of(topology, kind):
+    """Returns the tables of a kind that the topology has: what is the usual order of bytes isn't in them."""
+    return [table_text(**{key: it[key] for key in TABLES[kind] if key != "order" or it.get(key) == "big"})
+            for it in topology.get(kind, [])]
 
 
 def text_of(draft):
     """Returns the topology's text."""
-    judged = [it for it in draft.flows if it.ttl is not None]
-    others = [it for it in draft.flows if it.ttl is None]
-    sources = {it.source: it.lan for it in judged}
-    idle = {(it.source, it.lan or "?") for it in others if it.source not in sources}
-    lines = ["# Drafted by mcaudit-draft of what the routers say: read it before anything is judged by it."]
-    lines += [f"# missing: {it}" for it in draft.doubts] + [f"# {it}" for it in draft.remarks] + ["version = 1"]
-    lines += section("lans", [toml_text(it) + "," for it in draft.lans])
-    lines += section("router", [router_line(it) + "," for it in draft.routers])
-    placed = [(router, device, lan) for lan, keys in draft.lans.items() for router, device in keys]
-    names = [it.name for it in draft.routers]
-    placed.sort(key=lambda it: names.index(it[0]))
-    lines += section("interface", [interface_line(*it) + "," for it in placed] + unsure_lines(draft))
-    lines += section("source", [source_line(it, sources[it]) for it in sources]
-                     + [f"# {source_line(*it)}" for it in sorted(idle)])
-    lines += section("flow", [f"{flow_line(it.source, it.group, it.ttl)}, # {shown_rate(it.rate)}; ttl {it.said}"
-                              for it in judged])
-    for it in others:
-        lines.insert(-1, f"# {flow_line(it.source, it.group, '?')}, # not judged: {it.said}; {shown_rate(it.rate)}"
-                     + measuring_words(it))
+    topology = topology_of(draft)
+    judged, others = ([it for it in draft.flows if (it.ttl is not None) == is_judged] for is_judged in (True, False))
+    sources = [table_text(**it) for it in topology["source"]]
+    idle = {(it.source, it.lan or "?") for it in others if it.source not in {one.source for one in judged}}
+    sections = {
+        "lans": [f"{toml_text(it)}," for it in topology["lans"]],
+        "router": [f"{it}," for it in tables_of(topology, "router")],
+        "interface": [*(f"{it}," for it in tables_of(topology, "interface")),
+                      *(f"# {table_text(router=router, device=device, lan=lan)}, # unsure: {why}"
+                        for router, device, why, lan in draft.unsure)],
+        "source": [*(f"{it}," for it in sources),
+                   *(f"# {table_text(address=str(source), lan=lan)}," for source, lan in sorted(idle))],
+        "flow": [*(f"{line}, # {shown_rate(it.rate)}; ttl {it.said}"
+                   for line, it in zip(tables_of(topology, "flow"), judged)),
+                 *(f"# {table_text(source=str(it.source), group=str(it.group), ttl='?')}, # not judged: {it.said}; "
+                   f"{shown_rate(it.rate)}{measuring_words(it)}" for it in others)]}
+    lines = ["# Drafted by mcaudit-draft of what the routers say: read it before anything is judged by it.",
+             *(f"# missing: {it}" for it in draft.doubts), *(f"# {it}" for it in draft.remarks), "version = 1"]
+    for name, inner in sections.items():
+        lines += [f"{name} = [", *inner, "]"]
     return "\n".join(lines) + "\n"
+
+
+# Beside a topology that is there
+
+def take_interfaces(draft, topology):
+    """Names the draft's LANs as the topology does that is there, by their interfaces, and places as it does those
+    that aren't sure."""
+    known = {(it["router"], it["device"]): it["lan"] for it in topology.get("interface", [])}
+    renamed = {}
+    for name, keys in draft.lans.items():
+        old = [known[it] for it in keys if it in known]
+        renamed[name] = old[0] if old and old[0] not in renamed.values() else name
+    draft.lans = {renamed[name]: keys for name, keys in draft.lans.items()}
+    draft.networks = {renamed[name]: it for name, it in draft.networks.items()}
+    for router, device, _, _ in draft.unsure:
+        if (router, device) in known:
+            draft.lans.setdefault(known[router, device], []).append((router, device))
+    draft.unsure = [it for it in draft.unsure if it[:2] not in known]
+
+
+def content_of(topology):
+    """Returns the topology's tables, a line each, sorted."""
+    lines = [f"lan {toml_text(it)}" for it in topology.get("lans", [])]
+    lines += [f"source {it['address']} on {toml_text(it['lan'])}" for it in topology.get("source", [])]
+    return sorted(lines + [f"{kind} {it}" for kind in TABLES for it in tables_of(topology, kind)])
+
+
+def print_changes(draft, topology):
+    """Takes over the times to live that weren't measured now, and prints what the draft has otherwise than the topology
+    that is there. Returns whether there is anything."""
+    known = {(it["source"], it["group"]): it["ttl"] for it in topology.get("flow", [])}
+    for flow in draft.flows:
+        key = str(flow.source), str(flow.group)
+        if flow.ttl is None and flow.lan is not None and key in known:
+            flow.ttl, flow.said = known[key], "as it was"
+    changes = [it for it in difflib.ndiff(content_of(topology), content_of(topology_of(draft))) if it[0] in "+-"]
+    print("".join(it + "\n" for it in changes), end="")
+    return bool(changes)

@@ -17,7 +17,7 @@ from mcaudit_tools import audit as audits
 from mcaudit_tools import locks, origins, sets
 from mcaudit_tools.ages import Ages
 from mcaudit_tools.common import Failed, Refused, clean, find_tool
-from mcaudit_tools.files import printing, read_json, reason_of, write_beside
+from mcaudit_tools.files import failing, printing, read_json, write_beside
 from mcaudit_tools.monitor import metrics, plugin
 from mcaudit_tools.monitor.judged import judged_of
 from mcaudit_tools.monitor.words import read_arguments
@@ -249,13 +249,11 @@ class Run:
     def remove(self, folder, name):
         """Removes a set, which is none from the first moment on."""
         gone = f"{folder}/.removed"
-        try:
+        with failing(f"{folder}/{name} can't be removed"):
             with contextlib.suppress(FileNotFoundError):
                 shutil.rmtree(gone)
             os.rename(f"{folder}/{name}", gone)
             shutil.rmtree(gone)
-        except OSError as fault:
-            raise Failed(f"{folder}/{name} can't be removed: {reason_of(fault)}") from fault
 
     def keep_audit(self):
         """Keeps the audit."""

@@ -8,23 +8,21 @@ NAMED = {"router": "router", "lan": "LAN"}  # by label
 
 def samples_of(work):
     """Returns the metrics of a run: name, what it says, and labels and value of each sample."""
-    judged = work.judged if work.is_answered() else None
-    counts = judged and judged.counts
+    judged, state = work.judged if work.is_answered() else None, work.state
     one = [("up", "Whether the last run judged the domain.", int(judged is not None)),
            ("last_run_timestamp_seconds", "When the last run ended.", int(time.time())),
            ("last_success_timestamp_seconds", "When the last run that judged the domain ended.",
-            work.state.get("last_success")),
+            state.get("last_success")),
            ("last_change_timestamp_seconds", "When something had changed since the run before.",
-            work.state.get("last_change")),
+            state.get("last_change")),
            ("last_fault_change_timestamp_seconds",
-            "When a fault had come, gone or become another since the run before.",
-            work.state.get("last_fault_change")),
-           ("verdict", "Whether every listed flow is right.", judged and int(judged.is_right)),
-           ("flows_right", "Listed flows that are right.", counts and counts["right"]),
-           ("flows_wrong", "Listed flows that are not right.", counts and counts["wrong"]),
-           ("flows_unwanted", "Listed flows that are right and wanted by no LAN.", counts and counts["unwanted"]),
-           ("unlisted_pairs", "Sources and groups in the caches that are no listed flow's.",
-            judged and judged.unlisted)]
+            "When a fault had come, gone or become another since the run before.", state.get("last_fault_change"))]
+    if judged is not None:
+        one += [("verdict", "Whether every listed flow is right.", int(judged.is_right)),
+                ("flows_right", "Listed flows that are right.", judged.counts["right"]),
+                ("flows_wrong", "Listed flows that are not right.", judged.counts["wrong"]),
+                ("flows_unwanted", "Listed flows that are right and wanted by no LAN.", judged.counts["unwanted"]),
+                ("unlisted_pairs", "Sources and groups in the caches that are no listed flow's.", judged.unlisted)]
     metrics = [(name, about, [({}, value)]) for name, about, value in one if value is not None]
     return metrics + age_samples(work.ages())
 
@@ -57,6 +55,5 @@ def text_of(work):
 
 def labels_text(labels):
     """Returns labels as Prometheus reads them."""
-    def escaped(value):
-        return value.replace("\\", "\\\\").replace('"', '\\"').replace("\n", "\\n")
-    return "{" + ",".join(f'{name}="{escaped(value)}"' for name, value in labels.items()) + "}" if labels else ""
+    escapes = str.maketrans({"\\": r"\\", '"': r'\"', "\n": r"\n"})
+    return "{" + ",".join(f'{name}="{it.translate(escapes)}"' for name, it in labels.items()) + "}" if labels else ""

@@ -30,7 +30,17 @@ COLLECTS = [*REACH,
             ("--readings", "N", "read a router at most N times"),
             ("--pause", "SECONDS", "wait so long between two readings of a router"),
             ("--timeout", "SECONDS", "give a router up when a reading takes longer"),
-            ("--at-once", "N", "read at most N routers side by side")]
+            ("--at-once", "N", "read at most N routers side by side"),
+            ("--facts", None, "bring the routers' addresses and routes too"),
+            ("--adopt", None, "if SITE is a plain folder, make it the first set")]
+MOST = 999_999_999  # sets that are kept, and seconds
+OPTIONS = [("--no-collect", None, "judge what SITE has: nothing is read of a router, compared or kept"),
+           ("--keep", "N", "keep the last N sets, and those still needed (all)", 1, MOST, None),
+           ("--plugin", None, "print one line, and end as a plugin of Nagios or Icinga"),
+           ("--warn-age", "SECONDS", f"with --plugin: warn of older tables; 0 never does ({WARN_AGE})", 0, MOST, None),
+           ("--warn-reports", "SECONDS", f"with --plugin: warn of older reports; 0 never does ({WARN_REPORTS})", 0,
+            MOST, None),
+           ("--prometheus", "FILE.prom", "write what node_exporter's textfile collector reads")]
 
 
 class MonitorParser(Parser):
@@ -42,18 +52,6 @@ class MonitorParser(Parser):
             print(f"MCAUDIT UNKNOWN - wrong words: {clean(message, '|')[:MOST_LETTERS]}")
             sys.exit(3)
         super().error(message)
-
-
-def count(text):
-    """Reads a number of 1 or more."""
-    if not re.fullmatch(r"0*[1-9][0-9]{0,8}", text, re.ASCII):
-        raise argparse.ArgumentTypeError(f"{text!r} is no number of 1 or more")
-    return int(text)
-
-
-def seconds(text):
-    """Reads an age, 0 for none."""
-    return 0 if re.fullmatch("0+", text, re.ASCII) else count(text)
 
 
 def label(text):
@@ -69,18 +67,7 @@ def read_arguments():
     words.add_version()
     words.add_argument("site", metavar="SITE")
     words.add_argument("ways", metavar="NAME=WAY", nargs="*", help="a router and the way to it, as for mcaudit-collect")
-    words.add_options(COLLECTS)
-    words.add_argument("--facts", action="store_true", help="bring the routers' addresses and routes too")
-    words.add_argument("--adopt", action="store_true", help="if SITE is a plain folder, make it the first set")
-    words.add_argument("--no-collect", action="store_true",
-                       help="judge what SITE has: nothing is read of a router, compared or kept")
-    words.add_argument("--keep", metavar="N", type=count, help="keep the last N sets, and those still needed (all)")
-    words.add_argument("--plugin", action="store_true", help="print one line, and end as a plugin of Nagios or Icinga")
-    words.add_argument("--warn-age", metavar="SECONDS", type=seconds,
-                       help=f"with --plugin: warn of older tables; 0 never does ({WARN_AGE})")
-    words.add_argument("--warn-reports", metavar="SECONDS", type=seconds,
-                       help=f"with --plugin: warn of older reports; 0 never does ({WARN_REPORTS})")
-    words.add_argument("--prometheus", metavar="FILE.prom", help="write what node_exporter's textfile collector reads")
+    words.add_options([*COLLECTS, *OPTIONS])
     words.add_argument("--label", metavar="NAME=VALUE", type=label, action="append", default=[],
                        help="a label of all metrics in FILE.prom, where one machine watches several sites")
     found = words.parse_intermixed_args()
@@ -93,7 +80,7 @@ def check_words(words, found):
     found.site = found.site.rstrip("/")
     if os.path.basename(found.site) in ("", ".", ".."):
         words.error("the site is wanted by its folder's name")
-    collects = options_of(found, *(it for it, _, _ in COLLECTS), "--facts", "--adopt")
+    collects = options_of(found, *(it for it, *_ in COLLECTS))
     if found.no_collect and (collects or found.ways or found.keep or found.prometheus):
         words.error("--no-collect goes with no router, no option of mcaudit-collect, no --keep and no --prometheus")
     if not found.no_collect and not found.ways and not found.routers:

@@ -7,11 +7,11 @@ than text in it: each text is escaped where it is put, and the page's policy let
 import os
 import sys
 
-from mcaudit_tools.common import Failed, Parser
-from mcaudit_tools.files import beside, printing, reason_of
-from mcaudit_tools.page.answer import Silent, read_audit, run_audit
-from mcaudit_tools.page.graph import Graph, find_dot, roots_of
-from mcaudit_tools.page.collected import folder_of
+from mcaudit_tools.common import Parser, find_tool
+from mcaudit_tools.files import beside, failing, printing
+from mcaudit_tools.page.answer import read_audit, run_audit
+from mcaudit_tools.page.graph import Graph, roots_of
+from mcaudit_tools.page.remarks import Folder
 from mcaudit_tools.page.render import page_of
 
 ABOUT = """Makes one page, an HTML file, of what `mcaudit audit` answers of the folder SITE: the verdict, the domain as
@@ -28,19 +28,18 @@ Examples:
   mcaudit-page --without r7 site -o report.html
   ssh r1 mcaudit audit --json --travel --unlisted site | mcaudit-page --audit - -o report.html"""
 
+OPTIONS = [("-o", "FILE", "write the page into FILE; without it to standard output"),
+           ("--audit", "FILE", "run no audit: take what one answered with --json --travel --unlisted from FILE, or "
+            "from - for standard input"),
+           ("--program", "PATH", "run PATH for mcaudit"),
+           ("--without", "ROUTER", "audit without this router's tables, as mcaudit audit --without")]
+
 
 def read_arguments():
     """Reads the arguments."""
     words = Parser(description=ABOUT, epilog=MORE)
     words.add_argument("site", metavar="SITE", nargs="?", help="the folder; with --audit it may be left out")
-    words.add_argument("-o", dest="output", metavar="FILE",
-                       help="write the page into FILE; without it to standard output")
-    words.add_argument("--audit", metavar="FILE",
-                       help="run no audit: take what one answered with --json --travel --unlisted from FILE, or from - "
-                            "for standard input")
-    words.add_argument("--program", metavar="PATH", help="run PATH for mcaudit")
-    words.add_argument("--without", metavar="ROUTER", action="append", default=[],
-                       help="audit without this router's tables, as mcaudit audit --without")
+    words.add_options(OPTIONS, ["--without"])
     words.add_version()
     found = words.parse_args()
     if found.site is None and found.audit is None:
@@ -53,39 +52,30 @@ def read_arguments():
 def write_page(path, page, sentence):
     """Writes the page into the file, whole or not at all, and says what it is; or to standard output or a device."""
     data = page.encode("utf-8", "replace")
-    try:
-        if path is None:
+    if path is None:
+        with printing():
             sys.stdout.buffer.write(data)
             sys.stdout.flush()
-        elif os.path.exists(path) and not os.path.isfile(path):
-            with open(path, "wb") as file:
-                file.write(data)
-        else:
-            with beside(path) as file:
-                file.write(data)
-                with printing():
-                    print(f"{path}: {sentence}", flush=True)
-    except OSError as fault:
-        raise Failed(f"{path or 'standard output'} can't be written: {reason_of(fault)}") from fault
+    elif os.path.exists(path) and not os.path.isfile(path):
+        with failing(f"{path} can't be written"), open(path, "wb") as file:
+            file.write(data)
+    else:
+        with beside(path) as file:
+            file.write(data)
+            with printing():
+                print(f"{path}: {sentence}", flush=True)
 
 
-def make_page(words):
+def main():
     """Makes the page that is asked for: of one set, whatever SITE leads to meanwhile. Returns the verdict's status."""
-    find_dot()
-    folder = folder_of(words.site)
+    words = read_arguments()
+    find_tool("dot", ": it comes with graphviz")
+    folder = None if words.site is None else Folder(words.site)
     audit = read_audit(words.audit) if words.audit is not None else run_audit(words, folder)
     graph = Graph(audit.domain, roots_of(audit))
     page = page_of(audit, graph if graph.lay_out() else None, folder)
     if words.audit is None:
         folder.check()
     counts = " ".join(f"{name} {audit.summary[name]}" for name in ("flows", "right", "wrong", "unwanted"))
-    write_page(words.output, page, f"{counts}, verdict {audit.verdict}")
+    write_page(words.o, page, f"{counts}, verdict {audit.verdict}")
     return 0 if audit.verdict == "yes" else 1
-
-
-def main():
-    """Makes the page. Returns the status."""
-    try:
-        return make_page(read_arguments())
-    except Silent as end:
-        return end.status

@@ -1,9 +1,10 @@
 """What an audit answers, as a page needs it: by numbers, and each thing once."""
 import collections
 import json
+import sys
 
 from mcaudit_tools import audit as audits
-from mcaudit_tools.common import Failed, Refused, find_tool
+from mcaudit_tools.common import Failed, Refused, find_tool, options_of
 from mcaudit_tools.page.explain import FLOW, SEEN, device_text, explanation, some
 from mcaudit_tools.page.travel import Travel, tree_of
 
@@ -15,10 +16,9 @@ class Domain:
 
     def __init__(self, line):
         """Takes the domain of the first line."""
-        self.lans = [str(it) for it in line["lans"]]
-        self.routers = [str(it) for it in line["routers"]]
-        self.lan_numbers = {name: number for number, name in enumerate(self.lans)}
-        self.router_numbers = {name: number for number, name in enumerate(self.routers)}
+        self.lans, self.routers = ([str(it) for it in line[kind]] for kind in ("lans", "routers"))
+        self.lan_numbers, self.router_numbers = (
+            {name: number for number, name in enumerate(names)} for names in (self.lans, self.routers))
         self.sources = {it["address"]: self.lan_numbers[it["lan"]] for it in line["sources"]}
         self.ports, self.by_vif = [], {}
         for it in line["interfaces"]:
@@ -42,6 +42,10 @@ class Domain:
             self.add(Port(key[0], device_text(None, vif), vif, None))
         return self.by_vif[key]
 
+    def beside(self, port):
+        """Returns the vifs on LANs of the router of a vif."""
+        return self.of_router[self.ports[port].router]
+
     def port_of_device(self, router, device):
         """Returns the number of the router's interface of this name."""
         router = self.router_numbers[router]
@@ -55,7 +59,7 @@ class Audit:
         """Begins with nothing."""
         self.domain = self.summary = self.verdict = None
         self.trees, self.flows, self.unlisted, self.without = [], [], [], []
-        self.reasons, self.travels = Once(), Once()
+        self.reasons, self.travels = {}, {}  # their numbers by their JSON, each once
         self.unlisted_more = 0
 
     def take(self, line):
@@ -65,7 +69,7 @@ class Audit:
         elif "entries" in line:
             self.trees.append(tree_of(self.domain, line["entries"]))
         elif "flow" in line:
-            self.flows.append(self.wrong_flow(line) if line["right"] is False else self.right_flow(line))
+            self.flows.append(self.flow(line))
         elif "unlisted" in line:
             pair = line["unlisted"]
             self.unlisted.append((str(pair["source"]), str(pair["group"]), [str(it) for it in pair["routers"]]))
@@ -79,18 +83,17 @@ class Audit:
             self.verdict = {"yes": "yes", "no": "no"}[line["verdict"]]
 
     def flow(self, line):
-        """Returns what each flow has."""
-        return {"number": int(line["flow"]), "source": str(line["source"]), "group": str(line["group"]),
+        """Returns a flow: by its tree, or where it is not right, with what explains it."""
+        flow = {"number": int(line["flow"]), "source": str(line["source"]), "group": str(line["group"]),
                 "ttl": int(line["ttl"]), "lan": self.domain.sources[line["source"]]}
+        if line["right"] is False:
+            return flow | self.fault(line, flow)
+        return flow | {"copies": int(line["copies"]), "tree": range(len(self.trees))[line["tree"]],
+                       "wanted": [self.domain.lan_numbers[lan] for lan in line["wanted"]]}
 
-    def right_flow(self, line):
-        """Returns a flow that is right, by its tree."""
-        return self.flow(line) | {"copies": int(line["copies"]), "tree": range(len(self.trees))[line["tree"]],
-                                  "wanted": [self.domain.lan_numbers[lan] for lan in line["wanted"]]}
-
-    def wrong_flow(self, line):
-        """Returns a flow that is not right, with what explains it."""
-        domain, flow, finding = self.domain, self.flow(line), line["finding"]
+    def fault(self, line, flow):
+        """Returns what is told of a flow that is not right."""
+        domain, finding = self.domain, line["finding"]
         told = [[text.replace(f"({flow['source']},{flow['group']})", FLOW), marks]
                 for text, marks in explanation(domain, line["why"])]
         also = [str(lan) for lan in line["also"]]
@@ -104,24 +107,9 @@ class Audit:
         else:
             place, words = f"l{domain.lan_numbers[finding['lan']]}", finding["lan"]
         told.insert(0, ["", [[place, "fault", SEEN[finding["kind"]]]]])
-        return flow | {"kind": finding["kind"], "place": str(words), "found_ttl": int(line["found_ttl"]),
-                       "why": self.reasons.number(told), "travel": self.travels.number(travel.steps())}
-
-
-class Once:
-    """Values, each different one once."""
-
-    def __init__(self):
-        """Begins with none."""
-        self.numbers, self.values = {}, []
-
-    def number(self, value):
-        """Returns the number of the value."""
-        key = json.dumps(value)
-        if key not in self.numbers:
-            self.numbers[key] = len(self.values)
-            self.values.append(value)
-        return self.numbers[key]
+        return {"kind": finding["kind"], "place": str(words), "found_ttl": int(line["found_ttl"]),
+                "why": self.reasons.setdefault(json.dumps(told), len(self.reasons)),
+                "travel": self.travels.setdefault(json.dumps(travel.steps()), len(self.travels))}
 
 
 def audit_of(objects):
@@ -137,14 +125,13 @@ def audit_of(objects):
 
 def run_audit(words, folder):
     """Runs the audit that the words ask for of the folder, and returns what it answers."""
-    command = [words.program or find_tool("mcaudit"), "audit", folder.path, "--json", "--travel", "--unlisted"]
-    for router in words.without:
-        command += ["--without", router]
+    command = [words.program or find_tool("mcaudit"), "audit", folder.path, "--json", "--travel", "--unlisted",
+               *options_of(words, "--without")]
     status, objects = audits.run_audit(command, "mcaudit audit")
     if status in (2, 3):
         folder.check()
     if 2 <= status <= 5:
-        raise Silent(status)
+        sys.exit(status)  # it has said why
     if status not in (0, 1):
         raise Failed(f"mcaudit audit ended with status {status}")
     try:
@@ -154,14 +141,6 @@ def run_audit(words, folder):
     if (answer.verdict == "yes") != (status == 0):
         raise Failed(f"mcaudit audit printed another verdict than that of its status {status}")
     return answer
-
-
-class Silent(Failed):
-    """The audit ended with a status that is no verdict's, and has said why."""
-
-    def __init__(self, status):
-        """Takes the status."""
-        super().__init__(f"mcaudit audit ended with status {status}", status)
 
 
 def read_audit(path):

@@ -18,59 +18,45 @@ EXPECTED = {
     "from_no_device": "which has lost its device",
     "from_no_lan": "which is on no listed LAN",
 }
-PLAIN = {
-    "sent_onto": "sent onto {lan} by {router} at {at}: {row}",
-    "circle": "{from_lan} to {to_lan} by {router} from {start} to {end}: {row}",
-    "row": "{row}",
-    "least_ttl": "{lan} is reached by packets sent with ttl {least} or more; this flow is listed with ttl {ttl}",
-    "stopped_at": "stopped at {router} {at}: the copy has ttl {ttl}, and is sent only above threshold {threshold}",
-    "left_out": "{lan}: {router} is left out: its tables are not known",
-    "no_row": "{lan}: {router} has no row of this source and group",
-    "unresolved": "{lan}: {router} has only an unresolved row (incoming interface -1): its routing daemon has not "
-                  "answered yet",
-    "every_source": "{lan}: {router} has only a row for every source, which is not judged: {row}",
-    "does_not_send": "{lan}: {router} takes it from {from_lan}, {carries}, and does not send to {at}: {row}",
-    "stopped": "{lan}: {router} is stopped at {at}: threshold {threshold}, the copy has ttl {ttl}",
-    "waits_for": "{lan}: {router} waits for it on {from_lan} at {start}: {row}",
-    "no_vif": "{lan}: {router} has no vif for {at}",
-    "not_multicast": "{lan}: {router} has {at} as a tunnel or register vif",
-    "expected_from_here": "{lan}: expected from this LAN by {some}",
-    "no_router": "{lan}: no router is on it",
-    "no_sender": "{lan}: no row of this source sends onto it",
+# The text of each kind of line, and what it marks in the graph: elements, each with a class and a sign
+LINES = {
+    "sent_onto": ("sent onto {lan} by {router} at {at}: {row}", ("port", "fault", "sends it")),
+    "circle": ("{from_lan} to {to_lan} by {router} from {start} to {end}: {row}",
+               ("start", "fault", ""), ("end", "fault", "")),
+    "row": ("{row}",),
+    "least_ttl": ("{lan} is reached by packets sent with ttl {least} or more; this flow is listed with ttl {ttl}",),
+    "take_out": ("one way to end it: take {at} out of this row of {router}; ", ("port", "mend", "take out")),
+    "only_every_source": ("a copy comes in at {at} of {router}, which has no resolved row of this source and group, "
+                          "only one for every source: {row}",
+                          ("port", "fault", ""), ("router", "fault", "row for every source")),
+    "stopped_at": ("stopped at {router} {at}: the copy has ttl {ttl}, and is sent only above threshold {threshold}",
+                   ("port", "fault", "threshold {threshold}")),
+    "gets_as_far_as": ("it gets as far as: {some}", ("routers", "reached", "")),
+    "not_taken": ("it comes to, and is not taken by: {some}", ("routers", "fault", "not taken")),
+    "left_out": ("{lan}: {router} is left out: its tables are not known", ("router", "doubt", "left out")),
+    "no_row": ("{lan}: {router} has no row of this source and group", ("router", "fault", "no row")),
+    "unresolved": ("{lan}: {router} has only an unresolved row (incoming interface -1): its routing daemon has not "
+                   "answered yet", ("router", "fault", "unresolved row")),
+    "every_source": ("{lan}: {router} has only a row for every source, which is not judged: {row}",
+                     ("router", "doubt", "row for every source")),
+    "does_not_send": ("{lan}: {router} takes it from {from_lan}, {carries}, and does not send to {at}: {row}",
+                      ("port", "fault", "not sent")),
+    "stopped": ("{lan}: {router} is stopped at {at}: threshold {threshold}, the copy has ttl {ttl}",
+                ("port", "fault", "threshold {threshold}")),
+    "waits_for": ("{lan}: {router} waits for it on {from_lan} at {start}: {row}", ("start", "doubt", "waits")),
+    "no_vif": ("{lan}: {router} has no vif for {at}", ("device", "fault", "no vif")),
+    "not_multicast": ("{lan}: {router} has {at} as a tunnel or register vif", ("device", "fault", "no multicast vif")),
+    "expected_from_here": ("{lan}: expected from this LAN by {some}", ("routers", "doubt", "expects it from here")),
+    "no_router": ("{lan}: no router is on it", ("lan", "fault", "no router")),
+    "no_sender": ("{lan}: no row of this source sends onto it", ("lan", "fault", "no sender")),
+    **{kind: ("{at} of {router} " + words, ("port", "fault", "")) for kind, words in UNPLACED.items()},
+    **{kind: ("{lan}: {router} expects it from {start}, " + words + ": {row}", ("start", "fault", "expected here"))
+       for kind, words in EXPECTED.items()},
 }
-PLAIN |= {kind: "{at} of {router} " + words for kind, words in UNPLACED.items()}
-PLAIN |= {kind: "{lan}: {router} expects it from {start}, " + words + ": {row}" for kind, words in EXPECTED.items()}
-ONLY_EVERY_SOURCE = ("a copy comes in at {at} of {router}, which has no resolved row of this source and group, only "
-                     "one for every source: {row}", "this may be healthy: mcaudit judges source trees alone")
-TAKE_OUT = "one way to end it: take {at} out of this row of {router}; "
+MAYBE_HEALTHY = "this may be healthy: mcaudit judges source trees alone"
 TAKE_OUT_FREE = "each LAN that this flow's packets reach is reached without it"
 TAKE_OUT_COSTS = ("packets sent with less than ttl {least} may then not reach {lan} and LANs behind it, and this flow "
                   "is listed with ttl {ttl}")
-
-# What an explanation's line marks in the graph, each with a class and a sign
-MARKS = {
-    "sent_onto": [("port", "fault", "sends it")],
-    "circle": [("start", "fault", ""), ("end", "fault", "")],
-    "take_out": [("port", "mend", "take out")],
-    "only_every_source": [("port", "fault", ""), ("router", "fault", "row for every source")],
-    "stopped_at": [("port", "fault", "threshold {threshold}")],
-    "gets_as_far_as": [("routers", "reached", "")],
-    "not_taken": [("routers", "fault", "not taken")],
-    "left_out": [("router", "doubt", "left out")],
-    "no_row": [("router", "fault", "no row")],
-    "unresolved": [("router", "fault", "unresolved row")],
-    "every_source": [("router", "doubt", "row for every source")],
-    "does_not_send": [("port", "fault", "not sent")],
-    "stopped": [("port", "fault", "threshold {threshold}")],
-    "waits_for": [("start", "doubt", "waits")],
-    "no_vif": [("device", "fault", "no vif")],
-    "not_multicast": [("device", "fault", "no multicast vif")],
-    "expected_from_here": [("routers", "doubt", "expects it from here")],
-    "no_router": [("lan", "fault", "no router")],
-    "no_sender": [("lan", "fault", "no sender")],
-}
-MARKS |= {kind: [("port", "fault", "")] for kind in UNPLACED}
-MARKS |= {kind: [("start", "fault", "expected here")] for kind in EXPECTED}
 
 # What is seen at the place of a finding, and what that is in the network
 SEEN = {"Duplicate": "carries it twice", "Loop": "it came round", "Stray": "strays", "Missed": "missed"}
@@ -115,48 +101,44 @@ def lines_of(line):
         words["some"] = some(line["routers"])
     if "carried" in line:
         words["carries"] = "which carries it" if line["carried"] else "which carries none either"
+    text, more = LINES[line["kind"]][0], []
     if line["kind"] == "take_out":
-        costs = TAKE_OUT_COSTS if line["least"] > line["ttl"] else TAKE_OUT_FREE
-        return [(TAKE_OUT + costs).format(**words), "audit again after each change"]
-    if line["kind"] == "only_every_source":
-        return [it.format(**words) for it in ONLY_EVERY_SOURCE]
-    return [PLAIN[line["kind"]].format(**words)]
+        text += TAKE_OUT_COSTS if line["least"] > line["ttl"] else TAKE_OUT_FREE
+        more = ["audit again after each change"]
+    elif line["kind"] == "only_every_source":
+        more = [MAYBE_HEALTHY]
+    return [text.format(**words), *more]
 
 
-def elements(domain, what, line):
-    """Returns the elements of the graph of which a line tells."""
+def element_of(domain, what, line, router):
+    """Returns the element of the graph of which a line tells; of a router, that of this one."""
     if what == "lan":
-        return [f"l{domain.lan_numbers[line['lan']]}"]
-    if what == "routers":
-        return [f"r{domain.router_numbers[it]}" for it in line["routers"]]
-    router = line["router"]
-    if what == "router":
-        return [f"r{domain.router_numbers[router]}"]
+        return f"l{domain.lan_numbers[line['lan']]}"
+    if what in ("router", "routers"):
+        return f"r{domain.router_numbers[router]}"
     if what == "device":
-        return [f"p{domain.port_of_device(router, line['device'])}"]
-    vif = {"port": "vif", "start": "from_vif", "end": "to_vif"}[what]
-    return [f"p{domain.port(router, line[vif])}"]
-
-
-def marks_of(domain, line):
-    """Returns what a line marks in the graph: elements, each with a class and a sign."""
-    return [[element, kind, sign.format(**line)] for what, kind, sign in MARKS.get(line["kind"], ())
-            for element in elements(domain, what, line)]
+        return f"p{domain.port_of_device(router, line['device'])}"
+    return f"p{domain.port(router, line[{'port': 'vif', 'start': 'from_vif', 'end': 'to_vif'}[what]])}"
 
 
 def told_of(domain, lines):
-    """Returns the texts of these lines, each with what it marks."""
-    return [[text, marks_of(domain, line)] for line in lines for text in lines_of(line)]
+    """Returns the texts of these lines, each with what it marks in the graph: elements, each with a class and a
+    sign."""
+    told = []
+    for line in lines:
+        texts = lines_of(line)
+        marks = [[element_of(domain, what, line, router), kind, sign.format(**line)]
+                 for what, kind, sign in LINES[line["kind"]][1:]
+                 for router in (line["routers"] if what == "routers" else [line.get("router")])]
+        told += [[text, marks] for text in texts]
+    return told
 
 
 def explanation(domain, lines):
     """Returns the texts of an explanation, each with what it marks in the graph."""
     if not lines or lines[0]["kind"] != "gets_as_far_as":
         return told_of(domain, lines)
-    told = []
-    for line, words in zip(lines[:2], ("it gets as far as: ", "it comes to, and is not taken by: ")):
-        if line["routers"]:
-            told.append([words + some(line["routers"]), marks_of(domain, line)])
+    told = told_of(domain, [it for it in lines[:2] if it["routers"]])
     rest = len(lines) - 2 - SHOWN_LINES
     return ((told or [["it comes to no router of this search whose tables are known", []]])
             + told_of(domain, lines[2:2 + SHOWN_LINES]) + ([[f"and {rest} more lines", []]] if rest > 0 else []))

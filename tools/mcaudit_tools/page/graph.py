@@ -1,9 +1,8 @@
 """The domain as a graph: Graphviz lays it out by sizes alone, and the page's own elements are put there."""
 import collections
 import json
-import shutil
 
-from mcaudit_tools.common import Failed
+from mcaudit_tools.common import Failed, find_tool
 from mcaudit_tools.page.markup import tag
 from mcaudit_tools.programs import run
 
@@ -25,12 +24,9 @@ class Graph:
         self.boxes, self.paths, self.size = {}, {}, (0, 0)
         near = self.distances()
         for number, port in enumerate(domain.ports):
-            if port.lan is None:
-                self.other[port.router].append(number)
-            elif near["l", port.lan] < near["r", port.router]:
-                self.left[port.router].append(number)
-            else:
-                self.right[port.router].append(number)
+            side = (self.other if port.lan is None else
+                    self.left if near["l", port.lan] < near["r", port.router] else self.right)
+            side[port.router].append(number)
 
     def distances(self):
         """Returns how far each LAN and router is from the nearest root; where none reaches it, from its lowest LAN."""
@@ -91,7 +87,7 @@ class Graph:
 
     def lay_out(self):
         """Has Graphviz lay the graph out. Returns whether it did so in time."""
-        done = run([find_dot(), "-Tjson0"], self.words().encode(), DRAWING, MOST_DRAWN)
+        done = run([find_tool("dot"), "-Tjson0"], self.words().encode(), DRAWING, MOST_DRAWN)
         if done.is_late:
             return False
         if done.status != 0 or done.is_long:
@@ -142,18 +138,12 @@ class Graph:
                    name_markup(self.domain.routers[router], middle, box.y + 16),
                    *cells, id=f"r{router}", class_="router")
 
-    def lan_markup(self, lan):
-        """Returns a LAN."""
-        box, name = self.boxes[f"l{lan}"], self.domain.lans[lan]
+    def lan_markup(self, lan, name):
+        """Returns a LAN of this name."""
+        box = self.boxes[f"l{lan}"]
         return tag("g", tag("title", f"LAN {name}"),
                    tag("rect", x=box.x, y=box.y + SIGN, width=box.width, height=PILL, rx=PILL // 2),
                    name_markup(name, round(box.x + box.width / 2, 1), box.y + SIGN + 20), id=f"l{lan}", class_="lan")
-
-    def path_markup(self, number):
-        """Returns the line between a vif and its LAN, from the roots on."""
-        first, *points = self.paths[number]
-        words = f"M{first[0]} {first[1]}C" + " ".join(f"{x} {y}" for x, y in points)
-        return tag("path", d=words, id=f"e{number}", class_="absent" if self.domain.ports[number].vif is None else None)
 
     def markup(self):
         """Returns the graph as SVG."""
@@ -161,10 +151,12 @@ class Graph:
         arrows = [tag("marker", tag("path", d="M0 0L10 5L0 10z"), id=f"to-{kind}", viewBox="0 0 10 10", refX=9, refY=5,
                       markerWidth=12, markerHeight=12, markerUnits="userSpaceOnUse", orient="auto-start-reverse",
                       class_=kind) for kind in ("way", "fault", "mend")]
-        paths = [self.path_markup(it) for it in sorted(self.paths)]
+        paths = [tag("path", d=f"M{first[0]} {first[1]}C" + " ".join(f"{x} {y}" for x, y in points), id=f"e{number}",
+                     class_="absent" if self.domain.ports[number].vif is None else None)
+                 for number, (first, *points) in sorted(self.paths.items())]
         return tag("svg", tag("defs", *arrows), tag("g", *paths, id="paths"),
                    *(self.router_markup(it) for it in range(len(self.domain.routers))),
-                   *(self.lan_markup(it) for it in range(len(self.domain.lans))), tag("g", id="signs"),
+                   *(self.lan_markup(*it) for it in enumerate(self.domain.lans)), tag("g", id="signs"),
                    id="drawing", viewBox=f"0 0 {width} {height}", width=width, height=height, role="img",
                    aria_label="The domain's LANs and routers; what is marked in it is told in words beside it")
 
@@ -172,14 +164,6 @@ class Graph:
 def name_markup(name, x, y):
     """Returns the name of a router or a LAN, in the middle of it."""
     return tag("text", name, x=x, y=y, text_anchor="middle", class_="name")
-
-
-def find_dot():
-    """Returns the path of Graphviz's program."""
-    found = shutil.which("dot")
-    if not found:
-        raise Failed("there is no dot beside this program or on the path: it comes with graphviz")
-    return found
 
 
 def roots_of(audit):

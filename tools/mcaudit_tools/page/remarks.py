@@ -1,10 +1,14 @@
-"""What a page says beside the verdict: the sources and groups that no flow lists, and what isn't judged."""
+"""What a page says beside the verdict: the sources and groups that no flow lists, when what was judged was
+collected, and what isn't judged."""
 import collections
+import contextlib
 import os
 import re
+import time
 
-from mcaudit_tools import topology
-from mcaudit_tools.common import Failed
+from mcaudit_tools import origins, topology
+from mcaudit_tools.ages import Ages
+from mcaudit_tools.common import Failed, say
 from mcaudit_tools.files import read_regular
 from mcaudit_tools.page.explain import some
 from mcaudit_tools.page.markup import table_of, tag
@@ -13,6 +17,78 @@ SHOWN_UNLISTED = 1000
 UNSEEN = ("What the files don't show: rows for every source (*,G) and shared trees, netfilter, rp_filter, other "
           "multicast tables, links that are down, losses, and whatever changed since they were written. The guide "
           "tells of each under “What lies outside”")
+
+
+class Folder:
+    """The folder that a page is of: its name as it was given, and the set that it led to when the page was begun."""
+
+    def __init__(self, name):
+        """Takes the folder of this name, as it is now."""
+        self.named = name.rstrip("/") or name
+        self.path, self.is_set = os.path.realpath(self.named), os.path.islink(self.named)
+        self.was_there = os.path.isdir(self.path)
+
+    def check(self):
+        """Fails where the set is gone."""
+        if self.was_there and not os.path.isdir(self.path):
+            raise Failed(f"{self.named}: the set was removed meanwhile")
+
+
+def files_of(domain):
+    """Returns what each file is that an audit reads, by name."""
+    found = {"topology": "the topology"}
+    for router in domain.routers:
+        found |= {f"vif-{router}": f"vifs of the router {router}", f"cache-{router}": f"rows of the router {router}"}
+    return found | {f"igmp-{lan}": f"reports of the LAN {lan}" for lan in domain.lans}
+
+
+def text_of_time(seconds):
+    """Returns a time as it is shown."""
+    return time.strftime("%Y-%m-%dT%H:%M:%SZ", time.gmtime(seconds))
+
+
+def told_times(domain, folder):
+    """Returns when each file of the folder was written, by name, as its collected.json says; and a sentence on how old
+    what was judged was when the page was made. Both are nothing where that isn't known."""
+    try:
+        known = origins.read(folder.path, folder.named)
+        ages = ", ".join(Ages(folder.path, known, domain.routers, domain.lans).sentences())
+        return ({name: text_of_time(it.time) for name, it in known.items()},
+                f" When this page was made, at {text_of_time(time.time())}: {ages}." if ages else "")
+    except (Failed, OverflowError, ValueError, OSError) as fault:
+        say(str(fault))
+        return {}, ""
+
+
+def collected_section(domain, folder):
+    """Returns when what was judged was collected."""
+    times, ages = told_times(domain, folder) if folder else ({}, "")
+    if not times:
+        return [tag("p", "When the files were written isn't known: there is no list of times beside them, as "
+                         "mcaudit-collect writes it.", ages)]
+    is_set, own, about = folder.is_set, {}, files_of(domain)
+    for name in about:
+        with contextlib.suppress(OSError, ValueError):  # no such file, or no name of one
+            own[name] = text_of_time(os.stat(os.path.join(folder.path, name)).st_mtime)
+    later = {name: when for name, when in own.items()
+             if name not in times or (is_set and name.startswith("igmp-") and when > times[name])}
+    absent = [name for name in about if name not in times and name not in own]
+    all_times = {**times, **{name: f"{when}, by the file itself" for name, when in later.items()}}
+    order = [it for it in about if it in all_times] + sorted(it for it in all_times if it not in about)
+    tables = sorted(times[it] for it in times if it in about and it.startswith(("vif-", "cache-")))
+    said = [f"Set {os.path.basename(folder.path)}; " * is_set + f"{len(order)} files"
+            + (f"; the routers' tables were written from {tables[0]} to {tables[-1]}" if tables else "") + "."]
+    if later:
+        said.append("Gathered or written after the tables, so that collected.json doesn't have their times, but read "
+                    f"by the audit all the same: {some(list(later))}.")
+    if absent:
+        said.append(f"Not in the folder: {some(absent)}.")
+    rows = [tag("tr", *(tag("td", it) for it in (tag("code", name), about.get(name, "not read by an audit"),
+                                                 all_times[name]))) for name in order]
+    return [tag("p", " ".join(said), ages),
+            tag("details", tag("summary", "Each file, and when it was written"),
+                table_of(("File", "What it is", "Written, by collected.json"), rows),
+                open=None if len(rows) > 40 else "")]
 
 
 def comments_of(folder):
@@ -28,30 +104,23 @@ def comments_of(folder):
 
 def unjudged_section(audit, folder):
     """Returns what this verdict doesn't judge."""
-    domain, items = audit.domain, []
-    if audit.without:
-        items.append((f"Routers that were left out, whose tables are not known: {' '.join(audit.without)}", []))
-    if audit.unlisted:
-        items.append((f"Sources and groups that are no flow's: {len(audit.unlisted)}, told above", []))
-    lone = collections.defaultdict(list)
+    domain, lone = audit.domain, collections.defaultdict(list)
     for port in domain.ports:
         if port.lan is None:
             lone[port.router].append(port.device)
-    if lone:
-        items.append(("Vifs on no LAN of the topology. A copy that is sent there has left the domain, which is a Stray",
-                      [f"{domain.routers[router]}: {' '.join(lone[router])}" for router in sorted(lone)]))
     absent = [f"{domain.routers[it.router]}: {it.device} on {domain.lans[it.lan]}" for it in domain.ports
               if it.vif is None and domain.routers[it.router] not in audit.without]
-    if absent:
-        items.append(("Interfaces of the topology that the router's table of vifs hasn't", absent))
     known = {port.lan for port in domain.ports}
     alone = [name for lan, name in enumerate(domain.lans) if lan not in known]
-    if alone:
-        items.append((f"LANs that no router is on: {' '.join(alone)}", []))
     comments = comments_of(folder) if folder else []
-    if comments:
-        items.append(("Comments of the topology, which nobody judges", comments))
-    items.append((UNSEEN, []))
+    items = [(words, more) for is_there, words, more in (
+        (audit.without, f"Routers that were left out, whose tables are not known: {' '.join(audit.without)}", []),
+        (audit.unlisted, f"Sources and groups that are no flow's: {len(audit.unlisted)}, told above", []),
+        (lone, "Vifs on no LAN of the topology. A copy that is sent there has left the domain, which is a Stray",
+         [f"{domain.routers[router]}: {' '.join(lone[router])}" for router in sorted(lone)]),
+        (absent, "Interfaces of the topology that the router's table of vifs hasn't", absent),
+        (alone, f"LANs that no router is on: {' '.join(alone)}", []),
+        (comments, "Comments of the topology, which nobody judges", comments), (True, UNSEEN, [])) if is_there]
     return [tag("ul", *(tag("li", f"{words}.", *([tag("ul", *(tag("li", it) for it in more))] if more else []))
                         for words, more in items))]
 

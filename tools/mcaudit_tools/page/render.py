@@ -1,13 +1,13 @@
 """The page: one file of HTML with the verdict, the flows, the graph, and what its script draws on demand."""
 import collections
-import os
+import json
+import pathlib
 
 from mcaudit_tools.common import PROGRAM
 from mcaudit_tools.page.explain import FLOW, MEANS, MISSED_PERHAPS, SEEN, some
 from mcaudit_tools.page.graph import DRAWING
 from mcaudit_tools.page.markup import Markup, digest, json_markup, table_of, tag
-from mcaudit_tools.page.collected import collected_section
-from mcaudit_tools.page.remarks import unjudged_section, unlisted_section
+from mcaudit_tools.page.remarks import collected_section, unjudged_section, unlisted_section
 from mcaudit_tools.page.travel import OUTCOMES
 
 # Where the page's script runs, the table is laid out once, when it is whole, and not again and again
@@ -17,9 +17,9 @@ KEY = [("lan", "LAN"), ("router", "router, with its devices"), ("way", "the way 
        ("fault", "✗ fault"), ("mend", "✂ can be taken out"), ("doubt", "? waits, or not judged")]
 
 
-def plural(count, one, many):
-    """Returns the count with the word for it."""
-    return f"{count} {one if count == 1 else many}"
+def right_words(audit):
+    """Returns what a flow without a fault is called."""
+    return "no fault known" if audit.without else "right"
 
 
 def verdict_words(audit):
@@ -36,17 +36,17 @@ def verdict_words(audit):
     if audit.without:
         said += f" Left out: {some(audit.without)}. A yes is said of whole domains only."
     if unwanted:
-        said += f" {plural(unwanted, 'flow is', 'flows are')} wanted by no LAN, as far as the reports show."
+        flows_are = "flow is" if unwanted == 1 else "flows are"
+        said += f" {unwanted} {flows_are} wanted by no LAN, as far as the reports show."
     return said
 
 
 def header(audit, site):
     """Returns the verdict and what it is about."""
     summary, domain = audit.summary, audit.domain
-    right = "No fault known" if audit.without else "Right"
-    facts = [("Flows", summary["flows"]), (right, summary["right"]), ("Not right", summary["wrong"]),
-             ("Wanted by nobody", summary["unwanted"]), ("LANs", len(domain.lans)), ("Routers", len(domain.routers)),
-             ("Not listed", len(audit.unlisted))]
+    facts = [("Flows", summary["flows"]), (right_words(audit).capitalize(), summary["right"]),
+             ("Not right", summary["wrong"]), ("Wanted by nobody", summary["unwanted"]), ("LANs", len(domain.lans)),
+             ("Routers", len(domain.routers)), ("Not listed", len(audit.unlisted))]
     return tag("header", tag("p", SIGNS[audit.verdict], class_="sign", aria_hidden="true"),
                tag("div", tag("h1", f"Verdict: {audit.verdict}"), tag("p", verdict_words(audit)), class_="said"),
                tag("dl", *(tag("div", tag("dt", name), tag("dd", value)) for name, value in facts)),
@@ -58,7 +58,7 @@ def row_words(audit, flow):
     """Returns the flow's kinds, by which it can be chosen, and its sign and words."""
     if "kind" in flow:
         return f"wrong {flow['kind']}", SIGNS["no"], f"{flow['kind']} {flow['place']}"
-    right = "no fault known" if audit.without else "right"
+    right = right_words(audit)
     if not flow["wanted"]:
         return "right unwanted", SIGNS["unwanted"], f"{right}, wanted by nobody"
     wanted = [audit.domain.lans[it] for it in flow["wanted"]]
@@ -71,19 +71,19 @@ def flow_row(audit, flow):
     kinds, sign, words = row_words(audit, flow)
     number = flow["number"]
     link = tag("a", number, href=f"#flow-{number}", aria_label=f"flow {number}")
-    return tag("tr", tag("td", link), tag("td", flow["source"]), tag("td", flow["group"]), tag("td", flow["ttl"]),
+    return tag("tr", *(tag("td", it) for it in (link, flow["source"], flow["group"], flow["ttl"])),
                tag("td", tag("b", sign, aria_hidden="true"), f" {words}"), class_=kinds)
 
 
 def choices(audit):
     """Returns the kinds of flows to choose from, with how many there are."""
     counts = collections.Counter(kind for flow in audit.flows for kind in row_words(audit, flow)[0].split())
-    right = "no fault known" if audit.without else "right"
-    found = [("all", "all", len(audit.flows)), ("wrong", "not right", counts["wrong"])]
-    found += [(kind, kind, counts[kind]) for kind in SEEN] + [("right", right, counts["right"]),
-                                                              ("unwanted", "wanted by nobody", counts["unwanted"])]
+    counts["all"] = len(audit.flows)
+    found = {"all": "all", "wrong": "not right", **dict(zip(SEEN, SEEN)), "right": right_words(audit),
+             "unwanted": "wanted by nobody"}
     return [tag("label", tag("input", type="radio", name="kind", value=value, checked="" if value == "all" else None),
-                tag("span", f"{words} {count}")) for value, words, count in found if count or value == "all"]
+                tag("span", f"{words} {counts[value]}")) for value, words in found.items()
+            if counts[value] or value == "all"]
 
 
 def flows_section(audit):
@@ -92,7 +92,7 @@ def flows_section(audit):
                tag("form", tag("label", "Search ", tag("input", type="search", id="search", autocomplete="off",
                                                        placeholder="an address, a LAN, a router, a finding")),
                    tag("fieldset", tag("legend", "Show"), *choices(audit)), role="search"),
-               tag("p", plural(len(audit.flows), "flow", "flows"), id="count", role="status"),
+               tag("p", f"{len(audit.flows)} flow" + "s" * (len(audit.flows) != 1), id="count", role="status"),
                tag("div", table_of(("No.", "Source", "Group", "TTL", "Verdict"),
                                    [flow_row(audit, flow) for flow in audit.flows], id="rows"),
                    class_="scroll", id="list"), id="flows")
@@ -120,19 +120,14 @@ def page_data(audit, graph):
     return {"lans": domain.lans, "routers": domain.routers, "outcomes": OUTCOMES, "mark": FLOW,
             "means": MEANS | ({"Missed": MISSED_PERHAPS} if audit.without else {}),
             "ports": [[it.router, it.device, it.lan, number in left] for number, it in enumerate(domain.ports)],
-            "trees": audit.trees, "reasons": audit.reasons.values, "travels": audit.travels.values,
-            "right": "no fault known" if audit.without else "right", "flows": audit.flows}
-
-
-def data_of(name):
-    """Returns the text of a file of this package."""
-    with open(os.path.join(os.path.dirname(__file__), name), encoding="utf-8") as file:
-        return file.read()
+            "trees": audit.trees, "reasons": [*map(json.loads, audit.reasons)],
+            "travels": [*map(json.loads, audit.travels)],
+            "right": right_words(audit), "flows": audit.flows}
 
 
 def page_of(audit, graph, folder):
     """Returns the page."""
-    style, script = data_of("page.css"), data_of("page.js")
+    style, script = (pathlib.Path(__file__).with_name(it).read_text("utf-8") for it in ("page.css", "page.js"))
     policy = (f"default-src 'none'; base-uri 'none'; form-action 'none'; style-src {digest(style)}; "
               f"script-src {digest(WAIT)} {digest(script)}")
     site = folder.named if folder else None

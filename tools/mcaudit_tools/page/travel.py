@@ -10,15 +10,13 @@ Step = collections.namedtuple("Step", "port ttl outcome copies strays sent")
 def tree_of(domain, entries):
     """Returns the entries of a way: LAN, rank, need, the vif that sends onto the LAN, and those of its router by which
     the copy may have come: one as a rule, or where the way doesn't tell it, more."""
-    ranks = {domain.lan_numbers[it["lan"]]: int(it["rank"]) for it in entries}
-    tree = []
+    ranks, tree = {domain.lan_numbers[it["lan"]]: int(it["rank"]) for it in entries}, []
     for it in entries:
-        port, start, rank = None, [], int(it["rank"])
-        if it["router"] is not None:
-            port = domain.port(it["router"], it["vif"])
-            start = [number for number in domain.of_router[domain.ports[port].router]
-                     if ranks.get(domain.ports[number].lan) == rank - 1]
-        tree.append([domain.lan_numbers[it["lan"]], rank, int(it["need"]), port, start])
+        lan, rank = domain.lan_numbers[it["lan"]], int(it["rank"])
+        port = None if it["router"] is None else domain.port(it["router"], it["vif"])
+        start = [] if port is None else [number for number in domain.beside(port)
+                                         if ranks.get(domain.ports[number].lan) == rank - 1]
+        tree.append([lan, rank, int(it["need"]), port, start])
     return tree
 
 
@@ -36,13 +34,10 @@ class Travel:
             port, outcome = domain.port(event["router"], event["vif"]), OUTCOMES.index(event["outcome"])
             counts = (int(event["copies"]), int(event["strays"])) if outcome == 0 else (0, 0)
             row = rows.get(event["router"]) if outcome == 0 else None
-            ports = self.row_ports(row, event["ttl"]) if row else ()
-            sent = {it for it in ports if domain.ports[it].lan is not None}
+            sent = {domain.port(event["router"], it["vif"]) for it in row["to"]
+                    if it["threshold"] < event["ttl"]} if row else set()
+            sent = {it for it in sent if domain.ports[it].lan is not None}
             self.events.append(Step(port, int(event["ttl"]), outcome, *counts, sent))
-
-    def row_ports(self, row, ttl):
-        """Returns the vifs by which the row sends a copy with this time to live."""
-        return [self.domain.port(row["router"], it["vif"]) for it in row["to"] if it["threshold"] < ttl]
 
     def lan(self, port):
         """Returns the LAN of a vif."""
@@ -53,7 +48,7 @@ class Travel:
         senders = collections.defaultdict(list)
         for number, event in enumerate(self.events):
             if event.outcome == 0:
-                for port in self.domain.of_router[self.domain.ports[event.port].router]:
+                for port in self.domain.beside(event.port):
                     if len(event.sent) < event.copies or port in event.sent:
                         senders[self.lan(port), event.ttl - 1].append((number, port))
         return senders
@@ -78,7 +73,7 @@ class Travel:
             carried.add(self.lan(event.port))
             is_second = self.last_is_second and number == len(self.events) - 1
             if event.outcome == 0 and len(event.sent) < event.copies and not is_second:
-                ports = [it for it in self.domain.of_router[self.domain.ports[event.port].router]
+                ports = [it for it in self.domain.beside(event.port)
                          if self.lan(it) not in carried or it in event.sent]
                 if len(ports) == event.copies:
                     event.sent.update(ports)

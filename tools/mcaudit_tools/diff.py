@@ -89,7 +89,8 @@ def typed(kind, value):
 
 def names(value):
     """Returns the value, which has to be a list of texts."""
-    return [sys.intern(typed(str, it)) for it in typed(list, value)]  # the same names come often
+    # the same names come again and again, in one pair after another
+    return [sys.intern(typed(str, it)) for it in typed(list, value)]
 
 
 def address(value):

@@ -144,8 +144,10 @@ def run(words, text=b"", seconds=None, most=None, into=None, grace=GRACE, keeps_
     deadline = None if seconds is None else time.monotonic() + seconds
     try:
         exchange(process, text, deadline, most, into.write if into else kept.extend, came)
-        if not came.is_late and not came.is_long:
-            wait_until(process, deadline, came)
+        while not (came.is_late or came.is_long) and process.poll() is None:
+            with contextlib.suppress(subprocess.TimeoutExpired):
+                process.wait(turn_until(deadline))
+            came.is_late = left_until(deadline) == 0 and process.poll() is None
     finally:
         RUNNING.end(process, 0 if process.poll() is not None else grace)
     came.status, came.printed = process.returncode, bytes(kept)
@@ -164,14 +166,6 @@ def turn_until(deadline):
         raise Ended
     left = left_until(deadline)
     return TURN if left is None else min(TURN, left)
-
-
-def wait_until(process, deadline, came):
-    """Waits for the end of a program whose output has ended."""
-    while process.poll() is None and not came.is_late:
-        with contextlib.suppress(subprocess.TimeoutExpired):
-            process.wait(turn_until(deadline))
-        came.is_late = left_until(deadline) == 0 and process.poll() is None
 
 
 def exchange(process, text, deadline, most, keep, came):

@@ -117,7 +117,7 @@ make_page() {
 watch_once() {
     on_routers mcaudit-monitor --keep 300 > "$scratch/watched" 2> "$scratch/said"
     watched=$?
-    sed 's/20[0-9]*T[0-9]*Z/TIME/' "$scratch/watched"
+    sed -e 's/20[0-9]*T[0-9]*Z/TIME/' -e 's/ [0-9]* s old$/ N s old/' "$scratch/watched"
     return "$watched"
 }
 
@@ -144,6 +144,9 @@ echo "lab: from nothing to the page of ten routers: $taken s"
 expect_right
 expect 0 watch_once <<'END'
 TIME: verdict yes, flows 2, right 2, wrong 0, unwanted 0, unlisted 0
+tables N s old
+reports N s old
+decided, not gathered: 10.77.0.0-24 10.77.1.0-24 10.77.2.0-24 10.77.3.0-24 10.77.4.0-24 10.77.6.0-24 10.77.8.0-24
 no audit before it is there to compare with
 END
 
@@ -171,6 +174,9 @@ change_rows r3 add eth0 "$sender" 239.1.2.3 eth1
 expect_counts 6 6 6
 expect 1 watch_once <<'END'
 TIME: verdict no, flows 2, right 1, wrong 1, unwanted 0, unlisted 0
+tables N s old
+reports N s old
+decided, not gathered: 10.77.0.0-24 10.77.1.0-24 10.77.2.0-24 10.77.3.0-24 10.77.4.0-24 10.77.6.0-24 10.77.8.0-24
 wrong: 10.77.0.50 239.1.2.3 Duplicate 10.77.4.0-24
 changed since TIME:
 flow 10.77.0.50 239.1.2.3: new fault: Duplicate 10.77.4.0-24

@@ -4,6 +4,7 @@ import json
 import os
 import re
 import shutil
+import signal
 import subprocess
 import sys
 import time
@@ -116,6 +117,29 @@ for wait in (lambda: RUNNING.begin(["true"]), lambda: RUNNING.rest(9)):
 
 
 @case
+def signal_to_a_draft_that_measures(place):
+    """It is heeded at once, though a router's packets are waited for in another thread."""
+    ways = place.routers("r1", "r2")
+    place.script("ip", """case $R in r1) one=10.0.0.1 two=10.0.1.1 ;; *) one=10.0.1.2 two=10.0.2.1 ;; esac
+said='{"ifname":"%s","addr_info":[{"family":"inet","local":"%s","prefixlen":24}]}'
+printf "[$said,$said]\\n" eth0 "$one" eth1 "$two\"""")
+    place.script("cat", """case $1 in
+    /proc/net/ip_mr_cache) echo x >> turns; sed "s/ 0 0 0 0 / 0 $(wc -l < turns) 0 0 /" "$R/ip_mr_cache" ;;
+    /proc/net/ip_mr_vif) exec /bin/cat "$R/ip_mr_vif" ;;
+    /proc/sys/kernel/random/boot_id) echo "$R" ;;
+    *) exec /bin/cat "$@" ;;
+esac""")
+    place.script("tcpdump", "echo begun > begun; exec sleep 60")
+    with place.begin("draft", "--measure", "60", "site", *ways) as running:
+        place.await_file("begun")
+        begun = time.monotonic()
+        running.send_signal(signal.SIGTERM)
+        said = running.communicate(timeout=90)[0].decode()
+        assert running.returncode == 3 and time.monotonic() - begun < 8, (time.monotonic() - begun, said)
+    assert not os.path.exists(place.at("site"))
+
+
+@case
 def topology_that_takes_long_to_read(place):
     """It is given up, by all who read it: a key of many parts takes more than its length in steps."""
     place.write("site/topology", ".".join(["a"] * 200000) + " = 1\n")
@@ -158,7 +182,7 @@ def changes_beyond_number(place):
     place.write("tools/mcaudit-diff", """#!/bin/sh
 yes 'flow 10.0.0.5 239.1.2.3: new fault: Missed l2' | head -n 99999; exit 1
 """)
-    for words, status in ((["--plugin"], 0), ([], 0)):
+    for words, status in ((["--plugin", "--warn-reports", "0"], 0), ([], 0)):
         command = [sys.executable, place.at("tools", "mcaudit-monitor"), *words, "--pause", "0", "site", *ways]
         done = subprocess.run(command, cwd=place.folder, env=place.environment, capture_output=True, check=False)
         said = done.stdout.decode()

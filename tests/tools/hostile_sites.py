@@ -192,8 +192,9 @@ def links_in_a_site(place):
 def signal_to_the_collector(place):
     """It ends with 3, leaves nothing, and mcaudit-site judges no old set."""
     place.site()
-    with place.begin("site", "init", "site", "r1=!sleep 60; :", "--wait", "0") as running:
-        time.sleep(2)
+    place.script("slow", "echo begun > begun; exec sleep 60")
+    with place.begin("site", "init", "site", "r1=!slow; :", "--wait", "0") as running:
+        place.await_file("begun")
         begun = time.monotonic()
         running.send_signal(signal.SIGTERM)
         said = running.communicate(timeout=20)[0].decode()

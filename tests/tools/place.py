@@ -10,6 +10,7 @@ import shutil
 import subprocess
 import sys
 import tempfile
+import time
 
 import packets as p
 
@@ -90,6 +91,13 @@ class Place:
         self.said = (done.stdout + done.stderr).decode(errors="replace")
         status, most = done.stdout.split(b"\n")[-2].split()
         return int(status), int(most) << 10
+
+    def await_file(self, name):
+        """Waits until a file is there that a stand-in makes, and takes it away."""
+        until = time.monotonic() + 60
+        while not os.path.exists(self.at(name)) and time.monotonic() < until:
+            time.sleep(0.05)
+        os.unlink(self.at(name))
 
     def reports(self, *words, text=b""):
         """Runs mcaudit-reports into the file `list`. Returns its status and the list's lines, None without a file."""

@@ -89,10 +89,10 @@ def warnings_of_ages(place):
 @line("Statuses")
 def statuses(place):
     """A signal ends with 3, and a packet with a wrong checksum is left aside and named."""
-    place.script("tcpdump", "exec sleep 60")
-    for tool, words in (("collect", ("site", "r1=!sleep 60; :")), ("reports", ("--wait", "60", "lo"))):
+    place.script("tcpdump", "echo begun > begun; exec sleep 60")
+    for tool, words in (("collect", ("site", "r1=!tcpdump; :")), ("reports", ("--wait", "60", "lo"))):
         with place.begin(tool, *words) as running:
-            time.sleep(1.5)
+            place.await_file("begun")
             running.send_signal(signal.SIGTERM)
             said = running.communicate(timeout=20)[0]
             assert running.returncode == 3, (tool, running.returncode, said)

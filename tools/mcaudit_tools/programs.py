@@ -17,6 +17,7 @@ from mcaudit_tools.files import PIECE
 
 SIGNALS = signal.SIGHUP, signal.SIGINT, signal.SIGTERM
 GRACE = 1.0  # seconds that a program has to end by itself
+TURN = 0.5  # seconds after which a thread that runs one looks whether the tool is to end
 MOST_WORDS = 4096  # bytes that are kept of what a program says
 
 
@@ -144,18 +145,27 @@ def run(words, text=b"", seconds=None, most=None, into=None, grace=GRACE, keeps_
     try:
         exchange(process, text, deadline, most, into.write if into else kept.extend, came)
         if not came.is_late and not came.is_long:
-            process.wait(left_until(deadline))
-    except subprocess.TimeoutExpired:
-        came.is_late = True
+            wait_until(process, deadline, came)
     finally:
         RUNNING.end(process, 0 if process.poll() is not None else grace)
     came.status, came.printed = process.returncode, bytes(kept)
     return came
 
 
-def left_until(deadline):
-    """Returns how many seconds are left until then; None, where that never comes."""
-    return None if deadline is None else max(0.0, deadline - time.monotonic())
+def turn_until(deadline):
+    """Returns for how many seconds to wait before the next look, at most until then. Fails where the tool is to end: a
+    signal comes to its main thread alone."""
+    if RUNNING.ended.is_set():
+        raise Ended
+    return TURN if deadline is None else min(TURN, max(0.0, deadline - time.monotonic()))
+
+
+def wait_until(process, deadline, came):
+    """Waits for the end of a program whose output has ended."""
+    while process.poll() is None and not came.is_late:
+        with contextlib.suppress(subprocess.TimeoutExpired):
+            process.wait(turn_until(deadline))
+        came.is_late = deadline is not None and time.monotonic() >= deadline and process.poll() is None
 
 
 def exchange(process, text, deadline, most, keep, came):
@@ -168,10 +178,10 @@ def exchange(process, text, deadline, most, keep, came):
                 os.set_blocking(pipe.fileno(), False)
                 selector.register(pipe, event)
         while selector.get_map():
-            if left_until(deadline) == 0:
+            if deadline is not None and time.monotonic() >= deadline:
                 came.is_late = True
                 return
-            for key, _ in selector.select(left_until(deadline)):
+            for key, _ in selector.select(turn_until(deadline)):
                 if key.fileobj is process.stdin:
                     rest = hand_on(process.stdin, rest)
                     if not rest:

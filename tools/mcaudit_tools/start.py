@@ -90,8 +90,11 @@ def run(name, version):
     except common.Ended as fault:
         return fault.status
     except common.Failed as fault:
-        status = finish_output(program, fault.status)
-        return fail(program, str(fault)) and status
+        try:
+            sys.stdout.flush()
+        except (OSError, AttributeError):
+            give_up(1)
+        return fail(program, str(fault)) and fault.status
     except (BrokenPipeError, OSError) as fault:
         give_up(1)
         return fail(program, "{}: {}".format(type(fault).__name__, fault.strerror or fault))

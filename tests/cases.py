@@ -243,6 +243,10 @@ class ToolCase:
 
     def is_without_toml(self, status):
         """Leaves out what a Python that reads no TOML says of that. Returns whether it couldn't do what is compared."""
+        if self.python.endswith(("3.9", "3.10")) and os.path.exists(f"{self.place}/stdout"):
+            text = re.sub(rb"; mcaudit-collect: whether the topol[^|\n]*", b"", read(f"{self.place}/stdout"))
+            with open(f"{self.place}/stdout", "wb") as file:
+                file.write(text)
         lines = read(f"{self.place}/stderr").splitlines(True)
         others = [it for it in lines if NO_TOML not in it]
         if len(others) < len(lines):

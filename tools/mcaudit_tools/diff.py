@@ -89,8 +89,7 @@ def typed(kind, value):
 
 def names(value):
     """Returns the value, which has to be a list of texts."""
-    # the same names come again and again, in one pair after another
-    return [sys.intern(typed(str, it)) for it in typed(list, value)]
+    return [sys.intern(typed(str, it)) for it in typed(list, value)]  # told again and again, of one pair after another
 
 
 def address(value):

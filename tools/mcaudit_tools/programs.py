@@ -144,19 +144,12 @@ def run(words, text=b"", seconds=None, most=None, into=None, grace=GRACE, keeps_
     deadline = None if seconds is None else time.monotonic() + seconds
     try:
         exchange(process, text, deadline, most, into.write if into else kept.extend, came)
-        while not (came.is_late or came.is_long) and process.poll() is None:
-            with contextlib.suppress(subprocess.TimeoutExpired):
-                process.wait(turn_until(deadline))
-            came.is_late = left_until(deadline) == 0 and process.poll() is None
+        if not came.is_late and not came.is_long:
+            wait_until(process, deadline, came)
     finally:
         RUNNING.end(process, 0 if process.poll() is not None else grace)
     came.status, came.printed = process.returncode, bytes(kept)
     return came
-
-
-def left_until(deadline):
-    """Returns how many seconds are left until then; None, where that never comes."""
-    return None if deadline is None else max(0.0, deadline - time.monotonic())
 
 
 def turn_until(deadline):
@@ -164,8 +157,15 @@ def turn_until(deadline):
     signal comes to its main thread alone."""
     if RUNNING.ended.is_set():
         raise Ended
-    left = left_until(deadline)
-    return TURN if left is None else min(TURN, left)
+    return TURN if deadline is None else min(TURN, max(0.0, deadline - time.monotonic()))
+
+
+def wait_until(process, deadline, came):
+    """Waits for the end of a program whose output has ended."""
+    while process.poll() is None and not came.is_late:
+        with contextlib.suppress(subprocess.TimeoutExpired):
+            process.wait(turn_until(deadline))
+        came.is_late = deadline is not None and time.monotonic() >= deadline and process.poll() is None
 
 
 def exchange(process, text, deadline, most, keep, came):

@@ -178,7 +178,7 @@ def exchange(process, text, deadline, most, keep, came):
                 os.set_blocking(pipe.fileno(), False)
                 selector.register(pipe, event)
         while selector.get_map():
-            if left_until(deadline) == 0:
+            if deadline is not None and time.monotonic() >= deadline:
                 came.is_late = True
                 return
             for key, _ in selector.select(turn_until(deadline)):

@@ -5,7 +5,7 @@ use Rattle.mc_theory.specs.Nets.{Net, Interface}
 use Rattle.mc_theory.specs.Flights.{Copy, Flight}
 use Rattle.mc_theory.specs.Findings.{first_copy_on, first_double}
 use Rattle.mc_theory.specs.Paths.{Hop, IsStopped, PassesHops, need}
-use Rattle.mc_theory.specs.Hops.{hops_back, hops_until, stopping_hop}
+use Rattle.mc_theory.specs.Hops.{hops_back, hops_of_copy, hops_until, stopping_hop}
 use Rattle.mc_theory.proofs.CameByHops.{copy_equal-from_some}
 use Rattle.mc_theory.proofs.StoppingHop.{stopping_hop-none, stopping_hop-some}
 use Rattle.mc_forward.specs.PerLan.{HoldsFirstOfEachKey, item_on_lan}
@@ -13,7 +13,7 @@ use Rattle.mc_forward.proofs.PerLanLemmas.{first_with_key-first_copy_on}
 use Rattle.mc_explain.specs.declared.causes.Cause.{Cause}
 use Rattle.mc_explain.specs.declared.causes.Cause.TheVariants.{TakeOut}
 use Rattle.mc_explain.specs.Explained.{IsRemedy, circle_cause, sender_causes}
-use Rattle.mc_explain.specs.LastFlights.{IsSecondCopy, path_of}
+use Rattle.mc_explain.specs.LastFlights.{IsSecondCopy}
 
 -- the copy that is held for a LAN is its first one
 pub first_copy_on-from_held : (first_copies : List (Option Copy)) (cs copies : List Copy) (k l : ℕ)
@@ -50,19 +50,19 @@ held-is_first_copy first_copies cs copies k l o got first are same lan e some on
 -- the hops that were found are the copy's path
 pub found_hops-are_path : (n : Net) (cs copies : List Copy) (first got : Copy) (items now : List Hop) →
     copies ≡ cs → got ≡ first → items ≡ hops_back n copies (length copies) got.lan got.sender →
-    now ≡ items → now ≡ path_of n cs first
+    now ≡ items → now ≡ hops_of_copy n cs first
 found_hops-are_path n cs copies first got items now same one e e' = e' ∙ (e ∙
     (ap (λ (xs : List Copy). hops_back n xs (length xs) got.lan got.sender) same ∙
-    ap (path_of n cs) one))
+    ap (hops_of_copy n cs) one))
 
 -- the second copy's sender can be taken out
 pub is_remedy-from_second_copy : (n : Net) (f : Flight) (second : Copy) (lan router vif least : ℕ) →
     (is : IsSecondCopy n f.carried second) → lan ≡ second.lan → second.sender ≡ Some (router, vif) →
-    least ≡ need (path_of n f.carried is.first) →
+    least ≡ need (hops_of_copy n f.carried is.first) →
     IsRemedy n f second.lan second (TakeOut lan router vif least)
 is_remedy-from_second_copy n f second lan router vif least is on sent e = record {
   sender = (router, vif);
-  path = path_of n f.carried is.first;
+  path = hops_of_copy n f.carried is.first;
   on = refl;
   spare = record {
     first_double = is.is_double;

@@ -18,6 +18,7 @@ use Rattle.mc_theory.proofs.WalkBack.{in-first_copy_on}
 use Rattle.mc_theory.proofs.FindingMeaning.{shows-travel_finding}
 use Rattle.mc_theory.proofs.Paths.{need_at_most-from_passes}
 use Rattle.mc_theory.proofs.CameByHops.{is_path-from_travel, lan-first_copy_on}
+use Rattle.mc_theory.specs.Hops.{hops_of_copy}
 use Rattle.mc_theory.proofs.Hops.{came_by_hops-hops_back, came_from_lan-hops_until}
 use Rattle.mc_theory.proofs.EachHearerForwards.{carried-from_path}
 use Rattle.mc_theory.proofs.SpareInterface.{earlier_copy-of_first_double, is_spare_interface-exists}
@@ -30,7 +31,6 @@ use Rattle.mc_replay.specs.declared.travel.FinishedTravel.{FinishedTravel}
 use Rattle.mc_maker.specs.Examined.{FindsNothing}
 use Rattle.mc_maker.specs.ExaminedFlights.{IsFinishedTravelOf}
 use Rattle.mc_explain.specs.LastFlights.{HasLoop, EndsTravel, HasSecondCopy, HasPath, IsOutOfReach}
-use Rattle.mc_explain.specs.LastFlights.{path_of}
 
 -- ---- the first duplicate is found
 
@@ -99,9 +99,9 @@ has_path-last_flight f ttl x j lan first ok e on =
     let cs = (last_flight f ttl x j e).carried in
     let first_in = in-first_copy_on cs lan first on in
     let came_by_hops = came_by_hops-hops_back n count ttl [] false e.picks x first net e.travel first_in in
-    let path = is_path-from_travel n count ttl [] false e.picks x first (path_of n cs first) net e.travel
+    let path = is_path-from_travel n count ttl [] false e.picks x first (hops_of_copy n cs first) net e.travel
     first_in came_by_hops in
-    let least = need_at_most-from_passes ttl (path_of n cs first) e.low path.1 in
+    let least = need_at_most-from_passes ttl (hops_of_copy n cs first) e.low path.1 in
     let high = e.high in
     record { on = on; came_by_hops = came_by_hops; small = omega (arith, least, high) }
 
@@ -187,14 +187,14 @@ is_out_of_reach-from_missed f lan j k ok high low =
     let first = first_copy-from_clean f 255 lan j ok high wants in
     let path = has_path-last_flight f 255 Clean j lan first.0 ok high first.1 in
     let leads = is_path-from_travel n (length f.domain.topology.lans) 255 [] false high.picks Clean first.0
-    (path_of n cs first.0) (is_net-from_is_flow_in f ok) high.travel (in-first_copy_on cs lan first.0
+    (hops_of_copy n cs first.0) (is_net-from_is_flow_in f ok) high.travel (in-first_copy_on cs lan first.0
     first.1) path.came_by_hops in
-    let to = subst (IsPath n n.source (path_of n cs first.0)) (lan-first_copy_on cs lan first.0 first.1)
+    let to = subst (IsPath n n.source (hops_of_copy n cs first.0)) (lan-first_copy_on cs lan first.0 first.1)
     leads.0 in
     subst (λ (g : Flight). IsOutOfReach n g.carried n.ttl lan) (sym high.ends) (record {
       first = first.0;
       path = path;
-      stopped = no_path_passes-to_missed f n.ttl lan k ok low (path_of n cs first.0) to;
+      stopped = no_path_passes-to_missed f n.ttl lan k ok low (hops_of_copy n cs first.0) to;
     })
 
 -- ---- finished travels

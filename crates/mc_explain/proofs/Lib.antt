@@ -1,9 +1,8 @@
 pub mod DeviceLemmas
 pub mod LineFeedLemmas
 pub mod IndentedLemmas
-pub mod ExplanationLemmas
-pub mod FirstEightLemmas
-pub mod CostLemmas
+pub mod NameListLemmas
+pub mod FilterLemmas
 pub mod BackLemmas
 pub mod NeedLemmas
 pub mod FoundCopyLemmas
@@ -19,14 +18,12 @@ pub mod SearchLemmas
 pub mod NextLanLemmas
 pub mod VisitedLemmas
 pub mod ReachLemmas
-pub mod RouterTextLemmas
-pub mod SearchTextLemmas
+pub mod ShownNameLemmas
 pub mod ShownLineLemmas
 pub mod UnlistedLemmas
 pub mod MergeLemmas
 pub mod LowestPairLemmas
 pub mod UnlistedPairLemmas
 pub mod ExcludedLemmas
-pub mod SearchLineLemmas
 pub mod SearchNameLemmas
 pub mod UnlistedLineLemmas

@@ -6,17 +6,16 @@ use Rattle.std.specs.Prelude.{◌==◌, not, nat_le, nat_lt, codes, decimal, IsT
 use Rattle.std.specs.Prelude.{unwrap_or, option_map}
 use Rattle.std.specs.Fmt.{digits, digits_onto, digit_glyph}
 use Rattle.std.specs.List.{list_all}
-use Rattle.std.specs.Str.{bytes_eq}
 use Rattle.std.proofs.lemmas.Bool.{and_parts, false≢true, ne_eqb}
 use Rattle.mc_text.specs.Addr.{dotted}
 use Rattle.mc_text.proofs.BundleWords.{HasNoByte, HasNoByte-append, HasNoByte-from_list_all}
 use Rattle.mc_tables.specs.CacheTable.{EntryValue}
 use Rattle.mc_tables.specs.Summary.{SummaryValue}
-use Rattle.mc_tables.specs.VifTable.{VifValue, no_device}
+use Rattle.mc_tables.specs.VifTable.{VifValue, has_device}
 use Rattle.mc_topology.specs.declared.flow.Flow.{Flow}
 use Rattle.mc_topology.specs.Names.{is_name, is_name_byte}
 use Rattle.mc_topology.specs.SectionRows.{RouterRow}
-use Rattle.mc_topology.specs.Topology.{TopologyValue, IsValidTopology, lan_name, router_name}
+use Rattle.mc_topology.specs.Topology.{TopologyValue, IsValidTopology, flow_at, lan_name, router_name}
 use Rattle.mc_theory.specs.Nets.{Row}
 use Rattle.mc_theory.specs.Nets.Row.{Exact, Open, NoRow}
 use Rattle.mc_forward.specs.Domains.{oif_pairs}
@@ -24,7 +23,7 @@ use Rattle.mc_forward.specs.ListedTables.{DomainFacts}
 use Rattle.mc_explain.specs.EverySourceText.{every_source_of, every_source_text, every_source_row_text}
 use Rattle.mc_explain.specs.RowText.{byte_text, device_text, device_text_of, hex_digit_of, is_plain}
 use Rattle.mc_explain.specs.RowText.{address_text, entry_text, incoming_text, device_name_text, oif_text}
-use Rattle.mc_explain.specs.RowText.{oifs_text, row_text, vif_number_text}
+use Rattle.mc_explain.specs.RowText.{flow_row_text, oifs_text, row_text, vif_number_text}
 
 -- ---- texts
 
@@ -128,9 +127,9 @@ no_feed-vif_number_text vif = no_feed-append_front (codes "vif/") (decimal vif) 
 
 no_feed-device_text_of : (vif : ℕ) (o : Option VifValue) → HasNoByte 10 (device_text_of vif o)
 no_feed-device_text_of vif None = no_feed-vif_number_text vif
-no_feed-device_text_of vif (Some v) = no_feed-cond (bytes_eq v.device no_device) (vif_number_text vif)
-    (device_name_text v.device) (no_feed-vif_number_text vif) (no_feed-flat_map byte_text v.device
-    (λ b. no_feed-escaped_byte b (is_plain b) refl))
+no_feed-device_text_of vif (Some v) = no_feed-cond (has_device v) (device_name_text v.device)
+    (vif_number_text vif) (no_feed-flat_map byte_text v.device
+    (λ b. no_feed-escaped_byte b (is_plain b) refl)) (no_feed-vif_number_text vif)
 
 pub no_feed-device_text : (d : DomainFacts) (router vif : ℕ) → HasNoByte 10 (device_text d router vif)
 no_feed-device_text d router vif = no_feed-device_text_of vif (d.vifs router vif)
@@ -157,7 +156,7 @@ no_feed-oifs_text d router (p ∷ ps) =
 pub no_feed-entry_text : (d : DomainFacts) (router source group incoming : ℕ) (ps : List (ℕ × ℕ))
     → IsValidTopology d.topology → HasNoByte 10 (entry_text d router source group incoming ps)
 no_feed-entry_text d router source group incoming ps ok =
-    no_feed-append_front (codes "row (") _ refl
+    no_feed-append_front (codes "entry (") _ refl
     (no_feed-append (address_text source) _ (no_feed-address_text source)
     (no_feed-append_front (codes ",") _ refl
     (no_feed-append (address_text group) _ (no_feed-address_text group)
@@ -173,6 +172,11 @@ no_feed-row_text d f router (Exact incoming ps) ok =
     no_feed-entry_text d router f.source f.group incoming ps ok
 no_feed-row_text d f router Open ok = tt
 no_feed-row_text d f router NoRow ok = tt
+
+pub no_feed-flow_row_text : (d : DomainFacts) (flow router : ℕ) → IsValidTopology d.topology
+    → HasNoByte 10 (flow_row_text d flow router)
+no_feed-flow_row_text d flow router ok =
+    no_feed-row_text d (flow_at d.topology flow) router ((d.nets flow).row router) ok
 
 pub no_feed-incoming_text : (d : DomainFacts) (router : ℕ) (row : Row)
     → HasNoByte 10 (incoming_text d router row)

@@ -10,57 +10,7 @@ use Rattle.mc_explain.specs.declared.search_line.SearchLine.TheVariants.{Expecte
 use Rattle.mc_explain.specs.declared.shown_line.ShownLine.{ShownLine}
 use Rattle.mc_explain.specs.declared.shown_line.ShownLine.TheVariants.{One, Expected}
 use Rattle.mc_explain.specs.ExpectingRouters.{expecting_routers, expects_from, leading_expected}
-use Rattle.mc_explain.specs.FirstEight.{FirstEight, IsFirstEightOf}
 use Rattle.mc_explain.specs.ShownLines.{put_expected, put_line, shown_lines}
-use Rattle.mc_explain.proofs.FirstEightLemmas.{is_first_eight_of-push}
-
--- ---- the routers
-
-expecting_routers-append : (xs ys : List SearchLine) → expecting_routers (xs ++ ys) ≡ expecting_routers xs
-    ++ expecting_routers ys
-expecting_routers-append [] ys = refl
-expecting_routers-append (ExpectedFromHere lan router ∷ xs) ys =
-    ap (λ (rs : List ℕ). router ∷ rs) (expecting_routers-append xs ys)
-expecting_routers-append (_ ∷ xs) ys = expecting_routers-append xs ys
-
--- one line more
-pub expecting_routers-take_more : (lines : List SearchLine) (i : ℕ) (d : SearchLine) → i < length lines
-    → expecting_routers (take (i + 1) lines)
-    ≡ expecting_routers (take i lines) ++ expecting_routers (get_or lines i d ∷ [])
-expecting_routers-take_more lines i d lt =
-    ap expecting_routers (take_more lines i d lt) ∙ expecting_routers-append (take i lines)
-    (get_or lines i d ∷ [])
-
--- one line more about a router that expects copies,
-pub is_first_eight_of-expecting_more : (s s' : FirstEight) (lines : List SearchLine) (i : ℕ)
-    (line : SearchLine)
-    (lan router : ℕ) → i < length lines → line ≡ get_or lines i line
-    → line ≡ ExpectedFromHere lan router → IsFirstEightOf s (expecting_routers (take i lines))
-    → s'.first ≡ take 8 (s.first ++ router ∷ []) → s'.count ≡ s.count + 1
-    → IsFirstEightOf s' (expecting_routers (take (i + 1) lines))
-is_first_eight_of-expecting_more s s' lines i line lan router lt read is start first count =
-    let front = expecting_routers (take i lines) in
-    subst (IsFirstEightOf s') (ap (λ (x : SearchLine). front ++ expecting_routers (x ∷ [])) (sym is ∙ read)
-    ∙ sym (expecting_routers-take_more lines i line lt))
-    (is_first_eight_of-push s s' front router start first count)
-
-expecting_routers-other_line : (line : SearchLine) → ((lan router : ℕ) → line ≡ ExpectedFromHere lan router
-    → ⊥)
-    → expecting_routers (line ∷ []) ≡ []
-expecting_routers-other_line (ExpectedFromHere lan router) other = absurd (other lan router refl)
-expecting_routers-other_line _ other = refl
-
--- and one line more of another kind
-pub is_first_eight_of-expecting_same : (s : FirstEight) (lines : List SearchLine) (i : ℕ) (line : SearchLine)
-    → i < length lines → line ≡ get_or lines i line
-    → ((lan router : ℕ) → line ≡ ExpectedFromHere lan router → ⊥)
-    → IsFirstEightOf s (expecting_routers (take i lines))
-    → IsFirstEightOf s (expecting_routers (take (i + 1) lines))
-is_first_eight_of-expecting_same s lines i line lt read other start =
-    let front = expecting_routers (take i lines) in
-    subst (IsFirstEightOf s) (sym (expecting_routers-take_more lines i line lt
-    ∙ ap (λ (x : SearchLine). front ++ expecting_routers (x ∷ [])) (sym read)
-    ∙ ap (λ (rs : List ℕ). front ++ rs) (expecting_routers-other_line line other) ∙ append-nil front)) start
 
 -- ---- the lines
 

@@ -8,7 +8,7 @@ use Rattle.mc_tables.specs.Summary.{SummaryValue}
 use Rattle.mc_topology.specs.Topology.{TopologyValue, IsValidTopology}
 use Rattle.mc_theory.proofs.ListLemmas.{in-append_cases, in-map_cases}
 use Rattle.mc_explain.specs.Indented.{AreIndented, HasNoLineFeed, indented}
-use Rattle.mc_explain.specs.RouterText.{routers_text}
+use Rattle.mc_explain.specs.ShownNames.{routers_text}
 use Rattle.mc_explain.specs.UnlistedLines.{AreLines, AreUnlistedLines, IsUnlistedLine, with_line_feed}
 use Rattle.mc_explain.specs.UnlistedText.{byte_order_text, further_rows, further_text, is_multicast}
 use Rattle.mc_explain.specs.UnlistedText.{unlisted_pair_text, shown_unlisted_pairs, unlisted_pair_lines}
@@ -19,7 +19,7 @@ use Rattle.mc_explain.proofs.IndentedLemmas.{are_indented-from_line_rest, is_lin
 use Rattle.mc_explain.proofs.IndentedLemmas.{is_line_rest-feed}
 use Rattle.mc_explain.proofs.IndentedLemmas.{is_line_rest-append, is_line_rest-append_front}
 use Rattle.mc_explain.proofs.IndentedLemmas.{are_indented-none}
-use Rattle.mc_explain.proofs.SearchLineLemmas.{no_feed-routers_text}
+use Rattle.mc_explain.proofs.NameListLemmas.{no_feed-routers_text}
 
 -- ---- sequences of lines with a common beginning
 

@@ -2,7 +2,7 @@
 use Rattle.std.specs.Prelude.{◌≡◌, ℕ, Bool, List, [], ◌∷◌, ◌++◌, length, codes, filter, flat_map}
 use Rattle.mc_topology.specs.Topology.{TopologyValue, router_name}
 use Rattle.mc_theory.specs.Lists.{below}
-use Rattle.mc_explain.specs.RouterText.{routers_text}
+use Rattle.mc_explain.specs.ShownNames.{routers_text}
 use Rattle.mc_explain.specs.SearchLine.{is_excluded}
 use Rattle.mc_explain.specs.UnlistedLines.{AreLines}
 

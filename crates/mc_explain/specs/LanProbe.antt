@@ -1,5 +1,5 @@
 -- What a search reads, and its value.
-use Rattle.std.specs.Prelude.{◌≡◌, Some, slice_get, ℕ, length}
+use Rattle.std.specs.Prelude.{◌≡◌, ℕ, length}
 use Rattle.mc_forward.specs.ListedTables.{facts}
 use Rattle.mc_forward.specs.PerLan.{item_on_lan, HoldsFirstOfEachKey}
 use Rattle.mc_explain.specs.declared.lan_probe.LanProbe.{LanProbe}
@@ -17,7 +17,6 @@ search_in l = record {
 }
 
 pub record IsLanProbe (l : LanProbe) : Type 0 where
-  pub flow : slice_get l.view.now.domain.topology.flows l.view.now.flow ≡ Some l.flow.now
   pub interfaces : l.interfaces.now ≡ interfaces_on_lans (facts l.view.now.domain)
 
 -- ---- the LANs that a search has visited

@@ -4,8 +4,8 @@ use Rattle.mc_theory.specs.Nets.{Net, Interface}
 use Rattle.mc_theory.specs.Flights.{Copy, run, start}
 use Rattle.mc_theory.specs.Findings.{Finding, IsTravel, first_copy_on, first_double, handles}
 use Rattle.mc_theory.specs.FindingMeaning.{IsFirstDouble}
-use Rattle.mc_theory.specs.Paths.{Hop, CameByHops, CameFromLan, PassesHops, need}
-use Rattle.mc_theory.specs.Hops.{hops_back, hops_until}
+use Rattle.mc_theory.specs.Paths.{CameByHops, CameFromLan, PassesHops, need}
+use Rattle.mc_theory.specs.Hops.{hops_of_copy, hops_of_copy_until}
 use Rattle.mc_forward.specs.FlightsInDomain.{FlowOfDomain, FlightInDomain, net_in}
 
 -- The flight is the last one of a travel of the flow's packet with this TTL, and the travel's finding is
@@ -20,15 +20,11 @@ pub record EndsTravel (f : FlowOfDomain) (ttl : ℕ) (x : Finding) (j : FlightIn
       (start (net_in f) ttl) x
   pub ends : j.flight ≡ run (net_in f) (handles picks) (start (net_in f) ttl)
 
--- the hops by which a copy came, followed back from its LAN
-abbrev pub path_of : Net → List Copy → Copy → List Hop
-path_of n cs c = hops_back n cs (length cs) c.lan c.sender
-
 -- The LAN's first copy came by these hops, and packets with some TTL get through them.
 pub record HasPath (n : Net) (cs : List Copy) (lan : ℕ) (first : Copy) : Type 0 where
   pub on : first_copy_on cs lan ≡ Some first
-  pub came_by_hops : CameByHops n cs first (path_of n cs first)
-  pub small : need (path_of n cs first) ≤ 255
+  pub came_by_hops : CameByHops n cs first (hops_of_copy n cs first)
+  pub small : need (hops_of_copy n cs first) ≤ 255
 
 -- The copy is the flight's first duplicate, an interface sent it, and its LAN's first copy has a path.
 pub record IsSecondCopy (n : Net) (cs : List Copy) (second : Copy) : Type 0 where
@@ -50,10 +46,10 @@ pub record HasLoop (n : Net) (cs : List Copy) (lan : ℕ) : Type 0 where
   pub has : HasSecondCopy n cs lan
   pub came_by_hops :
       CameFromLan n cs lan has.second
-      (hops_until n cs lan (length cs) has.second.lan has.second.sender)
+      (hops_of_copy_until n cs lan has.second)
 
 -- The LAN's first copy has a path, and packets with TTL t don't get through it.
 pub record IsOutOfReach (n : Net) (cs : List Copy) (t lan : ℕ) : Type 0 where
   pub first : Copy
   pub path : HasPath n cs lan first
-  pub stopped : PassesHops t (path_of n cs first) → ⊥
+  pub stopped : PassesHops t (hops_of_copy n cs first) → ⊥

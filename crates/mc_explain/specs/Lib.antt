@@ -1,9 +1,7 @@
 pub mod Explained
 pub mod RowText
 pub mod EverySourceText
-pub mod ExplanationText
 pub mod Indented
-pub mod FirstEight
 pub mod WantedText
 pub mod LastFlights
 pub mod CauseFacts
@@ -13,15 +11,13 @@ pub mod SearchLine
 pub mod LanProbe
 pub mod SearchReach
 pub mod SearchNames
-pub mod RouterText
+pub mod ShownNames
 pub mod ExpectingRouters
 pub mod ShownLines
-pub mod SearchText
 pub mod UnlistedText
 pub mod UnlistedLines
 pub mod UnlistedPairs
 pub mod ExcludedText
-pub mod SearchContext
 pub use Rattle.mc_tables.specs.Summary
 pub use Rattle.mc_theory.specs.Nets
 pub use Rattle.mc_theory.specs.Flights

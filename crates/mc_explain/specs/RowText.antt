@@ -1,11 +1,10 @@
 -- The text of a router's devices and rows, with the names of the topology and of the vif tables.
 use Rattle.std.specs.Prelude.{ℕ, ◌+◌, ◌/◌, ◌%◌, ◌==◌, ◌&&◌, not, nat_le, Bool, List, [], ◌∷◌, ◌++◌, Option}
 use Rattle.std.specs.Prelude.{Some, None, if◌then◌else◌, codes, decimal, flat_map}
-use Rattle.std.specs.Str.{bytes_eq}
 use Rattle.mc_text.specs.Addr.{dotted}
-use Rattle.mc_tables.specs.VifTable.{VifValue, no_device}
+use Rattle.mc_tables.specs.VifTable.{VifValue, has_device}
 use Rattle.mc_topology.specs.declared.flow.Flow.{Flow}
-use Rattle.mc_topology.specs.Topology.{router_name}
+use Rattle.mc_topology.specs.Topology.{flow_at, router_name}
 use Rattle.mc_theory.specs.Nets.{Row}
 use Rattle.mc_theory.specs.Nets.Row.{Exact, Open, NoRow}
 use Rattle.mc_forward.specs.ListedTables.{DomainFacts}
@@ -37,7 +36,7 @@ vif_number_text vif = codes "vif/" ++ decimal vif
 abbrev pub device_text_of : (vif : ℕ) → Option VifValue → List ℕ
 device_text_of vif None = vif_number_text vif
 device_text_of vif (Some v) =
-    if bytes_eq v.device no_device then vif_number_text vif else device_name_text v.device
+    if has_device v then device_name_text v.device else vif_number_text vif
 
 -- the device of a router's vif, such as `eth1`
 abbrev pub device_text : DomainFacts → (router vif : ℕ) → List ℕ
@@ -59,10 +58,10 @@ oifs_text d router (p ∷ ps) = flat_map (oif_text d router) (p ∷ ps)
 abbrev pub address_text : ℕ → List ℕ
 address_text address = if address == 0 then codes "*" else dotted address
 
--- a row, such as `row (10.0.0.5,239.1.2.3) from eth0 to eth1 eth2:5 in cache-r1`
+-- a row, such as `entry (10.0.0.5,239.1.2.3) from eth0 to eth1 eth2:5 in cache-r1`
 abbrev pub entry_text : DomainFacts → (router source group incoming : ℕ) → List (ℕ × ℕ) → List ℕ
 entry_text d router source group incoming pairs =
-    codes "row (" ++ (address_text source ++ (codes "," ++ (address_text group
+    codes "entry (" ++ (address_text source ++ (codes "," ++ (address_text group
     ++ (codes ") from " ++ (device_text d router incoming
     ++ (codes " to" ++ (oifs_text d router pairs
     ++ (codes " in cache-" ++ router_name d.topology router))))))))
@@ -73,6 +72,10 @@ row_text d f router (Exact incoming pairs) =
     entry_text d router f.source f.group incoming pairs
 row_text d f router Open = []
 row_text d f router NoRow = []
+
+-- the same, for the flow with this number
+abbrev pub flow_row_text : DomainFacts → (flow router : ℕ) → List ℕ
+flow_row_text d flow router = row_text d (flow_at d.topology flow) router ((d.nets flow).row router)
 
 -- the device of a row's incoming vif
 abbrev pub incoming_text : DomainFacts → (router : ℕ) → Row → List ℕ

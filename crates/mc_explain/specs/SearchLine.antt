@@ -2,13 +2,13 @@
 -- interface on it, and the LANs that are searched after it.
 use Rattle.std.specs.Prelude.{◌≡◌, ◌==◌, ◌&&◌, ◌||◌, ℕ, zero, suc, not, Bool, false, List, [], ◌∷◌}
 use Rattle.std.specs.Prelude.{◌++◌, length, flat_map, Option, Some, None, is_some, slice_get}
-use Rattle.std.specs.Prelude.{if◌then◌else◌, option_map, slice_index_or, unwrap_or}
+use Rattle.std.specs.Prelude.{if◌then◌else◌, slice_index_or}
 use Rattle.std.specs.List.{filter_map, list_any}
 use Rattle.std.specs.FinSet as set
 use Rattle.mc_tables.specs.VifTable.{VifValue}
 use Rattle.mc_tables.specs.CacheTable.{EntryValue}
 use Rattle.mc_tables.specs.Summary.{SummaryValue}
-use Rattle.mc_topology.specs.Topology.{flow_key}
+use Rattle.mc_topology.specs.Topology.{flow_at, flow_key}
 use Rattle.mc_theory.specs.Nets.{Net, Row, is_lan}
 use Rattle.mc_theory.specs.Nets.Row.{Exact, Open, NoRow as no_row}
 use Rattle.mc_theory.specs.Flights.{Copy}
@@ -68,7 +68,7 @@ carried s lan = is_some (s.first_copy_on lan)
 
 -- the flow's source and group
 abbrev pub source_and_group : Search → ℕ × ℕ
-source_and_group s = unwrap_or (option_map flow_key (slice_get s.domain.topology.flows s.flow)) (0, 0)
+source_and_group s = flow_key (flow_at s.domain.topology s.flow)
 
 -- whether a router has an unresolved row
 abbrev pub unresolved_by : Option SummaryValue → ℕ × ℕ → Bool

@@ -9,7 +9,7 @@ use Rattle.mc_tables.specs.Summary.{SummaryValue, group_first, in_order, shown_p
 use Rattle.mc_tables.specs.Summary.{unlisted_keys}
 use Rattle.mc_topology.specs.Topology.{TopologyValue}
 use Rattle.mc_theory.specs.Lists.{In, below}
-use Rattle.mc_explain.specs.RouterText.{routers_text}
+use Rattle.mc_explain.specs.ShownNames.{routers_text}
 
 -- ---- the pairs of a group and a source
 

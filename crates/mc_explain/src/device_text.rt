@@ -8,9 +8,6 @@ use mc_forward::FlowView;
 use mc_topology::RouterNo;
 use std::fmt;
 
-/// The device name that the kernel prints for a vif without a device.
-pub(crate) const NO_DEVICE: &[u8] = b"none";
-
 /// Whether a byte of a device's name is written unescaped.
 fn is_plain(byte: u8) -> bool
     ensures { result ≡ is_plain byte }
@@ -60,13 +57,13 @@ impl<'n> fmt::Display for ShownDeviceName<'n> {
 /// The device of a router's vif, such as `eth1`, or the vif's number, such as `vif/3`, if the router's
 /// table has no line for it or no device.
 #[derive(Clone, Copy, Drop)]
-pub(crate) struct ShownDevice<'v> {
+pub struct ShownDevice<'v> {
     /// A flow of the domain.
-    pub(crate) view: &'v FlowView<'v>,
+    pub view: &'v FlowView<'v>,
     /// The router.
-    pub(crate) router: RouterNo,
+    pub router: RouterNo,
     /// Its vif.
-    pub(crate) vif: u8,
+    pub vif: u8,
 }
 
 impl<'v> fmt::Display for ShownDevice<'v> {
@@ -75,7 +72,7 @@ impl<'v> fmt::Display for ShownDevice<'v> {
     fn fmt<W: fmt::Write>(&self, f: &mut fmt::Formatter<W>) -> fmt::Result {
         let vif = self.vif;
         match self.view.vif(self.router, vif) {
-            Some(line) if line.device() != NO_DEVICE => {
+            Some(line) if line.has_device() => {
                 let name = ShownDeviceName {
                     name: line.device(),
                 };

@@ -1,18 +1,18 @@
 //! The first copy on each LAN, and the first duplicate.
 
-ghost use Rattle.std.specs.Prelude.{◌≡◌, ◌<◌, All, IfOk, [], length, option_and_then};
+ghost use Rattle.std.specs.Prelude.{◌≡◌, ◌<◌, All, IfOk, [], length};
 ghost use Rattle.mc_theory.specs.Findings.{first_double};
 ghost use Rattle.mc_forward.specs.PerLan.{HoldsFirstOfEachKey, item_on_lan};
 
 use mc_forward::{CarriedCopy, FlowView, PerLan};
 use mc_text::Memory;
-use mc_topology::{LanNo, RouterNo};
+use mc_topology::LanNo;
 use std::alloc::Global;
 
 /// The first copy on each LAN, and the first copy that has an earlier one on its LAN.
 #[derive(Drop)]
 pub(crate) struct FirstCopies {
-    by_lan: PerLan<CarriedCopy>,
+    pub(crate) by_lan: PerLan<CarriedCopy>,
     pub(crate) second: Option<CarriedCopy>,
 }
 
@@ -43,15 +43,5 @@ impl FirstCopies {
         ensures { result ≡ item_on_lan self.now.by_lan lan }
     {
         self.by_lan.on(lan)
-    }
-
-    /// The router and the vif that sent the first copy onto a LAN, `None` for the source.
-    pub(crate) fn sender_on(&self, lan: LanNo) -> Option<(RouterNo, u8)>
-        ensures { result ≡ option_and_then (λ c. c.sender) (item_on_lan self.now.by_lan lan) }
-    {
-        match self.by_lan.on(lan) {
-            Some(first) => first.sender,
-            None => None,
-        }
     }
 }

@@ -11,7 +11,7 @@ ghost use Rattle.mc_explain.specs.SearchLine.{lines_of_lan, may_send_here, net, 
 ghost use Rattle.mc_explain.specs.SearchLine.{routers_on, row_for_every_source, row_lines};
 ghost use Rattle.mc_explain.specs.SearchLine.{sends_by_known_vif, sends_here, vif_line, vif_lines};
 
-use crate::excluded_text::is_excluded;
+use crate::excluded::is_excluded;
 use crate::first_copies::FirstCopies;
 use crate::interfaces_of_lans::InterfacesOfLans;
 use crate::listed_interface::ListedInterface;
@@ -20,15 +20,13 @@ use crate::search_line::SearchLine;
 use mc_forward::{FlowView, RowFor, threshold_of};
 use mc_tables::{CacheSummary, Entry};
 use mc_text::Memory;
-use mc_topology::{Flow, LanNo, RouterNo};
+use mc_topology::{LanNo, RouterNo};
 
 /// What a search reads: a flow of a domain, the summaries of the routers' caches, which routers are
 /// excluded, the topology's interfaces on each LAN, and the first copy on each LAN.
 #[derive(Clone, Copy, Drop)]
 pub(crate) struct LanProbe<'s> {
     pub(crate) view: &'s FlowView<'s>,
-    /// The view's flow as the topology lists it.
-    pub(crate) flow: &'s Flow,
     pub(crate) summary: &'s [CacheSummary],
     pub(crate) excluded: &'s [bool],
     pub(crate) interfaces: &'s InterfacesOfLans,
@@ -60,7 +58,10 @@ impl<'s> LanProbe<'s> {
         ensures value { result ≡ is_unresolved (search_in self.now) router }
     {
         match self.summary.get(router.0 as usize) {
-            Some(summary) => summary.is_unresolved(self.flow.source, self.flow.group),
+            Some(summary) => {
+                let flow = self.view.flow();
+                summary.is_unresolved(flow.source, flow.group)
+            }
             None => false,
         }
     }
@@ -350,7 +351,7 @@ impl<'s> LanProbe<'s> {
             (row_for_every_source (search_in self.now) router) }
     {
         let summary = self.summary.get(router.0 as usize)?;
-        match summary.row_for_every_source(self.flow.group) {
+        match summary.row_for_every_source(self.view.flow().group) {
             Some((_, entry)) => self.view.placed(router, entry.iif),
             None => None,
         }

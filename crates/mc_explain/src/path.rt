@@ -9,6 +9,7 @@ ghost use Rattle.mc_forward.specs.PerLan.{HoldsFirstOfEachKey};
 use crate::first_copies::FirstCopies;
 use crate::hop::{Hop, hop_sent};
 use mc_forward::{CarriedCopy, FlowView};
+use mc_replay::sender_on;
 use mc_text::Memory;
 use std::alloc::Global;
 
@@ -33,7 +34,7 @@ pub(crate) fn hops_back(
             return Ok(hops);
         };
         hops.push(hop)?;
-        sender = first_copies.sender_on(hop.from);
+        sender = sender_on(&first_copies.by_lan, hop.from);
         onto = hop.from;
     }
     Ok(hops)
@@ -62,7 +63,7 @@ pub(crate) fn hops_around(
         if hop.from == copy.lan {
             return Ok(hops);
         }
-        sender = first_copies.sender_on(hop.from);
+        sender = sender_on(&first_copies.by_lan, hop.from);
         onto = hop.from;
     }
     Ok(hops)

@@ -4,14 +4,14 @@ ghost use Rattle.std.specs.Prelude.{◌≡◌, Some};
 ghost use Rattle.mc_forward.specs.Domains.{oif_pairs};
 ghost use Rattle.mc_forward.specs.FlightsInDomain.{net_in};
 ghost use Rattle.mc_forward.specs.ListedTables.{facts};
-ghost use Rattle.mc_explain.specs.RowText.{address_text, entry_text, incoming_text};
-ghost use Rattle.mc_explain.specs.RowText.{oif_text, oifs_text, row_text};
+ghost use Rattle.mc_explain.specs.RowText.{address_text, entry_text, flow_row_text, incoming_text};
+ghost use Rattle.mc_explain.specs.RowText.{oif_text, oifs_text};
 
 use crate::device_text::ShownDevice;
 use mc_forward::{FlowView, RowFor};
 use mc_tables::Oif;
 use mc_text::Addr;
-use mc_topology::{Flow, RouterNo};
+use mc_topology::RouterNo;
 use std::fmt;
 
 /// An outgoing vif of a row, such as ` eth1` or ` eth1:5`. A threshold of 1 isn't written.
@@ -88,7 +88,7 @@ impl fmt::Display for ShownAddress {
     }
 }
 
-/// A row, such as `row (10.0.0.5,239.1.2.3) from eth0 to eth1 eth2:5 in cache-r1`.
+/// A row, such as `entry (10.0.0.5,239.1.2.3) from eth0 to eth1 eth2:5 in cache-r1`.
 #[derive(Clone, Copy, Drop)]
 pub(crate) struct ShownEntry<'v> {
     /// A flow of the domain.
@@ -121,28 +121,27 @@ impl<'v> fmt::Display for ShownEntry<'v> {
         let group = ShownAddress { address };
         write!(
             f,
-            "row ({source},{group}) from {incoming} to{outgoing} in cache-{name}"
+            "entry ({source},{group}) from {incoming} to{outgoing} in cache-{name}"
         )
     }
 }
 
 /// A router's row of a flow's source and group. It is empty if the router has none.
 #[derive(Clone, Copy, Drop)]
-pub(crate) struct ShownRow<'v> {
+pub struct ShownRow<'v> {
     /// The flow in its domain.
-    pub(crate) view: &'v FlowView<'v>,
-    /// The same flow as the topology lists it.
-    pub(crate) flow: &'v Flow,
+    pub view: &'v FlowView<'v>,
     /// The router.
-    pub(crate) router: RouterNo,
+    pub router: RouterNo,
 }
 
 impl<'v> fmt::Display for ShownRow<'v> {
-    ghost output = { λ shown. Some (row_text (facts shown.view.now.domain) shown.flow.now shown.router
-        ((net_in shown.view.now).row shown.router)) };
+    ghost output = { λ shown.
+        Some (flow_row_text (facts shown.view.now.domain) shown.view.now.flow shown.router) };
 
     fn fmt<W: fmt::Write>(&self, f: &mut fmt::Formatter<W>) -> fmt::Result {
-        let (view, flow, router) = (self.view, self.flow, self.router);
+        let (view, router) = (self.view, self.router);
+        let flow = view.flow();
         match view.row(router) {
             RowFor::Exact(entry) => {
                 let row = ShownEntry {
@@ -162,11 +161,11 @@ impl<'v> fmt::Display for ShownRow<'v> {
 
 /// The device of the incoming vif of a router's row for a flow. It is empty where `ShownRow` is.
 #[derive(Clone, Copy, Drop)]
-pub(crate) struct ShownIncoming<'v> {
+pub struct ShownIncoming<'v> {
     /// The flow.
-    pub(crate) view: &'v FlowView<'v>,
+    pub view: &'v FlowView<'v>,
     /// The router.
-    pub(crate) router: RouterNo,
+    pub router: RouterNo,
 }
 
 impl<'v> fmt::Display for ShownIncoming<'v> {

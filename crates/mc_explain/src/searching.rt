@@ -152,7 +152,6 @@ pub fn search(
     let first_copies = FirstCopies::new(alloc, &view, flight.copies())?;
     let lan_probe = LanProbe {
         view: &view,
-        flow: domain.topology().flow(flow),
         summary,
         excluded,
         interfaces,

@@ -1,12 +1,11 @@
 //! The lines of a search as they are shown: adjacent ones about routers that expect copies are joined.
 
-ghost use Rattle.std.specs.Prelude.{◌≡◌};
+ghost use Rattle.std.specs.Prelude.{◌≡◌, IfOk};
 ghost use Rattle.mc_explain.specs.ExpectingRouters.{expects_from, leading_expected};
-ghost use Rattle.mc_explain.specs.FirstEight.{IsFirstEightOf};
 
-use crate::first_eight_routers::FirstEightRouters;
 use crate::search_line::SearchLine;
 use mc_topology::{LanNo, RouterNo};
+use std::alloc::{AllocError, Global};
 use std::marker::Model;
 
 /// An iterator over the routers of `ExpectedFromHere` lines. Its value in contracts is the list of those
@@ -78,17 +77,19 @@ fn leading_expected(lines: &[SearchLine], lan: LanNo) -> usize
 }
 
 impl<'s> ExpectingRouters<'s> {
-    /// The first 8 of these routers, and how many there are.
-    pub(crate) fn front(&self) -> FirstEightRouters
-        ensures { IsFirstEightOf result self.now }
+    /// The list of these routers.
+    ///
+    /// # Errors
+    ///
+    /// `AllocError` if an allocation fails.
+    pub fn into_vec(self, alloc: Global) -> Result<Vec<RouterNo>, AllocError>
+        ensures { IfOk result (λ list. list.items ≡ self.entry) }
     {
-        let mut front = FirstEightRouters::new();
-        for line in self.lines {
-            if let SearchLine::ExpectedFromHere { router, .. } = *line {
-                front.add(router);
-            }
+        let mut list = Vec::new(alloc);
+        for router in self {
+            list.push(router)?;
         }
-        front
+        Ok(list)
     }
 }
 

@@ -5,7 +5,7 @@ ghost use Rattle.std.specs.String.{string_bytes};
 ghost use Rattle.mc_explain.specs.UnlistedText.{byte_order_text, further_text, is_multicast};
 ghost use Rattle.mc_explain.specs.UnlistedText.{unlisted_pair_text, unlisted_text};
 
-use crate::first_eight_routers::{FirstEightRouters, ShownRouters};
+use crate::shown_names::ShownRouters;
 use crate::unlisted_pairs::{UnlistedPair, UnlistedPairs};
 use mc_tables::CacheSummary;
 use mc_text::{Addr, Memory};
@@ -64,12 +64,9 @@ fn push_pair(text: &mut String, topology: &Topology, pair: &UnlistedPair) -> Res
     ensures { OnOk result (string_bytes text.new ≡
         string_bytes text.old ++ unlisted_pair_text topology.now pair.now.0 pair.now.1) }
 {
-    let front = FirstEightRouters::of(pair.routers());
-    let count = front.count();
-    let routers = ShownRouters {
-        front: &front,
-        topology,
-    };
+    let routers = pair.routers();
+    let count = routers.len();
+    let routers = ShownRouters { routers, topology };
     let group = pair.group();
     let source = pair.source();
     let question = ShownByteOrderQuestion { group };

@@ -4,6 +4,7 @@ pub mod ListedTables
 pub mod FlatRows
 pub mod DomainParts
 pub mod RowValues
+pub mod UnplacedReasons
 pub mod FlightsInDomain
 pub mod OutcomeValues
 pub mod PerLan

@@ -1,18 +1,22 @@
 //! A domain for the packets of one flow.
 
-ghost use Rattle.std.specs.Prelude.{◌≡◌, ◌<◌, IfSome, length};
+ghost use Rattle.std.specs.Prelude.{◌≡◌, ◌≢◌, ◌<◌, IfSome, None, length};
 ghost use Rattle.std.specs.Option.{option_copied};
+ghost use Rattle.mc_topology.specs.Topology.{flow_at};
 ghost use Rattle.mc_theory.specs.Nets.{interfaces};
 ghost use Rattle.mc_theory.specs.Findings.{from_lan, taken_from};
 ghost use Rattle.mc_forward.specs.Domains.{vif_of};
 ghost use Rattle.mc_forward.specs.FlightsInDomain.{net_in, IsFlowOfDomain};
 ghost use Rattle.mc_forward.specs.RowValues.{row_value, HasValidEntry};
+ghost use Rattle.mc_forward.specs.UnplacedReasons.{unplaced_reason};
+ghost use Rattle.mc_forward.specs.declared.unplaced.UnplacedReason.TheVariants.{OnNoLan};
 
 use crate::domain::Domain;
 use crate::interfaces::Interfaces;
 use crate::row::RowFor;
+use crate::unplaced::{UnplacedReason, unplaced_reason};
 use mc_tables::Vif;
-use mc_topology::{LanNo, RouterNo, Topology};
+use mc_topology::{Flow, LanNo, RouterNo, Topology};
 use std::marker::Model;
 
 /// A flow of a domain. Its value in contracts is the domain and the flow's number.
@@ -52,6 +56,13 @@ impl<'d> FlowView<'d> {
         ensures rules { IsFlowOfDomain self.now }
     {
         self.domain.topology()
+    }
+
+    /// The flow, as the topology lists it.
+    pub fn flow(&self) -> Flow
+        ensures { result ≡ flow_at self.now.domain.topology self.now.flow }
+    {
+        *self.topology().flow(self.flow)
     }
 
     /// How many routers there are.
@@ -111,6 +122,14 @@ impl<'d> FlowView<'d> {
         ensures { option_copied result ≡ vif_of self.now.domain.tables router vif }
     {
         self.domain.vif(router, vif)
+    }
+
+    /// Why a router's vif is placed on no LAN: `OnNoLan` also where it is placed on one.
+    pub fn unplaced_reason(&self, router: RouterNo, vif: u8) -> UnplacedReason
+        ensures reason { result ≡ unplaced_reason (vif_of self.now.domain.tables router vif) }
+        ensures unplaced { result ≢ OnNoLan → (net_in self.now).placed router vif ≡ None }
+    {
+        unplaced_reason(self.vif(router, vif))
     }
 
     /// What a router has for the flow: no row for a router that isn't in the topology.

@@ -20,6 +20,7 @@ mod per_lan;
 mod refused;
 mod row;
 mod tables;
+mod unplaced;
 mod vif_lans;
 mod wants;
 
@@ -42,4 +43,5 @@ pub use per_lan::PerLan;
 pub use refused::{DomainFault, Refused};
 pub use row::RowFor;
 pub use tables::Tables;
+pub use unplaced::UnplacedReason;
 pub use wants::{FlowChannels, source_group_pairs};

@@ -16,14 +16,11 @@ use std::alloc::Global;
 /// The LAN of each vif of a router, from vif 0.
 pub(crate) type VifLans = [Option<LanNo>; 32];
 
-/// The kernel's word for a vif without a device.
-const NO_DEVICE: &[u8] = b"none";
-
 /// The LAN of a router's vif.
 fn lan_of_vif(topology: &Topology, router: RouterNo, vif: &Vif) -> Option<LanNo>
     ensures { result ≡ lan_of_vif topology.now router vif.now }
 {
-    if vif.tunnel() || vif.register() || vif.device() == NO_DEVICE {
+    if vif.tunnel() || vif.register() || !vif.has_device() {
         return None;
     }
     topology.lan_of_device(router, vif.device())

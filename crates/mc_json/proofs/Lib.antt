@@ -1,6 +1,5 @@
 pub mod NoFloatLemmas
-pub mod FilterLemmas
-pub mod SearchNoFloatLemmas
+pub mod LineNoFloatLemmas
 pub mod LoopStepLemmas
 pub mod DomainNoFloatLemmas
 pub mod NoFeedLemmas

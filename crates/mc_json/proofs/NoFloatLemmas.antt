@@ -5,7 +5,7 @@ use Rattle.std.proofs.lemmas.Bool.{or_parts}
 use Rattle.mc_tables.specs.CacheTable.{EntryValue}
 use Rattle.mc_tables.specs.Summary.{SummaryValue}
 use Rattle.mc_tables.specs.VifTable.{VifValue}
-use Rattle.mc_topology.specs.Topology.{TopologyValue}
+use Rattle.mc_topology.specs.Topology.{TopologyValue, flow_at}
 use Rattle.mc_topology.specs.declared.flow.Flow.{Flow}
 use Rattle.mc_theory.specs.Certificates.{Entry}
 use Rattle.mc_theory.specs.Events.{Event, Outcome}
@@ -17,17 +17,13 @@ use Rattle.mc_forward.specs.ListedTables.{DomainFacts}
 use Rattle.mc_replay.specs.declared.finding.Finding.{Finding}
 use Rattle.mc_replay.specs.declared.finding.Finding.TheVariants.{Clean, Duplicate, Loop, Stray}
 use Rattle.mc_replay.specs.declared.finding.Finding.TheVariants.{Missed}
-use Rattle.mc_explain.specs.EverySourceText.{every_source_of}
-use Rattle.mc_explain.specs.declared.causes.Cause.{Cause}
-use Rattle.mc_explain.specs.declared.causes.Cause.TheVariants.{SentOnto, Circle, TakeOut, Unplaced}
-use Rattle.mc_explain.specs.declared.causes.Cause.TheVariants.{LeastTtl, OnlyEverySource, StoppedAt}
 use Rattle.serde_json.specs.Data.{Data}
 use Rattle.serde_json.specs.View.{items_of}
 use Rattle.serde_json.specs.Written.{has_float, items_have_float}
 use Rattle.mc_json.specs.RowData.{device_data_of, entry_data, every_source_row_data, oif_data}
-use Rattle.mc_json.specs.RowData.{row_data}
-use Rattle.mc_json.specs.CauseData.{causes_data, incoming_device, incoming_vif, lan_data}
-use Rattle.mc_json.specs.CauseData.{router_data, cause_data}
+use Rattle.mc_json.specs.RowData.{flow_row_data, row_data}
+use Rattle.mc_json.specs.RowData.{incoming_device, incoming_vif}
+use Rattle.mc_json.specs.RowData.{lan_data, router_data}
 use Rattle.mc_json.specs.FlowData.{event_data, events_if_asked, finding_data}
 use Rattle.mc_json.specs.FlowData.{outcome_data, reached_data, right_data, sender_router, sender_vif}
 use Rattle.mc_json.specs.EndData.{unlisted_data, without_data}
@@ -67,12 +63,17 @@ no_float-entry_data d router source group incoming pairs =
           (no_float-oif_data d router) pairs,
     )
 
-pub no_float-row_data : (d : DomainFacts) (f : Flow) (router : ℕ) (row : Row)
+no_float-row_data : (d : DomainFacts) (f : Flow) (router : ℕ) (row : Row)
     → has_float (row_data d f router row) ≡ false
 no_float-row_data d f router (Exact incoming pairs) = no_float-entry_data d router f.source f.group incoming
     pairs
 no_float-row_data d f router Open = refl
 no_float-row_data d f router NoRow = refl
+
+pub no_float-flow_row_data : (d : DomainFacts) (flow router : ℕ)
+    → has_float (flow_row_data d flow router) ≡ false
+no_float-flow_row_data d flow router =
+    no_float-row_data d (flow_at d.topology flow) router ((d.nets flow).row router)
 
 pub no_float-every_source_row_data : (d : DomainFacts) (router : ℕ) (o : Option (ℕ × EntryValue))
     → has_float (every_source_row_data d router o) ≡ false
@@ -90,40 +91,6 @@ pub no_float-incoming_vif : (row : Row) → has_float (incoming_vif row) ≡ fal
 no_float-incoming_vif (Exact incoming pairs) = refl
 no_float-incoming_vif Open = refl
 no_float-incoming_vif NoRow = refl
-
--- ---- causes
-
-no_float-cause_data : (d : DomainFacts) (summary : List SummaryValue) (number : ℕ) (f : Flow) (causes : Cause)
-    → HaveNoFloat (cause_data d summary number f causes)
-no_float-cause_data d summary number f (SentOnto lan router vif) =
-    rw (no_float-device_data (d.vifs router vif), no_float-row_data d f router ((d.nets number).row router))
-no_float-cause_data d summary number f (Circle from onto router vif) =
-    rw (
-      no_float-incoming_device d router ((d.nets number).row router),
-      no_float-incoming_vif ((d.nets number).row router),
-      no_float-row_data d f router ((d.nets number).row router),
-      no_float-device_data (d.vifs router vif),
-    )
-no_float-cause_data d summary number f (TakeOut lan router vif least) =
-    rw (no_float-device_data (d.vifs router vif))
-no_float-cause_data d summary number f (Unplaced router vif) =
-    rw (no_float-device_data (d.vifs router vif), no_float-row_data d f router ((d.nets number).row router))
-no_float-cause_data d summary number f (LeastTtl lan least) = refl
-no_float-cause_data d summary number f (OnlyEverySource router vif) =
-    rw (
-      no_float-device_data (d.vifs router vif),
-      no_float-every_source_row_data d router
-          (every_source_of summary f.group router),
-    )
-no_float-cause_data d summary number f (StoppedAt router vif threshold ttl) =
-    rw (no_float-device_data (d.vifs router vif))
-
-pub no_float-causes_data : (d : DomainFacts) (summary : List SummaryValue) (number : ℕ) (f : Flow)
-    (causes : List Cause) → HaveNoFloat (causes_data d summary number f causes)
-no_float-causes_data d summary number f [] = refl
-no_float-causes_data d summary number f (causes ∷ more) =
-    no_float-append (cause_data d summary number f causes) (causes_data d summary number f more)
-    (no_float-cause_data d summary number f causes) (no_float-causes_data d summary number f more)
 
 -- ---- flows
 

@@ -13,10 +13,9 @@ use Rattle.mc_replay.specs.declared.finding.Finding.{Finding}
 use Rattle.mc_replay.specs.declared.finding.Finding.TheVariants.{Clean, Duplicate, Loop, Stray}
 use Rattle.mc_replay.specs.declared.finding.Finding.TheVariants.{Missed}
 use Rattle.mc_replay.specs.declared.travel.FinishedTravel.{FinishedTravel}
-use Rattle.mc_explain.specs.WantedText.{missed_besides, lans_wanting}
 use Rattle.serde_json.specs.Data.{Data, null, boolean, string}
 use Rattle.mc_json.specs.RowData.{count_data, line_of, list_data, object_data}
-use Rattle.mc_json.specs.CauseData.{lan_data, router_data}
+use Rattle.mc_json.specs.RowData.{lan_data, router_data}
 
 -- ---- any flow
 
@@ -73,9 +72,6 @@ right_data whole number f copies tree wanted = object_data (
     ∷ (codes "tree", count_data tree)
     ∷ (codes "ttl", count_data f.ttl)
     ∷ (codes "wanted", list_data wanted) ∷ [])
-
-abbrev pub wanted_data : DomainFacts → (number : ℕ) → List Data
-wanted_data d number = map (lan_data d.topology) (lans_wanting d number)
 
 -- ---- one that isn't right
 
@@ -171,21 +167,16 @@ abbrev pub wrong_line : DomainFacts → (number : ℕ) → Flow → (found_ttl :
 wrong_line d number f found_ttl finding events also why events_asked =
     line_of (wrong_data number f (wrong_flow_of d.topology found_ttl finding events also why events_asked))
 
--- the LANs that a finished travel missed besides the one of its finding
-abbrev pub also_missed_by : FinishedTravel → List ℕ
-also_missed_by e =
-    missed_besides (facts e.flight.domain) e.flight.flow e.flight.flight.carried e.travel.finding
+-- the flow by the finished travel that shows its fault, and by the LANs that its packet also missed
+abbrev pub wrong_flow_of_travel : FinishedTravel → (found_ttl : ℕ) → (also : List ℕ) → (why : List Data)
+    → (events_asked : Bool) → WrongFlow
+wrong_flow_of_travel e found_ttl also why events_asked =
+    wrong_flow_of e.flight.domain.topology found_ttl e.travel.finding e.travel.events.items also why
+    events_asked
 
--- the flow by the finished travel that shows its fault
-abbrev pub wrong_flow_of_travel : FinishedTravel → (found_ttl : ℕ) → (why : List Data) → (events_asked : Bool)
-    → WrongFlow
-wrong_flow_of_travel e found_ttl why events_asked =
-    wrong_flow_of e.flight.domain.topology found_ttl e.travel.finding e.travel.events.items
-    (also_missed_by e) why events_asked
-
--- the line of a flow that isn't right, by the finished travel that shows it
-abbrev pub wrong_line_of_travel : (number : ℕ) → Flow → FinishedTravel → (found_ttl : ℕ) → (why : List Data)
-    → (events_asked : Bool) → List ℕ
-wrong_line_of_travel number f e found_ttl why events_asked =
-    wrong_line (facts e.flight.domain) number f found_ttl e.travel.finding e.travel.events.items
-    (also_missed_by e) why events_asked
+-- and the line of the flow
+abbrev pub wrong_line_of_travel : (number : ℕ) → Flow → FinishedTravel → (found_ttl : ℕ) → (also : List ℕ)
+    → (why : List Data) → (events_asked : Bool) → List ℕ
+wrong_line_of_travel number f e found_ttl also why events_asked =
+    wrong_line (facts e.flight.domain) number f found_ttl e.travel.finding e.travel.events.items also why
+    events_asked

@@ -13,9 +13,6 @@ use mc_topology::RouterNo;
 use serde_json::Value;
 use std::alloc::{AllocError, Global};
 
-/// The device name that the kernel prints for a vif without a device.
-pub(crate) const NO_DEVICE: &[u8] = b"none";
-
 /// A device's name, such as `eth1`, escaped as `ShownDeviceName` writes it.
 pub(crate) fn device_name(alloc: Global, name: &[u8]) -> Result<String, AllocError>
     ensures { IfOk result (λ text. string_bytes text ≡ device_name_text name.now) }

@@ -3,11 +3,9 @@
 ghost use Rattle.std.specs.Prelude.{◌≡◌, ◌++◌, IfOk, OnOk, flat_map};
 ghost use Rattle.std.specs.String.{string_bytes};
 ghost use Rattle.serde_json.specs.View.{view as data_of};
-ghost use Rattle.mc_explain.specs.ExcludedText.{excluded_routers};
-ghost use Rattle.mc_explain.specs.SearchLine.{is_excluded};
 ghost use Rattle.mc_json.specs.EndData.{summary_data, unlisted_data, unlisted_line, unlisted_lines};
 ghost use Rattle.mc_json.specs.EndData.{unlisted_more_line, verdict_data, verdict_word, without_data};
-ghost use Rattle.mc_json.specs.EndData.{without_line};
+ghost use Rattle.mc_json.specs.EndData.{without_line_of};
 ghost use Rattle.mc_json.specs.RowData.{line_of};
 
 use crate::fields::Fields;
@@ -115,40 +113,7 @@ fn without_value(
         .object()
 }
 
-/// Whether a router is marked as excluded. Routers without a mark aren't.
-fn is_excluded(excluded: &[bool], router: RouterNo) -> bool
-    ensures { result ≡ is_excluded excluded.now router }
-{
-    match excluded.get(router.0 as usize) {
-        Some(mark) => *mark,
-        None => false,
-    }
-}
-
-/// The routers that are marked as excluded, in the topology's order. Routers without a mark aren't.
-///
-/// # Errors
-///
-/// `AllocError` if an allocation fails.
-pub fn list_excluded_routers(
-    alloc: Global,
-    topology: &Topology,
-    excluded: &[bool],
-) -> Result<Vec<RouterNo>, AllocError>
-    ensures { IfOk result (λ routers. routers.items ≡ excluded_routers topology.now excluded.now) }
-{
-    let mut routers = Vec::new(alloc);
-    for number in 0..topology.routers() {
-        let router = RouterNo(number);
-        if is_excluded(excluded, router) {
-            routers.push(router)?;
-        }
-    }
-    Ok(routers)
-}
-
-/// Writes the line of the excluded routers, or nothing if there are none. `excluded` has a mark for each
-/// router, in the topology's order.
+/// Writes the line of the excluded routers, or nothing if there are none.
 ///
 /// # Errors
 ///
@@ -157,16 +122,15 @@ pub fn push_without_line(
     alloc: Global,
     text: &mut String,
     topology: &Topology,
-    excluded: &[bool],
+    routers: &[RouterNo],
 ) -> Result<(), Memory>
-    ensures line { OnOk result (string_bytes text.new ≡
-        string_bytes text.old ++ without_line topology.now excluded.now) }
+    ensures { OnOk result (string_bytes text.new ≡
+        string_bytes text.old ++ without_line_of topology.now routers.now) }
 {
-    let routers = list_excluded_routers(alloc, topology, excluded)?;
     if routers.is_empty() {
         return Ok(());
     }
-    let value = without_value(alloc, topology, &routers)?;
+    let value = without_value(alloc, topology, routers)?;
     push_line(alloc, text, &value)?;
     Ok(())
 }

@@ -1,28 +1,23 @@
 //! The report of an audit as JSON, one object a line.
 #![tactic(auto)]
 
-mod cause_value;
 mod device_value;
 mod domain_line;
 mod end_lines;
+mod fact_value;
 mod fields;
 mod flow_fields;
 mod found_value;
 mod laws;
 mod line;
-mod line_context;
+mod line_values;
 mod name_values;
 mod right_line;
 mod row_value;
-mod search_value;
-mod wanted;
 mod wrong_line;
 
 pub use domain_line::push_domain_line;
-pub use end_lines::{
-    list_excluded_routers, push_summary_line, push_unlisted_lines, push_verdict_line,
-    push_without_line,
-};
+pub use end_lines::{push_summary_line, push_unlisted_lines, push_verdict_line, push_without_line};
 pub use laws::{each_line_is_an_object, the_verdict_is_a_line};
 pub use right_line::{push_right_line, push_tree_line};
-pub use wrong_line::{push_missed_line, push_wrong_line};
+pub use wrong_line::push_wrong_line;

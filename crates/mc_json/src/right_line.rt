@@ -4,22 +4,20 @@ ghost use Rattle.std.specs.Prelude.{◌≡◌, ◌<◌, ◌++◌, IfOk, OnOk, co
 ghost use Rattle.std.specs.String.{string_bytes};
 ghost use Rattle.serde_json.specs.Data.{Members, put as with_member};
 ghost use Rattle.serde_json.specs.View.{view as data_of};
-ghost use Rattle.mc_forward.specs.ListedTables.{facts};
-ghost use Rattle.mc_explain.specs.ExplanationText.{ForListedFlow};
+ghost use Rattle.mc_topology.specs.Topology.{flow_at};
+ghost use Rattle.mc_json.specs.RowData.{lan_data};
 ghost use Rattle.mc_json.specs.ObjectLines.{HasMembers};
 ghost use Rattle.mc_json.specs.FlowData.{reached_data, right_data, right_mark, sender_router};
-ghost use Rattle.mc_json.specs.FlowData.{sender_vif, tree_data, wanted_data};
+ghost use Rattle.mc_json.specs.FlowData.{sender_vif, tree_data};
 ghost use Rattle.mc_json.specs.RowData.{line_of};
 
 use crate::fields::Fields;
 use crate::flow_fields::flow_fields;
 use crate::line::push_line;
 use crate::name_values::lan_names;
-use crate::wanted::lans_wanting;
 use mc_cert::Reached;
-use mc_forward::{Domain, FlowView};
 use mc_text::Memory;
-use mc_topology::{Flow, RouterNo, Topology};
+use mc_topology::{Flow, LanNo, RouterNo, Topology};
 use serde_json::Value;
 use std::alloc::{AllocError, Global};
 
@@ -131,15 +129,6 @@ fn right_value(
         .object()
 }
 
-/// The names of the LANs that want a flow.
-fn wanted_values(alloc: Global, view: &FlowView<'_>) -> Result<Vec<Value>, AllocError>
-    ensures { IfOk result (λ values. map data_of values.items
-        ≡ wanted_data (facts view.now.domain) view.now.flow) }
-{
-    let lans = lans_wanting(alloc, view)?;
-    lan_names(alloc, view.topology(), &lans)
-}
-
 /// Writes the line of a flow without a fault: that it is right, if the `whole` domain is known, how many
 /// LANs carry a copy of its packet, the number of its tree, and the LANs that want it. `flow` counts
 /// from 0.
@@ -150,20 +139,20 @@ fn wanted_values(alloc: Global, view: &FlowView<'_>) -> Result<Vec<Value>, Alloc
 pub fn push_right_line(
     alloc: Global,
     text: &mut String,
-    domain: &Domain,
+    topology: &Topology,
     whole: bool,
     flow: u32,
     copies: usize,
     tree: u32,
+    wanted: &[LanNo],
 ) -> Result<(), Memory>
-    requires flow { flow < length domain.now.topology.flows }
-    ensures line { OnOk result (ForListedFlow domain.now flow (λ f.
-        string_bytes text.new ≡ string_bytes text.old
-        ++ line_of (right_data whole flow f copies tree (wanted_data (facts domain.now) flow)))) }
+    requires flow { flow < length topology.now.flows }
+    ensures line { OnOk result (string_bytes text.new ≡ string_bytes text.old
+        ++ line_of (right_data whole flow (flow_at topology.now flow) copies tree
+        (map (lan_data topology.now) wanted.now))) }
 {
-    let view = FlowView::new(domain, flow);
-    let listed = domain.topology().flow(flow);
-    let wanted = wanted_values(alloc, &view)?;
+    let wanted = lan_names(alloc, topology, wanted)?;
+    let listed = topology.flow(flow);
     let value = right_value(alloc, whole, flow, listed, copies, tree, wanted)?;
     push_line(alloc, text, &value)?;
     Ok(())

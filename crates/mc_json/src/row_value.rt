@@ -3,20 +3,21 @@
 ghost use Rattle.std.specs.Prelude.{◌≡◌, IfOk, map};
 ghost use Rattle.std.specs.String.{string_bytes};
 ghost use Rattle.serde_json.specs.View.{view as data_of};
-ghost use Rattle.mc_topology.specs.declared.flow.Flow.{Flow};
+ghost use Rattle.mc_topology.specs.Topology.{flow_at};
 ghost use Rattle.mc_forward.specs.Domains.{oif_pairs};
 ghost use Rattle.mc_forward.specs.FlightsInDomain.{net_in};
 ghost use Rattle.mc_forward.specs.ListedTables.{facts};
 ghost use Rattle.mc_explain.specs.EverySourceText.{every_source_of};
 ghost use Rattle.mc_explain.specs.RowText.{address_text};
-ghost use Rattle.mc_json.specs.RowData.{entry_data, every_source_data, oif_data, row_data};
+ghost use Rattle.mc_json.specs.RowData.{incoming_device, incoming_vif};
+ghost use Rattle.mc_json.specs.RowData.{entry_data, every_source_data, flow_row_data, oif_data};
 
 use crate::device_value::device_value;
 use crate::fields::Fields;
 use mc_forward::{FlowView, RowFor};
 use mc_tables::{CacheSummary, Entry, Oif};
 use mc_text::Addr;
-use mc_topology::{Flow, RouterNo};
+use mc_topology::RouterNo;
 use serde_json::Value;
 use std::alloc::{AllocError, Global};
 
@@ -102,14 +103,14 @@ fn entry_value(
 pub(crate) fn row_value(
     alloc: Global,
     view: &FlowView<'_>,
-    flow: &Flow,
     router: RouterNo,
 ) -> Result<Value, AllocError>
-    ensures { IfOk result (λ value. data_of value ≡ row_data (facts view.now.domain) flow.now router
-        ((net_in view.now).row router)) }
+    ensures { IfOk result (λ value. data_of value
+        ≡ flow_row_data (facts view.now.domain) view.now.flow router) }
 {
     match view.row(router) {
         RowFor::Exact(entry) => {
+            let flow = view.flow();
             let key = RowKey {
                 router,
                 source: flow.source,
@@ -135,19 +136,18 @@ fn row_for_every_source<'n>(
     }
 }
 
-/// A router's row for every source: that of the group, or else that of the group 0.0.0.0. Null if the
+/// A router's row for every source: that of the flow's group, or else that of the group 0.0.0.0. Null if the
 /// summary of its cache has none.
 pub(crate) fn every_source_value(
     alloc: Global,
     view: &FlowView<'_>,
     summary: &[CacheSummary],
-    group: Addr,
     router: RouterNo,
 ) -> Result<Value, AllocError>
     ensures { IfOk result (λ value. data_of value ≡ every_source_data (facts view.now.domain)
-        summary.now group router) }
+        summary.now (flow_at view.now.domain.topology view.now.flow).group router) }
 {
-    match row_for_every_source(summary, group, router) {
+    match row_for_every_source(summary, view.flow().group, router) {
         Some(row) => {
             let (every, entry) = row;
             let key = RowKey {
@@ -158,5 +158,30 @@ pub(crate) fn every_source_value(
             entry_value(alloc, view, key, entry.iif, entry.oifs)
         }
         None => Ok(Value::Null),
+    }
+}
+
+/// The incoming vif of a router's row for a flow, or null if it has no row of the flow's source and group.
+pub(crate) fn incoming_vif(view: &FlowView<'_>, router: RouterNo) -> Value
+    ensures { data_of result ≡ incoming_vif ((net_in view.now).row router) }
+{
+    match view.row(router) {
+        RowFor::Exact(entry) => Value::from(entry.iif),
+        RowFor::Open | RowFor::NoRow => Value::Null,
+    }
+}
+
+/// The device of that vif, or null if there is none.
+pub(crate) fn incoming_device(
+    alloc: Global,
+    view: &FlowView<'_>,
+    router: RouterNo,
+) -> Result<Value, AllocError>
+    ensures { IfOk result (λ value. data_of value ≡ incoming_device (facts view.now.domain) router
+        ((net_in view.now).row router)) }
+{
+    match view.row(router) {
+        RowFor::Exact(entry) => device_value(alloc, view, router, entry.iif),
+        RowFor::Open | RowFor::NoRow => Ok(Value::Null),
     }
 }

@@ -31,11 +31,12 @@ pub(crate) fn record_first_copies(
     second
 }
 
-/// The router and vif that sent the first copy on a LAN; none if the source did, or there is no copy.
-pub(crate) fn sender_on(firsts: &PerLan<CarriedCopy>, lan: LanNo) -> Option<(RouterNo, u8)>
-    ensures { result ≡ option_and_then (λ c. c.sender) (item_on_lan firsts.now lan) }
+/// The router and the vif that sent the first copy onto a LAN. None for the source, and where there is no
+/// copy.
+pub fn sender_on(first_copies: &PerLan<CarriedCopy>, lan: LanNo) -> Option<(RouterNo, u8)>
+    ensures { result ≡ option_and_then (λ c. c.sender) (item_on_lan first_copies.now lan) }
 {
-    match firsts.on(lan) {
+    match first_copies.on(lan) {
         Some(first) => first.sender,
         None => None,
     }

@@ -10,6 +10,7 @@ mod shown;
 mod travel;
 
 pub use finding::Finding;
+pub use first_copies::sender_on;
 pub use picker::{First, Last, Numbers, Picker};
 pub use shown::{ShownEvent, ShownFinding, shown_event};
 pub use travel::{FinishedTravel, Travel, replay, replay_to_end};

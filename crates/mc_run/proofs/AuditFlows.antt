@@ -6,8 +6,6 @@ use Rattle.std.proofs.Common.{subst, ◌∙◌, arith}
 use Rattle.std.proofs.Common.{append_assoc, append-nil, length-append}
 use Rattle.std.specs.Prelude.{◌&&◌, ◌==◌, not, cond, filter, flat_map, fold, IfOk, OnOk, slice_get}
 use Rattle.std.specs.Prelude.{take}
-use Rattle.std.specs.Prelude.{option_map, unwrap_or}
-use Rattle.mc_topology.specs.declared.flow.Flow.{Flow}
 use Rattle.std.specs.Result.{IsOkAnd}
 use Rattle.std.proofs.lemmas.List.Sums.{fold-append}
 use Rattle.std.proofs.lemmas.Bool.{false≢true, ne_eqb}
@@ -18,8 +16,8 @@ use Rattle.mc_check.specs.Verdicts.{YesCountsEntries, YesIffAccepted, YesKeepsHe
 use Rattle.mc_check.specs.declared.verdict.Verdict.{Verdict}
 use Rattle.mc_check.specs.declared.verdict.Verdict.TheVariants.{Yes, No}
 use Rattle.mc_forward.specs.Domains.{DomainValue, net_of, ttl_of}
+use Rattle.mc_forward.specs.FlightsInDomain.{FlowOfDomain, net_in}
 use Rattle.mc_forward.specs.ListedTables.{facts}
-use Rattle.mc_forward.proofs.IndexLemmas.{slice_get-exists}
 use Rattle.mc_cert.specs.declared.reached.Reached.{Reached}
 use Rattle.mc_cert.specs.Certificate.{Tree}
 use Rattle.mc_cert.proofs.DistinctLemmas.{length-with_tree}
@@ -98,8 +96,7 @@ pub is_flow_pushed-right : {X : Type 0} (v : AuditedValue) (o : AuditOptions) (f
     → OnOk r (new_printed ≡ with_shown_tree o.json (is_hidden o.faults
     (lans_wanting (facts v.domain) flow)) printed
     seen)
-    → OnOk r ((f : Flow) → slice_get v.domain.topology.flows flow ≡ Some f
-    → new ≡ old ++ right_flow_lines o (is_whole v) v.domain.topology printed flow f seen
+    → OnOk r (new ≡ old ++ right_flow_lines o (is_whole v) v.domain.topology printed flow seen
     (lans_wanting (facts v.domain) flow))
     → IfOk r (λ s. IsFlowPushed v o flow s printed new_printed old new)
 is_flow_pushed-right v o flow (Err e) x entries seen printed new_printed old new lt has_flights is
@@ -110,17 +107,15 @@ is_flow_pushed-right v o flow (Ok s) x entries seen printed new_printed old new 
     shown_trees puts =
     let n = net_of v.domain flow in
     let wanted = lans_wanting (facts v.domain) flow in
-    let f = slice_get-exists v.domain.topology.flows flow lt in
     let certified : Examined = examined.Certified entries in
     let so : without_flights v.domain flow x ≡ certified = ap (without_flights v.domain flow) same in
-    let lines = right_flow_lines o (is_whole v) v.domain.topology printed flow f.0 entries.items wanted in
+    let lines = right_flow_lines o (is_whole v) v.domain.topology printed flow entries.items wanted in
     record {
       answer = record { examined = certified; wanted = wanted; lines = lines };
       is = record {
-        listed = f.0;
         flights = x;
         explanation = explanation-none;
-        matches = f.1;
+        listed = lt;
         has_flights = has_flights;
         examined = sym so;
         checked = record {
@@ -139,9 +134,8 @@ is_flow_pushed-right v o flow (Ok s) x entries seen printed new_printed old new 
       };
       matches = matches;
       shown_trees = shown_trees ∙ ap (with_shown_tree o.json (is_hidden o.faults wanted) printed) list;
-      spelled = puts f.0 f.1
-          ∙ ap (λ (es : Tree). old
-          ++ right_flow_lines o (is_whole v) v.domain.topology printed flow f.0 es wanted) list;
+      spelled = puts ∙ ap (λ (es : Tree). old
+          ++ right_flow_lines o (is_whole v) v.domain.topology printed flow es wanted) list;
     }
 
 -- or a fault was found, by a travel with this explanation
@@ -149,27 +143,23 @@ pub is_flow_pushed-wrong : (v : AuditedValue) (o : AuditOptions) (flow : ℕ) (x
     (travel : Travel) (e : Explanation) (old new : List ℕ)
     → flow < length v.domain.topology.flows → HasExaminedFlights v.domain flow x
     → IsExamined v.domain flow (without_flights v.domain flow x)
-    → ((f : Flow) → slice_get v.domain.topology.flows flow ≡ Some f
-    → without_flights v.domain flow x ≡ examined.Found ttl travel)
+    → without_flights v.domain flow x ≡ examined.Found ttl travel
     → IsExplanation v.domain v.summary (excluded v) (is_whole v) flow x e
-    → ((f : Flow) → slice_get v.domain.topology.flows flow ≡ Some f
-    → new ≡ old ++ wrong_flow_lines o (facts v.domain) v.summary flow f ttl travel e)
+    → new ≡ old ++ wrong_flow_lines o (facts v.domain) v.summary flow ttl travel e
     → (shown_trees : List Tree) → IsFlowPushed v o flow Wrong shown_trees shown_trees old new
 is_flow_pushed-wrong v o flow x ttl travel e old new lt has_flights is so explained puts shown_trees =
-    let f = slice_get-exists v.domain.topology.flows flow lt in
     let is_found : Examined = examined.Found ttl travel in
-    let same : without_flights v.domain flow x ≡ is_found = so f.0 f.1 in
+    let same : without_flights v.domain flow x ≡ is_found = so in
     record {
       answer = record {
         examined = is_found;
         wanted = lans_wanting (facts v.domain) flow;
-        lines = wrong_flow_lines o (facts v.domain) v.summary flow f.0 ttl travel e;
+        lines = wrong_flow_lines o (facts v.domain) v.summary flow ttl travel e;
       };
       is = record {
-        listed = f.0;
         flights = x;
         explanation = e;
-        matches = f.1;
+        listed = lt;
         has_flights = has_flights;
         examined = sym same;
         checked = record {
@@ -182,21 +172,19 @@ is_flow_pushed-wrong v o flow x ttl travel e old new lt has_flights is so explai
       };
       matches = refl;
       shown_trees = refl;
-      spelled = puts f.0 f.1;
+      spelled = puts;
     }
 
--- lines that were written for printed trees in one form are written for them in the other
+-- lines that were written for causes in one form are written for them in the other
 pub wrong_flow_lines-same_causes : (v : AuditedValue) (o : AuditOptions) (flow ttl : ℕ)
-    (ended : FinishedTravel)
-    (seen printed : List Cause) (found : Option LanSearch) (old new : List ℕ) → seen ≡ printed
-    → ((f : Flow) → slice_get v.domain.topology.flows flow ≡ Some f
-    → new ≡ old ++ wrong_flow_lines o (facts v.domain) v.summary flow f ttl ended.travel
-    (explanation_in ended seen found))
-    → (f : Flow) → slice_get v.domain.topology.flows flow ≡ Some f
-    → new ≡ old ++ wrong_flow_lines o (facts v.domain) v.summary flow f ttl ended.travel
+    (ended : FinishedTravel) (seen printed : List Cause) (found : Option LanSearch) (old new : List ℕ)
+    → seen ≡ printed
+    → new ≡ old ++ wrong_flow_lines o (facts v.domain) v.summary flow ttl ended.travel
+    (explanation_in ended seen found)
+    → new ≡ old ++ wrong_flow_lines o (facts v.domain) v.summary flow ttl ended.travel
     (explanation_in ended printed found)
-wrong_flow_lines-same_causes v o flow ttl ended seen printed found old new same puts f at =
-    puts f at ∙ ap (λ (ts : List Cause). old ++ wrong_flow_lines o (facts v.domain) v.summary flow f ttl
+wrong_flow_lines-same_causes v o flow ttl ended seen printed found old new same puts =
+    puts ∙ ap (λ (ts : List Cause). old ++ wrong_flow_lines o (facts v.domain) v.summary flow ttl
     ended.travel (explanation_in ended ts found)) same
 
 -- whichever trees were printed before
@@ -208,13 +196,13 @@ pub is_flow_pushed-any_shown_trees : {X : Type 0} (v : AuditedValue) (o : AuditO
 is_flow_pushed-any_shown_trees v o flow (Err e) old new shown_trees is = tt
 is_flow_pushed-any_shown_trees v o flow (Ok s) old new shown_trees is = is shown_trees
 
--- the flow's TTL, as the topology lists it
-pub found-listed_ttl : (d : DomainValue) (flow : ℕ) (f : Flow) (travel : Travel)
-    → slice_get d.topology.flows flow ≡ Some f
-    → (let x : Examined = examined.Found (ttl_of d flow) travel in x) ≡ examined.Found f.ttl travel
-found-listed_ttl d flow f travel here =
-    ap (λ (o : Option Flow). (let x : Examined =
-    examined.Found (unwrap_or (option_map (λ g. g.ttl) o) 0) travel in x)) here
+-- the flow's TTL, as its view has it
+pub found-ttl_of_view : (d : DomainValue) (flow ttl : ℕ) (view : FlowOfDomain) (travel : Travel)
+    → view ≡ record { domain = d; flow = flow } → ttl ≡ (net_in view).ttl
+    → (let x : Examined = examined.Found (ttl_of d flow) travel in x) ≡ examined.Found ttl travel
+found-ttl_of_view d flow ttl view travel is same =
+    ap (λ (n : ℕ). (let x : Examined = examined.Found n travel in x))
+    (sym (same ∙ ap (λ (w : FlowOfDomain). (net_in w).ttl) is))
 
 -- ---- flow by flow
 

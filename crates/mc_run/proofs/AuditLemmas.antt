@@ -10,7 +10,7 @@ use Rattle.std.specs.String.{string_bytes}
 use Rattle.std.proofs.lemmas.Bool.{false≢true, ne_eqb}
 use Rattle.std.proofs.lemmas.List.{length-map}
 use Rattle.mc_files.specs.Files.{FileText}
-use Rattle.mc_topology.specs.declared.flow.Flow.{Flow}
+use Rattle.mc_topology.specs.Topology.{flow_at}
 use Rattle.mc_theory.specs.Certificates.{IsRight}
 use Rattle.mc_theory.specs.Headline.{HeadlineHolds}
 use Rattle.mc_forward.specs.Domains.{DomainValue, net_of}
@@ -146,61 +146,55 @@ audit_text-split_at_lines v o all written a =
     ∙ ap (λ b. begin ++ (flat_map (λ ls. ls) (map (λ c. c.lines) a.answers) ++ end b)) (sym a.answer)
 
 -- what holds of each flow's answer holds of the lines at the flow's place
-pub each_answer-each_lines : (P : ℕ → Flow → List ℕ → Type 0) (v : AuditedValue) (o : AuditOptions)
+pub each_answer-each_lines : (P : ℕ → List ℕ → Type 0) (v : AuditedValue) (o : AuditOptions)
     (answers : List FlowAnswer) → AreFlowAnswers v o answers
-    → ((printed : List Tree) (flow : ℕ) (a : FlowAnswer) (is : IsFlowAnswer v o printed flow a)
-    → P flow is.listed a.lines)
-    → (flow : ℕ) (f : Flow) (ls : List ℕ) → slice_get v.domain.topology.flows flow ≡ Some f
-    → slice_get (map (λ a. a.lines) answers) flow ≡ Some ls → P flow f ls
-each_answer-each_lines P v o answers are holds flow f ls listed printed =
+    → ((printed : List Tree) (flow : ℕ) (a : FlowAnswer) → IsFlowAnswer v o printed flow a → P flow a.lines)
+    → (flow : ℕ) (ls : List ℕ) → slice_get (map (λ a. a.lines) answers) flow ≡ Some ls → P flow ls
+each_answer-each_lines P v o answers are holds flow ls printed =
     let here = slice_get-map (λ (a : FlowAnswer). a.lines) answers flow ls printed in
-    let is = are.each flow here.0 here.1 in
-    let matches = is.matches in
-    let same : is.listed ≡ f = cc in
-    subst (λ (g : Flow). P flow g ls) same
-    (subst (λ (xs : List ℕ). P flow is.listed xs) here.2
-    (holds (trees_shown o (take flow answers)) flow here.0 is))
+    subst (λ (xs : List ℕ). P flow xs) here.2
+    (holds (trees_shown o (take flow answers)) flow here.0 (are.each flow here.0 here.1))
 
 -- the lines of a flow that isn't right start so
 wrong_flow_lines-say_no_certificate : (o : AuditOptions) (d : DomainFacts)
-    (summary : List SummaryValue) (flow : ℕ) (f : Flow)
-    (ttl : ℕ) (travel : Travel) (e : Explanation) (lines : List ℕ)
-    → lines ≡ wrong_flow_lines o d summary flow f ttl travel e → SaysNoCertificate o.json flow f lines
-wrong_flow_lines-say_no_certificate o d summary flow f ttl travel e lines is = by o.json is
+    (summary : List SummaryValue) (flow ttl : ℕ) (travel : Travel) (e : Explanation) (lines : List ℕ)
+    → lines ≡ wrong_flow_lines o d summary flow ttl travel e → SaysNoCertificate o.json d.topology flow lines
+wrong_flow_lines-say_no_certificate o d summary flow ttl travel e lines is = by o.json is
   where
-    by : (json : Bool) → lines ≡ wrong_lines_or_object json o.travels d summary flow f ttl travel e
-        → SaysNoCertificate json flow f lines
+    by : (json : Bool) → lines ≡ wrong_lines_or_object json o.travels d summary flow ttl travel e
+        → SaysNoCertificate json d.topology flow lines
     by true is = (
       wrong_flow_of d.topology ttl travel.finding travel.events.items e.also
-          (why_data d summary flow f e.printed e.search) o.travels,
+          (why_data d summary flow e.printed e.search) o.travels,
       is,
     )
     by false is = (
       found_line d.topology ttl travel.finding
-          ++ (explanation_lines d summary flow f e ++ events_if_shown o.travels d.topology travel),
-      is ∙ append_assoc (no_certificate_line f) (found_line d.topology ttl travel.finding)
-          (explanation_lines d summary flow f e ++ events_if_shown o.travels d.topology travel),
+          ++ (explanation_lines d summary flow e ++ events_if_shown o.travels d.topology travel),
+      is ∙ append_assoc (no_certificate_line (flow_at d.topology flow))
+          (found_line d.topology ttl travel.finding)
+          (explanation_lines d summary flow e ++ events_if_shown o.travels d.topology travel),
     )
 
 says_flow_right-answer_lines : (v : AuditedValue) (o : AuditOptions) (printed : List Tree)
-    (flow : ℕ) (f : Flow)
+    (flow : ℕ)
     (x : Examined) (e : Explanation) (wanted lines : List ℕ)
     → (IsTrue (is_certified x) ↔ IsRight (net_of v.domain flow))
     → wanted ≡ lans_wanting (facts v.domain) flow
-    → lines ≡ answer_lines o (is_whole v) (facts v.domain) v.summary printed flow f x e wanted
-    → SaysFlowRight v o flow f lines
-says_flow_right-answer_lines v o printed flow f (Certified entries) e wanted lines right wants is = record {
+    → lines ≡ answer_lines o (is_whole v) (facts v.domain) v.summary printed flow x e wanted
+    → SaysFlowRight v o flow lines
+says_flow_right-answer_lines v o printed flow (Certified entries) e wanted lines right wants is = record {
   right = λ _. (
     printed,
     entries.items,
     is ∙ ap (λ (w : List ℕ).
-        right_flow_lines o (is_whole v) v.domain.topology printed flow f entries.items w) wants,
+        right_flow_lines o (is_whole v) v.domain.topology printed flow entries.items w) wants,
   );
   wrong = λ not. absurd (not (right.0 refl));
 }
-says_flow_right-answer_lines v o printed flow f (Found ttl travel) e wanted lines right wants is = record {
+says_flow_right-answer_lines v o printed flow (Found ttl travel) e wanted lines right wants is = record {
   right = λ so. absurd (false≢true (right.1 so));
-  wrong = λ _. wrong_flow_lines-say_no_certificate o (facts v.domain) v.summary flow f ttl travel e lines is;
+  wrong = λ _. wrong_flow_lines-say_no_certificate o (facts v.domain) v.summary flow ttl travel e lines is;
 }
 
 -- each flow's lines say whether it is right, and the answer whether all flows are
@@ -216,10 +210,9 @@ writes_which_are_right-audited v o all written a =
       end = end_lines o d.topology v.summary (excluded v) all answers;
       right = are_right answers;
       count = length-map answers (λ (b : FlowAnswer). b.lines) ∙ are.count;
-      each = each_answer-each_lines (λ flow f ls. SaysFlowRight v o flow f ls) v o answers are
-          (λ printed flow b is. says_flow_right-answer_lines v o printed flow is.listed b.examined
-          is.explanation b.wanted
-          b.lines is.checked.examined.right is.wanted is.spelled);
+      each = each_answer-each_lines (λ flow ls. SaysFlowRight v o flow ls) v o answers are
+          (λ printed flow b is. says_flow_right-answer_lines v o printed flow b.examined
+          is.explanation b.wanted b.lines is.checked.examined.right is.wanted is.spelled);
       spelled = audit_text-split_at_lines v o all written a;
       are_right = subst (AreRight d) (are_right-examinations answers)
           (are_certified-are_right d (examinations_of answers) (are_examined-answers v o answers are));
@@ -228,34 +221,34 @@ writes_which_are_right-audited v o all written a =
 
 -- ---- what each flow's lines say
 
-pub says_yes_of-certified : (v : AuditedValue) (o : AuditOptions) (printed : List Tree) (flow : ℕ) (f : Flow)
+pub says_yes_of-certified : (v : AuditedValue) (o : AuditOptions) (printed : List Tree) (flow : ℕ)
     (entries : Vec Reached Global) (e : Explanation) (wanted lines : List ℕ)
     → IsChecked v.domain flow (Certified entries) → wanted ≡ lans_wanting (facts v.domain) flow
-    → lines ≡ answer_lines o (is_whole v) (facts v.domain) v.summary printed flow f (Certified entries) e
+    → lines ≡ answer_lines o (is_whole v) (facts v.domain) v.summary printed flow (Certified entries) e
     wanted
-    → SaysYesOf v o flow f lines
-says_yes_of-certified v o printed flow f entries e wanted lines checked wants is = record {
+    → SaysYesOf v o flow lines
+says_yes_of-certified v o printed flow entries e wanted lines checked wants is = record {
   list = entries.items;
   printed = printed;
   right = checked.examined.right.0 refl;
   accepted = checked.examined.accepted;
   headline = checked.headline;
   spelled = is ∙ ap (λ (w : List ℕ).
-      right_flow_lines o (is_whole v) v.domain.topology printed flow f entries.items w) wants;
+      right_flow_lines o (is_whole v) v.domain.topology printed flow entries.items w) wants;
 }
 
 says_yes_or_found-answer_lines : (v : AuditedValue) (o : AuditOptions) (printed : List Tree)
-    (flow : ℕ) (f : Flow) (x : Examined)
+    (flow : ℕ) (x : Examined)
     (flights : ExaminedFlights) (e : Explanation) (wanted lines : List ℕ)
     → HasExaminedFlights v.domain flow flights
     → IsChecked v.domain flow x → IsExplanation v.domain v.summary (excluded v) (is_whole v) flow flights e
     → wanted ≡ lans_wanting (facts v.domain) flow
-    → lines ≡ answer_lines o (is_whole v) (facts v.domain) v.summary printed flow f x e wanted
-    → SaysYesOf v o flow f lines ⊎ SaysWhatIsFound v o flow f lines
-says_yes_or_found-answer_lines v o printed flow f (Certified entries) flights e wanted lines
+    → lines ≡ answer_lines o (is_whole v) (facts v.domain) v.summary printed flow x e wanted
+    → SaysYesOf v o flow lines ⊎ SaysWhatIsFound v o flow lines
+says_yes_or_found-answer_lines v o printed flow (Certified entries) flights e wanted lines
     has_flights checked explained wants is =
-    inl (says_yes_of-certified v o printed flow f entries e wanted lines checked wants is)
-says_yes_or_found-answer_lines v o printed flow f (Found ttl travel) flights e wanted lines
+    inl (says_yes_of-certified v o printed flow entries e wanted lines checked wants is)
+says_yes_or_found-answer_lines v o printed flow (Found ttl travel) flights e wanted lines
     has_flights checked explained wants is =
     inr (record {
       ttl = ttl;
@@ -282,9 +275,8 @@ writes_of_each-audited v o all written a =
       lines = map (λ b. b.lines) answers;
       end = end_lines o v.domain.topology v.summary (excluded v) all answers;
       count = length-map answers (λ (b : FlowAnswer). b.lines) ∙ are.count;
-      each = each_answer-each_lines (λ flow f ls. SaysYesOf v o flow f ls ⊎ SaysWhatIsFound v o flow
-          f ls) v o answers
-          are (λ printed flow b is. says_yes_or_found-answer_lines v o printed flow is.listed
+      each = each_answer-each_lines (λ flow ls. SaysYesOf v o flow ls ⊎ SaysWhatIsFound v o flow ls) v o
+          answers are (λ printed flow b is. says_yes_or_found-answer_lines v o printed flow
           b.examined is.flights is.explanation
           b.wanted b.lines is.has_flights is.checked is.explained is.wanted is.spelled);
       spelled = audit_text-split_at_lines v o all written a;

@@ -5,7 +5,7 @@ use Rattle.std.specs.Prelude.{◌==◌, ◌&&◌, not, codes, slice_index, slice
 use Rattle.std.specs.Prelude.{map, take}
 use Rattle.mc_text.proofs.BundleWords.{HasNoByte}
 use Rattle.mc_topology.specs.declared.flow.Flow.{Flow}
-use Rattle.mc_topology.specs.Topology.{TopologyValue, IsValidTopology, router_name}
+use Rattle.mc_topology.specs.Topology.{TopologyValue, IsValidTopology, flow_at, router_name}
 use Rattle.mc_theory.specs.Events.{Event, Outcome}
 use Rattle.mc_theory.specs.Events.Outcome.{Open, NoRow, OtherVif, Sent}
 use Rattle.mc_cert.specs.Certificate.{Tree}
@@ -20,7 +20,7 @@ use Rattle.mc_maker.specs.declared.examination.Examined.{Examined}
 use Rattle.mc_maker.specs.declared.examination.Examined.TheVariants.{Certified, Found}
 use Rattle.mc_tables.specs.Summary.{SummaryValue}
 use Rattle.mc_forward.specs.ListedTables.{DomainFacts, facts}
-use Rattle.mc_explain.specs.ExplanationText.{causes_text}
+use Rattle.mc_lines.specs.ExplanationText.{causes_text}
 use Rattle.mc_explain.specs.Indented.{AreIndented, HasNoLineFeed, indented}
 use Rattle.mc_explain.specs.ExcludedText.{IsWithoutLine, excluded_text, without_text}
 use Rattle.mc_theory.specs.Lists.{In}
@@ -28,17 +28,18 @@ use Rattle.mc_explain.specs.UnlistedLines.{AreLines, IsUnlistedLine, with_line_f
 use Rattle.mc_explain.specs.UnlistedText.{unlisted_text}
 use Rattle.mc_explain.specs.WantedText.{also_missed_text, wanted_text}
 use Rattle.mc_explain.specs.declared.searching.LanSearch.{LanSearch}
-use Rattle.mc_explain.proofs.ExplanationLemmas.{are_indented-also_missed_text}
-use Rattle.mc_explain.proofs.ExplanationLemmas.{are_indented-causes_text, are_indented-wanted_text}
+use Rattle.mc_explain.proofs.NameListLemmas.{are_indented-also_missed_text}
+use Rattle.mc_explain.proofs.NameListLemmas.{are_indented-wanted_text}
+use Rattle.mc_lines.proofs.IndentedLemmas.{are_indented-causes_text}
 use Rattle.mc_explain.proofs.ExcludedLemmas.{are_indented-excluded_text, are_without_lines-without_text}
 use Rattle.mc_explain.proofs.UnlistedLineLemmas.{are_unlisted_lines-unlisted_text}
-use Rattle.mc_explain.proofs.SearchLineLemmas.{are_indented-search_text}
+use Rattle.mc_lines.proofs.IndentedLemmas.{are_indented-search_text}
 use Rattle.mc_json.specs.DomainData.{domain_data}
 use Rattle.mc_json.specs.EndData.{summary_data, unlisted_lines, without_line}
 use Rattle.mc_json.specs.FlowData.{tree_data}
 use Rattle.mc_json.specs.ObjectLines.{AreObjectLines, BeginsObject, IsNotVerdict}
 use Rattle.mc_json.specs.RowData.{line_of}
-use Rattle.mc_json.specs.CauseData.{lan_data}
+use Rattle.mc_json.specs.RowData.{lan_data}
 use Rattle.mc_json.specs.WhyData.{why_data}
 use Rattle.mc_json.proofs.EachLineLemmas.{are_object_lines-domain, are_object_lines-right}
 use Rattle.mc_json.proofs.EachLineLemmas.{are_object_lines-summary, are_object_lines-tree}
@@ -258,60 +259,62 @@ no_yes_line-tree_line t printed es =
     (no_yes_line-objects _ (are_object_lines-tree t es (length printed)))
 
 no_yes_line-right_lines_or_object : (json whole : Bool) (t : TopologyValue) (printed : List Tree)
-    (number : ℕ) (f : Flow)
+    (flow : ℕ)
     (es : Tree) (wanted : List ℕ) → IsValidTopology t
-    → AreLinesWithoutYes (right_lines_or_object json whole t printed number f es wanted)
-no_yes_line-right_lines_or_object true whole t printed number f es wanted ok =
+    → AreLinesWithoutYes (right_lines_or_object json whole t printed flow es wanted)
+no_yes_line-right_lines_or_object true whole t printed flow es wanted ok =
     no_yes_line-append (tree_line t printed es) _ (no_yes_line-tree_line t printed es)
-    (no_yes_line-objects _ (are_object_lines-right whole number f (length es)
+    (no_yes_line-objects _ (are_object_lines-right whole flow (flow_at t flow) (length es)
     (tree_number_of (with_tree printed es) es)
     (map (lan_data t) wanted)))
-no_yes_line-right_lines_or_object false whole t printed number f es wanted ok =
-    no_yes_line-append (right_line whole t f (length es)) (wanted_text t wanted)
-    (no_yes_line-right_line whole t f (length es) ok)
+no_yes_line-right_lines_or_object false whole t printed flow es wanted ok =
+    no_yes_line-append (right_line whole t (flow_at t flow) (length es)) (wanted_text t wanted)
+    (no_yes_line-right_line whole t (flow_at t flow) (length es) ok)
     (no_yes_line-indented_lines (wanted_text t wanted) (are_indented-wanted_text t wanted ok))
 
-no_yes_line-explanation_lines : (d : DomainFacts) (summary : List SummaryValue) (number : ℕ) (f : Flow)
+no_yes_line-explanation_lines : (d : DomainFacts) (summary : List SummaryValue) (flow : ℕ)
     (x : Explanation) → IsValidTopology d.topology → AreLinesWithoutYes
-    (explanation_lines d summary number f x)
-no_yes_line-explanation_lines d summary number f x ok =
-    no_yes_line-append (causes_text d summary number f x.printed) _
-    (no_yes_line-indented_lines _ (are_indented-causes_text d summary number f x.printed ok))
-    (no_yes_line-append (searched_lines d summary number f x.search) (also_missed_text d.topology x.also)
+    (explanation_lines d summary flow x)
+no_yes_line-explanation_lines d summary flow x ok =
+    no_yes_line-append (causes_text d summary flow x.printed) _
+    (no_yes_line-indented_lines _ (are_indented-causes_text d summary flow x.printed ok))
+    (no_yes_line-append (searched_lines d summary flow x.search) (also_missed_text d.topology x.also)
     (searched x.search) (no_yes_line-indented_lines _ (are_indented-also_missed_text d.topology x.also ok)))
   where
-    searched : (s : Option LanSearch) → AreLinesWithoutYes (searched_lines d summary number f s)
+    searched : (s : Option LanSearch) → AreLinesWithoutYes (searched_lines d summary flow s)
     searched None = no_yes_line-no_lines
     searched (Some found) = no_yes_line-indented_lines _
-        (are_indented-search_text d summary number f found.lines.items
+        (are_indented-search_text d summary flow found.lines.items
         found.reach.sent_on.items found.reach.took_none.items ok)
 
 no_yes_line-wrong_lines_or_object : (json travels : Bool) (d : DomainFacts)
-    (summary : List SummaryValue) (number : ℕ) (f : Flow)
+    (summary : List SummaryValue) (flow : ℕ)
     (ttl : ℕ) (travel : Travel) (x : Explanation) → IsValidTopology d.topology
-    → AreLinesWithoutYes (wrong_lines_or_object json travels d summary number f ttl travel x)
-no_yes_line-wrong_lines_or_object true travels d summary number f ttl travel x ok =
-    no_yes_line-objects _ (are_object_lines-wrong d number f ttl travel.finding travel.events.items x.also
-    (why_data d summary number f x.printed x.search) travels)
-no_yes_line-wrong_lines_or_object false travels d summary number f ttl travel x ok =
+    → AreLinesWithoutYes (wrong_lines_or_object json travels d summary flow ttl travel x)
+no_yes_line-wrong_lines_or_object true travels d summary flow ttl travel x ok =
+    no_yes_line-objects _
+    (are_object_lines-wrong d flow (flow_at d.topology flow) ttl travel.finding travel.events.items x.also
+    (why_data d summary flow x.printed x.search) travels)
+no_yes_line-wrong_lines_or_object false travels d summary flow ttl travel x ok =
     let t = d.topology in
+    let f = flow_at t flow in
     no_yes_line-append (found_lines t f ttl travel.finding) _
     (no_yes_line-append (no_certificate_line f) (found_line t ttl travel.finding)
     (no_yes_line-no_certificate_line f)
     (no_yes_line-found_lines t ttl travel.finding ok))
-    (no_yes_line-append (explanation_lines d summary number f x) (events_if_shown travels t travel)
-    (no_yes_line-explanation_lines d summary number f x ok) (no_yes_line-events_if_shown travels t travel ok))
+    (no_yes_line-append (explanation_lines d summary flow x) (events_if_shown travels t travel)
+    (no_yes_line-explanation_lines d summary flow x ok) (no_yes_line-events_if_shown travels t travel ok))
 
 no_yes_line-answer_lines : (o : AuditOptions) (whole : Bool) (d : DomainFacts) (summary : List SummaryValue)
-    (printed : List Tree) (number : ℕ) (f : Flow) (x : Examined) (e : Explanation) (wanted : List ℕ)
+    (printed : List Tree) (flow : ℕ) (x : Examined) (e : Explanation) (wanted : List ℕ)
     → IsValidTopology d.topology
-    → AreLinesWithoutYes (answer_lines o whole d summary printed number f x e wanted)
-no_yes_line-answer_lines o whole d summary printed number f (Certified entries) e wanted ok =
+    → AreLinesWithoutYes (answer_lines o whole d summary printed flow x e wanted)
+no_yes_line-answer_lines o whole d summary printed flow (Certified entries) e wanted ok =
     no_yes_line-if (is_hidden o.faults wanted) []
-    (right_lines_or_object o.json whole d.topology printed number f entries.items wanted) no_yes_line-no_lines
-    (no_yes_line-right_lines_or_object o.json whole d.topology printed number f entries.items wanted ok)
-no_yes_line-answer_lines o whole d summary printed number f (Found ttl travel) e wanted ok =
-    no_yes_line-wrong_lines_or_object o.json o.travels d summary number f ttl travel e ok
+    (right_lines_or_object o.json whole d.topology printed flow entries.items wanted) no_yes_line-no_lines
+    (no_yes_line-right_lines_or_object o.json whole d.topology printed flow entries.items wanted ok)
+no_yes_line-answer_lines o whole d summary printed flow (Found ttl travel) e wanted ok =
+    no_yes_line-wrong_lines_or_object o.json o.travels d summary flow ttl travel e ok
 
 no_yes_line-all_answers : (v : AuditedValue) (o : AuditOptions) (answers : List FlowAnswer)
     → ((flow : ℕ) (a : FlowAnswer) → slice_get answers flow ≡ Some a
@@ -324,7 +327,7 @@ no_yes_line-all_answers v o (a ∷ answers) each ok =
     no_yes_line-append a.lines (flat_map (λ b. b.lines) answers)
     (subst AreLinesWithoutYes (sym is.spelled) (no_yes_line-answer_lines o (is_whole v)
     (facts v.domain) v.summary first.0
-    first.1 is.listed a.examined is.explanation a.wanted ok))
+    first.1 a.examined is.explanation a.wanted ok))
     (no_yes_line-all_answers v o answers (λ flow b at. each (suc flow) b at) ok)
 
 -- ---- after the flows

@@ -2,9 +2,9 @@
 use Rattle.std.proofs.Common.{◌≡◌, ℕ, ◌<◌, Bool, true, false, not, filter, List, ◌++◌, length, Option, Some}
 use Rattle.std.proofs.Common.{None, Result, Ok}
 use Rattle.std.proofs.Common.{Err, refl, sym, ap, subst, ◌∙◌, append_assoc}
-use Rattle.std.specs.Prelude.{OnOk, slice_get}
+use Rattle.std.specs.Prelude.{OnOk}
 use Rattle.mc_topology.specs.declared.flow.Flow.{Flow}
-use Rattle.mc_topology.specs.Topology.{TopologyValue}
+use Rattle.mc_topology.specs.Topology.{TopologyValue, flow_at}
 use Rattle.mc_theory.specs.Findings.{IsTravel}
 use Rattle.mc_theory.specs.Flights.{start}
 use Rattle.mc_forward.specs.Domains.{DomainValue, net_of}
@@ -19,14 +19,15 @@ use Rattle.mc_maker.specs.ExaminedFlights.{IsFinishedTravelOf, HasExaminedFlight
 use Rattle.mc_maker.specs.declared.examined_flights.ExaminedFlights.{ExaminedFlights}
 use Rattle.mc_maker.specs.declared.examined_flights.ExaminedFlights.TheVariants.{FoundAtTtl255}
 use Rattle.mc_maker.specs.declared.examined_flights.ExaminedFlights.TheVariants.{FoundAtFlowTtl}
-use Rattle.mc_explain.specs.ExplanationText.{causes_text}
+use Rattle.mc_lines.specs.ExplanationText.{causes_text}
 use Rattle.mc_explain.specs.WantedText.{missed_besides, also_missed_text}
 use Rattle.mc_explain.specs.declared.searching.LanSearch.{LanSearch}
 use Rattle.mc_explain.specs.declared.causes.Cause.{Cause}
 use Rattle.mc_json.specs.FlowData.{wrong_line_of_travel, wrong_line}
 use Rattle.mc_json.specs.WhyData.{why_data}
 use Rattle.mc_run.specs.AuditObjects.{wrong_object}
-use Rattle.mc_run.specs.AuditPieces.{explanation_in}
+use Rattle.mc_run.specs.AuditFlowText.{wrong_lines_or_object}
+use Rattle.mc_run.specs.AuditPieces.{also_missed_of, explanation_in}
 use Rattle.mc_run.specs.AuditExplanation.{IsExplanation, IsSearchIfMissed, ArePrintedCauses, is_remedy}
 use Rattle.mc_run.specs.AuditExplanation.{search_context}
 use Rattle.mc_run.specs.AuditExplanation.{without_remedies}
@@ -121,74 +122,63 @@ is_explanation-at_flow_ttl v flow x greatest least printed same has_flights why 
 -- ---- its lines
 
 -- as text
-pub explanation_lines-pushed : {A X : Type 0} (v : AuditedValue) (flow : ℕ) (ended : FinishedTravel)
-    (printed : List Cause)
-    (found : Option LanSearch) (r : Result A X) (old one two new : List ℕ)
-    → ended.flight.domain ≡ v.domain
-    → ((f : Flow) → slice_get v.domain.topology.flows flow ≡ Some f
-    → one ≡ old ++ causes_text (facts v.domain) v.summary flow f printed)
-    → ((f : Flow) → slice_get v.domain.topology.flows flow ≡ Some f
-    → two ≡ one ++ searched_lines (facts v.domain) v.summary flow f found)
-    → OnOk r (new ≡ two ++ also_missed_text ended.flight.domain.topology
-    (missed_besides (facts ended.flight.domain) ended.flight.flow ended.flight.flight.carried
-    ended.travel.finding))
-    → OnOk r ((f : Flow) → slice_get v.domain.topology.flows flow ≡ Some f
-    → new ≡ old ++ explanation_lines (facts v.domain) v.summary flow f
-    (explanation_in ended printed found))
-explanation_lines-pushed v flow ended printed found (Err e) old one two new here first second third = tt
-explanation_lines-pushed v flow ended printed found (Ok a) old one two new here first second third =
-    λ f at.
-    let also = (explanation_in ended printed found).also in
-    let lines = causes_text (facts v.domain) v.summary flow f printed in
-    let search = searched_lines (facts v.domain) v.summary flow f found in
-    let missed = also_missed_text v.domain.topology also in
-    third ∙ ap (λ (d : DomainValue). two ++ also_missed_text d.topology also) here
-    ∙ ap (λ xs. xs ++ missed) (second f at) ∙ ap (λ xs. (xs ++ search) ++ missed) (first f at)
+pub explanation_lines-pushed : {A X : Type 0} (v : AuditedValue) (flow : ℕ) (e : Explanation)
+    (t : TopologyValue) (r : Result A X) (old one two new : List ℕ) → t ≡ v.domain.topology
+    → one ≡ old ++ causes_text (facts v.domain) v.summary flow e.printed
+    → two ≡ one ++ searched_lines (facts v.domain) v.summary flow e.search
+    → OnOk r (new ≡ two ++ also_missed_text t e.also)
+    → OnOk r (new ≡ old ++ explanation_lines (facts v.domain) v.summary flow e)
+explanation_lines-pushed v flow e t (Err x) old one two new same first second third = tt
+explanation_lines-pushed v flow e t (Ok a) old one two new same first second third =
+    let lines = causes_text (facts v.domain) v.summary flow e.printed in
+    let search = searched_lines (facts v.domain) v.summary flow e.search in
+    let missed = also_missed_text v.domain.topology e.also in
+    third ∙ ap (λ (u : TopologyValue). two ++ also_missed_text u e.also) same
+    ∙ ap (λ xs. xs ++ missed) second ∙ ap (λ xs. (xs ++ search) ++ missed) first
     ∙ append_assoc (old ++ lines) search missed ∙ append_assoc old lines (search ++ missed)
 
 pub wrong_lines-pushed : {A X : Type 0} (v : AuditedValue) (flow ttl : ℕ) (travels : Bool) (travel : Travel)
     (e : Explanation) (t : TopologyValue) (f : Flow) (r : Result A X) (old one two new : List ℕ)
-    → t ≡ v.domain.topology → slice_get t.flows flow ≡ Some f
+    → t ≡ v.domain.topology → f ≡ flow_at v.domain.topology flow
     → one ≡ old ++ found_lines t f ttl travel.finding
-    → ((g : Flow) → slice_get v.domain.topology.flows flow ≡ Some g
-    → two ≡ one ++ explanation_lines (facts v.domain) v.summary flow g e)
+    → two ≡ one ++ explanation_lines (facts v.domain) v.summary flow e
     → OnOk r (new ≡ two ++ events_if_shown travels t travel)
-    → OnOk r ((g : Flow) → slice_get v.domain.topology.flows flow ≡ Some g
-    → new ≡ old ++ wrong_lines travels (facts v.domain) v.summary flow g ttl travel e)
-wrong_lines-pushed v flow ttl travels travel e t f (Err x) old one two new same here first second third = tt
-wrong_lines-pushed v flow ttl travels travel e t f (Ok a) old one two new same here first second third =
-    λ g at.
-    let there = subst (λ (u : TopologyValue). slice_get u.flows flow ≡ Some f) same here in
-    let is : f ≡ g = cc in
-    let begun = found_lines v.domain.topology g ttl travel.finding in
-    let why = explanation_lines (facts v.domain) v.summary flow g e in
+    → OnOk r (new ≡ old ++ wrong_lines travels (facts v.domain) v.summary flow ttl travel e)
+wrong_lines-pushed v flow ttl travels travel e t f (Err x) old one two new same listed first second third = tt
+wrong_lines-pushed v flow ttl travels travel e t f (Ok a) old one two new same listed first second third =
+    let begun = found_lines v.domain.topology (flow_at v.domain.topology flow) ttl travel.finding in
+    let why = explanation_lines (facts v.domain) v.summary flow e in
     let events = events_if_shown travels v.domain.topology travel in
     let puts : one ≡ old ++ begun =
     first ∙ ap (λ (u : TopologyValue). old ++ found_lines u f ttl travel.finding) same
-    ∙ ap (λ (h : Flow). old ++ found_lines v.domain.topology h ttl travel.finding) is in
+    ∙ ap (λ (h : Flow). old ++ found_lines v.domain.topology h ttl travel.finding) listed in
     third ∙ ap (λ (u : TopologyValue). two ++ events_if_shown travels u travel) same
-    ∙ ap (λ xs. xs ++ events) (second g at) ∙ ap (λ xs. (xs ++ why) ++ events) puts
+    ∙ ap (λ xs. xs ++ events) second ∙ ap (λ xs. (xs ++ why) ++ events) puts
     ∙ append_assoc (old ++ begun) why events ∙ append_assoc old begun (why ++ events)
 
 -- in JSON
 pub wrong_object-pushed : {A X : Type 0} (v : AuditedValue) (flow ttl : ℕ) (travels : Bool)
-    (ended : FinishedTravel)
-    (printed : List Cause) (found seen : Option LanSearch) (r : Result A X) (old new : List ℕ)
-    → ended.flight.domain ≡ v.domain → found ≡ seen
-    → OnOk r ((f : Flow) → slice_get v.domain.topology.flows flow ≡ Some f
-    → new ≡ old ++ wrong_line_of_travel flow f ended ttl
-    (why_data (facts v.domain) v.summary flow f printed seen)
-    travels)
-    → OnOk r ((f : Flow) → slice_get v.domain.topology.flows flow ≡ Some f
-    → new ≡ old ++ wrong_object travels (facts v.domain) v.summary flow f ttl ended.travel
-    (explanation_in ended printed found))
-wrong_object-pushed v flow ttl travels ended printed found seen (Err e) old new here same puts = tt
-wrong_object-pushed v flow ttl travels ended printed found seen (Ok a) old new here same puts =
-    λ f at.
-    let also = (explanation_in ended printed found).also in
-    puts f at
-    ∙ ap (λ (d : DomainValue). old ++ wrong_line (facts d) flow f ttl ended.travel.finding
-    ended.travel.events.items also (why_data (facts v.domain) v.summary flow f printed seen) travels) here
-    ∙ ap (λ (s : Option LanSearch). old ++ wrong_line (facts v.domain) flow f ttl ended.travel.finding
-    ended.travel.events.items also (why_data (facts v.domain) v.summary flow f printed s) travels)
-    (sym same)
+    (ended : FinishedTravel) (e : Explanation) (r : Result A X) (old new : List ℕ)
+    → ended.flight.domain ≡ v.domain
+    → OnOk r (new ≡ old ++ wrong_line_of_travel flow (flow_at v.domain.topology flow) ended ttl e.also
+    (why_data (facts v.domain) v.summary flow e.printed e.search) travels)
+    → OnOk r (new ≡ old ++ wrong_object travels (facts v.domain) v.summary flow ttl ended.travel e)
+wrong_object-pushed v flow ttl travels ended e (Err x) old new here puts = tt
+wrong_object-pushed v flow ttl travels ended e (Ok a) old new here puts =
+    puts
+    ∙ ap (λ (d : DomainValue). old ++ wrong_line (facts d) flow (flow_at v.domain.topology flow) ttl
+    ended.travel.finding ended.travel.events.items e.also
+    (why_data (facts v.domain) v.summary flow e.printed e.search) travels) here
+
+-- in both, with the LANs that the travel also missed
+pub wrong_lines_or_object-same_also : {A X : Type 0} (v : AuditedValue) (json travels : Bool) (flow ttl : ℕ)
+    (ended : FinishedTravel) (causes : List Cause) (found : Option LanSearch) (also : List ℕ) (r : Result A X)
+    (old new : List ℕ) → also ≡ also_missed_of ended
+    → OnOk r (new ≡ old ++ wrong_lines_or_object json travels (facts v.domain) v.summary flow ttl ended.travel
+    (record { printed = causes; search = found; also = also }))
+    → OnOk r (new ≡ old ++ wrong_lines_or_object json travels (facts v.domain) v.summary flow ttl ended.travel
+    (explanation_in ended causes found))
+wrong_lines_or_object-same_also v json travels flow ttl ended causes found also (Err x) old new same puts = tt
+wrong_lines_or_object-same_also v json travels flow ttl ended causes found also (Ok a) old new same puts =
+    puts ∙ ap (λ (lans : List ℕ). old ++ wrong_lines_or_object json travels (facts v.domain) v.summary flow ttl
+    ended.travel (record { printed = causes; search = found; also = lans })) same

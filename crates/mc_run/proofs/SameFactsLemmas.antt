@@ -306,18 +306,16 @@ is_flow_answer-same_domain : {whole d : DomainValue} → HaveSameFacts whole d �
     → IsFlowAnswer (record { domain = d; summary = summary; without = names }) o printed flow a
     → IsFlowAnswer (record { domain = whole; summary = summary; without = names }) o printed flow a
 is_flow_answer-same_domain {whole = whole} {d = d} same summary names o printed flow a is = record {
-  listed = is.listed;
   flights = examined_flights_in whole is.flights;
   explanation = is.explanation;
-  matches = transport_topology_and_nets (λ t n. slice_get t.flows flow ≡ Some is.listed) same is.matches;
+  listed = transport_topology_and_nets (λ t n. flow < length t.flows) same is.listed;
   has_flights = has_examined_flights-same_domain same flow is.flights is.has_flights;
   examined = is.examined ∙ sym (without_flights-same_domain same flow is.flights);
   checked = is_checked-same_domain same flow a.examined is.checked;
   explained = is_explanation-same_domain same summary names (length names == 0) flow is.flights is.explanation
       is.explained;
   wanted = transport_facts (λ f. a.wanted ≡ lans_wanting f flow) same is.wanted;
-  spelled = transport_facts (λ f. a.lines ≡ answer_lines o (length names == 0) f summary printed
-      flow is.listed
+  spelled = transport_facts (λ f. a.lines ≡ answer_lines o (length names == 0) f summary printed flow
       a.examined is.explanation a.wanted) same is.spelled;
 }
 

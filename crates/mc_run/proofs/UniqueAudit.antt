@@ -5,8 +5,7 @@ use Rattle.std.proofs.Common.{filter, fold, take, ◌&&◌, not, slice_get}
 use Rattle.std.specs.Prelude.{◌==◌, flat_map, ⊤}
 use Rattle.mc_files.specs.Files.{FileText}
 use Rattle.mc_tables.specs.Summary.{SummaryValue}
-use Rattle.mc_topology.specs.declared.flow.Flow.{Flow}
-use Rattle.mc_topology.specs.Topology.{TopologyValue}
+use Rattle.mc_topology.specs.Topology.{TopologyValue, flow_at}
 use Rattle.mc_cert.specs.Certificate.{Tree}
 use Rattle.mc_theory.specs.Events.{Event}
 use Rattle.mc_forward.specs.Domains.{DomainValue, IsDomain, ttl_of}
@@ -24,14 +23,14 @@ use Rattle.mc_maker.specs.declared.examined_flights.ExaminedFlights.TheVariants.
 use Rattle.mc_maker.specs.declared.examined_flights.ExaminedFlights.TheVariants.{FoundAtTtl255}
 use Rattle.mc_maker.specs.declared.examined_flights.ExaminedFlights.TheVariants.{FoundAtFlowTtl}
 use Rattle.mc_explain.specs.declared.searching.LanSearch.{LanSearch}
-use Rattle.mc_explain.specs.ExplanationText.{causes_text}
-use Rattle.mc_explain.specs.SearchText.{search_text}
+use Rattle.mc_lines.specs.ExplanationText.{causes_text}
+use Rattle.mc_lines.specs.ExplanationText.{search_text}
 use Rattle.mc_explain.specs.WantedText.{also_missed_text}
 use Rattle.mc_explain.specs.declared.causes.Cause.{Cause}
 use Rattle.mc_explain.specs.declared.search_line.SearchLine.{SearchLine}
 use Rattle.mc_json.specs.FlowData.{wrong_line}
-use Rattle.mc_json.specs.SearchData.{search_data}
-use Rattle.mc_json.specs.CauseData.{causes_data}
+use Rattle.mc_json.specs.WhyData.{search_data}
+use Rattle.mc_json.specs.WhyData.{causes_data}
 use Rattle.mc_json.specs.WhyData.{search_data_if_any, why_data}
 use Rattle.serde_json.specs.Data.{Data}
 use Rattle.mc_run.specs.AuditEnd.{FlowAnswer, are_right, begin_lines, count, end_text_or_objects, end_lines}
@@ -53,16 +52,16 @@ use Rattle.mc_run.proofs.UniqueExamination.{is_explanation-unique, examined_flig
 
 -- ---- the lines of a flow that isn't right
 
-searched_lines-same_search : (d : DomainFacts) (summary : List SummaryValue) (flow : ℕ) (f : Flow)
+searched_lines-same_search : (d : DomainFacts) (summary : List SummaryValue) (flow : ℕ)
     (s t : Option LanSearch) → HaveSameSearch s t
-    → searched_lines d summary flow f s ≡ searched_lines d summary flow f t
-searched_lines-same_search d summary flow f None None same = refl
-searched_lines-same_search d summary flow f None (Some b) same = absurd same
-searched_lines-same_search d summary flow f (Some a) None same = absurd same
-searched_lines-same_search d summary flow f (Some a) (Some b) same =
+    → searched_lines d summary flow s ≡ searched_lines d summary flow t
+searched_lines-same_search d summary flow None None same = refl
+searched_lines-same_search d summary flow None (Some b) same = absurd same
+searched_lines-same_search d summary flow (Some a) None same = absurd same
+searched_lines-same_search d summary flow (Some a) (Some b) same =
     ap (λ (ls : List SearchLine).
-    search_text d summary flow f ls a.reach.sent_on.items a.reach.took_none.items) same.0
-    ∙ ap₂ (λ (sent took : List ℕ). search_text d summary flow f b.lines.items sent took) same.1 same.2
+    search_text d summary flow ls a.reach.sent_on.items a.reach.took_none.items) same.0
+    ∙ ap₂ (λ (sent took : List ℕ). search_text d summary flow b.lines.items sent took) same.1 same.2
 
 events_if_shown-same_events : (travels : Bool) (t : TopologyValue) (a b : FinishedTravel)
     → IsSameFinishedTravel a b
@@ -70,70 +69,71 @@ events_if_shown-same_events : (travels : Bool) (t : TopologyValue) (a b : Finish
 events_if_shown-same_events true t a b same = ap (event_lines t) same.events
 events_if_shown-same_events false t a b same = refl
 
-explanation_lines-same_explanation : (d : DomainFacts) (summary : List SummaryValue) (flow : ℕ) (f : Flow)
+explanation_lines-same_explanation : (d : DomainFacts) (summary : List SummaryValue) (flow : ℕ)
     (x y : Explanation) → IsSameExplanation x y
-    → explanation_lines d summary flow f x ≡ explanation_lines d summary flow f y
-explanation_lines-same_explanation d summary flow f x y same =
-    ap (λ (printed : List Cause). causes_text d summary flow f printed
-    ++ (searched_lines d summary flow f x.search ++ also_missed_text d.topology x.also)) same.printed
-    ∙ ap₂ (λ (found : List ℕ) (also : List ℕ). causes_text d summary flow f y.printed
+    → explanation_lines d summary flow x ≡ explanation_lines d summary flow y
+explanation_lines-same_explanation d summary flow x y same =
+    ap (λ (printed : List Cause). causes_text d summary flow printed
+    ++ (searched_lines d summary flow x.search ++ also_missed_text d.topology x.also)) same.printed
+    ∙ ap₂ (λ (found : List ℕ) (also : List ℕ). causes_text d summary flow y.printed
     ++ (found ++ also_missed_text d.topology also))
-    (searched_lines-same_search d summary flow f x.search y.search same.search) same.also
+    (searched_lines-same_search d summary flow x.search y.search same.search) same.also
 
 wrong_lines-same_travel : (travels : Bool) (d : DomainFacts) (summary : List SummaryValue)
-    (flow : ℕ) (f : Flow)
-    (ttl : ℕ) (a b : FinishedTravel) (x y : Explanation) → IsSameFinishedTravel a b → IsSameExplanation x y
-    → wrong_lines travels d summary flow f ttl a.travel x
-    ≡ wrong_lines travels d summary flow f ttl b.travel y
-wrong_lines-same_travel travels d summary flow f ttl a b x y ended same =
-    ap (λ (w : Finding). found_lines d.topology f ttl w
-    ++ (explanation_lines d summary flow f x ++ events_if_shown travels d.topology a.travel))
+    (flow ttl : ℕ) (a b : FinishedTravel) (x y : Explanation) → IsSameFinishedTravel a b
+    → IsSameExplanation x y
+    → wrong_lines travels d summary flow ttl a.travel x
+    ≡ wrong_lines travels d summary flow ttl b.travel y
+wrong_lines-same_travel travels d summary flow ttl a b x y ended same =
+    ap (λ (w : Finding). found_lines d.topology (flow_at d.topology flow) ttl w
+    ++ (explanation_lines d summary flow x ++ events_if_shown travels d.topology a.travel))
     ended.finding
     ∙ ap₂ (λ (why : List ℕ) (es : List ℕ).
-    found_lines d.topology f ttl b.travel.finding ++ (why ++ es))
-    (explanation_lines-same_explanation d summary flow f x y same)
+    found_lines d.topology (flow_at d.topology flow) ttl b.travel.finding ++ (why ++ es))
+    (explanation_lines-same_explanation d summary flow x y same)
     (events_if_shown-same_events travels d.topology a b ended)
 
-found_data-same_travel : (d : DomainFacts) (summary : List SummaryValue) (flow : ℕ) (f : Flow)
+found_data-same_travel : (d : DomainFacts) (summary : List SummaryValue) (flow : ℕ)
     (s t : Option LanSearch) → HaveSameSearch s t
-    → search_data_if_any d summary flow f s ≡ search_data_if_any d summary flow f t
-found_data-same_travel d summary flow f None None same = refl
-found_data-same_travel d summary flow f None (Some b) same = absurd same
-found_data-same_travel d summary flow f (Some a) None same = absurd same
-found_data-same_travel d summary flow f (Some a) (Some b) same =
+    → search_data_if_any d summary flow s ≡ search_data_if_any d summary flow t
+found_data-same_travel d summary flow None None same = refl
+found_data-same_travel d summary flow None (Some b) same = absurd same
+found_data-same_travel d summary flow (Some a) None same = absurd same
+found_data-same_travel d summary flow (Some a) (Some b) same =
     ap (λ (ls : List SearchLine).
-    search_data d summary flow f ls a.reach.sent_on.items a.reach.took_none.items) same.0
-    ∙ ap₂ (λ (sent took : List ℕ). search_data d summary flow f b.lines.items sent took) same.1 same.2
+    search_data d summary flow ls a.reach.sent_on.items a.reach.took_none.items) same.0
+    ∙ ap₂ (λ (sent took : List ℕ). search_data d summary flow b.lines.items sent took) same.1 same.2
 
-why_data-same_explanation : (d : DomainFacts) (summary : List SummaryValue) (flow : ℕ) (f : Flow)
+why_data-same_explanation : (d : DomainFacts) (summary : List SummaryValue) (flow : ℕ)
     (x y : Explanation)
     → IsSameExplanation x y
-    → why_data d summary flow f x.printed x.search ≡ why_data d summary flow f y.printed y.search
-why_data-same_explanation d summary flow f x y same =
-    ap₂ (λ (printed : List Cause) (found : List Data). causes_data d summary flow f printed ++ found)
-    same.printed (found_data-same_travel d summary flow f x.search y.search same.search)
+    → why_data d summary flow x.printed x.search ≡ why_data d summary flow y.printed y.search
+why_data-same_explanation d summary flow x y same =
+    ap₂ (λ (printed : List Cause) (found : List Data). causes_data d summary flow printed ++ found)
+    same.printed (found_data-same_travel d summary flow x.search y.search same.search)
 
 wrong_object-same_travel : (travels : Bool) (d : DomainFacts) (summary : List SummaryValue)
-    (flow : ℕ) (f : Flow)
-    (ttl : ℕ) (a b : FinishedTravel) (x y : Explanation) → IsSameFinishedTravel a b → IsSameExplanation x y
-    → wrong_object travels d summary flow f ttl a.travel x
-    ≡ wrong_object travels d summary flow f ttl b.travel y
-wrong_object-same_travel travels d summary flow f ttl a b x y ended same =
-    ap₂ (λ (w : Finding) (es : List Event). wrong_line d flow f ttl w es x.also
-    (why_data d summary flow f x.printed x.search) travels) ended.finding ended.events
+    (flow ttl : ℕ) (a b : FinishedTravel) (x y : Explanation) → IsSameFinishedTravel a b
+    → IsSameExplanation x y
+    → wrong_object travels d summary flow ttl a.travel x
+    ≡ wrong_object travels d summary flow ttl b.travel y
+wrong_object-same_travel travels d summary flow ttl a b x y ended same =
+    ap₂ (λ (w : Finding) (es : List Event). wrong_line d flow (flow_at d.topology flow) ttl w es x.also
+    (why_data d summary flow x.printed x.search) travels) ended.finding ended.events
     ∙ ap₂ (λ (also : List ℕ) (why : List Data).
-    wrong_line d flow f ttl b.travel.finding b.travel.events.items also why travels) same.also
-    (why_data-same_explanation d summary flow f x y same)
+    wrong_line d flow (flow_at d.topology flow) ttl b.travel.finding b.travel.events.items also why travels)
+    same.also
+    (why_data-same_explanation d summary flow x y same)
 
 wrong_flow_lines-same_travel : (json travels : Bool) (d : DomainFacts) (summary : List SummaryValue)
-    (flow : ℕ) (f : Flow)
-    (ttl : ℕ) (a b : FinishedTravel) (x y : Explanation) → IsSameFinishedTravel a b → IsSameExplanation x y
-    → wrong_lines_or_object json travels d summary flow f ttl a.travel x
-    ≡ wrong_lines_or_object json travels d summary flow f ttl b.travel y
-wrong_flow_lines-same_travel true travels d summary flow f ttl a b x y ended same =
-    wrong_object-same_travel travels d summary flow f ttl a b x y ended same
-wrong_flow_lines-same_travel false travels d summary flow f ttl a b x y ended same =
-    wrong_lines-same_travel travels d summary flow f ttl a b x y ended same
+    (flow ttl : ℕ) (a b : FinishedTravel) (x y : Explanation) → IsSameFinishedTravel a b
+    → IsSameExplanation x y
+    → wrong_lines_or_object json travels d summary flow ttl a.travel x
+    ≡ wrong_lines_or_object json travels d summary flow ttl b.travel y
+wrong_flow_lines-same_travel true travels d summary flow ttl a b x y ended same =
+    wrong_object-same_travel travels d summary flow ttl a b x y ended same
+wrong_flow_lines-same_travel false travels d summary flow ttl a b x y ended same =
+    wrong_lines-same_travel travels d summary flow ttl a b x y ended same
 
 -- ---- the answer of a flow
 
@@ -147,36 +147,36 @@ record IsSameAnswer (o : AuditOptions) (a b : FlowAnswer) : Type 0 where
 
 -- the answers by two results of an examination
 answer_lines-same_flights : (o : AuditOptions) (whole : Bool) (d : DomainValue) (summary : List SummaryValue)
-    (printed : List Tree) (flow : ℕ) (f : Flow) (a b : ExaminedFlights) (x y : Explanation) (wanted : List ℕ)
+    (printed : List Tree) (flow : ℕ) (a b : ExaminedFlights) (x y : Explanation) (wanted : List ℕ)
     → HaveSameFlights a b → IsSameExplanation x y
-    → answer_lines o whole (facts d) summary printed flow f (without_flights d flow a) x wanted
-    ≡ answer_lines o whole (facts d) summary printed flow f (without_flights d flow b) y wanted
-answer_lines-same_flights o whole d summary printed flow f (Certified xs) (Certified ys) x y wanted
+    → answer_lines o whole (facts d) summary printed flow (without_flights d flow a) x wanted
+    ≡ answer_lines o whole (facts d) summary printed flow (without_flights d flow b) y wanted
+answer_lines-same_flights o whole d summary printed flow (Certified xs) (Certified ys) x y wanted
     same explained =
-    ap (λ (es : Tree). right_flow_lines o whole d.topology printed flow f es wanted) same
-answer_lines-same_flights o whole d summary printed flow f (FoundAtTtl255 a) (FoundAtTtl255 b) x y
+    ap (λ (es : Tree). right_flow_lines o whole d.topology printed flow es wanted) same
+answer_lines-same_flights o whole d summary printed flow (FoundAtTtl255 a) (FoundAtTtl255 b) x y
     wanted same explained =
-    wrong_flow_lines-same_travel o.json o.travels (facts d) summary flow f 255 a b x y same explained
-answer_lines-same_flights o whole d summary printed flow f (FoundAtFlowTtl a b) (FoundAtFlowTtl c e)
+    wrong_flow_lines-same_travel o.json o.travels (facts d) summary flow 255 a b x y same explained
+answer_lines-same_flights o whole d summary printed flow (FoundAtFlowTtl a b) (FoundAtFlowTtl c e)
     x y wanted same explained =
-    wrong_flow_lines-same_travel o.json o.travels (facts d) summary flow f (ttl_of d flow) b e x y
+    wrong_flow_lines-same_travel o.json o.travels (facts d) summary flow (ttl_of d flow) b e x y
     same.1 explained
-answer_lines-same_flights o whole d summary printed flow f (Certified xs) (FoundAtTtl255 b) x y
+answer_lines-same_flights o whole d summary printed flow (Certified xs) (FoundAtTtl255 b) x y
     wanted same explained =
     absurd same
-answer_lines-same_flights o whole d summary printed flow f (Certified xs) (FoundAtFlowTtl b c) x y
+answer_lines-same_flights o whole d summary printed flow (Certified xs) (FoundAtFlowTtl b c) x y
     wanted same explained =
     absurd same
-answer_lines-same_flights o whole d summary printed flow f (FoundAtTtl255 a) (Certified ys) x y
+answer_lines-same_flights o whole d summary printed flow (FoundAtTtl255 a) (Certified ys) x y
     wanted same explained =
     absurd same
-answer_lines-same_flights o whole d summary printed flow f (FoundAtTtl255 a) (FoundAtFlowTtl b c) x
+answer_lines-same_flights o whole d summary printed flow (FoundAtTtl255 a) (FoundAtFlowTtl b c) x
     y wanted same explained =
     absurd same
-answer_lines-same_flights o whole d summary printed flow f (FoundAtFlowTtl a b) (Certified ys) x y
+answer_lines-same_flights o whole d summary printed flow (FoundAtFlowTtl a b) (Certified ys) x y
     wanted same explained =
     absurd same
-answer_lines-same_flights o whole d summary printed flow f (FoundAtFlowTtl a b) (FoundAtTtl255 c) x
+answer_lines-same_flights o whole d summary printed flow (FoundAtFlowTtl a b) (FoundAtTtl255 c) x
     y wanted same explained =
     absurd same
 
@@ -211,17 +211,12 @@ shown_trees_with-same_flights o d flow (FoundAtFlowTtl a b) (Certified ys) wante
 shown_trees_with-same_flights o d flow (FoundAtFlowTtl a b) (FoundAtTtl255 c) wanted printed same =
     absurd same
 
-listed_flow-unique : (fs : List Flow) (flow : ℕ) (f g : Flow) → slice_get fs flow ≡ Some f
-    → slice_get fs flow ≡ Some g → f ≡ g
-listed_flow-unique fs flow f g p q = let both : ◌≡◌ {A = Option Flow} (Some f) (Some g) = sym p ∙ q in cc
-
 same_answer-flow_answers : (v : AuditedValue) (o : AuditOptions) (printed : List Tree) (flow : ℕ)
     (a b : FlowAnswer)
     → IsDomain v.domain → IsFlowAnswer v o printed flow a → IsFlowAnswer v o printed flow b
     → IsSameAnswer o a b
 same_answer-flow_answers v o printed flow a b ok p q =
     let d = v.domain in
-    let listed = listed_flow-unique d.topology.flows flow p.listed q.listed p.matches q.matches in
     let examined = λ (x : Examined) (w : ExaminedFlights) (is : x ≡ without_flights d flow w)
     (e : IsExamined d flow x). subst (λ (y : Examined). IsExamined d flow y) is e in
     let flights = examined_flights-unique d flow p.flights q.flights p.has_flights q.has_flights
@@ -231,16 +226,14 @@ same_answer-flow_answers v o printed flow a b ok p q =
     q.flights p.explanation
     q.explanation ok flights p.explained q.explained in
     let wanted : a.wanted ≡ b.wanted = p.wanted ∙ sym q.wanted in
-    let lines = λ (f : Flow) (x : Examined) (w : List ℕ) (y : Explanation).
-    answer_lines o (is_whole v) (facts d) v.summary printed flow f x y w in
+    let lines = λ (x : Examined) (w : List ℕ) (y : Explanation).
+    answer_lines o (is_whole v) (facts d) v.summary printed flow x y w in
     record {
       lines = p.spelled
-          ∙ ap₂ (λ (f : Flow) (w : List ℕ). lines f a.examined w p.explanation) listed wanted
-          ∙ ap (λ (x : Examined). lines q.listed x b.wanted p.explanation) p.examined
-          ∙ answer_lines-same_flights o (is_whole v) d v.summary printed flow q.listed p.flights
-          q.flights p.explanation
-          q.explanation b.wanted flights explained
-          ∙ ap (λ (x : Examined). lines q.listed x b.wanted q.explanation) (sym q.examined)
+          ∙ ap₂ (λ (x : Examined) (w : List ℕ). lines x w p.explanation) p.examined wanted
+          ∙ answer_lines-same_flights o (is_whole v) d v.summary printed flow p.flights q.flights
+          p.explanation q.explanation b.wanted flights explained
+          ∙ ap (λ (x : Examined). lines x b.wanted q.explanation) (sym q.examined)
           ∙ sym q.spelled;
       wanted = wanted;
       right = ap is_certified p.examined ∙ is_certified-same_flights d flow p.flights q.flights flights

@@ -3,9 +3,7 @@ use Rattle.std.proofs.Common.{◌≡◌, ◌≤◌, ◌<◌, ℕ, inl, inr, Bool
 use Rattle.std.proofs.Common.{Option, Result, ◌∙◌, subst, sym}
 use Rattle.std.specs.Prelude.{◌⊎◌, map}
 use Rattle.std.proofs.lemmas.List.{length-map}
-use Rattle.std.proofs.lemmas.Option.{slice_get_within}
 use Rattle.mc_files.specs.Files.{FileText}
-use Rattle.mc_topology.specs.declared.flow.Flow.{Flow}
 use Rattle.mc_theory.specs.ExcludedRouters.{IsSecondCopyOrStray}
 use Rattle.mc_theory.specs.Certificates.{IsRight}
 use Rattle.mc_theory.proofs.ExcludedRouters.{not_right-from_unclean_travel}
@@ -65,18 +63,18 @@ not_right-whole_domain o names files v flow ttl travel audited_value low high ru
 
 is_found_in_whole-answer_lines : (o : AuditOptions) (names : List (List ℕ)) (files : List FileText)
     (v : AuditedValue)
-    (printed : List Tree) (flow : ℕ) (f : Flow) (x : Examined) (e : Explanation) (wanted lines : List ℕ)
+    (printed : List Tree) (flow : ℕ) (x : Examined) (e : Explanation) (wanted lines : List ℕ)
     → MeansAudited o names files v → IsChecked v.domain flow x
     → IfFound (IsFirstPickTravel v.domain flow) x
     → IfFound (λ ttl travel. (ttl_of v.domain flow ≤ ttl) × (ttl ≤ 255)) x
     → wanted ≡ lans_wanting (facts v.domain) flow
-    → lines ≡ answer_lines o (is_whole v) (facts v.domain) v.summary printed flow f x e wanted
-    → SaysYesOf v o flow f lines ⊎ IsFoundInWhole v o files flow f lines
-is_found_in_whole-answer_lines o names files v printed flow f (examined.Certified entries) e wanted
+    → lines ≡ answer_lines o (is_whole v) (facts v.domain) v.summary printed flow x e wanted
+    → SaysYesOf v o flow lines ⊎ IsFoundInWhole v o files flow lines
+is_found_in_whole-answer_lines o names files v printed flow (examined.Certified entries) e wanted
     lines audited_value checked
-    runs within wants is = inl (says_yes_of-certified v o printed flow f entries e wanted lines
+    runs within wants is = inl (says_yes_of-certified v o printed flow entries e wanted lines
     checked wants is)
-is_found_in_whole-answer_lines o names files v printed flow f (examined.Found ttl travel) e wanted
+is_found_in_whole-answer_lines o names files v printed flow (examined.Found ttl travel) e wanted
     lines audited_value checked
     runs within wants is = inr (record {
       ttl = ttl;
@@ -93,17 +91,15 @@ is_found_in_whole-flow_answer : (o : AuditOptions) (names : List (List ℕ)) (fi
     (v : AuditedValue)
     (printed : List Tree) (flow : ℕ) (a : FlowAnswer) → MeansAudited o names files v
     → (is : IsFlowAnswer v o printed flow a)
-    → SaysYesOf v o flow is.listed a.lines ⊎ IsFoundInWhole v o files flow is.listed a.lines
+    → SaysYesOf v o flow a.lines ⊎ IsFoundInWhole v o files flow a.lines
 is_found_in_whole-flow_answer o names files v printed flow a audited_value is =
-    let lt = slice_get_within v.domain.topology.flows flow is.listed is.matches in
     let runs = subst (λ (x : Examined). IfFound (IsFirstPickTravel v.domain flow) x) (sym is.examined)
     (is_first_pick_travel-of_examined v.domain flow is.flights is.has_flights) in
     let within = subst (λ (x : Examined).
     IfFound (λ ttl travel. (ttl_of v.domain flow ≤ ttl) × (ttl ≤ 255)) x) (sym is.examined)
-    (found_ttl-flow_ttl_or_255 v.domain flow is.flights audited_value.means.rules lt) in
-    is_found_in_whole-answer_lines o names files v printed flow is.listed a.examined is.explanation
-    a.wanted a.lines audited_value
-    is.checked runs within is.wanted is.spelled
+    (found_ttl-flow_ttl_or_255 v.domain flow is.flights audited_value.means.rules is.listed) in
+    is_found_in_whole-answer_lines o names files v printed flow a.examined is.explanation
+    a.wanted a.lines audited_value is.checked runs within is.wanted is.spelled
 
 writes_of_each_in_whole-audited : (o : AuditOptions) (names : List (List ℕ)) (files : List FileText)
     (v : AuditedValue)
@@ -117,8 +113,7 @@ writes_of_each_in_whole-audited o names files v all written audited_value a =
       lines = map (λ b. b.lines) answers;
       end = end_lines o v.domain.topology v.summary (excluded v) all answers;
       count = length-map answers (λ (b : FlowAnswer). b.lines) ∙ are.count;
-      each = each_answer-each_lines (λ flow f ls. SaysYesOf v o flow f ls ⊎ IsFoundInWhole v o files
-          flow f ls) v o
+      each = each_answer-each_lines (λ flow ls. SaysYesOf v o flow ls ⊎ IsFoundInWhole v o files flow ls) v o
           answers are (λ printed flow b is. is_found_in_whole-flow_answer o names files v printed
           flow b audited_value is);
       spelled = audit_text-split_at_lines v o all written a;

@@ -2,7 +2,6 @@
 use Rattle.std.specs.Prelude.{ℕ, ◌==◌, ◌&&◌, not, Bool, true, false, List, [], ◌∷◌, length}
 use Rattle.std.specs.Prelude.{if◌then◌else◌}
 use Rattle.mc_tables.specs.Summary.{SummaryValue}
-use Rattle.mc_topology.specs.declared.flow.Flow.{Flow}
 use Rattle.mc_topology.specs.Topology.{TopologyValue}
 use Rattle.mc_forward.specs.ListedTables.{DomainFacts}
 use Rattle.mc_cert.specs.Certificate.{Tree}
@@ -26,43 +25,40 @@ abbrev pub unless_hidden : (faults : Bool) → (wanted : List ℕ) → (lines : 
 unless_hidden faults wanted lines = if is_hidden faults wanted then [] else lines
 
 abbrev pub right_lines_or_object : (json whole : Bool) → TopologyValue → (printed : List Tree)
-    → (number : ℕ) → Flow
-    → Tree → (wanted : List ℕ) → List ℕ
-right_lines_or_object true whole t printed number f es wanted = right_objects whole t printed number
-    f es wanted
-right_lines_or_object false whole t printed number f es wanted = right_lines whole t f (length es) wanted
+    → (flow : ℕ) → Tree → (wanted : List ℕ) → List ℕ
+right_lines_or_object true whole t printed flow es wanted = right_objects whole t printed flow es wanted
+right_lines_or_object false whole t printed flow es wanted = right_lines whole t flow (length es) wanted
 
 -- the lines of a right flow with this tree, where the whole domain is known, or not
 abbrev pub right_flow_lines : AuditOptions → (whole : Bool) → TopologyValue → (printed : List Tree)
-    → (number : ℕ) → Flow → Tree → (wanted : List ℕ) → List ℕ
-right_flow_lines o whole t printed number f es wanted =
-    unless_hidden o.faults wanted (right_lines_or_object o.json whole t printed number f es wanted)
+    → (flow : ℕ) → Tree → (wanted : List ℕ) → List ℕ
+right_flow_lines o whole t printed flow es wanted =
+    unless_hidden o.faults wanted (right_lines_or_object o.json whole t printed flow es wanted)
 
 -- ---- a flow that isn't
 
 abbrev pub wrong_lines_or_object : (json travels : Bool) → DomainFacts → List SummaryValue
-    → (number : ℕ) → Flow
-    → (ttl : ℕ) → Travel → Explanation → List ℕ
-wrong_lines_or_object true travels d summary number f ttl travel x =
-    wrong_object travels d summary number f ttl travel x
-wrong_lines_or_object false travels d summary number f ttl travel x =
-    wrong_lines travels d summary number f ttl travel x
+    → (flow ttl : ℕ) → Travel → Explanation → List ℕ
+wrong_lines_or_object true travels d summary flow ttl travel x =
+    wrong_object travels d summary flow ttl travel x
+wrong_lines_or_object false travels d summary flow ttl travel x =
+    wrong_lines travels d summary flow ttl travel x
 
-abbrev pub wrong_flow_lines : AuditOptions → DomainFacts → List SummaryValue → (number : ℕ) → Flow
-    → (ttl : ℕ) → Travel → Explanation → List ℕ
-wrong_flow_lines o d summary number f ttl travel x = wrong_lines_or_object o.json o.travels d
-    summary number f ttl travel x
+abbrev pub wrong_flow_lines : AuditOptions → DomainFacts → List SummaryValue → (flow ttl : ℕ) → Travel
+    → Explanation → List ℕ
+wrong_flow_lines o d summary flow ttl travel x =
+    wrong_lines_or_object o.json o.travels d summary flow ttl travel x
 
 -- ---- a flow
 
 -- the lines of the flow with this number, by the result of its examination, what explains it, and the
 -- LANs that want the flow
 abbrev pub answer_lines : AuditOptions → (whole : Bool) → DomainFacts → List SummaryValue
-    → (printed : List Tree) → (number : ℕ) → Flow → Examined → Explanation → (wanted : List ℕ) → List ℕ
-answer_lines o whole d summary printed number f (Certified entries) x wanted =
-    right_flow_lines o whole d.topology printed number f entries.items wanted
-answer_lines o whole d summary printed number f (Found ttl travel) x wanted =
-    wrong_flow_lines o d summary number f ttl travel x
+    → (printed : List Tree) → (flow : ℕ) → Examined → Explanation → (wanted : List ℕ) → List ℕ
+answer_lines o whole d summary printed flow (Certified entries) x wanted =
+    right_flow_lines o whole d.topology printed flow entries.items wanted
+answer_lines o whole d summary printed flow (Found ttl travel) x wanted =
+    wrong_flow_lines o d summary flow ttl travel x
 
 -- the printed trees after those of this flow; text prints none
 abbrev pub with_shown_tree : (json hidden : Bool) → List Tree → Tree → List Tree

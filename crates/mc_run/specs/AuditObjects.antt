@@ -1,15 +1,14 @@
 -- The objects of a flow in the JSON of `mcaudit audit`, one a line, with the same facts as its text.
 use Rattle.std.specs.Prelude.{ℕ, Bool, List, [], ◌++◌, map, length, is_some, if◌then◌else◌}
 use Rattle.mc_tables.specs.Summary.{SummaryValue}
-use Rattle.mc_topology.specs.declared.flow.Flow.{Flow}
-use Rattle.mc_topology.specs.Topology.{TopologyValue}
+use Rattle.mc_topology.specs.Topology.{TopologyValue, flow_at}
 use Rattle.mc_forward.specs.ListedTables.{DomainFacts}
 use Rattle.mc_cert.specs.Certificate.{Tree}
 use Rattle.mc_cert.specs.Distinct.{find_tree, tree_number_of, with_tree}
 use Rattle.mc_replay.specs.declared.travel.Travel.{Travel}
 use Rattle.mc_json.specs.FlowData.{right_data, tree_data, wrong_line}
 use Rattle.mc_json.specs.RowData.{line_of}
-use Rattle.mc_json.specs.CauseData.{lan_data}
+use Rattle.mc_json.specs.RowData.{lan_data}
 use Rattle.mc_json.specs.WhyData.{why_data}
 use Rattle.mc_run.specs.AuditText.{Explanation}
 
@@ -21,18 +20,18 @@ tree_line t printed es =
     if is_some (find_tree printed es) then [] else line_of (tree_data t es (length printed))
 
 -- and after it the flow, with the number of its tree and the LANs that want it
-abbrev pub right_objects : (whole : Bool) → TopologyValue → (printed : List Tree) → (number : ℕ) → Flow
-    → Tree → (wanted : List ℕ) → List ℕ
-right_objects whole t printed number f es wanted =
+abbrev pub right_objects : (whole : Bool) → TopologyValue → (printed : List Tree) → (flow : ℕ) → Tree
+    → (wanted : List ℕ) → List ℕ
+right_objects whole t printed flow es wanted =
     tree_line t printed es
-    ++ line_of (right_data whole number f (length es) (tree_number_of (with_tree printed es) es)
+    ++ line_of (right_data whole flow (flow_at t flow) (length es) (tree_number_of (with_tree printed es) es)
     (map (lan_data t) wanted))
 
 -- ---- a flow that isn't
 
 -- the finding, why, the other missed LANs, and with the option the travel
-abbrev pub wrong_object : (travels : Bool) → DomainFacts → List SummaryValue → (number : ℕ) → Flow
-    → (ttl : ℕ) → Travel → Explanation → List ℕ
-wrong_object travels d summary number f ttl travel x =
-    wrong_line d number f ttl travel.finding travel.events.items x.also
-    (why_data d summary number f x.printed x.search) travels
+abbrev pub wrong_object : (travels : Bool) → DomainFacts → List SummaryValue → (flow ttl : ℕ) → Travel
+    → Explanation → List ℕ
+wrong_object travels d summary flow ttl travel x =
+    wrong_line d flow (flow_at d.topology flow) ttl travel.finding travel.events.items x.also
+    (why_data d summary flow x.printed x.search) travels

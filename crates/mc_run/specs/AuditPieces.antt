@@ -1,13 +1,13 @@
 -- The text of an audited domain, part by part, as its functions append it.
 use Rattle.std.specs.Prelude.{◌≡◌, ℕ, Bool, List, ◌++◌, flat_map, length, map, slice_get, Some, take}
 use Rattle.std.specs.Prelude.{Option, Result, Ok, Err}
-use Rattle.mc_topology.specs.declared.flow.Flow.{Flow}
 use Rattle.mc_forward.specs.ListedTables.{facts}
 use Rattle.mc_cert.specs.Certificate.{Tree}
 use Rattle.mc_replay.specs.declared.travel.FinishedTravel.{FinishedTravel}
 use Rattle.mc_explain.specs.TopologyLans.{interfaces_on_lans}
 use Rattle.mc_explain.specs.SearchLine.{Search}
-use Rattle.mc_explain.specs.WantedText.{also_missed_text, lans_wanting, missed_besides}
+use Rattle.mc_explain.specs.WantedText.{lans_wanting, missed_besides}
+use Rattle.mc_explain.specs.declared.explanation.Explanation.{Explanation as ExplanationParts}
 use Rattle.mc_explain.specs.declared.searching.LanSearch.{LanSearch}
 use Rattle.mc_explain.specs.declared.causes.Cause.{Cause}
 use Rattle.mc_input.specs.declared.domain.FolderDomain.{FolderDomain}
@@ -44,14 +44,22 @@ pub record HasItsMarksAndInterfaces (a : AuditedDomain) : Type 0 where
   pub interfaces : a.interfaces.now ≡ interfaces_on_lans (facts a.domain.now)
   pub excluded : a.excluded.now ≡ excluded (audited_value a)
 
+-- the LANs that the packet of a finished travel missed besides the one of its finding
+abbrev pub also_missed_of : FinishedTravel → List ℕ
+also_missed_of ended = missed_besides (facts ended.flight.domain) ended.flight.flow
+    ended.flight.flight.carried ended.travel.finding
+
 -- the explanation of a finished travel's finding, with these causes and this search
 abbrev pub explanation_in : FinishedTravel → List Cause → Option LanSearch → Explanation
 explanation_in ended printed search = record {
   printed = printed;
   search = search;
-  also = missed_besides (facts ended.flight.domain) ended.flight.flow ended.flight.flight.carried
-      ended.travel.finding;
+  also = also_missed_of ended;
 }
+
+-- an explanation as a value
+abbrev pub explanation_value : ExplanationParts → Explanation
+explanation_value x = record { printed = x.causes.now; search = x.search.now; also = x.also.now }
 
 -- The lines of a flow were appended, after those of flows whose trees were printed, and this is its
 -- status.
@@ -84,34 +92,26 @@ AreAllFlowsPushed a o flow_counts old new = (printed : List Tree)
 
 -- ---- the lines of one flow, as they are appended
 
--- for the flow with this number, as the topology lists it, these lines were appended
-abbrev pub AppendsLinesOfFlow : AuditedDomain → (flow : ℕ) → (lines_of : (flow : ℕ) → Flow → List ℕ)
-    → (old new : List ℕ) → Type 0
-AppendsLinesOfFlow a flow lines_of old new = (listed : Flow)
-    → slice_get (audited_value a).domain.topology.flows flow ≡ Some listed → new ≡ old ++ lines_of flow listed
-
 -- the LANs that want the flow with this number
 abbrev pub lans_wanting_flow : AuditedDomain → (flow : ℕ) → List ℕ
 lans_wanting_flow a flow = lans_wanting (facts (audited_value a).domain) flow
 
 -- a right flow, as text with its number of copies,
-abbrev pub right_lines_of : AuditedDomain → (copies : ℕ) → (flow : ℕ) → Flow → List ℕ
-right_lines_of a copies flow f = right_lines (is_whole (audited_value a))
-    (audited_value a).domain.topology f copies
-    (lans_wanting_flow a flow)
+abbrev pub right_lines_of : AuditedDomain → (flow copies : ℕ) → (wanted : List ℕ) → List ℕ
+right_lines_of a flow copies wanted =
+    right_lines (is_whole (audited_value a)) (audited_value a).domain.topology flow copies wanted
 
 -- in JSON, after the printed trees,
-abbrev pub right_objects_of : AuditedDomain → (printed : List Tree) → Tree → (flow : ℕ) → Flow → List ℕ
-right_objects_of a printed es flow f = right_objects (is_whole (audited_value a))
-    (audited_value a).domain.topology
-    printed flow f es (lans_wanting_flow a flow)
+abbrev pub right_objects_of : AuditedDomain → (printed : List Tree) → (flow : ℕ) → Tree → (wanted : List ℕ)
+    → List ℕ
+right_objects_of a printed flow es wanted =
+    right_objects (is_whole (audited_value a)) (audited_value a).domain.topology printed flow es wanted
 
 -- and as the options ask
-abbrev pub right_flow_lines_of : AuditedDomain → AuditOptions → (printed : List Tree) → Tree
-    → (flow : ℕ) → Flow
+abbrev pub right_flow_lines_of : AuditedDomain → AuditOptions → (printed : List Tree) → (flow : ℕ) → Tree
     → List ℕ
-right_flow_lines_of a o printed es flow f = right_flow_lines o (is_whole (audited_value a))
-    (audited_value a).domain.topology printed flow f es (lans_wanting_flow a flow)
+right_flow_lines_of a o printed flow es = right_flow_lines o (is_whole (audited_value a))
+    (audited_value a).domain.topology printed flow es (lans_wanting_flow a flow)
 
 -- the context of the search for a LAN that the packet of a finished travel missed
 abbrev pub search_context_of : AuditedDomain → (flow : ℕ) → FinishedTravel → Search
@@ -119,40 +119,32 @@ search_context_of a flow ended = search_context (facts (audited_value a).domain)
     (excluded (audited_value a)) flow ended.flight.flight.carried
 
 -- the lines of a search, if there was one
-abbrev pub searched_lines_of : AuditedDomain → Option LanSearch → (flow : ℕ) → Flow → List ℕ
-searched_lines_of a search flow f =
-    searched_lines (facts (audited_value a).domain) (audited_value a).summary flow f search
-
--- which other LANs the packet of a finished travel missed, if it missed one
-abbrev pub also_missed_lines : FinishedTravel → List ℕ
-also_missed_lines ended = also_missed_text ended.flight.domain.topology
-    (missed_besides (facts ended.flight.domain)
-    ended.flight.flow ended.flight.flight.carried ended.travel.finding)
+abbrev pub searched_lines_of : AuditedDomain → (flow : ℕ) → Option LanSearch → List ℕ
+searched_lines_of a flow search =
+    searched_lines (facts (audited_value a).domain) (audited_value a).summary flow search
 
 -- the lines that explain the finding of a finished travel
-abbrev pub explanation_lines_of : AuditedDomain → FinishedTravel → List Cause → Option LanSearch → (flow : ℕ)
-    → Flow → List ℕ
-explanation_lines_of a ended causes search flow f = explanation_lines (facts (audited_value a).domain)
-    (audited_value a).summary flow f (explanation_in ended causes search)
+abbrev pub explanation_lines_of : AuditedDomain → (flow : ℕ) → Explanation → List ℕ
+explanation_lines_of a flow x =
+    explanation_lines (facts (audited_value a).domain) (audited_value a).summary flow x
 
 -- a wrong flow, by the finished travel of a packet with this TTL: as text,
-abbrev pub wrong_lines_of : AuditedDomain → (travels : Bool) → (ttl : ℕ) → FinishedTravel → List Cause
-    → Option LanSearch → (flow : ℕ) → Flow → List ℕ
-wrong_lines_of a travels ttl ended causes search flow f = wrong_lines travels (facts (audited_value a).domain)
-    (audited_value a).summary flow f ttl ended.travel (explanation_in ended causes search)
+abbrev pub wrong_lines_of : AuditedDomain → (travels : Bool) → (flow ttl : ℕ) → Travel → Explanation
+    → List ℕ
+wrong_lines_of a travels flow ttl travel x =
+    wrong_lines travels (facts (audited_value a).domain) (audited_value a).summary flow ttl travel x
 
 -- in JSON,
-abbrev pub wrong_object_of : AuditedDomain → (travels : Bool) → (ttl : ℕ) → FinishedTravel → List Cause
-    → Option LanSearch → (flow : ℕ) → Flow → List ℕ
-wrong_object_of a travels ttl ended causes search flow f = wrong_object travels
-    (facts (audited_value a).domain)
-    (audited_value a).summary flow f ttl ended.travel (explanation_in ended causes search)
+abbrev pub wrong_object_of : AuditedDomain → (travels : Bool) → (flow ttl : ℕ) → Travel → Explanation
+    → List ℕ
+wrong_object_of a travels flow ttl travel x =
+    wrong_object travels (facts (audited_value a).domain) (audited_value a).summary flow ttl travel x
 
 -- and as the options ask
-abbrev pub wrong_flow_lines_of : AuditedDomain → AuditOptions → (ttl : ℕ) → FinishedTravel → List Cause
-    → Option LanSearch → (flow : ℕ) → Flow → List ℕ
-wrong_flow_lines_of a o ttl ended causes search flow f = wrong_flow_lines o (facts (audited_value a).domain)
-    (audited_value a).summary flow f ttl ended.travel (explanation_in ended causes search)
+abbrev pub wrong_flow_lines_of : AuditedDomain → AuditOptions → (flow ttl : ℕ) → FinishedTravel → List Cause
+    → Option LanSearch → List ℕ
+wrong_flow_lines_of a o flow ttl ended causes search = wrong_flow_lines o (facts (audited_value a).domain)
+    (audited_value a).summary flow ttl ended.travel (explanation_in ended causes search)
 
 -- ---- the lines after the flows, with these counts
 

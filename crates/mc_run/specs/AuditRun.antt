@@ -1,10 +1,10 @@
 -- The answer and the text of `mcaudit audit`, and what its yes promises.
-use Rattle.std.specs.Prelude.{◌≡◌, ◌≤◌, ◌==◌, ◌&&◌, ◌⊎◌, ℕ, Bool, true, false, List, [], ◌++◌, codes}
+use Rattle.std.specs.Prelude.{◌≡◌, ◌<◌, ◌≤◌, ◌==◌, ◌&&◌, ◌⊎◌, ℕ, Bool, true, false, List, [], ◌++◌, codes}
 use Rattle.std.specs.Prelude.{flat_map, fold, if◌then◌else◌, length, slice_get, take, Option, Some}
 use Rattle.std.specs.Prelude.{Result, Ok}
 use Rattle.mc_files.specs.Files.{FileText}
 use Rattle.mc_tables.specs.Summary.{SummaryValue}
-use Rattle.mc_topology.specs.declared.flow.Flow.{Flow}
+use Rattle.mc_topology.specs.Topology.{TopologyValue, flow_at}
 use Rattle.mc_theory.specs.Certificates.{IsAccepted, IsRight}
 use Rattle.mc_theory.specs.Headline.{HeadlineHolds}
 use Rattle.mc_theory.specs.ExcludedRouters.{IsSecondCopyOrStray}
@@ -61,17 +61,16 @@ pub record IsChecked (d : DomainValue) (flow : ℕ) (x : Examined) : Type 0 wher
 pub record IsFlowAnswer (v : AuditedValue) (o : AuditOptions) (printed : List Tree) (flow : ℕ)
     (a : FlowAnswer)
     : Type 0 where
-  pub listed : Flow
   pub flights : ExaminedFlights
   pub explanation : Explanation
-  pub matches : slice_get v.domain.topology.flows flow ≡ Some listed
+  pub listed : flow < length v.domain.topology.flows
   pub has_flights : HasExaminedFlights v.domain flow flights
   pub examined : a.examined ≡ without_flights v.domain flow flights
   pub checked : IsChecked v.domain flow a.examined
   pub explained : IsExplanation v.domain v.summary (excluded v) (is_whole v) flow flights
       explanation
   pub wanted : a.wanted ≡ lans_wanting (facts v.domain) flow
-  pub spelled : a.lines ≡ answer_lines o (is_whole v) (facts v.domain) v.summary printed flow listed
+  pub spelled : a.lines ≡ answer_lines o (is_whole v) (facts v.domain) v.summary printed flow
       a.examined explanation a.wanted
 
 -- the trees that the lines of these flows print, each once, in the order of first use
@@ -128,18 +127,19 @@ pub record HasUnwanted (v : AuditedValue) (o : AuditOptions) (unwanted : ℕ) : 
 -- ---- what the text says of the flows
 
 -- the lines of a flow that isn't right start with this, whatever the finding
-abbrev pub SaysNoCertificate : (json : Bool) → (flow : ℕ) → Flow → (lines : List ℕ) → Type 0
-SaysNoCertificate true flow f lines = (w : WrongFlow) × (lines ≡ line_of (wrong_data flow f w))
-SaysNoCertificate false flow f lines = (more : List ℕ) × (lines ≡ no_certificate_line f ++ more)
+abbrev pub SaysNoCertificate : (json : Bool) → TopologyValue → (flow : ℕ) → (lines : List ℕ) → Type 0
+SaysNoCertificate true t flow lines =
+    (w : WrongFlow) × (lines ≡ line_of (wrong_data flow (flow_at t flow) w))
+SaysNoCertificate false t flow lines =
+    (more : List ℕ) × (lines ≡ no_certificate_line (flow_at t flow) ++ more)
 
 -- The lines of a flow say that it has a certificate, and which LANs want it, if it is right (nothing, if
 -- it is wanted and only faults are asked for), and otherwise that it has none.
-pub record SaysFlowRight (v : AuditedValue) (o : AuditOptions) (flow : ℕ) (f : Flow) (lines : List ℕ)
-    : Type 0 where
+pub record SaysFlowRight (v : AuditedValue) (o : AuditOptions) (flow : ℕ) (lines : List ℕ) : Type 0 where
   pub right : IsRight (net_of v.domain flow) → (printed : List Tree) × (es : Tree)
-      × (lines ≡ right_flow_lines o (is_whole v) v.domain.topology printed flow f es
+      × (lines ≡ right_flow_lines o (is_whole v) v.domain.topology printed flow es
       (lans_wanting (facts v.domain) flow))
-  pub wrong : ¬ IsRight (net_of v.domain flow) → SaysNoCertificate o.json flow f lines
+  pub wrong : ¬ IsRight (net_of v.domain flow) → SaysNoCertificate o.json v.domain.topology flow lines
 
 -- The text has for each flow lines that say whether it is right, and last whether all flows are right
 -- and no router is excluded.
@@ -150,8 +150,8 @@ pub record WritesWhichAreRight (v : AuditedValue) (o : AuditOptions) (all : Bool
   pub end : List ℕ
   pub right : Bool
   pub count : length lines ≡ length v.domain.topology.flows
-  pub each : (flow : ℕ) (f : Flow) (ls : List ℕ) → slice_get v.domain.topology.flows flow ≡ Some f
-      → slice_get lines flow ≡ Some ls → SaysFlowRight v o flow f ls
+  pub each : (flow : ℕ) (ls : List ℕ) → slice_get lines flow ≡ Some ls
+      → SaysFlowRight v o flow ls
   pub spelled : written ≡ begin ++ (flat_map (λ ls. ls) lines ++ (end ++ verdict_line o.json all))
   pub are_right : AreRight v.domain right
   pub answer : all ≡ (is_whole v && right)
@@ -165,21 +165,20 @@ SaysWhichAreRight o names files all written =
 -- The lines say yes to the flow with a number of copies, or that no fault is known where routers are
 -- excluded. By the tables that were read this is true: the flow is right, the checker accepts a list
 -- with that number of entries, and the headline holds with that number of copies.
-pub record SaysYesOf (v : AuditedValue) (o : AuditOptions) (flow : ℕ) (f : Flow) (lines : List ℕ)
-    : Type 0 where
+pub record SaysYesOf (v : AuditedValue) (o : AuditOptions) (flow : ℕ) (lines : List ℕ) : Type 0 where
   pub list : Tree
   pub printed : List Tree
   pub right : IsRight (net_of v.domain flow)
   pub accepted : IsAccepted (net_of v.domain flow) list
   pub headline : HeadlineHolds (net_of v.domain flow) (length list)
-  pub spelled : lines ≡ right_flow_lines o (is_whole v) v.domain.topology printed flow f list
+  pub spelled : lines ≡ right_flow_lines o (is_whole v) v.domain.topology printed flow list
       (lans_wanting (facts v.domain) flow)
 
 -- The lines say that the flow has no certificate, and the finding, and this is true: the flow isn't
 -- right, and the finding is that of a run of its net, the travel of a packet with the printed TTL. The
 -- explanation is by the flights of the examination.
-pub record SaysWhatIsFound (v : AuditedValue) (o : AuditOptions) (flow : ℕ) (f : Flow)
-    (lines : List ℕ) : Type 0 where
+pub record SaysWhatIsFound (v : AuditedValue) (o : AuditOptions) (flow : ℕ) (lines : List ℕ)
+    : Type 0 where
   pub ttl : ℕ
   pub travel : Travel
   pub flights : ExaminedFlights
@@ -191,7 +190,7 @@ pub record SaysWhatIsFound (v : AuditedValue) (o : AuditOptions) (flow : ℕ) (f
   pub has_flights : HasExaminedFlights v.domain flow flights
   pub explained : IsExplanation v.domain v.summary (excluded v) (is_whole v) flow flights
       explanation
-  pub spelled : lines ≡ wrong_flow_lines o (facts v.domain) v.summary flow f ttl travel explanation
+  pub spelled : lines ≡ wrong_flow_lines o (facts v.domain) v.summary flow ttl travel explanation
 
 -- The text has for each flow, in order, lines that truly say the one or the other, and last the line
 -- with the verdict.
@@ -201,9 +200,8 @@ pub record WritesOfEach (v : AuditedValue) (o : AuditOptions) (all : Bool) (writ
   pub lines : List (List ℕ)
   pub end : List ℕ
   pub count : length lines ≡ length v.domain.topology.flows
-  pub each : (flow : ℕ) (f : Flow) (ls : List ℕ) → slice_get v.domain.topology.flows flow ≡ Some f
-      → slice_get lines flow ≡ Some ls
-      → SaysYesOf v o flow f ls ⊎ SaysWhatIsFound v o flow f ls
+  pub each : (flow : ℕ) (ls : List ℕ) → slice_get lines flow ≡ Some ls
+      → SaysYesOf v o flow ls ⊎ SaysWhatIsFound v o flow ls
   pub spelled : written ≡ begin ++ (flat_map (λ ls. ls) lines ++ (end ++ verdict_line o.json all))
 
 -- the files mean a domain with such a text
@@ -218,14 +216,14 @@ SaysOfEach o names files all written =
 -- or a copy that leaves the domain, the flow isn't right either in the domain that the files mean without
 -- any exclusion, if they mean one.
 pub record IsFoundInWhole (v : AuditedValue) (o : AuditOptions) (files : List FileText) (flow : ℕ)
-    (f : Flow) (lines : List ℕ) : Type 0 where
+    (lines : List ℕ) : Type 0 where
   pub ttl : ℕ
   pub travel : Travel
   pub explanation : Explanation
   pub least : ttl_of v.domain flow ≤ ttl
   pub greatest : ttl ≤ 255
   pub runs : IsFirstPickTravel v.domain flow ttl travel
-  pub spelled : lines ≡ wrong_flow_lines o (facts v.domain) v.summary flow f ttl travel explanation
+  pub spelled : lines ≡ wrong_flow_lines o (facts v.domain) v.summary flow ttl travel explanation
   pub wrong : IsSecondCopyOrStray (finding_value travel.finding) → (whole : DomainValue)
       → FilesMeanDomain files whole → ¬ IsRight (net_of whole flow)
 
@@ -236,9 +234,8 @@ pub record WritesOfEachInWhole (v : AuditedValue) (o : AuditOptions) (files : Li
   pub lines : List (List ℕ)
   pub end : List ℕ
   pub count : length lines ≡ length v.domain.topology.flows
-  pub each : (flow : ℕ) (f : Flow) (ls : List ℕ) → slice_get v.domain.topology.flows flow ≡ Some f
-      → slice_get lines flow ≡ Some ls
-      → SaysYesOf v o flow f ls ⊎ IsFoundInWhole v o files flow f ls
+  pub each : (flow : ℕ) (ls : List ℕ) → slice_get lines flow ≡ Some ls
+      → SaysYesOf v o flow ls ⊎ IsFoundInWhole v o files flow ls
   pub spelled : written ≡ begin ++ (flat_map (λ ls. ls) lines ++ (end ++ verdict_line o.json all))
 
 -- the files mean a domain, without these routers, with such a text

@@ -3,12 +3,12 @@
 use Rattle.std.specs.Prelude.{ℕ, Bool, true, false, List, [], ◌++◌, Option, Some, None, codes, decimal}
 use Rattle.mc_tables.specs.Summary.{SummaryValue}
 use Rattle.mc_topology.specs.declared.flow.Flow.{Flow}
-use Rattle.mc_topology.specs.Topology.{TopologyValue}
+use Rattle.mc_topology.specs.Topology.{TopologyValue, flow_at}
 use Rattle.mc_forward.specs.ListedTables.{DomainFacts}
 use Rattle.mc_check.specs.declared.verdict.Verdict.TheVariants.{Yes}
 use Rattle.mc_replay.specs.declared.travel.Travel.{Travel}
-use Rattle.mc_explain.specs.ExplanationText.{causes_text}
-use Rattle.mc_explain.specs.SearchText.{search_text}
+use Rattle.mc_lines.specs.ExplanationText.{causes_text}
+use Rattle.mc_lines.specs.ExplanationText.{search_text}
 use Rattle.mc_explain.specs.WantedText.{also_missed_text, wanted_text}
 use Rattle.mc_explain.specs.declared.searching.LanSearch.{LanSearch}
 use Rattle.mc_explain.specs.declared.causes.Cause.{Cause}
@@ -24,10 +24,10 @@ right_line true t f copies = flow_line t f (Yes copies)
 right_line false t f copies =
     flow_words f ++ (codes " no fault known copies " ++ (decimal copies ++ codes "\n"))
 
--- and the LANs that want the flow
-abbrev pub right_lines : (whole : Bool) → TopologyValue → Flow → (copies : ℕ) → (wanted : List ℕ)
-    → List ℕ
-right_lines whole t f copies wanted = right_line whole t f copies ++ wanted_text t wanted
+-- for the flow with this number, and the LANs that want it
+abbrev pub right_lines : (whole : Bool) → TopologyValue → (flow copies : ℕ) → (wanted : List ℕ) → List ℕ
+right_lines whole t flow copies wanted =
+    right_line whole t (flow_at t flow) copies ++ wanted_text t wanted
 
 -- ---- a flow that isn't
 
@@ -38,18 +38,16 @@ pub record Explanation : Type 0 where
   pub search : Option LanSearch
   pub also : List ℕ
 
-abbrev pub searched_lines : DomainFacts → List SummaryValue → (number : ℕ) → Flow → Option LanSearch
-    → List ℕ
-searched_lines d summary number f None = []
-searched_lines d summary number f (Some found) =
-    search_text d summary number f found.lines.items found.reach.sent_on.items
+abbrev pub searched_lines : DomainFacts → List SummaryValue → (flow : ℕ) → Option LanSearch → List ℕ
+searched_lines d summary flow None = []
+searched_lines d summary flow (Some found) =
+    search_text d summary flow found.lines.items found.reach.sent_on.items
     found.reach.took_none.items
 
-abbrev pub explanation_lines : DomainFacts → List SummaryValue → (number : ℕ) → Flow → Explanation
-    → List ℕ
-explanation_lines d summary number f x =
-    causes_text d summary number f x.printed
-    ++ (searched_lines d summary number f x.search ++ also_missed_text d.topology x.also)
+abbrev pub explanation_lines : DomainFacts → List SummaryValue → (flow : ℕ) → Explanation → List ℕ
+explanation_lines d summary flow x =
+    causes_text d summary flow x.printed
+    ++ (searched_lines d summary flow x.search ++ also_missed_text d.topology x.also)
 
 -- the events of a travel, if travels are to be printed
 abbrev pub events_if_shown : (travels : Bool) → TopologyValue → Travel → List ℕ
@@ -57,8 +55,8 @@ events_if_shown true t travel = event_lines t travel.events.items
 events_if_shown false t travel = []
 
 -- the finding, what explains it, and with the option the travel that shows it
-abbrev pub wrong_lines : (travels : Bool) → DomainFacts → List SummaryValue → (number : ℕ) → Flow
-    → (ttl : ℕ) → Travel → Explanation → List ℕ
-wrong_lines travels d summary number f ttl travel x =
-    found_lines d.topology f ttl travel.finding
-    ++ (explanation_lines d summary number f x ++ events_if_shown travels d.topology travel)
+abbrev pub wrong_lines : (travels : Bool) → DomainFacts → List SummaryValue → (flow ttl : ℕ) → Travel
+    → Explanation → List ℕ
+wrong_lines travels d summary flow ttl travel x =
+    found_lines d.topology (flow_at d.topology flow) ttl travel.finding
+    ++ (explanation_lines d summary flow x ++ events_if_shown travels d.topology travel)

@@ -12,11 +12,10 @@ use crate::audit_options::AuditOptions;
 use crate::audited_domain::AuditedDomain;
 use crate::flow_status::FlowCounts;
 use crate::verdict_text::push_overall_verdict;
-use mc_explain::{push_excluded, push_unlisted, push_without_lines};
+use mc_explain::{list_excluded_routers, push_excluded, push_unlisted, push_without_lines};
 use mc_forward::Domain;
 use mc_json::{
-    list_excluded_routers, push_domain_line, push_summary_line, push_unlisted_lines,
-    push_verdict_line, push_without_line,
+    push_domain_line, push_summary_line, push_unlisted_lines, push_verdict_line, push_without_line,
 };
 use mc_text::Memory as NoMemory;
 use mc_topology::{RouterNo, Topology};
@@ -158,10 +157,11 @@ fn push_end_text(
         ++ end_text_of audited.now options flow_counts all) }
 {
     let topology = audited.domain.topology();
+    let routers = list_excluded_routers(alloc, topology, audited.excluded)?;
     push_unlisted(alloc, text, topology, audited.summary, options.unlisted)?;
-    push_without_lines(text, topology, audited.excluded)?;
+    push_without_lines(text, topology, &routers)?;
     push_summary(text, topology.flows(), flow_counts)?;
-    push_excluded(text, topology, audited.excluded)?;
+    push_excluded(text, topology, &routers)?;
     push_strict(text, options.strict, all, flow_counts.unwanted)
 }
 
@@ -184,8 +184,9 @@ fn push_end_objects(
         wrong,
         unwanted,
     } = flow_counts;
+    let routers = list_excluded_routers(alloc, topology, audited.excluded)?;
     push_unlisted_lines(alloc, text, topology, audited.summary, options.unlisted)?;
-    push_without_line(alloc, text, topology, audited.excluded)?;
+    push_without_line(alloc, text, topology, &routers)?;
     push_summary_line(alloc, text, right, unwanted, wrong)
 }
 

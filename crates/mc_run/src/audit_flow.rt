@@ -18,6 +18,7 @@ use crate::audited_domain::AuditedDomain;
 use crate::flow_status::FlowStatus;
 use mc_cert::DistinctTrees;
 use mc_explain::{Cause, explain};
+use mc_forward::FlowView;
 use mc_maker::{ExaminedFlights, examine_to_end};
 use mc_replay::FinishedTravel;
 use mc_text::Memory as NoMemory;
@@ -105,7 +106,8 @@ fn push_found_at_flow_ttl(
         → IsFlowPushed (audited_value audited.now) options
         flow flow_status shown_trees shown_trees (string_bytes text.old) (string_bytes text.new)) }
 {
-    let ttl = audited.domain.topology().flow(flow).ttl;
+    let view = FlowView::new(audited.domain, flow);
+    let ttl = view.ttl();
     let causes = causes_to_print(alloc, audited, flow, flights)?;
     push_wrong(
         alloc, audited, flow, least, ttl, options, &causes, &None, text,

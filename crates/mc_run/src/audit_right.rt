@@ -6,13 +6,10 @@ ghost use Rattle.std.specs.String.{string_bytes};
 ghost use Rattle.mc_theory.specs.Certificates.{IsAccepted};
 ghost use Rattle.mc_theory.specs.Headline.{HeadlineHolds};
 ghost use Rattle.mc_forward.specs.Domains.{net_of};
-ghost use Rattle.mc_forward.specs.ListedTables.{facts};
 ghost use Rattle.mc_cert.specs.Distinct.{tree_number_of, with_tree};
 ghost use Rattle.mc_check.specs.declared.verdict.Verdict.TheVariants.{Yes as is_yes};
-ghost use Rattle.mc_explain.specs.WantedText.{lans_wanting};
 ghost use Rattle.mc_run.specs.AuditObjects.{tree_line};
-ghost use Rattle.mc_run.specs.AuditPieces.{AppendsLinesOfFlow, audited_value, lans_wanting_flow};
-ghost use Rattle.mc_run.specs.AuditPieces.{right_flow_lines_of};
+ghost use Rattle.mc_run.specs.AuditPieces.{audited_value, lans_wanting_flow, right_flow_lines_of};
 ghost use Rattle.mc_run.specs.AuditPieces.{right_lines_of, right_objects_of};
 ghost use Rattle.mc_run.specs.AuditText.{right_line};
 ghost use Rattle.mc_run.specs.AuditFlowText.{is_hidden, status_of_right, with_shown_tree};
@@ -23,11 +20,11 @@ use crate::flow_status::FlowStatus;
 use crate::verdict_text::{FlowWords, push_flow_verdict};
 use mc_cert::{DistinctTrees, Reached};
 use mc_check::{Verdict, check_flow};
-use mc_explain::{count_wanted, push_wanted};
-use mc_forward::Domain;
+use mc_explain::{lans_wanting, push_wanted};
+use mc_forward::FlowView;
 use mc_json::{push_right_line, push_tree_line};
 use mc_text::Memory as NoMemory;
-use mc_topology::{Flow, Topology};
+use mc_topology::{Flow, LanNo, Topology};
 use std::alloc::Global;
 
 // ---- as text
@@ -50,27 +47,24 @@ fn push_certified_line(
     writeln!(text, "{words} no fault known copies {copies}").map_err(|_| NoMemory)
 }
 
-/// Writes the line of a flow that is right and the LANs that want it. Returns the flow's status.
+/// Writes the line of a flow that is right, and the LANs that want it.
 fn push_right_lines(
     text: &mut String,
     audited: &AuditedDomain<'_>,
     flow: u32,
     copies: u32,
-) -> Result<FlowStatus, NoMemory>
+    wanted: &[LanNo],
+) -> Result<(), NoMemory>
     requires known { flow < length (audited_value audited.now).domain.topology.flows }
-    ensures flow_status { IfOk result (λ flow_status.
-        flow_status ≡ status_of_right (lans_wanting_flow audited.now flow)) }
-    ensures lines { OnOk result (AppendsLinesOfFlow audited.now flow (right_lines_of audited.now copies)
-        (string_bytes text.old) (string_bytes text.new)) }
+    ensures lines { OnOk result (string_bytes text.new ≡ string_bytes text.old
+        ++ right_lines_of audited.now flow copies wanted.now) }
 {
+    let view = FlowView::new(audited.domain, flow);
+    let listed = view.flow();
     let topology = audited.domain.topology();
     let whole = audited.without.is_empty();
-    push_certified_line(text, topology, topology.flow(flow), copies, whole)?;
-    if push_wanted(text, audited.domain, flow)? == 0 {
-        Ok(FlowStatus::Unwanted)
-    } else {
-        Ok(FlowStatus::Wanted)
-    }
+    push_certified_line(text, topology, &listed, copies, whole)?;
+    push_wanted(text, topology, wanted)
 }
 
 // ---- in JSON
@@ -97,20 +91,8 @@ fn push_tree_once(
     Ok(number)
 }
 
-/// The status of a flow that is right.
-fn status_of(domain: &Domain, flow: u32) -> FlowStatus
-    requires known { flow < length domain.now.topology.flows }
-    ensures value { result ≡ status_of_right (lans_wanting (facts domain.now) flow) }
-{
-    if count_wanted(domain, flow) == 0 {
-        FlowStatus::Unwanted
-    } else {
-        FlowStatus::Wanted
-    }
-}
-
-/// Writes the tree of a flow, unless it was printed before, and the flow with its number of copies.
-/// Returns the flow's status.
+/// Writes the tree of a flow, unless it was printed before, and the flow with its number of copies and
+/// the LANs that want it.
 fn push_right_objects(
     alloc: Global,
     text: &mut String,
@@ -118,26 +100,49 @@ fn push_right_objects(
     flow: u32,
     entries: &[Reached],
     copies: u32,
+    wanted: &[LanNo],
     shown_trees: &mut DistinctTrees,
-) -> Result<FlowStatus, NoMemory>
+) -> Result<(), NoMemory>
     requires flow { flow < length (audited_value audited.now).domain.topology.flows }
     requires copies { copies ≡ length entries.now }
     requires room { length shown_trees.old < 4096 }
-    ensures flow_status { IfOk result (λ flow_status.
-        flow_status ≡ status_of_right (lans_wanting_flow audited.now flow)) }
     ensures shown_trees { OnOk result (shown_trees.new ≡ with_tree shown_trees.old entries.now) }
-    ensures lines { OnOk result (AppendsLinesOfFlow audited.now flow
-        (right_objects_of audited.now shown_trees.old entries.now)
-        (string_bytes text.old) (string_bytes text.new)) }
+    ensures lines { OnOk result (string_bytes text.new ≡ string_bytes text.old
+        ++ right_objects_of audited.now shown_trees.old flow entries.now wanted.now) }
 {
-    let domain = audited.domain;
+    let topology = audited.domain.topology();
     let whole = audited.without.is_empty();
-    let number = push_tree_once(alloc, text, domain.topology(), shown_trees, entries)?;
-    push_right_line(alloc, text, domain, whole, flow, copies as usize, number)?;
-    Ok(status_of(domain, flow))
+    let copies = copies as usize;
+    let number = push_tree_once(alloc, text, topology, shown_trees, entries)?;
+    push_right_line(alloc, text, topology, whole, flow, copies, number, wanted)
 }
 
 // ---- both
+
+/// The LANs that want a flow.
+fn lans_wanting_flow(
+    alloc: Global,
+    audited: &AuditedDomain<'_>,
+    flow: u32,
+) -> Result<Vec<LanNo>, NoMemory>
+    requires known { flow < length (audited_value audited.now).domain.topology.flows }
+    ensures lans { IfOk result (λ lans. lans.items ≡ lans_wanting_flow audited.now flow) }
+{
+    let view = FlowView::new(audited.domain, flow);
+    let lans = lans_wanting(alloc, &view)?;
+    Ok(lans)
+}
+
+/// The status of a right flow that these LANs want.
+fn status_of_right(wanted: &[LanNo]) -> FlowStatus
+    ensures { result ≡ status_of_right wanted.now }
+{
+    if wanted.is_empty() {
+        FlowStatus::Unwanted
+    } else {
+        FlowStatus::Wanted
+    }
+}
 
 /// Writes the lines of a right flow with these entries, as text or in JSON; nothing where only faults
 /// are asked for and the flow is wanted. Returns the flow's status.
@@ -158,18 +163,29 @@ fn push_right(
         flow_status ≡ status_of_right (lans_wanting_flow audited.now flow)) }
     ensures shown_trees { OnOk result (shown_trees.new ≡ with_shown_tree options.json
         (is_hidden options.faults (lans_wanting_flow audited.now flow)) shown_trees.old entries.now) }
-    ensures lines { OnOk result (AppendsLinesOfFlow audited.now flow
-        (right_flow_lines_of audited.now options shown_trees.old entries.now)
-        (string_bytes text.old) (string_bytes text.new)) }
+    ensures lines { OnOk result (string_bytes text.new ≡ string_bytes text.old
+        ++ right_flow_lines_of audited.now options shown_trees.old flow entries.now) }
 {
-    if options.faults && count_wanted(audited.domain, flow) != 0 {
-        return Ok(FlowStatus::Wanted);
+    let wanted = lans_wanting_flow(alloc, audited, flow)?;
+    let flow_status = status_of_right(&wanted);
+    if options.faults && !wanted.is_empty() {
+        return Ok(flow_status);
     }
     if options.json {
-        push_right_objects(alloc, text, audited, flow, entries, copies, shown_trees)
+        push_right_objects(
+            alloc,
+            text,
+            audited,
+            flow,
+            entries,
+            copies,
+            &wanted,
+            shown_trees,
+        )?;
     } else {
-        push_right_lines(text, audited, flow, copies)
+        push_right_lines(text, audited, flow, copies, &wanted)?;
     }
+    Ok(flow_status)
 }
 
 /// Writes the lines of a right flow, by the checker's verdict, which is yes for an accepted list.
@@ -191,9 +207,8 @@ fn push_with_verdict(
         flow_status ≡ status_of_right (lans_wanting_flow audited.now flow)) }
     ensures shown_trees { OnOk result (shown_trees.new ≡ with_shown_tree options.json
         (is_hidden options.faults (lans_wanting_flow audited.now flow)) shown_trees.old entries.now) }
-    ensures lines { OnOk result (AppendsLinesOfFlow audited.now flow
-        (right_flow_lines_of audited.now options shown_trees.old entries.now)
-        (string_bytes text.old) (string_bytes text.new)) }
+    ensures lines { OnOk result (string_bytes text.new ≡ string_bytes text.old
+        ++ right_flow_lines_of audited.now options shown_trees.old flow entries.now) }
 {
     match answer {
         Ok(Verdict::Yes { copies }) => {
@@ -233,9 +248,8 @@ pub(crate) fn push_checked(
         flow_status ≡ status_of_right (lans_wanting_flow audited.now flow)) }
     ensures shown_trees { OnOk result (shown_trees.new ≡ with_shown_tree options.json
         (is_hidden options.faults (lans_wanting_flow audited.now flow)) shown_trees.old entries.now) }
-    ensures lines { OnOk result (AppendsLinesOfFlow audited.now flow
-        (right_flow_lines_of audited.now options shown_trees.old entries.now)
-        (string_bytes text.old) (string_bytes text.new)) }
+    ensures lines { OnOk result (string_bytes text.new ≡ string_bytes text.old
+        ++ right_flow_lines_of audited.now options shown_trees.old flow entries.now) }
 {
     let answer = check_flow(alloc, audited.domain, flow, entries);
     push_with_verdict(

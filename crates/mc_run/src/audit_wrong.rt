@@ -3,10 +3,9 @@
 ghost use Rattle.std.specs.Prelude.{◌≡◌, ◌<◌, ◌++◌, IfOk, OnOk, length};
 ghost use Rattle.std.specs.String.{string_bytes};
 ghost use Rattle.mc_maker.specs.ExaminedFlights.{IsFinishedTravelOf};
-ghost use Rattle.mc_run.specs.AuditPieces.{AppendsLinesOfFlow, HasItsMarksAndInterfaces, also_missed_lines};
-ghost use Rattle.mc_run.specs.AuditPieces.{audited_value, explanation_lines_of, search_context_of};
-ghost use Rattle.mc_run.specs.AuditPieces.{searched_lines_of, wrong_flow_lines_of, wrong_lines_of};
-ghost use Rattle.mc_run.specs.AuditPieces.{wrong_object_of};
+ghost use Rattle.mc_run.specs.AuditPieces.{HasItsMarksAndInterfaces, audited_value, explanation_lines_of};
+ghost use Rattle.mc_run.specs.AuditPieces.{explanation_value, search_context_of, searched_lines_of};
+ghost use Rattle.mc_run.specs.AuditPieces.{wrong_flow_lines_of, wrong_lines_of, wrong_object_of};
 ghost use Rattle.mc_run.specs.AuditExplanation.{IsSearchIfMissed};
 ghost use Rattle.mc_run.specs.AuditText.{events_if_shown};
 
@@ -14,8 +13,10 @@ use crate::audit_options::AuditOptions;
 use crate::audited_domain::AuditedDomain;
 use crate::found_text::push_found_lines;
 use crate::travel_text::push_events;
-use mc_explain::{Cause, LanSearch, push_also_missed, push_causes, push_search, search};
-use mc_json::{push_missed_line, push_wrong_line};
+use mc_explain::{Cause, Explanation, LanSearch, missed_besides, push_also_missed, search};
+use mc_forward::FlowView;
+use mc_json::push_wrong_line;
+use mc_lines::{push_causes, push_search};
 use mc_replay::{Finding, FinishedTravel, Travel};
 use mc_text::Memory as NoMemory;
 use mc_topology::Topology;
@@ -55,51 +56,42 @@ pub(crate) fn search_if_missed(
 
 /// Writes the lines of a search, if there was one.
 fn push_search_if_any(
+    alloc: Global,
     text: &mut String,
     audited: &AuditedDomain<'_>,
     flow: u32,
     found: &Option<LanSearch>,
 ) -> Result<(), NoMemory>
     requires known { flow < length (audited_value audited.now).domain.topology.flows }
-    ensures added { OnOk result (AppendsLinesOfFlow audited.now flow
-        (searched_lines_of audited.now found.now)
-        (string_bytes text.old) (string_bytes text.new)) }
+    ensures added { OnOk result (string_bytes text.new ≡ string_bytes text.old
+        ++ searched_lines_of audited.now flow found.now) }
 {
     match found {
-        Some(found) => push_search(text, audited.domain, audited.summary, flow, found),
+        Some(found) => push_search(alloc, text, audited.domain, audited.summary, flow, found),
         None => Ok(()),
-    }
-}
-
-/// Writes which other LANs a packet missed, if it missed one.
-fn push_other_missed_lans(text: &mut String, ended: &FinishedTravel<'_>) -> Result<(), NoMemory>
-    ensures { OnOk result (string_bytes text.new
-        ≡ string_bytes text.old ++ also_missed_lines ended.now) }
-{
-    match ended.travel.finding {
-        Finding::Missed(lan) => push_also_missed(text, &ended.flight, lan),
-        _ => Ok(()),
     }
 }
 
 /// Writes what explains a finding: its causes, a search if there was one, and the other missed LANs.
 fn push_explanation(
+    alloc: Global,
     text: &mut String,
     audited: &AuditedDomain<'_>,
     flow: u32,
-    ended: &FinishedTravel<'_>,
-    causes: &[Cause],
-    found: &Option<LanSearch>,
+    explanation: &Explanation<'_>,
 ) -> Result<(), NoMemory>
     requires flow { flow < length (audited_value audited.now).domain.topology.flows }
-    requires domain { ended.now.flight.domain ≡ (audited_value audited.now).domain }
-    ensures added { OnOk result (AppendsLinesOfFlow audited.now flow
-        (explanation_lines_of audited.now ended.now causes.now found.now)
-        (string_bytes text.old) (string_bytes text.new)) }
+    ensures added { OnOk result (string_bytes text.new ≡ string_bytes text.old
+        ++ explanation_lines_of audited.now flow (explanation_value explanation.now)) }
 {
+    let Explanation {
+        causes,
+        search,
+        also,
+    } = *explanation;
     push_causes(text, audited.domain, audited.summary, flow, causes)?;
-    push_search_if_any(text, audited, flow, found)?;
-    push_other_missed_lans(text, ended)
+    push_search_if_any(alloc, text, audited, flow, search)?;
+    push_also_missed(text, audited.domain.topology(), also)
 }
 
 /// Writes the events of a travel, if travels are to be printed.
@@ -121,31 +113,25 @@ fn push_travel(
 /// Writes that a flow has no certificate, what a packet with this TTL meets, why, and the packet's
 /// travel, if travels are to be printed.
 fn push_wrong_lines(
+    alloc: Global,
     text: &mut String,
     audited: &AuditedDomain<'_>,
     flow: u32,
-    ended: &FinishedTravel<'_>,
+    travel: &Travel,
     ttl: u8,
     travels: bool,
-    causes: &[Cause],
-    found: &Option<LanSearch>,
+    explanation: &Explanation<'_>,
 ) -> Result<(), NoMemory>
     requires flow { flow < length (audited_value audited.now).domain.topology.flows }
-    requires domain { ended.now.flight.domain ≡ (audited_value audited.now).domain }
-    ensures added { OnOk result (AppendsLinesOfFlow audited.now flow
-        (wrong_lines_of audited.now travels ttl ended.now causes.now found.now)
-        (string_bytes text.old) (string_bytes text.new)) }
+    ensures added { OnOk result (string_bytes text.new ≡ string_bytes text.old
+        ++ wrong_lines_of audited.now travels flow ttl travel.now (explanation_value explanation.now)) }
 {
+    let view = FlowView::new(audited.domain, flow);
+    let listed = view.flow();
     let topology = audited.domain.topology();
-    push_found_lines(
-        text,
-        topology,
-        topology.flow(flow),
-        ttl,
-        ended.travel.finding,
-    )?;
-    push_explanation(text, audited, flow, ended, causes, found)?;
-    push_travel(text, topology, travels, &ended.travel)
+    push_found_lines(text, topology, &listed, ttl, travel.finding)?;
+    push_explanation(alloc, text, audited, flow, explanation)?;
+    push_travel(text, topology, travels, travel)
 }
 
 // ---- in JSON
@@ -159,28 +145,30 @@ fn push_wrong_object(
     ended: &FinishedTravel<'_>,
     ttl: u8,
     travels: bool,
-    causes: &[Cause],
-    found: &Option<LanSearch>,
+    explanation: &Explanation<'_>,
 ) -> Result<(), NoMemory>
     requires flow { flow < length (audited_value audited.now).domain.topology.flows }
     requires domain { ended.now.flight.domain ≡ (audited_value audited.now).domain }
-    ensures added { OnOk result (AppendsLinesOfFlow audited.now flow
-        (wrong_object_of audited.now travels ttl ended.now causes.now found.now)
-        (string_bytes text.old) (string_bytes text.new)) }
+    ensures added { OnOk result (string_bytes text.new ≡ string_bytes text.old
+        ++ wrong_object_of audited.now travels flow ttl ended.now.travel
+        (explanation_value explanation.now)) }
 {
     let AuditedDomain {
         domain,
         summary,
         ..
     } = *audited;
-    match found {
-        Some(found) => push_missed_line(
-            alloc, text, domain, summary, flow, ended, ttl, travels, causes, found,
-        ),
-        None => push_wrong_line(
-            alloc, text, domain, summary, flow, ended, ttl, travels, causes,
-        ),
-    }
+    push_wrong_line(
+        alloc,
+        text,
+        domain,
+        summary,
+        flow,
+        ended,
+        ttl,
+        travels,
+        explanation,
+    )
 }
 
 // ---- both
@@ -199,16 +187,38 @@ pub(crate) fn push_wrong(
 ) -> Result<(), NoMemory>
     requires flow { flow < length (audited_value audited.now).domain.topology.flows }
     requires domain { ended.now.flight.domain ≡ (audited_value audited.now).domain }
-    ensures added { OnOk result (AppendsLinesOfFlow audited.now flow
-        (wrong_flow_lines_of audited.now options ttl ended.now causes.now found.now)
-        (string_bytes text.old) (string_bytes text.new)) }
+    ensures added { OnOk result (string_bytes text.new ≡ string_bytes text.old
+        ++ wrong_flow_lines_of audited.now options flow ttl ended.now causes.now found.now) }
 {
+    let also = missed_besides(alloc, &ended.flight, ended.travel.finding)?;
+    let explanation = Explanation {
+        causes,
+        search: found,
+        also: &also,
+    };
     let travels = options.travels;
     if options.json {
         push_wrong_object(
-            alloc, text, audited, flow, ended, ttl, travels, causes, found,
+            alloc,
+            text,
+            audited,
+            flow,
+            ended,
+            ttl,
+            travels,
+            &explanation,
         )
     } else {
-        push_wrong_lines(text, audited, flow, ended, ttl, travels, causes, found)
+        let travel = &ended.travel;
+        push_wrong_lines(
+            alloc,
+            text,
+            audited,
+            flow,
+            travel,
+            ttl,
+            travels,
+            &explanation,
+        )
     }
 }

@@ -38,6 +38,9 @@ is_register flags = not (bit_and flags 0x4 == 0)
 abbrev pub no_device : List ℕ
 no_device = codes "none"
 
+abbrev pub has_device : VifValue → Bool
+has_device vif = not (bytes_eq vif.device no_device)
+
 -- the word denotes the flags of the vif in hexadecimal (`%05X`); the other bits aren't used
 pub record WordDenotesFlags (word : List ℕ) (vif : VifValue) : Type 0 where
   pub digits : IsTrue (is_hexadecimal 5 8 word)

@@ -1,9 +1,12 @@
 //! A virtual interface of the kernel's multicast routing.
 
 ghost use Rattle.std.specs.Prelude.{◌≡◌, ◌≤◌, length};
-ghost use Rattle.mc_tables.specs.VifTable.{is_tunnel, is_register};
+ghost use Rattle.mc_tables.specs.VifTable.{has_device, is_tunnel, is_register};
 
 use std::marker::Model;
+
+/// The kernel's word for a vif without a device.
+pub(crate) const NO_DEVICE: &[u8] = b"none";
 
 /// A network device's name, or `none`.
 #[derive(Debug, Drop)]
@@ -86,6 +89,13 @@ impl Vif {
         ensures { result.now ≡ self.now.device }
     {
         self.device.as_bytes()
+    }
+
+    /// Whether it has a device, and not the word `none`.
+    pub fn has_device(&self) -> bool
+        ensures { result ≡ has_device self.now }
+    {
+        self.device.as_bytes() != NO_DEVICE
     }
 
     /// Whether it is a tunnel.

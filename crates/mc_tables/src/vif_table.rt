@@ -16,7 +16,7 @@ ghost use Rattle.mc_tables.specs.VifReading.{vifs_in};
 ghost use Rattle.mc_tables.specs.VifLookups.{HasDevice, IsValidVifTable, first_index_with, index_of};
 
 use crate::fault::{TableFault, TableFaultKind};
-use crate::vif::Vif;
+use crate::vif::{NO_DEVICE, Vif};
 use crate::vif_line::vif_of_line;
 use crate::vif_reader::VifReader;
 use crate::vif_row::VifRow;
@@ -24,9 +24,6 @@ use crate::vif_rows::VifRows;
 use mc_text::Line;
 use std::alloc::Global;
 use std::marker::Model;
-
-/// The kernel's word for a vif without a device.
-const NO_DEVICE: &[u8] = b"none";
 
 /// The vifs of a router, each with its index.
 #[derive(Debug, Drop)]

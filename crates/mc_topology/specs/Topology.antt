@@ -25,6 +25,11 @@ lan_name t lan = unwrap_or (slice_get t.lans lan) []
 abbrev pub router_name : TopologyValue → ℕ → List ℕ
 router_name t router = unwrap_or (option_map (λ r. r.name) (slice_get t.routers router)) []
 
+-- the flow with a number; one of zeros for a number that the topology doesn't have
+abbrev pub flow_at : TopologyValue → ℕ → Flow
+flow_at t flow =
+    unwrap_or (slice_get t.flows flow) (record { source = 0; lan = 0; group = 0; ttl = 0 })
+
 -- the key of a row, by which no two rows of its section agree: the name of a LAN and of a router,
 abbrev pub lan_key : List ℕ → List ℕ
 lan_key name = name

@@ -3,7 +3,7 @@ use Rattle.std.proofs.Common.{ℕ, ◌≤◌, List, [], ◌∷◌, ◌++◌, ref
 use Rattle.mc_theory.specs.Paths.{Hop, need}
 use Rattle.mc_forward.specs.FlightsInDomain.{net_in}
 use Rattle.mc_explain.specs.declared.causes.Cause.TheVariants.{LeastTtl, StoppedAt}
-use Rattle.mc_explain.specs.LastFlights.{path_of}
+use Rattle.mc_theory.specs.Hops.{hops_of_copy}
 use Rattle.mc_explain.proofs.FoundCopyLemmas.{held-is_first_copy, found_hops-are_path}
 use Rattle.mc_explain.proofs.FoundCopyLemmas.{passes_hops-from_no_stop, is_stopped-from_stop}
 use Rattle.mc_explain.proofs.FoundCopyLemmas.{causes-two_pushed}
@@ -20,7 +20,7 @@ unreachable-requires-in_default-first_stop c =
     c.on.ensures c.in-Some.is r.path.on in
     let path = found_hops-are_path n cs c.copies-2.result.now r.first c.in-Some.first c.in_ok-path.path.items
     c.deref.result.now c.copies-2.ensures.copies same c.in_ok-path.ensures.ok c.deref.ensures.value in
-    r.stopped (passes_hops-from_no_stop n.ttl c.ttl.result c.deref.result.now (path_of n cs r.first)
+    r.stopped (passes_hops-from_no_stop n.ttl c.ttl.result c.deref.result.now (hops_of_copy n cs r.first)
     c.first_stop.result
     c.first_stop.ensures c.ttl.ensures path c.in_default-first_stop.is)
 
@@ -63,15 +63,15 @@ returns c = record {
       let left = c.in-Some-first_stop.stopped.1 in
       record {
         copy = r.first;
-        path = path_of n cs r.first;
+        path = hops_of_copy n cs r.first;
         hop = hop;
         left = left;
         copy_is = r.path.on;
         came_by_hops = r.path.came_by_hops;
-        stopped = is_stopped-from_stop n.ttl c.ttl.result c.deref.result.now (path_of n cs r.first)
+        stopped = is_stopped-from_stop n.ttl c.ttl.result c.deref.result.now (hops_of_copy n cs r.first)
             c.first_stop.result
             hop left c.first_stop.ensures c.ttl.ensures path c.in-Some-first_stop.is;
-        causes_are = causes-two_pushed (LeastTtl c.args.lan (need (path_of n cs r.first)))
+        causes_are = causes-two_pushed (LeastTtl c.args.lan (need (hops_of_copy n cs r.first)))
             (StoppedAt hop.router hop.vif hop.threshold left) c.new-causes.result.items
             c.push.new.self.items c.push-2.new.self.items c.new-causes.ensures.items
             (c.in_ok-push.ensures.items ∙ ap (λ (k : ℕ). c.new-causes.result.items

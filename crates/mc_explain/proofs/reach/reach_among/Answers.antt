@@ -1,7 +1,7 @@
 -- By the marks.
 use Rattle.std.proofs.Common.{◌&&◌, not, true, false, replicate}
 use Rattle.mc_explain.specs.SearchReach.{has_event}
-use Rattle.mc_explain.proofs.FirstEightLemmas.{slice_index_or-replicate_false}
+use Rattle.mc_explain.proofs.FilterLemmas.{slice_index_or-replicate_false}
 use Rattle.mc_explain.proofs.ReachLemmas.{are_marks_of-has_event, are_marks_of-took_none}
 use Rattle.mc_explain.proofs.reach.reach_among.Goals as goal
 

@@ -2,7 +2,7 @@
 use Rattle.std.proofs.Common.{◌==◌, ℕ, List, take, refl, sym, ap, ◌∙◌}
 use Rattle.std.specs.List.{list_any}
 use Rattle.mc_explain.specs.LanProbe.{search_in}
-use Rattle.mc_explain.proofs.FirstEightLemmas.{slice_index_or-replicate_false}
+use Rattle.mc_explain.proofs.FilterLemmas.{slice_index_or-replicate_false}
 use Rattle.mc_explain.proofs.ReachLemmas.{routers_of_lans-all_below, routers_of_lans-more}
 use Rattle.mc_explain.proofs.reach.routers_of_lans.Goals as goal
 

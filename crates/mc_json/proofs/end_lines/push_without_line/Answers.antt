@@ -7,5 +7,5 @@ pub push_line-requires : goal.push_line-requires
 push_line-requires c = record {
   no_float = (
       ap has_float c.in_ok-value.ensures
-      ∙ no_float-without_data c.args.topology.now c.deref.result.now);
+      ∙ no_float-without_data c.args.topology.now c.args.routers.now);
 }

@@ -1,6 +1,4 @@
 use Rattle.std.proofs.Common.{ap, map, sym, subst, ◌∙◌}
-use Rattle.mc_explain.specs.WantedText.{lans_wanting}
-use Rattle.mc_forward.specs.ListedTables.{facts}
 use Rattle.serde_json.specs.View.{view as data_of}
 use Rattle.serde_json.specs.Written.{has_float}
 use Rattle.mc_json.proofs.NoFloatLemmas.{HaveNoFloat, no_float-lans, no_float-right_data}
@@ -9,9 +7,8 @@ use Rattle.mc_json.proofs.right_line.push_right_line.Goals as goal
 pub push_line-requires : goal.push_line-requires
 push_line-requires c = record {
   no_float = (
-      let view = c.new-view.result in
       let plain = subst HaveNoFloat (sym c.in_ok-wanted.ensures)
-      (no_float-lans view.domain.topology (lans_wanting (facts view.domain) view.flow)) in
+      (no_float-lans c.args.topology.now c.args.wanted.now) in
       ap has_float c.in_ok-value.ensures
       ∙ no_float-right_data c.args.whole c.args.flow c.flow-listed.result.now c.args.copies c.args.tree
       (map data_of c.in_ok-wanted.wanted.items) plain);

@@ -1,8 +1,6 @@
 use Rattle.std.proofs.Common.{ap, map, ◌∙◌}
 use Rattle.serde_json.specs.View.{view as data_of}
 use Rattle.serde_json.specs.Written.{has_float}
-use Rattle.mc_forward.specs.ListedTables.{facts}
-use Rattle.mc_explain.specs.WantedText.{missed_besides}
 use Rattle.mc_json.proofs.NoFloatLemmas.{no_float-wrong_flow_of}
 use Rattle.mc_json.proofs.wrong_line.push_wrong_flow.Goals as goal
 
@@ -11,10 +9,9 @@ push_line-requires c = record {
   no_float = (
       let ended = c.args.ended.now in
       let flight = ended.flight in
-      let also = missed_besides (facts flight.domain) flight.flow flight.flight.carried
-      ended.travel.finding in
       ap has_float c.in_ok-value.ensures
       ∙ no_float-wrong_flow_of c.args.number c.args.flow.now flight.domain.topology c.args.found_ttl
-      ended.travel.finding ended.travel.events.items also (map data_of c.args.why.items) c.args.events_asked
+      ended.travel.finding ended.travel.events.items c.args.also.now (map data_of c.args.why.items)
+      c.args.events_asked
       c.requires.no_float);
 }

@@ -26,7 +26,7 @@ returns c = record {
       let found = c.in_ok-found.found in
       is_flow_pushed-wrong v c.args.options c.args.flow c.args.flights.now 255 ended.travel
       (explanation_in ended causes found) _ _ c.requires.flow c.requires.flights
-      c.requires.examined (λ f at. ap (without_flights v.domain c.args.flow) c.requires.is)
+      c.requires.examined (ap (without_flights v.domain c.args.flow) c.requires.is)
       (is_explanation-at_255 v c.args.flow c.args.flights.now ended causes found
       c.requires.is c.requires.flights c.in_ok-causes.ensures.causes c.in_ok-found.ensures.search)
       (wrong_flow_lines-same_causes v c.args.options c.args.flow 255 ended c.deref.result.now causes found _ _

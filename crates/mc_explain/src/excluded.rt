@@ -1,0 +1,40 @@
+//! The routers that are excluded, by a mark for each router.
+
+ghost use Rattle.std.specs.Prelude.{◌≡◌, IfOk};
+ghost use Rattle.mc_explain.specs.ExcludedText.{excluded_routers};
+ghost use Rattle.mc_explain.specs.SearchLine.{is_excluded};
+
+use mc_topology::{RouterNo, Topology};
+use std::alloc::{AllocError, Global};
+
+/// Whether a router is marked as excluded. Routers without a mark aren't.
+pub(crate) fn is_excluded(marks: &[bool], router: RouterNo) -> bool
+    ensures { result ≡ is_excluded marks.now router }
+{
+    match marks.get(router.0 as usize) {
+        Some(mark) => *mark,
+        None => false,
+    }
+}
+
+/// The routers that are marked as excluded, in the topology's order. Routers without a mark aren't.
+///
+/// # Errors
+///
+/// `AllocError` if an allocation fails.
+pub fn list_excluded_routers(
+    alloc: Global,
+    topology: &Topology,
+    excluded: &[bool],
+) -> Result<Vec<RouterNo>, AllocError>
+    ensures { IfOk result (λ routers. routers.items ≡ excluded_routers topology.now excluded.now) }
+{
+    let mut routers = Vec::new(alloc);
+    for number in 0..topology.routers() {
+        let router = RouterNo(number);
+        if is_excluded(excluded, router) {
+            routers.push(router)?;
+        }
+    }
+    Ok(routers)
+}

@@ -33,7 +33,7 @@ from case_files import make_links, read, value_of, without_times, write, write_f
 
 PROGRAM = os.environ.get("PROGRAM", f"{TOP}/crates/mcaudit/out/mcaudit")
 ASKING = ("collect", "reports")  # the tools that need only a shell on the routers
-ALL = (*ASKING, "diff", "draft", "monitor", "page", "query", "site")
+ALL = (*ASKING, "diff", "draft", "monitor", "page", "premises", "query", "site")
 APPLETS = ("cp date grep ln ls mkdir mkfifo mktemp mv od readlink rm rmdir sed setsid sh sleep sync tail timeout tr "
            "wc").split()
 FIRST = "20260101T000000Z"  # the set that exists at first

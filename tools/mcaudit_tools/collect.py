@@ -14,7 +14,7 @@ import sys
 import threading
 import time
 
-from mcaudit_tools import answers, origins, topology, ways
+from mcaudit_tools import answers, facts, origins, topology, ways
 from mcaudit_tools.common import PROGRAM, Ended, Failed, Parser, clean, say
 from mcaudit_tools.programs import RUNNING, run
 from mcaudit_tools.sets import Site
@@ -62,6 +62,7 @@ class Collected:
     line: str = ""
     folder: str = ""
     time: int = 0
+    facts_time: int = 0
     identity: "bytes | None" = None  # the boot and the network namespace, where the router says them
 
 
@@ -85,9 +86,10 @@ def read_arguments():
     parser.add_argument("--at-once", metavar="N", default="8", help="read at most N routers side by side, 1 to 100 (8)")
     parser.add_argument("--ssh", metavar="COMMAND", default=ways.SSH,
                         help=f"reach a HOST by `COMMAND HOST sh` ({ways.SSH})")
-    parser.add_argument("--facts", action="store_true", help="bring the router's addresses and routes too, as "
-                        "address-NAME and route-NAME: what `ip -j address` says, or where it can't, `ip -o -4 "
-                        "address`, and /proc/net/route. mcaudit-draft reads them; what a router has not is empty")
+    parser.add_argument("--facts", action="store_true", help="bring what else decides what a router forwards too, as "
+                        "facts-NAME, which mcaudit-premises judges (rp_filter, links, filters, counters ..; as root it "
+                        "has the filters), and those of the last set as earlier-NAME; addresses and routes for "
+                        "mcaudit-draft, as address-NAME and route-NAME. What a router has not is left out")
     parser.add_argument("--shell", metavar="NAME", help="collect nothing: run a shell on the router NAME by its way, "
                         "with this standard input and output")
     parser.add_version()
@@ -192,6 +194,8 @@ class Reading:
             if not fault:
                 parts = [self.identity_part(it) for it in answers.IDENTITY]
                 found.identity = b" ".join(parts) if all(parts) else None
+        if wanted:
+            found.facts_time = facts.ask(self.words, self.router, self.folder)
         return found
 
     def identity_part(self, name):
@@ -264,18 +268,20 @@ def new_files(words, found):
     """Returns the files of the new set: where each lies, and where it comes from."""
     files = {}
     for router in words.all:
-        one = found[router.name]
-        for table in (*answers.TABLES[:2], *(answers.FACTS if words.facts else ())):
-            if not one.fault:
-                origin = origins.Origin(origins.COLLECT, router.name, one.time)
-                files[f"{FILES[table]}-{router.name}"] = os.path.join(one.folder, table), origin
+        name, one = router.name, found[router.name]
+        for table in (*answers.TABLES[:2], *(answers.FACTS if words.facts else ())) if not one.fault else ():
+            files[f"{FILES[table]}-{name}"] = (os.path.join(one.folder, table),
+                                               origins.Origin(origins.COLLECT, name, one.time))
+        if words.facts and not one.fault:
+            files.update(facts.files_of(words.site.folder(), name, one.folder, one.facts_time))
     return files
 
 
 def is_replaced(words, name):
     """Whether a file of the last set isn't carried into the new one: the tables of a router that was not collected are
     not."""
-    return name.startswith(("vif-", "cache-")) or words.facts and name.startswith(("address-", "route-"))
+    return name.startswith(("vif-", "cache-")) or words.facts and name.startswith(
+        ("address-", "route-", facts.PREFIX, facts.EARLIER))
 
 
 def unlisted_of(words, folder):

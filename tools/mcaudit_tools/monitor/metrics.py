@@ -26,7 +26,7 @@ def samples_of(work):
            ("unlisted_pairs", "Sources and groups in the caches that are no listed flow's.",
             judged and judged.unlisted)]
     metrics = [(name, about, [({}, value)]) for name, about, value in one if value is not None]
-    return metrics + age_samples(work.ages())
+    return metrics + age_samples(work.ages()) + (work.beside.samples() if judged and work.beside else [])
 
 
 def age_samples(ages):

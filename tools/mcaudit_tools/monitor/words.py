@@ -70,7 +70,8 @@ def read_arguments():
     words.add_argument("site", metavar="SITE")
     words.add_argument("ways", metavar="NAME=WAY", nargs="*", help="a router and the way to it, as for mcaudit-collect")
     words.add_options(COLLECTS)
-    words.add_argument("--facts", action="store_true", help="bring the routers' addresses and routes too")
+    words.add_argument("--facts", action="store_true", help="bring the routers' facts too, and warn where one of their "
+                       "own settings drops what its tables forward (mcaudit-premises)")
     words.add_argument("--adopt", action="store_true", help="if SITE is a plain folder, make it the first set")
     words.add_argument("--no-collect", action="store_true",
                        help="judge what SITE has: nothing is read of a router, compared or kept")

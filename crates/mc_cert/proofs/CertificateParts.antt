@@ -49,9 +49,6 @@ pub locate_fault_ok : {A : Type 0} (at : At) (r : Result A CertFaultKind) (x : A
 locate_fault_ok at (Ok y) x e = cc
 locate_fault_ok at (Err k) x e = absurd cc
 
-length-push : {X : Type 0} (xs : List X) (x : X) → length (xs ++ x ∷ []) ≡ length xs + 1
-length-push xs x = length-append xs (x ∷ [])
-
 module _ {X : Type 0} (one : ℕ → Data → Result X CertFault) (Denotation : ℕ → Data → X → Type 0) where
   pub each_row-denotes : ((n : ℕ) (d : Data) (x : X) → one n d ≡ Ok x → Denotation n d x)
       → (earlier : List X) (ds : List Data) (xs : List X) → each_row one earlier ds ≡ Ok xs
@@ -66,7 +63,7 @@ module _ {X : Type 0} (one : ℕ → Data → Result X CertFault) (Denotation : 
         (
           takes (length earlier) d a.0 a.1,
           subst (λ n. EachDenotes Denotation n ds ys)
-              (length-push earlier a.0) denoted,
+              (length-append earlier (a.0 ∷ [])) denoted,
         ),
       )
 
@@ -78,7 +75,7 @@ module _ {X : Type 0} (one : ℕ → Data → Result X CertFault) (Denotation : 
   each_row-from_denotes again earlier [] (x ∷ xs) s = absurd s
   each_row-from_denotes again earlier (d ∷ ds) [] s = absurd s
   each_row-from_denotes again earlier (d ∷ ds) (x ∷ xs) s =
-      let denoted = subst (λ n. EachDenotes Denotation n ds xs) (sym (length-push earlier x)) s.1 in
+      let denoted = subst (λ n. EachDenotes Denotation n ds xs) (sym (length-append earlier (x ∷ []))) s.1 in
       rw (again (length earlier) d x s.0) (each_row-from_denotes again (earlier ++ x ∷ []) ds xs denoted
       ∙ ap Ok (append_assoc earlier (x ∷ []) xs))
 

@@ -1,12 +1,13 @@
 -- The values in an object and in a list of JSON's reader.
 use Rattle.std.proofs.Common.{◌≡◌, ℕ, List, [], ◌∷◌, map, refl, ap, ◌∙◌, String, Global}
-use Rattle.std.proofs.Common.{string_bytes, Bool, ◌&&◌, ◌||◌, Bor, Option, option_map}
+use Rattle.std.proofs.Common.{string_bytes, Bool, ◌&&◌, Bor, Option, option_map}
 use Rattle.std.specs.List.{list_all, list_any}
 use Rattle.std.specs.Map.{keys_of, lookup}
 use Rattle.std.specs.BTreeMap.{is_at}
 use Rattle.std.specs.Ordering.{nat_cmp}
 use Rattle.std.specs.Cmp.Lexicographic.{slice_cmp}
 use Rattle.std.specs.Str.{bytes_eq}
+use Rattle.mc_text.proofs.Lists.{list_any-now}
 use Rattle.serde_json.specs.declared.value.Value.{Value}
 use Rattle.serde_json.specs.Find.{get_member}
 use Rattle.serde_json.specs.View.{view, items_view, members_view}
@@ -17,12 +18,6 @@ use Rattle.mc_cert.specs.Object.{rows_in, has_only}
 pub rows_in-view : (values : List Value) → rows_in (items_view values) ≡ map view values
 rows_in-view [] = refl
 rows_in-view (v ∷ values) = ap (λ (ds : List _). view v ∷ ds) (rows_in-view values)
-
--- a test of texts behind references is that of the texts
-pub list_any-now : (p : List ℕ → Bool) (texts : List (Bor (List ℕ)))
-    → list_any (λ k. p k.now) texts ≡ list_any p (map (λ k. k.now) texts)
-list_any-now p [] = refl
-list_any-now p (t ∷ texts) = ap (λ (b : Bool). p t.now || b) (list_any-now p texts)
 
 abbrev is_known_key : List (List ℕ) → List ℕ → Bool
 is_known_key known key = list_any (λ k. bytes_eq k key) known

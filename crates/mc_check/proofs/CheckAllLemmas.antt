@@ -1,7 +1,8 @@
 -- The verdicts on the first flows, with one flow more at a time.
-use Rattle.std.proofs.Common.{◌≡◌, ℕ, zero, suc, ◌+◌, ◌<◌, ◌⊎◌, inl, inr, List, [], ◌∷◌}
-use Rattle.std.proofs.Common.{◌++◌, length, slice_get, Option, Some, refl, ap, sym, subst, ◌∙◌}
+use Rattle.std.proofs.Common.{◌≡◌, ℕ, ◌+◌, ◌<◌, ◌⊎◌, inl, inr, List, [], ◌∷◌}
+use Rattle.std.proofs.Common.{◌++◌, length, slice_get, Option, Some, ap, sym, subst, ◌∙◌}
 use Rattle.std.proofs.Common.{arith, length-append}
+use Rattle.mc_text.proofs.Lists.{slice_get-push_cases}
 use Rattle.mc_theory.specs.Certificates.{Entry}
 use Rattle.mc_theory.specs.Reasons.{first_reason}
 use Rattle.mc_forward.specs.Domains.{DomainValue, IsDomain, net_of}
@@ -38,17 +39,6 @@ is_correct_verdict-verdict_by d flow es o v ok lt e by =
       right = yes_is_right n count es o j;
       headline = yes_keeps_headline n count es o j;
     })
-
-slice_get-push_cases : {A : Type 0} (xs : List A) (x : A) (i : ℕ) (y : A)
-    → slice_get (xs ++ x ∷ []) i ≡ Some y
-    → (slice_get xs i ≡ Some y) ⊎ ((i ≡ length xs) × (x ≡ y))
-slice_get-push_cases [] x zero y e = inr (refl, cc)
-slice_get-push_cases [] x (suc i) y e = absurd cc
-slice_get-push_cases (z ∷ xs) x zero y e = inl e
-slice_get-push_cases (z ∷ xs) x (suc i) y e = elim (slice_get-push_cases xs x i y e) [
-  | inl h ↦ inl h
-  | inr h ↦ inr (ap suc h.0, h.1)
-]
 
 pub verdicts_so_far-more : (d : DomainValue) (lists : List (List Entry)) (k : ℕ) (vs : List Verdict)
     (es : List Entry) (v : Verdict)

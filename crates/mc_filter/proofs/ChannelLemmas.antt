@@ -2,13 +2,13 @@
 use Rattle.std.proofs.Common.{◌≡◌, ℕ, ◌+◌, ◌<◌, Bool, false, not, ◌||◌}
 use Rattle.std.proofs.Common.{List, [], ◌∷◌, ◌++◌, length, get_or, map, slice_get, Some, refl, sym}
 use Rattle.std.proofs.Common.{ap, subst, ◌∙◌, arith, inl, inr, length-append, take}
-use Rattle.std.specs.Prelude.{◌↔◌, IfOk, IsTrue, Result, Ok, Err}
+use Rattle.std.specs.Prelude.{◌↔◌, IsTrue}
 use Rattle.std.proofs.lemmas.Bool.{cases_eq}
 use Rattle.std.proofs.lemmas.Grind.{elements}
 use Rattle.std.specs.Bool.{Decides}
 use Rattle.std.specs.List.{All, Contains}
 use Rattle.mc_filter.specs.FilterBuilding.{wanted}
-use Rattle.std.proofs.lemmas.List.{get_or-map, length-map, map-append, take_more, get_or_default}
+use Rattle.std.proofs.lemmas.List.{get_or-map, get_or_push, length-map, map-append, take_more, get_or_default}
 use Rattle.std.proofs.lemmas.Option.{slice_get_within, get_or_from_slice_get}
 use Rattle.mc_igmp.specs.declared.record.Record.{Record}
 use Rattle.mc_igmp.specs.Wants.{Wants}
@@ -66,10 +66,6 @@ wanted_answer-from_tallied groups channels records excludes states place own see
     (Wants records group channel.0) (Decides-wanted records group channel.0) is
     (rw (← state_is, seen_here) at tallied.wants))
 
-get_or-last : (xs : List Bool) (x d : Bool) → get_or (xs ++ x ∷ []) (length xs) d ≡ x
-get_or-last [] x d = refl
-get_or-last (y ∷ ys) x d = get_or-last ys x d
-
 -- one more right answer
 pub wanted_answers_more : (channels : List ℕ) (records : List Record) (places : List ChannelPlace)
     (answers : List Bool) (place : ChannelPlace) (answer : Bool) → length answers < length places
@@ -84,7 +80,7 @@ wanted_answers_more channels records places answers place answer below is own be
           ap (λ n. get_or places n d) last
           ∙ get_or_default places (length answers) d place below ∙ sym is in
           let states : get_or (answers ++ answer ∷ []) i false ≡ answer =
-          ap (λ n. get_or (answers ++ answer ∷ []) n false) last ∙ get_or-last answers answer false
+          ap (λ n. get_or (answers ++ answer ∷ []) n false) last ∙ get_or_push answers answer false (length answers) refl
           in
           subst (λ p. IsAnswerAtPlace channels records p (get_or (answers ++ answer ∷ []) i false))
           (sym here) (subst (λ b. IsAnswerAtPlace channels records place b) (sym states) own)
@@ -117,14 +113,3 @@ wanted_answers_all channels records places answers count each i channel answer a
     subst (λ (c : ℕ × ℕ). IsTrue answer ↔ Wants records c.1 c.0) own
     (subst (λ (b : Bool). IsAnswerAtPlace channels records (get_or places i d) b) here
     (each i d within))
-
--- what follows from a fact of any value follows for the value of an `Ok`
-pub if_ok_map : {A E : Type 0} (P Q : A → Type 0) (r : Result A E) → IfOk r P
-    → ((x : A) → P x → Q x) → IfOk r Q
-if_ok_map P Q (Ok x) holds then = then x holds
-if_ok_map P Q (Err e) holds then = tt
-
-pub if_ok_both : {A E : Type 0} (P Q : A → Type 0) (r : Result A E) → IfOk r P → IfOk r Q
-    → IfOk r (λ x. P x × Q x)
-if_ok_both P Q (Ok x) p q = (p, q)
-if_ok_both P Q (Err e) p q = tt

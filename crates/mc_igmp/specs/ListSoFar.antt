@@ -1,19 +1,14 @@
 -- A report list whose text comes in pieces: the state of reading, and what it ends with.
-use Rattle.std.specs.Prelude.{ℕ, ◌+◌, ◌*◌, ◌≤◌, ◌==◌, nat_lt, true, false, ◌≡◌, List, [], ◌++◌}
+use Rattle.std.specs.Prelude.{ℕ, ◌+◌, ◌*◌, ◌≤◌, nat_lt, true, ◌≡◌, List, [], ◌++◌}
 use Rattle.std.specs.Prelude.{length, Option, Some, None, Result, Ok, Err, if◌then◌else◌}
-use Rattle.std.specs.List.{AllByRecursion}
 use Rattle.mc_text.specs.DigitPairs.{AreDecoded}
-use Rattle.mc_text.specs.Lines.{LineText, lines_from}
+use Rattle.mc_text.specs.Lines.{LineText, HasNoLineFeed, lines_from}
 use Rattle.mc_text.specs.Steps.{◌>>=◌}
 use Rattle.mc_igmp.specs.declared.record.Record.{Record}
 use Rattle.mc_igmp.specs.declared.fault.ListFault.{ListFault}
 use Rattle.mc_igmp.specs.declared.list_reader.LineReader.{LineReader}
 use Rattle.mc_igmp.specs.declared.fault.ListFaultKind.TheVariants.{TooLarge}
 use Rattle.mc_igmp.specs.ReadingList.{fault_at, read_lines}
-
--- the bytes contain no line feed
-abbrev pub WithoutLineFeed : List ℕ → Type 0
-WithoutLineFeed bytes = AllByRecursion (λ b. (b == 10) ≡ false) bytes
 
 -- the first `decoded` bytes of a line's message are decoded
 pub record IsDecodedAhead (line message : List ℕ) (decoded : ℕ) : Type 0 where
@@ -37,7 +32,7 @@ line_after ended bytes = record { number = ended + 1; bytes = bytes; ended = tru
 -- if there was no fault, and the text is within the limit, more lines can be read
 abbrev pub CanReadOn : ℕ → ℕ → List ℕ → Option ListFault → Type 0
 CanReadOn size ended begun fault = size ≤ 16777216 → fault ≡ None →
-    WithoutLineFeed begun × (ended + length begun ≤ size)
+    HasNoLineFeed begun × (ended + length begun ≤ size)
 
 -- the number of bytes that have come and of lines that have ended, the bytes after the last line feed,
 -- the records of the lines that have ended, and the first fault of a line

@@ -5,10 +5,10 @@ ghost use Rattle.std.specs.Prelude.{Ok, Err, Some, IfOk, OnOk, IfErr, OnErr, IsE
 ghost use Rattle.std.specs.Prelude.{◌==◌, position, take, true};
 ghost use Rattle.std.specs.List.{list_all};
 ghost use Rattle.hex.specs.Hex.{is_hex_digit};
-ghost use Rattle.mc_text.specs.Lines.{max_text};
+ghost use Rattle.mc_text.specs.Lines.{HasNoLineFeed, max_text};
 ghost use Rattle.mc_igmp.specs.declared.record.Record.{Record};
 ghost use Rattle.mc_igmp.specs.ReadingList.{IsMemory, oom_fault, read_line, read_list};
-ghost use Rattle.mc_igmp.specs.ListSoFar.{IsDecodedAhead, WithoutLineFeed, line_after, lines_if};
+ghost use Rattle.mc_igmp.specs.ListSoFar.{IsDecodedAhead, line_after, lines_if};
 ghost use Rattle.mc_igmp.specs.ListSoFar.{no_list, without_records, list_if};
 
 use crate::digits::decode_prefix;
@@ -113,14 +113,14 @@ impl LineReader {
     fn read_piece(&mut self, piece: &[u8]) -> Result<(), ListFault>
         requires few { self.old.ended + (length self.old.begun.items + length piece.now)
             < u32.MAX }
-        requires begun { WithoutLineFeed self.old.begun.items }
+        requires begun { HasNoLineFeed self.old.begun.items }
         ensures reads { (more : List ℕ) → OnOk result
             (lines_if self.old (piece.now ++ more) ≡ lines_if self.new more) }
         ensures fault { (more : List ℕ) → IfErr result (λ fault. IsMemory fault
             ⊎ (lines_if self.old (piece.now ++ more) ≡ Err fault)) }
         ensures few { OnOk result (self.new.ended + length self.new.begun.items
             ≤ self.old.ended + (length self.old.begun.items + length piece.now)) }
-        ensures begun { OnOk result (WithoutLineFeed self.new.begun.items) }
+        ensures begun { OnOk result (HasNoLineFeed self.new.begun.items) }
     {
         let mut rest = piece;
         'lines: while let Some(end) = self.find_line_end(rest) {

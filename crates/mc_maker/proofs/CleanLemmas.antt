@@ -24,7 +24,8 @@ use Rattle.mc_replay.specs.declared.travel.Travel.{Travel}
 use Rattle.mc_replay.specs.Travels.{replay_of, IsRunTo}
 use Rattle.mc_maker.specs.Examined.{FindsNothing, first_choices}
 use Rattle.mc_maker.specs.Examined.{AreCleanCopies}
-use Rattle.mc_maker.proofs.FilledLemmas.{each_in-all, all-each_in}
+use Rattle.mc_forward.proofs.CopiesInDomainLemmas.{all-from_each_member}
+use Rattle.mc_maker.proofs.FilledLemmas.{each_in-all}
 
 -- ---- of each entry
 
@@ -98,7 +99,7 @@ are_clean_copies-of_travel d a flow t g cs ok same is none carried on by =
       tree = subst (λ xs. IsTree n (entries_of n xs)) (sym all)
           (is_tree-from_clean_travel n (length d.topology.lans) [] false is.picks net travel);
       needs = subst (λ xs. All (λ (e : Entry). e.need ≤ 255) (entries_of n xs)) (sym all)
-          (all-each_in (λ (e : Entry). e.need ≤ 255) (entries_of n
+          (all-from_each_member (λ (e : Entry). e.need ≤ 255) (entries_of n
           (run n (handles is.picks) (start n 255)).carried)
           (entries_of-needs_at_most_255 n (length d.topology.lans) is.picks net travel));
       reached = subst (λ xs. (l : ℕ) → n.wants l ≡ true → In l (lans xs)) (sym all)
@@ -125,14 +126,14 @@ is_entry_of-entries_of d flow cs clean = entries_of-each (net_of d flow) (IsEntr
 pub all_of_topology-reordered : (d : DomainValue) (flow : ℕ) (cs : List Copy) (es : List Entry)
     → AreCleanCopies d flow cs → IsReordering (entries_of (net_of d flow) cs) es
     → All (IsEntryOf d.topology) es
-all_of_topology-reordered d flow cs es clean made = all-each_in (IsEntryOf d.topology) es
+all_of_topology-reordered d flow cs es clean made = all-from_each_member (IsEntryOf d.topology) es
     (λ e h. is_entry_of-entries_of d flow cs clean e (made.from e h))
 
 pub lans_below_count-reordered : (d : DomainValue) (flow : ℕ) (cs : List Copy) (es : List Entry)
     → AreCleanCopies d flow cs → IsReordering (entries_of (net_of d flow) cs) es
     → All (λ (e : Entry). e.lan < length d.topology.lans) es
 lans_below_count-reordered d flow cs es clean made =
-    all-each_in (λ (e : Entry). e.lan < length d.topology.lans) es
+    all-from_each_member (λ (e : Entry). e.lan < length d.topology.lans) es
     (λ e h. (is_entry_of-entries_of d flow cs clean e (made.from e h)).lan)
 
 forwarder_vif-at_most_31 : (n : Net) (es : List Entry) (e : Entry) (o : Option Interface) → IsNet n
@@ -161,7 +162,7 @@ is_writable_tree-reordered d flow cs es ok clean made =
     let most : length d.topology.lans ≤ 1024 = ok.topology.few_lans in
     record {
       few = omega (arith, few, most);
-      each = all-each_in IsWritableEntry es (λ e h. record {
+      each = all-from_each_member IsWritableEntry es (λ e h. record {
         need = entries_of-needs_at_least_one n cs e (made.from e h);
         vif = forwarder_vif-at_most_31 n (entries_of n cs) e e.forwarder (is_net-net_of d flow ok) clean.tree
             (made.from e h) refl;

@@ -1,10 +1,10 @@
 -- The vector of entries, filled copy by copy.
-use Rattle.std.proofs.Common.{◌≡◌, ℕ, zero, suc, ◌+◌, ◌-◌, ◌<◌, ◌≤◌, inl, inr, All, Bool}
+use Rattle.std.proofs.Common.{◌≡◌, ℕ, suc, ◌+◌, ◌-◌, ◌<◌, ◌≤◌, inl, inr, All, Bool}
 use Rattle.std.proofs.Common.{List, [], ◌∷◌, ◌++◌, length, take, drop}
 use Rattle.std.proofs.Common.{get_or, Option, Some, None, refl, ap, sym, subst, ◌∙◌}
 use Rattle.std.proofs.Common.{arith}
 use Rattle.std.specs.Prelude.{slice_set, IsTrue, IsFalse, IsSome}
-use Rattle.std.proofs.lemmas.List.{take_more, take-append-drop}
+use Rattle.std.proofs.lemmas.List.{take_all, take_more, take-append-drop}
 use Rattle.mc_theory.specs.Lists.{In}
 use Rattle.mc_theory.specs.Nets.{Net, Interface}
 use Rattle.mc_theory.specs.Flights.{Copy}
@@ -15,6 +15,7 @@ use Rattle.mc_theory.specs.CertificateOfCopies.{entry_after, entries_after, entr
 use Rattle.mc_theory.specs.CertificateOfCopies.{row_pairs, threshold_of}
 use Rattle.mc_theory.proofs.ListLemmas.{in-append_left, in-push}
 use Rattle.mc_forward.specs.PerLan.{item_on_lan}
+pub use Rattle.mc_forward.proofs.CopiesInDomainLemmas.{all-from_each_member as all-each_in}
 use Rattle.mc_forward.proofs.PerLanLemmas.{first_with_key-entry_on, length-after_put}
 use Rattle.mc_forward.proofs.PerLanLemmas.{holds_first-more as filled-first}
 use Rattle.mc_maker.specs.EntriesByLan.{AreEntriesByLan, entry_by_held_entries, held_entry_at}
@@ -26,11 +27,6 @@ pub each_in-all : {A : Type 0} (P : A → Type 0) (xs : List A) → All P xs →
 each_in-all P [] all x h = absurd h
 each_in-all P (y ∷ xs) all x (inl e) = subst P e (all 0 y (omega arith))
 each_in-all P (y ∷ xs) all x (inr h) = each_in-all P xs (λ k d lt. all (suc k) d (omega (arith, lt))) x h
-
-pub all-each_in : {A : Type 0} (P : A → Type 0) (xs : List A) → ((x : A) → In x xs → P x) → All P xs
-all-each_in P [] each k d lt = absurd (omega (arith, lt))
-all-each_in P (y ∷ xs) each zero d lt = each y (inl refl)
-all-each_in P (y ∷ xs) each (suc k) d lt = all-each_in P xs (λ x h. each x (inr h)) k d (omega (arith, lt))
 
 -- ---- the entries of the first copies
 
@@ -129,13 +125,7 @@ entries_so_far-more n by_lan by_lan' old cs k c e put f lt at within by free is 
           earlier kept));
     }
 
-take-length_le : {A : Type 0} (xs : List A) (k : ℕ) → length xs ≤ k → take k xs ≡ xs
-take-length_le [] zero le = refl
-take-length_le [] (suc k) le = refl
-take-length_le (x ∷ xs) zero le = absurd (omega (arith, le))
-take-length_le (x ∷ xs) (suc k) le = ap (λ ys. x ∷ ys) (take-length_le xs k (omega (arith, le)))
-
 pub entries_so_far-all : (n : Net) (by_lan old : List (Option Entry)) (cs : List Copy) (k : ℕ)
     → EntriesSoFar n by_lan old cs k → length cs ≤ k → AreEntriesByLan by_lan (entries_of n cs)
 entries_so_far-all n by_lan old cs k f le = subst (λ xs. AreEntriesByLan by_lan (entries_of n xs))
-    (take-length_le cs k le) f.places
+    (take_all k cs le) f.places

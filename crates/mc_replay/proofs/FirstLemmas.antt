@@ -1,9 +1,10 @@
 -- The vector of first copies, filled copy by copy.
-use Rattle.std.proofs.Common.{◌≡◌, ℕ, zero, suc, ◌+◌, ◌-◌, ◌<◌, ◌≤◌, Bool, true, false, cond}
+use Rattle.std.proofs.Common.{◌≡◌, ℕ, ◌+◌, ◌-◌, ◌<◌, ◌≤◌, Bool, true, false, cond}
 use Rattle.std.proofs.Common.{List, [], ◌∷◌, ◌++◌, length, take, drop, get_or}
 use Rattle.std.proofs.Common.{Option, Some, None, is_some, refl, ap, sym, subst, ◌∙◌, arith}
 use Rattle.std.proofs.Common.{append-nil}
 use Rattle.std.specs.Prelude.{slice_set, not, IsTrue, IsFalse, IsSome}
+use Rattle.std.proofs.lemmas.List.{append_assoc, length-drop, get_or-drop, take_all, drop_all, take_rest}
 use Rattle.std.proofs.lemmas.List.{take_more, drop_more, take-append-drop}
 use Rattle.mc_theory.specs.Flights.{Copy}
 use Rattle.mc_theory.specs.Findings.{first_copy_on, first_double}
@@ -16,10 +17,6 @@ use Rattle.mc_forward.proofs.PerLanLemmas.{first_with_key-first_copy_on, holds_f
 abbrev pub first_some : {A : Type 0} → Option A → Option A → Option A
 first_some None y = y
 first_some (Some x) y = Some x
-
-append-push : (xs : List Copy) (y : Copy) (ys : List Copy) → (xs ++ y ∷ []) ++ ys ≡ xs ++ y ∷ ys
-append-push [] y ys = refl
-append-push (x ∷ xs) y ys = ap (λ zs. x ∷ zs) (append-push xs y ys)
 
 pub double-append : (earlier xs ys : List Copy) → first_double earlier (xs ++ ys)
     ≡ first_some (first_double earlier xs) (first_double (earlier ++ xs) ys)
@@ -34,7 +31,7 @@ double-append earlier (x ∷ xs) ys = by (is_some (first_copy_on earlier x.lan))
         (first_double (earlier ++ x ∷ xs) ys)
     by true rest = refl
     by false rest = rest ∙ ap (λ es. first_some (first_double (earlier ++ x ∷ []) xs) (first_double es ys))
-        (append-push earlier x xs)
+        (append_assoc earlier (x ∷ []) xs)
 
 -- ---- copy by copy
 
@@ -129,46 +126,19 @@ first_some-none : (o : Option Copy) → first_some o None ≡ o
 first_some-none None = refl
 first_some-none (Some c) = refl
 
-take-length_le : {A : Type 0} (xs : List A) (k : ℕ) → length xs ≤ k → take k xs ≡ xs
-take-length_le [] zero le = refl
-take-length_le [] (suc k) le = refl
-take-length_le (x ∷ xs) zero le = absurd (omega (arith, le))
-take-length_le (x ∷ xs) (suc k) le = ap (λ ys. x ∷ ys) (take-length_le xs k (omega (arith, le)))
-
-drop-length_le : {A : Type 0} (xs : List A) (k : ℕ) → length xs ≤ k → drop k xs ≡ []
-drop-length_le [] zero le = refl
-drop-length_le [] (suc k) le = refl
-drop-length_le (x ∷ xs) zero le = absurd (omega (arith, le))
-drop-length_le (x ∷ xs) (suc k) le = drop-length_le xs k (omega (arith, le))
-
 pub second_copy_so_far-all : (firsts old : List (Option Copy)) (cs : List Copy) (k : ℕ) (second : Option Copy)
     → FirstCopiesSoFar firsts old cs k second → length cs ≤ k → second ≡ first_double [] cs
 second_copy_so_far-all firsts old cs k second t le = sym (first_some-none second)
-    ∙ (ap (λ xs. first_some second (first_double (take k cs) xs)) (sym (drop-length_le cs k le)) ∙ t.second)
+    ∙ (ap (λ xs. first_some second (first_double (take k cs) xs)) (sym (drop_all k cs le)) ∙ t.second)
 
 pub first_copies_so_far-all : (firsts old : List (Option Copy)) (cs : List Copy) (k : ℕ)
     (second : Option Copy)
     → FirstCopiesSoFar firsts old cs k second → length cs ≤ k
     → HoldsFirstOfEachKey (λ (c : Copy). c.lan) firsts cs
 first_copies_so_far-all firsts old cs k second t le = subst (HoldsFirstOfEachKey
-    (λ (c : Copy). c.lan) firsts) (take-length_le cs k le) t.filled
+    (λ (c : Copy). c.lan) firsts) (take_all k cs le) t.filled
 
 -- ---- the copies from a place on
-
-length-drop_copies : (cs : List Copy) (k : ℕ) → length (drop k cs) ≡ length cs - k
-length-drop_copies cs zero = omega arith
-length-drop_copies [] (suc k) = omega arith
-length-drop_copies (c ∷ cs) (suc k) = let ih = length-drop_copies cs k in omega (arith, ih)
-
-pub take-drop_rest : (cs : List Copy) (k : ℕ) → take (length cs - k) (drop k cs) ≡ drop k cs
-take-drop_rest cs k = take-length_le (drop k cs) (length cs - k) (omega (arith, length-drop_copies cs k))
-
-get_or-drop_copies : (cs : List Copy) (k i : ℕ) (d : Copy) → get_or (drop k cs) i d ≡ get_or cs (k + i) d
-get_or-drop_copies cs zero i d = let e : i ≡ zero + i = omega arith in ap (λ j. get_or cs j d) e
-get_or-drop_copies [] (suc k) i d = refl
-get_or-drop_copies (c ∷ cs) (suc k) i d = let e : suc (k + i)
-    ≡ suc k + i = omega arith in get_or-drop_copies cs k i d
-    ∙ ap (λ j. get_or (c ∷ cs) j d) e
 
 -- an item of those from place k on is one of all
 pub get_or-take_drop : (cs : List Copy) (k i : ℕ) (c : Copy)
@@ -176,11 +146,11 @@ pub get_or-take_drop : (cs : List Copy) (k i : ℕ) (c : Copy)
     → c ≡ get_or (take (length cs - k) (drop k cs)) i c
     → (k + i < length cs) × (c ≡ get_or cs (k + i) c)
 get_or-take_drop cs k i c lt at = (
-  (let e = ap length (take-drop_rest cs k) in omega (arith, lt, e, length-drop_copies cs k)),
-  at ∙ (ap (λ (xs : List Copy). get_or xs i c) (take-drop_rest cs k) ∙ get_or-drop_copies cs k i c),
+  (let e = ap length (take_rest cs k) in omega (arith, lt, e, length-drop k cs)),
+  at ∙ (ap (λ (xs : List Copy). get_or xs i c) (take_rest cs k) ∙ get_or-drop k cs i c),
 )
 
 pub length-take_drop_end : (cs : List Copy) (k i : ℕ) → length (take (length cs - k) (drop k cs)) ≤ i
     → length cs ≤ k + i
-length-take_drop_end cs k i le = let e = ap length (take-drop_rest cs k) in omega
-    (arith, le, e, length-drop_copies cs k)
+length-take_drop_end cs k i le = let e = ap length (take_rest cs k) in omega
+    (arith, le, e, length-drop k cs)

@@ -12,6 +12,7 @@ use Rattle.std.proofs.lemmas.Bool.{cases_Bool}
 use Rattle.std.proofs.lemmas.Cmp.{nat_cmp_total}
 use Rattle.std.proofs.lemmas.List.{append-nil, map-append}
 use Rattle.std.proofs.lemmas.List.Elements.{filter_map-append}
+use Rattle.mc_text.proofs.StepLemmas.{None-from_is_some_false}
 use Rattle.mc_tables.specs.CacheTable.{EntryValue}
 use Rattle.mc_tables.specs.declared.fault.TableFaultKind.TheVariants.{RepeatedEntry}
 use Rattle.mc_text.specs.Steps.{◌>>=◌}
@@ -37,11 +38,6 @@ has_key-from_entries (Some exact) rows =
     ap is_some (map.get-from_entries key_cmp-total (filter_map exact_entry rows) exact.0)
     ∙ is_some_find-row_keys exact.0 rows
 
--- what isn't there is None
-is_some-false_none : {A : Type 0} (o : Option A) → is_some o ≡ false → o ≡ None
-is_some-false_none None e = refl
-is_some-false_none (Some x) e = absurd cc
-
 -- the entries of the rows with one more
 from_entries-push_entry : (exact : Option ((ℕ × ℕ) × EntryValue)) (es : List ((ℕ × ℕ) × EntryValue)) →
     has_key (map.from_entries es) exact ≡ false →
@@ -51,7 +47,7 @@ from_entries-push_entry None es new = ap (map.from_entries {R = key_cmp}) (appen
 from_entries-push_entry (Some exact) es new =
     map.from_entries_push key_cmp-total key_cmp-antisymmetric es exact.0 exact.1
     (sym (map.get-from_entries key_cmp-total es exact.0)
-    ∙ is_some-false_none (map.get (map.from_entries {R = key_cmp} es) exact.0) new)
+    ∙ None-from_is_some_false (map.get (map.from_entries {R = key_cmp} es) exact.0) new)
 
 -- the numbered entries of the rows with one more
 map-push_numbered : (exact : Option ((ℕ × ℕ) × EntryValue)) (es : List ((ℕ × ℕ) × EntryValue)) →

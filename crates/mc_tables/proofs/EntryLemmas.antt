@@ -72,7 +72,7 @@ is_lt-less Equal h = absurd h
 is_lt-less Greater h = absurd h
 
 -- both parts of a conjunction hold
-and-parts : (a b : Bool) → T (a && b) → T a × T b
+pub and-parts : (a b : Bool) → T (a && b) → T a × T b
 and-parts true b h = (tt, h)
 and-parts false b h = absurd h
 
@@ -161,12 +161,13 @@ tail-ascends x xs h i lt =
     h (suc i) (omega (arith, lt)) in
     subst (λ (j : ℕ). slice_index xs i < slice_index (x ∷ xs) j) e k
 
-abbrev AreInRange : List Oif → Type 0
+-- the vifs and the thresholds are in their ranges
+abbrev pub AreInRange : List Oif → Type 0
 AreInRange oifs =
     AllByRecursion (λ oif. (oif.vif ≤ 31) × (1 ≤ oif.threshold) × (oif.threshold ≤ 254)) oifs
 
 -- outgoing vifs that ascend from the first one up to 31 are few enough
-length_oifs-from_vif : (oif : Oif) (oifs : List Oif)
+pub length_oifs-from_vif : (oif : Oif) (oifs : List Oif)
     → IsStrictlyIncreasing (map (λ (o : Oif). o.vif) (oif ∷ oifs))
     → AreInRange (oif ∷ oifs) → oif.vif + length (oif ∷ oifs) ≤ 32
 length_oifs-from_vif oif [] up within = omega (arith, within.0.0)

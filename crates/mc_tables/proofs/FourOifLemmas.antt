@@ -13,12 +13,13 @@ use Rattle.std.proofs.lemmas.List.{length-drop, drop-drop, append-nil, append_as
 use Rattle.std.proofs.lemmas.Simd.{length-zip2, get_or-zip2, bit_mask_l, mask_l-mod}
 use Rattle.mc_text.specs.Lines.{words_of}
 use Rattle.mc_text.proofs.DigitLaneLemmas.{lane_below, lane_minus}
+use Rattle.std.proofs.lemmas.List.{take_rest}
 use Rattle.mc_tables.specs.declared.entry.Oif.{Oif}
 use Rattle.mc_tables.specs.CacheReading.{oif_in}
 use Rattle.mc_tables.specs.OutgoingSteps.{oifs_after_words}
 use Rattle.mc_tables.specs.FourOifs.{StartsWithPrintedOif, StartsWithFourOifs, DenoteAscendingOifs}
 use Rattle.mc_tables.proofs.PlainRowLemmas.{one_digit_oif_is_first_word, two_digit_oif_is_first_word}
-use Rattle.mc_tables.proofs.PlainRowLemmas.{drop_as_take_drop, greater_oif_is_appended}
+use Rattle.mc_tables.proofs.PlainRowLemmas.{greater_oif_is_appended}
 use Rattle.mc_tables.proofs.MarkedLemmas.{cond-one}
 
 -- the vif of its two digits
@@ -43,7 +44,7 @@ first_word-without_tens line long printed space =
     let vif : get_or line 2 0 - 48 ≡ printed_vif (get_or line 1 0) (get_or line 2 0) =
     plain ∙ ap (λ t. printed_vif t (get_or line 2 0)) (sym first) in (
       found.0,
-      found.1 ∙ ap (λ (r : List ℕ). found.0 ∷ words_of r) (drop_as_take_drop line 7),
+      found.1 ∙ ap (λ (r : List ℕ). found.0 ∷ words_of r) (take_rest line 7),
       found.2 ∙ ap (λ (v : ℕ). Ok (v, get_or line 4 0 - 48)) vif,
     )
 
@@ -70,7 +71,7 @@ first_word-with_tens line long printed other few =
     let found = two_digit_oif_is_first_word line long printed.before digit printed.units
     (subst (λ v. v ≤ 31) (sym vif) few) printed.colon printed.threshold printed.behind printed.last in (
       found.0,
-      found.1 ∙ ap (λ (r : List ℕ). found.0 ∷ words_of r) (drop_as_take_drop line 7),
+      found.1 ∙ ap (λ (r : List ℕ). found.0 ∷ words_of r) (take_rest line 7),
       found.2 ∙ ap (λ (v : ℕ). Ok (v, get_or line 4 0 - 48)) vif,
     )
 

@@ -1,17 +1,12 @@
 -- Keys that differ, in a list that grows at its end.
 use Rattle.std.proofs.Common.{◌≡◌, Bool, false, List, [], ◌∷◌, ◌++◌, Option, Some, None, refl, ◌∙◌}
-use Rattle.std.specs.List.{IsDistinct, AllByRecursion, list_any, cons_option}
+use Rattle.std.specs.List.{IsDistinct, list_any, cons_option}
 use Rattle.std.specs.Cmp.{IsEquivalence}
 use Rattle.std.proofs.lemmas.List.{append-nil}
 use Rattle.std.proofs.lemmas.Bool.{or_from}
 use Rattle.std.proofs.lemmas.Map.Keys.{IsDistinct-head, IsDistinct-tail, IsDistinct-push}
+use Rattle.mc_text.proofs.Lists.{AllByRecursion-at_middle}
 use Rattle.mc_tables.specs.TableLines.{is_among}
-
--- what holds of all holds of the one in the middle
-all-middle : {K : Type 0} (P : K → Type 0) (xs : List K) (y : K) (ys : List K)
-    → AllByRecursion P (xs ++ y ∷ ys) → P y
-all-middle P [] y ys all = all.0
-all-middle P (x ∷ xs) y ys all = all-middle P xs y ys all.1
 
 module _ {K : Type 0} {same : K → K → Bool} (laws : IsEquivalence same) where
   -- a key in the middle is none of those before it
@@ -19,7 +14,7 @@ module _ {K : Type 0} {same : K → K → Bool} (laws : IsEquivalence same) wher
       → list_any (same y) xs ≡ false
   list_any-distinct_middle [] y ys distinct = refl
   list_any-distinct_middle (x ∷ xs) y ys distinct =
-      let apart = all-middle (λ z. same x z ≡ false) xs y ys
+      let apart = AllByRecursion-at_middle (λ z. same x z ≡ false) xs y ys
       (IsDistinct-head same x (xs ++ y ∷ ys) distinct) in
       or_from (same y x) (list_any (same y) xs) (laws.symm y x ∙ apart)
       (list_any-distinct_middle xs y ys (IsDistinct-tail same x (xs ++ y ∷ ys) distinct))

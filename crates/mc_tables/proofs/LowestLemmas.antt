@@ -1,19 +1,20 @@
 -- The lowest of many pairs, ascending and each once.
 use Rattle.std.proofs.Common.{◌≡◌, ℕ, zero, suc, ◌+◌, ◌<◌, ◌≤◌, Bool, true, false, cond, T, List, [], ◌∷◌}
-use Rattle.std.proofs.Common.{◌++◌}
-use Rattle.std.proofs.Common.{length, take, get_or, map, Option, None, Some, refl, sym, ap, subst, ◌∙◌, arith}
+use Rattle.std.proofs.Common.{◌++◌, eqb, length, take, get_or, map, Option, None, Some, refl, sym, ap, ap₂}
+use Rattle.std.proofs.Common.{subst, ◌∙◌, arith}
 use Rattle.std.specs.Prelude.{◌&&◌, ◌≢◌}
 use Rattle.std.specs.FinMap as fin
 use Rattle.std.specs.FinMap.Entries.{below_all, by_order, is_sorted, same_entries}
 use Rattle.std.specs.List.{AllByRecursion, Contains, dedup, insert}
 use Rattle.std.specs.List.Sorted.{IsStrictlySortedBy, IsPermutation, IsSorted, IsNonDecreasingBy}
 use Rattle.std.specs.List.Sorted.{IsPartitionPoint}
-use Rattle.std.specs.Cmp.{IsEquivalence, tied_itself}
-use Rattle.std.specs.Ordering.{eq_by_cmp, is_le, is_lt, is_some_and, nat_cmp, ordering_index}
+use Rattle.std.specs.Cmp.{IsEquivalence, tied_itself, unsigned_ties}
+use Rattle.std.specs.Ordering.{eq_by_cmp, is_eq, is_le, is_lt, is_some_and, nat_cmp, ordering_index}
 use Rattle.std.specs.Ordering.{ordering_reverse, ordering_then, partial_le, partial_ordering_then}
+use Rattle.std.specs.declared.cmp.Ordering.{Ordering}
 use Rattle.std.specs.declared.cmp.Ordering.TheVariants.{Less, Equal, Greater}
 use Rattle.std.proofs.lemmas.Bool.{true≢false}
-use Rattle.std.proofs.lemmas.List.{take-take}
+use Rattle.std.proofs.lemmas.List.{nil_from_length, take-take}
 use Rattle.std.proofs.lemmas.List.Kept.{Contains-dedup, Contains-from_dedup, IsStrictlySortedBy-dedup}
 use Rattle.std.proofs.lemmas.List.Sorted.{Contains-permutation, IsPermutation-sym, searchable_from_sorted}
 use Rattle.std.proofs.lemmas.Map.Keys.{Less-from_sorted}
@@ -62,10 +63,10 @@ key_cmp-greater_than_lesser pair x p above less =
 -- ---- ascending pairs
 
 -- each of these is greater than a pair
-abbrev AreAbove : ℕ × ℕ → List (ℕ × ℕ) → Type 0
+abbrev pub AreAbove : ℕ × ℕ → List (ℕ × ℕ) → Type 0
 AreAbove x ps = AllByRecursion (λ y. key_cmp x y ≡ Less) ps
 
-are_above-lesser : (pair p : ℕ × ℕ) (ps : List (ℕ × ℕ)) → key_cmp pair p ≡ Less → AreAbove p ps
+pub are_above-lesser : (pair p : ℕ × ℕ) (ps : List (ℕ × ℕ)) → key_cmp pair p ≡ Less → AreAbove p ps
     → AreAbove pair ps
 are_above-lesser pair p [] less all = tt
 are_above-lesser pair p (q ∷ ps) less all =
@@ -216,7 +217,7 @@ take_put_pair-take (suc n) pair (p ∷ ps) =
     ]
 
 -- pairs as the keys of a map
-abbrev as_keys : List (ℕ × ℕ) → List ((ℕ × ℕ) × Unit {0})
+abbrev pub as_keys : List (ℕ × ℕ) → List ((ℕ × ℕ) × Unit {0})
 as_keys ps = map (λ p. (p, tt {0})) ps
 
 -- one more key
@@ -274,17 +275,12 @@ pub take_in_order-push : (ps : List (ℕ × ℕ)) (pair : ℕ × ℕ)
 take_in_order-push ps pair =
     ap (take 20) (in_order-push ps pair) ∙ sym (take_put_pair-take 20 pair (in_order ps))
 
--- a list without elements
-length-zero : {A : Type 0} (xs : List A) → length xs ≡ 0 → xs ≡ []
-length-zero [] none = refl
-length-zero (x ∷ xs) none = absurd (omega (arith, none))
-
 -- no pairs in order are none
 pub in_order-none : [] ≡ in_order []
 in_order-none =
     let none = fin.empty {X = Unit {0}} {R = key_cmp} in
     ap (map (λ (e : (ℕ × ℕ) × Unit {0}). e.0))
-    (sym (length-zero (fin.entries none) (sym (fin.len-entries none) ∙ fin.len-empty key_cmp (Unit {0}))))
+    (sym (nil_from_length (fin.entries none) (sym (fin.len-entries none) ∙ fin.len-empty key_cmp (Unit {0}))))
 
 -- the lowest of none are none
 pub take_in_order-none : [] ≡ take 20 (in_order [])
@@ -365,11 +361,37 @@ contains-found q (p ∷ ps) is =
           (suc later.0, omega (arith, later.1), later.2)
     ] refl is
 
-option-same_some : (a b : Option (Unit {0})) → (a ≡ Some (tt {0}) → b ≡ Some (tt {0}))
+-- the keys of a map without values, as such a map's entries
+as_keys-map : (es : List ((ℕ × ℕ) × Unit {0})) → as_keys (map (λ e. e.0) es) ≡ es
+as_keys-map [] = refl
+as_keys-map (e ∷ es) = ap (λ (l : List ((ℕ × ℕ) × Unit {0})). e ∷ l) (as_keys-map es)
+
+-- a pair that is in the list is among its pairs in order
+pub contains-in_order : (q : ℕ × ℕ) (ps : List (ℕ × ℕ)) → Contains ps q → Contains (in_order ps) q
+contains-in_order q ps there =
+    let m = fin.from_entries {R = key_cmp} (as_keys ps) in
+    contains-found q (in_order ps) (ap (fin.find key_cmp q) (as_keys-map (fin.entries m))
+    ∙ sym (fin.get-entries m q) ∙ fin.get-from_entries key_cmp-total (as_keys ps) q
+    ∙ find-contained q ps there.0 there.1 there.2)
+
+-- two marks are equal if each is there where the other is
+pub marks-equal_from_both : (a b : Option (Unit {0})) → (a ≡ Some (tt {0}) → b ≡ Some (tt {0}))
     → (b ≡ Some (tt {0}) → a ≡ Some (tt {0})) → a ≡ b
-option-same_some None None there key_cmp-less_flip = refl
-option-same_some None (Some y) there key_cmp-less_flip = key_cmp-less_flip refl
-option-same_some (Some x) b there key_cmp-less_flip = sym (there refl)
+marks-equal_from_both None None there back = refl
+marks-equal_from_both None (Some y) there back = back refl
+marks-equal_from_both (Some x) b there back = sym (there refl)
+
+-- two orders in sequence give Equal exactly if both do
+ordering_then-both_equal : (r s : Ordering) → (is_eq r && is_eq s) ≡ is_eq (ordering_then r s)
+ordering_then-both_equal Less s = refl
+ordering_then-both_equal Equal s = refl
+ordering_then-both_equal Greater s = refl
+
+-- two pairs are equal if both their parts are
+pub equal_parts-same_key : (x y : ℕ × ℕ) → (eqb x.0 y.0 && eqb x.1 y.1) ≡ same_key x y
+equal_parts-same_key x y =
+    ap₂ (λ (a b : Bool). a && b) (unsigned_ties x.0 y.0) (unsigned_ties x.1 y.1)
+    ∙ ordering_then-both_equal (nat_cmp x.0 y.0) (nat_cmp x.1 y.1)
 
 -- a test of equality is an equivalence
 equivalence-from_same_key : (E : ℕ × ℕ → ℕ × ℕ → Bool) → ((x y : ℕ × ℕ) → E x y ≡ same_key x y)
@@ -388,7 +410,7 @@ dedup-in_order E ties ps sorted moves order =
     let once = dedup E sorted in
     let same = equivalence-from_same_key E ties in
     in_order-unique ps once (IsStrictlySortedBy-dedup key_cmp-total ties sorted order) (λ q.
-    option-same_some (fin.find key_cmp q (as_keys once)) (fin.find key_cmp q (as_keys ps))
+    marks-equal_from_both (fin.find key_cmp q (as_keys once)) (fin.find key_cmp q (as_keys ps))
     (λ found. let there = Contains-permutation sorted ps q (IsPermutation-sym ps sorted moves)
     (Contains-from_dedup E sorted q (contains-found q once found)) in
     find-contained q ps there.0 there.1 there.2)

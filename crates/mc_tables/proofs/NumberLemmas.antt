@@ -1,20 +1,19 @@
 -- The numbers of listed keys.
 use Rattle.std.proofs.Common.{◌≡◌, ℕ, zero, suc, ◌+◌, ◌<◌, true, false, cond, List, [], ◌∷◌}
-use Rattle.std.proofs.Common.{◌++◌, length, get_or, Option, Some, None, Result, Ok, Err, refl, sym}
+use Rattle.std.proofs.Common.{◌++◌, length, get_or, Some, None, refl, sym}
 use Rattle.std.proofs.Common.{add-one, ap, subst, ◌∙◌, inl, inr, arith}
-use Rattle.std.specs.Prelude.{◌≢◌, OnErr, is_some, replicate, slice_set}
+use Rattle.std.specs.Prelude.{◌≢◌, is_some, replicate, slice_set}
 use Rattle.std.specs.FinSet as set
 use Rattle.std.specs.List.{AllByRecursion, IsDistinct, list_any}
 use Rattle.std.proofs.lemmas.Bool.{cases_Bool}
 use Rattle.std.proofs.lemmas.List.{get_or-set_same}
 use Rattle.std.proofs.lemmas.List.Folds.{list_any_at}
 use Rattle.std.proofs.lemmas.Map.Keys.{IsDistinct-head, IsDistinct-tail}
+use Rattle.mc_text.proofs.Lists.{AllByRecursion-get_or}
 use Rattle.mc_tables.specs.CacheTable.{key_cmp, same_key}
-use Rattle.mc_tables.specs.CacheNumbers.{IsNumberInserted, IsPlaceOf, EntryNumbersValue, AddsNumber}
-use Rattle.mc_tables.specs.CacheNumbers.{numbers_at_places, listed_or_all}
+use Rattle.mc_tables.specs.CacheNumbers.{IsPlaceOf, EntryNumbersValue, AddsNumber}
+use Rattle.mc_tables.specs.CacheNumbers.{numbers_at_places}
 use Rattle.mc_tables.specs.CacheNumbers.{number_of_key, decoded_number}
-use Rattle.mc_tables.specs.declared.listed_entry_numbers.Inserted.TheVariants.{New}
-use Rattle.std.specs.BTreeMap.{is_at}
 use Rattle.mc_tables.specs.ListedRows.{set_has_key}
 use Rattle.mc_tables.proofs.CacheLemmas.{key_cmp-total, same_key-equivalence}
 use Rattle.mc_tables.proofs.UnlistedRowLemmas.{same_key-equal}
@@ -46,13 +45,6 @@ list_any-none_same : (key : ℕ × ℕ) (keys : List (ℕ × ℕ)) → AllByRecu
 list_any-none_same key [] all = refl
 list_any-none_same key (k ∷ keys) all = rw (all.0) (list_any-none_same key keys all.1)
 
--- what holds of all holds of the one at a place
-all-get_or : (P : ℕ × ℕ → Type 0) (keys : List (ℕ × ℕ)) (i : ℕ) (d : ℕ × ℕ) → AllByRecursion P keys
-    → i < length keys → P (get_or keys i d)
-all-get_or P [] i d all lt = absurd (omega (arith, lt))
-all-get_or P (k ∷ keys) zero d all lt = all.0
-all-get_or P (k ∷ keys) (suc i) d all lt = all-get_or P keys i d all.1 (omega (arith, lt))
-
 pub same_key-refl : (key : ℕ × ℕ) → same_key key key ≡ true
 same_key-refl key = same_key-equivalence.refl key
 
@@ -72,7 +64,7 @@ number_of_key-at_place key (k ∷ keys) (zero ∷ ns) (suc i) distinct lt is =
     number_of_key-at_place key keys ns i (IsDistinct-tail same_key k keys distinct) (omega (arith, lt)) is
 number_of_key-at_place key (k ∷ keys) (suc n ∷ ns) (suc i) distinct lt is =
     let apart : same_key k (get_or keys i key) ≡ false =
-    all-get_or (λ y. same_key k y ≡ false) keys i key (IsDistinct-head same_key k keys distinct)
+    AllByRecursion-get_or (λ y. same_key k y ≡ false) keys i key (IsDistinct-head same_key k keys distinct)
     (omega (arith, lt)) in
     let other : same_key key k ≡ false =
     same_key-equivalence.symm key k ∙ subst (λ x. same_key k x ≡ false) is apart in
@@ -184,30 +176,3 @@ listed_numbers_value-append_zeros keys ns more zeros s is kept =
       numbers = l;
     } in t) (ap (numbers_at_places keys) is ∙ numbers_at_places-append_zeros keys ns zeros)
     ∙ kept
-
--- what holds at any rate holds after an error
-pub on_err-kept : {A E : Type 0} (P : Type 0) (r : Result A E) → P → OnErr r P
-on_err-kept P (Ok x) holds = tt
-on_err-kept P (Err e) holds = holds
-
--- ---- where all keys can have a number
-
-pub is_some-false : {A : Type 0} (o : Option A) → is_some o ≡ false → o ≡ None
-is_some-false None none = refl
-is_some-false (Some x) none = absurd cc
-
--- a key that has no number gets this one
-pub number_inserted-all_listed : (listed : Option EntryNumbersValue) (all more : List ((ℕ × ℕ) × ℕ))
-    (key : ℕ × ℕ) (n : ℕ)
-    (s : EntryNumbersValue) → listed ≡ None → listed_or_all listed all ≡ s → number_of_key all key ≡ None
-    → AddsNumber key n all more → IsNumberInserted key n s (listed_or_all listed more) New
-number_inserted-all_listed (Some keys) all more key n s is kept none listed_numbers_value-append_zeros =
-    absurd cc
-number_inserted-all_listed None all more key n s is kept none listed_numbers_value-append_zeros = (
-  ap (λ (t : EntryNumbersValue). set_has_key t.listed key) (sym kept),
-  ap (λ (t : EntryNumbersValue). number_of_key t.numbers key) (sym kept) ∙ none,
-  ap (λ (t : EntryNumbersValue). t.listed) kept,
-  λ q. listed_numbers_value-append_zeros q
-      ∙ ap (λ (t : EntryNumbersValue). cond (is_at (key_cmp key) q) (Some n) (number_of_key t.numbers q))
-      kept,
-)

@@ -1,6 +1,6 @@
 -- What reading outgoing vifs gives is what their words denote.
 use Rattle.std.proofs.Common.{◌≡◌, ℕ, suc, ◌+◌, ◌<◌, true, false, ltb, List, [], ◌∷◌, ◌++◌, length}
-use Rattle.std.proofs.Common.{Option, Some, None, Result, Ok, Err, refl, sym, ap, subst, ◌∙◌, inl}
+use Rattle.std.proofs.Common.{None, Result, Ok, Err, refl, sym, ap, subst, ◌∙◌, inl}
 use Rattle.std.proofs.Common.{inr, arith}
 use Rattle.std.specs.Prelude.{◌==◌, nat_eq, not, map, is_some}
 use Rattle.std.specs.Option.{ok_or}
@@ -19,6 +19,7 @@ use Rattle.std.proofs.lemmas.List.Elements.{All-from_recursion}
 use Rattle.std.proofs.lemmas.List.Splits.{slice_split_at, slice_split_none}
 use Rattle.std.proofs.lemmas.List.Splits.{join_with_byte-slice_split}
 use Rattle.std.proofs.lemmas.Map.Keys.{IsDistinct-push}
+use Rattle.mc_text.proofs.StepLemmas.{None-from_is_some_false}
 use Rattle.mc_tables.specs.declared.entry.Oif.{Oif}
 use Rattle.mc_tables.specs.declared.fault.TableFaultKind.{TableFaultKind}
 use Rattle.mc_tables.specs.declared.fault.TableFaultKind.TheVariants.{BadOif, BadThreshold}
@@ -126,11 +127,6 @@ has_vif-oifs_by_vif denoted vif =
     ∙ sym (fin.contains_key-keys (fin.from_entries denoted) vif)
     ∙ ap is_some (fin.get-from_entries nat_cmp_total denoted vif) ∙ is_some_find-vifs denoted vif
 
--- what isn't there is None
-is_some-false_find : (o : Option ℕ) → is_some o ≡ false → o ≡ None
-is_some-false_find None e = refl
-is_some-false_find (Some n) e = absurd cc
-
 -- a lesser vif is inserted before a greater one
 put-lesser_vif : (vif threshold : ℕ) (e : ℕ × ℕ) (es : List (ℕ × ℕ)) → ltb vif e.0 ≡ true
     → fin.put nat_cmp vif threshold (e ∷ es) ≡ (vif, threshold) ∷ e ∷ es
@@ -206,7 +202,7 @@ oifs_by_vif-push : (denoted : List (ℕ × ℕ)) (oif : ℕ × ℕ)
 oifs_by_vif-push denoted oif new =
     let m = fin.from_entries {R = nat_cmp} denoted in
     let absent : fin.find nat_cmp oif.0 denoted ≡ None =
-    is_some-false_find _ (is_some_find-vifs denoted oif.0 ∙ new) in
+    None-from_is_some_false _ (is_some_find-vifs denoted oif.0 ∙ new) in
     insert_oif-put (fin.entries m) oif.0 oif.1 (has_vif-oifs_by_vif denoted oif.0 ∙ new)
     ∙ sym (ap (map to_oif) (fin.entries-insert nat_cmp_total m oif.0 oif.1))
     ∙ sym (ap oifs_by_vif (fin.from_entries_push nat_cmp_total fin.nat_cmp-IsAntisymmetric denoted oif.0

@@ -1,17 +1,16 @@
 -- The lines of a text that comes in pieces.
-use Rattle.std.proofs.Common.{◌≡◌, ℕ, suc, ◌+◌, ◌<◌, ◌≤◌, true, false, eqb, cond, List, [], ◌∷◌, ◌++◌}
-use Rattle.std.proofs.Common.{length, take, drop, get_or, Some, None, Result, Ok, Err, refl}
-use Rattle.std.proofs.Common.{sym, ap, ◌∙◌, arith, append_assoc, length-take, inl, inr}
+use Rattle.std.proofs.Common.{◌≡◌, ℕ, ◌+◌, ◌<◌, ◌≤◌, true, false, eqb, cond, List, [], ◌∷◌, ◌++◌}
+use Rattle.std.proofs.Common.{length, take, drop, Some, Result, Ok, Err, refl}
+use Rattle.std.proofs.Common.{sym, ap, ◌∙◌, arith, inl, inr}
 use Rattle.std.specs.Prelude.{nat_lt, position}
-use Rattle.std.specs.List.{slice_split, position_or_len}
 use Rattle.std.proofs.lemmas.Bool.{cases_Bool, eqb-true, ltb-true, ltb-false}
 use Rattle.std.proofs.lemmas.Bool.Decides.{nat_tests}
-use Rattle.std.proofs.lemmas.List.{append-nil, drop_more, take-append-drop, get_or-take, length-append}
-use Rattle.std.proofs.lemmas.List.Elements.{All-from_recursion}
-use Rattle.std.proofs.lemmas.List.Quantifiers.{position-Some}
-use Rattle.std.proofs.lemmas.List.Splits.{slice_split_at, slice_split_none, length-slice_split}
-use Rattle.std.proofs.lemmas.List.Sums.{fails_before_first}
-use Rattle.mc_text.specs.Lines.{LineText, numbered, lines_from}
+use Rattle.std.proofs.lemmas.List.{append-nil, length-append, nil_from_length}
+use Rattle.mc_text.specs.Lines.{LineText, HasNoLineFeed, lines_from}
+use Rattle.mc_text.proofs.BundleWords.{HasNoByte-append}
+use Rattle.mc_text.proofs.LineLemmas.{lines_from-unended}
+use Rattle.mc_text.proofs.PieceLemmas.{lines_from-first_ended}
+use Rattle.mc_text.proofs.StepLemmas.{bind-same}
 use Rattle.mc_tables.specs.declared.fault.TableFault.{TableFault}
 use Rattle.mc_tables.specs.declared.fault.TableFaultKind.{TableFaultKind}
 use Rattle.mc_tables.specs.declared.fault.TableFaultKind.TheVariants.{TooLarge}
@@ -19,55 +18,10 @@ use Rattle.mc_tables.specs.Steps.{fault_at}
 use Rattle.mc_text.specs.Steps.{◌>>=◌}
 use Rattle.mc_tables.specs.Steps.{at_line}
 use Rattle.mc_tables.specs.TableLines.{lines_after_header}
-use Rattle.mc_tables.specs.LinesSoFar.{LinesSoFar, IsValidLinesSoFar, HasNoLineFeed, with_begun}
+use Rattle.mc_tables.specs.LinesSoFar.{LinesSoFar, IsValidLinesSoFar, with_begun}
 use Rattle.mc_tables.specs.LinesSoFar.{with_ended, line_begun, lines_to_come, read_after, header_line}
 use Rattle.mc_tables.specs.LinesSoFar.{line_after, check_end_of_lines, ReadsInSteps}
-
--- ---- line feeds
-
--- two stretches without a line feed have none together
-pub no_line_feed-append : (xs ys : List ℕ) → HasNoLineFeed xs → HasNoLineFeed ys
-    → HasNoLineFeed (xs ++ ys)
-no_line_feed-append [] ys a b = b
-no_line_feed-append (x ∷ xs) ys a b = (a.0, no_line_feed-append xs ys a.1 b)
-
--- a list none of whose bytes is a line feed
-no_line_feed-each : (xs : List ℕ) → ((k : ℕ) → k < length xs → eqb (get_or xs k 0) 10 ≡ false)
-    → HasNoLineFeed xs
-no_line_feed-each [] none = tt
-no_line_feed-each (x ∷ xs) none =
-    (none 0 (omega arith), no_line_feed-each xs (λ k lt. none (suc k) (omega (arith, lt))))
-
--- where none is found there is none
-pub no_line_feed-not_found : (xs : List ℕ) → position (λ b. eqb b 10) xs ≡ None → HasNoLineFeed xs
-no_line_feed-not_found xs none =
-    let past : length xs ≤ position_or_len (λ b. eqb b 10) xs = grind (arith, nat_tests) in
-    no_line_feed-each xs (λ k lt. fails_before_first (λ b. eqb b 10) xs k 0 (omega (arith, past)))
-
--- before the first one there is none
-pub no_line_feed-before_first : (xs : List ℕ) (end : ℕ) → position (λ b. eqb b 10) xs ≡ Some end
-    → HasNoLineFeed (take end xs)
-no_line_feed-before_first xs end found =
-    let at = position-Some (λ b. eqb b 10) xs end 0 found in
-    no_line_feed-each (take end xs) (λ k lt.
-    let before : k < end = omega (arith, lt, length-take end xs) in
-    ap (λ b. eqb b 10) (get_or-take end xs k 0 before) ∙ at.2 k before)
-
--- the first one is within the text
-pub position-within : (xs : List ℕ) (end : ℕ) → position (λ b. eqb b 10) xs ≡ Some end
-    → end + 1 ≤ length xs
-position-within xs end found =
-    let at = position-Some (λ b. eqb b 10) xs end 0 found in omega (arith, at.0)
-
--- a text is split at its first line feed
-pub split-at_line_feed : (xs : List ℕ) (end : ℕ) → position (λ b. eqb b 10) xs ≡ Some end
-    → xs ≡ take end xs ++ 10 ∷ drop (end + 1) xs
-split-at_line_feed xs end found =
-    let at = position-Some (λ b. eqb b 10) xs end 0 found in
-    let feed : get_or xs end 0 ≡ 10 = eqb-true (get_or xs end 0) 10 at.1 in
-    sym (take-append-drop end xs)
-    ∙ ap (λ rest. take end xs ++ rest) (drop_more xs end 0 at.0)
-    ∙ ap (λ b. take end xs ++ b ∷ drop (end + 1) xs) feed
+use Rattle.mc_tables.specs.TableSoFar.{whole_if}
 
 -- the state keeps its rules when bytes are taken
 pub lines_so_far-with_begun : (lines : LinesSoFar) (size : ℕ) (bytes : List ℕ) → IsValidLinesSoFar lines
@@ -76,37 +30,12 @@ pub lines_so_far-with_begun : (lines : LinesSoFar) (size : ℕ) (bytes : List �
 lines_so_far-with_begun lines size bytes is within fewer without = record {
   within = within;
   numbers = omega (arith, is.numbers, length-append lines.begun bytes);
-  begun = no_line_feed-append lines.begun bytes is.begun without;
+  begun = HasNoByte-append 10 lines.begun bytes is.begun without;
 }
 
 -- ---- lines
 
--- a part with parts after it is an ended line
-numbered-cons : (n : ℕ) (part : List ℕ) (parts : List (List ℕ)) → 0 < length parts
-    → numbered n (part ∷ parts) ≡ record { number = n; bytes = part; ended = true }
-    ∷ numbered (n + 1) parts
-numbered-cons n part parts some = grind arith
-
--- a line without a line feed in it, and one after it
-lines_from-line : (n : ℕ) (line rest : List ℕ) → HasNoLineFeed line
-    → lines_from n (line ++ 10 ∷ rest)
-    ≡ record { number = n; bytes = line; ended = true } ∷ lines_from (n + 1) rest
-lines_from-line n line rest without =
-    let parts = slice_split_at (λ b. eqb b 10) line 10 rest
-    (All-from_recursion (λ b. eqb b 10 ≡ false) line without) refl in
-    let more = length-slice_split (λ b. eqb b 10) rest in
-    ap (numbered n) parts
-    ∙ numbered-cons n line (slice_split (λ b. eqb b 10) rest) (omega (arith, more))
-
--- a part without a line feed is one line that isn't ended, if it has a byte
-pub lines_from-last_line : (n : ℕ) (line : List ℕ) → HasNoLineFeed line → eqb (length line) 0 ≡ false
-    → lines_from n line ≡ record { number = n; bytes = line; ended = false } ∷ []
-lines_from-last_line n line without some =
-    let one = slice_split_none (λ b. eqb b 10) line
-    (All-from_recursion (λ b. eqb b 10 ≡ false) line without) in
-    rw (one, some) refl
-
--- the first of the lines to come, where the next bytes have a line feed
+-- the first of the lines to come, if the next bytes have a line feed
 pub lines_to_come-first : (lines : LinesSoFar) (rest more : List ℕ) (end : ℕ)
     → HasNoLineFeed lines.begun → position (λ b. eqb b 10) rest ≡ Some end
     → lines_to_come lines (rest ++ more)
@@ -114,14 +43,7 @@ pub lines_to_come-first : (lines : LinesSoFar) (rest more : List ℕ) (end : ℕ
     ∷ lines_to_come (with_ended (with_begun lines (end + 1) (take end rest)))
     (drop (end + 1) rest ++ more)
 lines_to_come-first lines rest more end without found =
-    let parted : lines.begun ++ (rest ++ more)
-    ≡ (lines.begun ++ take end rest) ++ 10 ∷ (drop (end + 1) rest ++ more) =
-    ap (λ r. lines.begun ++ (r ++ more)) (split-at_line_feed rest end found)
-    ∙ ap (λ r. lines.begun ++ r) (append_assoc (take end rest) (10 ∷ drop (end + 1) rest) more)
-    ∙ sym (append_assoc lines.begun (take end rest) (10 ∷ (drop (end + 1) rest ++ more))) in
-    ap (lines_from (lines.ended + 1)) parted
-    ∙ lines_from-line (lines.ended + 1) (lines.begun ++ take end rest) (drop (end + 1) rest ++ more)
-    (no_line_feed-append lines.begun (take end rest) without (no_line_feed-before_first rest end found))
+    lines_from-first_ended (lines.ended + 1) lines.begun rest more end without found
 
 -- ---- reading them
 
@@ -140,17 +62,6 @@ pub judge-begun_line : {R : Type 0} (judge : ℕ → LineText → R) (begun now 
 judge-begun_line judge begun now ended line is number text =
     ap (λ (l : LinesSoFar). judge l.ended (line_begun l)) (sym is)
     ∙ ap (λ n. judge n (line_begun now)) (sym number) ∙ ap (judge ended) (sym text)
-
--- what follows a step may be replaced by what is equal
-bind-same : {A B E : Type 0} (r : Result A E) (f g : A → Result B E) → ((x : A) → f x ≡ g x)
-    → (r >>= f) ≡ (r >>= g)
-bind-same (Ok x) f g same = same x
-bind-same (Err e) f g same = refl
-
--- a list without elements
-length-zero_test : (xs : List ℕ) → eqb (length xs) 0 ≡ true → xs ≡ []
-length-zero_test [] none = refl
-length-zero_test (x ∷ xs) none = absurd (let wrong = eqb-true (length (x ∷ xs)) 0 none in omega arith)
 
 module _ {S A : Type 0} (first : List ℕ) (read : S → List LineText → Result A TableFault)
     (step : S → LineText → Result S TableFault) (steps : ReadsInSteps read step) where
@@ -229,13 +140,14 @@ lines_to_come-begun : (lines : LinesSoFar) → HasNoLineFeed lines.begun
     → eqb (length lines.begun) 0 ≡ false → lines_to_come lines [] ≡ last_line lines ∷ []
 lines_to_come-begun lines without some =
     ap (lines_from (lines.ended + 1)) (append-nil lines.begun)
-    ∙ lines_from-last_line (lines.ended + 1) lines.begun without some
+    ∙ lines_from-unended (lines.ended + 1) lines.begun without some
 
 -- and else there is none
 pub lines_to_come-none : (lines : LinesSoFar) → eqb (length lines.begun) 0 ≡ true
     → lines_to_come lines [] ≡ []
 lines_to_come-none lines none =
-    ap (lines_from (lines.ended + 1)) (append-nil lines.begun ∙ length-zero_test lines.begun none)
+    ap (lines_from (lines.ended + 1)) (append-nil lines.begun
+    ∙ nil_from_length lines.begun (eqb-true (length lines.begun) 0 none))
 
 module _ {A : Type 0} (first : List ℕ) (read : List LineText → Result A TableFault) where
   -- a text that ends in its header
@@ -274,33 +186,38 @@ module _ {A : Type 0} (first : List ℕ) (read : List LineText → Result A Tabl
 
 -- ---- a text in one piece
 
--- What reading ends with if these bytes come, before a piece and after it. Before the piece it is what
--- the whole text is read as.
-module _ {A : Type 0} (before behind : List ℕ → Result A TableFault) (whole : Result A TableFault)
-    (text : List ℕ) (size : ℕ) (none : size ≡ 0)
-    (reads : length text ≤ 16777216 → before text ≡ whole)
+-- What reading ends with if these bytes come, before a piece and after it, where the piece is the first.
+module _ {A : Type 0} (before behind : List ℕ → Result A TableFault) (text : List ℕ) (size : ℕ)
+    (none : size ≡ 0)
     (goes_on : size + length (text ++ []) ≤ 16777216 → behind [] ≡ before (text ++ [])) where
-  only_piece : length text ≤ 16777216 → behind [] ≡ whole
-  only_piece fits = goes_on (omega (arith, fits, none, length-append text []))
-      ∙ ap before (append-nil text) ∙ reads fits
+  only_piece : length text ≤ 16777216 → behind [] ≡ before text
+  only_piece fits = goes_on (omega (arith, fits, none, length-append text [])) ∙ ap before (append-nil text)
 
   -- a fault of the only piece is that of the text
-  pub whole_refused : (fault : TableFault)
-      → (nat_lt 16777216 (length text) ≡ true → whole ≡ Err (fault_at 0 TooLarge))
-      → behind [] ≡ Err fault → (16777216 < size + length text → fault ≡ fault_at 0 TooLarge)
-      → whole ≡ Err fault
-  whole_refused fault over is too_large = elim (cases_Bool (nat_lt 16777216 (length text))) [
+  pub whole_if-refused : (fault : TableFault) → behind [] ≡ Err fault
+      → (16777216 < size + length text → fault ≡ fault_at 0 TooLarge) → Err fault ≡ whole_if before text
+  whole_if-refused fault is too_large = elim (cases_Bool (nat_lt 16777216 (length text))) [
     | inl more ↦
         let large = ltb-true 16777216 (length text) more in
-        over more ∙ ap Err (sym (too_large (omega (arith, large, none))))
-    | inr fits ↦ sym (only_piece (ltb-false 16777216 (length text) fits)) ∙ is
+        rw more (ap Err (too_large (omega (arith, large, none))))
+    | inr fits ↦ rw fits (sym is ∙ only_piece (ltb-false 16777216 (length text) fits))
   ]
 
   -- a text of only one piece is read whole
-  pub whole_taken : (16777216 < size + length text → ⊥) → behind [] ≡ whole
-  whole_taken small = elim (cases_Bool (nat_lt 16777216 (length text))) [
+  pub whole_if-taken : (16777216 < size + length text → ⊥) → behind [] ≡ whole_if before text
+  whole_if-taken small = elim (cases_Bool (nat_lt 16777216 (length text))) [
     | inl more ↦
         let large = ltb-true 16777216 (length text) more in
         absurd (small (omega (arith, large, none)))
-    | inr fits ↦ only_piece (ltb-false 16777216 (length text) fits)
+    | inr fits ↦ rw fits (only_piece (ltb-false 16777216 (length text) fits))
   ]
+
+-- what a whole text is read as, if each text within the limit is, and a larger one is refused
+pub whole_if-is : {A : Type 0} (read : List ℕ → Result A TableFault) (text : List ℕ)
+    (whole : Result A TableFault) → (length text ≤ 16777216 → read text ≡ whole)
+    → (nat_lt 16777216 (length text) ≡ true → whole ≡ Err (fault_at 0 TooLarge))
+    → whole_if read text ≡ whole
+whole_if-is read text whole reads over = elim (cases_Bool (nat_lt 16777216 (length text))) [
+  | inl more ↦ rw more (sym (over more))
+  | inr fits ↦ rw fits (reads (ltb-false 16777216 (length text) fits))
+]

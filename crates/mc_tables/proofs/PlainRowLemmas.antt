@@ -11,7 +11,7 @@ use Rattle.std.proofs.lemmas.Bool.{leb-true, le-leb, ltb-true, lt-ltb}
 use Rattle.std.proofs.lemmas.List.Splits.{slice_split_at}
 use Rattle.std.proofs.lemmas.List.Sums.{AllPass-from_list_all, list_all-from_AllPass}
 use Rattle.std.proofs.lemmas.List.Quantifiers.{position-Some}
-use Rattle.std.proofs.lemmas.List.{length-drop, take_all, length-take-le, take-append-drop, drop_more}
+use Rattle.std.proofs.lemmas.List.{length-take-le, take-append-drop, drop_more}
 use Rattle.std.proofs.lemmas.List.{length-append, append_assoc}
 use Rattle.std.proofs.lemmas.List.{get_or-take}
 use Rattle.std.proofs.lemmas.List.Folds.{list_all-append}
@@ -25,6 +25,7 @@ use Rattle.mc_text.proofs.AddressDigitLemmas.{decoded_word_has_eight_digits}
 use Rattle.mc_text.proofs.LineLemmas.{words_of-word, words_of-spaces}
 use Rattle.std.specs.Prelude.{codes}
 use Rattle.std.specs.Str.{bytes_eq}
+use Rattle.std.proofs.lemmas.List.{take_rest}
 use Rattle.mc_tables.specs.FlatRows.{row_with_oifs}
 use Rattle.mc_tables.specs.TableWords.{is_decimal_word, is_counter, number_in, address_in}
 use Rattle.mc_tables.specs.declared.entry.Oif.{Oif}
@@ -193,11 +194,6 @@ address_is_first_word order line None long space is = tt
 address_is_first_word order line (Some a) long space is =
     words_of-address order line a (omega (arith, long)) space (sym is)
 
--- what follows a place, up to the end of a line
-pub drop_as_take_drop : (line : List ℕ) (n : ℕ) → take (length line - n) (drop n line) ≡ drop n line
-drop_as_take_drop line n = let size = length-drop n line in
-    take_all (length line - n) (drop n line) (omega (arith, size))
-
 -- ---- an outgoing vif
 
 -- digits, a colon, digits and a space are a first word that denotes an outgoing vif
@@ -273,7 +269,7 @@ one_digit_oif_is_first_word
           ∙ ap (λ x. words_of (a ∷ 58 ∷ c ∷ x ∷ e ∷ rest)) third
           ∙ ap (λ x. words_of (a ∷ 58 ∷ c ∷ 32 ∷ x ∷ rest)) last ∙ found.1
           ∙ ap (λ (r : List ℕ). found.0 ∷ words_of r)
-          (sym (drop_as_take_drop (s ∷ t ∷ a ∷ b ∷ c ∷ d ∷ e ∷ rest) 7)),
+          (sym (take_rest (s ∷ t ∷ a ∷ b ∷ c ∷ d ∷ e ∷ rest) 7)),
       found.2,
     )
 one_digit_oif_is_first_word line long first second of_vif colon of_threshold third last = grind arith
@@ -324,7 +320,7 @@ two_digit_oif_is_first_word
           ∙ ap (λ x. words_of (a ∷ b ∷ 58 ∷ d ∷ x ∷ f ∷ rest)) third
           ∙ ap (λ x. words_of (a ∷ b ∷ 58 ∷ d ∷ 32 ∷ x ∷ rest)) last ∙ found.1
           ∙ ap (λ (r : List ℕ). found.0 ∷ words_of r)
-          (sym (drop_as_take_drop (s ∷ a ∷ b ∷ c ∷ d ∷ e ∷ f ∷ rest) 7)),
+          (sym (take_rest (s ∷ a ∷ b ∷ c ∷ d ∷ e ∷ f ∷ rest) 7)),
       found.2,
     )
 two_digit_oif_is_first_word line long first tens units top colon of_threshold third last = grind arith
@@ -343,7 +339,7 @@ one_digit_iif_is_first_word (a ∷ b ∷ c ∷ rest) long digit first second =
       a ∷ [],
       ap (λ x. words_of (a ∷ x ∷ c ∷ rest)) first ∙ ap (λ x. words_of (a ∷ 32 ∷ x ∷ rest)) second
           ∙ digits_are_first_word (a ∷ []) (32 ∷ rest) decimal
-          ∙ ap (λ (r : List ℕ). (a ∷ []) ∷ words_of r) (sym (drop_as_take_drop (a ∷ b ∷ c ∷ rest) 3)),
+          ∙ ap (λ (r : List ℕ). (a ∷ []) ∷ words_of r) (sym (take_rest (a ∷ b ∷ c ∷ rest) 3)),
       decimal,
       number_in-one_digit 0 31 a digit (omega arith) (omega (arith, top)),
     )
@@ -360,7 +356,7 @@ two_digit_iif_is_first_word (a ∷ b ∷ c ∷ rest) long tens units top space =
     let decimal : is_decimal_word (a ∷ b ∷ []) ≡ true = rw (tens, units) refl in (
       a ∷ b ∷ [],
       ap (λ x. words_of (a ∷ b ∷ x ∷ rest)) space ∙ digits_are_first_word (a ∷ b ∷ []) rest decimal
-          ∙ ap (λ (r : List ℕ). (a ∷ b ∷ []) ∷ words_of r) (sym (drop_as_take_drop (a ∷ b ∷ c ∷ rest) 3)),
+          ∙ ap (λ (r : List ℕ). (a ∷ b ∷ []) ∷ words_of r) (sym (take_rest (a ∷ b ∷ c ∷ rest) 3)),
       decimal,
       number_in-two_digits 31 a b tens units top,
     )

@@ -15,7 +15,8 @@ use Rattle.mc_tables.specs.TableWords.{number_in}
 use Rattle.mc_tables.specs.CacheReading.{oif_in_parts, oif_in, row_in_words}
 use Rattle.mc_tables.specs.OutgoingSteps.{threshold_in, oif_at_colon}
 use Rattle.mc_tables.proofs.WordLemmas.{number_in-denotes}
-use Rattle.mc_tables.proofs.ColonLemmas.{slice_split-none, slice_split-some, is_some-none_from}
+use Rattle.mc_text.proofs.Lists.{slice_split-found, slice_split-not_found}
+use Rattle.mc_text.proofs.StepLemmas.{None-from_is_some_false}
 use Rattle.mc_tables.proofs.ColonLemmas.{is_some-some_from}
 use Rattle.mc_tables.proofs.OifLemmas.{all_digits-no_colon}
 
@@ -66,7 +67,7 @@ pub threshold_in-colon : (word : List ℕ) → is_some (position (λ b. b == 58)
 threshold_in-colon word e =
     let first = is_some-some_from (λ (b : ℕ). b == 58) (position (λ b. b == 58) word) e in
     let rest = drop (first.0 + 1) word in
-    ap threshold_in (slice_split-some (λ b. b == 58) word 0 first.0 first.1)
+    ap threshold_in (slice_split-found (λ b. b == 58) word 0 first.0 first.1)
     ∙ threshold_in-more_parts (take first.0 word) (slice_split (λ b. b == 58) rest)
     (count_by (λ b. b == 58) rest) (length-slice_split (λ b. b == 58) rest)
 
@@ -75,8 +76,8 @@ pub threshold_in-no_number : (word : List ℕ) → number_in 1 254 word ≡ None
     → is_some (position (λ b. b == 58) word) ≡ false
     → threshold_in (slice_split (λ b. b == 58) word) ≡ Err BadThreshold
 threshold_in-no_number word none e =
-    let nowhere = is_some-none_from (λ (b : ℕ). b == 58) (position (λ b. b == 58) word) e in
-    ap threshold_in (slice_split-none (λ b. b == 58) word nowhere)
+    let nowhere = None-from_is_some_false (position (λ b. b == 58) word) e in
+    ap threshold_in (slice_split-not_found (λ b. b == 58) word nowhere)
     ∙ ap (λ o. ok_or o BadThreshold) none
 
 -- both faults of a threshold

@@ -1,6 +1,6 @@
 -- Reading a cache in pieces, of which the rows of listed sources and groups are kept.
 use Rattle.std.proofs.Common.{◌≡◌, ℕ, ◌+◌, ◌≤◌, Bool, true, false, cond, eqb, List, [], ◌∷◌, ◌++◌}
-use Rattle.std.proofs.Common.{length, arith, Option, Some, None, Result, Ok, Err, refl, sym, ap, subst}
+use Rattle.std.proofs.Common.{length, arith, Some, None, Result, Ok, Err, refl, sym, ap, subst}
 use Rattle.std.proofs.Common.{◌∙◌, inl, inr}
 use Rattle.std.specs.Prelude.{◌⊎◌, nat_lt, not, filter, map, codes}
 use Rattle.std.specs.List.{filter_map, cons_option, list_any, slice_split}
@@ -18,13 +18,13 @@ use Rattle.mc_tables.specs.declared.fault.TableFaultKind.TheVariants.{TooLarge}
 use Rattle.mc_text.specs.Steps.{◌>>=◌}
 use Rattle.mc_tables.specs.Steps.{demand, at_line}
 use Rattle.mc_tables.specs.TableLines.{is_among, lines_after_header, rows_after}
-use Rattle.mc_tables.specs.LinesSoFar.{LinesSoFar, HasNoLineFeed, header_line, ReadsInSteps}
+use Rattle.mc_text.specs.Lines.{HasNoLineFeed}
+use Rattle.mc_tables.specs.LinesSoFar.{LinesSoFar, header_line, ReadsInSteps}
 use Rattle.mc_tables.specs.CacheTable.{RowValue, CacheValue, same_key}
 use Rattle.mc_tables.specs.CacheTable.{key_of, table_of}
 use Rattle.mc_tables.specs.CacheReading.{row_in_words, entry_repeats, row_in_line, row_at_line}
-use Rattle.mc_tables.specs.CacheReading.{cache_rows_in, cache_in}
 use Rattle.mc_tables.specs.CacheSteps.{row_with_room, row_added}
-use Rattle.mc_tables.specs.ListedRows.{Listed, is_kept_key, is_kept, kept_rows, listed_in}
+use Rattle.mc_tables.specs.ListedRows.{Listed, is_kept, kept_rows, listed_in}
 use Rattle.mc_tables.specs.ListedRows.{listed_set, is_kept_by_set}
 use Rattle.mc_tables.specs.UnlistedRows.{UnlistedRow, first_repeat, repeat_fault}
 use Rattle.mc_tables.specs.RowsSoFar.{RowsSoFar, unlisted_added, kept_added, any_row_added, ListedRowsSoFar}
@@ -418,24 +418,3 @@ cache_after-end lines so_far without =
             ])
       ]
     ]
-
--- where all keys are listed each is
-is_kept_key-all_listed : (own : Option (ℕ × ℕ)) → is_kept_key None own ≡ true
-is_kept_key-all_listed None = refl
-is_kept_key-all_listed (Some key) = refl
-
--- where all keys are listed all rows are kept
-kept_rows-all_listed : (rows : List RowValue) → kept_rows None rows ≡ rows
-kept_rows-all_listed [] = refl
-kept_rows-all_listed (row ∷ rows) =
-    ap (λ b. cond b (row ∷ kept_rows None rows) (kept_rows None rows)) (is_kept_key-all_listed (key_of row))
-    ∙ ap (λ (rest : List RowValue). row ∷ rest) (kept_rows-all_listed rows)
-
--- so the table is that of all rows
-table_of_kept-all_listed : (rows : Result (List RowValue) TableFault)
-    → (rows >>= λ all. Ok (table_of (kept_rows None all))) ≡ (rows >>= λ all. Ok (table_of all))
-table_of_kept-all_listed (Err fault) = refl
-table_of_kept-all_listed (Ok rows) = ap (λ all. Ok (table_of all)) (kept_rows-all_listed rows)
-
-pub listed_in-all : (order : Order) (text : List ℕ) → listed_in order None text ≡ cache_in order text
-listed_in-all order text = table_of_kept-all_listed (cache_rows_in order text)

@@ -13,13 +13,16 @@ use Rattle.std.proofs.lemmas.List.Elements.{filter_map-append}
 use Rattle.mc_text.specs.declared.text.addr.Order.{Order}
 use Rattle.mc_text.specs.Lines.{LineText, lines_of, words_of}
 use Rattle.mc_text.specs.Steps.{◌>>=◌}
+use Rattle.mc_text.proofs.StepLemmas.{None-from_is_some_false}
+use Rattle.std.proofs.Math.Bool.{and-false}
 use Rattle.mc_tables.specs.declared.fault.TableFault.{TableFault}
 use Rattle.mc_tables.specs.declared.fault.TableFaultKind.{TableFaultKind}
 use Rattle.mc_tables.specs.declared.fault.TableFaultKind.TheVariants.{RepeatedEntry, TooLarge, Unended}
 use Rattle.mc_tables.specs.declared.summarized_cache.SummarizedCache.{SummarizedCache}
 use Rattle.mc_tables.specs.Steps.{at_line, demand}
 use Rattle.mc_tables.specs.TableLines.{lines_after_header, rows_after}
-use Rattle.mc_tables.specs.LinesSoFar.{LinesSoFar, HasNoLineFeed, header_line, lines_to_come, lines_start}
+use Rattle.mc_text.specs.Lines.{HasNoLineFeed}
+use Rattle.mc_tables.specs.LinesSoFar.{LinesSoFar, header_line, lines_to_come, lines_start}
 use Rattle.mc_tables.specs.LinesSoFar.{ReadsInSteps}
 use Rattle.mc_tables.specs.CacheTable.{CacheValue, EntryValue, RowValue, key_cmp, key_of, same_key}
 use Rattle.mc_tables.specs.CacheTable.{table_of}
@@ -49,7 +52,6 @@ use Rattle.mc_tables.proofs.CacheMapLemmas.{key_cmp-antisymmetric}
 use Rattle.mc_tables.proofs.KeptRowLemmas.{same_key-listed_differs}
 use Rattle.mc_tables.proofs.ListedLemmas.{set_has_key-listed_set}
 use Rattle.mc_tables.proofs.LowestLemmas.{shown_pairs-none, shown_pairs-push}
-use Rattle.mc_tables.proofs.NumberLemmas.{is_some-false}
 use Rattle.mc_tables.proofs.UnlistedRowLemmas.{same_key-equal}
 use Rattle.mc_tables.proofs.PieceLemmas.{lines_to_come-none}
 use Rattle.mc_tables.proofs.RowsSoFarLemmas.{cache_after-end, filter-push_passing, filter-push_failing}
@@ -220,7 +222,7 @@ from_entries-push_new : (es : List ((ℕ × ℕ) × EntryValue)) (exact : (ℕ �
 from_entries-push_new es exact none =
     map.from_entries_push key_cmp-total key_cmp-antisymmetric es exact.0 exact.1
     (sym (map.get-from_entries key_cmp-total es exact.0)
-    ∙ is_some-false (map.get (map.from_entries {R = key_cmp} es) exact.0) none)
+    ∙ None-from_is_some_false (map.get (map.from_entries {R = key_cmp} es) exact.0) none)
 
 -- what is found stays found with one more behind it
 find-push_found : (q : ℕ × ℕ) (es : List ((ℕ × ℕ) × EntryValue)) (exact : (ℕ × ℕ) × EntryValue)
@@ -534,11 +536,6 @@ table_without_summary-listed_in all order listed text =
       | Err fault ↦ refl
       | Ok rows ↦ refl
     ]
-
--- a test and false are false
-and-false : (b : Bool) → (b && false) ≡ false
-and-false true = refl
-and-false false = refl
 
 -- a listed key is not the same as one that isn't listed
 is_listed-unlisted_key : (listed : List (ℕ × ℕ)) (key k : ℕ × ℕ) (b : Bool)

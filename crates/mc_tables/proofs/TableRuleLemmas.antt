@@ -7,9 +7,10 @@ use Rattle.std.specs.Str.{bytes_eq}
 use Rattle.std.specs.FinMap.{FinMap, from_entries, get-from_entries}
 use Rattle.std.proofs.lemmas.Slice.Eq.{bytes_eq-Decides}
 use Rattle.mc_text.specs.declared.text.addr.Order.{Order}
+use Rattle.std.proofs.lemmas.Option.{same_Some}
 use Rattle.mc_tables.specs.CacheTable.{EntryValue}
 use Rattle.mc_tables.specs.VifTable.{VifValue, no_device, device_of}
-use Rattle.mc_tables.specs.VifLookups.{HasDevice, IsValidVifTable, first_index_with}
+use Rattle.mc_tables.specs.VifLookups.{HasDevice, IsValidVifTable}
 use Rattle.mc_tables.specs.CacheTable.{RowValue, CacheValue, IsValidEntry, IsValidCache, DenotesCache}
 use Rattle.mc_tables.specs.CacheTable.{exact_entry, table_of}
 use Rattle.mc_tables.proofs.VifLookupLemmas.{first_index_with-has_device, get-at_most_31, absurd-both_values}
@@ -17,19 +18,14 @@ use Rattle.mc_tables.proofs.CacheLemmas.{key_cmp-total}
 use Rattle.mc_tables.proofs.CacheLookupLemmas.{find-zero_source}
 use Rattle.mc_tables.proofs.EntryLemmas.{HaveValidEntries, rows-have_valid_entries, find-valid_entry}
 
--- a result that is found has one index
-some-injective : (i j : ℕ) (o : Option ℕ) → o ≡ Some i → o ≡ Some j → i ≡ j
-some-injective i j o a b = cc
-
 -- rows whose indexes are 0 to 31 and whose devices differ make a valid table of vifs
 pub vif_rows-valid_table : (rows : List (ℕ × VifValue)) → IsDistinct bytes_eq (filter_map device_of rows) →
     AllByRecursion (λ row. row.0 ≤ 31) rows → IsValidVifTable (from_entries rows)
 vif_rows-valid_table rows distinct all = record {
   numbered = λ index there. get-at_most_31 rows index all there;
   devices_differ = λ device i j some has_i has_j.
-      some-injective i j (first_index_with device rows)
-      (first_index_with-has_device device rows i some distinct has_i)
-      (first_index_with-has_device device rows j some distinct has_j);
+      same_Some i j (sym (first_index_with-has_device device rows i some distinct has_i)
+      ∙ first_index_with-has_device device rows j some distinct has_j);
 }
 
 -- rows with valid entries make a valid cache

@@ -19,6 +19,7 @@ use Rattle.std.proofs.lemmas.Cmp.{nat_cmp_total, eq_by_cmp_equiv}
 use Rattle.std.proofs.lemmas.Map.Keys.{IsDistinct-IsPermutation}
 use Rattle.std.proofs.lemmas.Map.Keys.{apart_from_distinct}
 use Rattle.mc_text.specs.Pair.{pair_number}
+use Rattle.std.proofs.Math.Bool.{or-false, and-true}
 use Rattle.mc_tables.specs.Distinct.{AreDistinct}
 use Rattle.mc_tables.specs.CacheTable.{key_cmp, same_key}
 use Rattle.mc_tables.specs.UnlistedRows.{UnlistedRow, repeats, is_repeat, lesser_or, least, first_repeat}
@@ -27,14 +28,6 @@ use Rattle.mc_tables.proofs.CacheLemmas.{same_key-equivalence}
 use Rattle.mc_tables.proofs.CacheMapLemmas.{key_cmp-antisymmetric}
 
 -- ---- tests
-
-or-false : (b : Bool) → (b || false) ≡ b
-or-false true = refl
-or-false false = refl
-
-and-true : (b : Bool) → (b && true) ≡ b
-and-true true = refl
-and-true false = refl
 
 -- either of two equal values gives the same
 cond-same : {X : Type 0} (b : Bool) (x y : X) → x ≡ y → cond b x y ≡ y

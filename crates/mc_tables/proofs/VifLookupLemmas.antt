@@ -17,6 +17,7 @@ use Rattle.std.proofs.lemmas.Bool.{false_from_ne_true}
 use Rattle.std.proofs.lemmas.Cmp.{nat_cmp_total, nat_eq_equiv, nat_list_eq_equiv}
 use Rattle.std.proofs.lemmas.Map.Keys.{IsDistinct-head, IsDistinct-tail}
 use Rattle.std.proofs.lemmas.Slice.Eq.{bytes_eq-Decides}
+use Rattle.mc_tables.proofs.EntryLemmas.{and-parts}
 use Rattle.mc_tables.specs.TableLines.{is_among}
 use Rattle.mc_tables.specs.VifTable.{VifValue, no_device, device_of}
 use Rattle.mc_tables.specs.VifReading.{device_repeats}
@@ -278,10 +279,6 @@ answer-at_most_31 device rows (Some index) all has =
 
 -- ---- the map's own entries, in the order of their indexes
 
-and-both_parts : (a b : Bool) → T (a && b) → T a × T b
-and-both_parts true b h = (tt, h)
-and-both_parts false b h = absurd h
-
 is_eq-less : (o : Ordering) → T (is_lt o) → is_eq o ≡ false
 is_eq-less Less h = refl
 is_eq-less Equal h = absurd h
@@ -292,7 +289,7 @@ below_all-differs : (index : ℕ) (rows : List (ℕ × VifValue)) → T (below_a
     → AllByRecursion (λ other. nat_eq index other ≡ false) (map (λ row. row.0) rows)
 below_all-differs index [] h = tt
 below_all-differs index (row ∷ rows) h =
-    let parts = and-both_parts (is_lt (nat_cmp index row.0)) (below_all nat_cmp index rows) h in (
+    let parts = and-parts (is_lt (nat_cmp index row.0)) (below_all nat_cmp index rows) h in (
       sym (unsigned_tied index row.0) ∙ is_eq-less (nat_cmp index row.0) parts.0,
       below_all-differs index rows parts.1,
     )
@@ -303,7 +300,7 @@ is_sorted-distinct : (rows : List (ℕ × VifValue)) → T (is_sorted nat_cmp ro
 unfolding IsDistinct
 is_sorted-distinct [] h = tt
 is_sorted-distinct (row ∷ rows) h =
-    let parts = and-both_parts (below_all nat_cmp row.0 rows) (is_sorted nat_cmp rows) h in
+    let parts = and-parts (below_all nat_cmp row.0 rows) (is_sorted nat_cmp rows) h in
     (below_all-differs row.0 rows parts.0, is_sorted-distinct rows parts.1)
 
 -- a device that a row has is found

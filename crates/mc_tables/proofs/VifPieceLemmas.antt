@@ -3,9 +3,10 @@ use Rattle.std.proofs.Common.{◌≡◌, ℕ, ◌+◌, ◌≤◌, false, eqb, le
 use Rattle.std.proofs.Common.{refl, ap, ◌∙◌, inl, inr}
 use Rattle.std.specs.Prelude.{codes}
 use Rattle.std.proofs.lemmas.Bool.{cases_Bool}
-use Rattle.std.specs.List.{AllByRecursion, IsDistinct}
+use Rattle.std.specs.List.{IsDistinct}
 use Rattle.std.specs.FinMap.{from_entries}
 use Rattle.mc_text.specs.Lines.{LineText}
+use Rattle.mc_text.proofs.Lists.{AllByRecursion-append}
 use Rattle.mc_tables.specs.declared.fault.TableFaultKind.{TableFaultKind}
 use Rattle.mc_tables.specs.declared.fault.TableFaultKind.TheVariants.{Unended}
 use Rattle.mc_text.specs.Steps.{◌>>=◌}
@@ -15,7 +16,8 @@ use Rattle.mc_tables.specs.VifTable.{VifValue, AreValidVifRows}
 use Rattle.mc_tables.specs.VifReading.{vif_in_line, vif_at_line}
 use Rattle.mc_tables.specs.VifsSoFar.{vif_step, vifs_from_lines, vifs_after}
 use Rattle.mc_tables.proofs.VifLemmas.{vif_at_line-reads_rows, denoted_vifs-at_most_31}
-use Rattle.mc_tables.specs.LinesSoFar.{LinesSoFar, HasNoLineFeed, check_end_of_lines, ReadsInSteps}
+use Rattle.mc_text.specs.Lines.{HasNoLineFeed}
+use Rattle.mc_tables.specs.LinesSoFar.{LinesSoFar, check_end_of_lines, ReadsInSteps}
 use Rattle.mc_tables.proofs.PieceLemmas.{last_line, read_after-no_header, read_after-end_in_line}
 use Rattle.mc_tables.proofs.PieceLemmas.{read_after-end_after_line}
 
@@ -64,12 +66,6 @@ pub vif_rows-valid_none : AreValidVifRows []
 unfolding IsDistinct
 vif_rows-valid_none = (tt, tt, tt)
 
--- what holds of all and of one more
-all-push : {X : Type 0} (P : X → Type 0) (xs : List X) (y : X) → AllByRecursion P xs → P y
-    → AllByRecursion P (xs ++ y ∷ [])
-all-push P [] y all here = (here, tt)
-all-push P (x ∷ xs) y all here = (all.0, all-push P xs y all.1 here)
-
 -- valid rows stay valid with one that was read after them
 pub vif_rows-valid_push : (rows : List (ℕ × VifValue)) (line : LineText) (row : ℕ × VifValue)
     → vif_in_line rows line ≡ Ok row → AreValidVifRows rows → AreValidVifRows (rows ++ row ∷ [])
@@ -77,4 +73,4 @@ vif_rows-valid_push rows line row is valid =
     let found = vif_at_line-reads_rows.found rows line row (ap (at_line line.number) is) in
     let grown = vif_at_line-reads_rows.grows rows row (valid.0, valid.1) found.1 in
     let numbered = denoted_vifs-at_most_31 (line ∷ []) (row ∷ []) (found.0, tt) in
-    (grown.0, grown.1, all-push (λ r. r.0 ≤ 31) rows row valid.2 numbered.0)
+    (grown.0, grown.1, AllByRecursion-append (λ r. r.0 ≤ 31) rows (row ∷ []) valid.2 numbered)

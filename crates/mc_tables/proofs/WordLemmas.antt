@@ -1,7 +1,7 @@
 -- Words and the values that they denote.
-use Rattle.std.proofs.Common.{◌≡◌, ℕ, ◌<◌, ◌≤◌, Bool, true, false, cond, List, [], ◌∷◌, length}
+use Rattle.std.proofs.Common.{◌≡◌, ℕ, ◌<◌, ◌≤◌, true, List, [], ◌∷◌, length}
 use Rattle.std.proofs.Common.{Option, Some, None, refl, sym, ap, ◌∙◌, arith}
-use Rattle.std.specs.Prelude.{IfSome, nat_le}
+use Rattle.std.specs.Prelude.{nat_le}
 use Rattle.std.specs.List.{list_all}
 use Rattle.std.specs.Char.{digit_value, is_ascii_digit}
 use Rattle.std.specs.Str.Parse.{AllDigits, digits_value}
@@ -9,21 +9,9 @@ use Rattle.std.proofs.lemmas.Bool.{and_parts, and_from, leb-true, le-leb}
 use Rattle.std.proofs.lemmas.Str.{digit_value_digit}
 use Rattle.std.proofs.lemmas.Str.Parse.{digit_from_value}
 use Rattle.mc_text.specs.Number.{IsDecimal}
+use Rattle.std.proofs.lemmas.Option.{cond_some}
+use Rattle.mc_text.proofs.StepLemmas.{answer_is_value}
 use Rattle.mc_tables.specs.TableWords.{WordDenotesNumber, is_decimal_word, number_in}
-
--- a result that is found, and only found, where P holds is the value that has P
-pub option_from_clauses : {A : Type 0} (P : A → Type 0) (r o : Option A) → IfSome r P
-    → ((x : A) → P x → r ≡ Some x) → ((x : A) → o ≡ Some x → P x) → ((x : A) → P x → o ≡ Some x)
-    → r ≡ o
-option_from_clauses P (Some x) o found only holds gives = sym (gives x found)
-option_from_clauses P None None found only holds gives = refl
-option_from_clauses P None (Some x) found only holds gives = only x (holds x refl)
-
--- a value under a test
-pub cond-some : {A : Type 0} (b : Bool) (x y : A) → cond b (Some x) None ≡ Some y → (b ≡ true)
-    × (x ≡ y)
-cond-some true x y e = (refl, cc)
-cond-some false x y e = absurd cc
 
 -- a digit that passes the test is below 10
 digit_value-decimal : (c : ℕ) → is_ascii_digit c ≡ true → digit_value c < 10
@@ -57,7 +45,7 @@ list_all-decimal_digits (c ∷ cs) h =
 pub number_in-denotes : (least most : ℕ) (word : List ℕ) (n : ℕ) → number_in least most word ≡ Some n
     → WordDenotesNumber least most word n
 number_in-denotes least most word n e =
-    let g = cond-some _ (digits_value 10 word) n e in
+    let g = cond_some _ (digits_value 10 word) n e in
     let p = and_parts (is_decimal_word word) _ g.0 in
     let d = and_parts (nat_le 1 (length word)) _ p.0 in
     let r = and_parts (nat_le least (digits_value 10 word)) _ p.1 in
@@ -84,6 +72,7 @@ number_in-from_denotes least most word n h =
 pub number_in-none : (least most : ℕ) (word : List ℕ) (decimal : Option ℕ) → decimal ≡ None
     → ((n : ℕ) → IsDecimal word n → n ≤ most → decimal ≡ Some n) → None ≡ number_in least most word
 number_in-none least most word decimal none only =
-    option_from_clauses (WordDenotesNumber least most word) None (number_in least most word) tt
-    (λ n h. sym none ∙ only n h.0 h.2) (number_in-denotes least most word)
-    (number_in-from_denotes least most word)
+    answer_is_value (IsDecimal word) (λ n. (least ≤ n) × (n ≤ most)) None (number_in least most word) tt tt
+    (λ n writes within. sym none ∙ only n writes within.1)
+    (λ n is. let h = number_in-denotes least most word n is in (h.0, (h.1, h.2)))
+    (λ n writes within. number_in-from_denotes least most word n (writes, within.0, within.1))

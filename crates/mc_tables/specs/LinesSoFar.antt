@@ -2,8 +2,7 @@
 use Rattle.std.specs.Prelude.{◌≡◌, ℕ, ◌+◌, ◌≤◌, ◌==◌, true, false, List, [], ◌∷◌, ◌++◌, length}
 use Rattle.std.specs.Prelude.{Option, Some, MatchOption, Result, Ok, Err, position, take, not}
 use Rattle.std.specs.Prelude.{if◌then◌else◌}
-use Rattle.std.specs.List.{AllByRecursion}
-use Rattle.mc_text.specs.Lines.{LineText, lines_from, max_text}
+use Rattle.mc_text.specs.Lines.{LineText, HasNoLineFeed, lines_from, max_text}
 use Rattle.mc_text.specs.Lines.{words_of}
 use Rattle.mc_tables.specs.declared.fault.TableFault.{TableFault}
 use Rattle.mc_tables.specs.declared.fault.TableFaultKind.{TableFaultKind}
@@ -21,10 +20,6 @@ pub record LinesSoFar : Type 0 where
 -- before the first byte
 abbrev pub lines_start : LinesSoFar
 lines_start = record { ended = 0; size = 0; begun = [] }
-
--- none of the bytes is a line feed
-abbrev pub HasNoLineFeed : List ℕ → Type 0
-HasNoLineFeed bytes = AllByRecursion (λ b. (b == 10) ≡ false) bytes
 
 -- what has come is within the limit, and the line that has begun has no line feed
 pub record IsValidLinesSoFar (lines : LinesSoFar) : Type 0 where

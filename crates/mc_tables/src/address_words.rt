@@ -62,7 +62,7 @@ fn address_at_front(line: &[u8], order: Order) -> Option<Addr>
 }
 
 /// What follows an address and its space.
-#[tactic(auto, using(crate::proofs::PlainRowLemmas::drop_as_take_drop))]
+#[tactic(auto, using(std::proofs::lemmas::List::take_rest))]
 fn after_address(line: &[u8]) -> &[u8]
     requires within { 9 ≤ length line.now }
     ensures value { result.now ≡ drop 9 line.now }
@@ -92,7 +92,7 @@ pub fn addresses_at_front(line: &[u8], order: Order) -> Option<(Addr, Addr)>
 
 /// What follows both addresses and their spaces.
 #[inline(always)]
-#[tactic(auto, using(crate::proofs::PlainRowLemmas::drop_as_take_drop))]
+#[tactic(auto, using(std::proofs::lemmas::List::take_rest))]
 pub fn after_addresses(line: &[u8]) -> &[u8]
     requires within { 18 ≤ length line.now }
     ensures value { result.now ≡ drop 18 line.now }

@@ -1,6 +1,6 @@
 //! Reads the rows of a cache line by line, and keeps those of listed sources and groups.
 
-ghost use Rattle.std.specs.Prelude.{◌≡◌, ◌≢◌, [], ◌+◌, ◌<◌, ◌≤◌, length, OnOk, OnErr, IfErr, IfOk, Ok};
+ghost use Rattle.std.specs.Prelude.{◌≡◌, ◌≢◌, Some, ◌+◌, ◌<◌, ◌≤◌, length, OnOk, OnErr, IfErr, IfOk, Ok};
 ghost use Rattle.std.specs.Prelude.{Err};
 ghost use Rattle.mc_text.specs.LineView.{line_text};
 ghost use Rattle.mc_tables.specs.declared.fault.TableFaultKind.TheVariants.{Memory};
@@ -8,19 +8,22 @@ ghost use Rattle.mc_tables.specs.CacheTable.{IsValidCache};
 ghost use Rattle.mc_tables.specs.UnlistedRows.{without_repeat};
 ghost use Rattle.mc_tables.specs.CacheSteps.{row_with_room};
 ghost use Rattle.mc_tables.specs.FlatRows.{row_with_oifs};
-ghost use Rattle.mc_tables.specs.ListedRows.{is_kept_by_set};
+ghost use Rattle.mc_tables.specs.ListedRows.{listed_set, is_kept_by_set};
 ghost use Rattle.mc_tables.specs.RowsSoFar.{rows_start, rows_of_parts, any_row_added, line_added};
-ghost use Rattle.mc_tables.specs.RowsSoFar.{refusal_at};
+ghost use Rattle.mc_tables.specs.RowsSoFar.{refusal_at, rows_end};
+ghost use Rattle.mc_tables.specs.LinesSoFar.{IsValidLinesSoFar};
 ghost use Rattle.mc_tables.specs.SummarySoFar.{summary_with_line};
 ghost use Rattle.mc_tables.specs.Steps.{out_of_memory};
 
 use crate::cache_line::read_row;
 use crate::cache_row::CacheRow;
 use crate::cache_rows::CacheRows;
+use crate::cache_table::CacheTable;
 use crate::entry::Oif;
-use crate::entry_numbers::EntryNumbers;
 use crate::fault::{TableFault, TableFaultKind};
 use crate::header::check_header;
+use crate::line_buffer::LineBuffer;
+use crate::listed_pairs::ListedPairs;
 use crate::rows::TableRows;
 use crate::summary_so_far::SummarySoFar;
 use crate::unlisted_rows::UnlistedRows;
@@ -65,10 +68,9 @@ impl Model for CacheRowReader {
 }
 
 impl CacheRowReader {
-    /// No rows.
-    pub fn new(alloc: Global, order: Order, numbers: EntryNumbers) -> CacheRowReader
-        requires empty { numbers.numbers ≡ [] }
-        ensures value { result ≡ rows_start order numbers.listed }
+    /// No rows. Those of these sources and groups will be kept.
+    pub fn new(alloc: Global, order: Order, listed: ListedPairs) -> CacheRowReader
+        ensures { result ≡ rows_start order (listed_set (Some listed)) }
     {
         // Overwritten by the first row.
         let none = Addr::from_octets([0, 0, 0, 0]);
@@ -81,7 +83,7 @@ impl CacheRowReader {
             order,
             row,
             oifs: Vec::new(alloc),
-            kept: CacheRows::new(alloc, numbers),
+            kept: CacheRows::new(alloc, listed),
             others: UnlistedRows::new(alloc),
             count: 0,
         }
@@ -163,6 +165,23 @@ impl CacheRowReader {
     {
         self.others.check_repeats()
     }
+
+    /// Refuses a text that ends here if a row repeats an earlier one, or else if its last line hasn't
+    /// ended.
+    pub fn check_end(&mut self, lines: &LineBuffer) -> Result<(), TableFault>
+        ensures end { result ≡ rows_end lines.now self.old }
+        ensures table { self.new.rows.table ≡ self.old.rows.table }
+        ensures listed { self.new.listed ≡ self.old.listed }
+        ensures count { self.new.rows.count ≡ self.old.rows.count }
+        ensures rules { IsValidLinesSoFar lines.now }
+    {
+        // Before the header has ended there are no rows.
+        if lines.ended() == 0 {
+            return lines.check_end();
+        }
+        self.check_repeats()?;
+        lines.check_end()
+    }
 }
 
 /// Adds a row that was read, with its outgoing vifs, and returns whether it is kept.
@@ -225,10 +244,10 @@ fn read_row_with_room(
 
 impl TableRows for CacheRowReader {
     ghost use Rattle.std.specs.Prelude.{codes};
-    ghost use Rattle.mc_tables.specs.CacheTable.{CacheValue, IsValidCache};
+    ghost use Rattle.mc_tables.specs.CacheTable.{IsValidCache};
     ghost use Rattle.mc_tables.specs.RowsSoFar.{row_step, table_from};
 
-    ghost Table = { CacheValue };
+    type Table = CacheTable;
 
     ghost header = { codes "Group" };
 
@@ -247,5 +266,10 @@ impl TableRows for CacheRowReader {
             Ok(()) => Ok(()),
             Err(kind) => Err(self.earliest_fault(line.number, kind)),
         }
+    }
+
+    fn into_table(mut self, lines: &LineBuffer) -> Result<CacheTable, TableFault> {
+        self.check_end(lines)?;
+        Ok(CacheTable::from_rows(self.into_kept()))
     }
 }

@@ -12,6 +12,7 @@ use crate::cache_reader::CacheReader;
 use crate::cache_rows::CacheRows;
 use crate::entry::Entry;
 use crate::fault::TableFault;
+use crate::text_pairs::pairs_of_text;
 use mc_text::{Addr, Order};
 use std::alloc::Global;
 use std::marker::Model;
@@ -61,9 +62,8 @@ impl CacheTable {
     fn from_text(alloc: Global, text: &[u8], order: Order) -> Result<CacheTable, TableFault>
         ensures { result ≢ Err out_of_memory → result ≡ cache_in order text.now }
     {
-        let mut reader = CacheReader::for_all_pairs(alloc, order);
-        reader.feed(text)?;
-        reader.finish()
+        let pairs = pairs_of_text(alloc, text, order)?;
+        CacheReader::new(alloc, order, pairs).read_whole(text)
     }
 
     /// The table of rows that were read.

@@ -71,7 +71,7 @@ fn last_digits(digits: u64, spaces: u64) -> u64
 
 /// The line without so many bytes at its front.
 #[inline(always)]
-#[tactic(auto, using(crate::proofs::PlainRowLemmas::drop_as_take_drop))]
+#[tactic(auto, using(std::proofs::lemmas::List::take_rest))]
 fn without_front(line: &[u8], count: usize) -> &[u8]
     requires within { count ≤ length line.now }
     ensures value { result.now ≡ drop count line.now }

@@ -14,9 +14,9 @@ use crate::line_buffer::LineBuffer;
 use mc_text::Line;
 
 /// The rows of a table, to which those of further lines are added.
-pub trait TableRows {
-    // the table of the rows
-    ghost Table: { Type 0 };
+pub trait TableRows: Drop {
+    /// The table of the rows.
+    type Table;
 
     // the first word of its header
     ghost header: { List ℕ };
@@ -25,7 +25,7 @@ pub trait TableRows {
     ghost step: { Self → LineText → Result Self TableFault };
 
     // the table of these rows and those of the lines after them
-    ghost table: { Self → List LineText → Result Table TableFault };
+    ghost table: { Self → List LineText → Result Self.Table TableFault };
 
     // the rules that the rows keep
     ghost is_valid: { Self → Type 0 };
@@ -38,6 +38,11 @@ pub trait TableRows {
         ensures fault { IfErr result (λ fault. fault ≢ out_of_memory →
             line_after header (step self.old) self.old ended (line_text line.now) ≡ Err fault) }
         ensures is_valid { OnOk result (is_valid self.old → is_valid self.new) };
+
+    /// The table of a text that ends after these lines.
+    fn into_table(self, lines: &LineBuffer) -> Result<Self::Table, TableFault>
+        requires valid { is_valid self }
+        ensures table { result ≡ read_after header (table self) lines.now [] };
 }
 
 /// Reads the lines that end in a piece, and buffers the start of the next one.

@@ -1,19 +1,11 @@
 //! Reads the rows of a cache line by line, keeps the listed ones, and summarizes all.
 
-ghost use Rattle.std.specs.Prelude.{◌≡◌, ◌≢◌, OnOk, IfErr, Ok, Err};
-ghost use Rattle.mc_text.specs.LineView.{line_text};
-ghost use Rattle.mc_tables.specs.CacheTable.{IsValidCache};
-ghost use Rattle.mc_tables.specs.LinesSoFar.{IsValidLinesSoFar};
-ghost use Rattle.mc_tables.specs.RowsSoFar.{rows_end};
-ghost use Rattle.mc_tables.specs.Summary.{HasValidEntries};
-ghost use Rattle.mc_tables.specs.SummarySoFar.{finished_summary};
+ghost use Rattle.std.specs.Prelude.{◌≡◌};
 ghost use Rattle.mc_tables.specs.SummaryReading.{summary_rows_start};
 
-use crate::cache_reader::check_end;
 use crate::cache_row_reader::CacheRowReader;
 use crate::cache_summary::CacheSummary;
 use crate::cache_table::CacheTable;
-use crate::entry_numbers::EntryNumbers;
 use crate::fault::TableFault;
 use crate::header::check_header;
 use crate::line_buffer::LineBuffer;
@@ -61,33 +53,8 @@ impl SummarizedRows {
     {
         let (pairs, pairs_copy, for_every_source) = listed.into_lists();
         SummarizedRows {
-            rows: CacheRowReader::new(alloc, order, EntryNumbers::for_listed_pairs(alloc, pairs)),
+            rows: CacheRowReader::new(alloc, order, pairs),
             summary: SummarySoFar::new(alloc, pairs_copy, for_every_source, all),
-        }
-    }
-
-    /// Refuses a text that ends here if a row repeats an earlier one, or else if its last line hasn't
-    /// ended.
-    pub fn check_end(&mut self, lines: &LineBuffer) -> Result<(), TableFault>
-        ensures end { result ≡ rows_end lines.now self.old.rows }
-        ensures table { self.new.rows.rows.table ≡ self.old.rows.rows.table }
-        ensures summary { self.new.summary ≡ self.old.summary }
-        ensures rules { IsValidLinesSoFar lines.now }
-    {
-        check_end(lines, &mut self.rows)
-    }
-
-    /// The table of the rows that are kept, and the summary.
-    pub fn into_summarized(self) -> SummarizedCache
-        requires table { IsValidCache self.rows.rows.table }
-        requires summary { HasValidEntries (finished_summary self.summary) }
-        ensures table { result.table ≡ self.rows.rows.table }
-        ensures summary { result.summary ≡ finished_summary self.summary }
-    {
-        let SummarizedRows { rows, summary } = self;
-        SummarizedCache {
-            table: CacheTable::from_rows(rows.into_kept()),
-            summary: CacheSummary::of(summary),
         }
     }
 }
@@ -95,12 +62,11 @@ impl SummarizedRows {
 impl TableRows for SummarizedRows {
     ghost use Rattle.std.specs.Prelude.{codes};
     ghost use Rattle.mc_tables.specs.CacheTable.{IsValidCache};
-    ghost use Rattle.mc_tables.specs.declared.summarized_cache.SummarizedCache.{SummarizedCache};
     ghost use Rattle.mc_tables.specs.Summary.{HasValidEntries};
     ghost use Rattle.mc_tables.specs.SummarySoFar.{finished_summary};
     ghost use Rattle.mc_tables.specs.SummaryReading.{summary_step, summary_from};
 
-    ghost Table = { SummarizedCache };
+    type Table = SummarizedCache;
 
     ghost header = { codes "Group" };
 
@@ -119,5 +85,14 @@ impl TableRows for SummarizedRows {
             Ok(()) => Ok(()),
             Err(kind) => Err(self.rows.earliest_fault(line.number, kind)),
         }
+    }
+
+    fn into_table(self, lines: &LineBuffer) -> Result<SummarizedCache, TableFault> {
+        let SummarizedRows { mut rows, summary } = self;
+        rows.check_end(lines)?;
+        Ok(SummarizedCache {
+            table: CacheTable::from_rows(rows.into_kept()),
+            summary: CacheSummary::of(summary),
+        })
     }
 }

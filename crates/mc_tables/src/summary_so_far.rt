@@ -15,7 +15,6 @@ ghost use Rattle.mc_tables.specs.SummarySoFar.{summary_with_unlisted};
 use crate::cache_row::CacheRow;
 use crate::cache_rows::CacheRows;
 use crate::entry::{Entry, Oif};
-use crate::entry_numbers::EntryNumbers;
 use crate::fault::TableFaultKind;
 use crate::listed_entry_numbers::ListedEntryNumbers;
 use crate::listed_pairs::ListedPairs;
@@ -71,10 +70,7 @@ impl SummarySoFar {
     {
         SummarySoFar {
             unresolved: ListedEntryNumbers::of(alloc, listed),
-            first: CacheRows::new(
-                alloc,
-                EntryNumbers::for_listed_pairs(alloc, for_every_source),
-            ),
+            first: CacheRows::new(alloc, for_every_source),
             unlisted: 0,
             lowest: ShownPairs::new(alloc, all),
         }

@@ -8,9 +8,10 @@ ghost use Rattle.mc_tables.specs.VifsSoFar.{vif_added};
 
 use crate::fault::{TableFault, TableFaultKind};
 use crate::header::check_header;
+use crate::line_buffer::LineBuffer;
 use crate::rows::TableRows;
 use crate::vif_row::VifRow;
-use crate::vif_table::read_new_vif;
+use crate::vif_table::{VifTable, read_new_vif};
 use mc_text::Line;
 use std::alloc::Global;
 use std::marker::Model;
@@ -63,12 +64,10 @@ impl VifRows {
 
 impl TableRows for VifRows {
     ghost use Rattle.std.specs.Prelude.{codes};
-    ghost use Rattle.std.specs.Ordering.{nat_cmp};
-    ghost use Rattle.std.specs.FinMap.{FinMap};
-    ghost use Rattle.mc_tables.specs.VifTable.{VifValue, AreValidVifRows};
+    ghost use Rattle.mc_tables.specs.VifTable.{AreValidVifRows};
     ghost use Rattle.mc_tables.specs.VifsSoFar.{vif_step, vifs_from_lines};
 
-    ghost Table = { FinMap nat_cmp VifValue };
+    type Table = VifTable;
 
     ghost header = { codes "Interface" };
 
@@ -86,5 +85,10 @@ impl TableRows for VifRows {
             Ok(()) => Ok(()),
             Err(kind) => Err(kind.at(line.number)),
         }
+    }
+
+    fn into_table(self, lines: &LineBuffer) -> Result<VifTable, TableFault> {
+        lines.check_end()?;
+        Ok(VifTable::from_rows(self))
     }
 }

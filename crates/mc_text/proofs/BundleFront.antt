@@ -8,7 +8,7 @@ use Rattle.std.specs.Prelude.{◌==◌, ◌||◌, nat_lt, nat_le, codes, positio
 use Rattle.std.specs.Str.{bytes_eq}
 use Rattle.std.proofs.lemmas.Bool.{cases_lt, or_parts, ltb-false, leb-true, leb-false, le-ltb}
 use Rattle.std.proofs.lemmas.Bool.{lt-leb, ne_eqb}
-use Rattle.std.proofs.lemmas.List.{take_all, drop-take, get_or-take}
+use Rattle.std.proofs.lemmas.List.{take_all, take-take, drop-take, get_or-take}
 use Rattle.std.proofs.lemmas.List.Quantifiers.{position-Some}
 use Rattle.mc_text.specs.declared.bundle.bundle_fault.BundleFault.{BundleFault}
 use Rattle.mc_text.specs.declared.bundle.bundle_fault.BundleFault.TheVariants as faults
@@ -17,14 +17,6 @@ use Rattle.mc_text.specs.Bundle.{PartText}
 use Rattle.mc_text.specs.BundleReading.{BundlePlace, line_at, cut_line, parse_part_line, part_bytes_at}
 use Rattle.mc_text.specs.BundleReading.{part_room, is_too_large, part_for_line, end_for_line}
 use Rattle.mc_text.specs.BundleReading.{next_part_from, with_parts_after, parts_from, bundle_of}
-
--- the first n of the first m items are the first n, if n is at most m
-take-take_le : {A : Type 0} (n m : ℕ) (xs : List A) → n ≤ m → take n (take m xs) ≡ take n xs
-take-take_le zero m xs within = refl
-take-take_le (suc n) zero xs within = absurd (omega (arith, within))
-take-take_le (suc n) (suc m) [] within = refl
-take-take_le (suc n) (suc m) (x ∷ xs) within =
-    ap (λ l. x ∷ l) (take-take_le n m xs (omega (arith, within)))
 
 -- ---- a part
 
@@ -55,7 +47,7 @@ part_bytes_at-truncated_by size k rest false is =
       longer,
       is,
       get_or-take (size + 1 + k) rest size 0 (omega arith),
-      take-take_le size (size + 1 + k) rest (omega arith),
+      take-take size (size + 1 + k) rest (omega arith),
       drop-take (size + 1) k rest,
     ) (part_or_fault-truncated k (slice_index rest size == 10) (take size rest) (drop (size + 1) rest))
 
@@ -223,7 +215,7 @@ part_or_end_after-truncated p (Some n) is =
     let size : length (take n p.rest) ≡ n =
     omega (arith, found, length-take 96 p.rest, length-take n p.rest) in
     rw (
-      take-take_le n (readable_bytes p.room) p.rest (omega (arith, short)),
+      take-take n (readable_bytes p.room) p.rest (omega (arith, short)),
       drop-take_le (n + 1) (readable_bytes p.room) p.rest (omega (arith, short)),
     ) (subst (λ (j : ℕ). part_or_end_after (truncated p)
     (Ok (take n p.rest, take (readable_bytes p.room - (j + 1)) (drop (n + 1) p.rest)))
@@ -236,7 +228,7 @@ next_part_from-truncated : (p : BundlePlace)
     → next_part_from (truncated p) ≡ truncated_result (next_part_from p)
 unfolding next_part_from line_at
 next_part_from-truncated p =
-    rw (take-take_le 96 (readable_bytes p.room) p.rest (omega arith))
+    rw (take-take 96 (readable_bytes p.room) p.rest (omega arith))
     (part_or_end_after-truncated p (position (λ b. b == 10) (take 96 p.rest)) refl)
 
 -- ---- the whole
@@ -290,6 +282,6 @@ pub bundle_of-take : (text : List ℕ) → bundle_of (take 268435552 text) ≡ b
 unfolding bundle_of
 bundle_of-take text =
     rw (
-      take-take_le 17 268435552 text (omega arith),
+      take-take 17 268435552 text (omega arith),
       drop-take_le 17 268435552 text (omega arith),
     ) (parts_if_magic-truncated (bytes_eq (take 17 text) (codes "mcaudit bundle 1\n")) (drop 17 text))

@@ -18,15 +18,11 @@ use Rattle.mc_text.specs.BundleReading.{is_part_name, is_length, cut_words, pars
 use Rattle.mc_text.specs.BundleReading.{parse_part_line}
 use Rattle.mc_text.specs.BundleReading.{cut_line, line_at}
 use Rattle.mc_text.proofs.NumberReading.{decimal_numerals}
+pub use Rattle.mc_text.specs.Lines.{HasNoByte}
 use Rattle.std.proofs.Math.Seq.{take-append-add, drop-append-add}
 use Rattle.std.proofs.lemmas.List.Quantifiers.{position-Some}
 use Rattle.std.proofs.lemmas.Slice.Eq.{bytes_eq-Decides}
 use Rattle.mc_text.proofs.StepLemmas.{ok_injective}
-
--- the text doesn't have this byte
-abbrev pub HasNoByte : ℕ → List ℕ → Type 0
-HasNoByte c [] = Unit {0}
-HasNoByte c (x ∷ xs) = (eqb x c ≡ false) × HasNoByte c xs
 
 -- two texts without a byte, joined, are without it
 pub HasNoByte-append : (c : ℕ) (xs ys : List ℕ) → HasNoByte c xs → HasNoByte c ys → HasNoByte c (xs ++ ys)

@@ -1,4 +1,6 @@
+pub mod Lists
 pub mod LineLemmas
+pub mod PieceLemmas
 pub mod ResultLemmas
 pub mod StepLemmas
 pub mod AddrLemmas

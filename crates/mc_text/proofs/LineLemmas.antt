@@ -1,5 +1,5 @@
 -- The lines of a text, between line feeds, and the words of a line, between spaces.
-use Rattle.std.proofs.Common.{◌≡◌, ◌≢◌, ℕ, ◌+◌, ◌<◌, ◌≤◌, Bool, true, false, not, eqb, cond, List}
+use Rattle.std.proofs.Common.{◌≡◌, ℕ, suc, ◌+◌, ◌<◌, ◌≤◌, Bool, true, false, not, eqb, cond, List}
 use Rattle.std.proofs.Common.{[], ◌∷◌, length, take, drop, get_or, Option, Some, None, unwrap_or}
 use Rattle.std.proofs.Common.{refl, sym, ap, ◌∙◌, arith, append_assoc, length-take}
 use Rattle.std.specs.Prelude.{position}
@@ -7,40 +7,49 @@ use Rattle.std.specs.List.{slice_split, onto_first, join_with_byte, position_or_
 use Rattle.std.proofs.lemmas.Bool.{not-true}
 use Rattle.std.proofs.lemmas.Bool.Decides.{nat_tests}
 use Rattle.std.proofs.lemmas.Option.{cond_some}
-use Rattle.std.proofs.lemmas.List.{append-nil, take_all, drop_all, drop_more}
+use Rattle.std.proofs.lemmas.List.{append-nil, take_all, drop_all, drop_more, get_or-take}
 use Rattle.std.proofs.lemmas.List.Concat.{flat_map-cons}
-use Rattle.std.proofs.lemmas.List.Elements.{All-from_get_or}
+use Rattle.std.proofs.lemmas.List.Elements.{All-from_recursion}
 use Rattle.std.proofs.lemmas.List.Quantifiers.{position-Some}
-use Rattle.std.proofs.lemmas.List.Splits.{slice_split_first, slice_split_none, length-slice_split}
+use Rattle.std.proofs.lemmas.List.Splits.{slice_split_none, length-slice_split}
 use Rattle.std.proofs.lemmas.List.Splits.{join_with_byte-slice_split}
 use Rattle.std.proofs.lemmas.List.Sums.{fails_before_first}
-use Rattle.mc_text.specs.Lines.{numbered, lines_from, lines_of, join_lines, HasNoLineFeed}
+use Rattle.mc_text.specs.Lines.{numbered, lines_from, lines_of, join_lines, HasNoByte, HasNoLineFeed}
 use Rattle.mc_text.specs.Lines.{OnlyLastMayBeUnended}
 use Rattle.mc_text.specs.Lines.{words_of}
+use Rattle.mc_text.proofs.Lists.{slice_split-found, slice_split-not_found}
 
 -- the length of a nonempty text is not zero, as a test
 length-not_zero : (text : List ℕ) → 0 < length text → eqb (length text) 0 ≡ false
 length-not_zero text some = grind (arith, nat_tests)
 
--- if the byte is found, the first part ends there
-slice_split-found : (c : ℕ) (text : List ℕ) (end : ℕ) → position (λ b. eqb b c) text ≡ Some end
-    → slice_split (λ b. eqb b c) text ≡ take end text
-    ∷ slice_split (λ b. eqb b c) (drop (end + 1) text)
-slice_split-found c text end found =
-    grind (arith, nat_tests, slice_split_first (λ b. eqb b c) text 0)
+-- a text whose byte at each place is another one doesn't have this byte
+HasNoByte-from_each : (c : ℕ) (text : List ℕ)
+    → ((k : ℕ) → k < length text → eqb (get_or text k 0) c ≡ false) → HasNoByte c text
+HasNoByte-from_each c [] none = tt
+HasNoByte-from_each c (b ∷ text) none =
+    (none 0 (omega arith), HasNoByte-from_each c text (λ k lt. none (suc k) (omega (arith, lt))))
 
--- if it isn't found, the text is one part
-slice_split-not_found : (c : ℕ) (text : List ℕ) → position (λ b. eqb b c) text ≡ None
-    → slice_split (λ b. eqb b c) text ≡ text ∷ []
-slice_split-not_found c text none =
+-- a text in which the byte isn't found doesn't have it
+pub HasNoByte-from_position : (c : ℕ) (text : List ℕ) → position (λ b. eqb b c) text ≡ None
+    → HasNoByte c text
+HasNoByte-from_position c text none =
     let past : length text ≤ position_or_len (λ b. eqb b c) text = grind (arith, nat_tests) in
-    slice_split_none _ text (All-from_get_or (λ b. eqb b c ≡ false) text 0
-    (λ k lt. fails_before_first (λ b. eqb b c) text k 0 (omega (arith, past))))
+    HasNoByte-from_each c text (λ k lt. fails_before_first (λ b. eqb b c) text k 0 (omega (arith, past)))
+
+-- the bytes before the first such byte don't have it
+pub HasNoByte-take_position : (c : ℕ) (text : List ℕ) (end : ℕ)
+    → position (λ b. eqb b c) text ≡ Some end → HasNoByte c (take end text)
+HasNoByte-take_position c text end found =
+    let at = position-Some (λ b. eqb b c) text end 0 found in
+    HasNoByte-from_each c (take end text) (λ k lt.
+    let before : k < end = omega (arith, lt, length-take end text) in
+    ap (λ b. eqb b c) (get_or-take end text k 0 before) ∙ at.2 k before)
 
 -- ---- lines
 
 -- a part with parts after it is an ended line
-numbered-more : (n : ℕ) (part : List ℕ) (parts : List (List ℕ)) → 0 < length parts
+pub numbered-more : (n : ℕ) (part : List ℕ) (parts : List (List ℕ)) → 0 < length parts
     → numbered n (part ∷ parts) ≡ record { number = n; bytes = part; ended = true }
     ∷ numbered (n + 1) parts
 numbered-more n part parts some = grind arith
@@ -51,14 +60,22 @@ pub lines_from-line_feed : (n : ℕ) (text : List ℕ) (end : ℕ) → position 
     ∷ lines_from (n + 1) (drop (end + 1) text)
 lines_from-line_feed n text end found =
     let more = length-slice_split (λ b. eqb b 10) (drop (end + 1) text) in
-    ap (numbered n) (slice_split-found 10 text end found)
+    ap (numbered n) (slice_split-found (λ b. eqb b 10) text 0 end found)
     ∙ numbered-more n (take end text) _ (omega (arith, more))
 
--- if there is no line feed, the text is one line that none ends
+-- a text without a line feed is one line that none ends, if it isn't empty
+pub lines_from-unended : (n : ℕ) (text : List ℕ) → HasNoLineFeed text → eqb (length text) 0 ≡ false
+    → lines_from n text ≡ record { number = n; bytes = text; ended = false } ∷ []
+lines_from-unended n text none some =
+    let one = slice_split_none (λ b. eqb b 10) text
+    (All-from_recursion (λ b. eqb b 10 ≡ false) text none) in
+    rw (one, some) refl
+
+-- if no line feed is found, the text is such a line
 pub lines_from-no_line_feed : (n : ℕ) (text : List ℕ) → position (λ b. eqb b 10) text ≡ None
     → 0 < length text → lines_from n text ≡ record { number = n; bytes = text; ended = false } ∷ []
 lines_from-no_line_feed n text none some =
-    rw (slice_split-not_found 10 text none, length-not_zero text some) refl
+    lines_from-unended n text (HasNoByte-from_position 10 text none) (length-not_zero text some)
 
 -- a nonempty last part is a line that none ends
 numbered-last : (n b : ℕ) (part : List ℕ) → numbered n ((b ∷ part) ∷ [])
@@ -79,26 +96,22 @@ pub join_lines-lines_of : (text : List ℕ) → join_lines (lines_of text) ≡ t
 join_lines-lines_of text =
     join_lines-numbered 1 (slice_split (λ b. eqb b 10) text) ∙ join_with_byte-slice_split 10 text
 
--- the part has no line feed
-abbrev IsWithoutLineFeed : List ℕ → Type 0
-IsWithoutLineFeed part = AllByRecursion (λ b. b ≢ 10) part
-
 -- another byte before the first part, or a line feed before it, leaves the parts without line feeds
 split-without_line_feed : (b : ℕ) (parts : List (List ℕ)) (t : Bool) → eqb b 10 ≡ t
-    → AllByRecursion IsWithoutLineFeed parts
-    → AllByRecursion IsWithoutLineFeed (cond t ([] ∷ parts) (onto_first b parts))
+    → AllByRecursion HasNoLineFeed parts
+    → AllByRecursion HasNoLineFeed (cond t ([] ∷ parts) (onto_first b parts))
 split-without_line_feed b parts t e whole = grind (arith, nat_tests)
 
 -- the parts between line feeds have no line feed
 slice_split-without_line_feed : (text : List ℕ)
-    → AllByRecursion IsWithoutLineFeed (slice_split (λ b. eqb b 10) text)
+    → AllByRecursion HasNoLineFeed (slice_split (λ b. eqb b 10) text)
 slice_split-without_line_feed [] = (tt, tt)
 slice_split-without_line_feed (b ∷ text) =
     split-without_line_feed b _ (eqb b 10) refl (slice_split-without_line_feed text)
 
 -- the lines of such parts have no line feed
-numbered-no_line_feed : (n : ℕ) (parts : List (List ℕ)) → AllByRecursion IsWithoutLineFeed parts
-    → AllByRecursion HasNoLineFeed (numbered n parts)
+numbered-no_line_feed : (n : ℕ) (parts : List (List ℕ)) → AllByRecursion HasNoLineFeed parts
+    → AllByRecursion (λ line. HasNoLineFeed line.bytes) (numbered n parts)
 numbered-no_line_feed n [] whole = tt
 numbered-no_line_feed n ([] ∷ []) whole = tt
 numbered-no_line_feed n ((b ∷ part) ∷ []) whole = rw (numbered-last n b part) whole
@@ -106,7 +119,8 @@ numbered-no_line_feed n (part ∷ next ∷ more) whole =
     (whole.0, numbered-no_line_feed (n + 1) (next ∷ more) whole.1)
 
 -- the lines of a text have no line feed
-pub lines_of-no_line_feed : (text : List ℕ) → AllByRecursion HasNoLineFeed (lines_of text)
+pub lines_of-no_line_feed : (text : List ℕ)
+    → AllByRecursion (λ line. HasNoLineFeed line.bytes) (lines_of text)
 lines_of-no_line_feed text = numbered-no_line_feed 1 _ (slice_split-without_line_feed text)
 
 -- only the last line of parts may be unended
@@ -149,14 +163,14 @@ words_of-at_word : (line : List ℕ) (o : Option ℕ) → position (λ b. eqb b 
 words_of-at_word line None none some begins =
     let whole = take_all (length line) line (omega arith) in
     let past = drop_all (length line) line (omega arith) in
-    rw (whole, past, slice_split-not_found 32 line none, length-not_zero line some) refl
+    rw (whole, past, slice_split-not_found (λ b. eqb b 32) line none, length-not_zero line some) refl
 words_of-at_word line (Some end) at some begins =
     let space = position-Some (λ b. eqb b 32) line end 0 at in
     let rest : words_of (drop end line) ≡ words_of (drop (end + 1) line) =
     rw (drop_more line end 0 space.0, space.1) refl in
     let within : 0 < end = grind (arith, nat_tests, space) in
     let word = length-not_zero (take end line) (omega (arith, space.0, length-take end line)) in
-    rw (slice_split-found 32 line end at, rest, word) refl
+    rw (slice_split-found (λ b. eqb b 32) line 0 end at, rest, word) refl
 
 -- the first word of a line begins at the first byte that isn't a space, and ends at the next space or at
 -- the line's end

@@ -44,10 +44,6 @@ appends_prefix-after_front a b c front text rest whole first (k, short, taken) i
     rw (is, take-append-add front (text ++ rest) k, part) refl in
     (length front + k, omega arith, rw cut (Appends-trans a b c front (take k text) first taken))
 
--- a fact holds of an error, if it holds
-pub OnErr-from : {X E : Type 0} (r : Result X E) (P : Type 0) → P → OnErr r P
-OnErr-from r P p = grind arith
-
 -- if the last call fails, what was written is a proper prefix of the whole
 pub appends_prefix-last : {X E : Type 0} (r : Result X E) (a b c : Option (List ℕ))
     (front text whole : List ℕ) → Appends a b front → OnErr r (AppendsProperPrefix b c text)

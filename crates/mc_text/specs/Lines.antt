@@ -1,8 +1,16 @@
 -- The lines of a text, which line feeds separate, numbered from 1; and the words of a line.
-use Rattle.std.specs.Prelude.{◌≢◌, ℕ, ◌+◌, ◌<◌, ◌==◌, IsTrue, MatchBool, Bool, true, false, List}
+use Rattle.std.specs.Prelude.{◌≡◌, ℕ, ◌+◌, ◌<◌, ◌==◌, IsTrue, MatchBool, Bool, true, false, List}
 use Rattle.std.specs.Prelude.{[], ◌∷◌, ◌++◌, length, if◌then◌else◌}
 use Rattle.std.specs.List.{slice_split, flat_map, AllByRecursion}
 use Rattle.std.specs.Prelude.{not, filter}
+
+-- none of the bytes is this one
+abbrev pub HasNoByte : ℕ → List ℕ → Type 0
+HasNoByte byte bytes = AllByRecursion (λ b. (b == byte) ≡ false) bytes
+
+-- none of the bytes is a line feed
+abbrev pub HasNoLineFeed : List ℕ → Type 0
+HasNoLineFeed bytes = HasNoByte 10 bytes
 
 -- the greatest length of a text that is read as lines, in bytes
 abbrev pub max_text : ℕ
@@ -37,10 +45,6 @@ spelling line = if line.ended then line.bytes ++ 10 ∷ [] else line.bytes
 -- the text that the lines join to
 abbrev pub join_lines : List LineText → List ℕ
 join_lines lines = flat_map spelling lines
-
--- the line contains no line feed
-abbrev pub HasNoLineFeed : LineText → Type 0
-HasNoLineFeed line = AllByRecursion (λ b. b ≢ 10) line.bytes
 
 -- each line but the last is ended by a line feed, and a last line without one is not empty
 abbrev pub OnlyLastMayBeUnended : List LineText → Type 0

@@ -26,7 +26,7 @@ pub fn greatest_text_is_max_text()
 
 /// No line contains a line feed, and a line feed ends each line but perhaps the last.
 pub fn lines_end_at_line_feeds()
-    ensures within { (text : List ℕ) → AllByRecursion HasNoLineFeed (lines_of text) }
+    ensures within { (text : List ℕ) → AllByRecursion (λ line. HasNoLineFeed line.bytes) (lines_of text) }
     ensures ended { (text : List ℕ) → OnlyLastMayBeUnended (lines_of text) }
 {}
 

@@ -1,5 +1,5 @@
 -- Lists without two items of the same key, and items that are added at their end.
-use Rattle.std.proofs.Common.{◌≡◌, ℕ, zero, suc, ◌⊎◌, inl, inr, Bool, true, false, ◌||◌, List, []}
+use Rattle.std.proofs.Common.{◌≡◌, ℕ, suc, inl, inr, Bool, true, false, ◌||◌, List, []}
 use Rattle.std.proofs.Common.{◌∷◌, ◌++◌, length, Some, refl, sym, ap, ◌∙◌, arith}
 use Rattle.std.specs.Prelude.{slice_get}
 use Rattle.std.specs.Bool.{Decides}
@@ -7,32 +7,8 @@ use Rattle.std.specs.List.{list_any}
 use Rattle.std.proofs.lemmas.Bool.{false_from_ne_true}
 use Rattle.std.proofs.lemmas.List.Folds.{list_any_at}
 use Rattle.std.proofs.lemmas.Option.{slice_get_within, get_or_from_slice_get}
+use Rattle.mc_text.proofs.Lists.{slice_get-append_front, slice_get-append_next, slice_get-push_cases}
 use Rattle.mc_topology.specs.Topology.{AreDistinctBy}
-
-module _ {X : Type 0} where
-  -- an item of the front list has its place in the whole
-  slice_get-append_front : (xs ys : List X) (i : ℕ) (x : X) → slice_get xs i ≡ Some x
-      → slice_get (xs ++ ys) i ≡ Some x
-  slice_get-append_front [] ys i x e = absurd cc
-  slice_get-append_front (y ∷ xs) ys zero x e = e
-  slice_get-append_front (y ∷ xs) ys (suc i) x e = slice_get-append_front xs ys i x e
-
-  -- the item behind the front list has the place after it
-  slice_get-append_next : (xs ys : List X) (x : X) → slice_get (xs ++ x ∷ ys) (length xs) ≡ Some x
-  slice_get-append_next [] ys x = refl
-  slice_get-append_next (y ∷ xs) ys x = slice_get-append_next xs ys x
-
-  -- an item of the longer list is one of the old list, or the added one
-  slice_get-push : (xs : List X) (y : X) (i : ℕ) (x : X) → slice_get (xs ++ y ∷ []) i ≡ Some x
-      → (slice_get xs i ≡ Some x) ⊎ ((i ≡ length xs) × (x ≡ y))
-  slice_get-push [] y zero x e = inr (refl, cc)
-  slice_get-push [] y (suc i) x e = absurd cc
-  slice_get-push (z ∷ xs) y zero x e = inl e
-  slice_get-push (z ∷ xs) y (suc i) x e =
-      elim (slice_get-push xs y i x e) [
-        | inl before ↦ inl before
-        | inr last ↦ inr (omega (arith, last.0), last.1)
-      ]
 
 module _ {X K : Type 0} (key : X → K) (test : X → X → Bool)
     (same : (y x : X) → Decides (test y x) (key y ≡ key x)) where
@@ -69,14 +45,14 @@ module _ {X K : Type 0} (key : X → K) (test : X → X → Bool)
   pub AreDistinctBy-push : (xs : List X) (x : X) → AreDistinctBy key xs → is_key_taken x xs ≡ false
       → AreDistinctBy key (xs ++ x ∷ [])
   AreDistinctBy-push xs x distinct new i j a b at_i at_j k =
-      elim (slice_get-push xs x i a at_i) [
-        | inl before_i ↦ elim (slice_get-push xs x j b at_j) [
+      elim (slice_get-push_cases xs x i a at_i) [
+        | inl before_i ↦ elim (slice_get-push_cases xs x j b at_j) [
           | inl before_j ↦ distinct i j a b before_i before_j k
-          | inr last_j ↦ let taken = is_key_taken-from_item xs i a x before_i (k ∙ ap key last_j.1) in
+          | inr last_j ↦ let taken = is_key_taken-from_item xs i a x before_i (k ∙ ap key (sym last_j.1)) in
               absurd cc
         ]
-        | inr last_i ↦ elim (slice_get-push xs x j b at_j) [
-          | inl before_j ↦ let taken = is_key_taken-from_item xs j b x before_j (sym k ∙ ap key last_i.1) in
+        | inr last_i ↦ elim (slice_get-push_cases xs x j b at_j) [
+          | inl before_j ↦ let taken = is_key_taken-from_item xs j b x before_j (sym k ∙ ap key (sym last_i.1)) in
               absurd cc
           | inr last_j ↦ last_i.0 ∙ sym last_j.0
         ]

@@ -10,7 +10,8 @@ use Rattle.indexmap.proofs.CallerLemmas.{insert_entry-new}
 use Rattle.mc_topology.specs.declared.flow.Flow.{Flow}
 use Rattle.mc_topology.specs.Flows.{has_flow}
 use Rattle.mc_topology.specs.Topology.{flow_key}
-use Rattle.mc_topology.proofs.Keyed.{nat_eq-flip, list_any-map_row, is_some_lookup-any_row, None-from_is_some_false}
+use Rattle.mc_text.proofs.StepLemmas.{None-from_is_some_false}
+use Rattle.mc_topology.proofs.Keyed.{nat_eq-flip, list_any-map_row, is_some_lookup-any_row}
 
 -- two pairs of a source and a group are the same
 abbrev pub same_pair : ℕ × ℕ → ℕ × ℕ → Bool

@@ -1,7 +1,7 @@
 -- Rows that a map keeps by their keys: a look-up by key finds what a search of the rows finds, and a
 -- row with a new key is added last.
 use Rattle.std.proofs.Common.{◌≡◌, ℕ, Bool, true, false, List, [], ◌∷◌, ◌++◌, map}
-use Rattle.std.proofs.Common.{Option, Some, None, option_map, is_some, refl, sym, ap, ◌∙◌}
+use Rattle.std.proofs.Common.{option_map, is_some, refl, sym, ap, ◌∙◌}
 use Rattle.std.specs.Prelude.{◌==◌, find, position}
 use Rattle.std.specs.Bool.{Decides}
 use Rattle.std.specs.Cmp.{unsigned_Decides}
@@ -12,6 +12,7 @@ use Rattle.std.proofs.lemmas.Bool.Decides.{same_from_decides}
 use Rattle.std.proofs.lemmas.List.{map-append, length-map}
 use Rattle.std.proofs.lemmas.Map.Entries.{length-keys_of}
 use Rattle.std.proofs.lemmas.Slice.Eq.{bytes_eq-Decides}
+use Rattle.mc_text.proofs.StepLemmas.{None-from_is_some_false}
 use Rattle.indexmap.specs.IndexMap.{IndexMap, insert_entry}
 use Rattle.indexmap.specs.IndexSet.{insert_key}
 use Rattle.indexmap.proofs.CallerLemmas.{insert_entry-new}
@@ -99,11 +100,6 @@ module _ {K V R : Type 0} (row : K × V → R) (test : K → Bool) (same : R →
   -- the first key that passes has the place of the first row that does
   pub position-keys_of : (es : List (K × V)) → position test (keys_of es) ≡ position same (map row es)
   position-keys_of es = rw (position_or_len-keys_of es, length-keys_of es, length-map es row) refl
-
--- an option without a value is none
-pub None-from_is_some_false : {V : Type 0} (o : Option V) → is_some o ≡ false → o ≡ None
-None-from_is_some_false None e = refl
-None-from_is_some_false (Some v) e = absurd cc
 
 -- an entry with a new key is added last
 pub rows-insert_new_entry : {K V R S : Type 0} (row : K × V → R) (eq : K → K → Bool) (same : R → Bool)

@@ -1,9 +1,10 @@
 -- The values in a table and in a list of TOML's reader.
 use Rattle.std.proofs.Common.{◌≡◌, ℕ, List, [], ◌∷◌, map, refl, ap, String, Global, string_bytes}
-use Rattle.std.proofs.Common.{Bool, ◌&&◌, ◌||◌, Bor}
+use Rattle.std.proofs.Common.{Bool, ◌&&◌, Bor}
 use Rattle.std.specs.List.{list_all, list_any}
 use Rattle.std.specs.Map.{keys_of}
 use Rattle.std.specs.Str.{bytes_eq}
+use Rattle.mc_text.proofs.Lists.{list_any-now}
 use Rattle.toml.specs.declared.value.Value.{Value}
 use Rattle.toml.specs.View.{view, items_view, members_view}
 use Rattle.mc_topology.specs.Document.{rows_in, has_only}
@@ -12,12 +13,6 @@ use Rattle.mc_topology.specs.Document.{rows_in, has_only}
 pub rows_in-view : (values : List Value) → rows_in (items_view values) ≡ map view values
 rows_in-view [] = refl
 rows_in-view (v ∷ values) = ap (λ (ds : List _). view v ∷ ds) (rows_in-view values)
-
--- a test of texts behind references is that of the texts
-pub list_any-now : (p : List ℕ → Bool) (texts : List (Bor (List ℕ)))
-    → list_any (λ k. p k.now) texts ≡ list_any p (map (λ k. k.now) texts)
-list_any-now p [] = refl
-list_any-now p (t ∷ texts) = ap (λ (b : Bool). p t.now || b) (list_any-now p texts)
 
 -- the key is one of the known ones
 abbrev is_known_key : List (List ℕ) → List ℕ → Bool

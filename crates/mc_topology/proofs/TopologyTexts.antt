@@ -13,6 +13,7 @@ use Rattle.std.proofs.lemmas.Bool.{false≢true}
 use Rattle.std.proofs.lemmas.Str.{IsUtf8-from_is_utf8, is_utf8-from_IsUtf8}
 use Rattle.toml.specs.Data.{Data, Members}
 use Rattle.toml.specs.Parse.{parse_document}
+use Rattle.std.proofs.Math.Bool.{and-true}
 use Rattle.mc_topology.specs.declared.fault.Section.{Section}
 use Rattle.mc_topology.specs.declared.fault.Section.TheVariants as section
 use Rattle.mc_topology.specs.declared.fault.TopologyFaultKind.{TopologyFaultKind}
@@ -329,14 +330,10 @@ parse_unbounded_topology-from_denotes text t is =
       topology_in-from_denotes is.document t is.denotes,
     ) refl
 
-and_true : (b : Bool) → (b && true) ≡ b
-and_true true = refl
-and_true false = refl
-
 -- a text within the bounds is read as without them
 parse_topology-bounded : (text : List ℕ) → is_bounded text ≡ true → parse_topology text ≡ parse_unbounded_topology text
 unfolding parse_topology document_of parse_unbounded_topology table_of
-parse_topology-bounded text bounded = rw (bounded, and_true (nat_le (length text) 16777216)) refl
+parse_topology-bounded text bounded = rw (bounded, and-true (nat_le (length text) 16777216)) refl
 
 -- and one beyond them is refused
 parse_topology-unbounded : (text : List ℕ) (t : TopologyValue) → is_bounded text ≡ false

@@ -1,7 +1,8 @@
 use Rattle.std.proofs.Common.{◌∙◌, sym, ap, arith, drop}
 use Rattle.mc_text.specs.Lines.{words_of}
+use Rattle.std.proofs.lemmas.List.{take_rest}
 use Rattle.mc_tables.specs.OutgoingSteps.{oifs_after_words}
-use Rattle.mc_tables.proofs.PlainRowLemmas.{greater_oif_is_appended, drop_as_take_drop}
+use Rattle.mc_tables.proofs.PlainRowLemmas.{greater_oif_is_appended}
 use Rattle.mc_tables.proofs.FourOifLemmas.{oifs_after_words-ascending}
 use Rattle.mc_tables.proofs.plain_row.read_ascending_oifs.Goals as goal
 
@@ -26,7 +27,7 @@ fours-preserved c =
     let step = oifs_after_words-ascending oifs c.fours.next added.0 added.1 c.in-Some.after rest added.4
     c.fours.invariant.1 in
     let pushed = added.3 in (
-      rw (pushed, drop_as_take_drop c.fours.rest.now 28)
+      rw (pushed, take_rest c.fours.rest.now 28)
           (sym step.0 ∙ ap (oifs_after_words oifs) (sym added.2) ∙ c.fours.invariant.0),
       rw pushed step.1,
     )

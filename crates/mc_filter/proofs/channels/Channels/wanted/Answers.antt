@@ -1,7 +1,8 @@
 use Rattle.std.proofs.Common.{length, sym, ap, ◌≡◌, ◌∙◌, arith}
 use Rattle.std.proofs.lemmas.List.{length-map}
 use Rattle.mc_filter.specs.ChannelPlaces.{channel_at}
-use Rattle.mc_filter.proofs.ChannelLemmas.{wanted_answers_all, if_ok_map, if_ok_both}
+use Rattle.mc_text.proofs.StepLemmas.{if_ok_map, if_ok_both}
+use Rattle.mc_filter.proofs.ChannelLemmas.{wanted_answers_all}
 use Rattle.mc_filter.proofs.channels.Channels.wanted.Goals as goal
 
 pub returns-clause-count : goal.returns-clause-count

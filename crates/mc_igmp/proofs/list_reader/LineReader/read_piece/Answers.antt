@@ -1,9 +1,10 @@
 use Rattle.std.proofs.Common.{◌+◌, length, arith, sym, ◌∙◌, length-drop}
 use Rattle.std.proofs.lemmas.Result.{err_from_is_err_and}
 use Rattle.std.proofs.lemmas.Slice.{between_to_end}
-use Rattle.mc_igmp.proofs.PieceLemmas.{without_line_feed-append, without_line_feed-from_position}
+use Rattle.mc_text.proofs.BundleWords.{HasNoByte-append}
+use Rattle.mc_text.proofs.LineLemmas.{HasNoByte-from_position}
+use Rattle.mc_text.proofs.PieceLemmas.{position-within_length}
 use Rattle.mc_igmp.proofs.PieceLemmas.{read_rest_of_lines_more, read_rest_of_lines-fault}
-use Rattle.mc_igmp.proofs.PieceLemmas.{position-within_length}
 use Rattle.mc_igmp.proofs.list_reader.LineReader.read_piece.Goals as goal
 
 pub returns-in_err-end_line-clause-fault : goal.returns-in_err-end_line-clause-fault
@@ -40,5 +41,5 @@ pub returns-clause-begun : goal.returns-clause-begun
 returns-clause-begun c =
     let found = c.in_default.ensures in
     rw (c.in_ok-extend_from_slice.ensures.items, found.begun)
-    (without_line_feed-append c.lines.self.begun.items c.lines.rest.now c.lines.invariant.begun
-    (without_line_feed-from_position c.lines.rest.now (sym found.end)))
+    (HasNoByte-append 10 c.lines.self.begun.items c.lines.rest.now c.lines.invariant.begun
+    (HasNoByte-from_position 10 c.lines.rest.now (sym found.end)))

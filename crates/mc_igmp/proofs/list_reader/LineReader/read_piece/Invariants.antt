@@ -1,5 +1,6 @@
 use Rattle.std.proofs.Common.{◌≡◌, ◌+◌, ◌≤◌, ℕ, List, ◌++◌, length}
-use Rattle.mc_igmp.specs.ListSoFar.{WithoutLineFeed, read_rest_of_lines}
+use Rattle.mc_text.specs.Lines.{HasNoLineFeed}
+use Rattle.mc_igmp.specs.ListSoFar.{read_rest_of_lines}
 use Rattle.mc_igmp.proofs.list_reader.LineReader.read_piece.Given as goal
 
 -- the rest of the piece, after what was read, reads as the whole piece
@@ -10,7 +11,7 @@ invariant-lines l = record {
       ≡ read_rest_of_lines l.self.list l.self.ended (l.self.begun.items ++ (l.rest ++ more));
   few : l.self.ended + (length l.self.begun.items + length l.rest)
       ≤ l.fn.self.ended + (length l.fn.self.begun.items + length l.fn.piece);
-  begun : WithoutLineFeed l.self.begun.items;
+  begun : HasNoLineFeed l.self.begun.items;
 }
 
 abbrev pub decreases-lines : goal.decreases-lines

@@ -2,10 +2,11 @@ use Rattle.std.proofs.Common.{◌≡◌, ◌<◌, Some, cond, refl, get_or, ap, 
 use Rattle.std.specs.Prelude.{is_some}
 use Rattle.std.specs.BTreeMap.{is_at}
 use Rattle.std.proofs.lemmas.List.{get_or_default}
+use Rattle.mc_text.proofs.StepLemmas.{OnErr-from}
 use Rattle.mc_tables.specs.CacheNumbers.{EntryNumbersValue, number_of_key, decoded_number}
 use Rattle.mc_tables.specs.CacheTable.{key_cmp}
 use Rattle.mc_tables.specs.ListedRows.{set_has_key}
-use Rattle.mc_tables.proofs.NumberLemmas.{listed_numbers_value-append_zeros, on_err-kept}
+use Rattle.mc_tables.proofs.NumberLemmas.{listed_numbers_value-append_zeros}
 use Rattle.mc_tables.proofs.NumberLemmas.{is_some-decoded_number, listed_numbers_value}
 use Rattle.mc_tables.proofs.NumberLemmas.{set_has_key-listed_place, number_of_key-here}
 use Rattle.mc_tables.proofs.NumberLemmas.{adds_number-set, contains-unlisted}
@@ -25,8 +26,8 @@ pub returns-in_err-ensure_places-clause-refused : goal.returns-in_err-ensure_pla
 returns-in_err-ensure_places-clause-refused c =
     let keys = c.self.inside.pairs in
     let more = c.in_err-ensure_places.ensures.more in
-    on_err-kept (listed_numbers_value keys c.ensure_places.new.numbers.items ≡ c.args.self.now)
-    c.from_residual.result
+    OnErr-from c.from_residual.result
+    (listed_numbers_value keys c.ensure_places.new.numbers.items ≡ c.args.self.now)
     (listed_numbers_value-append_zeros keys c.self.inside.numbers.items c.ensure_places.new.numbers.items
     more.0 c.args.self.now more.1
     c.self.view_is)

@@ -4,7 +4,8 @@ use Rattle.std.specs.Io.KnownBytes.{Appends}
 use Rattle.std.proofs.KnownBytes.{Appends-nil, Appends-trans}
 use Rattle.std.proofs.lemmas.List.{take_all}
 use Rattle.std.proofs.lemmas.Result.{on_ok_weaker}
-use Rattle.mc_text.proofs.Pieces.{OnErr-from, appends_prefix-after_front, front_of_bundle, spelled}
+use Rattle.mc_text.proofs.StepLemmas.{OnErr-from}
+use Rattle.mc_text.proofs.Pieces.{appends_prefix-after_front, front_of_bundle, spelled}
 use Rattle.mc_text.proofs.Pieces.{bundle_spelling-front_of_bundle, front_of_bundle_more}
 use Rattle.mc_text.proofs.Pieces.{bundle_spelling-split_at_part, appends_prefix-last}
 use Rattle.mc_text.proofs.bundle.bundle_output.write_parts.Goals as goal

@@ -1,5 +1,6 @@
 use Rattle.std.proofs.Common.{List, ℕ, Bor}
-use Rattle.mc_text.proofs.Pieces.{OnErr-from, appends_prefix-after_front, flat_map-split_at}
+use Rattle.mc_text.proofs.StepLemmas.{OnErr-from}
+use Rattle.mc_text.proofs.Pieces.{appends_prefix-after_front, flat_map-split_at}
 use Rattle.mc_text.proofs.io.output_bytes.write_pieces.Goals as goal
 
 pub returns-in_err-write_all-clause-err : goal.returns-in_err-write_all-clause-err

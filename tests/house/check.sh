@@ -89,9 +89,9 @@ rule 'lemmas and definitions that nothing leads to' 0..0 "$(python3 tests/house/
 
 # --- what stands twice ---
 # (windows of 12 lines that are alike but for names, numbers and texts; these counts only fall)
-rule 'windows of code that stand again' 1..141 "$(python3 tests/house/duplicates.py code)"
+rule 'windows of code that stand again' 1..137 "$(python3 tests/house/duplicates.py code)"
 rule 'windows of definitions that stand again' 0..10 "$(python3 tests/house/duplicates.py definitions)"
-rule 'windows of proofs that stand again' 1..31 "$(python3 tests/house/duplicates.py proofs)"
+rule 'windows of proofs that stand again' 1..25 "$(python3 tests/house/duplicates.py proofs)"
 rule 'windows of the tools that stand again' 0..0 "$(python3 tests/house/duplicates.py tools)"
 
 # --- edits that must fail ---

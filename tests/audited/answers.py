@@ -446,9 +446,9 @@ class Explained:
 
 UNPLACED = {
     "no_vif_line": "has no line in vif-{router}",
-    "register_vif": "is PIM's register vif: copies go to the rendezvous point until its Register-Stop comes; if this "
-                    "stays, look why it does not",
-    "tunnel": "is a tunnel",
+    "register_vif": "is PIM's register vif: copies go to the rendezvous point until its Register-Stop arrives; if it "
+                    "persists, check why none arrives, and whether {router} is the rendezvous point itself",
+    "tunnel": "is a DVMRP tunnel",
     "no_device": "has lost its device",
     "on_no_lan": "is on no listed LAN",
 }
@@ -456,7 +456,7 @@ UNPLACED = {
 EXPECTS = {
     "from_no_vif_line": "which has no line in vif-{router}",
     "from_register": "PIM's register vif",
-    "from_tunnel": "a tunnel",
+    "from_tunnel": "a DVMRP tunnel",
     "from_no_device": "which has lost its device",
     "from_no_lan": "which is on no listed LAN",
 }
@@ -472,40 +472,39 @@ def vif_text(at):
 
 def row_text(row):
     to = "".join(" " + vif_text(at) + ("" if at["threshold"] == 1 else f":{at['threshold']}") for at in row["to"])
-    return (f"row ({row['source']},{row['group']}) from {vif_text(row['from'])} to{to or ' none'} "
+    return (f"entry ({row['source']},{row['group']}) from {vif_text(row['from'])} to{to or ' none'} "
             f"in cache-{row['router']}")
 
 
-def lines_of(line):
+def sentences_of(line):
     """The lines of text of one line's object, without the two spaces that they begin with."""
     kind, router, lan = line["kind"], line.get("router"), line.get("lan")
     row = row_text(line["row"]) if "row" in line else None
     at = vif_text(line) if "vif" in line else line.get("device")
     if kind == "sent_onto":
-        return [f"sent onto {lan} by {router} at {at}: {row}"]
+        return [f"forwarded onto {lan} by {router} {at}: {row}"]
     if kind == "circle":
-        return [f"{line['from_lan']} to {line['to_lan']} by {router} from "
+        return [f"{line['from_lan']} to {line['to_lan']} through {router}, "
                 f"{device_text(line['from_device'], line['from_vif'])} to "
                 f"{device_text(line['to_device'], line['to_vif'])}: {row}"]
     if kind == "take_out":
-        cost = "each LAN that this flow's packets reach is reached without it"
+        cost = "every LAN reached now is still reached"
         if line["least"] > line["ttl"]:
             cost = (f"packets sent with less than ttl {line['least']} may then not reach {lan} and LANs behind it, and "
                     f"this flow is listed with ttl {line['ttl']}")
-        return [f"one way to end it: take {at} out of this row of {router}; {cost}", "audit again after each change"]
+        return [f"fix: remove {at} from this entry of {router}; {cost}", "then audit again"]
     if kind in UNPLACED:
         return [f"{at} of {router} " + UNPLACED[kind].format(router=router)]
     if kind == "row":
         return [row]
     if kind == "only_every_source":
-        return [f"a copy comes in at {at} of {router}, which has no resolved row of this source and group, only one for "
-                f"every source: {row}", "this may be healthy: mcaudit judges source trees alone"]
+        return [f"a copy arrives at {router} {at}, which has no resolved (S,G) entry for it, but one for every source: "
+                f"{row}", "this may be healthy: mcaudit audits (S,G) trees only"]
     if kind == "least_ttl":
         return [f"{lan} is reached by packets sent with ttl {line['least']} or more; this flow is listed with ttl "
                 f"{line['ttl']}"]
     if kind == "stopped_at":
-        return [f"stopped at {router} {at}: the copy has ttl {line['ttl']}, and is sent only above threshold "
-                f"{line['threshold']}"]
+        return [f"stopped at {router} {at}: ttl {line['ttl']} is not above threshold {line['threshold']}"]
     return [f"{lan}: " + searched_text(line, kind, router, at, row)]
 
 
@@ -515,41 +514,55 @@ def searched_text(line, kind, router, at, row):
         return (f"{router} expects it from {device_text(line['from_device'], line['from_vif'])}, "
                 + EXPECTS[kind].format(router=router) + f": {row}")
     if kind == "does_not_send":
-        carries = "which carries it" if line["carried"] else "which carries none either"
-        return f"{router} takes it from {line['from_lan']}, {carries}, and does not send to {at}: {row}"
+        if line["carried"]:
+            return f"{router} receives it from {line['from_lan']} and does not forward it to {at}: {row}"
+        return (f"{router} expects it from {line['from_lan']}, which by the known tables does not carry it either, and does "
+                f"not forward it to {at}: {row}")
     return {
-        "left_out": lambda: f"{router} is left out: its tables are not known",
-        "no_row": lambda: f"{router} has no row of this source and group",
-        "unresolved": lambda: f"{router} has only an unresolved row (incoming interface -1): its routing daemon has not "
-                              "answered yet",
-        "every_source": lambda: f"{router} has only a row for every source, which is not judged: {row}",
-        "stopped": lambda: f"{router} is stopped at {at}: threshold {line['threshold']}, the copy has ttl {line['ttl']}",
-        "waits_for": lambda: f"{router} waits for it on {line['from_lan']} at "
+        "left_out": lambda: f"{router} is excluded: its tables are unknown",
+        "no_row": lambda: f"{router} has no entry for this flow",
+        "unresolved": lambda: f"{router} has only an unresolved entry: its routing daemon has not answered yet",
+        "every_source": lambda: f"{router} has no resolved (S,G) entry for this flow, but one for every source, which is "
+                                f"not audited: {row}",
+        "stopped": lambda: f"{router} is stopped at {at}: ttl {line['ttl']} is not above threshold {line['threshold']}",
+        "waits_for": lambda: f"{router} expects it from {line['from_lan']} at "
                              f"{device_text(line['from_device'], line['from_vif'])}: {row}",
         "no_vif": lambda: f"{router} has no vif for {at}",
-        "not_multicast": lambda: f"{router} has {at} as a tunnel or register vif",
-        "expected_from_here": lambda: "expected from this LAN by " + some(line["routers"]),
-        "no_router": lambda: "no router is on it",
-        "no_sender": lambda: "no row of this source sends onto it",
+        "not_multicast": lambda: f"{router} uses {at} as a DVMRP tunnel or register vif",
+        "expected_from_here": lambda: "expected from here by " + some(line["routers"]),
+        "no_router": lambda: "no router is on this LAN",
+        "no_sender": lambda: "no entry for this flow forwards onto it",
     }[kind]()
 
 
-def reach_lines(far, not_taken):
-    """What a search comes to."""
+def reach_sentences(far, not_taken):
+    """What a search comes to: the sentences of its two objects."""
     if not far and not not_taken:
-        return ["it comes to no router of this search whose tables are known"]
-    return (["it gets as far as: " + some(far)] if far else []) + (
-        ["it comes to, and is not taken by: " + some(not_taken)] if not_taken else [])
+        return [[], ["by the known tables no router of this search receives it"]]
+    return [["reaches: " + some(far)] if far else [],
+            ["reaches, and is taken by no entry of: " + some(not_taken)] if not_taken else []]
+
+
+def sentences_of_all(lines):
+    """The sentences of each object of an explanation."""
+    if lines and lines[0]["kind"] == "gets_as_far_as":
+        return reach_sentences(lines[0]["routers"], lines[1]["routers"]) + [sentences_of(line) for line in lines[2:]]
+    return [sentences_of(line) for line in lines]
 
 
 def explanation_text(lines):
     """The lines of an explanation."""
+    each = sentences_of_all(lines)
     if not lines or lines[0]["kind"] != "gets_as_far_as":
-        return [text for line in lines for text in lines_of(line)]
-    searched = [text for line in lines[2:] for text in lines_of(line)]
+        return [text for texts in each for text in texts]
+    searched = [text for texts in each[2:] for text in texts]
     rest = len(searched) - SHOWN_LINES
-    return (reach_lines(lines[0]["routers"], lines[1]["routers"]) + searched[:SHOWN_LINES]
-            + ([f"and {rest} more lines"] if rest > 0 else []))
+    return each[0] + each[1] + searched[:SHOWN_LINES] + ([f"and {rest} more lines"] if rest > 0 else [])
+
+
+def with_text(lines):
+    """The objects of an explanation, each with its sentences."""
+    return [line | {"text": "\n".join(texts)} for line, texts in zip(lines, sentences_of_all(lines))]
 
 
 # ---- the whole answer
@@ -605,7 +618,7 @@ class Answer:
             {"kind": kind, "router": self.domain.routers[place[0]], "vif": place[1]})
         events = {"events": self.travel.events} if self.with_events else {}
         return [self.names | events | {"also": [lans[lan] for lan in self.also], "finding": finding,
-                                       "found_ttl": self.found_ttl, "right": False, "why": self.why}]
+                                       "found_ttl": self.found_ttl, "right": False, "why": with_text(self.why)}]
 
 
 def event_text(event):

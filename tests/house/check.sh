@@ -66,8 +66,8 @@ rule 'a count of failures by its own cases' 2..2 "$(lines "${head}failures_after
 
 # --- the parts of a domain ---
 # (one more is how a vif is printed that has no device)
-rule 'the kind of a part in code ("vif")' 2..2 "$(lines '"vif[/"-]' $(echo $sources | tr " " "\n" | grep -v -e mc_cert -e mc_json))"
-rule 'the kind of a part in definitions (codes "vif")' 2..2 "$(lines 'codes "vif[/"-]' $(ls -d crates/*/specs | grep -v -e mc_cert -e mc_json))"
+rule 'the kind of a part in code ("vif")' 2..2 "$(lines '"vif[/"-]' $(echo $sources | tr " " "\n" | grep -v -e mc_cert -e mc_lines -e mc_json))"
+rule 'the kind of a part in definitions (codes "vif")' 2..2 "$(lines 'codes "vif[/"-]' $(ls -d crates/*/specs | grep -v -e mc_cert -e mc_lines -e mc_json))"
 rule 'the most bytes of a part (MAX_PART)' 1..1 "$(lines 'const MAX_PART:' $sources)"
 rule 'a file taken as a part (FilePart)' 1..1 "$(lines 'struct FilePart' $sources)"
 

@@ -112,8 +112,8 @@ vif=$(at r3 sed -n 's/^ *\([0-9]*\) eth0 .*/\1/p' /proc/net/ip_mr_vif)
 expect 1 "$mcaudit" audit "$site" <<END
 flow 10.77.0.50 239.1.2.3 ttl 8 no certificate
 found ttl 255 Stray r3 $vif
-  a copy comes in at eth0 of r3, which has no resolved row of this source and group, only one for every source: row (*,239.1.2.3) from eth0 to eth0 eth1 in cache-r3
-  this may be healthy: mcaudit judges source trees alone
+  a copy arrives at r3 eth0, which has no resolved (S,G) entry for it, but one for every source: entry (*,239.1.2.3) from eth0 to eth0 eth1 in cache-r3
+  this may be healthy: mcaudit audits (S,G) trees only
 summary flows 1 right 0 wrong 1 unwanted 0
 verdict no
 END

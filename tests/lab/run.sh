@@ -152,10 +152,10 @@ flow 10.77.0.5 239.1.2.3 ttl 4 yes copies 3
   wanted 1: 10.77.2.0-24
 flow 10.77.0.5 239.1.2.4 ttl 4 no certificate
 found ttl 255 Duplicate 10.77.2.0-24
-  sent onto 10.77.2.0-24 by r1 at eth2: row (10.77.0.5,239.1.2.4) from eth0 to eth1 eth2 in cache-r1
-  sent onto 10.77.2.0-24 by r2 at eth1: row (10.77.0.5,239.1.2.4) from eth0 to eth1 in cache-r2
-  one way to end it: take eth1 out of this row of r2; each LAN that this flow's packets reach is reached without it
-  audit again after each change
+  forwarded onto 10.77.2.0-24 by r1 eth2: entry (10.77.0.5,239.1.2.4) from eth0 to eth1 eth2 in cache-r1
+  forwarded onto 10.77.2.0-24 by r2 eth1: entry (10.77.0.5,239.1.2.4) from eth0 to eth1 in cache-r2
+  fix: remove eth1 from this entry of r2; every LAN reached now is still reached
+  then audit again
 event r1 0 ttl 255 sent 2 strayed 0
 event r2 0 ttl 254 sent 1 strayed 0
 summary flows 2 right 1 wrong 1 unwanted 0

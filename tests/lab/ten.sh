@@ -189,10 +189,10 @@ END
 expect 1 "$mcaudit" audit "$site" --faults <<'END'
 flow 10.77.0.50 239.1.2.3 ttl 16 no certificate
 found ttl 255 Duplicate 10.77.4.0-24
-  sent onto 10.77.4.0-24 by r4 at eth1: row (10.77.0.50,239.1.2.3) from eth0 to eth1 in cache-r4
-  sent onto 10.77.4.0-24 by r5 at eth1: row (10.77.0.50,239.1.2.3) from eth0 to eth1 in cache-r5
-  one way to end it: take eth1 out of this row of r5; each LAN that this flow's packets reach is reached without it
-  audit again after each change
+  forwarded onto 10.77.4.0-24 by r4 eth1: entry (10.77.0.50,239.1.2.3) from eth0 to eth1 in cache-r4
+  forwarded onto 10.77.4.0-24 by r5 eth1: entry (10.77.0.50,239.1.2.3) from eth0 to eth1 in cache-r5
+  fix: remove eth1 from this entry of r5; every LAN reached now is still reached
+  then audit again
 summary flows 2 right 1 wrong 1 unwanted 0
 verdict no
 END
@@ -215,12 +215,12 @@ collect
 expect 1 "$mcaudit" audit "$site" --faults <<'END'
 flow 10.77.0.50 239.1.2.3 ttl 16 no certificate
 found ttl 255 Loop 10.77.1.0-24
-  10.77.1.0-24 to 10.77.2.0-24 by r2 from eth0 to eth1: row (10.77.0.50,239.1.2.3) from eth0 to eth1 in cache-r2
-  10.77.2.0-24 to 10.77.4.0-24 by r4 from eth0 to eth1: row (10.77.0.50,239.1.2.3) from eth0 to eth1 in cache-r4
-  10.77.4.0-24 to 10.77.3.0-24 by r5 from eth1 to eth0: row (10.77.0.50,239.1.2.3) from eth1 to eth0 in cache-r5
-  10.77.3.0-24 to 10.77.1.0-24 by r3 from eth1 to eth0: row (10.77.0.50,239.1.2.3) from eth1 to eth0 in cache-r3
-  one way to end it: take eth0 out of this row of r3; each LAN that this flow's packets reach is reached without it
-  audit again after each change
+  10.77.1.0-24 to 10.77.2.0-24 through r2, eth0 to eth1: entry (10.77.0.50,239.1.2.3) from eth0 to eth1 in cache-r2
+  10.77.2.0-24 to 10.77.4.0-24 through r4, eth0 to eth1: entry (10.77.0.50,239.1.2.3) from eth0 to eth1 in cache-r4
+  10.77.4.0-24 to 10.77.3.0-24 through r5, eth1 to eth0: entry (10.77.0.50,239.1.2.3) from eth1 to eth0 in cache-r5
+  10.77.3.0-24 to 10.77.1.0-24 through r3, eth1 to eth0: entry (10.77.0.50,239.1.2.3) from eth1 to eth0 in cache-r3
+  fix: remove eth0 from this entry of r3; every LAN reached now is still reached
+  then audit again
 summary flows 2 right 1 wrong 1 unwanted 0
 verdict no
 END
@@ -243,7 +243,7 @@ expect 1 "$mcaudit" audit "$site" --faults <<END
 flow 10.77.0.50 239.1.2.3 ttl 16 no certificate
 found ttl 255 Stray r9 $stray
   alone0 of r9 is on no listed LAN
-  row (10.77.0.50,239.1.2.3) from eth0 to eth1 alone0 in cache-r9
+  entry (10.77.0.50,239.1.2.3) from eth0 to eth1 alone0 in cache-r9
 summary flows 2 right 1 wrong 1 unwanted 0
 verdict no
 END
@@ -259,10 +259,10 @@ collect
 expect 1 "$mcaudit" audit "$site" --faults <<'END'
 flow 10.77.0.50 239.1.2.3 ttl 16 no certificate
 found ttl 255 Missed 10.77.7.0-24
-  it gets as far as: r8
-  10.77.7.0-24: r8 takes it from 10.77.6.0-24, which carries it, and does not send to eth1: row (10.77.0.50,239.1.2.3) from eth0 to none in cache-r8
-  10.77.7.0-24: expected from this LAN by r9
-  10.77.7.0-24: no row of this source sends onto it
+  reaches: r8
+  10.77.7.0-24: r8 receives it from 10.77.6.0-24 and does not forward it to eth1: entry (10.77.0.50,239.1.2.3) from eth0 to none in cache-r8
+  10.77.7.0-24: expected from here by r9
+  10.77.7.0-24: no entry for this flow forwards onto it
   also missed: 10.77.9.0-24
 summary flows 2 right 1 wrong 1 unwanted 0
 verdict no
@@ -271,9 +271,9 @@ make_page missed 1
 expect 1 "$mcaudit" audit "$site" --faults --without r8 <<'END'
 flow 10.77.0.50 239.1.2.3 ttl 16 no certificate
 found ttl 255 Missed 10.77.7.0-24
-  it comes to no router of this search whose tables are known
-  10.77.7.0-24: r8 is left out: its tables are not known
-  10.77.7.0-24: expected from this LAN by r9
+  by the known tables no router of this search receives it
+  10.77.7.0-24: r8 is excluded: its tables are unknown
+  10.77.7.0-24: expected from here by r9
   also missed: 10.77.9.0-24
 without r8
 summary flows 2 right 1 wrong 1 unwanted 0
@@ -296,7 +296,7 @@ expect 1 "$mcaudit" audit "$site" --faults <<'END'
 flow 10.77.0.50 239.1.2.3 ttl 16 no certificate
 found ttl 16 Missed 10.77.9.0-24
   10.77.9.0-24 is reached by packets sent with ttl 19 or more; this flow is listed with ttl 16
-  stopped at r9 eth1: the copy has ttl 10, and is sent only above threshold 12
+  stopped at r9 eth1: ttl 10 is not above threshold 12
 summary flows 2 right 1 wrong 1 unwanted 0
 verdict no
 END

@@ -35,10 +35,10 @@ in_room mcaudit audit /tmp/second-router > "$room/tmp/audited" || status=$?
 cmp "$room/tmp/audited" - <<'END' || fail 'the audit says something else'
 flow 10.0.0.5 239.1.2.3 ttl 3 no certificate
 found ttl 255 Duplicate l2
-  sent onto l2 by r3 at eth1: row (10.0.0.5,239.1.2.3) from eth0 to eth1 in cache-r3
-  sent onto l2 by r2 at eth1: row (10.0.0.5,239.1.2.3) from eth0 to eth1 in cache-r2
-  one way to end it: take eth1 out of this row of r2; each LAN that this flow's packets reach is reached without it
-  audit again after each change
+  forwarded onto l2 by r3 eth1: entry (10.0.0.5,239.1.2.3) from eth0 to eth1 in cache-r3
+  forwarded onto l2 by r2 eth1: entry (10.0.0.5,239.1.2.3) from eth0 to eth1 in cache-r2
+  fix: remove eth1 from this entry of r2; every LAN reached now is still reached
+  then audit again
 summary flows 1 right 0 wrong 1 unwanted 0
 verdict no
 END

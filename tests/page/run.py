@@ -169,7 +169,7 @@ def look_at_table(check, browser):
     check.that("an arrow comes to the next one", browser.run("document.activeElement.getAttribute('href')") == "#flow-5")
     browser.key("Enter", "\r")
     check.that("Enter shows it", browser.run(TITLE).startswith("Flow 5: "))
-    check.that("with its fault", browser.run(MARKED.format("fault")) and "has no row of this source" in browser.run(TEXT))
+    check.that("with its fault", browser.run(MARKED.format("fault")) and "has no entry for this flow" in browser.run(TEXT))
     check.that("no complaint", not browser.said)
 
 

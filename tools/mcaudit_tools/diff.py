@@ -98,13 +98,14 @@ def address(value):
 
 
 def without_vifs(told):
-    """Returns what explains a fault, without the numbers of vifs that have a device, in an order of its own."""
+    """Returns what explains a fault, without its sentences and the numbers of vifs that have a device, in an order of
+    its own."""
     if isinstance(told, list):
         return sorted(map(without_vifs, told), key=json.dumps)
     if not isinstance(told, dict):
         return told
-    return {key: without_vifs(it) for key, it in told.items()
-            if not key.endswith("vif") or told.get(key.removesuffix("vif") + "device") is None}
+    return {key: without_vifs(it) for key, it in told.items() if key != "text"
+            and (not key.endswith("vif") or told.get(key.removesuffix("vif") + "device") is None)}
 
 
 # The audits

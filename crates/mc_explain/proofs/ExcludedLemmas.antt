@@ -12,7 +12,7 @@ use Rattle.mc_explain.proofs.IndentedLemmas.{is_line_rest-feed, is_line_rest-app
 use Rattle.mc_explain.proofs.IndentedLemmas.{is_line_rest-append_front}
 use Rattle.mc_explain.proofs.IndentedLemmas.{are_indented-none}
 use Rattle.mc_explain.proofs.UnlistedLineLemmas.{are_lines-flat_map}
-use Rattle.mc_explain.proofs.SearchLineLemmas.{no_feed-routers_text}
+use Rattle.mc_explain.proofs.NameListLemmas.{no_feed-routers_text}
 
 -- ---- how they begin
 

@@ -1,9 +1,8 @@
 pub mod DeviceLemmas
 pub mod LineFeedLemmas
 pub mod IndentedLemmas
-pub mod ExplanationLemmas
+pub mod NameListLemmas
 pub mod FilterLemmas
-pub mod CostLemmas
 pub mod BackLemmas
 pub mod NeedLemmas
 pub mod FoundCopyLemmas
@@ -20,13 +19,11 @@ pub mod NextLanLemmas
 pub mod VisitedLemmas
 pub mod ReachLemmas
 pub mod ShownNameLemmas
-pub mod SearchTextLemmas
 pub mod ShownLineLemmas
 pub mod UnlistedLemmas
 pub mod MergeLemmas
 pub mod LowestPairLemmas
 pub mod UnlistedPairLemmas
 pub mod ExcludedLemmas
-pub mod SearchLineLemmas
 pub mod SearchNameLemmas
 pub mod UnlistedLineLemmas

@@ -156,7 +156,7 @@ no_feed-oifs_text d router (p ∷ ps) =
 pub no_feed-entry_text : (d : DomainFacts) (router source group incoming : ℕ) (ps : List (ℕ × ℕ))
     → IsValidTopology d.topology → HasNoByte 10 (entry_text d router source group incoming ps)
 no_feed-entry_text d router source group incoming ps ok =
-    no_feed-append_front (codes "row (") _ refl
+    no_feed-append_front (codes "entry (") _ refl
     (no_feed-append (address_text source) _ (no_feed-address_text source)
     (no_feed-append_front (codes ",") _ refl
     (no_feed-append (address_text group) _ (no_feed-address_text group)

@@ -19,7 +19,7 @@ use Rattle.mc_explain.proofs.IndentedLemmas.{are_indented-from_line_rest, is_lin
 use Rattle.mc_explain.proofs.IndentedLemmas.{is_line_rest-feed}
 use Rattle.mc_explain.proofs.IndentedLemmas.{is_line_rest-append, is_line_rest-append_front}
 use Rattle.mc_explain.proofs.IndentedLemmas.{are_indented-none}
-use Rattle.mc_explain.proofs.SearchLineLemmas.{no_feed-routers_text}
+use Rattle.mc_explain.proofs.NameListLemmas.{no_feed-routers_text}
 
 -- ---- sequences of lines with a common beginning
 

@@ -12,7 +12,7 @@ abbrev pub every_source_of : List SummaryValue → (group router : ℕ) → Opti
 every_source_of summary group router =
     option_and_then (λ n. every_source_row n group) (slice_get summary router)
 
--- such as `row (*,239.1.2.3) from eth0 to eth1 eth2:5 in cache-r1`, or `row (*,*) ..`; nothing if the
+-- such as `entry (*,239.1.2.3) from eth0 to eth1 eth2:5 in cache-r1`, or `entry (*,*) ..`; nothing if the
 -- summary has none
 abbrev pub every_source_row_text : DomainFacts → (router : ℕ) → Option (ℕ × EntryValue) → List ℕ
 every_source_row_text d router None = []

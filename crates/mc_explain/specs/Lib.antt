@@ -1,7 +1,6 @@
 pub mod Explained
 pub mod RowText
 pub mod EverySourceText
-pub mod ExplanationText
 pub mod Indented
 pub mod WantedText
 pub mod LastFlights
@@ -15,12 +14,10 @@ pub mod SearchNames
 pub mod ShownNames
 pub mod ExpectingRouters
 pub mod ShownLines
-pub mod SearchText
 pub mod UnlistedText
 pub mod UnlistedLines
 pub mod UnlistedPairs
 pub mod ExcludedText
-pub mod SearchContext
 pub use Rattle.mc_tables.specs.Summary
 pub use Rattle.mc_theory.specs.Nets
 pub use Rattle.mc_theory.specs.Flights

@@ -58,10 +58,10 @@ oifs_text d router (p ∷ ps) = flat_map (oif_text d router) (p ∷ ps)
 abbrev pub address_text : ℕ → List ℕ
 address_text address = if address == 0 then codes "*" else dotted address
 
--- a row, such as `row (10.0.0.5,239.1.2.3) from eth0 to eth1 eth2:5 in cache-r1`
+-- a row, such as `entry (10.0.0.5,239.1.2.3) from eth0 to eth1 eth2:5 in cache-r1`
 abbrev pub entry_text : DomainFacts → (router source group incoming : ℕ) → List (ℕ × ℕ) → List ℕ
 entry_text d router source group incoming pairs =
-    codes "row (" ++ (address_text source ++ (codes "," ++ (address_text group
+    codes "entry (" ++ (address_text source ++ (codes "," ++ (address_text group
     ++ (codes ") from " ++ (device_text d router incoming
     ++ (codes " to" ++ (oifs_text d router pairs
     ++ (codes " in cache-" ++ router_name d.topology router))))))))

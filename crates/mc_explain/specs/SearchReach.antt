@@ -4,9 +4,6 @@ use Rattle.std.specs.Prelude.{flat_map, ◌≡◌}
 use Rattle.std.specs.List.{list_any}
 use Rattle.mc_theory.specs.Events.{Event, Outcome}
 use Rattle.mc_theory.specs.Events.Outcome.{Open, NoRow, OtherVif, Sent}
-use Rattle.mc_tables.specs.Summary.{SummaryValue}
-use Rattle.mc_forward.specs.ListedTables.{DomainFacts}
-use Rattle.mc_explain.specs.SearchText.{search_text}
 use Rattle.mc_explain.specs.SearchLine.{Search, append_new, lans_of_search, routers_on, search_lines}
 use Rattle.mc_explain.specs.declared.searching.LanSearch.{LanSearch}
 
@@ -45,8 +42,3 @@ pub record IsLanSearch (s : Search) (events : List Event) (missed : ℕ) (found 
   pub lines : found.lines.items ≡ search_lines s missed
   pub sent_on : found.reach.sent_on.items ≡ sent_on events (routers_of_search s missed)
   pub took_none : found.reach.took_none.items ≡ took_none events (routers_of_search s missed)
-
--- the text of a search's result, of the flow with this number
-abbrev pub lan_search_text : DomainFacts → List SummaryValue → (flow : ℕ) → LanSearch → List ℕ
-lan_search_text d summary flow found =
-    search_text d summary flow found.lines.items found.reach.sent_on.items found.reach.took_none.items

@@ -57,13 +57,13 @@ impl<'n> fmt::Display for ShownDeviceName<'n> {
 /// The device of a router's vif, such as `eth1`, or the vif's number, such as `vif/3`, if the router's
 /// table has no line for it or no device.
 #[derive(Clone, Copy, Drop)]
-pub(crate) struct ShownDevice<'v> {
+pub struct ShownDevice<'v> {
     /// A flow of the domain.
-    pub(crate) view: &'v FlowView<'v>,
+    pub view: &'v FlowView<'v>,
     /// The router.
-    pub(crate) router: RouterNo,
+    pub router: RouterNo,
     /// Its vif.
-    pub(crate) vif: u8,
+    pub vif: u8,
 }
 
 impl<'v> fmt::Display for ShownDevice<'v> {

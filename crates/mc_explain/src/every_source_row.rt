@@ -12,17 +12,17 @@ use mc_text::Addr;
 use mc_topology::RouterNo;
 use std::fmt;
 
-/// A router's row for every source, such as `row (*,239.1.2.3) from eth0 to eth1 eth2:5 in cache-r1`: the
+/// A router's row for every source, such as `entry (*,239.1.2.3) from eth0 to eth1 eth2:5 in cache-r1`: the
 /// first of the group, or else of the group 0.0.0.0, which is written `*` too. It is empty if the summary
 /// of the router's cache has none.
 #[derive(Clone, Copy, Drop)]
-pub(crate) struct ShownEverySource<'v> {
+pub struct ShownEverySource<'v> {
     /// The flow in its domain.
-    pub(crate) view: &'v FlowView<'v>,
+    pub view: &'v FlowView<'v>,
     /// The summary of each router's cache, in the topology's order.
-    pub(crate) summary: &'v [CacheSummary],
+    pub summary: &'v [CacheSummary],
     /// The router.
-    pub(crate) router: RouterNo,
+    pub router: RouterNo,
 }
 
 impl<'v> fmt::Display for ShownEverySource<'v> {

@@ -88,7 +88,7 @@ impl fmt::Display for ShownAddress {
     }
 }
 
-/// A row, such as `row (10.0.0.5,239.1.2.3) from eth0 to eth1 eth2:5 in cache-r1`.
+/// A row, such as `entry (10.0.0.5,239.1.2.3) from eth0 to eth1 eth2:5 in cache-r1`.
 #[derive(Clone, Copy, Drop)]
 pub(crate) struct ShownEntry<'v> {
     /// A flow of the domain.
@@ -121,18 +121,18 @@ impl<'v> fmt::Display for ShownEntry<'v> {
         let group = ShownAddress { address };
         write!(
             f,
-            "row ({source},{group}) from {incoming} to{outgoing} in cache-{name}"
+            "entry ({source},{group}) from {incoming} to{outgoing} in cache-{name}"
         )
     }
 }
 
 /// A router's row of a flow's source and group. It is empty if the router has none.
 #[derive(Clone, Copy, Drop)]
-pub(crate) struct ShownRow<'v> {
+pub struct ShownRow<'v> {
     /// The flow in its domain.
-    pub(crate) view: &'v FlowView<'v>,
+    pub view: &'v FlowView<'v>,
     /// The router.
-    pub(crate) router: RouterNo,
+    pub router: RouterNo,
 }
 
 impl<'v> fmt::Display for ShownRow<'v> {
@@ -161,11 +161,11 @@ impl<'v> fmt::Display for ShownRow<'v> {
 
 /// The device of the incoming vif of a router's row for a flow. It is empty where `ShownRow` is.
 #[derive(Clone, Copy, Drop)]
-pub(crate) struct ShownIncoming<'v> {
+pub struct ShownIncoming<'v> {
     /// The flow.
-    pub(crate) view: &'v FlowView<'v>,
+    pub view: &'v FlowView<'v>,
     /// The router.
-    pub(crate) router: RouterNo,
+    pub router: RouterNo,
 }
 
 impl<'v> fmt::Display for ShownIncoming<'v> {

@@ -65,11 +65,11 @@ impl<'t> fmt::Display for ShownLans<'t> {
 
 /// The names of the first routers of a list, such as ` r1 r2`, and how many more there are.
 #[derive(Clone, Copy, Drop)]
-pub(crate) struct ShownRouters<'t> {
+pub struct ShownRouters<'t> {
     /// The list.
-    pub(crate) routers: &'t [RouterNo],
+    pub routers: &'t [RouterNo],
     /// The topology that has the names.
-    pub(crate) topology: &'t Topology,
+    pub topology: &'t Topology,
 }
 
 impl<'t> fmt::Display for ShownRouters<'t> {

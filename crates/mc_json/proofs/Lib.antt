@@ -1,5 +1,5 @@
 pub mod NoFloatLemmas
-pub mod SearchNoFloatLemmas
+pub mod LineNoFloatLemmas
 pub mod LoopStepLemmas
 pub mod DomainNoFloatLemmas
 pub mod NoFeedLemmas

@@ -17,17 +17,13 @@ use Rattle.mc_forward.specs.ListedTables.{DomainFacts}
 use Rattle.mc_replay.specs.declared.finding.Finding.{Finding}
 use Rattle.mc_replay.specs.declared.finding.Finding.TheVariants.{Clean, Duplicate, Loop, Stray}
 use Rattle.mc_replay.specs.declared.finding.Finding.TheVariants.{Missed}
-use Rattle.mc_explain.specs.EverySourceText.{every_source_of}
-use Rattle.mc_explain.specs.declared.causes.Cause.{Cause}
-use Rattle.mc_explain.specs.declared.causes.Cause.TheVariants.{SentOnto, Circle, TakeOut, Unplaced}
-use Rattle.mc_explain.specs.declared.causes.Cause.TheVariants.{LeastTtl, OnlyEverySource, StoppedAt}
 use Rattle.serde_json.specs.Data.{Data}
 use Rattle.serde_json.specs.View.{items_of}
 use Rattle.serde_json.specs.Written.{has_float, items_have_float}
 use Rattle.mc_json.specs.RowData.{device_data_of, entry_data, every_source_row_data, oif_data}
 use Rattle.mc_json.specs.RowData.{flow_row_data, row_data}
-use Rattle.mc_json.specs.CauseData.{causes_data, incoming_device, incoming_vif, lan_data}
-use Rattle.mc_json.specs.CauseData.{router_data, cause_data}
+use Rattle.mc_json.specs.RowData.{incoming_device, incoming_vif}
+use Rattle.mc_json.specs.RowData.{lan_data, router_data}
 use Rattle.mc_json.specs.FlowData.{event_data, events_if_asked, finding_data}
 use Rattle.mc_json.specs.FlowData.{outcome_data, reached_data, right_data, sender_router, sender_vif}
 use Rattle.mc_json.specs.EndData.{unlisted_data, without_data}
@@ -95,40 +91,6 @@ pub no_float-incoming_vif : (row : Row) → has_float (incoming_vif row) ≡ fal
 no_float-incoming_vif (Exact incoming pairs) = refl
 no_float-incoming_vif Open = refl
 no_float-incoming_vif NoRow = refl
-
--- ---- causes
-
-no_float-cause_data : (d : DomainFacts) (summary : List SummaryValue) (flow : ℕ) (cause : Cause)
-    → HaveNoFloat (cause_data d summary flow cause)
-no_float-cause_data d summary flow (SentOnto lan router vif) =
-    rw (no_float-device_data (d.vifs router vif), no_float-flow_row_data d flow router)
-no_float-cause_data d summary flow (Circle from onto router vif) =
-    rw (
-      no_float-incoming_device d router ((d.nets flow).row router),
-      no_float-incoming_vif ((d.nets flow).row router),
-      no_float-flow_row_data d flow router,
-      no_float-device_data (d.vifs router vif),
-    )
-no_float-cause_data d summary flow (TakeOut lan router vif least) =
-    rw (no_float-device_data (d.vifs router vif))
-no_float-cause_data d summary flow (Unplaced router vif) =
-    rw (no_float-device_data (d.vifs router vif), no_float-flow_row_data d flow router)
-no_float-cause_data d summary flow (LeastTtl lan least) = refl
-no_float-cause_data d summary flow (OnlyEverySource router vif) =
-    rw (
-      no_float-device_data (d.vifs router vif),
-      no_float-every_source_row_data d router
-          (every_source_of summary (flow_at d.topology flow).group router),
-    )
-no_float-cause_data d summary flow (StoppedAt router vif threshold ttl) =
-    rw (no_float-device_data (d.vifs router vif))
-
-pub no_float-causes_data : (d : DomainFacts) (summary : List SummaryValue) (flow : ℕ)
-    (causes : List Cause) → HaveNoFloat (causes_data d summary flow causes)
-no_float-causes_data d summary flow [] = refl
-no_float-causes_data d summary flow (cause ∷ more) =
-    no_float-append (cause_data d summary flow cause) (causes_data d summary flow more)
-    (no_float-cause_data d summary flow cause) (no_float-causes_data d summary flow more)
 
 -- ---- flows
 

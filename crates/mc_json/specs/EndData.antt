@@ -9,7 +9,7 @@ use Rattle.mc_explain.specs.UnlistedPairs.{with_routers}
 use Rattle.mc_explain.specs.UnlistedText.{further_rows, shown_unlisted_pairs}
 use Rattle.serde_json.specs.Data.{Data, string}
 use Rattle.mc_json.specs.RowData.{count_data, line_of, list_data, object_data}
-use Rattle.mc_json.specs.CauseData.{router_data}
+use Rattle.mc_json.specs.RowData.{router_data}
 
 abbrev pub routers_data : TopologyValue → List ℕ → Data
 routers_data t routers = list_data (map (router_data t) routers)

@@ -15,7 +15,7 @@ use Rattle.mc_replay.specs.declared.finding.Finding.TheVariants.{Missed}
 use Rattle.mc_replay.specs.declared.travel.FinishedTravel.{FinishedTravel}
 use Rattle.serde_json.specs.Data.{Data, null, boolean, string}
 use Rattle.mc_json.specs.RowData.{count_data, line_of, list_data, object_data}
-use Rattle.mc_json.specs.CauseData.{lan_data, router_data}
+use Rattle.mc_json.specs.RowData.{lan_data, router_data}
 
 -- ---- any flow
 

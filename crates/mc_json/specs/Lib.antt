@@ -1,14 +1,13 @@
 pub mod RowData
-pub mod CauseData
+pub mod FactData
+pub mod LineData
 pub mod FlowData
 pub mod EndData
-pub mod SearchData
 pub mod WhyData
 pub mod DomainData
 pub mod ObjectLines
-pub mod ContextData
 pub mod WrongLine
-pub use Rattle.mc_explain.specs.ExplanationText
+pub use Rattle.mc_lines.specs.ExplanationText
 pub use Rattle.serde_json.specs.Data
 pub use Rattle.serde_json.specs.View
 pub use Rattle.serde_json.specs.Written

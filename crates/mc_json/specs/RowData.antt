@@ -4,7 +4,7 @@ use Rattle.std.specs.Prelude.{ℕ, List, [], ◌∷◌, ◌++◌, map, Option, S
 use Rattle.mc_tables.specs.CacheTable.{EntryValue}
 use Rattle.mc_tables.specs.Summary.{SummaryValue}
 use Rattle.mc_tables.specs.VifTable.{VifValue}
-use Rattle.mc_topology.specs.Topology.{flow_at, router_name}
+use Rattle.mc_topology.specs.Topology.{TopologyValue, flow_at, lan_name, router_name}
 use Rattle.mc_topology.specs.declared.flow.Flow.{Flow}
 use Rattle.mc_theory.specs.Nets.{Row}
 use Rattle.mc_theory.specs.Nets.Row.{Exact, Open, NoRow}
@@ -36,6 +36,14 @@ object_data ms = object (members ms)
 -- a value as a line
 abbrev pub line_of : Data → List ℕ
 line_of d = compact_text d ++ codes "\n"
+
+-- ---- names
+
+abbrev pub lan_data : TopologyValue → (lan : ℕ) → Data
+lan_data t lan = string (lan_name t lan)
+
+abbrev pub router_data : TopologyValue → (router : ℕ) → Data
+router_data t router = string (router_name t router)
 
 -- ---- devices
 
@@ -91,3 +99,15 @@ every_source_row_data d router (Some row) =
 abbrev pub every_source_data : DomainFacts → List SummaryValue → (group router : ℕ) → Data
 every_source_data d summary group router =
     every_source_row_data d router (every_source_of summary group router)
+
+-- ---- the incoming vif of a row
+
+abbrev pub incoming_device : DomainFacts → (router : ℕ) → Row → Data
+incoming_device d router (Exact incoming pairs) = device_data d router incoming
+incoming_device d router Open = null
+incoming_device d router NoRow = null
+
+abbrev pub incoming_vif : Row → Data
+incoming_vif (Exact incoming pairs) = count_data incoming
+incoming_vif Open = null
+incoming_vif NoRow = null

@@ -10,7 +10,7 @@ ghost use Rattle.mc_forward.specs.ListedTables.{facts};
 ghost use Rattle.mc_json.specs.DomainData.{domain_data, interface_data, interfaces_data, lan_or_null};
 ghost use Rattle.mc_json.specs.DomainData.{parts_data, source_data, unmatched_data, vif_data, vifs_data};
 ghost use Rattle.mc_json.specs.RowData.{line_of};
-ghost use Rattle.mc_json.specs.CauseData.{lan_data, router_data};
+ghost use Rattle.mc_json.specs.RowData.{lan_data, router_data};
 
 use crate::device_value::device_name;
 use crate::fields::Fields;

@@ -7,7 +7,7 @@ ghost use Rattle.serde_json.specs.Data.{put as with_member, string};
 ghost use Rattle.serde_json.specs.View.{members_view, view as data_of};
 ghost use Rattle.mc_json.specs.ObjectLines.{HasMembers};
 ghost use Rattle.mc_json.specs.RowData.{count_data, list_data};
-ghost use Rattle.mc_json.specs.CauseData.{lan_data, router_data};
+ghost use Rattle.mc_json.specs.RowData.{lan_data, router_data};
 
 use mc_topology::{LanNo, RouterNo, Topology};
 use serde_json::{Map, Value, put};

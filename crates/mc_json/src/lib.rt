@@ -1,20 +1,19 @@
 //! The report of an audit as JSON, one object a line.
 #![tactic(auto)]
 
-mod cause_value;
 mod device_value;
 mod domain_line;
 mod end_lines;
+mod fact_value;
 mod fields;
 mod flow_fields;
 mod found_value;
 mod laws;
 mod line;
-mod line_context;
+mod line_values;
 mod name_values;
 mod right_line;
 mod row_value;
-mod search_value;
 mod wrong_line;
 
 pub use domain_line::push_domain_line;

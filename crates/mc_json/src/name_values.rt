@@ -2,7 +2,7 @@
 
 ghost use Rattle.std.specs.Prelude.{◌≡◌, IfOk, map};
 ghost use Rattle.serde_json.specs.View.{view as data_of};
-ghost use Rattle.mc_json.specs.CauseData.{lan_data, router_data};
+ghost use Rattle.mc_json.specs.RowData.{lan_data, router_data};
 
 use mc_topology::{LanNo, RouterNo, Topology};
 use serde_json::Value;

@@ -5,7 +5,7 @@ ghost use Rattle.std.specs.String.{string_bytes};
 ghost use Rattle.serde_json.specs.Data.{Members, put as with_member};
 ghost use Rattle.serde_json.specs.View.{view as data_of};
 ghost use Rattle.mc_topology.specs.Topology.{flow_at};
-ghost use Rattle.mc_json.specs.CauseData.{lan_data};
+ghost use Rattle.mc_json.specs.RowData.{lan_data};
 ghost use Rattle.mc_json.specs.ObjectLines.{HasMembers};
 ghost use Rattle.mc_json.specs.FlowData.{reached_data, right_data, right_mark, sender_router};
 ghost use Rattle.mc_json.specs.FlowData.{sender_vif, tree_data};

@@ -5,9 +5,11 @@ ghost use Rattle.std.specs.String.{string_bytes};
 ghost use Rattle.serde_json.specs.View.{view as data_of};
 ghost use Rattle.mc_topology.specs.Topology.{flow_at};
 ghost use Rattle.mc_forward.specs.Domains.{oif_pairs};
+ghost use Rattle.mc_forward.specs.FlightsInDomain.{net_in};
 ghost use Rattle.mc_forward.specs.ListedTables.{facts};
 ghost use Rattle.mc_explain.specs.EverySourceText.{every_source_of};
 ghost use Rattle.mc_explain.specs.RowText.{address_text};
+ghost use Rattle.mc_json.specs.RowData.{incoming_device, incoming_vif};
 ghost use Rattle.mc_json.specs.RowData.{entry_data, every_source_data, flow_row_data, oif_data};
 
 use crate::device_value::device_value;
@@ -156,5 +158,30 @@ pub(crate) fn every_source_value(
             entry_value(alloc, view, key, entry.iif, entry.oifs)
         }
         None => Ok(Value::Null),
+    }
+}
+
+/// The incoming vif of a router's row for a flow, or null if it has no row of the flow's source and group.
+pub(crate) fn incoming_vif(view: &FlowView<'_>, router: RouterNo) -> Value
+    ensures { data_of result ≡ incoming_vif ((net_in view.now).row router) }
+{
+    match view.row(router) {
+        RowFor::Exact(entry) => Value::from(entry.iif),
+        RowFor::Open | RowFor::NoRow => Value::Null,
+    }
+}
+
+/// The device of that vif, or null if there is none.
+pub(crate) fn incoming_device(
+    alloc: Global,
+    view: &FlowView<'_>,
+    router: RouterNo,
+) -> Result<Value, AllocError>
+    ensures { IfOk result (λ value. data_of value ≡ incoming_device (facts view.now.domain) router
+        ((net_in view.now).row router)) }
+{
+    match view.row(router) {
+        RowFor::Exact(entry) => device_value(alloc, view, router, entry.iif),
+        RowFor::Open | RowFor::NoRow => Ok(Value::Null),
     }
 }

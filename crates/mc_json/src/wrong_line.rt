@@ -4,23 +4,22 @@ ghost use Rattle.std.specs.Prelude.{◌≡◌, ◌<◌, ◌++◌, IfOk, OnOk, fa
 ghost use Rattle.std.specs.String.{string_bytes};
 ghost use Rattle.serde_json.specs.View.{items_of, view as data_of};
 ghost use Rattle.serde_json.specs.Written.{items_have_float};
-ghost use Rattle.mc_json.specs.ContextData.{why_data_in};
+ghost use Rattle.mc_json.specs.WhyData.{why_data_in};
 ghost use Rattle.mc_json.specs.ObjectLines.{HasMembers};
 ghost use Rattle.mc_json.specs.FlowData.{each_wrong_members, wrong_data};
 ghost use Rattle.mc_json.specs.FlowData.{wrong_flow_of_travel, wrong_line_of_travel};
 ghost use Rattle.mc_json.specs.RowData.{members};
 ghost use Rattle.mc_json.specs.WrongLine.{explained_line};
 
-use crate::cause_value::push_causes;
 use crate::fields::Fields;
 use crate::flow_fields::flow_fields;
 use crate::found_value::{event_values, finding_value};
 use crate::line::push_line;
-use crate::line_context::LineContext;
+use crate::line_values::LineValues;
 use crate::name_values::lan_names;
-use crate::search_value::push_search_values;
 use mc_explain::Explanation;
 use mc_forward::{Domain, FlowView};
+use mc_lines::{LineContext, add_causes, add_search};
 use mc_replay::FinishedTravel;
 use mc_tables::CacheSummary;
 use mc_text::Memory;
@@ -102,16 +101,16 @@ fn why_values(
     alloc: Global,
     context: &LineContext<'_>,
     explanation: &Explanation<'_>,
-) -> Result<Vec<Value>, AllocError>
+) -> Result<Vec<Value>, Memory>
     ensures { IfOk result (λ values. map data_of values.items
         ≡ why_data_in context.now explanation.now.causes.now explanation.now.search.now) }
 {
-    let mut values = Vec::new(alloc);
-    push_causes(alloc, &mut values, context, explanation.causes)?;
+    let mut lines = LineValues::new(alloc);
+    add_causes(&mut lines, context, explanation.causes)?;
     if let Some(found) = explanation.search {
-        push_search_values(alloc, &mut values, context, found)?;
+        add_search(alloc, &mut lines, context, found)?;
     }
-    Ok(values)
+    Ok(lines.values)
 }
 
 /// Writes the line of a flow that isn't right: the finished travel that shows it, the TTL with which that

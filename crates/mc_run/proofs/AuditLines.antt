@@ -20,7 +20,7 @@ use Rattle.mc_maker.specs.declared.examination.Examined.{Examined}
 use Rattle.mc_maker.specs.declared.examination.Examined.TheVariants.{Certified, Found}
 use Rattle.mc_tables.specs.Summary.{SummaryValue}
 use Rattle.mc_forward.specs.ListedTables.{DomainFacts, facts}
-use Rattle.mc_explain.specs.ExplanationText.{causes_text}
+use Rattle.mc_lines.specs.ExplanationText.{causes_text}
 use Rattle.mc_explain.specs.Indented.{AreIndented, HasNoLineFeed, indented}
 use Rattle.mc_explain.specs.ExcludedText.{IsWithoutLine, excluded_text, without_text}
 use Rattle.mc_theory.specs.Lists.{In}
@@ -28,17 +28,18 @@ use Rattle.mc_explain.specs.UnlistedLines.{AreLines, IsUnlistedLine, with_line_f
 use Rattle.mc_explain.specs.UnlistedText.{unlisted_text}
 use Rattle.mc_explain.specs.WantedText.{also_missed_text, wanted_text}
 use Rattle.mc_explain.specs.declared.searching.LanSearch.{LanSearch}
-use Rattle.mc_explain.proofs.ExplanationLemmas.{are_indented-also_missed_text}
-use Rattle.mc_explain.proofs.ExplanationLemmas.{are_indented-causes_text, are_indented-wanted_text}
+use Rattle.mc_explain.proofs.NameListLemmas.{are_indented-also_missed_text}
+use Rattle.mc_explain.proofs.NameListLemmas.{are_indented-wanted_text}
+use Rattle.mc_lines.proofs.IndentedLemmas.{are_indented-causes_text}
 use Rattle.mc_explain.proofs.ExcludedLemmas.{are_indented-excluded_text, are_without_lines-without_text}
 use Rattle.mc_explain.proofs.UnlistedLineLemmas.{are_unlisted_lines-unlisted_text}
-use Rattle.mc_explain.proofs.SearchLineLemmas.{are_indented-search_text}
+use Rattle.mc_lines.proofs.IndentedLemmas.{are_indented-search_text}
 use Rattle.mc_json.specs.DomainData.{domain_data}
 use Rattle.mc_json.specs.EndData.{summary_data, unlisted_lines, without_line}
 use Rattle.mc_json.specs.FlowData.{tree_data}
 use Rattle.mc_json.specs.ObjectLines.{AreObjectLines, BeginsObject, IsNotVerdict}
 use Rattle.mc_json.specs.RowData.{line_of}
-use Rattle.mc_json.specs.CauseData.{lan_data}
+use Rattle.mc_json.specs.RowData.{lan_data}
 use Rattle.mc_json.specs.WhyData.{why_data}
 use Rattle.mc_json.proofs.EachLineLemmas.{are_object_lines-domain, are_object_lines-right}
 use Rattle.mc_json.proofs.EachLineLemmas.{are_object_lines-summary, are_object_lines-tree}

@@ -23,14 +23,14 @@ use Rattle.mc_maker.specs.declared.examined_flights.ExaminedFlights.TheVariants.
 use Rattle.mc_maker.specs.declared.examined_flights.ExaminedFlights.TheVariants.{FoundAtTtl255}
 use Rattle.mc_maker.specs.declared.examined_flights.ExaminedFlights.TheVariants.{FoundAtFlowTtl}
 use Rattle.mc_explain.specs.declared.searching.LanSearch.{LanSearch}
-use Rattle.mc_explain.specs.ExplanationText.{causes_text}
-use Rattle.mc_explain.specs.SearchText.{search_text}
+use Rattle.mc_lines.specs.ExplanationText.{causes_text}
+use Rattle.mc_lines.specs.ExplanationText.{search_text}
 use Rattle.mc_explain.specs.WantedText.{also_missed_text}
 use Rattle.mc_explain.specs.declared.causes.Cause.{Cause}
 use Rattle.mc_explain.specs.declared.search_line.SearchLine.{SearchLine}
 use Rattle.mc_json.specs.FlowData.{wrong_line}
-use Rattle.mc_json.specs.SearchData.{search_data}
-use Rattle.mc_json.specs.CauseData.{causes_data}
+use Rattle.mc_json.specs.WhyData.{search_data}
+use Rattle.mc_json.specs.WhyData.{causes_data}
 use Rattle.mc_json.specs.WhyData.{search_data_if_any, why_data}
 use Rattle.serde_json.specs.Data.{Data}
 use Rattle.mc_run.specs.AuditEnd.{FlowAnswer, are_right, begin_lines, count, end_text_or_objects, end_lines}

@@ -8,7 +8,7 @@ use Rattle.mc_cert.specs.Distinct.{find_tree, tree_number_of, with_tree}
 use Rattle.mc_replay.specs.declared.travel.Travel.{Travel}
 use Rattle.mc_json.specs.FlowData.{right_data, tree_data, wrong_line}
 use Rattle.mc_json.specs.RowData.{line_of}
-use Rattle.mc_json.specs.CauseData.{lan_data}
+use Rattle.mc_json.specs.RowData.{lan_data}
 use Rattle.mc_json.specs.WhyData.{why_data}
 use Rattle.mc_run.specs.AuditText.{Explanation}
 

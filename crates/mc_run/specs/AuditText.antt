@@ -7,8 +7,8 @@ use Rattle.mc_topology.specs.Topology.{TopologyValue, flow_at}
 use Rattle.mc_forward.specs.ListedTables.{DomainFacts}
 use Rattle.mc_check.specs.declared.verdict.Verdict.TheVariants.{Yes}
 use Rattle.mc_replay.specs.declared.travel.Travel.{Travel}
-use Rattle.mc_explain.specs.ExplanationText.{causes_text}
-use Rattle.mc_explain.specs.SearchText.{search_text}
+use Rattle.mc_lines.specs.ExplanationText.{causes_text}
+use Rattle.mc_lines.specs.ExplanationText.{search_text}
 use Rattle.mc_explain.specs.WantedText.{also_missed_text, wanted_text}
 use Rattle.mc_explain.specs.declared.searching.LanSearch.{LanSearch}
 use Rattle.mc_explain.specs.declared.causes.Cause.{Cause}

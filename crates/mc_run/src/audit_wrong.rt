@@ -13,12 +13,10 @@ use crate::audited_domain::AuditedDomain;
 use crate::found_text::push_found_lines;
 use crate::travel_text::push_events;
 use mc_cli::AuditOptions;
-use mc_explain::{
-    Cause, Explanation, LanSearch, missed_besides, push_also_missed, push_causes, push_search,
-    search,
-};
+use mc_explain::{Cause, Explanation, LanSearch, missed_besides, push_also_missed, search};
 use mc_forward::FlowView;
 use mc_json::push_wrong_line;
+use mc_lines::{push_causes, push_search};
 use mc_replay::{Finding, FinishedTravel, Travel};
 use mc_text::Memory as NoMemory;
 use mc_topology::Topology;

@@ -1,6 +1,6 @@
 use Rattle.std.proofs.Common.{◌≡◌, map, take}
 use Rattle.serde_json.specs.View.{view as data_of}
-use Rattle.mc_json.specs.CauseData.{lan_data}
+use Rattle.mc_json.specs.RowData.{lan_data}
 use Rattle.mc_json.proofs.name_values.lan_names.Given as goal
 
 -- the names so far

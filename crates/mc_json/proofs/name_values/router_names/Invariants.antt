@@ -1,6 +1,6 @@
 use Rattle.std.proofs.Common.{◌≡◌, map, take}
 use Rattle.serde_json.specs.View.{view as data_of}
-use Rattle.mc_json.specs.CauseData.{router_data}
+use Rattle.mc_json.specs.RowData.{router_data}
 use Rattle.mc_json.proofs.name_values.router_names.Given as goal
 
 -- the names so far

@@ -1,7 +1,7 @@
 use Rattle.std.proofs.Common.{sym, subst}
 use Rattle.mc_forward.specs.ListedTables.{facts}
 use Rattle.mc_json.proofs.NoFloatLemmas.{HaveNoFloat}
-use Rattle.mc_json.proofs.SearchNoFloatLemmas.{no_float-why_data}
+use Rattle.mc_json.proofs.LineNoFloatLemmas.{no_float-why_data}
 use Rattle.mc_json.proofs.wrong_line.push_wrong_line.Goals as goal
 
 pub push_wrong_flow-requires : goal.push_wrong_flow-requires

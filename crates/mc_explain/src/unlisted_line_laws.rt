@@ -1,0 +1,13 @@
+//! A theorem about how the lines of unlisted rows begin.
+
+ghost use Rattle.std.specs.Prelude.{Bool, List};
+ghost use Rattle.mc_tables.specs.Summary.{SummaryValue};
+ghost use Rattle.mc_topology.specs.Topology.{IsValidTopology, TopologyValue};
+ghost use Rattle.mc_explain.specs.UnlistedLines.{AreUnlistedLines};
+ghost use Rattle.mc_explain.specs.UnlistedText.{unlisted_text};
+
+/// Each line of unlisted rows begins with `unlisted ` or with two spaces, whatever the routers' names are.
+pub fn unlisted_lines_have_prefix()
+    ensures { (all : Bool) (t : TopologyValue) (summary : List SummaryValue) → IsValidTopology t →
+        AreUnlistedLines (unlisted_text all t summary) }
+{}

@@ -1,0 +1,19 @@
+-- A line as a JSON object: its kind, its facts by their keys, and its sentences as `text`.
+use Rattle.std.specs.Prelude.{ℕ, List, [], ◌∷◌, codes}
+use Rattle.serde_json.specs.Data.{Data, Members, no_members, object, put, string}
+use Rattle.mc_lines.specs.Filled.{joined_sentences}
+use Rattle.mc_lines.specs.FlowContext.{FlowContext}
+use Rattle.mc_lines.specs.Lines.{FactValue, Line}
+use Rattle.mc_json.specs.FactData.{fact_data}
+
+-- the members with one more for each fact
+abbrev pub with_facts : FlowContext → List (List ℕ × FactValue) → Members → Members
+with_facts c [] ms = ms
+with_facts c (f ∷ fs) ms = with_facts c fs (put f.0 (fact_data c f.1) ms)
+
+abbrev pub line_data : FlowContext → Line → Data
+line_data c l = object (put (codes "text") (string (joined_sentences c l.facts l.sentences))
+    (with_facts c l.facts (put (codes "kind") (string l.kind) no_members)))
+
+abbrev pub line_values : FlowContext → Line → List Data
+line_values c l = line_data c l ∷ []

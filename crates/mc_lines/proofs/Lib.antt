@@ -1,0 +1,5 @@
+pub mod FillLemmas
+pub mod NoFeedLemmas
+pub mod WellFormedLemmas
+pub mod IndentedLemmas
+pub mod FirstLinesLemmas

@@ -1,0 +1,5 @@
+use Rattle.std.proofs.Common.{append-nil}
+use Rattle.mc_lines.proofs.laws.text_and_json_have_the_same_sentence.Goals as goal
+
+pub returns : goal.returns
+returns c = λ context kind sentence facts. simp append-nil

@@ -1,0 +1,54 @@
+-- The text of an explanation: the lines of causes, and of the search for a missed LAN.
+use Rattle.std.specs.Prelude.{ℕ, ◌-◌, ◌==◌, List, [], ◌++◌, length, if◌then◌else◌, codes, decimal, flat_map}
+use Rattle.std.specs.Prelude.{take}
+use Rattle.mc_tables.specs.Summary.{SummaryValue}
+use Rattle.mc_forward.specs.ListedTables.{DomainFacts}
+use Rattle.mc_explain.specs.declared.causes.Cause.{Cause}
+use Rattle.mc_explain.specs.declared.search_line.SearchLine.{SearchLine}
+use Rattle.mc_explain.specs.declared.searching.LanSearch.{LanSearch}
+use Rattle.mc_explain.specs.declared.shown_line.ShownLine.{ShownLine}
+use Rattle.mc_explain.specs.Indented.{AreIndented}
+use Rattle.mc_explain.specs.ShownLines.{shown_lines}
+use Rattle.mc_lines.specs.CauseLines.{causes_items}
+use Rattle.mc_lines.specs.Filled.{line_text}
+use Rattle.mc_lines.specs.FlowContext.{FlowContext}
+use Rattle.mc_lines.specs.SearchLines.{reach_items, shown_items}
+
+-- the context of the flow with this number
+abbrev pub context_of : DomainFacts → List SummaryValue → (flow : ℕ) → FlowContext
+context_of d summary flow = record { domain = d; summary = summary; flow = flow }
+
+-- ---- causes
+
+abbrev pub causes_text : DomainFacts → List SummaryValue → (flow : ℕ) → List Cause → List ℕ
+causes_text d summary flow causes = causes_items line_text (context_of d summary flow) causes
+
+-- ---- a search
+
+-- the line that counts further lines
+abbrev pub more_lines_text : ℕ → List ℕ
+more_lines_text more =
+    if more == 0 then [] else codes "  and " ++ (decimal more ++ codes " more lines\n")
+
+-- the first 40 lines, and how many more there are
+abbrev pub first_lines_text : FlowContext → List ShownLine → List ℕ
+first_lines_text c lines =
+    flat_map (shown_items line_text c) (take 40 lines) ++ more_lines_text (length lines - 40)
+
+-- how far the packet came, and the lines
+abbrev pub search_text : DomainFacts → List SummaryValue → (flow : ℕ) → List SearchLine
+    → (sent_on took_none : List ℕ) → List ℕ
+search_text d summary flow lines sent_on took_none =
+    reach_items line_text (context_of d summary flow) sent_on took_none
+    ++ first_lines_text (context_of d summary flow) (shown_lines lines)
+
+-- the text of a search's result
+abbrev pub lan_search_text : DomainFacts → List SummaryValue → (flow : ℕ) → LanSearch → List ℕ
+lan_search_text d summary flow found =
+    search_text d summary flow found.lines.items found.reach.sent_on.items found.reach.took_none.items
+
+-- in a domain with these names each search is text of lines that begin with two spaces
+abbrev pub IsEachSearchIndented : DomainFacts → Type 0
+IsEachSearchIndented d =
+    (summary : List SummaryValue) (flow : ℕ) (lines : List SearchLine)
+    (sent_on took_none : List ℕ) → AreIndented (search_text d summary flow lines sent_on took_none)

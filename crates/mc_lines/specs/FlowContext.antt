@@ -1,0 +1,29 @@
+-- What the lines of a flow are made from.
+use Rattle.std.specs.Prelude.{ℕ, List}
+use Rattle.mc_tables.specs.Summary.{SummaryValue}
+use Rattle.mc_theory.specs.Nets.{Row}
+use Rattle.mc_topology.specs.declared.flow.Flow.{Flow}
+use Rattle.mc_topology.specs.Topology.{flow_at}
+use Rattle.mc_forward.specs.ListedTables.{DomainFacts, facts}
+use Rattle.mc_lines.specs.declared.context.LineContext.{LineContext}
+
+-- A domain, the summary of each router's cache, and the number of a flow, which counts from 0.
+pub record FlowContext : Type 0 where
+  pub domain : DomainFacts
+  pub summary : List SummaryValue
+  pub flow : ℕ
+
+abbrev pub flow_context : LineContext → FlowContext
+flow_context c = record {
+  domain = facts c.view.now.domain;
+  summary = c.summary.now;
+  flow = c.view.now.flow;
+}
+
+-- the flow, as the topology lists it
+abbrev pub flow_of : FlowContext → Flow
+flow_of c = flow_at c.domain.topology c.flow
+
+-- a router's row for the flow
+abbrev pub row_of : FlowContext → (router : ℕ) → Row
+row_of c router = (c.domain.nets c.flow).row router

@@ -1,0 +1,11 @@
+pub mod FlowContext
+pub mod Lines
+pub mod GivenLines
+pub mod FactText
+pub mod Filled
+pub mod CauseLines
+pub mod SearchLines
+pub mod ExplanationText
+pub use Rattle.mc_tables.specs.Summary
+pub use Rattle.mc_forward.specs.ListedTables
+pub use Rattle.mc_forward.specs.UnplacedReasons

@@ -1,0 +1,61 @@
+//! Theorems about the sentences of an explanation.
+
+ghost use Rattle.std.specs.Prelude.{◌≡◌, ◌++◌, ◌∷◌, ℕ, List, [], codes, decimal, true};
+ghost use Rattle.std.specs.List.{list_all};
+ghost use Rattle.mc_tables.specs.Summary.{SummaryValue};
+ghost use Rattle.mc_topology.specs.Topology.{IsValidTopology, lan_name, router_name};
+ghost use Rattle.mc_forward.specs.ListedTables.{DomainFacts};
+ghost use Rattle.mc_explain.specs.declared.causes.Cause.{Cause};
+ghost use Rattle.mc_explain.specs.declared.causes.Cause.TheVariants.{SentOnto, StoppedAt};
+ghost use Rattle.mc_explain.specs.declared.shown_line.ShownLine.{ShownLine};
+ghost use Rattle.mc_explain.specs.Indented.{AreIndented, indented};
+ghost use Rattle.mc_explain.specs.RowText.{device_text, flow_row_text};
+ghost use Rattle.mc_lines.specs.CauseLines.{cause_items, cause_lines};
+ghost use Rattle.mc_lines.specs.ExplanationText.{IsEachSearchIndented, causes_text};
+ghost use Rattle.mc_lines.specs.Filled.{has_well_formed_sentences, joined_sentences, line_text};
+ghost use Rattle.mc_lines.specs.FlowContext.{FlowContext};
+ghost use Rattle.mc_lines.specs.Lines.{FactValue, Line, line};
+ghost use Rattle.mc_lines.specs.SearchLines.{reach_lines, shown_line};
+
+/// Each line of an explanation begins with two spaces, whatever the names of LANs, routers and devices
+/// are.
+pub fn explained_lines_begin_with_two_spaces()
+    ensures causes { (d : DomainFacts) (summary : List SummaryValue) (flow : ℕ) (causes : List Cause) →
+        IsValidTopology d.topology → AreIndented (causes_text d summary flow causes) }
+    ensures search { (d : DomainFacts) → IsValidTopology d.topology → IsEachSearchIndented d }
+    // So does each line of any kind whose sentences are well formed.
+    ensures each { (c : FlowContext) (l : Line) → IsValidTopology c.domain.topology →
+        has_well_formed_sentences l ≡ true → AreIndented (line_text c l) }
+{}
+
+/// Each sentence is well formed: it refers to facts of its line alone.
+pub fn sentences_refer_to_their_facts()
+    ensures causes { (c : FlowContext) (cause : Cause) →
+        list_all has_well_formed_sentences (cause_lines c cause) ≡ true }
+    ensures search { (c : FlowContext) (l : ShownLine) → has_well_formed_sentences (shown_line c l) ≡ true }
+    ensures reach { (sent_on took_none : List ℕ) →
+        list_all has_well_formed_sentences (reach_lines sent_on took_none) ≡ true }
+{}
+
+/// A sentence that is a line of text after two spaces is the same in JSON, where it has no spaces before it.
+pub fn text_and_json_have_the_same_sentence()
+    ensures { (c : FlowContext) (kind sentence : List ℕ) (facts : List (List ℕ × FactValue)) →
+        line_text c (line kind (sentence ∷ []) facts)
+        ≡ indented (joined_sentences c facts (sentence ∷ [])) }
+{}
+
+/// Two lines, word by word.
+pub fn facts_fill_their_sentence()
+    ensures sender { (c : FlowContext) (lan router vif : ℕ) →
+        cause_items line_text c (SentOnto lan router vif)
+        ≡ codes "  forwarded onto " ++ (lan_name c.domain.topology lan
+        ++ (codes " by " ++ (router_name c.domain.topology router
+        ++ (codes " " ++ (device_text c.domain router vif
+        ++ (codes ": " ++ (flow_row_text c.domain c.flow router ++ codes "\n"))))))) }
+    ensures stop { (c : FlowContext) (router vif threshold ttl : ℕ) →
+        cause_items line_text c (StoppedAt router vif threshold ttl)
+        ≡ codes "  stopped at " ++ (router_name c.domain.topology router
+        ++ (codes " " ++ (device_text c.domain router vif
+        ++ (codes ": ttl " ++ (decimal ttl
+        ++ (codes " is not above threshold " ++ (decimal threshold ++ codes "\n"))))))) }
+{}

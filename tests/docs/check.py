@@ -172,7 +172,7 @@ def look_at(path, sources):
 def version_faults():
     """What the program and the tools say of their version that VERSION doesn't, and how many were looked at."""
     version = read(os.path.join(TOP, "VERSION")).strip()
-    paths = [os.path.join(TOP, "crates/mc_run/src/task_text.rt"), *sorted(glob.glob(os.path.join(TOP, "tools/mcaudit-*")))]
+    paths = [os.path.join(TOP, "crates/mc_run/src/task/task_text.rt"), *sorted(glob.glob(os.path.join(TOP, "tools/mcaudit-*")))]
     found = [(os.path.relpath(path, TOP), VERSION.findall(read(path))) for path in paths]
     return [(path, said) for path, said in found if said != [version]], len(paths)
 

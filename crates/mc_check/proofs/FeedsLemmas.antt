@@ -2,7 +2,7 @@
 use Rattle.std.proofs.Common.{◌≡◌, ℕ, ◌<◌, ◌==◌, Bool, false, ◌&&◌, ◌||◌, List, [], ◌∷◌, ◌++◌}
 use Rattle.std.proofs.Common.{Some, refl, sym, ap, ◌∙◌, arith}
 use Rattle.std.specs.List.{AllByRecursion}
-use Rattle.mc_tables.specs.declared.entry.Oif.{Oif}
+use Rattle.mc_tables.specs.declared.cache.entry.Oif.{Oif}
 use Rattle.mc_theory.specs.Certificates.{Entry, is_live}
 use Rattle.mc_theory.specs.Reasons.{feeds_from}
 use Rattle.mc_forward.specs.Domains.{oif_pairs}

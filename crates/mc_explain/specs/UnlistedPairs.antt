@@ -4,7 +4,7 @@ use Rattle.std.specs.Prelude.{Option, Some, None, if◌then◌else◌, slice_get
 use Rattle.mc_tables.specs.Summary.{SummaryValue}
 use Rattle.mc_topology.specs.Topology.{TopologyValue}
 use Rattle.mc_explain.specs.UnlistedText.{further_rows, shown_unlisted_pairs, routers_below, routers_with}
-use Rattle.mc_explain.specs.declared.unlisted_pairs.UnlistedPairs.{UnlistedPairs}
+use Rattle.mc_explain.specs.declared.unlisted.unlisted_pairs.UnlistedPairs.{UnlistedPairs}
 
 -- whether the router is the last one
 abbrev pub is_last : (router : ℕ) → Option ℕ → Bool

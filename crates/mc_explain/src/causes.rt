@@ -1,5 +1,13 @@
 //! A cause of a flow's fault.
 
+mod explained;
+mod explanation;
+pub(crate) mod first_copies;
+mod hop;
+mod path;
+
+pub use explained::explain;
+pub use explanation::Explanation;
 use mc_topology::{LanNo, RouterNo};
 
 /// A cause of a flow's fault, with LANs, routers and vifs by their numbers. A router's row is the one that

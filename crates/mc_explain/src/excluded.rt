@@ -1,9 +1,12 @@
 //! The routers that are excluded, by a mark for each router.
 
+mod excluded_text;
+
 ghost use Rattle.std.specs.Prelude.{◌≡◌, IfOk};
 ghost use Rattle.mc_explain.specs.ExcludedText.{excluded_routers};
 ghost use Rattle.mc_explain.specs.SearchLine.{is_excluded};
 
+pub use excluded_text::{push_excluded, push_without_lines};
 use mc_topology::{RouterNo, Topology};
 use std::alloc::{AllocError, Global};
 

@@ -1,5 +1,11 @@
 //! Theorems: the causes that are reported are true.
 
+mod excluded_laws;
+mod line_laws;
+mod search_laws;
+mod unlisted_laws;
+mod unlisted_line_laws;
+
 ghost use Rattle.std.specs.Prelude.{◌≡◌, ◌≢◌, ◌<◌, ◌≤◌, ◌↔◌, ℕ, List, Some};
 ghost use Rattle.mc_theory.specs.Lists.{In};
 ghost use Rattle.mc_theory.specs.Nets.{Net, Interface};
@@ -20,6 +26,12 @@ ghost use Rattle.mc_explain.specs.CauseFacts.{AreCausesOf, CarriesAsMuch, IsClos
 ghost use Rattle.mc_explain.specs.CauseFacts.{IsMissedOrClean, IsRemedyForTtl, IsReported, LeadsOut};
 ghost use Rattle.mc_explain.specs.CauseFacts.{ReachesAsMuch, ReachesEverySourceRow, SendsOnto, StaysReached};
 ghost use Rattle.mc_explain.specs.CauseFacts.{StopsShortOfLan, final_finding};
+
+pub use excluded_laws::without_lines_have_prefix;
+pub use line_laws::wanted_lines_begin_with_two_spaces;
+pub use search_laws::{a_search_ends, a_search_names_each_router};
+pub use unlisted_laws::the_lowest_unlisted_pairs_are_shown;
+pub use unlisted_line_laws::unlisted_lines_have_prefix;
 
 /// The row of a reported sender is of the flow's source and group, and has the vif among its outgoing
 /// ones, which is placed on the LAN.

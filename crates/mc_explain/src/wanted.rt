@@ -1,5 +1,7 @@
 //! The LANs that want a flow, and those of them that its packet missed.
 
+mod wanted_text;
+
 ghost use Rattle.std.specs.Prelude.{◌≡◌, ℕ, ◌<◌, ◌≤◌, ◌||◌, All, IfOk, List, false, is_some};
 ghost use Rattle.std.specs.Prelude.{length, slice_index_or};
 ghost use Rattle.mc_forward.specs.ListedTables.{facts};
@@ -12,6 +14,7 @@ use mc_forward::{CarriedCopy, Flight, FlowView};
 use mc_replay::Finding;
 use mc_topology::LanNo;
 use std::alloc::{AllocError, Global};
+pub use wanted_text::{push_also_missed, push_wanted};
 
 /// The greatest number of LANs of a topology.
 const MAX_LANS: usize = 1024;

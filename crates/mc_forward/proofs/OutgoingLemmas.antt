@@ -5,7 +5,7 @@ use Rattle.std.proofs.lemmas.List.{take_all, length-drop}
 use Rattle.std.specs.List.{AllByRecursion}
 use Rattle.std.specs.List.Sorted.{IsStrictlyIncreasing}
 use Rattle.mc_tables.specs.CacheTable.{EntryValue, IsValidEntry}
-use Rattle.mc_tables.specs.declared.entry.Oif.{Oif}
+use Rattle.mc_tables.specs.declared.cache.entry.Oif.{Oif}
 use Rattle.mc_tables.proofs.EntryLemmas.{tail-ascends}
 
 abbrev AreInRange : List Oif → Type 0

@@ -1,7 +1,7 @@
 -- The threshold of a vif's pair is found behind lower vifs.
 use Rattle.std.proofs.Common.{◌≡◌, ℕ, ◌<◌, ◌==◌, false, cond, List, [], ◌∷◌, ◌++◌, refl, sym, ap, ◌∙◌, arith}
 use Rattle.std.specs.List.{AllByRecursion}
-use Rattle.mc_tables.specs.declared.entry.Oif.{Oif}
+use Rattle.mc_tables.specs.declared.cache.entry.Oif.{Oif}
 use Rattle.mc_theory.specs.CertificateOfCopies.{threshold_of}
 use Rattle.mc_forward.specs.Domains.{oif_pairs}
 

@@ -8,7 +8,7 @@ use Rattle.std.specs.Ordering.{nat_cmp}
 use Rattle.std.specs.Str.{bytes_eq}
 use Rattle.std.specs.FinMap as finite
 use Rattle.std.specs.FinSet as set
-use Rattle.mc_tables.specs.declared.entry.Oif.{Oif}
+use Rattle.mc_tables.specs.declared.cache.entry.Oif.{Oif}
 use Rattle.mc_tables.specs.CacheTable.{EntryValue, CacheValue, IsValidEntry, to_oif}
 use Rattle.mc_tables.specs.VifTable.{VifValue, no_device}
 use Rattle.mc_tables.specs.VifLookups.{IsValidVifTable}

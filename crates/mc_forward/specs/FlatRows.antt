@@ -1,6 +1,6 @@
 -- The rows of a router for the flows, by their heads and their outgoing vifs.
 use Rattle.std.specs.Prelude.{List, map}
-use Rattle.mc_tables.specs.declared.entry.Oif.{Oif}
+use Rattle.mc_tables.specs.declared.cache.entry.Oif.{Oif}
 use Rattle.mc_theory.specs.Nets.{Row}
 use Rattle.mc_theory.specs.Nets.Row.{Exact as exact, Open as open_row, NoRow as no_row}
 use Rattle.mc_forward.specs.declared.flow_rows.RowHead.{RowHead}

@@ -4,7 +4,7 @@ ghost use Rattle.std.specs.Prelude.{◌≡◌, ◌<◌, ◌++◌, List};
 ghost use Rattle.std.specs.List.{AllByRecursion};
 ghost use Rattle.mc_theory.specs.CertificateOfCopies.{threshold_of};
 ghost use Rattle.mc_tables.specs.CacheTable.{IsValidEntry};
-ghost use Rattle.mc_tables.specs.declared.entry.Oif.{Oif as OifValue};
+ghost use Rattle.mc_tables.specs.declared.cache.entry.Oif.{Oif as OifValue};
 ghost use Rattle.mc_forward.specs.Domains.{oif_pairs};
 
 use mc_tables::{Entry, Oif};

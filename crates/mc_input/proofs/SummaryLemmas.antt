@@ -10,7 +10,7 @@ use Rattle.mc_text.specs.Bundle.{PartText}
 use Rattle.mc_text.specs.Steps.{◌>>=◌, map_fault}
 use Rattle.mc_text.specs.declared.text.addr.Order.{Order}
 use Rattle.mc_tables.specs.declared.fault.TableFault.{TableFault}
-use Rattle.mc_tables.specs.declared.summarized_cache.SummarizedCache.{SummarizedCache}
+use Rattle.mc_tables.specs.declared.summary.summarized_cache.SummarizedCache.{SummarizedCache}
 use Rattle.mc_tables.specs.CacheReading.{cache_in, cache_rows_in}
 use Rattle.mc_tables.specs.CacheTable.{CacheValue, RowValue, key_cmp, key_of, table_of}
 use Rattle.mc_tables.specs.ListedRows.{IsListedPart, is_kept_key, is_listed, kept_rows}

@@ -11,7 +11,7 @@ use Rattle.mc_tables.specs.CacheTable.{CacheValue}
 use Rattle.mc_tables.specs.VifReading.{vifs_in}
 use Rattle.mc_tables.specs.CacheReading.{cache_in}
 use Rattle.mc_tables.specs.SummaryReading.{summary_in}
-use Rattle.mc_tables.specs.declared.summarized_cache.SummarizedCache.{SummarizedCache}
+use Rattle.mc_tables.specs.declared.summary.summarized_cache.SummarizedCache.{SummarizedCache}
 use Rattle.mc_igmp.specs.declared.record.Record.{Record}
 use Rattle.mc_igmp.specs.ReadingList.{read_list}
 use Rattle.mc_topology.specs.SectionRows.{RouterRow}

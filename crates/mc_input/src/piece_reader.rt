@@ -87,7 +87,7 @@ impl PieceReader for CacheReader {
 impl PieceReader for SummaryReader {
     ghost use Rattle.mc_tables.specs.SummaryReading.{summary_if};
     ghost use Rattle.mc_tables.specs.declared.fault.TableFault.{TableFault as FaultOfTable};
-    ghost use Rattle.mc_tables.specs.declared.summarized_cache.SummarizedCache.{SummarizedCache};
+    ghost use Rattle.mc_tables.specs.declared.summary.summarized_cache.SummarizedCache.{SummarizedCache};
 
     ghost ReadResult = { Result SummarizedCache FaultOfTable };
 

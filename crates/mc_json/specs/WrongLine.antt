@@ -5,7 +5,7 @@ use Rattle.mc_topology.specs.Topology.{flow_at}
 use Rattle.mc_forward.specs.Domains.{DomainValue}
 use Rattle.mc_forward.specs.ListedTables.{facts}
 use Rattle.mc_replay.specs.declared.travel.FinishedTravel.{FinishedTravel}
-use Rattle.mc_explain.specs.declared.explanation.Explanation.{Explanation}
+use Rattle.mc_explain.specs.declared.causes.explanation.Explanation.{Explanation}
 use Rattle.mc_json.specs.FlowData.{wrong_line_of_travel}
 use Rattle.mc_json.specs.WhyData.{why_data}
 

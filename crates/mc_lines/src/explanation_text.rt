@@ -10,10 +10,10 @@ ghost use Rattle.mc_lines.specs.Filled.{line_text};
 ghost use Rattle.mc_lines.specs.FlowContext.{flow_context};
 ghost use Rattle.mc_lines.specs.SearchLines.{shown_items};
 
-use crate::cause_lines::add_causes;
 use crate::context::LineContext;
-use crate::reach_lines::add_reach;
-use crate::search_lines::add_shown_line;
+use crate::sentences::cause_lines::add_causes;
+use crate::sentences::reach_lines::add_reach;
+use crate::sentences::search_lines::add_shown_line;
 use mc_explain::{Cause, LanSearch, SearchLine, ShownLines};
 use mc_forward::{Domain, FlowView};
 use mc_tables::CacheSummary;

@@ -2,28 +2,21 @@
 //! and is written as text here and as JSON above.
 #![tactic(auto)]
 
-mod cause_lines;
 mod context;
 mod explanation_text;
-mod fact;
-mod fact_text;
-mod fill;
-mod lan_lines;
+mod facts;
 mod laws;
 mod line_sink;
-mod reach_lines;
-mod row_lines;
-mod search_lines;
+mod sentences;
 mod text_sink;
 
-pub use cause_lines::add_causes;
 pub use context::LineContext;
 pub use explanation_text::{push_causes, push_search};
-pub use fact::Fact;
+pub use facts::Fact;
 pub use laws::{
     explained_lines_begin_with_two_spaces, facts_fill_their_sentence,
     sentences_refer_to_their_facts, text_and_json_have_the_same_sentence,
 };
 pub use line_sink::LineSink;
-pub use search_lines::add_search;
+pub use sentences::{add_causes, add_search};
 pub use text_sink::push_sentences;

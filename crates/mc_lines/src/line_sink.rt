@@ -6,7 +6,7 @@ ghost use Rattle.mc_lines.specs.Lines.{Line};
 ghost use Rattle.mc_lines.specs.GivenLines.{given_line};
 
 use crate::context::LineContext;
-use crate::fact::Fact;
+use crate::facts::fact::Fact;
 use mc_text::Memory;
 
 /// What takes lines, one after the other, as text or as values.

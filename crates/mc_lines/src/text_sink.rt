@@ -8,8 +8,8 @@ ghost use Rattle.mc_lines.specs.FlowContext.{flow_context};
 ghost use Rattle.mc_lines.specs.GivenLines.{given_text, named_fact};
 
 use crate::context::LineContext;
-use crate::fact::Fact;
-use crate::fill::push_filled;
+use crate::facts::fact::Fact;
+use crate::facts::fill::push_filled;
 use crate::line_sink::LineSink;
 use mc_text::Memory;
 use std::alloc::AllocError;

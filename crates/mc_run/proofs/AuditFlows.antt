@@ -32,7 +32,7 @@ use Rattle.mc_maker.specs.declared.examination.Examined.TheVariants as examined
 use Rattle.mc_replay.specs.declared.travel.FinishedTravel.{FinishedTravel}
 use Rattle.mc_replay.specs.declared.travel.Travel.{Travel}
 use Rattle.mc_explain.specs.WantedText.{lans_wanting}
-use Rattle.mc_explain.specs.declared.searching.LanSearch.{LanSearch}
+use Rattle.mc_explain.specs.declared.search.searching.LanSearch.{LanSearch}
 use Rattle.mc_explain.specs.declared.causes.Cause.{Cause}
 use Rattle.mc_run.specs.AuditEnd.{FlowAnswer, are_right, count, is_right, is_unwanted, is_wrong}
 use Rattle.mc_run.specs.AuditEnd.{with_status}
@@ -44,9 +44,9 @@ use Rattle.mc_run.specs.AuditFlowText.{is_hidden, right_flow_lines, status_of, s
 use Rattle.mc_run.specs.AuditFlowText.{shown_trees_with, with_shown_tree, wrong_flow_lines}
 use Rattle.mc_run.specs.MakeRun.{IsExamined}
 use Rattle.mc_cli.specs.declared.audit_options.AuditOptions.{AuditOptions}
-use Rattle.mc_run.specs.declared.flow_status.FlowStatus.{FlowStatus}
-use Rattle.mc_run.specs.declared.flow_status.FlowStatus.TheVariants.{Wrong}
-use Rattle.mc_run.specs.declared.flow_status.FlowCounts.{FlowCounts}
+use Rattle.mc_run.specs.declared.audit.flow_status.FlowStatus.{FlowStatus}
+use Rattle.mc_run.specs.declared.audit.flow_status.FlowStatus.TheVariants.{Wrong}
+use Rattle.mc_run.specs.declared.audit.flow_status.FlowCounts.{FlowCounts}
 
 -- ---- one flow
 

@@ -46,7 +46,7 @@ use Rattle.mc_input.specs.Meaning.{FilesMeanDomain}
 use Rattle.mc_run.specs.MakeRun.{AreExamined, AreRight, IsExamined, are_certified, found_line}
 use Rattle.mc_run.specs.MakeRun.{certified_lists, no_certificate_line}
 use Rattle.mc_cli.specs.declared.audit_options.AuditOptions.{AuditOptions}
-use Rattle.mc_run.specs.declared.audit_output.AuditOutput.{AuditOutput}
+use Rattle.mc_run.specs.declared.audit.audit_output.AuditOutput.{AuditOutput}
 use Rattle.mc_run.specs.declared.fault.RunFault.{RunFault}
 use Rattle.mc_run.specs.declared.run_output.RunOutput.{RunOutput}
 use Rattle.mc_run.proofs.MakeLemmas.{are_certified-are_right}

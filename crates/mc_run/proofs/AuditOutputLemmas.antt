@@ -10,8 +10,8 @@ use Rattle.mc_run.specs.AuditRun.{MeansAudited, SaysOfEach, SaysWhichAreRight}
 use Rattle.mc_run.specs.Failures.{is_write}
 use Rattle.mc_run.specs.RunOutput.{IsOutputWritten, Writes, WritesPart}
 use Rattle.mc_cli.specs.declared.audit_options.AuditOptions.{AuditOptions}
-use Rattle.mc_run.specs.declared.audit_output.AuditAnswer.{AuditAnswer}
-use Rattle.mc_run.specs.declared.audit_output.AuditOutput.{AuditOutput}
+use Rattle.mc_run.specs.declared.audit.audit_output.AuditAnswer.{AuditAnswer}
+use Rattle.mc_run.specs.declared.audit.audit_output.AuditOutput.{AuditOutput}
 use Rattle.mc_run.specs.declared.fault.RunFault.{RunFault}
 use Rattle.mc_run.specs.declared.fault.RunFault.TheVariants.{Write}
 use Rattle.mc_run.specs.declared.run_output.RunOutput.{RunOutput}

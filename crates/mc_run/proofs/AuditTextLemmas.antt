@@ -17,13 +17,13 @@ use Rattle.mc_run.specs.AuditPieces.{AreFlowsPushed, output_of, yes_of}
 use Rattle.mc_run.specs.AuditRun.{AuditSaysYes, IsAudited, MeansAudited, AuditedValue, is_whole, is_yes}
 use Rattle.mc_run.specs.AuditRun.{excluded}
 use Rattle.mc_cli.specs.declared.audit_options.AuditOptions.{AuditOptions}
-use Rattle.mc_run.specs.declared.audit_output.AuditAnswer.{AuditAnswer}
-use Rattle.mc_run.specs.declared.audit_output.AuditOutput.{AuditOutput}
+use Rattle.mc_run.specs.declared.audit.audit_output.AuditAnswer.{AuditAnswer}
+use Rattle.mc_run.specs.declared.audit.audit_output.AuditOutput.{AuditOutput}
 use Rattle.mc_run.specs.declared.fault.RunFault.{RunFault}
 use Rattle.mc_run.specs.declared.fault.RunFault.TheVariants.{Write}
 use Rattle.mc_run.specs.RunOutput.{IsOutputWritten}
 use Rattle.mc_run.specs.declared.run_output.RunOutput.{RunOutput}
-use Rattle.mc_run.specs.declared.flow_status.FlowCounts.{FlowCounts}
+use Rattle.mc_run.specs.declared.audit.flow_status.FlowCounts.{FlowCounts}
 use Rattle.mc_run.proofs.AuditFlows.{are_right-zero_wrong}
 
 -- ---- one text

@@ -24,8 +24,8 @@ use Rattle.mc_run.specs.ReplayRun.{HasNoTravel}
 use Rattle.mc_run.specs.RunFault.{of_certificate_kind, from_list_fault_kind, from_source_fault}
 use Rattle.mc_run.specs.RunFault.{from_without_fault}
 use Rattle.mc_run.specs.RunOutput.{IsOutputWritten}
-use Rattle.mc_run.specs.declared.audit_output.AuditAnswer.{AuditAnswer}
-use Rattle.mc_run.specs.declared.audit_output.AuditOutput.{AuditOutput}
+use Rattle.mc_run.specs.declared.audit.audit_output.AuditAnswer.{AuditAnswer}
+use Rattle.mc_run.specs.declared.audit.audit_output.AuditOutput.{AuditOutput}
 use Rattle.mc_run.specs.declared.fault.RunFault.{RunFault}
 use Rattle.mc_run.specs.declared.fault.RunFault.TheVariants.{Certificate, Memory, NoSuchFlow, Read, Write}
 use Rattle.mc_run.specs.declared.run_output.RunOutput.{RunOutput}

@@ -11,7 +11,7 @@ use Rattle.mc_files.specs.Files.{FileText, file_named}
 use Rattle.mc_run.specs.LineFront.{TakesPiece, front_after_more, line_after_feeds, line_front}
 use Rattle.mc_run.specs.LineFront.{first_100_bytes}
 use Rattle.mc_run.specs.RefusalText.{IsFrontInFile}
-use Rattle.mc_run.specs.declared.line_front.LineFront.{LineFront}
+use Rattle.mc_run.specs.declared.refusals.line_front.LineFront.{LineFront}
 
 -- the front is complete where the line ends, or the text,
 front_after_more-whole_front : (front : List ℕ) → length front ≤ 100 → first_100_bytes (front ++ []) ≡ front

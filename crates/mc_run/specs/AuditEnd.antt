@@ -20,9 +20,9 @@ use Rattle.mc_cli.specs.AuditOptionWords.{faults_word, json_word, strict_word, t
 use Rattle.mc_cli.specs.AuditOptionWords.{without_word}
 use Rattle.mc_run.specs.VerdictText.{last_line}
 use Rattle.mc_cli.specs.declared.audit_options.AuditOptions.{AuditOptions}
-use Rattle.mc_run.specs.declared.flow_status.FlowStatus.{FlowStatus}
-use Rattle.mc_run.specs.declared.flow_status.FlowStatus.TheVariants.{Wanted, Unwanted, Wrong}
-use Rattle.mc_run.specs.declared.flow_status.FlowCounts.{FlowCounts}
+use Rattle.mc_run.specs.declared.audit.flow_status.FlowStatus.{FlowStatus}
+use Rattle.mc_run.specs.declared.audit.flow_status.FlowStatus.TheVariants.{Wanted, Unwanted, Wrong}
+use Rattle.mc_run.specs.declared.audit.flow_status.FlowCounts.{FlowCounts}
 
 -- what is printed of a flow: the result of its examination, the LANs that want it, and its lines
 pub record FlowAnswer : Type 0 where

@@ -12,8 +12,8 @@ use Rattle.mc_maker.specs.declared.examination.Examined.TheVariants.{Certified, 
 use Rattle.mc_run.specs.AuditObjects.{right_objects, wrong_object}
 use Rattle.mc_run.specs.AuditText.{Explanation, right_lines, wrong_lines}
 use Rattle.mc_cli.specs.declared.audit_options.AuditOptions.{AuditOptions}
-use Rattle.mc_run.specs.declared.flow_status.FlowStatus.{FlowStatus}
-use Rattle.mc_run.specs.declared.flow_status.FlowStatus.TheVariants.{Wanted, Unwanted, Wrong}
+use Rattle.mc_run.specs.declared.audit.flow_status.FlowStatus.{FlowStatus}
+use Rattle.mc_run.specs.declared.audit.flow_status.FlowStatus.TheVariants.{Wanted, Unwanted, Wrong}
 
 -- ---- a flow that is right
 

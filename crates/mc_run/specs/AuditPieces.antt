@@ -8,8 +8,8 @@ use Rattle.mc_replay.specs.declared.travel.Travel.{Travel}
 use Rattle.mc_explain.specs.TopologyLans.{interfaces_on_lans}
 use Rattle.mc_explain.specs.SearchLine.{Search}
 use Rattle.mc_explain.specs.WantedText.{lans_wanting, missed_besides}
-use Rattle.mc_explain.specs.declared.explanation.Explanation.{Explanation as ExplanationParts}
-use Rattle.mc_explain.specs.declared.searching.LanSearch.{LanSearch}
+use Rattle.mc_explain.specs.declared.causes.explanation.Explanation.{Explanation as ExplanationParts}
+use Rattle.mc_explain.specs.declared.search.searching.LanSearch.{LanSearch}
 use Rattle.mc_explain.specs.declared.causes.Cause.{Cause}
 use Rattle.mc_input.specs.declared.domain.FolderDomain.{FolderDomain}
 use Rattle.mc_run.specs.AuditEnd.{FlowAnswer, count, end_objects, end_text, end_text_or_objects}
@@ -20,13 +20,13 @@ use Rattle.mc_run.specs.AuditRun.{IsFlowAnswer, AuditedValue, excluded, is_whole
 use Rattle.mc_run.specs.AuditText.{Explanation, explanation_lines, right_lines, searched_lines, wrong_lines}
 use Rattle.mc_run.specs.AuditFlowText.{right_flow_lines, shown_trees_with, status_of, wrong_flow_lines}
 use Rattle.mc_cli.specs.declared.audit_options.AuditOptions.{AuditOptions}
-use Rattle.mc_run.specs.declared.audited_domain.AuditedDomain.{AuditedDomain}
-use Rattle.mc_run.specs.declared.audit_output.AuditAnswer.{AuditAnswer}
-use Rattle.mc_run.specs.declared.audit_output.AuditOutput.{AuditOutput}
+use Rattle.mc_run.specs.declared.audit.audited_domain.AuditedDomain.{AuditedDomain}
+use Rattle.mc_run.specs.declared.audit.audit_output.AuditAnswer.{AuditAnswer}
+use Rattle.mc_run.specs.declared.audit.audit_output.AuditOutput.{AuditOutput}
 use Rattle.mc_run.specs.declared.fault.RunFault.{RunFault}
 use Rattle.mc_run.specs.declared.run_output.RunOutput.{RunOutput}
-use Rattle.mc_run.specs.declared.flow_status.FlowStatus.{FlowStatus}
-use Rattle.mc_run.specs.declared.flow_status.FlowCounts.{FlowCounts}
+use Rattle.mc_run.specs.declared.audit.flow_status.FlowStatus.{FlowStatus}
+use Rattle.mc_run.specs.declared.audit.flow_status.FlowCounts.{FlowCounts}
 
 -- an audited domain as a value
 abbrev pub audited_value : AuditedDomain → AuditedValue

@@ -3,7 +3,7 @@
 use Rattle.std.specs.Prelude.{◌≡◌, ℕ, ◌-◌, ◌==◌, Bool, List, [], ◌++◌, take, if◌then◌else◌}
 use Rattle.std.specs.Prelude.{slice_index_or}
 use Rattle.std.specs.List.{slice_split}
-use Rattle.mc_run.specs.declared.line_front.LineFront.{LineFront}
+use Rattle.mc_run.specs.declared.refusals.line_front.LineFront.{LineFront}
 
 -- ---- the front
 

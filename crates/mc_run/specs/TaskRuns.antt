@@ -26,7 +26,7 @@ use Rattle.mc_run.specs.RunOutput.{Answers, IsWrittenWhole, WritesPart}
 use Rattle.mc_run.specs.WantsRun.{answer_line, AnswersWants}
 use Rattle.mc_run.specs.WantsRun.{WritesPartOfLine}
 use Rattle.mc_cli.specs.declared.audit_options.AuditOptions.{AuditOptions}
-use Rattle.mc_run.specs.declared.audit_output.AuditAnswer.{AuditAnswer}
+use Rattle.mc_run.specs.declared.audit.audit_output.AuditAnswer.{AuditAnswer}
 use Rattle.mc_run.specs.declared.fault.RunFault.{RunFault}
 use Rattle.mc_run.specs.declared.fault.RunFault.TheVariants.{Write}
 

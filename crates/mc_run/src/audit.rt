@@ -1,6 +1,14 @@
 //! `mcaudit audit`: which flows of a folder's domain are forwarded as they should be, and for each
 //! other flow what a packet of it meets, and why.
 
+mod audit_end;
+mod audit_flow;
+pub(crate) mod audit_output;
+mod audit_right;
+mod audit_wrong;
+mod audited_domain;
+mod flow_status;
+
 ghost use Rattle.std.specs.Prelude.{◌≡◌, ◌≢◌, ◌<◌, ◌==◌, ◌&&◌, IfErr, IfOk, IfSome, Err, false};
 ghost use Rattle.std.specs.Prelude.{length, map};
 ghost use Rattle.std.specs.String.{string_bytes};
@@ -16,14 +24,15 @@ ghost use Rattle.mc_run.specs.Faults.{IsFaultOfAudit};
 ghost use Rattle.mc_run.specs.InputMeaning.{AreRefusedWithout};
 ghost use Rattle.mc_run.specs.RunOutput.{Answers, IsWrittenWhole, WritesPart};
 
-use crate::audit_end::{begin_lines, push_end};
-use crate::audit_flow::push_flow;
-use crate::audit_output::{AuditAnswer, AuditOutput, with_unwanted};
-use crate::audited_domain::AuditedDomain;
+use crate::audit::audit_end::{begin_lines, push_end};
+use crate::audit::audit_flow::push_flow;
+use crate::audit::audit_output::{AuditAnswer, AuditOutput, with_unwanted};
+use crate::audit::audited_domain::AuditedDomain;
+use crate::audit::flow_status::FlowCounts;
 use crate::excluded::excluded_marks;
 use crate::fault::RunFault;
-use crate::flow_status::FlowCounts;
 use crate::run_output::{RunOutput, write_output};
+pub use audit_output::AuditAnswer;
 use mc_cert::DistinctTrees;
 use mc_cli::AuditOptions;
 use mc_explain::InterfacesOfLans;

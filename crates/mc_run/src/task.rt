@@ -1,5 +1,9 @@
 //! Runs the task that the command line asks for, with the task's own arguments.
 
+mod task_files;
+mod task_input;
+mod task_text;
+
 ghost use Rattle.std.specs.Prelude.{◌≡◌, ◌≢◌, ◌<◌, IfErr, true, false};
 ghost use Rattle.mc_text.specs.Device.{failures_after};
 ghost use Rattle.mc_cli.specs.Task.{IsAllowed};
@@ -10,9 +14,9 @@ ghost use Rattle.mc_run.specs.TaskRuns.{IsAuditRun, IsCheckRun, IsMakeRun, IsPac
 ghost use Rattle.mc_run.specs.TaskRuns.{IsTextRun, IsWantsRun};
 
 use crate::fault::RunFault;
-use crate::task_files::{audit_task, pack_task};
-use crate::task_input::{check_task, make_task, replay_task, wants_task};
-use crate::task_text::{VERSION_LINE, text_task};
+use crate::task::task_files::{audit_task, pack_task};
+use crate::task::task_input::{check_task, make_task, replay_task, wants_task};
+use crate::task::task_text::{VERSION_LINE, text_task};
 use mc_cli::Task;
 use mc_files::PieceSource;
 use mc_text::{Input, Output};

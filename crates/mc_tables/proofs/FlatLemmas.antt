@@ -5,8 +5,8 @@ use Rattle.std.specs.List.{AllByRecursion}
 use Rattle.std.proofs.lemmas.List.{take-append-le, drop-append-le, map-append}
 use Rattle.std.proofs.lemmas.List.{take_all, length-drop}
 use Rattle.std.proofs.Math.Seq.{drop-append_seam}
-use Rattle.mc_tables.specs.declared.entry.Oif.{Oif}
-use Rattle.mc_tables.specs.declared.flat_oifs.FlatList.{FlatList}
+use Rattle.mc_tables.specs.declared.cache.entry.Oif.{Oif}
+use Rattle.mc_tables.specs.declared.cache.flat_oifs.FlatList.{FlatList}
 use Rattle.mc_tables.specs.FlatRows.{list_of, lists_of, AreFlatLists}
 
 -- a list stays as it is if more outgoing vifs come behind

@@ -14,7 +14,7 @@ use Rattle.std.proofs.lemmas.Simd.{length-zip2, get_or-zip2, bit_mask_l, mask_l-
 use Rattle.mc_text.specs.Lines.{words_of}
 use Rattle.mc_text.proofs.DigitLaneLemmas.{lane_below, lane_minus}
 use Rattle.std.proofs.lemmas.List.{take_rest}
-use Rattle.mc_tables.specs.declared.entry.Oif.{Oif}
+use Rattle.mc_tables.specs.declared.cache.entry.Oif.{Oif}
 use Rattle.mc_tables.specs.CacheReading.{oif_in}
 use Rattle.mc_tables.specs.OutgoingSteps.{oifs_after_words}
 use Rattle.mc_tables.specs.FourOifs.{StartsWithPrintedOif, StartsWithFourOifs, DenoteAscendingOifs}

@@ -14,7 +14,7 @@ use Rattle.mc_tables.specs.CacheTable.{key_cmp, same_key}
 use Rattle.mc_tables.specs.CacheNumbers.{IsNumberInserted, IsPlaceOf, EntryNumbersValue, AddsNumber}
 use Rattle.mc_tables.specs.CacheNumbers.{numbers_at_places, listed_or_all}
 use Rattle.mc_tables.specs.CacheNumbers.{number_of_key, decoded_number}
-use Rattle.mc_tables.specs.declared.listed_entry_numbers.Inserted.TheVariants.{New}
+use Rattle.mc_tables.specs.declared.listed.listed_entry_numbers.Inserted.TheVariants.{New}
 use Rattle.std.specs.BTreeMap.{is_at}
 use Rattle.mc_tables.specs.ListedRows.{set_has_key}
 use Rattle.mc_tables.proofs.CacheLemmas.{key_cmp-total, same_key-equivalence}

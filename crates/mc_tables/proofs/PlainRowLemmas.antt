@@ -28,7 +28,7 @@ use Rattle.std.specs.Str.{bytes_eq}
 use Rattle.std.proofs.lemmas.List.{take_rest}
 use Rattle.mc_tables.specs.FlatRows.{row_with_oifs}
 use Rattle.mc_tables.specs.TableWords.{is_decimal_word, is_counter, number_in, address_in}
-use Rattle.mc_tables.specs.declared.entry.Oif.{Oif}
+use Rattle.mc_tables.specs.declared.cache.entry.Oif.{Oif}
 use Rattle.mc_text.specs.Steps.{◌>>=◌}
 use Rattle.mc_tables.specs.OutgoingSteps.{oifs_after_words}
 use Rattle.mc_tables.specs.CacheTable.{WordDenotesOif}

@@ -18,7 +18,7 @@ use Rattle.std.proofs.Math.Bool.{and-false}
 use Rattle.mc_tables.specs.declared.fault.TableFault.{TableFault}
 use Rattle.mc_tables.specs.declared.fault.TableFaultKind.{TableFaultKind}
 use Rattle.mc_tables.specs.declared.fault.TableFaultKind.TheVariants.{RepeatedEntry, TooLarge, Unended}
-use Rattle.mc_tables.specs.declared.summarized_cache.SummarizedCache.{SummarizedCache}
+use Rattle.mc_tables.specs.declared.summary.summarized_cache.SummarizedCache.{SummarizedCache}
 use Rattle.mc_tables.specs.Steps.{at_line, demand}
 use Rattle.mc_tables.specs.TableLines.{lines_after_header, rows_after}
 use Rattle.mc_text.specs.Lines.{HasNoLineFeed}

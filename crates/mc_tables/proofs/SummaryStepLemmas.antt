@@ -7,8 +7,8 @@ use Rattle.std.specs.FinSet as set
 use Rattle.std.specs.List.{list_any}
 use Rattle.std.proofs.lemmas.Bool.{cases_Bool}
 use Rattle.std.proofs.lemmas.List.{length_push}
-use Rattle.mc_tables.specs.declared.listed_entry_numbers.Inserted.{Inserted}
-use Rattle.mc_tables.specs.declared.listed_entry_numbers.Inserted.TheVariants.{New, Repeated, Unlisted}
+use Rattle.mc_tables.specs.declared.listed.listed_entry_numbers.Inserted.{Inserted}
+use Rattle.mc_tables.specs.declared.listed.listed_entry_numbers.Inserted.TheVariants.{New, Repeated, Unlisted}
 use Rattle.mc_tables.specs.CacheTable.{EntryValue, key_cmp, same_key}
 use Rattle.mc_tables.specs.CacheNumbers.{IsNumberInserted, KeptRowsValue, EntryNumbersValue, AddsNumber}
 use Rattle.mc_tables.specs.CacheNumbers.{number_of_key}

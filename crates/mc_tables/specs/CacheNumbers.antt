@@ -6,8 +6,8 @@ use Rattle.std.specs.List.{filter_map}
 use Rattle.std.specs.BTreeMap.{is_at}
 use Rattle.std.specs.Map.{lookup}
 use Rattle.mc_tables.specs.CacheTable.{EntryValue, CacheValue, key_cmp}
-use Rattle.mc_tables.specs.declared.listed_entry_numbers.Inserted.{Inserted}
-use Rattle.mc_tables.specs.declared.listed_entry_numbers.Inserted.TheVariants.{New, Repeated, Unlisted}
+use Rattle.mc_tables.specs.declared.listed.listed_entry_numbers.Inserted.{Inserted}
+use Rattle.mc_tables.specs.declared.listed.listed_entry_numbers.Inserted.TheVariants.{New, Repeated, Unlisted}
 use Rattle.mc_tables.specs.ListedRows.{ListedSet, set_has_key}
 
 -- the key of a number, with the entry that has the number

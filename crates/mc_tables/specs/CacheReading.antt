@@ -7,7 +7,7 @@ use Rattle.std.specs.FinMap.{from_entries}
 use Rattle.std.specs.Str.{bytes_eq}
 use Rattle.mc_text.specs.declared.text.addr.Order.{Order}
 use Rattle.mc_text.specs.Lines.{LineText, words_of}
-use Rattle.mc_tables.specs.declared.entry.Oif.{Oif}
+use Rattle.mc_tables.specs.declared.cache.entry.Oif.{Oif}
 use Rattle.mc_tables.specs.CacheTable.{EntryValue}
 use Rattle.mc_tables.specs.declared.fault.TableFault.{TableFault}
 use Rattle.mc_tables.specs.declared.fault.TableFaultKind.{TableFaultKind}

@@ -13,7 +13,7 @@ use Rattle.std.specs.FinMap as map
 use Rattle.std.specs.FinSet as set
 use Rattle.mc_text.specs.declared.text.addr.Order.{Order}
 use Rattle.mc_text.specs.Lines.{LineText, words_of}
-use Rattle.mc_tables.specs.declared.entry.Oif.{Oif}
+use Rattle.mc_tables.specs.declared.cache.entry.Oif.{Oif}
 use Rattle.mc_tables.specs.TableWords.{is_counter, WordDenotesNumber, WordDenotesAddress}
 use Rattle.mc_tables.specs.TableLines.{HasHeader, EachDenotes}
 

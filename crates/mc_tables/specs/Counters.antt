@@ -4,7 +4,7 @@ use Rattle.std.specs.Int.{bit_at}
 use Rattle.std.specs.Char.{is_ascii_digit}
 use Rattle.mc_text.specs.Lines.{words_of}
 use Rattle.mc_tables.specs.TableWords.{is_counter}
-use Rattle.mc_tables.specs.declared.marked_line.MarkedLine.{MarkedLine}
+use Rattle.mc_tables.specs.declared.lines.marked_line.MarkedLine.{MarkedLine}
 
 -- a line's first three words are counters, and its other words are those of what follows them
 pub record HasCounters (line after : List ℕ) : Type 0 where

@@ -3,9 +3,9 @@
 use Rattle.std.specs.Prelude.{ℕ, ◌+◌, ◌*◌, ◌<◌, ◌≤◌, List, length, map, take, drop, Option}
 use Rattle.std.specs.Option.{option_map}
 use Rattle.std.specs.List.{AllByRecursion}
-use Rattle.mc_tables.specs.declared.cache_row.CacheRow.{CacheRow}
-use Rattle.mc_tables.specs.declared.entry.Oif.{Oif}
-use Rattle.mc_tables.specs.declared.flat_oifs.FlatList.{FlatList}
+use Rattle.mc_tables.specs.declared.cache.cache_row.CacheRow.{CacheRow}
+use Rattle.mc_tables.specs.declared.cache.entry.Oif.{Oif}
+use Rattle.mc_tables.specs.declared.cache.flat_oifs.FlatList.{FlatList}
 use Rattle.mc_tables.specs.CacheTable.{EntryValue, RowValue}
 
 -- ---- one row

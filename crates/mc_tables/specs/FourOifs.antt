@@ -4,7 +4,7 @@ use Rattle.std.specs.Prelude.{◌≡◌, ℕ, ◌+◌, ◌≤◌, ◌==◌, ◌|
 use Rattle.std.specs.Prelude.{◌++◌, drop, slice_index, Ok}
 use Rattle.std.specs.Char.{is_ascii_digit}
 use Rattle.mc_text.specs.Lines.{words_of}
-use Rattle.mc_tables.specs.declared.entry.Oif.{Oif}
+use Rattle.mc_tables.specs.declared.cache.entry.Oif.{Oif}
 use Rattle.mc_tables.specs.CacheReading.{oif_in}
 
 -- the byte is in this range

@@ -3,9 +3,9 @@ use Rattle.std.specs.Prelude.{◌≡◌, ℕ, ◌≤◌, List, [], ◌∷◌, le
 use Rattle.mc_text.specs.Lines.{words_of}
 use Rattle.mc_text.specs.declared.text.addr.Order.{Order}
 use Rattle.mc_tables.specs.TableWords.{address_in}
-use Rattle.mc_tables.specs.declared.vif_line.CounterWords.{CounterWords}
-use Rattle.mc_tables.specs.declared.vif_line.VifWords.{VifWords}
-use Rattle.mc_tables.specs.declared.cache_line.CacheWords.{CacheWords}
+use Rattle.mc_tables.specs.declared.vifs.vif_line.CounterWords.{CounterWords}
+use Rattle.mc_tables.specs.declared.vifs.vif_line.VifWords.{VifWords}
+use Rattle.mc_tables.specs.declared.cache.cache_line.CacheWords.{CacheWords}
 
 -- the four counters, and then the rest
 abbrev pub counters_before : CounterWords → List (List ℕ) → List (List ℕ)

@@ -4,7 +4,7 @@ use Rattle.mc_text.specs.declared.text.addr.Order.{Order}
 use Rattle.mc_text.specs.Lines.{LineText}
 use Rattle.mc_text.specs.Steps.{◌>>=◌}
 use Rattle.mc_tables.specs.declared.fault.TableFault.{TableFault}
-use Rattle.mc_tables.specs.declared.summarized_cache.SummarizedCache.{SummarizedCache}
+use Rattle.mc_tables.specs.declared.summary.summarized_cache.SummarizedCache.{SummarizedCache}
 use Rattle.mc_tables.specs.Steps.{unless_fault}
 use Rattle.mc_tables.specs.LinesSoFar.{LinesSoFar, lines_start, read_after}
 use Rattle.mc_tables.specs.CacheTable.{CacheValue, table_of}

@@ -9,8 +9,8 @@ use Rattle.std.specs.declared.cmp.Ordering.TheVariants.{Less, Equal, Greater}
 use Rattle.mc_text.specs.declared.text.addr.Order.{Order}
 use Rattle.mc_text.specs.Lines.{LineText, words_of}
 use Rattle.mc_tables.specs.declared.fault.TableFaultKind.{TableFaultKind}
-use Rattle.mc_tables.specs.declared.listed_entry_numbers.Inserted.{Inserted}
-use Rattle.mc_tables.specs.declared.listed_entry_numbers.Inserted.TheVariants.{New, Repeated, Unlisted}
+use Rattle.mc_tables.specs.declared.listed.listed_entry_numbers.Inserted.{Inserted}
+use Rattle.mc_tables.specs.declared.listed.listed_entry_numbers.Inserted.TheVariants.{New, Repeated, Unlisted}
 use Rattle.mc_tables.specs.CacheTable.{EntryValue, RowValue, key_cmp, key_of, table_of}
 use Rattle.mc_tables.specs.CacheNumbers.{KeptRowsValue}
 use Rattle.mc_tables.specs.CacheReading.{row_in_words}

@@ -1,0 +1,6 @@
+use Rattle.std.proofs.Common.{◌≡◌, map, take}
+use Rattle.mc_explain.specs.Explained.{circle_cause}
+use Rattle.mc_explain.proofs.causes.explained.circle_causes.Given as goal
+
+abbrev pub invariant-loop-hop : goal.invariant-loop-hop
+invariant-loop-hop l = l.causes.items ≡ map circle_cause (take l.hop-index l.fn.circle)

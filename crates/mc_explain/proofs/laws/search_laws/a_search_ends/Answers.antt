@@ -1,0 +1,33 @@
+-- Step by step.
+use Rattle.std.proofs.Common.{◌≡◌, ℕ, ◌<◌, ◌≤◌, length, ap, sym, subst}
+use Rattle.mc_forward.specs.Domains.{DomainValue}
+use Rattle.mc_forward.specs.ListedTables.{DomainFacts, facts}
+use Rattle.mc_explain.specs.SearchLine.{Search}
+use Rattle.mc_explain.proofs.NextLanLemmas.{places_inside-from_is_domain}
+use Rattle.mc_explain.proofs.VisitedLemmas.{all_below-visited, in-visited_missed, visited-at_end}
+use Rattle.mc_explain.proofs.SearchLemmas.{distinct-visited}
+use Rattle.mc_explain.proofs.laws.search_laws.a_search_ends.Goals as goal
+
+lan_counts-equal : (d : DomainValue) (s : Search) → s.domain ≡ facts d
+    → length s.domain.topology.lans ≡ length d.topology.lans
+lan_counts-equal d s same = ap (λ (x : DomainFacts). length x.topology.lans) same
+
+pub returns-clause-missed : goal.returns-clause-missed
+returns-clause-missed c = λ s missed. in-visited_missed s missed (length s.domain.topology.lans)
+
+pub returns-clause-distinct : goal.returns-clause-distinct
+returns-clause-distinct c = λ s missed. distinct-visited s missed (length s.domain.topology.lans)
+
+pub returns-clause-listed : goal.returns-clause-listed
+returns-clause-listed c = λ d s missed lan is lt h.
+    let count = lan_counts-equal d s is.same in
+    subst (λ (n : ℕ). lan < n) count
+    (all_below-visited s missed (length s.domain.topology.lans)
+    (places_inside-from_is_domain d s is.domain is.same)
+    (subst (λ (n : ℕ). missed < n) (sym count) lt) lan h)
+
+pub returns-clause-ends : goal.returns-clause-ends
+returns-clause-ends c = λ d s missed steps is lt le.
+    let count = sym (lan_counts-equal d s is.same) in
+    visited-at_end s missed steps (places_inside-from_is_domain d s is.domain is.same)
+    (subst (λ (n : ℕ). missed < n) count lt) (subst (λ (n : ℕ). n ≤ steps) count le)

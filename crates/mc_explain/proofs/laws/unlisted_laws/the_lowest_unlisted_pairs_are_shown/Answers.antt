@@ -1,0 +1,14 @@
+use Rattle.std.proofs.Common.{refl}
+use Rattle.mc_tables.specs.Summary.{SummaryValue, summary_of}
+use Rattle.mc_explain.specs.UnlistedText.{unlisted_pairs}
+use Rattle.mc_explain.proofs.MergeLemmas.{shown_pairs-of_parts}
+use Rattle.mc_explain.proofs.LowestPairLemmas.{routers_with-filter_rows}
+use Rattle.mc_explain.proofs.laws.unlisted_laws.the_lowest_unlisted_pairs_are_shown.Goals as goal
+
+pub returns-clause-pairs : goal.returns-clause-pairs
+returns-clause-pairs c = λ all listed caches.
+    shown_pairs-of_parts all (unlisted_pairs listed)
+    (λ (own : SummaryValue). own.lowest) (summary_of all listed) (λ rows. refl) caches
+
+pub returns-clause-routers : goal.returns-clause-routers
+returns-clause-routers c = λ all t listed caches. routers_with-filter_rows all t listed caches

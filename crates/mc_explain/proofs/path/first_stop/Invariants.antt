@@ -1,5 +1,0 @@
-use Rattle.mc_explain.proofs.NeedLemmas.{ThroughSoFar}
-use Rattle.mc_explain.proofs.path.first_stop.Given as goal
-
-abbrev pub invariant-loop-before : goal.invariant-loop-before
-invariant-loop-before l = ThroughSoFar l.fn.ttl l.fn.hops l.before l.left

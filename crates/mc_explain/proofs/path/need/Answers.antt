@@ -1,6 +1,0 @@
--- Hop by hop.
-use Rattle.mc_explain.proofs.NeedLemmas.{need_so_far-none}
-use Rattle.mc_explain.proofs.path.need.Goals as goal
-
-pub loop-hop-init : goal.loop-hop-init
-loop-hop-init c = need_so_far-none c.args.hops.now

@@ -1,5 +1,0 @@
-use Rattle.mc_explain.proofs.NeedLemmas.{NeedSoFar}
-use Rattle.mc_explain.proofs.path.need.Given as goal
-
-abbrev pub invariant-loop-hop : goal.invariant-loop-hop
-invariant-loop-hop l = NeedSoFar l.fn.hops l.hop-index l.before l.least

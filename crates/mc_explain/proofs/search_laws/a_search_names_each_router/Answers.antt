@@ -1,5 +1,0 @@
-use Rattle.mc_explain.proofs.SearchNameLemmas.{names_router-search_lines}
-use Rattle.mc_explain.proofs.search_laws.a_search_names_each_router.Goals as goal
-
-pub returns : goal.returns
-returns c = λ d s missed i is listed h. names_router-search_lines d s missed i is.domain is.same listed h

@@ -1,0 +1,10 @@
+use Rattle.std.proofs.Common.{◌≡◌, ◌≤◌, ◌*◌, take}
+use Rattle.mc_explain.specs.UnlistedText.{count_unlisted_rows}
+use Rattle.mc_explain.proofs.unlisted.unlisted_pairs.count_unlisted_rows.Given as goal
+
+-- those so far
+abbrev pub invariant-loop-own : goal.invariant-loop-own
+invariant-loop-own l = record {
+  so_far : l.rows ≡ count_unlisted_rows (take l.own-index l.summary);
+  few : l.rows ≤ l.own-index * 4294967295;
+}

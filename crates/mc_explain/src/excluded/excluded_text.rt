@@ -1,0 +1,53 @@
+//! The lines that name the excluded routers.
+
+ghost use Rattle.std.specs.Prelude.{◌≡◌, ◌++◌, OnOk, flat_map};
+ghost use Rattle.std.specs.String.{string_bytes};
+ghost use Rattle.mc_explain.specs.ExcludedText.{verdict_reason, without_line};
+
+use crate::shown::shown_names::ShownRouters;
+use mc_text::Memory;
+use mc_topology::{RouterNo, Topology};
+
+/// Writes a line for each of the excluded routers.
+///
+/// # Errors
+///
+/// `Memory` if an allocation fails.
+pub fn push_without_lines(
+    text: &mut String,
+    topology: &Topology,
+    routers: &[RouterNo],
+) -> Result<(), Memory>
+    ensures { OnOk result (string_bytes text.new ≡ string_bytes text.old
+        ++ flat_map (without_line topology.now) routers.now) }
+{
+    for router in routers {
+        let name = topology.router_name_or_empty(*router);
+        writeln!(text, "without {name}")?;
+    }
+    Ok(())
+}
+
+/// Writes why the verdict is no if routers are excluded: a line that names the first 8 of them. It writes
+/// nothing if none is.
+///
+/// # Errors
+///
+/// `Memory` if an allocation fails.
+pub fn push_excluded(
+    text: &mut String,
+    topology: &Topology,
+    routers: &[RouterNo],
+) -> Result<(), Memory>
+    ensures { OnOk result (string_bytes text.new ≡ string_bytes text.old
+        ++ verdict_reason topology.now routers.now) }
+{
+    if !routers.is_empty() {
+        let routers = ShownRouters { routers, topology };
+        writeln!(
+            text,
+            "  left out:{routers}: the verdict is no, since a yes is said of whole domains only"
+        )?;
+    }
+    Ok(())
+}

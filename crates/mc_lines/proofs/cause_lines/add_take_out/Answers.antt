@@ -1,5 +1,0 @@
-use Rattle.std.proofs.Common.{append-nil}
-use Rattle.mc_lines.proofs.cause_lines.add_take_out.Goals as goal
-
-pub returns : goal.returns
-returns g c = rw append-nil (rw (c.remedy_sentence-remedy.ensures, c.flow-flow.ensures) at c.add_line.ensures)

@@ -1,0 +1,12 @@
+use Rattle.mc_run.specs.AuditPieces.{audited_value, explanation_value}
+use Rattle.mc_run.proofs.ExplanationLemmas.{explanation_lines-pushed}
+use Rattle.mc_run.proofs.audit.audit_wrong.push_explanation.Goals as goal
+
+pub returns : goal.returns
+returns c = record {
+  added = (
+      explanation_lines-pushed (audited_value c.args.audited.now) c.args.flow
+      (explanation_value c.args.explanation.now) c.topology.result.now c.push_also_missed.result _ _ _ _
+      c.topology.ensures.topology c.in_ok-push_causes.ensures.lines
+      c.in_ok-push_search_if_any.ensures.added c.push_also_missed.ensures);
+}

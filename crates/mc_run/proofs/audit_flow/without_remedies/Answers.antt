@@ -1,9 +1,0 @@
-use Rattle.std.proofs.Common.{rules}
-use Rattle.std.proofs.lemmas.Fn.{filter_same}
-use Rattle.mc_run.proofs.ExplanationLemmas.{without_remedies-filtered}
-use Rattle.mc_run.proofs.audit_flow.without_remedies.Goals as goal
-
-pub returns-then-not-whole : goal.returns-then-not-whole
-returns-then-not-whole c =
-    without_remedies-filtered c.args.whole c.args.causes.items c.retain.new.self.items c.if-not-whole.true
-    (filter_same _ _ _ (λ x b f' k. search rules) _ _ c.retain.ensures.filtered)

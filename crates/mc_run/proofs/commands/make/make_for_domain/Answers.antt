@@ -1,0 +1,27 @@
+use Rattle.std.proofs.Common.{◌∙◌, sym}
+use Rattle.mc_run.proofs.MakeLemmas.{is_make_output-certificate, found_lines-empty}
+use Rattle.mc_run.proofs.MakeLemmas.{found_lines-not_empty, is_make_output-lines}
+use Rattle.mc_run.proofs.MakeLemmas.{belongs_to-made_lists}
+use Rattle.mc_run.proofs.commands.make.make_for_domain.Goals as goal
+
+pub returns-then-not-is_empty : goal.returns-then-not-is_empty
+returns-then-not-is_empty c =
+    let size = c.in_ok-made.made.lines.bytes.ok.0 in
+    let there = found_lines-not_empty _ _ c.is_empty.ensures c.if-not-is_empty.true in
+    is_make_output-lines c.args.domain.now _ _ c.in_ok-made.ensures (λ none. there (size ∙ none))
+
+pub certificate_text-requires : goal.certificate_text-requires
+certificate_text-requires c = record {
+  valid = (
+      let size = c.in_ok-made.made.lines.bytes.ok.0 in
+      belongs_to-made_lists c.args.domain.now c.topology.result.now _ _ c.in_ok-made.ensures
+      c.topology.ensures.topology
+      (sym size ∙ found_lines-empty _ _ c.is_empty.ensures c.if-not-is_empty.false));
+}
+
+pub returns : goal.returns
+returns c =
+    let size = c.in_ok-made.made.lines.bytes.ok.0 in
+    is_make_output-certificate c.args.domain.now c.topology.result.now _ _ _ c.in_ok-made.ensures
+    c.topology.ensures.topology
+    (sym size ∙ found_lines-empty _ _ c.is_empty.ensures c.if-not-is_empty.false) c.in_ok-text.ensures.ok

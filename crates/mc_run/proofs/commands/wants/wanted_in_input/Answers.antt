@@ -1,0 +1,61 @@
+use Rattle.std.proofs.Common.{sym}
+use Rattle.std.proofs.lemmas.Result.{err_from_is_err_and}
+use Rattle.mc_run.proofs.WantsReadingLemmas.{is_wants_answer-reads_pieces}
+use Rattle.mc_run.proofs.WantsReadingLemmas.{answers_wants-list_refused, answers_wants-failed_run}
+use Rattle.mc_run.proofs.WantsReadingLemmas.{is_not_write-read_or_memory, is_no_device_fault-list_fault}
+use Rattle.mc_run.proofs.FaultLemmas.{is_fault_of_wants-read_or_memory, is_fault_of_wants-list_fault}
+use Rattle.mc_run.proofs.commands.wants.wanted_in_input.Goals as goal
+
+pub returns-in_err-wanted-clause-answer : goal.returns-in_err-wanted-clause-answer
+returns-in_err-wanted-clause-answer g c =
+    let p = err_from_is_err_and c.from_residual.result c.from_residual.ensures.1 in
+    rw (p.1, p.2) (answers_wants-failed_run (g.R.Input.remaining c.args.input.now) c.args.group c.args.source
+    c.in_err-wanted.field-0.0 c.in_err-wanted.ensures.kind)
+
+pub returns-in_err-wanted-clause-kind : goal.returns-in_err-wanted-clause-kind
+returns-in_err-wanted-clause-kind g c =
+    let p = err_from_is_err_and c.from_residual.result c.from_residual.ensures.1 in
+    rw (p.1, p.2) (is_not_write-read_or_memory c.in_err-wanted.field-0.0 c.in_err-wanted.ensures.kind)
+
+pub returns-in_err-last-clause-answer : goal.returns-in_err-last-clause-answer
+returns-in_err-last-clause-answer g c =
+    let p = err_from_is_err_and c.from_residual-in_err-last.result
+    c.from_residual-in_err-last.ensures.1 in
+    rw (p.1, p.2) (answers_wants-list_refused (g.R.Input.remaining c.args.input.now)
+    (g.R.Input.remaining c.wanted_in_pieces.new.input) c.new-reader.result c.wanted_in_pieces.new.reader
+    c.args.group c.args.source c.in_ok-wanted.wanted c.in_err-last.field-0.0
+    c.new-reader.ensures.reads c.in_ok-wanted.ensures.pieces_read c.in_ok-wanted.ensures.end
+    (sym c.in_err-last.ensures.ends))
+
+pub returns-in_err-last-clause-kind : goal.returns-in_err-last-clause-kind
+returns-in_err-last-clause-kind g c =
+    let p = err_from_is_err_and c.from_residual-in_err-last.result
+    c.from_residual-in_err-last.ensures.1 in
+    rw (p.1, p.2) (is_no_device_fault-list_fault c.in_err-last.field-0.0 c.in_err-last.field-0.0.kind).0
+
+pub returns-in_err-last-clause-failures : goal.returns-in_err-last-clause-failures
+returns-in_err-last-clause-failures g c =
+    let p = err_from_is_err_and c.from_residual-in_err-last.result
+    c.from_residual-in_err-last.ensures.1 in
+    let own = (is_no_device_fault-list_fault c.in_err-last.field-0.0 c.in_err-last.field-0.0.kind).1 in
+    rw (p.1, p.2, own) c.in_ok-wanted.ensures.failures
+
+pub returns-clause-answer : goal.returns-clause-answer
+returns-clause-answer g c =
+    is_wants_answer-reads_pieces (g.R.Input.remaining c.args.input.now)
+    (g.R.Input.remaining c.wanted_in_pieces.new.input)
+    c.new-reader.result c.wanted_in_pieces.new.reader c.args.group c.args.source
+    c.in_ok-wanted.wanted c.is_wanted-wanted_by_last.result c.in_ok-last.last
+    c.new-reader.ensures.reads c.in_ok-wanted.ensures.pieces_read c.in_ok-wanted.ensures.end
+    (sym c.in_ok-last.ensures.ends) (rw c.records.ensures at c.is_wanted-wanted_by_last.ensures)
+
+pub returns-in_err-wanted-clause-faults : goal.returns-in_err-wanted-clause-faults
+returns-in_err-wanted-clause-faults g c =
+    let p = err_from_is_err_and c.from_residual.result c.from_residual.ensures.1 in
+    rw (p.1, p.2) (is_fault_of_wants-read_or_memory c.in_err-wanted.field-0.0 c.in_err-wanted.ensures.kind)
+
+pub returns-in_err-last-clause-faults : goal.returns-in_err-last-clause-faults
+returns-in_err-last-clause-faults g c =
+    let p = err_from_is_err_and c.from_residual-in_err-last.result
+    c.from_residual-in_err-last.ensures.1 in
+    rw (p.1, p.2) (is_fault_of_wants-list_fault c.in_err-last.field-0.0 c.in_err-last.field-0.0.kind)

@@ -1,0 +1,216 @@
+//! Writes the lines before and after those of the flows in an audit's text.
+
+ghost use Rattle.std.specs.Prelude.{◌≡◌, ◌++◌, IfOk, OnOk, flat_map, map};
+ghost use Rattle.std.specs.String.{string_bytes};
+ghost use Rattle.mc_forward.specs.ListedTables.{facts};
+ghost use Rattle.mc_run.specs.AuditEnd.{begin_lines, option_words};
+ghost use Rattle.mc_run.specs.AuditEnd.{strict_lines, summary_line, verdict_line, word_if_asked};
+ghost use Rattle.mc_run.specs.AuditEnd.{without_words};
+ghost use Rattle.mc_run.specs.AuditPieces.{end_objects_of, end_text_of, end_text_or_objects_of};
+
+use crate::audit::audited_domain::AuditedDomain;
+use crate::audit::flow_status::FlowCounts;
+use crate::shown::verdict_text::push_overall_verdict;
+use mc_cli::{
+    AuditOptions, FAULTS_WORD, JSON_WORD, STRICT_WORD, TRAVEL_WORD, UNLISTED_WORD, WITHOUT_WORD,
+};
+use mc_explain::{list_excluded_routers, push_excluded, push_unlisted, push_without_lines};
+use mc_forward::Domain;
+use mc_json::{
+    push_domain_line, push_summary_line, push_unlisted_lines, push_verdict_line, push_without_line,
+};
+use mc_text::Memory as NoMemory;
+use mc_topology::{RouterNo, Topology};
+use std::alloc::Global;
+
+// ---- before the flows
+
+/// Adds the word of an option, if the option is set.
+fn push_option_word(
+    alloc: Global,
+    words: &mut Vec<String>,
+    asked: bool,
+    word: &str,
+) -> Result<(), NoMemory>
+    ensures { OnOk result (map string_bytes words.new.items
+        ≡ map string_bytes words.old.items ++ word_if_asked asked word.now) }
+{
+    if asked {
+        words.push(String::from_str(alloc, word)?)?;
+    }
+    Ok(())
+}
+
+/// Adds the two words that exclude a router.
+fn push_without_words(
+    alloc: Global,
+    words: &mut Vec<String>,
+    topology: &Topology,
+    router: RouterNo,
+) -> Result<(), NoMemory>
+    ensures { OnOk result (map string_bytes words.new.items
+        ≡ map string_bytes words.old.items ++ without_words topology.now router) }
+{
+    words.push(String::from_str(alloc, WITHOUT_WORD)?)?;
+    let name = topology.router_name_or_empty(router);
+    words.push(String::from_str(alloc, name)?)?;
+    Ok(())
+}
+
+/// Adds the words that exclude these routers.
+fn push_all_without_words(
+    alloc: Global,
+    words: &mut Vec<String>,
+    topology: &Topology,
+    routers: &[RouterNo],
+) -> Result<(), NoMemory>
+    ensures { OnOk result (map string_bytes words.new.items ≡ map string_bytes words.old.items
+        ++ flat_map (without_words topology.now) routers.now) }
+{
+    for router in routers {
+        push_without_words(alloc, words, topology, *router)?;
+    }
+    Ok(())
+}
+
+/// The words of a call with these options that excludes the marked routers.
+fn option_words(
+    alloc: Global,
+    topology: &Topology,
+    options: AuditOptions,
+    excluded: &[bool],
+) -> Result<Vec<String>, NoMemory>
+    ensures { IfOk result (λ words.
+        map string_bytes words.items ≡ option_words options topology.now excluded.now) }
+{
+    let mut words = Vec::new(alloc);
+    push_option_word(alloc, &mut words, options.travels, TRAVEL_WORD)?;
+    push_option_word(alloc, &mut words, options.faults, FAULTS_WORD)?;
+    push_option_word(alloc, &mut words, options.unlisted, UNLISTED_WORD)?;
+    push_option_word(alloc, &mut words, options.strict, STRICT_WORD)?;
+    push_option_word(alloc, &mut words, options.json, JSON_WORD)?;
+    let routers = list_excluded_routers(alloc, topology, excluded)?;
+    push_all_without_words(alloc, &mut words, topology, &routers)?;
+    Ok(words)
+}
+
+/// The begin of the text: in JSON a line with the domain and the words of the call, else nothing.
+pub(crate) fn begin_lines(
+    alloc: Global,
+    domain: &Domain,
+    options: AuditOptions,
+    excluded: &[bool],
+) -> Result<String, NoMemory>
+    ensures { IfOk result (λ text.
+        string_bytes text ≡ begin_lines options (facts domain.now) excluded.now) }
+{
+    let mut text = String::new(alloc);
+    if options.json {
+        let words = option_words(alloc, domain.topology(), options, excluded)?;
+        push_domain_line(alloc, &mut text, domain, &words)?;
+    }
+    Ok(text)
+}
+
+// ---- after the flows, as text
+
+/// Writes how many flows there are, and how many have each status.
+fn push_summary(text: &mut String, flows: u32, flow_counts: FlowCounts) -> Result<(), NoMemory>
+    ensures { OnOk result (string_bytes text.new ≡ string_bytes text.old
+        ++ summary_line flows flow_counts.right flow_counts.wrong flow_counts.unwanted) }
+{
+    let FlowCounts {
+        right,
+        wrong,
+        unwanted,
+    } = flow_counts;
+    writeln!(
+        text,
+        "summary flows {flows} right {right} wrong {wrong} unwanted {unwanted}"
+    )
+    .map_err(|_| NoMemory)
+}
+
+/// Writes, if the option strict is set, that a yes isn't enough since some flows are wanted by nobody.
+fn push_strict(text: &mut String, strict: bool, all: bool, unwanted: u32) -> Result<(), NoMemory>
+    ensures { OnOk result (string_bytes text.new ≡ string_bytes text.old
+        ++ strict_lines strict all unwanted) }
+{
+    if strict && all && unwanted > 0 {
+        writeln!(
+            text,
+            "  strict: {unwanted} flows that nobody wants, status 1"
+        )
+        .map_err(|_| NoMemory)?;
+    }
+    Ok(())
+}
+
+/// Writes the lines after the flows as text. `all` says whether the verdict is yes.
+fn push_end_text(
+    alloc: Global,
+    text: &mut String,
+    audited: &AuditedDomain<'_>,
+    options: AuditOptions,
+    flow_counts: FlowCounts,
+    all: bool,
+) -> Result<(), NoMemory>
+    ensures { OnOk result (string_bytes text.new ≡ string_bytes text.old
+        ++ end_text_of audited.now options flow_counts all) }
+{
+    let topology = audited.domain.topology();
+    let routers = list_excluded_routers(alloc, topology, audited.excluded)?;
+    push_unlisted(alloc, text, topology, audited.summary, options.unlisted)?;
+    push_without_lines(text, topology, &routers)?;
+    push_summary(text, topology.flows(), flow_counts)?;
+    push_excluded(text, topology, &routers)?;
+    push_strict(text, options.strict, all, flow_counts.unwanted)
+}
+
+// ---- after the flows, in JSON
+
+/// Writes the lines after the flows in JSON.
+fn push_end_objects(
+    alloc: Global,
+    text: &mut String,
+    audited: &AuditedDomain<'_>,
+    options: AuditOptions,
+    flow_counts: FlowCounts,
+) -> Result<(), NoMemory>
+    ensures { OnOk result (string_bytes text.new ≡ string_bytes text.old
+        ++ end_objects_of audited.now options flow_counts) }
+{
+    let topology = audited.domain.topology();
+    let FlowCounts {
+        right,
+        wrong,
+        unwanted,
+    } = flow_counts;
+    let routers = list_excluded_routers(alloc, topology, audited.excluded)?;
+    push_unlisted_lines(alloc, text, topology, audited.summary, options.unlisted)?;
+    push_without_line(alloc, text, topology, &routers)?;
+    push_summary_line(alloc, text, right, unwanted, wrong)
+}
+
+// ---- both
+
+/// Writes the lines after the flows, with the counts of flows, and the verdict.
+pub(crate) fn push_end(
+    alloc: Global,
+    text: &mut String,
+    audited: &AuditedDomain<'_>,
+    options: AuditOptions,
+    flow_counts: FlowCounts,
+    all: bool,
+) -> Result<(), NoMemory>
+    ensures { OnOk result (string_bytes text.new ≡ string_bytes text.old
+        ++ (end_text_or_objects_of audited.now options flow_counts all ++ verdict_line options.json all)) }
+{
+    if options.json {
+        push_end_objects(alloc, text, audited, options, flow_counts)?;
+        push_verdict_line(alloc, text, all)
+    } else {
+        push_end_text(alloc, text, audited, options, flow_counts, all)?;
+        push_overall_verdict(text, all)
+    }
+}

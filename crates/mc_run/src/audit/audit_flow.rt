@@ -1,0 +1,172 @@
+//! Writes the lines of one flow in an audit's text.
+
+ghost use Rattle.std.specs.Prelude.{◌≡◌, ◌<◌, IfOk, List, length};
+ghost use Rattle.std.specs.String.{string_bytes};
+ghost use Rattle.mc_cert.specs.Certificate.{Tree};
+ghost use Rattle.mc_maker.specs.ExaminedFlights.{HasExaminedFlights, without_flights};
+ghost use Rattle.mc_maker.specs.declared.examined_flights.ExaminedFlights.TheVariants.{FoundAtTtl255};
+ghost use Rattle.mc_maker.specs.declared.examined_flights.ExaminedFlights.TheVariants.{FoundAtFlowTtl};
+ghost use Rattle.mc_run.specs.AuditPieces.{IsFlowPushed, HasItsMarksAndInterfaces, audited_value};
+ghost use Rattle.mc_run.specs.AuditExplanation.{ArePrintedCauses, is_remedy as says_remedy, without_remedies};
+ghost use Rattle.mc_run.specs.AuditRun.{is_whole};
+ghost use Rattle.mc_run.specs.MakeRun.{IsExamined};
+
+use crate::audit::audit_right::push_checked;
+use crate::audit::audit_wrong::{push_wrong, search_if_missed};
+use crate::audit::audited_domain::AuditedDomain;
+use crate::audit::flow_status::FlowStatus;
+use mc_cert::DistinctTrees;
+use mc_cli::AuditOptions;
+use mc_explain::{Cause, explain};
+use mc_forward::FlowView;
+use mc_maker::{ExaminedFlights, examine_to_end};
+use mc_replay::FinishedTravel;
+use mc_text::Memory as NoMemory;
+use std::alloc::Global;
+
+/// Whether a cause names an oif to remove.
+fn is_remedy(causes: &Cause) -> bool
+    ensures { result ≡ says_remedy causes.now }
+{
+    matches!(causes, Cause::TakeOut { .. })
+}
+
+/// The causes; without remedies, unless the whole domain is known.
+fn without_remedies(whole: bool, causes: Vec<Cause>) -> Vec<Cause>
+    ensures { result.items ≡ without_remedies whole causes.items }
+{
+    let mut causes = causes;
+    if !whole {
+        causes.retain(|it| !is_remedy(it));
+    }
+    causes
+}
+
+/// The causes that explain a fault, by the flights of its packets.
+fn causes_to_print(
+    alloc: Global,
+    audited: &AuditedDomain<'_>,
+    flow: u32,
+    flights: &ExaminedFlights<'_>,
+) -> Result<Vec<Cause>, NoMemory>
+    requires flow { flow < length (audited_value audited.now).domain.topology.flows }
+    requires flights { HasExaminedFlights (audited_value audited.now).domain flow flights.now }
+    ensures causes { IfOk result (λ causes. ArePrintedCauses (is_whole (audited_value audited.now))
+        (audited_value audited.now).domain flow flights.now causes.items) }
+{
+    let causes = explain(alloc, audited.domain, flow, flights)?;
+    Ok(without_remedies(audited.without.is_empty(), causes))
+}
+
+/// Writes what a packet with TTL 255 meets, and why. The flow's status is wrong.
+fn push_found_at_255(
+    alloc: Global,
+    audited: &AuditedDomain<'_>,
+    flow: u32,
+    flights: &ExaminedFlights<'_>,
+    ended: &FinishedTravel<'_>,
+    options: AuditOptions,
+    text: &mut String,
+) -> Result<FlowStatus, NoMemory>
+    requires flow { flow < length (audited_value audited.now).domain.topology.flows }
+    requires ready { HasItsMarksAndInterfaces audited.now }
+    requires flights { HasExaminedFlights (audited_value audited.now).domain flow flights.now }
+    requires examined { IsExamined (audited_value audited.now).domain flow
+        (without_flights (audited_value audited.now).domain flow flights.now) }
+    requires is { flights.now ≡ FoundAtTtl255 ended.now }
+    ensures ok { IfOk result (λ flow_status. (shown_trees : List Tree)
+        → IsFlowPushed (audited_value audited.now) options
+        flow flow_status shown_trees shown_trees (string_bytes text.old) (string_bytes text.new)) }
+{
+    let causes = causes_to_print(alloc, audited, flow, flights)?;
+    let found = search_if_missed(alloc, audited, flow, ended)?;
+    push_wrong(
+        alloc, audited, flow, ended, 255, options, &causes, &found, text,
+    )?;
+    Ok(FlowStatus::Wrong)
+}
+
+/// Writes what a packet with the flow's TTL meets, and why. The flow's status is wrong.
+fn push_found_at_flow_ttl(
+    alloc: Global,
+    audited: &AuditedDomain<'_>,
+    flow: u32,
+    flights: &ExaminedFlights<'_>,
+    greatest: &FinishedTravel<'_>,
+    least: &FinishedTravel<'_>,
+    options: AuditOptions,
+    text: &mut String,
+) -> Result<FlowStatus, NoMemory>
+    requires flow { flow < length (audited_value audited.now).domain.topology.flows }
+    requires flights { HasExaminedFlights (audited_value audited.now).domain flow flights.now }
+    requires examined { IsExamined (audited_value audited.now).domain flow
+        (without_flights (audited_value audited.now).domain flow flights.now) }
+    requires is { flights.now ≡ FoundAtFlowTtl greatest.now least.now }
+    ensures ok { IfOk result (λ flow_status. (shown_trees : List Tree)
+        → IsFlowPushed (audited_value audited.now) options
+        flow flow_status shown_trees shown_trees (string_bytes text.old) (string_bytes text.new)) }
+{
+    let view = FlowView::new(audited.domain, flow);
+    let ttl = view.ttl();
+    let causes = causes_to_print(alloc, audited, flow, flights)?;
+    push_wrong(
+        alloc, audited, flow, least, ttl, options, &causes, &None, text,
+    )?;
+    Ok(FlowStatus::Wrong)
+}
+
+/// Writes the lines of a flow that was examined, and returns the flow's status.
+fn push_examined(
+    alloc: Global,
+    audited: &AuditedDomain<'_>,
+    flow: u32,
+    flights: &ExaminedFlights<'_>,
+    options: AuditOptions,
+    shown_trees: &mut DistinctTrees,
+    text: &mut String,
+) -> Result<FlowStatus, NoMemory>
+    requires flow { flow < length (audited_value audited.now).domain.topology.flows }
+    requires ready { HasItsMarksAndInterfaces audited.now }
+    requires room { length shown_trees.old < 4096 }
+    requires flights { HasExaminedFlights (audited_value audited.now).domain flow flights.now }
+    requires examined { IsExamined (audited_value audited.now).domain flow
+        (without_flights (audited_value audited.now).domain flow flights.now) }
+    ensures ok { IfOk result (λ flow_status. IsFlowPushed (audited_value audited.now) options flow
+        flow_status shown_trees.old
+        shown_trees.new (string_bytes text.old) (string_bytes text.new)) }
+{
+    match flights {
+        ExaminedFlights::Certified(entries) => {
+            push_checked(alloc, audited, flow, entries, options, shown_trees, text)
+        }
+        ExaminedFlights::FoundAtTtl255(ended) => {
+            push_found_at_255(alloc, audited, flow, flights, ended, options, text)
+        }
+        ExaminedFlights::FoundAtFlowTtl { greatest, least } => {
+            push_found_at_flow_ttl(
+                alloc, audited, flow, flights, greatest, least, options, text,
+            )
+        }
+    }
+}
+
+/// Examines a flow of a domain and writes its lines, after those of flows whose trees were printed.
+/// Returns the flow's status.
+pub(crate) fn push_flow(
+    alloc: Global,
+    audited: &AuditedDomain<'_>,
+    flow: u32,
+    options: AuditOptions,
+    shown_trees: &mut DistinctTrees,
+    text: &mut String,
+) -> Result<FlowStatus, NoMemory>
+    requires flow { flow < length (audited_value audited.now).domain.topology.flows }
+    requires ready { HasItsMarksAndInterfaces audited.now }
+    requires room { length shown_trees.old < 4096 }
+    ensures ok { IfOk result (λ flow_status. IsFlowPushed (audited_value audited.now) options flow
+        flow_status shown_trees.old
+        shown_trees.new (string_bytes text.old) (string_bytes text.new)) }
+{
+    let flights = examine_to_end(alloc, audited.domain, flow)?;
+    push_examined(alloc, audited, flow, &flights, options, shown_trees, text)
+}

@@ -1,0 +1,265 @@
+//! Writes the lines of a flow that is right.
+
+ghost use Rattle.std.specs.Prelude.{◌≡◌, ◌<◌, ◌++◌, All, IfOk, OnOk, length};
+ghost use Rattle.std.specs.Result.{IsOkAnd};
+ghost use Rattle.std.specs.String.{string_bytes};
+ghost use Rattle.mc_theory.specs.Certificates.{IsAccepted};
+ghost use Rattle.mc_theory.specs.Headline.{HeadlineHolds};
+ghost use Rattle.mc_forward.specs.Domains.{net_of};
+ghost use Rattle.mc_cert.specs.Distinct.{tree_number_of, with_tree};
+ghost use Rattle.mc_check.specs.declared.verdict.Verdict.TheVariants.{Yes as is_yes};
+ghost use Rattle.mc_run.specs.AuditObjects.{tree_line};
+ghost use Rattle.mc_run.specs.AuditPieces.{audited_value, lans_wanting_flow, right_flow_lines_of};
+ghost use Rattle.mc_run.specs.AuditPieces.{right_lines_of, right_objects_of};
+ghost use Rattle.mc_run.specs.AuditText.{right_line};
+ghost use Rattle.mc_run.specs.AuditFlowText.{is_hidden, status_of_right, with_shown_tree};
+
+use crate::audit::audited_domain::AuditedDomain;
+use crate::audit::flow_status::FlowStatus;
+use crate::shown::verdict_text::{FlowWords, push_flow_verdict};
+use mc_cert::{DistinctTrees, Reached};
+use mc_check::{Verdict, check_flow};
+use mc_cli::AuditOptions;
+use mc_explain::{lans_wanting, push_wanted};
+use mc_forward::FlowView;
+use mc_json::{push_right_line, push_tree_line};
+use mc_text::Memory as NoMemory;
+use mc_topology::{Flow, LanNo, Topology};
+use std::alloc::Global;
+
+// ---- as text
+
+/// Writes the checker's yes with the number of copies; without the whole domain, that no fault is known.
+fn push_certified_line(
+    text: &mut String,
+    topology: &Topology,
+    flow: &Flow,
+    copies: u32,
+    whole: bool,
+) -> Result<(), NoMemory>
+    ensures { OnOk result (string_bytes text.new ≡
+        string_bytes text.old ++ right_line whole topology.now flow.now copies) }
+{
+    if whole {
+        return push_flow_verdict(text, topology, flow, Verdict::Yes { copies });
+    }
+    let words = FlowWords { flow };
+    writeln!(text, "{words} no fault known copies {copies}").map_err(|_| NoMemory)
+}
+
+/// Writes the line of a flow that is right, and the LANs that want it.
+fn push_right_lines(
+    text: &mut String,
+    audited: &AuditedDomain<'_>,
+    flow: u32,
+    copies: u32,
+    wanted: &[LanNo],
+) -> Result<(), NoMemory>
+    requires known { flow < length (audited_value audited.now).domain.topology.flows }
+    ensures lines { OnOk result (string_bytes text.new ≡ string_bytes text.old
+        ++ right_lines_of audited.now flow copies wanted.now) }
+{
+    let view = FlowView::new(audited.domain, flow);
+    let listed = view.flow();
+    let topology = audited.domain.topology();
+    let whole = audited.without.is_empty();
+    push_certified_line(text, topology, &listed, copies, whole)?;
+    push_wanted(text, topology, wanted)
+}
+
+// ---- in JSON
+
+/// Writes the tree of a flow unless it was printed before, and returns the tree's number.
+fn push_tree_once(
+    alloc: Global,
+    text: &mut String,
+    topology: &Topology,
+    shown_trees: &mut DistinctTrees,
+    entries: &[Reached],
+) -> Result<u32, NoMemory>
+    requires room { length shown_trees.old < 4096 }
+    ensures shown_trees { OnOk result (shown_trees.new ≡ with_tree shown_trees.old entries.now) }
+    ensures number { IfOk result (λ number. number ≡ tree_number_of shown_trees.new entries.now) }
+    ensures line { OnOk result (string_bytes text.new ≡
+        string_bytes text.old ++ tree_line topology.now shown_trees.old entries.now) }
+{
+    let printed = shown_trees.trees().len();
+    let number = shown_trees.number_of(Vec::from_slice(alloc, entries)?)?;
+    if shown_trees.trees().len() > printed {
+        push_tree_line(alloc, text, topology, entries, printed as u32)?;
+    }
+    Ok(number)
+}
+
+/// Writes the tree of a flow, unless it was printed before, and the flow with its number of copies and
+/// the LANs that want it.
+fn push_right_objects(
+    alloc: Global,
+    text: &mut String,
+    audited: &AuditedDomain<'_>,
+    flow: u32,
+    entries: &[Reached],
+    copies: u32,
+    wanted: &[LanNo],
+    shown_trees: &mut DistinctTrees,
+) -> Result<(), NoMemory>
+    requires flow { flow < length (audited_value audited.now).domain.topology.flows }
+    requires copies { copies ≡ length entries.now }
+    requires room { length shown_trees.old < 4096 }
+    ensures shown_trees { OnOk result (shown_trees.new ≡ with_tree shown_trees.old entries.now) }
+    ensures lines { OnOk result (string_bytes text.new ≡ string_bytes text.old
+        ++ right_objects_of audited.now shown_trees.old flow entries.now wanted.now) }
+{
+    let topology = audited.domain.topology();
+    let whole = audited.without.is_empty();
+    let copies = copies as usize;
+    let number = push_tree_once(alloc, text, topology, shown_trees, entries)?;
+    push_right_line(alloc, text, topology, whole, flow, copies, number, wanted)
+}
+
+// ---- both
+
+/// The LANs that want a flow.
+fn lans_wanting_flow(
+    alloc: Global,
+    audited: &AuditedDomain<'_>,
+    flow: u32,
+) -> Result<Vec<LanNo>, NoMemory>
+    requires known { flow < length (audited_value audited.now).domain.topology.flows }
+    ensures lans { IfOk result (λ lans. lans.items ≡ lans_wanting_flow audited.now flow) }
+{
+    let view = FlowView::new(audited.domain, flow);
+    let lans = lans_wanting(alloc, &view)?;
+    Ok(lans)
+}
+
+/// The status of a right flow that these LANs want.
+fn status_of_right(wanted: &[LanNo]) -> FlowStatus
+    ensures { result ≡ status_of_right wanted.now }
+{
+    if wanted.is_empty() {
+        FlowStatus::Unwanted
+    } else {
+        FlowStatus::Wanted
+    }
+}
+
+/// Writes the lines of a right flow with these entries, as text or in JSON; nothing where only faults
+/// are asked for and the flow is wanted. Returns the flow's status.
+fn push_right(
+    alloc: Global,
+    audited: &AuditedDomain<'_>,
+    flow: u32,
+    entries: &[Reached],
+    copies: u32,
+    options: AuditOptions,
+    shown_trees: &mut DistinctTrees,
+    text: &mut String,
+) -> Result<FlowStatus, NoMemory>
+    requires flow { flow < length (audited_value audited.now).domain.topology.flows }
+    requires copies { copies ≡ length entries.now }
+    requires room { length shown_trees.old < 4096 }
+    ensures flow_status { IfOk result (λ flow_status.
+        flow_status ≡ status_of_right (lans_wanting_flow audited.now flow)) }
+    ensures shown_trees { OnOk result (shown_trees.new ≡ with_shown_tree options.json
+        (is_hidden options.faults (lans_wanting_flow audited.now flow)) shown_trees.old entries.now) }
+    ensures lines { OnOk result (string_bytes text.new ≡ string_bytes text.old
+        ++ right_flow_lines_of audited.now options shown_trees.old flow entries.now) }
+{
+    let wanted = lans_wanting_flow(alloc, audited, flow)?;
+    let flow_status = status_of_right(&wanted);
+    if options.faults && !wanted.is_empty() {
+        return Ok(flow_status);
+    }
+    if options.json {
+        push_right_objects(
+            alloc,
+            text,
+            audited,
+            flow,
+            entries,
+            copies,
+            &wanted,
+            shown_trees,
+        )?;
+    } else {
+        push_right_lines(text, audited, flow, copies, &wanted)?;
+    }
+    Ok(flow_status)
+}
+
+/// Writes the lines of a right flow, by the checker's verdict, which is yes for an accepted list.
+fn push_with_verdict(
+    alloc: Global,
+    audited: &AuditedDomain<'_>,
+    flow: u32,
+    entries: &[Reached],
+    answer: Result<Verdict, NoMemory>,
+    options: AuditOptions,
+    shown_trees: &mut DistinctTrees,
+    text: &mut String,
+) -> Result<FlowStatus, NoMemory>
+    requires flow { flow < length (audited_value audited.now).domain.topology.flows }
+    requires room { length shown_trees.old < 4096 }
+    requires accepted { IfOk answer (λ verdict. verdict ≡ is_yes (length entries.now)) }
+    ensures answered { OnOk result (IsOkAnd answer (λ verdict. verdict ≡ is_yes (length entries.now))) }
+    ensures flow_status { IfOk result (λ flow_status.
+        flow_status ≡ status_of_right (lans_wanting_flow audited.now flow)) }
+    ensures shown_trees { OnOk result (shown_trees.new ≡ with_shown_tree options.json
+        (is_hidden options.faults (lans_wanting_flow audited.now flow)) shown_trees.old entries.now) }
+    ensures lines { OnOk result (string_bytes text.new ≡ string_bytes text.old
+        ++ right_flow_lines_of audited.now options shown_trees.old flow entries.now) }
+{
+    match answer {
+        Ok(Verdict::Yes { copies }) => {
+            push_right(
+                alloc,
+                audited,
+                flow,
+                entries,
+                copies,
+                options,
+                shown_trees,
+                text,
+            )
+        }
+        Ok(Verdict::No(_)) => Ok(FlowStatus::Wrong),
+        Err(_) => Err(NoMemory),
+    }
+}
+
+/// Checks the list of a right flow, and writes the flow's lines. Returns the flow's status.
+pub(crate) fn push_checked(
+    alloc: Global,
+    audited: &AuditedDomain<'_>,
+    flow: u32,
+    entries: &[Reached],
+    options: AuditOptions,
+    shown_trees: &mut DistinctTrees,
+    text: &mut String,
+) -> Result<FlowStatus, NoMemory>
+    requires flow { flow < length (audited_value audited.now).domain.topology.flows }
+    requires room { length shown_trees.old < 4096 }
+    requires lans { All (λ e. e.lan < length (audited_value audited.now).domain.topology.lans) entries.now }
+    requires accepted { IsAccepted (net_of (audited_value audited.now).domain flow) entries.now }
+    ensures headline { OnOk result
+        (HeadlineHolds (net_of (audited_value audited.now).domain flow) (length entries.now)) }
+    ensures flow_status { IfOk result (λ flow_status.
+        flow_status ≡ status_of_right (lans_wanting_flow audited.now flow)) }
+    ensures shown_trees { OnOk result (shown_trees.new ≡ with_shown_tree options.json
+        (is_hidden options.faults (lans_wanting_flow audited.now flow)) shown_trees.old entries.now) }
+    ensures lines { OnOk result (string_bytes text.new ≡ string_bytes text.old
+        ++ right_flow_lines_of audited.now options shown_trees.old flow entries.now) }
+{
+    let answer = check_flow(alloc, audited.domain, flow, entries);
+    push_with_verdict(
+        alloc,
+        audited,
+        flow,
+        entries,
+        answer,
+        options,
+        shown_trees,
+        text,
+    )
+}

@@ -1,0 +1,29 @@
+use Rattle.std.proofs.Common.{Ok, [], sym, ◌∙◌, ap}
+use Rattle.std.proofs.lemmas.Result.{err_from_is_err_and}
+use Rattle.mc_text.specs.Steps.{◌>>=◌}
+use Rattle.mc_tables.specs.Steps.{unless_fault}
+use Rattle.mc_tables.specs.RowsSoFar.{CacheSoFar, cache_after, cache_if}
+use Rattle.mc_tables.proofs.RowsSoFarLemmas.{cache_after-end}
+use Rattle.mc_tables.proofs.cache.cache_reader.CacheReader.finish.Goals as goal
+
+pub returns-in_err-check_end : goal.returns-in_err-check_end
+returns-in_err-check_end c =
+    let lines = c.self.inside.lines in
+    let rows = c.self.inside.rows in
+    let p = err_from_is_err_and c.from_residual.result c.from_residual.ensures.1 in
+    rw (p.1, p.2) (
+    ap (λ r. r >>= λ _. Ok rows.rows.table) c.in_err-check_end.ensures.end
+    ∙ sym (cache_after-end lines rows c.check_end.ensures.rules.begun)
+    ∙ ap (λ fault. unless_fault fault (cache_after lines rows [])) (sym c.in_default.is)
+    ∙ ap (λ (s : CacheSoFar). cache_if s []) c.self.view_is
+    )
+
+pub returns : goal.returns
+returns c =
+    let lines = c.self.inside.lines in
+    let rows = c.self.inside.rows in
+    ap Ok (c.from_rows.ensures.value ∙ c.into_kept.ensures ∙ c.in_ok-check_end.ensures.table)
+    ∙ ap (λ r. r >>= λ _. Ok rows.rows.table) c.in_ok-check_end.ensures.end
+    ∙ sym (cache_after-end lines rows c.check_end.ensures.rules.begun)
+    ∙ ap (λ fault. unless_fault fault (cache_after lines rows [])) (sym c.in_default.is)
+    ∙ ap (λ (s : CacheSoFar). cache_if s []) c.self.view_is

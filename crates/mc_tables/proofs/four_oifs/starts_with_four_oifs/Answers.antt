@@ -1,7 +1,0 @@
-use Rattle.mc_tables.proofs.FourOifLemmas.{four_oifs-from_bytes}
-use Rattle.mc_tables.proofs.four_oifs.starts_with_four_oifs.Goals as goal
-
-pub returns : goal.returns
-returns c = record {
-  value = λ all. four_oifs-from_bytes c.args.line.now c.requires.within c.type_inv.line all;
-}

@@ -1,5 +1,0 @@
-use Rattle.mc_tables.proofs.MarkedLemmas.{last_digits-are_marks}
-use Rattle.mc_tables.proofs.marked_line.last_digits.Goals as goal
-
-pub returns : goal.returns
-returns c = last_digits-are_marks c.args.digits c.args.spaces

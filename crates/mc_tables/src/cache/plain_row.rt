@@ -1,0 +1,286 @@
+//! Reads a row as kernels print it in one pass. Any other line is read word by word, by
+//! `cache_line`.
+
+ghost use Rattle.std.specs.Prelude.{◌≡◌, ℕ, [], ◌∷◌, ◌++◌, ◌==◌, ◌&&◌, nat_le, not, List, IfOk};
+ghost use Rattle.std.specs.Prelude.{IfSome, Ok, Some, take};
+ghost use Rattle.std.specs.Prelude.{drop, length, ◌<◌, ◌≤◌};
+ghost use Rattle.std.specs.Prelude.{position, true};
+ghost use Rattle.std.specs.Char.{is_ascii_digit};
+ghost use Rattle.mc_text.specs.Lines.{words_of};
+ghost use Rattle.mc_tables.specs.declared.cache.entry.Oif.{Oif};
+ghost use Rattle.mc_tables.specs.TableWords.{is_counter, is_decimal_word, number_in};
+ghost use Rattle.mc_tables.specs.CacheReading.{oif_in, oifs_in, row_in_words};
+ghost use Rattle.mc_tables.specs.FlatRows.{row_with_oifs};
+ghost use Rattle.mc_tables.specs.Counters.{HasCounters};
+
+use crate::cache::cache_row::CacheRow;
+use crate::cache::entry::Oif;
+use crate::cache::four_oifs::{FOUR_LEN, add_four_oifs};
+use crate::cache::outgoing::MAX_THRESHOLD;
+use crate::lines::address_words::{addresses_at_front, after_addresses};
+use crate::lines::marked_line::MarkedLine;
+use crate::lines::table_words::{MAX_VIF, number};
+use mc_text::Order;
+use std::alloc::AllocError;
+
+/// The place of the first byte that isn't a space.
+fn word_start(line: &[u8]) -> Option<usize>
+    ensures { result ≡ position (λ b. not (b == 32)) line.now }
+{
+    line.iter().position(|byte| *byte != b' ')
+}
+
+/// The line from its first byte on that isn't a space.
+#[tactic(auto, using(crate::proofs::PlainRowLemmas::words_of_without_spaces, crate::proofs::PlainRowLemmas::words_of_spaces))]
+fn without_spaces(line: &[u8]) -> &[u8]
+    ensures words { words_of result.now ≡ words_of line.now }
+    ensures shorter { length result.now ≤ length line.now }
+{
+    match word_start(line) {
+        Some(start) => &line[start..],
+        None => &[],
+    }
+}
+
+/// The place of the first byte that isn't a decimal digit.
+fn digits_end(line: &[u8]) -> Option<usize>
+    ensures { result ≡ position (λ b. not (is_ascii_digit b)) line.now }
+{
+    line.iter().position(|byte| !byte.is_ascii_digit())
+}
+
+/// The decimal digits that a line begins with, and what follows the byte `stop` after them.
+#[tactic(auto, using(crate::proofs::PlainRowLemmas::front_digits_are_decimal))]
+fn digits_before(line: &[u8], stop: u8) -> Option<(&[u8], &[u8])>
+    ensures parts { IfSome result (λ parts. line.now ≡ parts.0.now ++ stop ∷ parts.1.now) }
+    ensures digits { IfSome result (λ parts. is_decimal_word parts.0.now ≡ true) }
+{
+    let end = digits_end(line)?;
+    if end == 0 || line[end] != stop {
+        return None;
+    }
+    Some((&line[..end], &line[end + 1..]))
+}
+
+/// The decimal digits that are a line's first word, and what follows them.
+#[tactic(auto, using(crate::proofs::PlainRowLemmas::digits_are_first_word))]
+fn digits_at_front(line: &[u8]) -> Option<(&[u8], &[u8])>
+    ensures words { IfSome result (λ parts. words_of line.now ≡ parts.0.now ∷ words_of parts.1.now) }
+    ensures digits { IfSome result (λ parts. is_decimal_word parts.0.now ≡ true) }
+{
+    digits_before(without_spaces(line), b' ')
+}
+
+/// The incoming vif of one digit, printed in three bytes, that a line begins with, and what follows
+/// it.
+#[inline(always)]
+#[tactic(auto, using(crate::proofs::PlainRowLemmas::one_digit_iif_is_first_word))]
+fn one_digit_iif_at_front(line: &[u8]) -> Option<(u8, &[u8])>
+    ensures { IfSome result (λ found. (word : List ℕ)
+        × (words_of line.now ≡ word ∷ words_of found.1.now) × (is_decimal_word word ≡ true)
+        × (number_in 0 31 word ≡ Some found.0)) }
+{
+    if line.len() < 3 || !line[0].is_ascii_digit() || line[1] != b' ' || line[2] != b' ' {
+        return None;
+    }
+    let iif = line[0] - b'0';
+    Some((iif, &line[3..]))
+}
+
+/// The incoming vif of two digits that a line begins with, and what follows it.
+#[inline(always)]
+#[tactic(auto, using(crate::proofs::PlainRowLemmas::two_digit_iif_is_first_word))]
+fn two_digit_iif_at_front(line: &[u8]) -> Option<(u8, &[u8])>
+    ensures { IfSome result (λ found. (word : List ℕ)
+        × (words_of line.now ≡ word ∷ words_of found.1.now) × (is_decimal_word word ≡ true)
+        × (number_in 0 31 word ≡ Some found.0)) }
+{
+    if line.len() < 3 || !line[0].is_ascii_digit() || !line[1].is_ascii_digit() {
+        return None;
+    }
+    let iif = (line[0] - b'0') * 10 + (line[1] - b'0');
+    if iif > MAX_VIF || line[2] != b' ' {
+        return None;
+    }
+    Some((iif, &line[3..]))
+}
+
+/// The incoming vif that is a line's first word, and what follows it.
+fn iif_at_front(line: &[u8]) -> Option<(u8, &[u8])>
+    ensures { IfSome result (λ found. (word : List ℕ)
+        × (words_of line.now ≡ word ∷ words_of found.1.now) × (is_decimal_word word ≡ true)
+        × (number_in 0 31 word ≡ Some found.0)) }
+{
+    if let Some(found) = one_digit_iif_at_front(line) {
+        return Some(found);
+    }
+    if let Some(found) = two_digit_iif_at_front(line) {
+        return Some(found);
+    }
+    let (iif, rest) = digits_at_front(line)?;
+    let iif = number(iif, 0, MAX_VIF)?;
+    Some((iif, rest))
+}
+
+/// What follows the digits of the counter that a line begins with, its space first.
+#[tactic(auto, using(crate::proofs::PlainRowLemmas::front_digits_are_decimal, crate::proofs::PlainRowLemmas::counter_is_first_word))]
+fn after_digits(line: &[u8]) -> Option<&[u8]>
+    ensures { IfSome result (λ after. (counter : List ℕ)
+        × (words_of line.now ≡ counter ∷ words_of after.now) × (is_counter counter ≡ true)) }
+{
+    let end = digits_end(line)?;
+    if end == 0 || end > 20 || line[end] != b' ' {
+        return None;
+    }
+    Some(&line[end..])
+}
+
+/// What follows the counter that is a line's first word.
+fn after_counter(line: &[u8]) -> Option<&[u8]>
+    ensures { IfSome result (λ after. (counter : List ℕ)
+        × (words_of line.now ≡ counter ∷ words_of after.now) × (is_counter counter ≡ true)) }
+{
+    after_digits(without_spaces(line))
+}
+
+/// What follows the three counters that are a line's first words, if they are near its front.
+#[inline(always)]
+fn after_marked_counters(line: &[u8]) -> Option<&[u8]>
+    ensures { IfSome result (λ after. HasCounters line.now after.now) }
+{
+    MarkedLine::of(line)?.after_counters()
+}
+
+/// What follows the three counters that are a line's first words.
+fn after_counters(line: &[u8]) -> Option<&[u8]>
+    ensures { IfSome result (λ after. HasCounters line.now after.now) }
+{
+    if let Some(after) = after_marked_counters(line) {
+        return Some(after);
+    }
+    let rest = after_counter(line)?;
+    let rest = after_counter(rest)?;
+    after_counter(rest)
+}
+
+/// The resolved row that a line begins with, and what follows its counters: the outgoing vifs.
+pub fn row_at_front(line: &[u8], order: Order) -> Option<(CacheRow, &[u8])>
+    ensures { (oifs : List Oif) → IfSome result (λ found.
+        oifs_in (words_of found.1.now) ≡ Ok oifs →
+        row_in_words order (words_of line.now) ≡ Ok (row_with_oifs found.0 oifs)) }
+{
+    let (group, origin) = addresses_at_front(line, order)?;
+    let (iif, rest) = iif_at_front(after_addresses(line))?;
+    let rest = after_counters(rest)?;
+    let row = CacheRow {
+        group,
+        origin,
+        iif: Some(iif),
+    };
+    Some((row, rest))
+}
+
+/// Whether a byte is a decimal digit other than 0.
+#[inline(always)]
+fn is_from_1_to_9(byte: u8) -> bool
+    ensures { result ≡ (nat_le 49 byte && nat_le byte 57) }
+{
+    (b'1'..=b'9').contains(&byte)
+}
+
+/// The outgoing vif of one digit, with a threshold of one digit, that a line begins with, and what
+/// follows it.
+#[inline(always)]
+#[tactic(auto, using(crate::proofs::PlainRowLemmas::one_digit_oif_is_first_word))]
+fn one_digit_oif_at_front(line: &[u8]) -> Option<(Oif, &[u8])>
+    ensures word { IfSome result (λ found. (word : List ℕ)
+        × (words_of line.now ≡ word ∷ words_of found.1.now)
+        × (oif_in word ≡ Ok (found.0.vif, found.0.threshold))) }
+    ensures vif { IfSome result (λ found. found.0.vif ≤ 31) }
+    ensures shorter { IfSome result (λ found. length found.1.now < length line.now) }
+{
+    if line.len() < 7 || line[0] != b' ' || line[1] != b' ' || !line[2].is_ascii_digit() {
+        return None;
+    }
+    if line[3] != b':' || !is_from_1_to_9(line[4]) || line[5] != b' ' || line[6] != b' ' {
+        return None;
+    }
+    let vif = line[2] - b'0';
+    let threshold = line[4] - b'0';
+    Some((Oif { vif, threshold }, &line[7..]))
+}
+
+/// The outgoing vif of two digits, with a threshold of one digit, that a line begins with, and what
+/// follows it.
+#[inline(always)]
+#[tactic(auto, using(crate::proofs::PlainRowLemmas::two_digit_oif_is_first_word))]
+fn two_digit_oif_at_front(line: &[u8]) -> Option<(Oif, &[u8])>
+    ensures word { IfSome result (λ found. (word : List ℕ)
+        × (words_of line.now ≡ word ∷ words_of found.1.now)
+        × (oif_in word ≡ Ok (found.0.vif, found.0.threshold))) }
+    ensures vif { IfSome result (λ found. found.0.vif ≤ 31) }
+    ensures shorter { IfSome result (λ found. length found.1.now < length line.now) }
+{
+    if line.len() < 7 || line[0] != b' ' || !line[1].is_ascii_digit() || !line[2].is_ascii_digit() {
+        return None;
+    }
+    let vif = (line[1] - b'0') * 10 + (line[2] - b'0');
+    if vif > MAX_VIF || line[3] != b':' || !is_from_1_to_9(line[4]) {
+        return None;
+    }
+    if line[5] != b' ' || line[6] != b' ' {
+        return None;
+    }
+    let threshold = line[4] - b'0';
+    Some((Oif { vif, threshold }, &line[7..]))
+}
+
+/// The outgoing vif that a line begins with, and what follows it. Most have one or two digits, and a
+/// threshold of one digit.
+#[tactic(auto, using(crate::proofs::PlainRowLemmas::vif_in_range))]
+fn oif_at_front(line: &[u8]) -> Option<(Oif, &[u8])>
+    ensures word { IfSome result (λ found. (word : List ℕ)
+        × (words_of line.now ≡ word ∷ words_of found.1.now)
+        × (oif_in word ≡ Ok (found.0.vif, found.0.threshold))) }
+    ensures vif { IfSome result (λ found. found.0.vif ≤ 31) }
+    ensures shorter { IfSome result (λ found. length found.1.now < length line.now) }
+{
+    if let Some(found) = one_digit_oif_at_front(line) {
+        return Some(found);
+    }
+    if let Some(found) = two_digit_oif_at_front(line) {
+        return Some(found);
+    }
+    let (vif, rest) = digits_before(without_spaces(line), b':')?;
+    let (threshold, rest) = digits_before(rest, b' ')?;
+    let vif = number(vif, 0, MAX_VIF)?;
+    let threshold = number(threshold, 1, MAX_THRESHOLD)?;
+    Some((Oif { vif, threshold }, rest))
+}
+
+/// Reads the outgoing vifs that a line consists of, if they ascend, and returns whether it did.
+#[tactic(auto, using(crate::proofs::PlainRowLemmas::greater_oif_is_appended, crate::proofs::OifLemmas::oifs_in_by_steps))]
+pub fn read_ascending_oifs(line: &[u8], oifs: &mut Vec<Oif>) -> Result<bool, AllocError>
+    requires empty { oifs.old.items ≡ [] }
+    ensures read { IfOk result (λ read. read ≡ true →
+        oifs_in (words_of line.now) ≡ Ok oifs.new.items) }
+{
+    let mut rest = line;
+    let mut next = 0;
+    'fours: while let Some(after) = add_four_oifs(rest, next, oifs)? {
+        next = after;
+        rest = &rest[FOUR_LEN..];
+    }
+    'oifs: while !rest.is_empty() {
+        let Some((oif, after)) = oif_at_front(rest) else {
+            return Ok(without_spaces(rest).is_empty());
+        };
+        if oif.vif < next {
+            return Ok(false);
+        }
+        oifs.push(oif)?;
+        next = oif.vif + 1;
+        rest = after;
+    }
+    Ok(true)
+}

@@ -1,0 +1,8 @@
+//! The lines and words of a kernel's tables, and their reading piece by piece.
+
+pub(crate) mod address_words;
+pub(crate) mod header;
+pub(crate) mod line_buffer;
+pub(crate) mod marked_line;
+pub(crate) mod rows;
+pub(crate) mod table_words;

@@ -1,0 +1,17 @@
+//! What is kept of a cache's rows beside those that are listed.
+
+mod cache_summary;
+mod distinct;
+mod lowest_pairs;
+mod shown_pairs;
+mod summarized_cache;
+mod summarized_rows;
+mod summary_pairs;
+mod summary_reader;
+pub(crate) mod summary_so_far;
+pub(crate) mod unlisted_rows;
+
+pub use cache_summary::CacheSummary;
+pub use summarized_cache::SummarizedCache;
+pub use summary_pairs::SummaryPairs;
+pub use summary_reader::SummaryReader;

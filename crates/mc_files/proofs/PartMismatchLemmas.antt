@@ -12,12 +12,14 @@ None-from_option_map : (o : Option ℕ) → option_map (λ n. n + 1) o ≡ None 
 None-from_option_map None e = refl
 None-from_option_map (Some n) e = absurd cc
 
-first_mismatch-None_more : (b : Bool) (o : Option ℕ) → (if b then option_map (λ n. n + 1) o else Some 0) ≡ None
+first_mismatch-None_more : (b : Bool) (o : Option ℕ)
+    → (if b then option_map (λ n. n + 1) o else Some 0) ≡ None
     → (b ≡ true) × (o ≡ None)
 first_mismatch-None_more true o e = (refl, None-from_option_map o e)
 first_mismatch-None_more false o e = absurd cc
 
-pub same_names-from_first_mismatch : (names others : List (List ℕ)) → first_mismatch names others ≡ None → names ≡ others
+pub same_names-from_first_mismatch : (names others : List (List ℕ)) → first_mismatch names others ≡ None
+    → names ≡ others
 same_names-from_first_mismatch [] [] e = refl
 same_names-from_first_mismatch [] (other ∷ others) e = absurd cc
 same_names-from_first_mismatch (name ∷ names) [] e = absurd cc

@@ -1,10 +1,10 @@
 -- What is packed of files, and when.
-use Rattle.std.proofs.Common.{◌≡◌, ℕ, suc, ◌+◌, ◌≤◌, Bool, true, false, List, []}
+use Rattle.std.proofs.Common.{◌≡◌, ℕ, suc, ◌+◌, ◌≤◌, Bool, false, List, []}
 use Rattle.std.proofs.Common.{◌∷◌, ◌++◌, codes, length, drop, Some, Result}
 use Rattle.std.proofs.Common.{Ok, Err, refl, ap, sym, subst, ◌∙◌, arith}
-use Rattle.std.specs.Prelude.{nat_le, if◌then◌else◌, slice_get}
+use Rattle.std.specs.Prelude.{nat_le, slice_get}
 use Rattle.std.specs.List.{AllByRecursion}
-use Rattle.std.proofs.lemmas.Bool.{leb-true, le-leb}
+use Rattle.std.proofs.lemmas.Bool.{false_from_ne_true, leb-true, le-leb}
 use Rattle.std.proofs.lemmas.List.{append-nil, append_assoc, drop_all, drop_more}
 use Rattle.std.proofs.lemmas.Option.{slice_get_within, get_or_from_slice_get}
 use Rattle.mc_text.specs.Steps.{◌>>=◌, Gives}
@@ -185,18 +185,6 @@ IsPacked-within_limits files certified parts e limits =
       limits = limits;
     }
 
-within_limits-Err : (b : Bool) (parts : List PartText)
-    → nat_le (length (bundle_spelling parts)) max_bundle ≡ b
-    → AllByRecursion IsWithinMaxPart parts → length parts ≤ max_parts → ¬ AreWithinLimits parts
-    → (if b then Ok parts else Err TooLarge) ≡ Err TooLarge
-within_limits-Err true parts is sizes count beyond =
-    absurd (beyond (record {
-      sizes = sizes;
-      count = count;
-      size = leb-true (length (bundle_spelling parts)) max_bundle is;
-    }))
-within_limits-Err false parts is sizes count beyond = refl
-
 -- and else they are too large together
 pub packed_parts-too_large : (files : List FileText) (certified : Bool) (parts : List PartText)
     → parts_before_limits certified files ≡ Ok parts → ¬ AreWithinLimits parts
@@ -204,8 +192,13 @@ pub packed_parts-too_large : (files : List FileText) (certified : Bool) (parts :
 unfolding packed_parts within_limits
 packed_parts-too_large files certified parts e beyond =
     let all = AreReadParts-from_Ok files certified parts e in
-    rw (e) (within_limits-Err (nat_le (length (bundle_spelling parts)) max_bundle) parts refl all.sizes
-    all.count beyond)
+    let large : nat_le (length (bundle_spelling parts)) max_bundle ≡ false =
+    false_from_ne_true _ (λ small. beyond (record {
+      sizes = all.sizes;
+      count = all.count;
+      size = leb-true (length (bundle_spelling parts)) max_bundle small;
+    })) in
+    rw (e, large) refl
 
 -- what isn't read isn't packed
 pub packed_parts-Err : (files : List FileText) (certified : Bool) (fault : PackFault)

@@ -11,7 +11,8 @@ use Rattle.mc_text.specs.declared.text.addr.Order.{Order}
 use Rattle.mc_tables.specs.CacheReading.{cache_in}
 use Rattle.mc_tables.specs.CacheTable.{CacheValue, key_cmp}
 use Rattle.mc_tables.specs.ListedRows.{IsListedPart, listed_in}
-use Rattle.mc_tables.specs.RowsSoFar.{CacheSoFar, cache_if, cache_start, cache_start_for_set}
+use Rattle.mc_tables.specs.RowsSoFar.{CacheSoFar, cache_if, cache_start, rows_start}
+use Rattle.mc_tables.specs.TableSoFar.{table_start}
 use Rattle.mc_tables.specs.declared.fault.TableFault.{TableFault}
 use Rattle.mc_tables.proofs.ListedPairLemmas.{same_set}
 use Rattle.mc_tables.proofs.ListedPartLemmas.{listed_in-is_part, listed_in-same_fault}
@@ -149,7 +150,7 @@ pub cache_start-same_pairs : (order : Order) (listed pairs : List (ℕ × ℕ)) 
     → reader ≡ cache_start order (Some listed) → AreSamePairs listed pairs
     → reader ≡ cache_start order (Some pairs)
 cache_start-same_pairs order listed pairs reader start same =
-    start ∙ ap (λ (s : set.FinSet key_cmp). cache_start_for_set order (Some s)) (same_set listed pairs same)
+    start ∙ ap (λ (s : set.FinSet key_cmp). table_start (rows_start order (Some s))) (same_set listed pairs same)
 
 -- the reader has the byte order of its router
 pub cache_start-own_order : (order : Order) (pairs : List (ℕ × ℕ)) (reader : CacheSoFar)

@@ -10,7 +10,7 @@ ghost use Rattle.mc_input.specs.ExcludedRouters.{names_of};
 
 use crate::without_fault::WithoutFault;
 use mc_forward::Tables;
-use mc_tables::{CacheSummary, CacheTable, SummaryPairs, VifTable};
+use mc_tables::{CacheSummary, SummarizedCache, SummaryPairs, VifTable};
 use mc_text::Memory;
 use mc_topology::Topology;
 use std::alloc::Global;
@@ -47,10 +47,10 @@ pub(crate) fn empty_tables(
     ensures tables { IfOk result (λ read. read.0 ≡ empty_tables) }
     ensures summary { IfOk result (λ read. read.1 ≡ summary_of all listed.now []) }
 {
-    let summary = CacheSummary::empty(alloc, listed.clone()?, all);
+    let cache = SummarizedCache::empty(alloc, listed.clone()?, all);
     let tables = Tables {
         vifs: VifTable::empty(alloc),
-        cache: CacheTable::empty(alloc),
+        cache: cache.table,
     };
-    Ok((tables, summary))
+    Ok((tables, cache.summary))
 }

@@ -6,7 +6,7 @@ ghost use Rattle.mc_text.specs.Lines.{max_text};
 ghost use Rattle.mc_tables.specs.Steps.{out_of_memory};
 
 use mc_igmp::ListReader;
-use mc_tables::{CacheReader, SummaryReader, TableFault, TableFaultKind, VifReader};
+use mc_tables::{TableFault, TableFaultKind, TableReader, TableRows};
 use mc_text::Memory;
 
 /// A reader that is fed its text in pieces.
@@ -48,50 +48,13 @@ fn memory_fault_only(fed: Result<(), TableFault>) -> Result<(), Memory>
     }
 }
 
-impl PieceReader for VifReader {
-    ghost use Rattle.std.specs.FinMap.{FinMap};
-    ghost use Rattle.std.specs.Ordering.{nat_cmp};
-    ghost use Rattle.mc_tables.specs.VifTable.{VifValue};
-    ghost use Rattle.mc_tables.specs.VifsSoFar.{vifs_if};
+impl<R: TableRows> PieceReader for TableReader<R> {
+    ghost use Rattle.mc_tables.specs.TableSoFar.{table_if};
     ghost use Rattle.mc_tables.specs.declared.fault.TableFault.{TableFault as FaultOfTable};
 
-    ghost ReadResult = { Result (FinMap nat_cmp VifValue) FaultOfTable };
+    ghost ReadResult = { Result R.Table FaultOfTable };
 
-    ghost result_after = { vifs_if };
-
-    // after a fault none
-    ghost size = { λ s. if is_some s.fault then 0 else s.lines.size };
-
-    fn take(&mut self, piece: &[u8]) -> Result<(), Memory> {
-        memory_fault_only(self.feed(piece))
-    }
-}
-
-impl PieceReader for CacheReader {
-    ghost use Rattle.mc_tables.specs.CacheTable.{CacheValue};
-    ghost use Rattle.mc_tables.specs.RowsSoFar.{cache_if};
-    ghost use Rattle.mc_tables.specs.declared.fault.TableFault.{TableFault as FaultOfTable};
-
-    ghost ReadResult = { Result CacheValue FaultOfTable };
-
-    ghost result_after = { cache_if };
-
-    // after a fault none
-    ghost size = { λ s. if is_some s.fault then 0 else s.lines.size };
-
-    fn take(&mut self, piece: &[u8]) -> Result<(), Memory> {
-        memory_fault_only(self.feed(piece))
-    }
-}
-
-impl PieceReader for SummaryReader {
-    ghost use Rattle.mc_tables.specs.SummaryReading.{summary_if};
-    ghost use Rattle.mc_tables.specs.declared.fault.TableFault.{TableFault as FaultOfTable};
-    ghost use Rattle.mc_tables.specs.declared.summary.summarized_cache.SummarizedCache.{SummarizedCache};
-
-    ghost ReadResult = { Result SummarizedCache FaultOfTable };
-
-    ghost result_after = { summary_if };
+    ghost result_after = { table_if R.header R.table };
 
     // after a fault none
     ghost size = { λ s. if is_some s.fault then 0 else s.lines.size };

@@ -18,6 +18,7 @@ pub use laws::{
     summary_answers_by_rows, summary_changes_no_table, text_denotes_one_table,
     vif_indexes_are_at_most_31,
 };
+pub use lines::{TableReader, TableRows};
 pub use listed::ListedPairs;
 pub use summary::{CacheSummary, SummarizedCache, SummaryPairs, SummaryReader};
 pub use vifs::{Vif, VifReader, VifTable};

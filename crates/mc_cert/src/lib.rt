@@ -8,7 +8,7 @@ mod distinct;
 mod entry;
 mod fault;
 mod json_text;
-mod laws;
+pub mod laws;
 mod object;
 mod pieces;
 mod reached;
@@ -22,9 +22,5 @@ mod version_two;
 pub use certificate::Certificate;
 pub use distinct::DistinctTrees;
 pub use fault::{At, CertFault, CertFaultKind};
-pub use laws::{
-    certificate_text_denotes_certificate, denoted_certificate_belongs_to_topology,
-    read_gives_the_denoted_certificate, trailing_line_feed_changes_nothing,
-};
 pub use reached::{FlowCert, Reached};
 pub use trees::Trees;

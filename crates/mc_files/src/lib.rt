@@ -7,7 +7,7 @@
 mod fault;
 mod file_part;
 mod folder;
-mod laws;
+pub mod laws;
 mod packed_part;
 mod packing;
 mod piece_source;
@@ -18,10 +18,6 @@ mod unread;
 pub use fault::{FileFault, PackFault};
 pub use file_part::{FilePart, part_of_file};
 pub use folder::Folder;
-pub use laws::{
-    packed_files_are_read_back, packed_names_are_plain, packing_is_exact_and_unique,
-    parts_match_slots_exactly_by_name, slot_names_are_part_names,
-};
 pub use packing::pack;
 pub use piece_source::PieceSource;
 pub use slot::{Slot, slot_at, slot_count};

@@ -6,7 +6,7 @@ mod checksum;
 mod digits;
 mod fault;
 mod group_records;
-mod laws;
+pub mod laws;
 mod list;
 mod list_reader;
 mod message;
@@ -15,7 +15,6 @@ mod records;
 
 pub use fault::{ListFault, ListFaultKind};
 pub use group_records::GroupRecords;
-pub use laws::{messages_are_read_exactly, report_lists_are_read_exactly};
 pub use list::{ListRecords, ReportList};
 pub use list_reader::ListReader;
 pub use message::{Message, MessageFault};

@@ -12,7 +12,7 @@ mod fed_file;
 mod fed_part;
 mod file_part;
 mod files;
-mod laws;
+pub mod laws;
 mod part_result;
 mod piece_reader;
 mod slot_part;
@@ -23,10 +23,5 @@ pub use domain::{BundleDomain, FolderDomain, PIECE, read_bundle_domain, read_fol
 pub use each_file::{Refusal, RefusedFile, refused_files};
 pub use excluded::is_excluded;
 pub use fault::InputFault;
-pub use laws::{
-    bundle_denotes_one_input, excluded_routers_are_excluded_in_each_flow,
-    excluded_routers_have_no_vif_or_row, files_denote_one_input,
-    packed_bundle_denotes_input_of_files, summaries_are_unique,
-};
 pub use source_fault::SourceFault;
 pub use without_fault::WithoutFault;

@@ -8,7 +8,7 @@ mod fact_value;
 mod fields;
 mod flow_fields;
 mod found_value;
-mod laws;
+pub mod laws;
 mod line;
 mod line_values;
 mod name_values;
@@ -18,6 +18,5 @@ mod wrong_line;
 
 pub use domain_line::push_domain_line;
 pub use end_lines::{push_summary_line, push_unlisted_lines, push_verdict_line, push_without_line};
-pub use laws::{each_line_is_an_object, the_verdict_is_a_line};
 pub use right_line::{push_right_line, push_tree_line};
 pub use wrong_line::push_wrong_line;

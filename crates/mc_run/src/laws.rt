@@ -15,7 +15,7 @@ ghost use Rattle.mc_run.specs.CheckRun.{IsLineStart, IsVerdictText, WroteAtStart
 ghost use Rattle.mc_run.specs.MakeRun.{ForEachBundleWithMadeCertificate, IsMadeText, certified_lists};
 ghost use Rattle.mc_run.specs.RunOutput.{HasOneOutput};
 
-use mc_input::summaries_are_unique;
+use mc_input::laws::summaries_are_unique;
 
 /// `check` says yes to each certificate that `make` writes.
 pub fn check_accepts_made_certificates()

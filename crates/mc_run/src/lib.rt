@@ -5,7 +5,7 @@ mod audit;
 mod commands;
 mod excluded;
 mod fault;
-mod laws;
+pub mod laws;
 mod refusals;
 mod run_output;
 mod shown;
@@ -14,9 +14,5 @@ mod task;
 pub use audit::{AuditAnswer, run_audit};
 pub use commands::{run_check, run_make, run_pack, run_replay, run_wants};
 pub use fault::RunFault;
-pub use laws::{
-    audit_of_same_files_is_the_same, check_accepts_made_certificates,
-    input_means_one_domain_at_most, verdict_yes_line_only_where_all_right,
-};
 pub use refusals::{print_refused_files, refusal_lines};
 pub use task::run_task;

@@ -7,24 +7,18 @@
 mod bundle;
 mod index;
 mod io;
-mod laws;
+pub mod laws;
 mod memory;
 mod pair;
 mod text;
 
 pub use bundle::{
-    Bundle, BundleFault, MAX_PART, Part, PartName, Parts, bundle_front_decides,
-    bundle_has_one_part_list, collect_part, write_bundle, written_bundle_is_read,
+    Bundle, BundleFault, MAX_PART, Part, PartName, Parts, collect_part, write_bundle,
 };
 pub use index::Index;
 pub use io::{
     DeviceFault, FaultyInput, FaultyOutput, FromReader, Input, Output, ReadFault, Stop, ToWriter,
     read_to_limit, write_all,
-};
-pub use laws::{
-    address_words_are_read, addresses_are_ordered_by_octets, decimal_numbers_are_read,
-    dotted_texts_are_read, greatest_text_is_max_text, lines_end_at_line_feeds,
-    lines_join_to_their_text,
 };
 pub use memory::Memory;
 pub use pair::{pair_number, pair_numbers};

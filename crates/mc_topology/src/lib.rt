@@ -8,7 +8,7 @@ mod flows;
 mod interface;
 mod interfaces;
 mod lans;
-mod laws;
+pub mod laws;
 mod name;
 mod number;
 mod read;
@@ -21,11 +21,6 @@ mod word_at;
 pub use fault::{Section, TopologyFault, TopologyFaultKind};
 pub use flow::Flow;
 pub use interface::Interface;
-pub use laws::{
-    denoted_topology_is_valid, interfaces_are_found_by_router_and_device,
-    lan_numbers_and_names_are_inverse, lans_and_routers_are_ordered_by_number,
-    read_gives_the_denoted_topology, router_numbers_and_names_are_inverse,
-};
 pub use name::is_name;
 pub use number::{LanNo, RouterNo};
 pub use source::Source;

@@ -1,5 +1,5 @@
 use Rattle.mc_forward.specs.Domains.{net_of}
-use Rattle.mc_forward.proofs.flow_laws.an_accepted_list_keeps_the_headline.Goals as goal
+use Rattle.mc_forward.proofs.laws.flow_laws.an_accepted_list_keeps_the_headline.Goals as goal
 
 pub returns : goal.returns
 returns c = λ d flow es ok lt accepted.

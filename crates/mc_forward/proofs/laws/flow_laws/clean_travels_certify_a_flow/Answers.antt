@@ -1,6 +1,6 @@
 use Rattle.std.proofs.Common.{length}
 use Rattle.mc_forward.specs.Domains.{net_of}
-use Rattle.mc_forward.proofs.flow_laws.clean_travels_certify_a_flow.Goals as goal
+use Rattle.mc_forward.proofs.laws.flow_laws.clean_travels_certify_a_flow.Goals as goal
 
 pub returns : goal.returns
 returns c = λ d flow ok lt.

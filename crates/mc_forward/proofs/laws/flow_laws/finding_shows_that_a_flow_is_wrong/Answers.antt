@@ -1,6 +1,6 @@
 use Rattle.std.proofs.Common.{length}
 use Rattle.mc_forward.specs.Domains.{net_of}
-use Rattle.mc_forward.proofs.flow_laws.finding_shows_that_a_flow_is_wrong.Goals as goal
+use Rattle.mc_forward.proofs.laws.flow_laws.finding_shows_that_a_flow_is_wrong.Goals as goal
 
 pub returns : goal.returns
 returns c = λ d flow t x ok low high other.

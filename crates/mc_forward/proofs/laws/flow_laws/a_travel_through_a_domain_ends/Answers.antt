@@ -1,6 +1,6 @@
 use Rattle.std.proofs.Common.{length}
 use Rattle.mc_forward.specs.Domains.{net_of}
-use Rattle.mc_forward.proofs.flow_laws.a_travel_through_a_domain_ends.Goals as goal
+use Rattle.mc_forward.proofs.laws.flow_laws.a_travel_through_a_domain_ends.Goals as goal
 
 pub returns : goal.returns
 returns c = λ d flow t choices picks x ok travel.

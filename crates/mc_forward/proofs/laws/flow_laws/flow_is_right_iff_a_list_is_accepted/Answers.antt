@@ -1,5 +1,5 @@
 use Rattle.mc_forward.specs.Domains.{net_of}
-use Rattle.mc_forward.proofs.flow_laws.flow_is_right_iff_a_list_is_accepted.Goals as goal
+use Rattle.mc_forward.proofs.laws.flow_laws.flow_is_right_iff_a_list_is_accepted.Goals as goal
 
 pub returns : goal.returns
 returns c = λ d flow ok lt.

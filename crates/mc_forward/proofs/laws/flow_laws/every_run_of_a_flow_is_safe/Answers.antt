@@ -1,5 +1,5 @@
 use Rattle.mc_forward.specs.Domains.{net_of}
-use Rattle.mc_forward.proofs.flow_laws.every_run_of_a_flow_is_safe.Goals as goal
+use Rattle.mc_forward.proofs.laws.flow_laws.every_run_of_a_flow_is_safe.Goals as goal
 
 pub returns : goal.returns
 returns c = λ d flow es ok tree. c.every_run_is_safe.ensures (net_of d flow) es

@@ -2,7 +2,7 @@
 use Rattle.std.proofs.Common.{◌≡◌, ℕ, zero, suc, ◌≤◌, ◌==◌, Bool, true, false, cond}
 use Rattle.std.proofs.Common.{List, [], ◌∷◌, length, take, drop, get_or, refl, ap, ap₂, sym, ◌∙◌, arith}
 use Rattle.std.proofs.lemmas.Bool.{eq-eqb, eqb-true}
-use Rattle.mc_explain.specs.declared.search.listed_interface.ListedInterface.{ListedInterface}
+use Rattle.mc_explain.specs.declared.searches.listed_interface.ListedInterface.{ListedInterface}
 use Rattle.mc_explain.specs.SearchLine.{group_by_router, add_to_group}
 use Rattle.mc_explain.specs.BucketsAndMarks.{leading_of_router}
 

@@ -13,11 +13,11 @@ use Rattle.mc_theory.proofs.ListLemmas.{in-append_cases, in-flat_map_cases}
 use Rattle.mc_forward.specs.Domains.{DomainValue, IsDomain}
 use Rattle.mc_forward.specs.ListedTables.{DomainFacts, facts}
 use Rattle.mc_forward.proofs.DomainLemmas.{placed-below_lan_count}
-use Rattle.mc_explain.specs.declared.search.search_line.SearchLine.{SearchLine}
-use Rattle.mc_explain.specs.declared.search.search_line.SearchLine.TheVariants.{DoesNotSend, Excluded, NoRow}
-use Rattle.mc_explain.specs.declared.search.search_line.SearchLine.TheVariants.{NoSender}
-use Rattle.mc_explain.specs.declared.search.search_line.SearchLine.TheVariants.{Unresolved}
-use Rattle.mc_explain.specs.declared.search.listed_interface.ListedInterface.{ListedInterface}
+use Rattle.mc_explain.specs.declared.searches.search_line.SearchLine.{SearchLine}
+use Rattle.mc_explain.specs.declared.searches.search_line.SearchLine.TheVariants.{DoesNotSend, Excluded, NoRow}
+use Rattle.mc_explain.specs.declared.searches.search_line.SearchLine.TheVariants.{NoSender}
+use Rattle.mc_explain.specs.declared.searches.search_line.SearchLine.TheVariants.{Unresolved}
+use Rattle.mc_explain.specs.declared.searches.listed_interface.ListedInterface.{ListedInterface}
 use Rattle.mc_explain.specs.SearchLine.{Search, carried, device_lines, every_source_from, expected_lines}
 use Rattle.mc_explain.specs.SearchLine.{stopped_or_waiting, if_missed, is_excluded, is_unresolved}
 use Rattle.mc_explain.specs.SearchLine.{closing_lines, next_lan}

@@ -1,7 +1,7 @@
 -- The lines of a LAN, step by step.
 use Rattle.std.proofs.Common.{◌≡◌, ◌||◌, ℕ, false, List, [], ◌∷◌, Option, Some, None, refl, ap, ap₂, ◌∙◌}
 use Rattle.std.specs.List.{list_any}
-use Rattle.mc_explain.specs.declared.search.listed_interface.ListedInterface.{ListedInterface}
+use Rattle.mc_explain.specs.declared.searches.listed_interface.ListedInterface.{ListedInterface}
 use Rattle.mc_theory.specs.Nets.{Row}
 use Rattle.mc_theory.specs.Nets.Row.{Open, NoRow}
 use Rattle.mc_theory.specs.CertificateOfCopies.{row_pairs}

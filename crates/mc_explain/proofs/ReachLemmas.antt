@@ -13,7 +13,7 @@ use Rattle.mc_theory.proofs.ListLemmas.{in-map_cases}
 use Rattle.mc_theory.proofs.ListLemmas.{in-push_cases}
 use Rattle.mc_theory.specs.Events.{Event}
 use Rattle.mc_forward.specs.ListedTables.{DomainFacts}
-use Rattle.mc_explain.specs.declared.search.listed_interface.ListedInterface.{ListedInterface}
+use Rattle.mc_explain.specs.declared.searches.listed_interface.ListedInterface.{ListedInterface}
 use Rattle.mc_explain.specs.TopologyLans.{interface_at, listed_interface_at, interfaces_of_router}
 use Rattle.mc_explain.specs.TopologyLans.{interfaces_on_lan}
 use Rattle.mc_explain.specs.SearchLine.{Search, append_new, group_by_router, add_to_group, routers_on}

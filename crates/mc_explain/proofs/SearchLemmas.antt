@@ -24,7 +24,7 @@ use Rattle.mc_forward.specs.PerLan.{item_on_lan, first_with_key, HoldsFirstOfEac
 use Rattle.mc_forward.proofs.BelowLemmas.{length-of_distinct_below}
 use Rattle.mc_forward.proofs.IndexLemmas.{take-one_more}
 use Rattle.mc_forward.proofs.PerLanLemmas.{first_with_key-first_copy_on}
-use Rattle.mc_explain.specs.declared.search.search_line.SearchLine.{SearchLine}
+use Rattle.mc_explain.specs.declared.searches.search_line.SearchLine.{SearchLine}
 use Rattle.mc_explain.specs.SearchLine.{Search, append_new, next_lans, lines_of_lan, visited_lans}
 use Rattle.mc_explain.specs.SearchLine.{visited_after}
 

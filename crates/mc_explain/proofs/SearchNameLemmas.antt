@@ -24,13 +24,13 @@ use Rattle.mc_theory.proofs.ListLemmas.{in-append_left, in-append_right, in-belo
 use Rattle.mc_theory.proofs.ListLemmas.{in-map}
 use Rattle.mc_forward.specs.Domains.{DomainValue, IsDomain, lan_of_vif, vif_of}
 use Rattle.mc_forward.specs.ListedTables.{DomainFacts, facts}
-use Rattle.mc_explain.specs.declared.search.search_line.SearchLine.{SearchLine}
-use Rattle.mc_explain.specs.declared.search.search_line.SearchLine.TheVariants.{DoesNotSend, EverySource}
-use Rattle.mc_explain.specs.declared.search.search_line.SearchLine.TheVariants.{ExpectedFromHere, FromUnplaced}
-use Rattle.mc_explain.specs.declared.search.search_line.SearchLine.TheVariants.{Excluded}
-use Rattle.mc_explain.specs.declared.search.search_line.SearchLine.TheVariants.{NoRow, NoVif, NotMulticast}
-use Rattle.mc_explain.specs.declared.search.search_line.SearchLine.TheVariants.{Unresolved}
-use Rattle.mc_explain.specs.declared.search.listed_interface.ListedInterface.{ListedInterface}
+use Rattle.mc_explain.specs.declared.searches.search_line.SearchLine.{SearchLine}
+use Rattle.mc_explain.specs.declared.searches.search_line.SearchLine.TheVariants.{DoesNotSend, EverySource}
+use Rattle.mc_explain.specs.declared.searches.search_line.SearchLine.TheVariants.{ExpectedFromHere, FromUnplaced}
+use Rattle.mc_explain.specs.declared.searches.search_line.SearchLine.TheVariants.{Excluded}
+use Rattle.mc_explain.specs.declared.searches.search_line.SearchLine.TheVariants.{NoRow, NoVif, NotMulticast}
+use Rattle.mc_explain.specs.declared.searches.search_line.SearchLine.TheVariants.{Unresolved}
+use Rattle.mc_explain.specs.declared.searches.listed_interface.ListedInterface.{ListedInterface}
 use Rattle.mc_explain.specs.SearchLine.{Search, carried, device_lines, expected_lines, group_by_router}
 use Rattle.mc_explain.specs.SearchLine.{stopped_or_waiting}
 use Rattle.mc_explain.specs.SearchLine.{is_expecting, is_excluded, is_unresolved, is_virtual, add_to_group}

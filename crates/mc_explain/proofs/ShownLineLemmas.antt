@@ -5,10 +5,10 @@ use Rattle.std.proofs.Common.{◌∙◌, subst, arith}
 use Rattle.std.proofs.Common.{append-nil}
 use Rattle.std.proofs.lemmas.Bool.{eq-eqb, eqb-true}
 use Rattle.std.proofs.lemmas.List.{take_more}
-use Rattle.mc_explain.specs.declared.search.search_line.SearchLine.{SearchLine}
-use Rattle.mc_explain.specs.declared.search.search_line.SearchLine.TheVariants.{ExpectedFromHere}
-use Rattle.mc_explain.specs.declared.search.shown_line.ShownLine.{ShownLine}
-use Rattle.mc_explain.specs.declared.search.shown_line.ShownLine.TheVariants.{One, Expected}
+use Rattle.mc_explain.specs.declared.searches.search_line.SearchLine.{SearchLine}
+use Rattle.mc_explain.specs.declared.searches.search_line.SearchLine.TheVariants.{ExpectedFromHere}
+use Rattle.mc_explain.specs.declared.searches.shown_line.ShownLine.{ShownLine}
+use Rattle.mc_explain.specs.declared.searches.shown_line.ShownLine.TheVariants.{One, Expected}
 use Rattle.mc_explain.specs.ExpectingRouters.{expecting_routers, expects_from, leading_expected}
 use Rattle.mc_explain.specs.ShownLines.{put_expected, put_line, shown_lines}
 

@@ -7,7 +7,7 @@ use Rattle.std.proofs.lemmas.Option.{slice_get_past}
 use Rattle.mc_theory.specs.Lists.{In}
 use Rattle.mc_theory.proofs.ListLemmas.{in-append_left, in-push_cases}
 use Rattle.mc_forward.proofs.BelowLemmas.{length-of_distinct_below}
-use Rattle.mc_explain.specs.declared.search.search_line.SearchLine.{SearchLine}
+use Rattle.mc_explain.specs.declared.searches.search_line.SearchLine.{SearchLine}
 use Rattle.mc_explain.specs.SearchLine.{Search, append_new, lans_of_search, next_lan, next_lans, lines_of_lan}
 use Rattle.mc_explain.specs.SearchLine.{visited_lans, visited_after}
 use Rattle.mc_explain.proofs.NextLanLemmas.{NextLansAreInside, PlacesInside, lines_of_lan-inside}

@@ -2,7 +2,7 @@
 use Rattle.std.specs.Prelude.{◌≡◌, ◌==◌, ℕ, ◌<◌, List, [], length, map, filter, slice_index_or}
 use Rattle.std.specs.Prelude.{zero, suc, if◌then◌else◌, ◌∷◌, Bool, false}
 use Rattle.mc_forward.specs.ListedTables.{DomainFacts}
-use Rattle.mc_explain.specs.declared.search.listed_interface.ListedInterface.{ListedInterface}
+use Rattle.mc_explain.specs.declared.searches.listed_interface.ListedInterface.{ListedInterface}
 use Rattle.mc_explain.specs.TopologyLans.{interface_at, listed_interface_at}
 use Rattle.std.specs.List.{list_any}
 

@@ -1,7 +1,7 @@
 -- The lines of a search about routers that expect copies from a LAN.
 use Rattle.std.specs.Prelude.{◌==◌, ℕ, zero, suc, Bool, false, List, [], ◌∷◌, if◌then◌else◌}
-use Rattle.mc_explain.specs.declared.search.search_line.SearchLine.{SearchLine}
-use Rattle.mc_explain.specs.declared.search.search_line.SearchLine.TheVariants.{ExpectedFromHere}
+use Rattle.mc_explain.specs.declared.searches.search_line.SearchLine.{SearchLine}
+use Rattle.mc_explain.specs.declared.searches.search_line.SearchLine.TheVariants.{ExpectedFromHere}
 
 -- the routers of these lines
 abbrev pub expecting_routers : List SearchLine → List ℕ

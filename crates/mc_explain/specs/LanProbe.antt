@@ -2,10 +2,10 @@
 use Rattle.std.specs.Prelude.{◌≡◌, ℕ, length}
 use Rattle.mc_forward.specs.ListedTables.{facts}
 use Rattle.mc_forward.specs.PerLan.{item_on_lan, HoldsFirstOfEachKey}
-use Rattle.mc_explain.specs.declared.search.lan_probe.LanProbe.{LanProbe}
+use Rattle.mc_explain.specs.declared.searches.lan_probe.LanProbe.{LanProbe}
 use Rattle.mc_explain.specs.TopologyLans.{interfaces_on_lans}
 use Rattle.mc_explain.specs.SearchLine.{Search}
-use Rattle.mc_explain.specs.declared.search.visited_lans.VisitedLans.{VisitedLans}
+use Rattle.mc_explain.specs.declared.searches.visited_lans.VisitedLans.{VisitedLans}
 
 abbrev pub search_in : LanProbe → Search
 search_in l = record {

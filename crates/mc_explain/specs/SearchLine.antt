@@ -16,15 +16,15 @@ use Rattle.mc_theory.specs.Findings.{first_copy_on, taken_from}
 use Rattle.mc_theory.specs.CertificateOfCopies.{row_pairs, threshold_of}
 use Rattle.mc_forward.specs.Domains.{DomainValue, IsDomain}
 use Rattle.mc_forward.specs.ListedTables.{DomainFacts, facts}
-use Rattle.mc_explain.specs.declared.search.search_line.SearchLine.{SearchLine}
-use Rattle.mc_explain.specs.declared.search.search_line.SearchLine.TheVariants.{Excluded}
-use Rattle.mc_explain.specs.declared.search.search_line.SearchLine.TheVariants.{NoVif, NotMulticast, NoRow}
-use Rattle.mc_explain.specs.declared.search.search_line.SearchLine.TheVariants.{Unresolved, EverySource}
-use Rattle.mc_explain.specs.declared.search.search_line.SearchLine.TheVariants.{FromUnplaced, DoesNotSend}
-use Rattle.mc_explain.specs.declared.search.search_line.SearchLine.TheVariants.{Stopped, WaitsFor}
-use Rattle.mc_explain.specs.declared.search.search_line.SearchLine.TheVariants.{ExpectedFromHere, NoRouter}
-use Rattle.mc_explain.specs.declared.search.search_line.SearchLine.TheVariants.{NoSender}
-use Rattle.mc_explain.specs.declared.search.listed_interface.ListedInterface.{ListedInterface}
+use Rattle.mc_explain.specs.declared.searches.search_line.SearchLine.{SearchLine}
+use Rattle.mc_explain.specs.declared.searches.search_line.SearchLine.TheVariants.{Excluded}
+use Rattle.mc_explain.specs.declared.searches.search_line.SearchLine.TheVariants.{NoVif, NotMulticast, NoRow}
+use Rattle.mc_explain.specs.declared.searches.search_line.SearchLine.TheVariants.{Unresolved, EverySource}
+use Rattle.mc_explain.specs.declared.searches.search_line.SearchLine.TheVariants.{FromUnplaced, DoesNotSend}
+use Rattle.mc_explain.specs.declared.searches.search_line.SearchLine.TheVariants.{Stopped, WaitsFor}
+use Rattle.mc_explain.specs.declared.searches.search_line.SearchLine.TheVariants.{ExpectedFromHere, NoRouter}
+use Rattle.mc_explain.specs.declared.searches.search_line.SearchLine.TheVariants.{NoSender}
+use Rattle.mc_explain.specs.declared.searches.listed_interface.ListedInterface.{ListedInterface}
 use Rattle.mc_explain.specs.EverySourceText.{every_source_of}
 use Rattle.mc_explain.specs.TopologyLans.{interfaces_on_lan}
 

@@ -1,14 +1,14 @@
 -- The LAN and the router that a line of a search is about.
 use Rattle.std.specs.Prelude.{◌≡◌, ℕ, List, Option, Some, None}
 use Rattle.mc_theory.specs.Lists.{In}
-use Rattle.mc_explain.specs.declared.search.search_line.SearchLine.{SearchLine}
-use Rattle.mc_explain.specs.declared.search.search_line.SearchLine.TheVariants.{Excluded}
-use Rattle.mc_explain.specs.declared.search.search_line.SearchLine.TheVariants.{NoVif, NotMulticast, NoRow}
-use Rattle.mc_explain.specs.declared.search.search_line.SearchLine.TheVariants.{Unresolved, EverySource}
-use Rattle.mc_explain.specs.declared.search.search_line.SearchLine.TheVariants.{FromUnplaced, DoesNotSend}
-use Rattle.mc_explain.specs.declared.search.search_line.SearchLine.TheVariants.{Stopped, WaitsFor}
-use Rattle.mc_explain.specs.declared.search.search_line.SearchLine.TheVariants.{ExpectedFromHere, NoRouter}
-use Rattle.mc_explain.specs.declared.search.search_line.SearchLine.TheVariants.{NoSender}
+use Rattle.mc_explain.specs.declared.searches.search_line.SearchLine.{SearchLine}
+use Rattle.mc_explain.specs.declared.searches.search_line.SearchLine.TheVariants.{Excluded}
+use Rattle.mc_explain.specs.declared.searches.search_line.SearchLine.TheVariants.{NoVif, NotMulticast, NoRow}
+use Rattle.mc_explain.specs.declared.searches.search_line.SearchLine.TheVariants.{Unresolved, EverySource}
+use Rattle.mc_explain.specs.declared.searches.search_line.SearchLine.TheVariants.{FromUnplaced, DoesNotSend}
+use Rattle.mc_explain.specs.declared.searches.search_line.SearchLine.TheVariants.{Stopped, WaitsFor}
+use Rattle.mc_explain.specs.declared.searches.search_line.SearchLine.TheVariants.{ExpectedFromHere, NoRouter}
+use Rattle.mc_explain.specs.declared.searches.search_line.SearchLine.TheVariants.{NoSender}
 
 -- the LAN, and the router if the line is about one
 abbrev pub lan_and_router_of : SearchLine → ℕ × Option ℕ

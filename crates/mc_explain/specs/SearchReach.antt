@@ -5,7 +5,7 @@ use Rattle.std.specs.List.{list_any}
 use Rattle.mc_theory.specs.Events.{Event, Outcome}
 use Rattle.mc_theory.specs.Events.Outcome.{Open, NoRow, OtherVif, Sent}
 use Rattle.mc_explain.specs.SearchLine.{Search, append_new, lans_of_search, routers_on, search_lines}
-use Rattle.mc_explain.specs.declared.search.searching.LanSearch.{LanSearch}
+use Rattle.mc_explain.specs.declared.searches.searching.LanSearch.{LanSearch}
 
 -- whether an event sent the copy on, or else took none; a row for every source does neither
 abbrev pub outcome_matches : (sent : Bool) → Outcome → Bool

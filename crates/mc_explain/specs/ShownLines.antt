@@ -1,9 +1,9 @@
 -- The lines of a search as they are shown.
 use Rattle.std.specs.Prelude.{◌==◌, ℕ, List, [], ◌∷◌, if◌then◌else◌}
-use Rattle.mc_explain.specs.declared.search.search_line.SearchLine.{SearchLine}
-use Rattle.mc_explain.specs.declared.search.search_line.SearchLine.TheVariants.{ExpectedFromHere}
-use Rattle.mc_explain.specs.declared.search.shown_line.ShownLine.{ShownLine}
-use Rattle.mc_explain.specs.declared.search.shown_line.ShownLine.TheVariants.{One, Expected}
+use Rattle.mc_explain.specs.declared.searches.search_line.SearchLine.{SearchLine}
+use Rattle.mc_explain.specs.declared.searches.search_line.SearchLine.TheVariants.{ExpectedFromHere}
+use Rattle.mc_explain.specs.declared.searches.shown_line.ShownLine.{ShownLine}
+use Rattle.mc_explain.specs.declared.searches.shown_line.ShownLine.TheVariants.{One, Expected}
 
 -- a line about a router that expects copies from a LAN joins the next line if that is about the same LAN
 abbrev pub put_expected : (lan router : ℕ) → List ShownLine → List ShownLine

@@ -7,7 +7,7 @@ use Rattle.mc_topology.specs.SectionRows.{InterfaceRow}
 use Rattle.mc_topology.specs.Topology.{TopologyValue}
 use Rattle.mc_theory.specs.Lists.{below}
 use Rattle.mc_forward.specs.ListedTables.{DomainFacts}
-use Rattle.mc_explain.specs.declared.search.listed_interface.ListedInterface.{ListedInterface}
+use Rattle.mc_explain.specs.declared.searches.listed_interface.ListedInterface.{ListedInterface}
 
 -- the interface with this number, in the topology's order from 0
 abbrev pub interface_at : TopologyValue → ℕ → InterfaceRow

@@ -4,14 +4,14 @@
 mod causes;
 mod excluded;
 pub mod laws;
-mod search;
+mod searches;
 mod shown;
 mod unlisted;
 mod wanted;
 
 pub use causes::{Cause, Explanation, explain};
 pub use excluded::{list_excluded_routers, push_excluded, push_without_lines};
-pub use search::{
+pub use searches::{
     ExpectingRouters, InterfacesOfLans, LanSearch, Reach, SearchLine, ShownLine, ShownLines,
     search, vif_of_device,
 };

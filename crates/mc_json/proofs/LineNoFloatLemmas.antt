@@ -10,7 +10,7 @@ use Rattle.mc_forward.specs.ListedTables.{DomainFacts}
 use Rattle.mc_explain.specs.EverySourceText.{every_source_of}
 use Rattle.mc_explain.specs.ShownLines.{shown_lines}
 use Rattle.mc_explain.specs.declared.causes.Cause.{Cause}
-use Rattle.mc_explain.specs.declared.search.searching.LanSearch.{LanSearch}
+use Rattle.mc_explain.specs.declared.searches.searching.LanSearch.{LanSearch}
 use Rattle.serde_json.specs.Data.{Data, Members, no_members, member, put, string}
 use Rattle.serde_json.specs.Written.{has_float, members_have_float}
 use Rattle.mc_lines.specs.CauseLines.{cause_items, cause_lines}

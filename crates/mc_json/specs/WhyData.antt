@@ -3,8 +3,8 @@ use Rattle.std.specs.Prelude.{ℕ, List, [], ◌++◌, Option, Some, None}
 use Rattle.mc_tables.specs.Summary.{SummaryValue}
 use Rattle.mc_forward.specs.ListedTables.{DomainFacts, facts}
 use Rattle.mc_explain.specs.declared.causes.Cause.{Cause}
-use Rattle.mc_explain.specs.declared.search.search_line.SearchLine.{SearchLine}
-use Rattle.mc_explain.specs.declared.search.searching.LanSearch.{LanSearch}
+use Rattle.mc_explain.specs.declared.searches.search_line.SearchLine.{SearchLine}
+use Rattle.mc_explain.specs.declared.searches.searching.LanSearch.{LanSearch}
 use Rattle.serde_json.specs.Data.{Data}
 use Rattle.mc_lines.specs.CauseLines.{causes_items}
 use Rattle.mc_lines.specs.ExplanationText.{context_of}

@@ -4,9 +4,9 @@ use Rattle.std.specs.Prelude.{take}
 use Rattle.mc_tables.specs.Summary.{SummaryValue}
 use Rattle.mc_forward.specs.ListedTables.{DomainFacts}
 use Rattle.mc_explain.specs.declared.causes.Cause.{Cause}
-use Rattle.mc_explain.specs.declared.search.search_line.SearchLine.{SearchLine}
-use Rattle.mc_explain.specs.declared.search.searching.LanSearch.{LanSearch}
-use Rattle.mc_explain.specs.declared.search.shown_line.ShownLine.{ShownLine}
+use Rattle.mc_explain.specs.declared.searches.search_line.SearchLine.{SearchLine}
+use Rattle.mc_explain.specs.declared.searches.searching.LanSearch.{LanSearch}
+use Rattle.mc_explain.specs.declared.searches.shown_line.ShownLine.{ShownLine}
 use Rattle.mc_explain.specs.Indented.{AreIndented}
 use Rattle.mc_explain.specs.ShownLines.{shown_lines}
 use Rattle.mc_lines.specs.CauseLines.{causes_items}

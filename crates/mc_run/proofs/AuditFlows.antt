@@ -32,7 +32,7 @@ use Rattle.mc_maker.specs.declared.examination.Examined.TheVariants as examined
 use Rattle.mc_replay.specs.declared.travel.FinishedTravel.{FinishedTravel}
 use Rattle.mc_replay.specs.declared.travel.Travel.{Travel}
 use Rattle.mc_explain.specs.WantedText.{lans_wanting}
-use Rattle.mc_explain.specs.declared.search.searching.LanSearch.{LanSearch}
+use Rattle.mc_explain.specs.declared.searches.searching.LanSearch.{LanSearch}
 use Rattle.mc_explain.specs.declared.causes.Cause.{Cause}
 use Rattle.mc_run.specs.AuditEnd.{FlowAnswer, are_right, count, is_right, is_unwanted, is_wrong}
 use Rattle.mc_run.specs.AuditEnd.{with_status}

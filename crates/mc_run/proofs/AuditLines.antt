@@ -27,7 +27,7 @@ use Rattle.mc_theory.specs.Lists.{In}
 use Rattle.mc_explain.specs.UnlistedLines.{AreLines, IsUnlistedLine, with_line_feed}
 use Rattle.mc_explain.specs.UnlistedText.{unlisted_text}
 use Rattle.mc_explain.specs.WantedText.{also_missed_text, wanted_text}
-use Rattle.mc_explain.specs.declared.search.searching.LanSearch.{LanSearch}
+use Rattle.mc_explain.specs.declared.searches.searching.LanSearch.{LanSearch}
 use Rattle.mc_explain.proofs.NameListLemmas.{are_indented-also_missed_text}
 use Rattle.mc_explain.proofs.NameListLemmas.{are_indented-wanted_text}
 use Rattle.mc_lines.proofs.IndentedLemmas.{are_indented-causes_text}

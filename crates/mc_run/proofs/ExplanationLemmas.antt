@@ -21,7 +21,7 @@ use Rattle.mc_maker.specs.declared.examined_flights.ExaminedFlights.TheVariants.
 use Rattle.mc_maker.specs.declared.examined_flights.ExaminedFlights.TheVariants.{FoundAtFlowTtl}
 use Rattle.mc_lines.specs.ExplanationText.{causes_text}
 use Rattle.mc_explain.specs.WantedText.{missed_besides, also_missed_text}
-use Rattle.mc_explain.specs.declared.search.searching.LanSearch.{LanSearch}
+use Rattle.mc_explain.specs.declared.searches.searching.LanSearch.{LanSearch}
 use Rattle.mc_explain.specs.declared.causes.Cause.{Cause}
 use Rattle.mc_json.specs.FlowData.{wrong_line_of_travel, wrong_line}
 use Rattle.mc_json.specs.WhyData.{why_data}

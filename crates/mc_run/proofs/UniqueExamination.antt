@@ -32,7 +32,7 @@ use Rattle.mc_maker.specs.declared.examined_flights.ExaminedFlights.TheVariants.
 use Rattle.mc_explain.specs.Explained.{ExplainsAtFlowTtl, ExplainsFinding, IsExplained}
 use Rattle.mc_explain.specs.SearchLine.{Search}
 use Rattle.mc_explain.specs.WantedText.{missed_besides}
-use Rattle.mc_explain.specs.declared.search.searching.LanSearch.{LanSearch}
+use Rattle.mc_explain.specs.declared.searches.searching.LanSearch.{LanSearch}
 use Rattle.mc_explain.specs.declared.causes.Cause.{Cause}
 use Rattle.mc_explain.proofs.UniqueCauseLemmas.{causes-are_unique}
 use Rattle.mc_run.specs.AuditExplanation.{IsExplanation, IsSearchAt255, IsSearchIfMissed, also_missed}

@@ -17,7 +17,7 @@ use Rattle.mc_explain.specs.Explained.{IsExplained}
 use Rattle.mc_explain.specs.SearchReach.{IsLanSearch}
 use Rattle.mc_explain.specs.SearchLine.{Search}
 use Rattle.mc_explain.specs.WantedText.{missed_besides}
-use Rattle.mc_explain.specs.declared.search.searching.LanSearch.{LanSearch}
+use Rattle.mc_explain.specs.declared.searches.searching.LanSearch.{LanSearch}
 use Rattle.mc_explain.specs.declared.causes.Cause.{Cause}
 use Rattle.mc_explain.specs.declared.causes.Cause.TheVariants.{Circle, LeastTtl, OnlyEverySource}
 use Rattle.mc_explain.specs.declared.causes.Cause.TheVariants.{SentOnto, StoppedAt, TakeOut, Unplaced}

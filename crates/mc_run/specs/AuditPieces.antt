@@ -9,7 +9,7 @@ use Rattle.mc_explain.specs.TopologyLans.{interfaces_on_lans}
 use Rattle.mc_explain.specs.SearchLine.{Search}
 use Rattle.mc_explain.specs.WantedText.{lans_wanting, missed_besides}
 use Rattle.mc_explain.specs.declared.causes.explanation.Explanation.{Explanation as ExplanationParts}
-use Rattle.mc_explain.specs.declared.search.searching.LanSearch.{LanSearch}
+use Rattle.mc_explain.specs.declared.searches.searching.LanSearch.{LanSearch}
 use Rattle.mc_explain.specs.declared.causes.Cause.{Cause}
 use Rattle.mc_input.specs.declared.domain.FolderDomain.{FolderDomain}
 use Rattle.mc_run.specs.AuditEnd.{FlowAnswer, count, end_objects, end_text, end_text_or_objects}

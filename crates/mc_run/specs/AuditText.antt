@@ -10,7 +10,7 @@ use Rattle.mc_replay.specs.declared.travel.Travel.{Travel}
 use Rattle.mc_lines.specs.ExplanationText.{causes_text}
 use Rattle.mc_lines.specs.ExplanationText.{search_text}
 use Rattle.mc_explain.specs.WantedText.{also_missed_text, wanted_text}
-use Rattle.mc_explain.specs.declared.search.searching.LanSearch.{LanSearch}
+use Rattle.mc_explain.specs.declared.searches.searching.LanSearch.{LanSearch}
 use Rattle.mc_explain.specs.declared.causes.Cause.{Cause}
 use Rattle.mc_run.specs.MakeRun.{found_lines}
 use Rattle.mc_run.specs.ReplayRun.{event_lines}

@@ -1,7 +1,7 @@
 //! What explains the finding of a flow's packet.
 
 use crate::causes::Cause;
-use crate::search::searching::LanSearch;
+use crate::searches::searching::LanSearch;
 use mc_topology::LanNo;
 
 /// What explains the finding of a flow's packet.

@@ -1,9 +1,0 @@
-use Rattle.std.proofs.Common.{◌≡◌}
-use Rattle.std.specs.List.{list_any}
-use Rattle.mc_explain.specs.LanProbe.{search_in}
-use Rattle.mc_explain.specs.SearchLine.{may_send_here, routers_on}
-use Rattle.mc_explain.proofs.search.lan_probe.LanProbe.has_possible_sender.Given as goal
-
-abbrev pub invariant-loop-own : goal.invariant-loop-own
-invariant-loop-own l = list_any (may_send_here (search_in l.fn.self)) l.own-iterator
-    ≡ list_any (may_send_here (search_in l.fn.self)) (routers_on (search_in l.fn.self) l.fn.lan)

@@ -1,7 +1,0 @@
-use Rattle.std.proofs.Common.{◌≡◌, ℕ, Bool, take, filter}
-use Rattle.mc_explain.specs.BucketsAndMarks.{AreMarksOf}
-use Rattle.mc_explain.proofs.search.reach.marked_routers.Given as goal
-
-abbrev pub invariant-loop-router : goal.invariant-loop-router
-invariant-loop-router l = (p : ℕ → Bool) → AreMarksOf p l.fn.marks →
-    l.found.items ≡ filter p (take l.router-index l.fn.routers)

@@ -1,0 +1,10 @@
+use Rattle.std.proofs.Common.{◌≡◌, ◌++◌, take, flat_map}
+use Rattle.mc_explain.specs.LanProbe.{search_in}
+use Rattle.mc_explain.specs.SearchLine.{device_lines}
+use Rattle.mc_explain.specs.declared.searches.listed_interface.ListedInterface.{ListedInterface}
+use Rattle.mc_explain.proofs.searches.lan_probe.LanProbe.add_device_lines.Given as goal
+
+abbrev pub invariant-loop-listed : goal.invariant-loop-listed
+invariant-loop-listed l = l.lines.items ≡ l.fn.lines.items
+    ++ flat_map (λ (i : ListedInterface). device_lines (search_in l.fn.self) l.fn.lan i i.vif)
+    (take l.listed-index l.fn.own)

@@ -1,0 +1,10 @@
+use Rattle.std.proofs.Common.{◌≡◌, ◌++◌, flat_map}
+use Rattle.mc_explain.specs.LanProbe.{search_in}
+use Rattle.mc_explain.specs.SearchLine.{router_lines, routers_on}
+use Rattle.mc_explain.proofs.searches.lan_probe.LanProbe.add_lines_of_routers.Given as goal
+
+abbrev pub invariant-loop-own : goal.invariant-loop-own
+invariant-loop-own l =
+    l.lines.items ++ flat_map (router_lines (search_in l.fn.self) l.fn.lan) l.own-iterator
+    ≡ l.fn.lines.items ++ flat_map (router_lines (search_in l.fn.self) l.fn.lan)
+    (routers_on (search_in l.fn.self) l.fn.lan)

@@ -1,0 +1,11 @@
+-- Without a row of the source and the group.
+use Rattle.std.proofs.Common.{inl, inr, sym, ap, ◌∙◌}
+use Rattle.mc_forward.specs.RowValues.{row_value}
+use Rattle.mc_explain.proofs.ProbeLemmas.{list_any_sends-open_row, list_any_sends-no_row}
+use Rattle.mc_explain.proofs.searches.lan_probe.LanProbe.sends_here.Goals as goal
+
+pub returns-in-Open : goal.returns-in-Open
+returns-in-Open c = elim c.in-Open.is [
+  | inl e ↦ sym (list_any_sends-open_row _ c.args.own.now (sym c.row.ensures.row ∙ ap row_value e))
+  | inr e ↦ sym (list_any_sends-no_row _ c.args.own.now (sym c.row.ensures.row ∙ ap row_value e))
+]

@@ -1,0 +1,12 @@
+use Rattle.std.proofs.Common.{◌≡◌, ◌||◌, ℕ, ◌<◌, false, length, drop}
+use Rattle.std.specs.Prelude.{slice_index_or}
+use Rattle.mc_explain.specs.SearchReach.{has_event}
+use Rattle.mc_explain.proofs.searches.reach.mark_routers.Given as goal
+
+abbrev pub invariant-loop-event : goal.invariant-loop-event
+invariant-loop-event l = record {
+  count : length l.marks ≡ length l.fn.marks;
+  marks : (router : ℕ) → router < length l.fn.marks →
+      (slice_index_or l.marks router false || has_event l.fn.sent (drop l.event-index l.fn.events) router)
+      ≡ (slice_index_or l.fn.marks router false || has_event l.fn.sent l.fn.events router);
+}

@@ -1,0 +1,12 @@
+use Rattle.std.proofs.Common.{◌≡◌, length, take}
+use Rattle.mc_explain.specs.LanProbe.{search_in}
+use Rattle.mc_explain.specs.BucketsAndMarks.{AreMarksOfListed}
+use Rattle.mc_explain.specs.SearchReach.{routers_of_lans}
+use Rattle.mc_explain.proofs.searches.reach.routers_of_lans.Given as goal
+
+abbrev pub invariant-loop-lan : goal.invariant-loop-lan
+invariant-loop-lan l = record {
+  count : length l.listed ≡ 256;
+  routers : l.routers.items ≡ routers_of_lans (search_in l.fn.lan_probe) (take l.lan-index l.fn.lans);
+  listed : AreMarksOfListed l.routers.items l.listed;
+}

@@ -1,0 +1,17 @@
+-- By the first copies.
+use Rattle.std.proofs.Common.{subst}
+use Rattle.std.specs.Prelude.{IfOk}
+use Rattle.mc_explain.specs.SearchReach.{IsLanSearch}
+use Rattle.mc_explain.specs.SearchLine.{Search}
+use Rattle.mc_explain.proofs.SearchLemmas.{search-of_view}
+use Rattle.mc_explain.proofs.searches.searching.search.Goals as goal
+
+pub returns : goal.returns
+returns c = record {
+  ok = (
+      subst (λ (s : Search). IfOk c.search_with_reach.result (IsLanSearch s c.args.events.now c.args.missed))
+      (search-of_view c.new-view.result c.args.domain.now c.args.flow c.args.summary.now c.args.excluded.now
+      c.in_ok-first_copies.first_copies.by_lan c.copies.result.now c.args.flight.now.flight.carried
+      c.new-view.ensures.flow c.in_ok-first_copies.ensures.first_copies c.copies.ensures.copies)
+      c.search_with_reach.ensures.ok);
+}

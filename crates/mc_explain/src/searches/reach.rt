@@ -1,0 +1,189 @@
+//! How far a packet came in a search: which routers sent copies on, and which took none.
+
+ghost use Rattle.std.specs.Prelude.{◌≡◌, ◌<◌, ◌≤◌, ◌||◌, ◌∷◌, ℕ, [], All, IfOk, OnOk, false, filter};
+ghost use Rattle.std.specs.Prelude.{◌&&◌, Bool, length, map, not, slice_index_or, true};
+ghost use Rattle.mc_forward.specs.OutcomeValues.{outcome_value};
+ghost use Rattle.mc_explain.specs.LanProbe.{IsLanProbe, search_in};
+ghost use Rattle.mc_explain.specs.BucketsAndMarks.{AreMarksOfListed, AreMarksOf};
+ghost use Rattle.mc_explain.specs.SearchLine.{append_new, routers_on};
+ghost use Rattle.mc_explain.specs.SearchReach.{has_event, outcome_matches, routers_of_lans, sent_on};
+ghost use Rattle.mc_explain.specs.SearchReach.{took_none};
+
+use crate::searches::lan_probe::LanProbe;
+use mc_forward::{Event, Outcome};
+use mc_text::Memory;
+use mc_topology::{LanNo, RouterNo};
+use std::alloc::Global;
+
+/// How far a packet came among the routers of a search, in the search's order, each router once.
+#[derive(Debug, Drop)]
+pub struct Reach {
+    /// The routers that sent copies on.
+    pub sent_on: Vec<RouterNo>,
+    /// The other routers that a copy came to and that took none: they have no row, or one with another
+    /// incoming vif.
+    pub took_none: Vec<RouterNo>,
+}
+
+/// The greatest number of routers of a topology.
+const MAX_ROUTERS: usize = 256;
+
+/// Whether an event sent the copy on (`sent`), or took none (not `sent`).
+fn outcome_matches(outcome: Outcome, sent: bool) -> bool
+    ensures { result ≡ outcome_matches sent (outcome_value outcome) }
+{
+    match outcome {
+        Outcome::Sent { .. } => sent,
+        Outcome::NoRow | Outcome::OtherVif => !sent,
+        Outcome::Open => false,
+    }
+}
+
+/// Marks the routers that have such an event.
+fn mark_routers(marks: &mut [bool], events: &[Event], sent: bool)
+    ensures count { length marks.new ≡ length marks.old }
+    ensures marks { (router : ℕ) → router < length marks.old →
+        slice_index_or marks.new router false
+        ≡ (slice_index_or marks.old router false || has_event sent events.now router) }
+{
+    for event in events {
+        let router = event.router.0 as usize;
+        if router < marks.len() && outcome_matches(event.outcome, sent) {
+            marks[router] = true;
+        }
+    }
+}
+
+/// Unmarks the routers that sent a copy on.
+fn unmark_senders(marks: &mut [bool], events: &[Event])
+    ensures count { length marks.new ≡ length marks.old }
+    ensures marks { (router : ℕ) → router < length marks.old →
+        slice_index_or marks.new router false
+        ≡ (slice_index_or marks.old router false && not (has_event true events.now router)) }
+{
+    for event in events {
+        let router = event.router.0 as usize;
+        if router < marks.len() && outcome_matches(event.outcome, true) {
+            marks[router] = false;
+        }
+    }
+}
+
+/// Adds a router, unless it is listed already.
+fn add_router(
+    routers: &mut Vec<RouterNo>,
+    listed: &mut [bool],
+    router: RouterNo,
+) -> Result<(), Memory>
+    requires router { router < length listed.old }
+    requires listed { AreMarksOfListed routers.old.items listed.old }
+    ensures count { length listed.new ≡ length listed.old }
+    ensures routers { OnOk result (routers.new.items ≡ append_new routers.old.items (router ∷ [])) }
+    ensures listed { OnOk result (AreMarksOfListed routers.new.items listed.new) }
+{
+    let number = router.0 as usize;
+    if !listed[number] {
+        routers.push(router)?;
+        listed[number] = true;
+    }
+    Ok(())
+}
+
+/// Adds the routers on a LAN that aren't listed yet.
+fn add_routers(
+    lan_probe: &LanProbe<'_>,
+    routers: &mut Vec<RouterNo>,
+    listed: &mut [bool],
+    lan: LanNo,
+) -> Result<(), Memory>
+    requires lan_probe { IsLanProbe lan_probe.now }
+    requires lan { lan < length lan_probe.now.view.now.domain.topology.lans }
+    requires listed { AreMarksOfListed routers.old.items listed.old }
+    requires room { length lan_probe.now.view.now.domain.topology.routers ≤ length listed.old }
+    ensures count { length listed.new ≡ length listed.old }
+    ensures routers { OnOk result (routers.new.items ≡ append_new routers.old.items
+        (map (λ g. g.0) (routers_on (search_in lan_probe.now) lan))) }
+    ensures listed { OnOk result (AreMarksOfListed routers.new.items listed.new) }
+{
+    for own in lan_probe.routers_on(lan) {
+        add_router(routers, listed, own.router)?;
+    }
+    Ok(())
+}
+
+/// The routers on these LANs, each once.
+fn routers_of_lans(
+    alloc: Global,
+    lan_probe: &LanProbe<'_>,
+    lans: &[LanNo],
+) -> Result<Vec<RouterNo>, Memory>
+    requires lan_probe { IsLanProbe lan_probe.now }
+    requires lans { All (λ lan. lan < length lan_probe.now.view.now.domain.topology.lans) lans.now }
+    ensures routers { IfOk result (λ routers.
+        routers.items ≡ routers_of_lans (search_in lan_probe.now) lans.now) }
+    ensures bounded { IfOk result (λ routers. All (λ router. router < 256) routers.items) }
+{
+    let _rules = lan_probe.view.topology();
+    let mut listed = [false; MAX_ROUTERS];
+    let mut routers = Vec::new(alloc);
+    for lan in lans {
+        add_routers(lan_probe, &mut routers, &mut listed, *lan)?;
+    }
+    Ok(routers)
+}
+
+/// The routers that are marked.
+fn marked_routers(
+    alloc: Global,
+    routers: &[RouterNo],
+    marks: &[bool],
+) -> Result<Vec<RouterNo>, Memory>
+    requires within { All (λ router. router < length marks.now) routers.now }
+    ensures marked { (p : ℕ → Bool) → AreMarksOf p marks.now →
+        IfOk result (λ found. found.items ≡ filter p routers.now) }
+{
+    let mut found = Vec::new(alloc);
+    for router in routers {
+        if marks[router.0 as usize] {
+            found.push(*router)?;
+        }
+    }
+    Ok(found)
+}
+
+/// Which of these routers sent copies on, and which others took none.
+fn reach_among(alloc: Global, routers: &[RouterNo], events: &[Event]) -> Result<Reach, Memory>
+    requires bounded { All (λ router. router < 256) routers.now }
+    ensures sent_on { IfOk result (λ reach.
+        reach.sent_on.items ≡ sent_on events.now routers.now) }
+    ensures took_none { IfOk result (λ reach.
+        reach.took_none.items ≡ took_none events.now routers.now) }
+{
+    let mut sent_on = [false; MAX_ROUTERS];
+    mark_routers(&mut sent_on, events, true);
+    let mut took_none = [false; MAX_ROUTERS];
+    mark_routers(&mut took_none, events, false);
+    unmark_senders(&mut took_none, events);
+    Ok(Reach {
+        sent_on: marked_routers(alloc, routers, &sent_on)?,
+        took_none: marked_routers(alloc, routers, &took_none)?,
+    })
+}
+
+/// Which routers of these LANs sent copies on, and which others took none.
+pub(crate) fn reach_of(
+    alloc: Global,
+    lan_probe: &LanProbe<'_>,
+    lans: &[LanNo],
+    events: &[Event],
+) -> Result<Reach, Memory>
+    requires lan_probe { IsLanProbe lan_probe.now }
+    requires lans { All (λ lan. lan < length lan_probe.now.view.now.domain.topology.lans) lans.now }
+    ensures sent_on { IfOk result (λ reach. reach.sent_on.items ≡
+        sent_on events.now (routers_of_lans (search_in lan_probe.now) lans.now)) }
+    ensures took_none { IfOk result (λ reach. reach.took_none.items ≡
+        took_none events.now (routers_of_lans (search_in lan_probe.now) lans.now)) }
+{
+    let routers = routers_of_lans(alloc, lan_probe, lans)?;
+    reach_among(alloc, &routers, events)
+}

@@ -26,13 +26,13 @@ ghost use Rattle.mc_run.specs.RunOutput.{Answers, IsWrittenWhole, WritesPart};
 
 use crate::audit::audit_end::{begin_lines, push_end};
 use crate::audit::audit_flow::push_flow;
-use crate::audit::audit_output::{AuditAnswer, AuditOutput, with_unwanted};
+pub use crate::audit::audit_output::AuditAnswer;
+use crate::audit::audit_output::{AuditOutput, with_unwanted};
 use crate::audit::audited_domain::AuditedDomain;
 use crate::audit::flow_status::FlowCounts;
 use crate::excluded::excluded_marks;
 use crate::fault::RunFault;
 use crate::run_output::{RunOutput, write_output};
-pub use audit_output::AuditAnswer;
 use mc_cert::DistinctTrees;
 use mc_cli::AuditOptions;
 use mc_explain::InterfacesOfLans;

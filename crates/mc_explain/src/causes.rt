@@ -5,9 +5,11 @@ mod explanation;
 pub(crate) mod first_copies;
 mod hop;
 mod path;
+mod shown_need;
 
 pub use explained::explain;
-pub use explanation::Explanation;
+pub use explanation::{Certainty, Explanation};
+pub use shown_need::shown_from;
 use mc_topology::{LanNo, RouterNo};
 
 /// A cause of a flow's fault, with LANs, routers and vifs by their numbers. A router's row is the one that

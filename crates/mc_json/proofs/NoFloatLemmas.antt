@@ -27,7 +27,8 @@ use Rattle.mc_json.specs.RowData.{lan_data, router_data}
 use Rattle.mc_json.specs.FlowData.{event_data, events_if_asked, finding_data}
 use Rattle.mc_json.specs.FlowData.{outcome_data, reached_data, right_data, sender_router, sender_vif}
 use Rattle.mc_json.specs.EndData.{unlisted_data, without_data}
-use Rattle.mc_json.specs.FlowData.{tree_data, wrong_data, wrong_flow_of}
+use Rattle.mc_json.specs.FlowData.{shown_from_data, tree_data, wrong_data, wrong_flow_of, wrong_mark}
+use Rattle.mc_explain.specs.declared.causes.explanation.Certainty.{Certainty}
 
 -- ---- lists
 
@@ -139,31 +140,43 @@ abbrev pub EventsHaveNoFloat : Option (List Data) → Type 0
 EventsHaveNoFloat None = Unit {0}
 EventsHaveNoFloat (Some es) = HaveNoFloat es
 
-no_float-wrong_data : (number : ℕ) (f : Flow) (also : List Data) (events : Option (List Data))
+no_float-wrong_mark : (known : Bool) → has_float (wrong_mark known) ≡ false
+no_float-wrong_mark true = refl
+no_float-wrong_mark false = refl
+
+no_float-shown_from : (shown_from : Option ℕ) → has_float (shown_from_data shown_from) ≡ false
+no_float-shown_from None = refl
+no_float-shown_from (Some ttl) = refl
+
+no_float-wrong_data : (number : ℕ) (f : Flow) (certainty : Certainty) (also : List Data) (events : Option (List Data))
     (finding : Data) (found_ttl : ℕ) (why : List Data) → HaveNoFloat also → EventsHaveNoFloat events
     → has_float finding ≡ false → HaveNoFloat why
     → has_float (wrong_data number f (record {
+      certainty = certainty;
       also = also;
       events = events;
       finding = finding;
       found_ttl = found_ttl;
       why = why;
     })) ≡ false
-no_float-wrong_data number f also None finding found_ttl why plain causes found because =
-    rw (plain, found, because)
-no_float-wrong_data number f also (Some es) finding found_ttl why plain causes found because =
-    rw (plain, causes, found, because)
+no_float-wrong_data number f certainty also None finding found_ttl why plain causes found because =
+    rw (plain, found, no_float-wrong_mark certainty.known,
+    no_float-shown_from certainty.shown_from, because)
+no_float-wrong_data number f certainty also (Some es) finding found_ttl why plain causes found because =
+    rw (plain, causes, found, no_float-wrong_mark certainty.known,
+    no_float-shown_from certainty.shown_from, because)
 
 no_float-events_if_asked : (t : TopologyValue) (events_asked : Bool) (es : List Event)
     → EventsHaveNoFloat (events_if_asked t events_asked es)
 no_float-events_if_asked t true es = no_float-events t es
 no_float-events_if_asked t false es = tt
 
-pub no_float-wrong_flow_of : (number : ℕ) (f : Flow) (t : TopologyValue) (found_ttl : ℕ) (finding : Finding)
-    (events : List Event) (also : List ℕ) (why : List Data) (events_asked : Bool) → HaveNoFloat why
-    → has_float (wrong_data number f (wrong_flow_of t found_ttl finding events also why events_asked)) ≡ false
-no_float-wrong_flow_of number f t found_ttl finding events also why events_asked because =
-    no_float-wrong_data number f (map (lan_data t) also) (events_if_asked t events_asked events)
+pub no_float-wrong_flow_of : (number : ℕ) (f : Flow) (t : TopologyValue) (certainty : Certainty) (found_ttl : ℕ)
+    (finding : Finding) (events : List Event) (also : List ℕ) (why : List Data) (events_asked : Bool)
+    → HaveNoFloat why → has_float (wrong_data number f
+    (wrong_flow_of t certainty found_ttl finding events also why events_asked)) ≡ false
+no_float-wrong_flow_of number f t certainty found_ttl finding events also why events_asked because =
+    no_float-wrong_data number f certainty (map (lan_data t) also) (events_if_asked t events_asked events)
     (finding_data t finding) found_ttl why (no_float-lans t also) (no_float-events_if_asked t events_asked
     events)
     (no_float-finding_data t finding) because

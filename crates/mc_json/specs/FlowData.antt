@@ -13,6 +13,7 @@ use Rattle.mc_replay.specs.declared.finding.Finding.{Finding}
 use Rattle.mc_replay.specs.declared.finding.Finding.TheVariants.{Clean, Duplicate, Loop, Stray}
 use Rattle.mc_replay.specs.declared.finding.Finding.TheVariants.{Missed}
 use Rattle.mc_replay.specs.declared.travel.FinishedTravel.{FinishedTravel}
+use Rattle.mc_explain.specs.declared.causes.explanation.Certainty.{Certainty}
 use Rattle.serde_json.specs.Data.{Data, null, boolean, string}
 use Rattle.mc_json.specs.RowData.{count_data, line_of, list_data, object_data}
 use Rattle.mc_json.specs.RowData.{lan_data, router_data}
@@ -112,21 +113,33 @@ outcome_data t e (Sent copies strays) = object_data (
 abbrev pub event_data : TopologyValue → Event → Data
 event_data t e = outcome_data t e e.outcome
 
--- the members that each flow has that isn't right, by the TTL of its finding
-abbrev pub each_wrong_members : (number : ℕ) → Flow → (found_ttl : ℕ) → (why : List Data)
+-- that it isn't right, if that is known, or else null
+abbrev pub wrong_mark : (known : Bool) → Data
+wrong_mark true = boolean false
+wrong_mark false = null
+
+-- the TTL from which on packets show a finding, null where none is said
+abbrev pub shown_from_data : Option ℕ → Data
+shown_from_data None = null
+shown_from_data (Some ttl) = count_data ttl
+
+-- the members that each flow has that has a finding, by the TTL of that
+abbrev pub each_wrong_members : (number : ℕ) → Flow → Certainty → (found_ttl : ℕ) → (why : List Data)
     → List (List ℕ × Data)
-each_wrong_members number f found_ttl why =
+each_wrong_members number f certainty found_ttl why =
     (codes "flow", count_data (number + 1))
     ∷ (codes "found_ttl", count_data found_ttl)
     ∷ (codes "group", string (dotted f.group))
-    ∷ (codes "right", boolean false)
+    ∷ (codes "right", wrong_mark certainty.known)
+    ∷ (codes "shown_from", shown_from_data certainty.shown_from)
     ∷ (codes "source", string (dotted f.source))
     ∷ (codes "ttl", count_data f.ttl)
     ∷ (codes "why", list_data why) ∷ []
 
--- A flow that isn't right: the finding and its TTL, the LANs that were also missed, the travel's events
--- if they are asked for, and the causes.
+-- A flow with a finding: how certain that is, the finding and its TTL, the LANs that were also missed, the
+-- travel's events if they are asked for, and the causes.
 pub record WrongFlow : Type 0 where
+  pub certainty : Certainty
   pub also : List Data
   pub events : Option (List Data)
   pub finding : Data
@@ -141,7 +154,7 @@ abbrev pub wrong_members : (number : ℕ) → Flow → WrongFlow → List (List 
 wrong_members number f w =
     (codes "also", list_data w.also)
     ∷ (events_member w.events
-    ++ ((codes "finding", w.finding) ∷ each_wrong_members number f w.found_ttl w.why))
+    ++ ((codes "finding", w.finding) ∷ each_wrong_members number f w.certainty w.found_ttl w.why))
 
 abbrev pub wrong_data : (number : ℕ) → Flow → WrongFlow → Data
 wrong_data number f w = object_data (wrong_members number f w)
@@ -151,9 +164,10 @@ abbrev pub events_if_asked : TopologyValue → (events_asked : Bool) → List Ev
 events_if_asked t events_asked es = if events_asked then Some (map (event_data t) es) else None
 
 -- by a travel's finding, its events and the LANs that it also missed
-abbrev pub wrong_flow_of : TopologyValue → (found_ttl : ℕ) → Finding → List Event → (also : List ℕ)
-    → (why : List Data) → (events_asked : Bool) → WrongFlow
-wrong_flow_of t found_ttl finding events also why events_asked = record {
+abbrev pub wrong_flow_of : TopologyValue → Certainty → (found_ttl : ℕ) → Finding → List Event
+    → (also : List ℕ) → (why : List Data) → (events_asked : Bool) → WrongFlow
+wrong_flow_of t certainty found_ttl finding events also why events_asked = record {
+  certainty = certainty;
   also = map (lan_data t) also;
   events = events_if_asked t events_asked events;
   finding = finding_data t finding;
@@ -162,21 +176,21 @@ wrong_flow_of t found_ttl finding events also why events_asked = record {
 }
 
 -- the line of a flow that isn't right
-abbrev pub wrong_line : DomainFacts → (number : ℕ) → Flow → (found_ttl : ℕ) → Finding → List Event
-    → (also : List ℕ) → (why : List Data) → (events_asked : Bool) → List ℕ
-wrong_line d number f found_ttl finding events also why events_asked =
-    line_of (wrong_data number f (wrong_flow_of d.topology found_ttl finding events also why events_asked))
+abbrev pub wrong_line : DomainFacts → (number : ℕ) → Flow → Certainty → (found_ttl : ℕ) → Finding
+    → List Event → (also : List ℕ) → (why : List Data) → (events_asked : Bool) → List ℕ
+wrong_line d number f certainty found_ttl finding events also why events_asked = line_of (wrong_data number f
+    (wrong_flow_of d.topology certainty found_ttl finding events also why events_asked))
 
 -- the flow by the finished travel that shows its fault, and by the LANs that its packet also missed
-abbrev pub wrong_flow_of_travel : FinishedTravel → (found_ttl : ℕ) → (also : List ℕ) → (why : List Data)
-    → (events_asked : Bool) → WrongFlow
-wrong_flow_of_travel e found_ttl also why events_asked =
-    wrong_flow_of e.flight.domain.topology found_ttl e.travel.finding e.travel.events.items also why
+abbrev pub wrong_flow_of_travel : FinishedTravel → Certainty → (found_ttl : ℕ) → (also : List ℕ)
+    → (why : List Data) → (events_asked : Bool) → WrongFlow
+wrong_flow_of_travel e certainty found_ttl also why events_asked =
+    wrong_flow_of e.flight.domain.topology certainty found_ttl e.travel.finding e.travel.events.items also why
     events_asked
 
 -- and the line of the flow
-abbrev pub wrong_line_of_travel : (number : ℕ) → Flow → FinishedTravel → (found_ttl : ℕ) → (also : List ℕ)
-    → (why : List Data) → (events_asked : Bool) → List ℕ
-wrong_line_of_travel number f e found_ttl also why events_asked =
-    wrong_line (facts e.flight.domain) number f found_ttl e.travel.finding e.travel.events.items also why
-    events_asked
+abbrev pub wrong_line_of_travel : (number : ℕ) → Flow → FinishedTravel → Certainty → (found_ttl : ℕ)
+    → (also : List ℕ) → (why : List Data) → (events_asked : Bool) → List ℕ
+wrong_line_of_travel number f e certainty found_ttl also why events_asked =
+    wrong_line (facts e.flight.domain) number f certainty found_ttl e.travel.finding e.travel.events.items also
+    why events_asked

@@ -13,5 +13,5 @@ use Rattle.mc_json.specs.WhyData.{why_data}
 abbrev pub explained_line : DomainValue → List SummaryValue → (flow : ℕ) → FinishedTravel → (found_ttl : ℕ)
     → Explanation → (events_asked : Bool) → List ℕ
 explained_line d summary flow ended found_ttl x events_asked =
-    wrong_line_of_travel flow (flow_at d.topology flow) ended found_ttl x.also.now
+    wrong_line_of_travel flow (flow_at d.topology flow) ended x.certainty found_ttl x.also.now
     (why_data (facts d) summary flow x.causes.now x.search.now) events_asked

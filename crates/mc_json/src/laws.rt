@@ -28,8 +28,8 @@ pub fn each_line_is_an_object()
         AreObjectLines (unlisted_lines all t summary) }
     ensures without { (t : TopologyValue) (excluded : List Bool) →
         AreObjectLines (without_line t excluded) }
-    ensures summary { (right unwanted wrong : ℕ) →
-        AreObjectLines (line_of (summary_data right unwanted wrong)) }
+    ensures summary { (right unknown unwanted wrong : ℕ) →
+        AreObjectLines (line_of (summary_data right unknown unwanted wrong)) }
 {}
 
 /// The line of each verdict, letter by letter.

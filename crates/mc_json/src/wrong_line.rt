@@ -1,12 +1,13 @@
 //! The line of a flow that isn't right.
 
-ghost use Rattle.std.specs.Prelude.{◌≡◌, ◌<◌, ◌++◌, IfOk, OnOk, false, length, map};
+ghost use Rattle.std.specs.Prelude.{◌≡◌, ◌<◌, ◌++◌, IfOk, OnOk, codes, false, length, map};
 ghost use Rattle.std.specs.String.{string_bytes};
+ghost use Rattle.serde_json.specs.Data.{Members, put as with_member};
 ghost use Rattle.serde_json.specs.View.{items_of, view as data_of};
 ghost use Rattle.serde_json.specs.Written.{items_have_float};
 ghost use Rattle.mc_json.specs.WhyData.{why_data_in};
 ghost use Rattle.mc_json.specs.ObjectLines.{HasMembers};
-ghost use Rattle.mc_json.specs.FlowData.{each_wrong_members, wrong_data};
+ghost use Rattle.mc_json.specs.FlowData.{each_wrong_members, shown_from_data, wrong_data, wrong_mark};
 ghost use Rattle.mc_json.specs.FlowData.{wrong_flow_of_travel, wrong_line_of_travel};
 ghost use Rattle.mc_json.specs.RowData.{members};
 ghost use Rattle.mc_json.specs.WrongLine.{explained_line};
@@ -17,7 +18,7 @@ use crate::found_value::{event_values, finding_value};
 use crate::line::push_line;
 use crate::line_values::LineValues;
 use crate::name_values::lan_names;
-use mc_explain::Explanation;
+use mc_explain::{Certainty, Explanation};
 use mc_forward::{Domain, FlowView};
 use mc_lines::{LineContext, add_causes, add_search};
 use mc_replay::FinishedTravel;
@@ -27,15 +28,45 @@ use mc_topology::{Flow, LanNo};
 use serde_json::Value;
 use std::alloc::{AllocError, Global};
 
-/// The members of each wrong flow: the flow, the TTL of the travel that shows it, and the causes.
-fn wrong_fields(alloc: Global, number: u32, flow: &Flow, found_ttl: u8, why: Vec<Value>) -> Fields
-    ensures { HasMembers result
-        (members (each_wrong_members number flow.now found_ttl (map data_of why.items))) }
+/// Adds that a flow isn't right, if that is known, or else null.
+fn with_wrong_mark(fields: Fields, known: bool) -> Fields
+    ensures { (ms : Members) → HasMembers fields ms
+        → HasMembers result (with_member (codes "right") (wrong_mark known) ms) }
 {
-    flow_fields(alloc, number, flow)
-        .count("found_ttl", found_ttl as u64)
-        .flag("right", false)
-        .list("why", Ok(why))
+    if known {
+        fields.flag("right", false)
+    } else {
+        fields.null("right")
+    }
+}
+
+/// Adds the TTL from which on packets show a finding, null where none is said.
+fn with_shown_from(fields: Fields, shown_from: Option<u8>) -> Fields
+    ensures { (ms : Members) → HasMembers fields ms
+        → HasMembers result (with_member (codes "shown_from") (shown_from_data shown_from) ms) }
+{
+    match shown_from {
+        Some(ttl) => fields.count("shown_from", ttl as u64),
+        None => fields.null("shown_from"),
+    }
+}
+
+/// The members of each flow with a finding: the flow, how certain the finding is, the TTL of the travel that
+/// shows it, and the causes.
+fn wrong_fields(
+    alloc: Global,
+    number: u32,
+    flow: &Flow,
+    certainty: Certainty,
+    found_ttl: u8,
+    why: Vec<Value>,
+) -> Fields
+    ensures { HasMembers result
+        (members (each_wrong_members number flow.now certainty found_ttl (map data_of why.items))) }
+{
+    let fields = flow_fields(alloc, number, flow).count("found_ttl", found_ttl as u64);
+    let fields = with_wrong_mark(fields, certainty.known);
+    with_shown_from(fields, certainty.shown_from).list("why", Ok(why))
 }
 
 /// The object of a flow that isn't right, by the travel that shows it.
@@ -44,16 +75,17 @@ fn wrong_value(
     number: u32,
     flow: &Flow,
     ended: &FinishedTravel<'_>,
+    certainty: Certainty,
     found_ttl: u8,
     also: &[LanNo],
     events_asked: bool,
     why: Vec<Value>,
 ) -> Result<Value, AllocError>
     ensures { IfOk result (λ value. data_of value ≡ wrong_data number flow.now
-        (wrong_flow_of_travel ended.now found_ttl also.now (map data_of why.items) events_asked)) }
+        (wrong_flow_of_travel ended.now certainty found_ttl also.now (map data_of why.items) events_asked)) }
 {
     let topology = ended.flight.flow_view().topology();
-    let fields = wrong_fields(alloc, number, flow, found_ttl, why)
+    let fields = wrong_fields(alloc, number, flow, certainty, found_ttl, why)
         .list("also", lan_names(alloc, topology, also))
         .value(
             "finding",
@@ -73,6 +105,7 @@ fn push_wrong_flow(
     number: u32,
     flow: &Flow,
     ended: &FinishedTravel<'_>,
+    certainty: Certainty,
     found_ttl: u8,
     also: &[LanNo],
     events_asked: bool,
@@ -80,14 +113,15 @@ fn push_wrong_flow(
 ) -> Result<(), AllocError>
     requires no_float { items_have_float (items_of (map data_of why.items)) ≡ false }
     ensures added { OnOk result (string_bytes text.new ≡ string_bytes text.old
-        ++ wrong_line_of_travel number flow.now ended.now found_ttl also.now (map data_of why.items)
-        events_asked) }
+        ++ wrong_line_of_travel number flow.now ended.now certainty found_ttl also.now
+        (map data_of why.items) events_asked) }
 {
     let value = wrong_value(
         alloc,
         number,
         flow,
         ended,
+        certainty,
         found_ttl,
         also,
         events_asked,
@@ -148,6 +182,7 @@ pub fn push_wrong_line(
         flow,
         &listed,
         ended,
+        explanation.certainty,
         found_ttl,
         explanation.also,
         events_asked,

@@ -1,5 +1,5 @@
 -- The lines of one flow in an audit, as text or in JSON, after those of flows whose trees were printed.
-use Rattle.std.specs.Prelude.{ℕ, ◌==◌, ◌&&◌, not, Bool, true, false, List, [], ◌∷◌, length}
+use Rattle.std.specs.Prelude.{ℕ, ◌==◌, ◌&&◌, not, Bool, true, false, List, [], length, Option, Some, None}
 use Rattle.std.specs.Prelude.{if◌then◌else◌}
 use Rattle.mc_tables.specs.Summary.{SummaryValue}
 use Rattle.mc_topology.specs.Topology.{TopologyValue}
@@ -13,7 +13,6 @@ use Rattle.mc_run.specs.AuditObjects.{right_objects, wrong_object}
 use Rattle.mc_run.specs.AuditText.{Explanation, right_lines, wrong_lines}
 use Rattle.mc_cli.specs.declared.audit_options.AuditOptions.{AuditOptions}
 use Rattle.mc_run.specs.declared.audit.flow_status.FlowStatus.{FlowStatus}
-use Rattle.mc_run.specs.declared.audit.flow_status.FlowStatus.TheVariants.{Wanted, Unwanted, Wrong}
 
 -- ---- a flow that is right
 
@@ -35,14 +34,14 @@ abbrev pub right_flow_lines : AuditOptions → (whole : Bool) → TopologyValue 
 right_flow_lines o whole t printed flow es wanted =
     unless_hidden o.faults wanted (right_lines_or_object o.json whole t printed flow es wanted)
 
--- ---- a flow that isn't
+-- ---- a flow with a finding
 
 abbrev pub wrong_lines_or_object : (json travels : Bool) → DomainFacts → List SummaryValue
     → (flow ttl : ℕ) → Travel → Explanation → List ℕ
 wrong_lines_or_object true travels d summary flow ttl travel x =
     wrong_object travels d summary flow ttl travel x
 wrong_lines_or_object false travels d summary flow ttl travel x =
-    wrong_lines travels d summary flow ttl travel x
+    wrong_lines travels d summary flow travel x
 
 abbrev pub wrong_flow_lines : AuditOptions → DomainFacts → List SummaryValue → (flow ttl : ℕ) → Travel
     → Explanation → List ℕ
@@ -70,11 +69,23 @@ shown_trees_with o printed (Certified entries) wanted =
     with_shown_tree o.json (is_hidden o.faults wanted) printed entries.items
 shown_trees_with o printed (Found ttl travel) wanted = printed
 
--- the status of a right flow, and of any flow
-abbrev pub status_of_right : (wanted : List ℕ) → FlowStatus
-status_of_right [] = Unwanted
-status_of_right (lan ∷ wanted) = Wanted
+-- ---- what is known of a flow
 
-abbrev pub status_of : Examined → (wanted : List ℕ) → FlowStatus
-status_of (Certified entries) wanted = status_of_right wanted
-status_of (Found ttl travel) wanted = Wrong
+-- without a finding it is right, if the whole domain is known; with one it isn't, if that is known
+abbrev pub known_right : (whole : Bool) → Examined → (known : Bool) → Option Bool
+known_right whole (Certified entries) known = if whole then Some true else None
+known_right whole (Found ttl travel) known = if known then Some false else None
+
+-- the status of a flow without a finding, of one with a finding, and of any flow
+abbrev pub status_of_right : (whole : Bool) → (wanted : List ℕ) → FlowStatus
+status_of_right whole wanted = record {
+  right = if whole then Some true else None;
+  unwanted = length wanted == 0;
+}
+
+abbrev pub status_of_wrong : (known : Bool) → FlowStatus
+status_of_wrong known = record { right = if known then Some false else None; unwanted = false }
+
+abbrev pub status_of : (whole : Bool) → Examined → (known : Bool) → (wanted : List ℕ) → FlowStatus
+status_of whole (Certified entries) known wanted = status_of_right whole wanted
+status_of whole (Found ttl travel) known wanted = status_of_wrong known

@@ -27,11 +27,11 @@ right_objects whole t printed flow es wanted =
     ++ line_of (right_data whole flow (flow_at t flow) (length es) (tree_number_of (with_tree printed es) es)
     (map (lan_data t) wanted))
 
--- ---- a flow that isn't
+-- ---- a flow with a finding
 
 -- the finding, why, the other missed LANs, and with the option the travel
 abbrev pub wrong_object : (travels : Bool) → DomainFacts → List SummaryValue → (flow ttl : ℕ) → Travel
     → Explanation → List ℕ
 wrong_object travels d summary flow ttl travel x =
-    wrong_line d flow (flow_at d.topology flow) ttl travel.finding travel.events.items x.also
+    wrong_line d flow (flow_at d.topology flow) x.certainty ttl travel.finding travel.events.items x.also
     (why_data d summary flow x.printed x.search) travels

@@ -10,9 +10,9 @@ ghost use Rattle.mc_cert.specs.Distinct.{tree_number_of, with_tree};
 ghost use Rattle.mc_check.specs.declared.verdict.Verdict.TheVariants.{Yes as is_yes};
 ghost use Rattle.mc_run.specs.AuditObjects.{tree_line};
 ghost use Rattle.mc_run.specs.AuditPieces.{audited_value, lans_wanting_flow, right_flow_lines_of};
-ghost use Rattle.mc_run.specs.AuditPieces.{right_lines_of, right_objects_of};
+ghost use Rattle.mc_run.specs.AuditPieces.{right_lines_of, right_objects_of, status_of_right_flow};
 ghost use Rattle.mc_run.specs.AuditText.{right_line};
-ghost use Rattle.mc_run.specs.AuditFlowText.{is_hidden, status_of_right, with_shown_tree};
+ghost use Rattle.mc_run.specs.AuditFlowText.{is_hidden, with_shown_tree};
 
 use crate::audit::audited_domain::AuditedDomain;
 use crate::audit::flow_status::FlowStatus;
@@ -133,17 +133,6 @@ fn lans_wanting_flow(
     Ok(lans)
 }
 
-/// The status of a right flow that these LANs want.
-fn status_of_right(wanted: &[LanNo]) -> FlowStatus
-    ensures { result ≡ status_of_right wanted.now }
-{
-    if wanted.is_empty() {
-        FlowStatus::Unwanted
-    } else {
-        FlowStatus::Wanted
-    }
-}
-
 /// Writes the lines of a right flow with these entries, as text or in JSON; nothing where only faults
 /// are asked for and the flow is wanted. Returns the flow's status.
 fn push_right(
@@ -160,14 +149,14 @@ fn push_right(
     requires copies { copies ≡ length entries.now }
     requires room { length shown_trees.old < 4096 }
     ensures flow_status { IfOk result (λ flow_status.
-        flow_status ≡ status_of_right (lans_wanting_flow audited.now flow)) }
+        flow_status ≡ status_of_right_flow audited.now flow) }
     ensures shown_trees { OnOk result (shown_trees.new ≡ with_shown_tree options.json
         (is_hidden options.faults (lans_wanting_flow audited.now flow)) shown_trees.old entries.now) }
     ensures lines { OnOk result (string_bytes text.new ≡ string_bytes text.old
         ++ right_flow_lines_of audited.now options shown_trees.old flow entries.now) }
 {
     let wanted = lans_wanting_flow(alloc, audited, flow)?;
-    let flow_status = status_of_right(&wanted);
+    let flow_status = FlowStatus::of_right(audited.without.is_empty(), &wanted);
     if options.faults && !wanted.is_empty() {
         return Ok(flow_status);
     }
@@ -204,7 +193,7 @@ fn push_with_verdict(
     requires accepted { IfOk answer (λ verdict. verdict ≡ is_yes (length entries.now)) }
     ensures answered { OnOk result (IsOkAnd answer (λ verdict. verdict ≡ is_yes (length entries.now))) }
     ensures flow_status { IfOk result (λ flow_status.
-        flow_status ≡ status_of_right (lans_wanting_flow audited.now flow)) }
+        flow_status ≡ status_of_right_flow audited.now flow) }
     ensures shown_trees { OnOk result (shown_trees.new ≡ with_shown_tree options.json
         (is_hidden options.faults (lans_wanting_flow audited.now flow)) shown_trees.old entries.now) }
     ensures lines { OnOk result (string_bytes text.new ≡ string_bytes text.old
@@ -223,7 +212,7 @@ fn push_with_verdict(
                 text,
             )
         }
-        Ok(Verdict::No(_)) => Ok(FlowStatus::Wrong),
+        Ok(Verdict::No(_)) => Ok(FlowStatus::of_wrong(true)),
         Err(_) => Err(NoMemory),
     }
 }
@@ -245,7 +234,7 @@ pub(crate) fn push_checked(
     ensures headline { OnOk result
         (HeadlineHolds (net_of (audited_value audited.now).domain flow) (length entries.now)) }
     ensures flow_status { IfOk result (λ flow_status.
-        flow_status ≡ status_of_right (lans_wanting_flow audited.now flow)) }
+        flow_status ≡ status_of_right_flow audited.now flow) }
     ensures shown_trees { OnOk result (shown_trees.new ≡ with_shown_tree options.json
         (is_hidden options.faults (lans_wanting_flow audited.now flow)) shown_trees.old entries.now) }
     ensures lines { OnOk result (string_bytes text.new ≡ string_bytes text.old

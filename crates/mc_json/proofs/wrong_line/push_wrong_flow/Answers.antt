@@ -10,7 +10,8 @@ push_line-requires c = record {
       let ended = c.args.ended.now in
       let flight = ended.flight in
       ap has_float c.in_ok-value.ensures
-      ∙ no_float-wrong_flow_of c.args.number c.args.flow.now flight.domain.topology c.args.found_ttl
+      ∙ no_float-wrong_flow_of c.args.number c.args.flow.now flight.domain.topology c.args.certainty
+      c.args.found_ttl
       ended.travel.finding ended.travel.events.items c.args.also.now (map data_of c.args.why.items)
       c.args.events_asked
       c.requires.no_float);

@@ -21,10 +21,10 @@ is_stray_at-run n t ps i h =
     let b = is_stray_of-run n t ps i h in
     elim b.2 [
       | inl q ↦ inl (record {
-          threshold = q.threshold;
-          has = record { incoming = q.incoming; pairs = q.pairs; row = q.row; pair = q.pair };
-          unplaced = q.unplaced;
-        })
+        threshold = q.threshold;
+        has = record { incoming = q.incoming; pairs = q.pairs; row = q.row; pair = q.pair };
+        unplaced = q.unplaced;
+      })
       | inr q ↦ (let path = reached_with_ttl-from_carried n t ps b.0.lan
           (in-map (λ (c : Copy). c.lan) b.0 (run n ps (start n t)).carried b.1) in
           inr (record { row = q.row; lan = b.0.lan; placed = q.placed; reached = (path.0, path.1) }))

@@ -9,8 +9,8 @@ mod shown_need;
 
 pub use explained::explain;
 pub use explanation::{Certainty, Explanation};
-pub use shown_need::shown_from;
 use mc_topology::{LanNo, RouterNo};
+pub use shown_need::shown_from;
 
 /// A cause of a flow's fault, with LANs, routers and vifs by their numbers. A router's row is the one that
 /// it has for the flow.

@@ -160,11 +160,22 @@ no_float-wrong_data : (number : ℕ) (f : Flow) (certainty : Certainty) (also : 
       why = why;
     })) ≡ false
 no_float-wrong_data number f certainty also None finding found_ttl why plain causes found because =
-    rw (plain, found, no_float-wrong_mark certainty.known,
-    no_float-shown_from certainty.shown_from, because)
+    rw (
+      plain,
+      found,
+      no_float-wrong_mark certainty.known,
+      no_float-shown_from certainty.shown_from,
+      because,
+    )
 no_float-wrong_data number f certainty also (Some es) finding found_ttl why plain causes found because =
-    rw (plain, causes, found, no_float-wrong_mark certainty.known,
-    no_float-shown_from certainty.shown_from, because)
+    rw (
+      plain,
+      causes,
+      found,
+      no_float-wrong_mark certainty.known,
+      no_float-shown_from certainty.shown_from,
+      because,
+    )
 
 no_float-events_if_asked : (t : TopologyValue) (events_asked : Bool) (es : List Event)
     → EventsHaveNoFloat (events_if_asked t events_asked es)

@@ -1,7 +1,7 @@
 -- In a complete run without loss, clean or not, each LAN that is reached carried a copy, by each path that
 -- leads there, and each copy was handled wherever it is heard.
 use Rattle.std.proofs.Common.{◌≡◌, ◌≢◌, ℕ, zero, suc, ◌+◌, ◌-◌, ◌<◌, ◌≤◌, ◌⊎◌, inl, inr, Bool}
-use Rattle.std.proofs.Common.{true, false, cond, ◌==◌, nat_lt, List, [], ◌∷◌, ◌++◌, map, length}
+use Rattle.std.proofs.Common.{true, false, cond, ◌==◌, nat_lt, List, [], ◌∷◌, map, length}
 use Rattle.std.proofs.Common.{slice_get, Option, Some, None, refl, ap, sym, ◌∙◌, subst, arith}
 use Rattle.std.proofs.Common.{ltb-false}
 use Rattle.std.proofs.lemmas.Bool.{eqb-false}
@@ -109,9 +109,9 @@ wait_or_handled-put n w c f net all d r v d_in on other = elim (in-push_cases d 
         (map (waits_at c.ttl) (hearers n c)) z))
     | inl (inr q) ↦ inl (inr q)
     | inr done ↦ inr (is_handled-more n f (put n c f) r v d.ttl (record {
-        copies = λ x h. in-append_left x f.carried (c ∷ []) h;
-        strays = λ i h. h;
-      }) done)
+      copies = λ x h. in-append_left x f.carried (c ∷ []) h;
+      strays = λ i h. h;
+    }) done)
   ]
   | inr q ↦ inl (inl (subst (λ (x : Copy). In (waits_at x.ttl (r, v)) (put n c f).waiting) q
       (in-append_right (waits_at c.ttl (r, v)) f.waiting (map (waits_at c.ttl) (hearers n c))
@@ -158,12 +158,12 @@ is_sent_by_pair-leave n r t p None f e lt = record {
 }
 is_sent_by_pair-leave n r t p (Some q) f e lt = record {
   carried = λ l on. (let both : ◌≡◌ {A = Option ℕ} (Some q) (Some l) = sym e ∙ on in (
-      record { lan = q; ttl = t - 1; sender = Some (r, p.0) },
-      in-push f.carried (record { lan = q; ttl = t - 1; sender = Some (r, p.0) }),
-      cc,
-      omega (arith, lt),
-      refl,
-    ));
+    record { lan = q; ttl = t - 1; sender = Some (r, p.0) },
+    in-push f.carried (record { lan = q; ttl = t - 1; sender = Some (r, p.0) }),
+    cc,
+    omega (arith, lt),
+    refl,
+  ));
   strayed = λ off. absurd (let both : ◌≡◌ {A = Option ℕ} (Some q) None = sym e ∙ off in cc);
 }
 

@@ -1,19 +1,19 @@
 -- Why packets that meet a finding's need show it, and that each finding has one.
-use Rattle.std.proofs.Common.{◌≡◌, ℕ, suc, ◌+◌, ◌<◌, ◌≤◌, ◌⊎◌, inl, inr, max, Bool, true, false, cond}
-use Rattle.std.proofs.Common.{◌==◌, List, [], ◌∷◌, ◌++◌, map, length, Option, Some, None, refl, ap, sym, ◌∙◌}
+use Rattle.std.proofs.Common.{◌≡◌, ℕ, suc, ◌+◌, ◌≤◌, ◌⊎◌, inl, inr, max, Bool, true, false, cond}
+use Rattle.std.proofs.Common.{◌==◌, List, [], ◌∷◌, length, Some, refl, ap, sym, ◌∙◌}
 use Rattle.std.proofs.Common.{subst, arith, eq-eqb}
 use Rattle.mc_theory.specs.Lists.{In, Distinct, count_of}
-use Rattle.mc_theory.specs.Nets.{Net, IsNet, Interface, WantsBelow}
+use Rattle.mc_theory.specs.Nets.{Net, IsNet, WantsBelow}
 use Rattle.mc_theory.specs.Nets.Row.{Exact, Open}
 use Rattle.mc_theory.specs.Flights.{Copy, Flight, Pick, IsCompleteRun, copy_count_on, run, start}
 use Rattle.mc_theory.specs.Certificates.{lans}
 use Rattle.mc_theory.specs.Findings.{Finding, IsTravel, first_copy_on, handles}
 use Rattle.mc_theory.specs.Findings.Finding.{Clean, Duplicate, Loop, Stray, Missed}
-use Rattle.mc_theory.specs.FindingMeaning.{FirstDoubleWalk, IsFirstDouble, Shows}
+use Rattle.mc_theory.specs.FindingMeaning.{FirstDoubleWalk, Shows}
 use Rattle.mc_theory.specs.Paths.{Hop, IsPath, PassesHops, CameByHops, need}
 use Rattle.mc_theory.specs.ExcludedRouters.{IsSecondCopyOrStray}
 use Rattle.mc_theory.specs.ShownFrom.{FirstCameByHops, RestsOnTwoCopies, RestsOnSentCopy, RestsOnOpenRow}
-use Rattle.mc_theory.specs.ShownFrom.{IsShownFrom, HasFault, EachCompleteRunHasFault}
+use Rattle.mc_theory.specs.ShownFrom.{IsShownFrom, EachCompleteRunHasFault}
 use Rattle.mc_theory.proofs.ListLemmas.{equal-from_same_image}
 use Rattle.mc_theory.proofs.CertificateOfRun.{first_copy_on-of_member}
 use Rattle.mc_theory.proofs.WalkBack.{in-first_copy_on}

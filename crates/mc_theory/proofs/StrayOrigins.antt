@@ -1,7 +1,7 @@
 -- Where strays come from: a copy left by an exact row's pair whose vif is placed on no LAN, or came to a
 -- row that isn't followed.
 use Rattle.std.proofs.Common.{◌≡◌, ℕ, ◌-◌, ◌<◌, ◌⊎◌, inl, inr, Bool, true, false, cond, ◌==◌, nat_lt, List}
-use Rattle.std.proofs.Common.{[], ◌∷◌, ◌++◌, slice_get, Option, Some, None, refl, ap, subst, ◌∙◌}
+use Rattle.std.proofs.Common.{[], ◌∷◌, slice_get, Option, Some, None, refl, ap, subst, ◌∙◌}
 use Rattle.std.proofs.Common.{eqb-true, ltb-true}
 use Rattle.mc_theory.specs.Lists.{In}
 use Rattle.mc_theory.specs.Nets.{Net, Row, Interface}
@@ -77,16 +77,20 @@ are_strays-sends n b r v pairs (p ∷ ps) f row within from b_in all =
     are_strays-sends n b r v pairs ps (send n r b.ttl p f) row (λ q h. within q (inr h)) from
     ((is_within-send n r b.ttl p f).copies b b_in)
     (are_strays-cond n (nat_lt p.1 b.ttl) f (leave n (b.ttl - 1) (r, p.0) (n.placed r p.0) f) all
-    (λ e. are_strays-leave n (b.ttl - 1) (r, p.0) (n.placed r p.0) f refl (λ off. (b, b_in, inl (record {
-      incoming = v;
-      pairs = pairs;
-      threshold = p.1;
-      row = row;
-      from = from;
-      pair = within p (inl refl);
-      passed = ltb-true p.1 b.ttl e;
-      unplaced = off;
-    }))) all))
+    (λ e. are_strays-leave n (b.ttl - 1) (r, p.0) (n.placed r p.0) f refl (λ off. (
+      b,
+      b_in,
+      inl (record {
+        incoming = v;
+        pairs = pairs;
+        threshold = p.1;
+        row = row;
+        from = from;
+        pair = within p (inl refl);
+        passed = ltb-true p.1 b.ttl e;
+        unplaced = off;
+      }),
+    )) all))
 
 are_strays-exact_row : (n : Net) (w : Waiting) (b : Copy) (incoming : ℕ) (pairs : List (ℕ × ℕ)) (f : Flight)
     (test : Bool) → (incoming == w.vif) ≡ test → n.row w.router ≡ Exact incoming pairs →

@@ -46,7 +46,9 @@ pub use path_laws::{
     need_is_the_least_reaching_ttl, packet_passes_iff_ttl_meets_need,
     second_copy_came_by_another_path, spare_interface_removal_keeps_reach,
 };
-pub use shown_from_laws::{finding_is_shown_from_its_need, need_of_finding_is_unique};
+pub use shown_from_laws::{
+    finding_is_shown_from_its_need, greatest_need_shows_the_finding, need_of_finding_is_unique,
+};
 pub use travel_laws::{
     a_clean_travel_makes_a_tree, a_travel_ends, clean_travels_certify,
     each_copy_was_sent_on_from_an_earlier_one, event_counts_what_its_step_did,

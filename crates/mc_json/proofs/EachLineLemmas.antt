@@ -5,6 +5,7 @@ use Rattle.mc_topology.specs.Topology.{TopologyValue}
 use Rattle.mc_topology.specs.declared.flow.Flow.{Flow}
 use Rattle.mc_theory.specs.Certificates.{Entry}
 use Rattle.mc_theory.specs.Events.{Event}
+use Rattle.mc_theory.specs.Nets.{Net}
 use Rattle.mc_forward.specs.ListedTables.{DomainFacts}
 use Rattle.mc_replay.specs.declared.finding.Finding.{Finding}
 use Rattle.mc_explain.specs.ExcludedText.{excluded_routers}
@@ -29,10 +30,10 @@ are_object_lines-domain d words = are_object_lines-one (domain_data d words) ref
 
 -- ---- flows
 
-pub are_object_lines-tree : (t : TopologyValue) (es : List Entry) (tree : ℕ)
-    → AreObjectLines (line_of (tree_data t es tree))
+pub are_object_lines-tree : (t : TopologyValue) (n : Net) (es : List Entry) (tree : ℕ)
+    → AreObjectLines (line_of (tree_data t n es tree))
 unfolding escape_byte
-are_object_lines-tree t es tree = are_object_lines-one (tree_data t es tree) refl refl
+are_object_lines-tree t n es tree = are_object_lines-one (tree_data t n es tree) refl refl
 
 pub are_object_lines-right : (whole : Bool) (number : ℕ) (f : Flow) (copies tree : ℕ) (wanted : List Data)
     → AreObjectLines (line_of (right_data whole number f copies tree wanted))
@@ -51,7 +52,7 @@ pub are_object_lines-wrong : (d : DomainFacts) (number : ℕ) (f : Flow) (found_
     (events : List Event) (also : List ℕ) (why : List Data) (events_asked : Bool)
     → AreObjectLines (wrong_line d number f found_ttl finding events also why events_asked)
 are_object_lines-wrong d number f found_ttl finding events also why events_asked =
-    are_object_lines-wrong_flow number f (wrong_flow_of d.topology found_ttl finding events also why
+    are_object_lines-wrong_flow number f (wrong_flow_of d number found_ttl finding events also why
     events_asked)
 
 -- ---- after the flows

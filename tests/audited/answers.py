@@ -117,6 +117,7 @@ class Domain:
         topology = tomllib.loads(read("topology").decode())
         self.lans = topology["lans"]
         self.routers = [router["name"] for router in topology.get("router", [])]
+        self.orders = [router.get("order", "little") for router in topology.get("router", [])]
         self.left_out = [number for number, name in enumerate(self.routers) if name in left_out]
         self.interfaces = [(self.routers.index(i["router"]), i["device"].encode(), self.lans.index(i["lan"]))
                            for i in topology.get("interface", [])]
@@ -126,10 +127,9 @@ class Domain:
         self.flows = [(address_of(f["source"]), address_of(f["group"]), f["ttl"], sources[f["source"]])
                       for f in topology["flow"]]
         self.tables = []
-        for number, router in enumerate(topology.get("router", [])):
+        for number, (name, order) in enumerate(zip(self.routers, self.orders)):
             known = number not in self.left_out
-            name = router["name"]
-            self.tables.append(Tables(router.get("order", "little"), read(f"vif-{name}") if known else b"",
+            self.tables.append(Tables(order, read(f"vif-{name}") if known else b"",
                                       read(f"cache-{name}") if known else b""))
         self.reports = [Records(read(f"igmp-{lan}")) for lan in self.lans]
         self.on_lan = [[] for _ in self.lans]
@@ -182,7 +182,7 @@ class Travel:
 
     def handle(self):
         router, vif, ttl = self.waiting.popleft()
-        event = {"router": self.domain.routers[router], "ttl": ttl, "vif": vif}
+        event = {"onto": [], "router": self.domain.routers[router], "ttl": ttl, "vif": vif}
         row = self.domain.exact(router, self.flow)
         if row is None:
             is_open = self.domain.open_row(router, self.flow) is not None
@@ -197,6 +197,7 @@ class Travel:
                 if ttl > threshold:
                     lan = self.domain.placed(router, out)
                     counts[lan is None] += 1
+                    event["onto"].append(out)
                     if lan is None:
                         self.strays.append((router, out))
                     else:
@@ -618,7 +619,8 @@ class Answer:
             {"kind": kind, "router": self.domain.routers[place[0]], "vif": place[1]})
         events = {"events": self.travel.events} if self.with_events else {}
         return [self.names | events | {"also": [lans[lan] for lan in self.also], "finding": finding,
-                                       "found_ttl": self.found_ttl, "right": False, "why": with_text(self.why)}]
+                                       "found_ttl": self.found_ttl, "right": False,
+                                       "wanted": [lans[lan] for lan in self.wanted], "why": with_text(self.why)}]
 
 
 def event_text(event):
@@ -631,8 +633,8 @@ def event_text(event):
 def entry_of(domain, travel, copy):
     hops = travel.hops_back(copy)
     router, vif = copy[2] or (None, None)
-    return {"lan": domain.lans[copy[0]], "need": need_of(hops), "rank": len(hops),
-            "router": None if router is None else domain.routers[router], "vif": vif}
+    return {"from_vif": hops[0][2] if hops else None, "lan": domain.lans[copy[0]], "need": need_of(hops),
+            "rank": len(hops), "router": None if router is None else domain.routers[router], "vif": vif}
 
 
 def unlisted_rows(domain):
@@ -655,9 +657,10 @@ def domain_object(domain, words):
                                "router": domain.routers[router], "vif": vif})
     interfaces += [{"device": escaped(device), "lan": domain.lans[lan], "router": domain.routers[router], "vif": None}
                    for router, device, lan in domain.interfaces if domain.tables[router].index_of(device) is None]
-    return {"domain": {"interfaces": interfaces, "lans": domain.lans, "routers": domain.routers,
+    routers = [{"name": name, "order": order} for name, order in zip(domain.routers, domain.orders)]
+    return {"domain": {"interfaces": interfaces, "lans": domain.lans, "routers": routers,
                        "sources": [{"address": address, "lan": domain.lans[lan]} for address, lan in domain.sources]},
-            "format": 1, "words": words}
+            "format": 2, "words": words}
 
 
 class Audit:

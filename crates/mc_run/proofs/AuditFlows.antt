@@ -34,6 +34,7 @@ use Rattle.mc_replay.specs.declared.travel.Travel.{Travel}
 use Rattle.mc_explain.specs.WantedText.{lans_wanting}
 use Rattle.mc_explain.specs.declared.searches.searching.LanSearch.{LanSearch}
 use Rattle.mc_explain.specs.declared.causes.Cause.{Cause}
+use Rattle.mc_json.specs.TreeKey.{tree_key}
 use Rattle.mc_run.specs.AuditEnd.{FlowAnswer, are_right, count, is_right, is_unwanted, is_wrong}
 use Rattle.mc_run.specs.AuditEnd.{with_status}
 use Rattle.mc_run.specs.AuditPieces.{AreFlowsPushed, IsFlowPushed, explanation_in}
@@ -94,9 +95,8 @@ pub is_flow_pushed-right : {X : Type 0} (v : AuditedValue) (o : AuditOptions) (f
     → OnOk r (HeadlineHolds (net_of v.domain flow) (length seen))
     → IfOk r (λ s. s ≡ status_of_right (lans_wanting (facts v.domain) flow))
     → OnOk r (new_printed ≡ with_shown_tree o.json (is_hidden o.faults
-    (lans_wanting (facts v.domain) flow)) printed
-    seen)
-    → OnOk r (new ≡ old ++ right_flow_lines o (is_whole v) v.domain.topology printed flow seen
+    (lans_wanting (facts v.domain) flow)) printed (tree_key (net_of v.domain flow) seen))
+    → OnOk r (new ≡ old ++ right_flow_lines o (is_whole v) (facts v.domain) printed flow seen
     (lans_wanting (facts v.domain) flow))
     → IfOk r (λ s. IsFlowPushed v o flow s printed new_printed old new)
 is_flow_pushed-right v o flow (Err e) x entries seen printed new_printed old new lt has_flights is
@@ -109,13 +109,14 @@ is_flow_pushed-right v o flow (Ok s) x entries seen printed new_printed old new 
     let wanted = lans_wanting (facts v.domain) flow in
     let certified : Examined = examined.Certified entries in
     let so : without_flights v.domain flow x ≡ certified = ap (without_flights v.domain flow) same in
-    let lines = right_flow_lines o (is_whole v) v.domain.topology printed flow entries.items wanted in
+    let lines = right_flow_lines o (is_whole v) (facts v.domain) printed flow entries.items wanted in
     record {
-      answer = record { examined = certified; wanted = wanted; lines = lines };
+      answer = record { net = n; examined = certified; wanted = wanted; lines = lines };
       is = record {
         flights = x;
         explanation = explanation-none;
         listed = lt;
+        net = refl;
         has_flights = has_flights;
         examined = sym so;
         checked = record {
@@ -133,9 +134,10 @@ is_flow_pushed-right v o flow (Ok s) x entries seen printed new_printed old new 
         spelled = refl;
       };
       matches = matches;
-      shown_trees = shown_trees ∙ ap (with_shown_tree o.json (is_hidden o.faults wanted) printed) list;
+      shown_trees = shown_trees ∙ ap (λ (es : Tree).
+          with_shown_tree o.json (is_hidden o.faults wanted) printed (tree_key n es)) list;
       spelled = puts ∙ ap (λ (es : Tree). old
-          ++ right_flow_lines o (is_whole v) v.domain.topology printed flow es wanted) list;
+          ++ right_flow_lines o (is_whole v) (facts v.domain) printed flow es wanted) list;
     }
 
 -- or a fault was found, by a travel with this explanation
@@ -152,6 +154,7 @@ is_flow_pushed-wrong v o flow x ttl travel e old new lt has_flights is so explai
     let same : without_flights v.domain flow x ≡ is_found = so in
     record {
       answer = record {
+        net = net_of v.domain flow;
         examined = is_found;
         wanted = lans_wanting (facts v.domain) flow;
         lines = wrong_flow_lines o (facts v.domain) v.summary flow ttl travel e;
@@ -160,6 +163,7 @@ is_flow_pushed-wrong v o flow x ttl travel e old new lt has_flights is so explai
         flights = x;
         explanation = e;
         listed = lt;
+        net = refl;
         has_flights = has_flights;
         examined = sym same;
         checked = record {
@@ -246,34 +250,34 @@ slice_get-push_cases (z ∷ xs) x (suc i) y at =
     elim (slice_get-push_cases xs x i y at) [ inl h ↦ inl h | inr h ↦ inr (ap suc h.0, h.1) ]
 
 -- the counts with a flow of this status
-with_status-right : (x : Examined) (wanted lines : List ℕ) (s : FlowCounts)
+with_status-right : (n : Net) (x : Examined) (wanted lines : List ℕ) (s : FlowCounts)
     → (with_status s (status_of x wanted)).right
-    ≡ s.right + one_if_true (is_right (record { examined = x; wanted = wanted; lines = lines }))
-with_status-right (examined.Certified entries) [] lines s = refl
-with_status-right (examined.Certified entries) (lan ∷ wanted) lines s = refl
-with_status-right (examined.Found ttl travel) wanted lines s = omega arith
+    ≡ s.right + one_if_true (is_right (record { net = n; examined = x; wanted = wanted; lines = lines }))
+with_status-right n (examined.Certified entries) [] lines s = refl
+with_status-right n (examined.Certified entries) (lan ∷ wanted) lines s = refl
+with_status-right n (examined.Found ttl travel) wanted lines s = omega arith
 
-with_status-wrong : (x : Examined) (wanted lines : List ℕ) (s : FlowCounts)
+with_status-wrong : (n : Net) (x : Examined) (wanted lines : List ℕ) (s : FlowCounts)
     → (with_status s (status_of x wanted)).wrong
-    ≡ s.wrong + one_if_true (is_wrong (record { examined = x; wanted = wanted; lines = lines }))
-with_status-wrong (examined.Certified entries) [] lines s = omega arith
-with_status-wrong (examined.Certified entries) (lan ∷ wanted) lines s = omega arith
-with_status-wrong (examined.Found ttl travel) wanted lines s = refl
+    ≡ s.wrong + one_if_true (is_wrong (record { net = n; examined = x; wanted = wanted; lines = lines }))
+with_status-wrong n (examined.Certified entries) [] lines s = omega arith
+with_status-wrong n (examined.Certified entries) (lan ∷ wanted) lines s = omega arith
+with_status-wrong n (examined.Found ttl travel) wanted lines s = refl
 
-with_status-unwanted : (x : Examined) (wanted lines : List ℕ) (s : FlowCounts)
+with_status-unwanted : (n : Net) (x : Examined) (wanted lines : List ℕ) (s : FlowCounts)
     → (with_status s (status_of x wanted)).unwanted
-    ≡ s.unwanted + one_if_true (is_unwanted (record { examined = x; wanted = wanted; lines = lines }))
-with_status-unwanted (examined.Certified entries) [] lines s = refl
-with_status-unwanted (examined.Certified entries) (lan ∷ wanted) lines s =
+    ≡ s.unwanted + one_if_true (is_unwanted (record { net = n; examined = x; wanted = wanted; lines = lines }))
+with_status-unwanted n (examined.Certified entries) [] lines s = refl
+with_status-unwanted n (examined.Certified entries) (lan ∷ wanted) lines s =
     rw (ne_eqb (length (lan ∷ wanted)) 0 (λ e. omega (arith, e))) (omega arith)
-with_status-unwanted (examined.Found ttl travel) wanted lines s = omega arith
+with_status-unwanted n (examined.Found ttl travel) wanted lines s = omega arith
 
 -- the printed trees, with one more flow
 trees_shown-push : (o : AuditOptions) (answers : List FlowAnswer) (a : FlowAnswer)
-    → trees_shown o (answers ++ a ∷ []) ≡ shown_trees_with o (trees_shown o answers) a.examined a.wanted
+    → trees_shown o (answers ++ a ∷ []) ≡ shown_trees_with o a.net (trees_shown o answers) a.examined a.wanted
 trees_shown-push o answers a =
-    fold-append (λ (printed : List Tree) (b : FlowAnswer). shown_trees_with o printed b.examined b.wanted) []
-    answers (a ∷ [])
+    fold-append (λ (printed : List Tree) (b : FlowAnswer).
+    shown_trees_with o b.net printed b.examined b.wanted) [] answers (a ∷ [])
 
 -- the items before a place stay the same
 take-before_push : {A : Type 0} (xs : List A) (x : A) (i : ℕ) (y : A) → slice_get xs i ≡ Some y
@@ -287,26 +291,27 @@ take-push_before [] x = refl
 take-push_before (z ∷ xs) x = ap (λ ys. z ∷ ys) (take-push_before xs x)
 
 -- there are no more trees than flows
-with_shown_tree-at_most_one_more : (o : AuditOptions) (printed : List Tree) (x : Examined) (wanted : List ℕ)
-    → length (shown_trees_with o printed x wanted) ≤ length printed + 1
-with_shown_tree-at_most_one_more o printed (examined.Certified entries) wanted =
+with_shown_tree-at_most_one_more : (o : AuditOptions) (n : Net) (printed : List Tree) (x : Examined)
+    (wanted : List ℕ) → length (shown_trees_with o n printed x wanted) ≤ length printed + 1
+with_shown_tree-at_most_one_more o n printed (examined.Certified entries) wanted =
     by o.json (is_hidden o.faults wanted)
   where
-    by : (json out : Bool) → length (with_shown_tree json out printed entries.items) ≤ length printed + 1
+    by : (json out : Bool)
+        → length (with_shown_tree json out printed (tree_key n entries.items)) ≤ length printed + 1
     by true true = omega arith
-    by true false = length-with_tree printed entries.items
+    by true false = length-with_tree printed (tree_key n entries.items)
     by false out = omega arith
-with_shown_tree-at_most_one_more o printed (examined.Found ttl travel) wanted = omega arith
+with_shown_tree-at_most_one_more o n printed (examined.Found ttl travel) wanted = omega arith
 
 trees_shown-at_most_flows_from : (o : AuditOptions) (printed : List Tree) (answers : List FlowAnswer)
-    → length (fold (λ (ts : List Tree) (a : FlowAnswer). shown_trees_with o ts a.examined a.wanted) printed
-    answers) ≤ length printed + length answers
+    → length (fold (λ (ts : List Tree) (a : FlowAnswer). shown_trees_with o a.net ts a.examined a.wanted)
+    printed answers) ≤ length printed + length answers
 trees_shown-at_most_flows_from o printed [] = omega arith
 trees_shown-at_most_flows_from o printed (a ∷ answers) =
     omega (
       arith,
-      trees_shown-at_most_flows_from o (shown_trees_with o printed a.examined a.wanted) answers,
-      with_shown_tree-at_most_one_more o printed a.examined a.wanted,
+      trees_shown-at_most_flows_from o (shown_trees_with o a.net printed a.examined a.wanted) answers,
+      with_shown_tree-at_most_one_more o a.net printed a.examined a.wanted,
     )
 
 pub trees_shown-at_most_flows : (v : AuditedValue) (o : AuditOptions) (k : ℕ) (s : FlowCounts)
@@ -346,17 +351,17 @@ are_flows_pushed-more v o k s flow_status more printed new_printed begun old new
             IsFlowAnswer v o (trees_shown o (take (length answers) (answers ++ a ∷ []))) n a)
             (sym to.count_is) (subst (λ (ts : List Tree). IsFlowAnswer v o ts k a) before is.is)))
       ];
-      right = ap (λ (t : FlowCounts). t.right) now ∙ with_status-right a.examined a.wanted a.lines s
+      right = ap (λ (t : FlowCounts). t.right) now ∙ with_status-right a.net a.examined a.wanted a.lines s
           ∙ ap (λ (n : ℕ). n + one_if_true (is_right a)) to.right
           ∙ sym (count-push is_right answers a);
-      wrong = ap (λ (t : FlowCounts). t.wrong) now ∙ with_status-wrong a.examined a.wanted a.lines s
+      wrong = ap (λ (t : FlowCounts). t.wrong) now ∙ with_status-wrong a.net a.examined a.wanted a.lines s
           ∙ ap (λ (n : ℕ). n + one_if_true (is_wrong a)) to.wrong
           ∙ sym (count-push is_wrong answers a);
-      unwanted = ap (λ (t : FlowCounts). t.unwanted) now ∙ with_status-unwanted a.examined a.wanted a.lines s
+      unwanted = ap (λ (t : FlowCounts). t.unwanted) now ∙ with_status-unwanted a.net a.examined a.wanted a.lines s
           ∙ ap (λ (n : ℕ). n + one_if_true (is_unwanted a)) to.unwanted
           ∙ sym (count-push is_unwanted answers a);
-      shown_trees = is.shown_trees ∙ ap (λ (ts : List Tree). shown_trees_with o ts a.examined
-          a.wanted) to.shown_trees
+      shown_trees = is.shown_trees ∙ ap (λ (ts : List Tree). shown_trees_with o a.net ts
+          a.examined a.wanted) to.shown_trees
           ∙ sym (trees_shown-push o answers a);
       spelled = is.spelled ∙ ap (λ xs. xs ++ a.lines) to.spelled
           ∙ append_assoc begun (flat_map (λ b. b.lines) answers) a.lines

@@ -164,7 +164,7 @@ wrong_flow_lines-say_no_certificate o d summary flow ttl travel e lines is = by 
     by : (json : Bool) → lines ≡ wrong_lines_or_object json o.travels d summary flow ttl travel e
         → SaysNoCertificate json d.topology flow lines
     by true is = (
-      wrong_flow_of d.topology ttl travel.finding travel.events.items e.also
+      wrong_flow_of d flow ttl travel.finding travel.events.items e.also
           (why_data d summary flow e.printed e.search) o.travels,
       is,
     )
@@ -188,7 +188,7 @@ says_flow_right-answer_lines v o printed flow (Certified entries) e wanted lines
     printed,
     entries.items,
     is ∙ ap (λ (w : List ℕ).
-        right_flow_lines o (is_whole v) v.domain.topology printed flow entries.items w) wants,
+        right_flow_lines o (is_whole v) (facts v.domain) printed flow entries.items w) wants,
   );
   wrong = λ not. absurd (not (right.0 refl));
 }
@@ -234,7 +234,7 @@ says_yes_of-certified v o printed flow entries e wanted lines checked wants is =
   accepted = checked.examined.accepted;
   headline = checked.headline;
   spelled = is ∙ ap (λ (w : List ℕ).
-      right_flow_lines o (is_whole v) v.domain.topology printed flow entries.items w) wants;
+      right_flow_lines o (is_whole v) (facts v.domain) printed flow entries.items w) wants;
 }
 
 says_yes_or_found-answer_lines : (v : AuditedValue) (o : AuditOptions) (printed : List Tree)

@@ -9,7 +9,7 @@ use Rattle.mc_topology.specs.Topology.{TopologyValue, IsValidTopology, flow_at, 
 use Rattle.mc_theory.specs.Events.{Event, Outcome}
 use Rattle.mc_theory.specs.Events.Outcome.{Open, NoRow, OtherVif, Sent}
 use Rattle.mc_cert.specs.Certificate.{Tree}
-use Rattle.mc_cert.specs.Distinct.{find_tree, tree_number_of, with_tree}
+use Rattle.mc_cert.specs.Distinct.{find_tree}
 use Rattle.mc_check.specs.declared.verdict.Verdict.TheVariants.{Yes}
 use Rattle.mc_replay.specs.TravelText.{event_text, finding_text, outcome_text}
 use Rattle.mc_replay.specs.declared.finding.Finding.{Finding}
@@ -48,7 +48,7 @@ use Rattle.mc_json.proofs.EachLineLemmas.{are_object_lines-wrong}
 use Rattle.mc_run.specs.AuditEnd.{FlowAnswer, begin_lines, count, end_text_or_objects, end_lines, end_objects}
 use Rattle.mc_run.specs.AuditEnd.{end_text, is_right, is_unwanted, is_wrong, option_words, strict_lines}
 use Rattle.mc_run.specs.AuditEnd.{summary_line}
-use Rattle.mc_run.specs.AuditObjects.{tree_line}
+use Rattle.mc_run.specs.AuditObjects.{key_of_tree, tree_line, tree_number}
 use Rattle.mc_run.specs.AuditRun.{AreFlowAnswers, IsFlowAnswer, AuditedValue, is_whole, is_yes, excluded}
 use Rattle.mc_run.specs.AuditRun.{AreYesWords, trees_shown, yes_object}
 use Rattle.mc_run.specs.AuditText.{Explanation, events_if_shown, explanation_lines, right_line}
@@ -251,23 +251,23 @@ no_yes_line-objects text are =
 
 -- ---- a flow
 
-no_yes_line-tree_line : (t : TopologyValue) (printed : List Tree) (es : Tree)
-    → AreLinesWithoutYes (tree_line t printed es)
-no_yes_line-tree_line t printed es =
-    no_yes_line-if (is_some (find_tree printed es)) [] (line_of (tree_data t es (length printed)))
-    no_yes_line-no_lines
-    (no_yes_line-objects _ (are_object_lines-tree t es (length printed)))
+no_yes_line-tree_line : (d : DomainFacts) (printed : List Tree) (flow : ℕ) (es : Tree)
+    → AreLinesWithoutYes (tree_line d printed flow es)
+no_yes_line-tree_line d printed flow es =
+    no_yes_line-if (is_some (find_tree printed (key_of_tree d flow es))) []
+    (line_of (tree_data d.topology (d.nets flow) es (length printed))) no_yes_line-no_lines
+    (no_yes_line-objects _ (are_object_lines-tree d.topology (d.nets flow) es (length printed)))
 
-no_yes_line-right_lines_or_object : (json whole : Bool) (t : TopologyValue) (printed : List Tree)
+no_yes_line-right_lines_or_object : (json whole : Bool) (d : DomainFacts) (printed : List Tree)
     (flow : ℕ)
-    (es : Tree) (wanted : List ℕ) → IsValidTopology t
-    → AreLinesWithoutYes (right_lines_or_object json whole t printed flow es wanted)
-no_yes_line-right_lines_or_object true whole t printed flow es wanted ok =
-    no_yes_line-append (tree_line t printed es) _ (no_yes_line-tree_line t printed es)
-    (no_yes_line-objects _ (are_object_lines-right whole flow (flow_at t flow) (length es)
-    (tree_number_of (with_tree printed es) es)
-    (map (lan_data t) wanted)))
-no_yes_line-right_lines_or_object false whole t printed flow es wanted ok =
+    (es : Tree) (wanted : List ℕ) → IsValidTopology d.topology
+    → AreLinesWithoutYes (right_lines_or_object json whole d printed flow es wanted)
+no_yes_line-right_lines_or_object true whole d printed flow es wanted ok =
+    no_yes_line-append (tree_line d printed flow es) _ (no_yes_line-tree_line d printed flow es)
+    (no_yes_line-objects _ (are_object_lines-right whole flow (flow_at d.topology flow) (length es)
+    (tree_number d printed flow es) (map (lan_data d.topology) wanted)))
+no_yes_line-right_lines_or_object false whole d printed flow es wanted ok =
+    let t = d.topology in
     no_yes_line-append (right_line whole t (flow_at t flow) (length es)) (wanted_text t wanted)
     (no_yes_line-right_line whole t (flow_at t flow) (length es) ok)
     (no_yes_line-indented_lines (wanted_text t wanted) (are_indented-wanted_text t wanted ok))
@@ -311,8 +311,8 @@ no_yes_line-answer_lines : (o : AuditOptions) (whole : Bool) (d : DomainFacts) (
     → AreLinesWithoutYes (answer_lines o whole d summary printed flow x e wanted)
 no_yes_line-answer_lines o whole d summary printed flow (Certified entries) e wanted ok =
     no_yes_line-if (is_hidden o.faults wanted) []
-    (right_lines_or_object o.json whole d.topology printed flow entries.items wanted) no_yes_line-no_lines
-    (no_yes_line-right_lines_or_object o.json whole d.topology printed flow entries.items wanted ok)
+    (right_lines_or_object o.json whole d printed flow entries.items wanted) no_yes_line-no_lines
+    (no_yes_line-right_lines_or_object o.json whole d printed flow entries.items wanted ok)
 no_yes_line-answer_lines o whole d summary printed flow (Found ttl travel) e wanted ok =
     no_yes_line-wrong_lines_or_object o.json o.travels d summary flow ttl travel e ok
 

@@ -23,9 +23,6 @@ use Rattle.mc_lines.specs.ExplanationText.{causes_text}
 use Rattle.mc_explain.specs.WantedText.{missed_besides, also_missed_text}
 use Rattle.mc_explain.specs.declared.searches.searching.LanSearch.{LanSearch}
 use Rattle.mc_explain.specs.declared.causes.Cause.{Cause}
-use Rattle.mc_json.specs.FlowData.{wrong_line_of_travel, wrong_line}
-use Rattle.mc_json.specs.WhyData.{why_data}
-use Rattle.mc_run.specs.AuditObjects.{wrong_object}
 use Rattle.mc_run.specs.AuditFlowText.{wrong_lines_or_object}
 use Rattle.mc_run.specs.AuditPieces.{also_missed_of, explanation_in}
 use Rattle.mc_run.specs.AuditExplanation.{IsExplanation, IsSearchIfMissed, ArePrintedCauses, is_remedy}
@@ -155,20 +152,6 @@ wrong_lines-pushed v flow ttl travels travel e t f (Ok a) old one two new same l
     third ∙ ap (λ (u : TopologyValue). two ++ events_if_shown travels u travel) same
     ∙ ap (λ xs. xs ++ events) second ∙ ap (λ xs. (xs ++ why) ++ events) puts
     ∙ append_assoc (old ++ begun) why events ∙ append_assoc old begun (why ++ events)
-
--- in JSON
-pub wrong_object-pushed : {A X : Type 0} (v : AuditedValue) (flow ttl : ℕ) (travels : Bool)
-    (ended : FinishedTravel) (e : Explanation) (r : Result A X) (old new : List ℕ)
-    → ended.flight.domain ≡ v.domain
-    → OnOk r (new ≡ old ++ wrong_line_of_travel flow (flow_at v.domain.topology flow) ended ttl e.also
-    (why_data (facts v.domain) v.summary flow e.printed e.search) travels)
-    → OnOk r (new ≡ old ++ wrong_object travels (facts v.domain) v.summary flow ttl ended.travel e)
-wrong_object-pushed v flow ttl travels ended e (Err x) old new here puts = tt
-wrong_object-pushed v flow ttl travels ended e (Ok a) old new here puts =
-    puts
-    ∙ ap (λ (d : DomainValue). old ++ wrong_line (facts d) flow (flow_at v.domain.topology flow) ttl
-    ended.travel.finding ended.travel.events.items e.also
-    (why_data (facts v.domain) v.summary flow e.printed e.search) travels) here
 
 -- in both, with the LANs that the travel also missed
 pub wrong_lines_or_object-same_also : {A X : Type 0} (v : AuditedValue) (json travels : Bool) (flow ttl : ℕ)

@@ -8,7 +8,8 @@ use Rattle.mc_tables.specs.Summary.{SummaryValue}
 use Rattle.mc_topology.specs.Topology.{TopologyValue, flow_at}
 use Rattle.mc_cert.specs.Certificate.{Tree}
 use Rattle.mc_theory.specs.Events.{Event}
-use Rattle.mc_forward.specs.Domains.{DomainValue, IsDomain, ttl_of}
+use Rattle.mc_theory.specs.Nets.{Net}
+use Rattle.mc_forward.specs.Domains.{DomainValue, IsDomain, net_of, ttl_of}
 use Rattle.mc_forward.specs.ListedTables.{DomainFacts, facts}
 use Rattle.mc_input.specs.ExcludedRouters.{files_with_exclusions}
 use Rattle.mc_input.specs.SummariesOfFiles.{AreSummariesOf}
@@ -32,6 +33,7 @@ use Rattle.mc_json.specs.FlowData.{wrong_line}
 use Rattle.mc_json.specs.WhyData.{search_data}
 use Rattle.mc_json.specs.WhyData.{causes_data}
 use Rattle.mc_json.specs.WhyData.{search_data_if_any, why_data}
+use Rattle.mc_json.specs.TreeKey.{tree_key}
 use Rattle.serde_json.specs.Data.{Data}
 use Rattle.mc_run.specs.AuditEnd.{FlowAnswer, are_right, begin_lines, count, end_text_or_objects, end_lines}
 use Rattle.mc_run.specs.AuditEnd.{is_right, is_unwanted, is_wrong, verdict_line}
@@ -143,7 +145,8 @@ record IsSameAnswer (o : AuditOptions) (a b : FlowAnswer) : Type 0 where
   wanted : a.wanted ≡ b.wanted
   right : is_certified a.examined ≡ is_certified b.examined
   shown_trees : (printed : List Tree)
-      → shown_trees_with o printed a.examined a.wanted ≡ shown_trees_with o printed b.examined b.wanted
+      → shown_trees_with o a.net printed a.examined a.wanted
+      ≡ shown_trees_with o b.net printed b.examined b.wanted
 
 -- the answers by two results of an examination
 answer_lines-same_flights : (o : AuditOptions) (whole : Bool) (d : DomainValue) (summary : List SummaryValue)
@@ -153,7 +156,7 @@ answer_lines-same_flights : (o : AuditOptions) (whole : Bool) (d : DomainValue) 
     ≡ answer_lines o whole (facts d) summary printed flow (without_flights d flow b) y wanted
 answer_lines-same_flights o whole d summary printed flow (Certified xs) (Certified ys) x y wanted
     same explained =
-    ap (λ (es : Tree). right_flow_lines o whole d.topology printed flow es wanted) same
+    ap (λ (es : Tree). right_flow_lines o whole (facts d) printed flow es wanted) same
 answer_lines-same_flights o whole d summary printed flow (FoundAtTtl255 a) (FoundAtTtl255 b) x y
     wanted same explained =
     wrong_flow_lines-same_travel o.json o.travels (facts d) summary flow 255 a b x y same explained
@@ -196,10 +199,11 @@ is_certified-same_flights d flow (FoundAtFlowTtl a b) (FoundAtTtl255 c) same = a
 shown_trees_with-same_flights : (o : AuditOptions) (d : DomainValue) (flow : ℕ)
     (a b : ExaminedFlights) (wanted : List ℕ)
     (printed : List Tree) → HaveSameFlights a b
-    → shown_trees_with o printed (without_flights d flow a) wanted
-    ≡ shown_trees_with o printed (without_flights d flow b) wanted
+    → shown_trees_with o (net_of d flow) printed (without_flights d flow a) wanted
+    ≡ shown_trees_with o (net_of d flow) printed (without_flights d flow b) wanted
 shown_trees_with-same_flights o d flow (Certified xs) (Certified ys) wanted printed same =
-    ap (λ (es : Tree). with_shown_tree o.json (is_hidden o.faults wanted) printed es) same
+    ap (λ (es : Tree). with_shown_tree o.json (is_hidden o.faults wanted) printed
+    (tree_key (net_of d flow) es)) same
 shown_trees_with-same_flights o d flow (FoundAtTtl255 a) (FoundAtTtl255 b) wanted printed same = refl
 shown_trees_with-same_flights o d flow (FoundAtFlowTtl a b) (FoundAtFlowTtl c e) wanted printed same = refl
 shown_trees_with-same_flights o d flow (Certified xs) (FoundAtTtl255 b) wanted printed same = absurd same
@@ -239,9 +243,11 @@ same_answer-flow_answers v o printed flow a b ok p q =
       right = ap is_certified p.examined ∙ is_certified-same_flights d flow p.flights q.flights flights
           ∙ ap is_certified (sym q.examined);
       shown_trees = λ ts.
-          ap₂ (λ (x : Examined) (w : List ℕ). shown_trees_with o ts x w) p.examined wanted
+          ap (λ (n : Net). shown_trees_with o n ts a.examined a.wanted) p.net
+          ∙ ap₂ (λ (x : Examined) (w : List ℕ). shown_trees_with o (net_of d flow) ts x w) p.examined wanted
           ∙ shown_trees_with-same_flights o d flow p.flights q.flights b.wanted ts flights
-          ∙ ap (λ (x : Examined). shown_trees_with o ts x b.wanted) (sym q.examined);
+          ∙ ap₂ (λ (n : Net) (x : Examined). shown_trees_with o n ts x b.wanted) (sym q.net)
+          (sym q.examined);
     }
 
 -- ---- the answers of all flows
@@ -257,7 +263,7 @@ abbrev AreAnswersFrom : AuditedValue → AuditOptions → ℕ → List Tree → 
 AreAnswersFrom v o k printed answers =
     (i : ℕ) (a : FlowAnswer) → slice_get answers i ≡ Some a
     → IsFlowAnswer v o
-    (fold (λ (ts : List Tree) (b : FlowAnswer). shown_trees_with o ts b.examined b.wanted) printed
+    (fold (λ (ts : List Tree) (b : FlowAnswer). shown_trees_with o b.net ts b.examined b.wanted) printed
     (take i answers)) (k + i) a
 
 are_answers_from-first : (v : AuditedValue) (o : AuditOptions) (answers : List FlowAnswer)
@@ -269,12 +275,12 @@ are_answers_from-first v o answers each flow a there =
 
 are_answers_from-next : (v : AuditedValue) (o : AuditOptions) (k : ℕ) (printed : List Tree) (a : FlowAnswer)
     (answers : List FlowAnswer) → AreAnswersFrom v o k printed (a ∷ answers)
-    → AreAnswersFrom v o (suc k) (shown_trees_with o printed a.examined a.wanted) answers
+    → AreAnswersFrom v o (suc k) (shown_trees_with o a.net printed a.examined a.wanted) answers
 are_answers_from-next v o k printed a answers from i b there =
     let place : k + suc i ≡ suc k + i = omega arith in
     subst (λ (n : ℕ). IsFlowAnswer v o
-    (fold (λ (ts : List Tree) (c : FlowAnswer). shown_trees_with o ts c.examined c.wanted)
-    (shown_trees_with o printed a.examined a.wanted) (take i answers)) n b) place (from (suc i) b there)
+    (fold (λ (ts : List Tree) (c : FlowAnswer). shown_trees_with o c.net ts c.examined c.wanted)
+    (shown_trees_with o a.net printed a.examined a.wanted) (take i answers)) n b) place (from (suc i) b there)
 
 have_same_answers-flow_answers : (v : AuditedValue) (o : AuditOptions) (k : ℕ) (printed : List Tree)
     (xs ys : List FlowAnswer) → IsDomain v.domain → length xs ≡ length ys → AreAnswersFrom v o k printed xs
@@ -285,11 +291,11 @@ have_same_answers-flow_answers v o k printed (a ∷ xs) [] ok size p q = absurd 
 have_same_answers-flow_answers v o k printed (a ∷ xs) (b ∷ ys) ok size p q =
     let first = same_answer-flow_answers v o printed (k + 0) a b ok (p 0 a refl) (q 0 b refl) in
     let next = are_answers_from-next v o k printed a xs p in
-    let more : AreAnswersFrom v o (suc k) (shown_trees_with o printed a.examined a.wanted) ys =
+    let more : AreAnswersFrom v o (suc k) (shown_trees_with o a.net printed a.examined a.wanted) ys =
     subst (λ (ts : List Tree). AreAnswersFrom v o (suc k) ts ys) (sym (first.shown_trees printed))
     (are_answers_from-next v o k printed b ys q) in (
       first,
-      have_same_answers-flow_answers v o (suc k) (shown_trees_with o printed a.examined a.wanted) xs ys ok
+      have_same_answers-flow_answers v o (suc k) (shown_trees_with o a.net printed a.examined a.wanted) xs ys ok
           (omega (arith, size)) next more,
     )
 

@@ -8,6 +8,7 @@ use Rattle.std.specs.Str.{bytes_eq}
 use Rattle.mc_tables.specs.Summary.{SummaryValue}
 use Rattle.mc_topology.specs.Topology.{TopologyValue, router_name}
 use Rattle.mc_theory.specs.Lists.{below}
+use Rattle.mc_theory.specs.Nets.{Net}
 use Rattle.mc_forward.specs.ListedTables.{DomainFacts}
 use Rattle.mc_maker.specs.Examined.{is_certified}
 use Rattle.mc_maker.specs.declared.examination.Examined.{Examined}
@@ -24,8 +25,10 @@ use Rattle.mc_run.specs.declared.audit.flow_status.FlowStatus.{FlowStatus}
 use Rattle.mc_run.specs.declared.audit.flow_status.FlowStatus.TheVariants.{Wanted, Unwanted, Wrong}
 use Rattle.mc_run.specs.declared.audit.flow_status.FlowCounts.{FlowCounts}
 
--- what is printed of a flow: the result of its examination, the LANs that want it, and its lines
+-- what is printed of a flow: the domain for it, the result of its examination, the LANs that want it, and
+-- its lines
 pub record FlowAnswer : Type 0 where
+  pub net : Net
   pub examined : Examined
   pub wanted : List ℕ
   pub lines : List ℕ

@@ -2,13 +2,14 @@
 use Rattle.std.specs.Prelude.{ℕ, ◌==◌, ◌&&◌, not, Bool, true, false, List, [], ◌∷◌, length}
 use Rattle.std.specs.Prelude.{if◌then◌else◌}
 use Rattle.mc_tables.specs.Summary.{SummaryValue}
-use Rattle.mc_topology.specs.Topology.{TopologyValue}
+use Rattle.mc_theory.specs.Nets.{Net}
 use Rattle.mc_forward.specs.ListedTables.{DomainFacts}
 use Rattle.mc_cert.specs.Certificate.{Tree}
 use Rattle.mc_cert.specs.Distinct.{with_tree}
 use Rattle.mc_replay.specs.declared.travel.Travel.{Travel}
 use Rattle.mc_maker.specs.declared.examination.Examined.{Examined}
 use Rattle.mc_maker.specs.declared.examination.Examined.TheVariants.{Certified, Found}
+use Rattle.mc_json.specs.TreeKey.{tree_key}
 use Rattle.mc_run.specs.AuditObjects.{right_objects, wrong_object}
 use Rattle.mc_run.specs.AuditText.{Explanation, right_lines, wrong_lines}
 use Rattle.mc_cli.specs.declared.audit_options.AuditOptions.{AuditOptions}
@@ -24,16 +25,17 @@ is_hidden faults wanted = faults && not (length wanted == 0)
 abbrev pub unless_hidden : (faults : Bool) → (wanted : List ℕ) → (lines : List ℕ) → List ℕ
 unless_hidden faults wanted lines = if is_hidden faults wanted then [] else lines
 
-abbrev pub right_lines_or_object : (json whole : Bool) → TopologyValue → (printed : List Tree)
+abbrev pub right_lines_or_object : (json whole : Bool) → DomainFacts → (printed : List Tree)
     → (flow : ℕ) → Tree → (wanted : List ℕ) → List ℕ
-right_lines_or_object true whole t printed flow es wanted = right_objects whole t printed flow es wanted
-right_lines_or_object false whole t printed flow es wanted = right_lines whole t flow (length es) wanted
+right_lines_or_object true whole d printed flow es wanted = right_objects whole d printed flow es wanted
+right_lines_or_object false whole d printed flow es wanted =
+    right_lines whole d.topology flow (length es) wanted
 
 -- the lines of a right flow with this tree, where the whole domain is known, or not
-abbrev pub right_flow_lines : AuditOptions → (whole : Bool) → TopologyValue → (printed : List Tree)
+abbrev pub right_flow_lines : AuditOptions → (whole : Bool) → DomainFacts → (printed : List Tree)
     → (flow : ℕ) → Tree → (wanted : List ℕ) → List ℕ
-right_flow_lines o whole t printed flow es wanted =
-    unless_hidden o.faults wanted (right_lines_or_object o.json whole t printed flow es wanted)
+right_flow_lines o whole d printed flow es wanted =
+    unless_hidden o.faults wanted (right_lines_or_object o.json whole d printed flow es wanted)
 
 -- ---- a flow that isn't
 
@@ -56,19 +58,19 @@ wrong_flow_lines o d summary flow ttl travel x =
 abbrev pub answer_lines : AuditOptions → (whole : Bool) → DomainFacts → List SummaryValue
     → (printed : List Tree) → (flow : ℕ) → Examined → Explanation → (wanted : List ℕ) → List ℕ
 answer_lines o whole d summary printed flow (Certified entries) x wanted =
-    right_flow_lines o whole d.topology printed flow entries.items wanted
+    right_flow_lines o whole d printed flow entries.items wanted
 answer_lines o whole d summary printed flow (Found ttl travel) x wanted =
     wrong_flow_lines o d summary flow ttl travel x
 
--- the printed trees after those of this flow; text prints none
-abbrev pub with_shown_tree : (json hidden : Bool) → List Tree → Tree → List Tree
-with_shown_tree true false printed es = with_tree printed es
-with_shown_tree _ _ printed es = printed
+-- the printed trees after those of this flow, each by its key; text prints none
+abbrev pub with_shown_tree : (json hidden : Bool) → List Tree → (key : Tree) → List Tree
+with_shown_tree true false printed key = with_tree printed key
+with_shown_tree _ _ printed key = printed
 
-abbrev pub shown_trees_with : AuditOptions → List Tree → Examined → (wanted : List ℕ) → List Tree
-shown_trees_with o printed (Certified entries) wanted =
-    with_shown_tree o.json (is_hidden o.faults wanted) printed entries.items
-shown_trees_with o printed (Found ttl travel) wanted = printed
+abbrev pub shown_trees_with : AuditOptions → Net → List Tree → Examined → (wanted : List ℕ) → List Tree
+shown_trees_with o n printed (Certified entries) wanted =
+    with_shown_tree o.json (is_hidden o.faults wanted) printed (tree_key n entries.items)
+shown_trees_with o n printed (Found ttl travel) wanted = printed
 
 -- the status of a right flow, and of any flow
 abbrev pub status_of_right : (wanted : List ℕ) → FlowStatus

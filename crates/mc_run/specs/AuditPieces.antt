@@ -14,7 +14,7 @@ use Rattle.mc_explain.specs.declared.causes.Cause.{Cause}
 use Rattle.mc_input.specs.declared.domain.FolderDomain.{FolderDomain}
 use Rattle.mc_run.specs.AuditEnd.{FlowAnswer, count, end_objects, end_text, end_text_or_objects}
 use Rattle.mc_run.specs.AuditEnd.{is_right, is_unwanted, is_wrong}
-use Rattle.mc_run.specs.AuditObjects.{right_objects, wrong_object}
+use Rattle.mc_run.specs.AuditObjects.{key_of_tree, right_objects, wrong_object}
 use Rattle.mc_run.specs.AuditExplanation.{search_context}
 use Rattle.mc_run.specs.AuditRun.{IsFlowAnswer, AuditedValue, excluded, is_whole, trees_shown}
 use Rattle.mc_run.specs.AuditText.{Explanation, explanation_lines, right_lines, searched_lines, wrong_lines}
@@ -69,7 +69,7 @@ pub record IsFlowPushed (v : AuditedValue) (o : AuditOptions) (flow : ℕ) (flow
   pub answer : FlowAnswer
   pub is : IsFlowAnswer v o printed flow answer
   pub matches : flow_status ≡ status_of answer.examined answer.wanted
-  pub shown_trees : new_printed ≡ shown_trees_with o printed answer.examined answer.wanted
+  pub shown_trees : new_printed ≡ shown_trees_with o answer.net printed answer.examined answer.wanted
   pub spelled : new ≡ old ++ answer.lines
 
 -- The lines of the first k flows were appended, and these are their counts and their trees.
@@ -102,17 +102,20 @@ abbrev pub right_lines_of : AuditedDomain → (flow copies : ℕ) → (wanted : 
 right_lines_of a flow copies wanted =
     right_lines (is_whole (audited_value a)) (audited_value a).domain.topology flow copies wanted
 
--- in JSON, after the printed trees,
+-- in JSON, after the printed trees, of which this one has its key,
+abbrev pub key_of_shown_tree : AuditedDomain → (flow : ℕ) → Tree → Tree
+key_of_shown_tree a flow es = key_of_tree (facts (audited_value a).domain) flow es
+
 abbrev pub right_objects_of : AuditedDomain → (printed : List Tree) → (flow : ℕ) → Tree → (wanted : List ℕ)
     → List ℕ
 right_objects_of a printed flow es wanted =
-    right_objects (is_whole (audited_value a)) (audited_value a).domain.topology printed flow es wanted
+    right_objects (is_whole (audited_value a)) (facts (audited_value a).domain) printed flow es wanted
 
 -- and as the options ask
 abbrev pub right_flow_lines_of : AuditedDomain → AuditOptions → (printed : List Tree) → (flow : ℕ) → Tree
     → List ℕ
 right_flow_lines_of a o printed flow es = right_flow_lines o (is_whole (audited_value a))
-    (audited_value a).domain.topology printed flow es (lans_wanting_flow a flow)
+    (facts (audited_value a).domain) printed flow es (lans_wanting_flow a flow)
 
 -- the context of the search for a LAN that the packet of a finished travel missed
 abbrev pub search_context_of : AuditedDomain → (flow : ℕ) → FinishedTravel → Search

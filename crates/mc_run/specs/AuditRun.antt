@@ -64,6 +64,7 @@ pub record IsFlowAnswer (v : AuditedValue) (o : AuditOptions) (printed : List Tr
   pub flights : ExaminedFlights
   pub explanation : Explanation
   pub listed : flow < length v.domain.topology.flows
+  pub net : a.net ≡ net_of v.domain flow
   pub has_flights : HasExaminedFlights v.domain flow flights
   pub examined : a.examined ≡ without_flights v.domain flow flights
   pub checked : IsChecked v.domain flow a.examined
@@ -75,7 +76,7 @@ pub record IsFlowAnswer (v : AuditedValue) (o : AuditOptions) (printed : List Tr
 
 -- the trees that the lines of these flows print, each once, in the order of first use
 abbrev pub trees_shown : AuditOptions → List FlowAnswer → List Tree
-trees_shown o = fold (λ printed a. shown_trees_with o printed a.examined a.wanted) []
+trees_shown o = fold (λ printed a. shown_trees_with o a.net printed a.examined a.wanted) []
 
 -- an answer for each flow of the domain's topology, in order
 pub record AreFlowAnswers (v : AuditedValue) (o : AuditOptions) (answers : List FlowAnswer) : Type 0 where
@@ -137,7 +138,7 @@ SaysNoCertificate false t flow lines =
 -- it is wanted and only faults are asked for), and otherwise that it has none.
 pub record SaysFlowRight (v : AuditedValue) (o : AuditOptions) (flow : ℕ) (lines : List ℕ) : Type 0 where
   pub right : IsRight (net_of v.domain flow) → (printed : List Tree) × (es : Tree)
-      × (lines ≡ right_flow_lines o (is_whole v) v.domain.topology printed flow es
+      × (lines ≡ right_flow_lines o (is_whole v) (facts v.domain) printed flow es
       (lans_wanting (facts v.domain) flow))
   pub wrong : ¬ IsRight (net_of v.domain flow) → SaysNoCertificate o.json v.domain.topology flow lines
 
@@ -171,7 +172,7 @@ pub record SaysYesOf (v : AuditedValue) (o : AuditOptions) (flow : ℕ) (lines :
   pub right : IsRight (net_of v.domain flow)
   pub accepted : IsAccepted (net_of v.domain flow) list
   pub headline : HeadlineHolds (net_of v.domain flow) (length list)
-  pub spelled : lines ≡ right_flow_lines o (is_whole v) v.domain.topology printed flow list
+  pub spelled : lines ≡ right_flow_lines o (is_whole v) (facts v.domain) printed flow list
       (lans_wanting (facts v.domain) flow)
 
 -- The lines say that the flow has no certificate, and the finding, and this is true: the flow isn't

@@ -142,16 +142,14 @@ fn push_wrong_object(
     text: &mut String,
     audited: &AuditedDomain<'_>,
     flow: u32,
-    ended: &FinishedTravel<'_>,
+    travel: &Travel,
     ttl: u8,
     travels: bool,
     explanation: &Explanation<'_>,
 ) -> Result<(), NoMemory>
     requires flow { flow < length (audited_value audited.now).domain.topology.flows }
-    requires domain { ended.now.flight.domain ≡ (audited_value audited.now).domain }
     ensures added { OnOk result (string_bytes text.new ≡ string_bytes text.old
-        ++ wrong_object_of audited.now travels flow ttl ended.now.travel
-        (explanation_value explanation.now)) }
+        ++ wrong_object_of audited.now travels flow ttl travel.now (explanation_value explanation.now)) }
 {
     let AuditedDomain {
         domain,
@@ -164,7 +162,7 @@ fn push_wrong_object(
         domain,
         summary,
         flow,
-        ended,
+        travel,
         ttl,
         travels,
         explanation,
@@ -186,7 +184,6 @@ pub(crate) fn push_wrong(
     text: &mut String,
 ) -> Result<(), NoMemory>
     requires flow { flow < length (audited_value audited.now).domain.topology.flows }
-    requires domain { ended.now.flight.domain ≡ (audited_value audited.now).domain }
     ensures added { OnOk result (string_bytes text.new ≡ string_bytes text.old
         ++ wrong_flow_lines_of audited.now options flow ttl ended.now causes.now found.now) }
 {
@@ -197,19 +194,19 @@ pub(crate) fn push_wrong(
         also: &also,
     };
     let travels = options.travels;
+    let travel = &ended.travel;
     if options.json {
         push_wrong_object(
             alloc,
             text,
             audited,
             flow,
-            ended,
+            travel,
             ttl,
             travels,
             &explanation,
         )
     } else {
-        let travel = &ended.travel;
         push_wrong_lines(
             alloc,
             text,

@@ -11,12 +11,6 @@ search_if_missed-requires-clause-ended c =
     c.args.flights.now c.args.ended.now
     c.requires.is c.requires.flights
 
-pub push_wrong-requires-clause-domain : goal.push_wrong-requires-clause-domain
-push_wrong-requires-clause-domain c =
-    (is_finished_travel-at_255 (audited_value c.args.audited.now).domain c.args.flow
-    c.args.flights.now c.args.ended.now
-    c.requires.is c.requires.flights).domain
-
 pub returns : goal.returns
 returns c = record {
   ok = (

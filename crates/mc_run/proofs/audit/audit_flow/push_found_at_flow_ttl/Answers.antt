@@ -2,14 +2,8 @@ use Rattle.std.proofs.Common.{None, ap, ◌∙◌}
 use Rattle.mc_maker.specs.ExaminedFlights.{without_flights}
 use Rattle.mc_run.specs.AuditPieces.{explanation_in, audited_value}
 use Rattle.mc_run.proofs.AuditFlows.{is_flow_pushed-wrong, wrong_flow_lines-same_causes, found-ttl_of_view}
-use Rattle.mc_run.proofs.ExplanationLemmas.{is_finished_travel-at_flow_ttl, is_explanation-at_flow_ttl}
+use Rattle.mc_run.proofs.ExplanationLemmas.{is_explanation-at_flow_ttl}
 use Rattle.mc_run.proofs.audit.audit_flow.push_found_at_flow_ttl.Goals as goal
-
-pub push_wrong-requires-clause-domain : goal.push_wrong-requires-clause-domain
-push_wrong-requires-clause-domain c =
-    (is_finished_travel-at_flow_ttl (audited_value c.args.audited.now).domain c.args.flow
-    c.args.flights.now c.args.greatest.now
-    c.args.least.now c.requires.is c.requires.flights).domain
 
 pub returns : goal.returns
 returns c = record {

@@ -9,7 +9,7 @@ from mcaudit_tools import audit as audits
 class Judged:
     """What an audit says."""
     is_right: bool
-    counts: dict  # flows, right, wrong, unwanted
+    counts: dict  # flows, right, wrong, unknown, unwanted
     wrong: list  # texts: source, group and finding
     unwanted: list  # texts: source and group
     unlisted: int
@@ -32,4 +32,5 @@ def judged_of(text):
                 wrong.append(" ".join([name, *place]))
             elif not line["wanted"]:
                 unwanted.append(name)
-    return Judged(verdict == "yes", counts, wrong, unwanted, unlisted, domain["routers"], domain["lans"])
+    routers = [it["name"] for it in domain["routers"]]
+    return Judged(verdict == "yes", counts, wrong, unwanted, unlisted, routers, domain["lans"])

@@ -9,16 +9,16 @@ EXPECTED = ("from_no_vif_line", "from_register", "from_tunnel", "from_no_device"
 MARKS = {
     "sent_onto": [("port", "fault", "sends it")],
     "circle": [("start", "fault", ""), ("end", "fault", "")],
-    "take_out": [("port", "mend", "take out")],
-    "only_every_source": [("port", "fault", ""), ("router", "fault", "row for every source")],
+    "take_out": [("port", "mend", "remove")],
+    "only_every_source": [("port", "fault", ""), ("router", "fault", "entry for every source")],
     "stopped_at": [("port", "fault", "threshold {threshold}")],
     "gets_as_far_as": [("routers", "reached", "")],
     "not_taken": [("routers", "fault", "not taken")],
-    "left_out": [("router", "doubt", "left out")],
-    "no_row": [("router", "fault", "no row")],
-    "unresolved": [("router", "fault", "unresolved row")],
-    "every_source": [("router", "doubt", "row for every source")],
-    "does_not_send": [("port", "fault", "not sent")],
+    "left_out": [("router", "doubt", "excluded")],
+    "no_row": [("router", "fault", "no entry")],
+    "unresolved": [("router", "fault", "unresolved entry")],
+    "every_source": [("router", "doubt", "entry for every source")],
+    "does_not_send": [("port", "fault", "not forwarded")],
     "stopped": [("port", "fault", "threshold {threshold}")],
     "waits_for": [("start", "doubt", "waits")],
     "no_vif": [("device", "fault", "no vif")],
@@ -35,11 +35,11 @@ SEEN = {"Duplicate": "carries it twice", "Loop": "it came round", "Stray": "stra
 MEANS = {
     "Duplicate": "The LAN carries each packet twice or more: hosts see double packets.",
     "Loop": "A copy came round to a LAN where it had been, and goes on until its time to live is used up.",
-    "Stray": "A router sends a copy where the topology knows nothing, or follows a row that isn't judged.",
+    "Stray": "A router sends a copy where the topology knows nothing, or follows an entry that isn't audited.",
     "Missed": "The LAN wants the flow, and no copy reaches it.",
 }
-MISSED_PERHAPS = ("The LAN wants the flow, and by the tables that are known no copy reaches it. It may go on at a "
-                  "router that was left out: add no interface to another router's row for it.")
+MISSED_PERHAPS = ("The LAN wants the flow, and by the known tables no copy reaches it. It may go on at an excluded "
+                  "router: add no interface to another router's entry for it.")
 
 
 def some(names):
@@ -64,6 +64,15 @@ def element_of(domain, what, line, router):
     return f"p{domain.port(router, line[{'port': 'vif', 'start': 'from_vif', 'end': 'to_vif'}[what]])}"
 
 
+def sentence_of(line):
+    """Returns the sentence of a line; of 0.2.0, whose lines had none, what kind it is and what it names."""
+    if "text" in line:
+        return line["text"]
+    named = [str(line[it]) for it in ("from_lan", "to_lan", "lan", "router", "device") if line.get(it) is not None]
+    named += [some(line["routers"])] if line.get("routers") else []
+    return " ".join([line["kind"].replace("_", " ") + ":", *named]) if named else ""
+
+
 def told_of(domain, lines):
     """Returns the texts of these lines, each with what it marks in the graph: elements, each with a class and a
     sign."""
@@ -72,7 +81,7 @@ def told_of(domain, lines):
         marks = [[element_of(domain, what, line, router), kind, sign.format(**line)]
                  for what, kind, sign in MARKS.get(line["kind"], ())
                  for router in (line["routers"] if what == "routers" else [line.get("router")])]
-        told += [[text, marks] for text in line["text"].split("\n") if text]
+        told += [[text, marks] for text in sentence_of(line).split("\n") if text]
     return told
 
 

@@ -13,6 +13,7 @@ The last line counts: `N passed, M failed`. The status is 0 if none failed.
 """
 import json
 import os
+import re
 import subprocess
 import sys
 import tempfile
@@ -103,11 +104,12 @@ def look_at_faults(check, browser):
         text = " ".join(browser.run(TEXT).split())
         lines = [line.strip() for line in audited(name) if line.startswith("  ")]
         for line in lines:
-            if not line.startswith(("wanted", "left out", "no multicast group")):
+            if not line.startswith(("wanted", "excluded", "no multicast group")):
                 check.that(f"{name}: {line}", " ".join(line.split()) in text)
         verdict = audited(name)[-1].split()[1]
         check.that(f"{name}: verdict", browser.run("document.querySelector('h1').innerText") == f"Verdict: {verdict}")
-        finding = next((line.split(" ", 3)[3].strip() for line in audited(name) if line.startswith("found")), "right")
+        found = re.search(r"(?:wrong|unknown): .*", audited(name)[0])
+        finding = found[0] if found else "right"
         check.that(f"{name}: finding", finding in browser.run("document.getElementById('finding').innerText"))
         is_wrong = verdict == "no"
         check.that(f"{name}: faults in the graph", bool(browser.run(MARKED.format("fault"))) == is_wrong)

@@ -5,7 +5,7 @@
 
 Of each folder of examples/faults the page has to open without a complaint and without asking for anything else, and to
 show each line that explains its fault. Then: the search narrows the table; a click on a flow, and the keys alone, draw
-its way and show what explains it; the steps of a travel go back and forth; names that are markup are text; the policy
+its way and show what explains it; the steps of a travel go back and forth; what 0.2.0 answered is shown as far as it says; names that are markup are text; the policy
 lets no other script run; it prints; what it shows can be read on a light page, a dark one and printed; and a page of 4,096 flows is there in 2 s, the best of three times: of a processor,
 and by the clock too where the machine has nothing else to do. What audits the folders is tests/audited/answers.py. With PICTURES, the pictures of docs/ are written into that folder.
 
@@ -22,10 +22,11 @@ import time
 sys.dont_write_bytecode = True
 HERE = os.path.dirname(os.path.abspath(__file__))
 TOP = os.path.join(HERE, "..", "..")
-sys.path += [os.path.join(TOP, "tests", "audited"), os.path.join(TOP, "tests", "tools")]
+sys.path += [os.path.join(TOP, "tests", *it) for it in ((), ("audited",), ("tools",))]
 import answers
 import large
 from browser import Page
+from case_files import text_at
 from page import FAULTS, HOSTILE, TOOL, WORDS, turned
 
 LIMIT = 2.0  # seconds until a page of the most flows can be used
@@ -132,6 +133,20 @@ def look_at_steps(check, browser):
     check.that("the way so far", sorted(browser.run(MARKED.format("way"))) == ["e0", "e1", "p0", "p1", "r0"])
     browser.click(".stepper button:nth-child(4)")
     check.that("the last step again", browser.run(said) == "step 5 of 5")
+    check.that("where a copy goes", "sends 1 copy onto annex by eth1" in browser.run(TEXT))
+    browser.open(os.path.join(check.folder, "stray-to-the-register-vif.html"))
+    check.that("by what it leaves", "1 copy leaves the known domain by pimreg" in browser.run(TEXT))
+
+
+def look_at_format_1(check, browser):
+    """Opens the page of what 0.2.0 answered, which doesn't say where copies went and came from."""
+    lines = text_at("tests/tools/monitor/kept.base/before.json").decode().splitlines(keepends=True)
+    browser.open(check.made("kept", lines))
+    check.that("what explains a fault, in brief", "sent onto: hall r3 eth1" in browser.run(TEXT))
+    browser.open(os.path.join(check.folder, "kept.html#flow-1"))
+    check.that("who sends", "hall by r2, to eth1; reached with ttl 3 or more" in browser.run(TEXT))
+    check.that("by what", sorted(browser.run(MARKED.format("way"))) == ["e1", "e4", "p1", "p4", "r0", "r1"])
+    check.that("no complaint", not browser.said)
 
 
 def look_at_table(check, browser):
@@ -264,8 +279,8 @@ def main():
     """Tries all. Returns the status."""
     with tempfile.TemporaryDirectory(prefix="mcaudit-page-") as folder, Page(1440, 940) as browser:
         check = Check(folder)
-        for look in (look_at_faults, look_at_steps, look_at_table, look_at_hostile_names, look_at_policy, look_at_prints,
-                     look_at_modes, look_at_most_flows):
+        for look in (look_at_faults, look_at_steps, look_at_format_1, look_at_table, look_at_hostile_names,
+                     look_at_policy, look_at_prints, look_at_modes, look_at_most_flows):
             look(check, browser)
         if len(sys.argv) > 1:
             take_pictures(check, browser, sys.argv[1])

@@ -314,7 +314,8 @@ function stepText([port, ttl, outcome, copies, strays, sent]) {
   for (const [, name, on] of sent.map(it => data.ports[it]))
     if (on === null) out.push(name); else onto.push(`${data.lans[on]} by ${name}`);
   const sends = copies ? "sends " + count(copies, "copy", "copies") : strays ? "" : "sends no copy";
-  const leaves = strays ? `${copies ? ", and " : ""}${count(strays, "copy leaves", "copies leave")} the known domain` : "";
+  const leaves = !strays ? "" : (copies ? ", and " : "") + count(strays, "copy leaves", "copies leave")
+    + " the known domain";
   return begin + sends + (onto.length ? " onto " + onto.join(", ") : "")
     + leaves + (out.length ? " by " + out.join(", ") : "");
 }

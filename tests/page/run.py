@@ -5,9 +5,11 @@
 
 Of each folder of examples/faults the page has to open without a complaint and without asking for anything else, and to
 show each line that explains its fault. Then: the search narrows the table; a click on a flow, and the keys alone, draw
-its way and show what explains it; the steps of a travel go back and forth; what 0.2.0 answered is shown as far as it says; names that are markup are text; the policy
-lets no other script run; it prints; what it shows can be read on a light page, a dark one and printed; and a page of 4,096 flows is there in 2 s, the best of three times: of a processor,
-and by the clock too where the machine has nothing else to do. What audits the folders is tests/audited/answers.py. With PICTURES, the pictures of docs/ are written into that folder.
+its path and show what explains it; the steps of a travel go back and forth; what 0.2.0 answered is shown as far as it
+says it; names that are markup are text; the policy lets no other script run; it prints; what it shows can be read on a
+light page, a dark one and printed; and a page of 4,096 flows is there in 2 s, the best of three times: of a processor,
+and by the clock too where the machine has nothing else to do. What audits the folders is tests/audited/answers.py. With
+PICTURES, the pictures of docs/ are written into that folder.
 
 The last line counts: `N passed, M failed`. The status is 0 if none failed.
 """

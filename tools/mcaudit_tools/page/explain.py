@@ -7,7 +7,7 @@ UNPLACED = ("no_vif_line", "register_vif", "tunnel", "no_device", "on_no_lan")
 EXPECTED = ("from_no_vif_line", "from_register", "from_tunnel", "from_no_device", "from_no_lan")
 # What each kind of line marks in the graph: elements, each with a class and a sign
 MARKS = {
-    "sent_onto": [("port", "fault", "sends it")],
+    "sent_onto": [("port", "fault", "forwards it")],
     "circle": [("start", "fault", ""), ("end", "fault", "")],
     "take_out": [("port", "mend", "remove")],
     "only_every_source": [("port", "fault", ""), ("router", "fault", "entry for every source")],

@@ -27,7 +27,6 @@ MOST_SHOWN = 20  # flows that are wrong
 MOST_TEXT = 1 << 20  # bytes of what mcaudit-collect prints, and of what is kept of what mcaudit-diff does
 MOST_CHANGES = 1 << 30  # bytes of what mcaudit-diff prints
 MOST_STATE = 1 << 20  # bytes of what is kept
-AUDITING = 300  # seconds that an audit may take
 GRACE = 5  # seconds that what it runs has to end what that began
 YOUNG = 600  # seconds in which no set is removed
 NEWEST = 2  # sets that are never removed
@@ -127,7 +126,7 @@ class Run:
         """Audits the set that the site leads to now, whatever it leads to meanwhile."""
         self.folder = os.path.realpath(self.site)
         status, self.text, said = self.command([find_tool("mcaudit"), "audit", "--json", "--unlisted", self.folder],
-                                               audits.MOST_BYTES, limit=AUDITING)
+                                               audits.MOST_BYTES, limit=audits.AUDITING)
         if os.path.lexists(self.site):
             self.check_folder()
         if status not in (0, 1):
@@ -178,7 +177,7 @@ class Run:
             return
         head = Head()
         status, _, said = self.command([find_tool("mcaudit-diff"), path, "/dev/stdin"], MOST_CHANGES, self.text,
-                                       AUDITING, head)
+                                       audits.AUDITING, head)
         if status == 2:
             self.say(said or f"mcaudit-diff refuses the audit of {last}")
             self.is_comparing = False

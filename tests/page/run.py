@@ -114,8 +114,9 @@ def look_at_faults(check, browser):
         found = re.search(r"(?:wrong|unknown): .*", audited(name)[0])
         finding = found[0] if found else "right"
         check.that(f"{name}: finding", finding in browser.run("document.getElementById('finding').innerText"))
-        is_wrong = verdict == "no"
+        is_wrong = finding.startswith("wrong")
         check.that(f"{name}: faults in the graph", bool(browser.run(MARKED.format("fault"))) == is_wrong)
+        check.that(f"{name}: doubts in the graph", bool(browser.run(MARKED.format("doubt"))) or finding[:7] != "unknown")
 
 
 def look_at_steps(check, browser):

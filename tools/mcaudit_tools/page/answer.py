@@ -87,12 +87,12 @@ class Audit:
 
     def fault(self, line, flow):
         """Returns what is told of a flow with a finding."""
-        domain, finding = self.domain, line["finding"]
+        domain, finding, kind = self.domain, line["finding"], "doubt" if flow["state"] == "unknown" else "fault"
         told = [[text.replace(f"({flow['source']},{flow['group']})", FLOW), marks]
                 for text, marks in explanation(domain, line["why"])]
         also = [str(lan) for lan in line["also"]]
         if also:
-            marks = [[f"l{domain.lan_numbers[lan]}", "fault", "missed"] for lan in also]
+            marks = [[f"l{domain.lan_numbers[lan]}", kind, "missed"] for lan in also]
             told.append([f"also missed: {some(also)}", marks])
         if finding["kind"] == "Stray":
             port = domain.port(finding["router"], finding["vif"])
@@ -101,7 +101,7 @@ class Audit:
             place, words = f"l{domain.lan_numbers[finding['lan']]}", finding["lan"]
         if line.get("shown_from") is not None:
             told.insert(0, [f"shown by packets sent with ttl {int(line['shown_from'])} or more", []])
-        told.insert(0, ["", [[place, "fault", SEEN[finding["kind"]]]]])
+        told.insert(0, ["", [[place, kind, SEEN[finding["kind"]]]]])
         steps = json.dumps(steps_of(domain, line.get("events", [])))
         return {"kind": finding["kind"], "place": str(words), "found_ttl": int(line["found_ttl"]),
                 "why": self.reasons.setdefault(json.dumps(told), len(self.reasons)),

@@ -274,7 +274,7 @@ def look_at_paths(check, tool):
         vifs = [port.vif for port in audit.domain.ports]
         for said, flow in zip(answer.answers, audit.flows):
             name = f"domain {number} flow {flow['number']}"
-            if said.is_right:
+            if "kind" not in flow:
                 for lan, _, _, port, start in audit.trees[flow["tree"]]:
                     row = port is not None and answer.domain.exact(audit.domain.ports[port].router, said.flow)
                     wanted = row.incoming if row else None

@@ -69,22 +69,6 @@ def sets_of_before(place):
         f"site.sets/{LAST}/audit.json", "site/audit.json")] == [1, 2]
 
 
-@line("What reads the text or the JSON of `audit`")
-def readers_of_audits(place):
-    """The JSON and the text of a fault have what the changelog names, and not what they had."""
-    with open(os.path.join(TOP, "CHANGELOG.md"), encoding="utf-8") as file:
-        section = file.read().split("\nUpgrading\n")[1].split("\n## ")[0]
-    place.site("r2")
-    text = place.audited("--without", "r2", "site") + place.audited("site")
-    said = place.audited("--json", "--travel", "site")
-    for new, old in (("wrong: Missed l2", "no certificate"), ("unknown: Missed l2", "found ttl"),
-                     ("\nexcluded r2\n", "\nwithout r2\n"), ("  excluded: r2", "  left out: "), ("unknown 1", "row (")):
-        assert new in text and old not in text, (new, old, text)
-    for key in ("name", "order", "unknown", "onto", "wanted", "shown_from", "text"):
-        assert f'"{key}":' in said and f"`{key}`" in section, (key, said)
-    assert '"format":2' in said and "`format` is 2" in section and '"from_vif":' in place.audited("--json", NETWORK)
-
-
 @line("`--plugin` warns by default")
 def warnings_of_ages(place):
     """Beyond 900 s and 3600 s, unless that is ended by the options; and the crontab gathers each half hour."""
@@ -171,6 +155,22 @@ def pythons(place):
         os.symlink(path, place.at("router", name))
     place.script("plain", f"R=$1 PATH={place.at('router')} exec /bin/sh")
     collected(place, ["r1=!plain r1; :", "r2=!plain r2; :"])
+
+
+@line("What reads the text or the JSON of `audit`")
+def readers_of_audits(place):
+    """The JSON and the text of a fault have what the changelog names, and not what they had."""
+    with open(os.path.join(TOP, "CHANGELOG.md"), encoding="utf-8") as file:
+        section = file.read().split("\nUpgrading\n")[1].split("\n## ")[0]
+    place.site("r2")
+    text = place.audited("--without", "r2", "site") + place.audited("site")
+    said = place.audited("--json", "--travel", "site")
+    for new, old in (("wrong: Missed l2", "no certificate"), ("unknown: Missed l2", "found ttl"),
+                     ("\nexcluded r2\n", "\nwithout r2\n"), ("  excluded: r2", "  left out: "), ("unknown 1", "row (")):
+        assert new in text and old not in text, (new, old, text)
+    for key in ("name", "order", "unknown", "onto", "wanted", "shown_from", "text"):
+        assert f'"{key}":' in said and f"`{key}`" in section, (key, said)
+    assert '"format":2' in said and "`format` is 2" in section and '"from_vif":' in place.audited("--json", NETWORK)
 
 
 if __name__ == "__main__":

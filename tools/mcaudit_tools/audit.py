@@ -37,8 +37,8 @@ class Lines:
     def see(self, value):
         """Sees that an object has its place among the others, and that the counts and the verdict are theirs. Returns
         it as format 2 has it."""
-        if (self.format is not None) == ("domain" in value) or (self.summary is not None) != ("verdict" in value) or (
-                self.verdict):
+        has_place = ("domain" in value) == (self.format is None) and ("verdict" in value) == (self.summary is not None)
+        if self.verdict or not has_place:
             raise NoAudit("no such line stands here in what audit prints")
         if "domain" in value:
             self.format = value["format"]

@@ -30,7 +30,7 @@ def judged_of(text):
                 found = line["finding"]
                 place = [str(found[it]) for it in ("kind", "lan", "router", "vif") if it in found]
                 wrong.append(" ".join([name, *place]))
-            elif not line["wanted"]:
+            elif "finding" not in line and not line["wanted"]:
                 unwanted.append(name)
     routers = [it["name"] for it in domain["routers"]]
     return Judged(verdict == "yes", counts, wrong, unwanted, unlisted, routers, domain["lans"])

@@ -115,7 +115,7 @@ rule 'signals: an interrupt before any is heeded, those heeded, those of an end,
 rule 'a lock: of a site, and of a scratch folder' 2..2 "$(lines 'fcntl\.flock\(' $tools)"
 rule 'how a file is opened that may be no regular one' 1..1 "$(lines 'O_RDONLY \| os\.O_NONBLOCK' $tools)"
 rule "a reader of the audit's JSON" 1..1 "$(lines '\["format"\]' $tools)"
-rule "readers of JSON: an audit's, that of files which the tools keep, dot's and ip's" 4..4 "$(lines 'json\.loads?\(' $tools)"
+rule "readers of JSON: an audit's, that of files which the tools keep, dot's, ip's and that of facts" 5..5 "$(lines 'json\.loads?\(' $tools)"
 rule 'a reader of TOML' 1..1 "$(lines 'tomllib\.loads?\(' $tools)"
 rule 'a decoder of hexadecimal digits' 1..1 "$(lines 'fromhex|unhexlify|b16decode' $tools)"
 rule "a reader of arguments: all tools', and mcaudit-query's" 2..2 "$(lines '\(argparse\.ArgumentParser\)' tools)"

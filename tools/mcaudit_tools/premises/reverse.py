@@ -1,0 +1,65 @@
+"""The reverse path filter: whether a router takes in what comes from a source by a device, as the kernel decides it
+(fib_validate_source of net/ipv4/fib_frontend.c)."""
+import shlex
+
+from mcaudit_tools.premises.findings import DROPS, MAY_DROP, NOT_KNOWN
+
+KIND = "rp_filter"
+
+
+def route_text(route, source):
+    """Returns what the route back to the source is, in words."""
+    if route.kind == "unicast":
+        return f"the route back to {source} is by {' and '.join(sorted(set(route.devices)))}"
+    return f"there is no route back to {source}" + ("" if route.kind == "none" else f" ({route.kind})")
+
+
+def setting_line(device, name, value):
+    """Returns the line that sets a number of a device. A point of its name is a slash for sysctl."""
+    return "sysctl -w " + shlex.quote(f"net.ipv4.conf.{device.replace('.', '/')}.{name}={value}")
+
+
+def remedy_of(facts, device, route, source, gateway, is_addressed):
+    """Returns the line that has packets of the source taken in."""
+    if route.kind == "unicast" and is_addressed:
+        return setting_line(device, "rp_filter", 2)  # the greater of both counts, and 2 is the loose one
+    if gateway and is_addressed:
+        return f"ip route replace {source}/32 via {gateway} dev {shlex.quote(device)}"
+    lines = [setting_line(it, "rp_filter", 0) for it in (device, "all") if facts.setting(it, "rp_filter")]
+    return " && ".join(lines)
+
+
+def judge_reverse(facts, source, device, gateway):
+    """Yields what the filter does with packets of the source that come in by the device: a word, a text and a remedy.
+    The gateway is what returns the address of the router from which they come, or None."""
+    one, every = (facts.setting(it, "rp_filter") for it in (device, "all"))
+    if one is None or every is None:
+        yield NOT_KNOWN, f"rp_filter of {device}", ""
+        return
+    filtering, route = max(one, every), facts.route_back(source)
+    if route is None:
+        if filtering:
+            yield NOT_KNOWN, f"rp_filter of {device} is {filtering}, and the route back to {source} isn't known", ""
+        return
+    if route.kind == "local":
+        if not any(facts.setting(it, "accept_local") for it in (device, "all")):
+            yield DROPS, f"{source} is one of its own addresses", setting_line(device, "accept_local", 1)
+        elif filtering == 1:
+            yield MAY_DROP, f"{source} is one of its own addresses, and rp_filter of {device} is 1", ""
+        return
+    if not filtering or route.kind == "unicast" and device in route.devices:
+        return
+    addresses = None if facts.addresses is None else facts.addresses.get(device, [])
+    if route.kind == "unicast" and filtering != 1 and addresses != []:
+        if addresses is None:
+            yield NOT_KNOWN, f"rp_filter of {device} is {filtering}, and its addresses aren't known", ""
+        return
+    name = f"rp_filter {filtering} (all {every}, {device} {one})"
+    name += f", {device} has no IPv4 address" if addresses == [] else ""
+    remedy = remedy_of(facts, device, route, source, gateway(), addresses != [])
+    if any(facts.setting(it, "src_valid_mark") for it in (device, "all")):
+        yield MAY_DROP, f"{name}, and the route back to {source} depends on the packet's mark (src_valid_mark)", ""
+    elif route.is_whole:
+        yield DROPS, f"{name}, and {route_text(route, source)}", remedy
+    else:
+        yield MAY_DROP, f"{name}, and {route_text(route, source)}, as far as is known without iproute2", remedy

@@ -163,7 +163,8 @@ asked() { limited vtysh -c "$1"; }
 order=little
 ! grep -qs E0000001 /proc/net/igmp || order=big
 echo "$word facts"
-section about echo "order $order uid $(id -u) kernel $(uname -r) machine $(uname -m) time $(date +%s)"
+boot=$(file /proc/sys/kernel/random/boot_id)
+section about echo "order $order uid $(id -u) kernel $(uname -r) machine $(uname -m) time $(date +%s) boot $boot"
 for name in ip_mr_vif ip_mr_cache igmp snmp netstat dev raw; do
     section "$name" file "/proc/net/$name"
 done

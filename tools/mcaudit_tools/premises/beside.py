@@ -5,7 +5,7 @@ import os
 
 from mcaudit_tools import audit as audits
 from mcaudit_tools.facts import PREFIX
-from mcaudit_tools.premises import counted, domain, judge, text
+from mcaudit_tools.premises import counted, domain, judge, links, text
 from mcaudit_tools.premises.findings import BAD, DROPS, NONE_COMES
 from mcaudit_tools.premises.windows import Counters
 
@@ -15,16 +15,17 @@ MOST_SHOWN = 20  # lines of what was found
 class Beside:
     """What was found beside a verdict."""
 
-    def __init__(self, findings, counters, asked):
-        """Takes what was found, what the counters say, and the routers whose facts are there."""
-        self.findings, self.counters, self.asked = findings, counters, asked
+    def __init__(self, findings, counters, domain=None):
+        """Takes what was found, what the counters say, and what was audited, where its facts were judged."""
+        self.findings, self.counters, self.domain = findings, counters, domain
         self.bad = [it for it in findings if it.word in BAD]
 
     def sentences(self):
         """Returns what a person is to know of it."""
         lines = list(text.lines_of(self.bad))
         more = [f"and {len(lines) - MOST_SHOWN} lines more: mcaudit-premises"] if len(lines) > MOST_SHOWN else []
-        return [self.counters.sentence(), *lines[:MOST_SHOWN], *more]
+        looked = [judge.looked_at_sentence(self.domain, self.findings)] if self.domain else []
+        return [self.counters.sentence(), *looked, *lines[:MOST_SHOWN], *more]
 
     def warnings(self):
         """Returns what a plugin is to warn of."""
@@ -37,19 +38,26 @@ class Beside:
             starved = {it.flow for it in self.findings if it.word == NONE_COMES}
             found.append(("flows_not_coming", "Right flows of which a router on their tree gets no packet.",
                           [({}, len(starved))]))
-        dropping = {it.router for it in self.findings if it.word == DROPS}
         found.append(("premise_contradicted", "1 for a router whose own settings drop what its tables forward.",
-                      [({"router": it}, int(it in dropping)) for it in self.asked]))
+                      [({"router": it}, value) for it, value in self.contradicted().items()]))
         return found
+
+    def contradicted(self):
+        """Returns 1 for each router whose own settings drop packets, and 0 where all that may was looked at."""
+        dropping = {it.router for it in self.findings if it.word == DROPS}
+        known = judge.looked_at(self.domain, self.findings) if self.domain else {}
+        seen = set.intersection(*(set(known[it]) for it in judge.KINDS if it != links.SIZES)) if known else set()
+        return {it: int(it in dropping) for it in (self.domain.routers if self.domain else ())
+                if it in dropping or it in seen}
 
 
 def look(answer, site, folder, ages):
     """Returns what stands beside what an audit answered of a site's set, whose files are so old."""
     try:
         found = domain.domain_of(audits.lines_of(io.BytesIO(answer)))
-        asked = [it for it in found.routers if os.path.lexists(os.path.join(folder, PREFIX + it))]
-        findings = judge.Judge(found, folder, ages).judge_all() if asked else []
+        has_facts = any(os.path.lexists(os.path.join(folder, PREFIX + it)) for it in found.routers)
+        findings = judge.Judge(found, folder, ages).judge_all() if has_facts else []
         counters = counted.of_sets(found, site, folder)
-        return Beside(findings + counters.findings, counters, asked)
+        return Beside(findings + counters.findings, counters, found if has_facts else None)
     except Exception as fault:  # pylint: disable=broad-exception-caught
-        return Beside([], Counters(reason=f"{type(fault).__name__}: {fault}"), [])
+        return Beside([], Counters(reason=f"{type(fault).__name__}: {fault}"))

@@ -42,7 +42,8 @@ def times_of(folder, routers):
             if origin.by != origins.COLLECT:
                 return None
             times.append(origin.time)
-        return (min(times), max(times)) if times else None
+        asked = [known[it].time for it in (PREFIX + router for router in routers) if it in known]
+        return (min(times), max(times + asked)) if times else None
     except (Failed, OSError):
         return None
 
@@ -71,12 +72,12 @@ def reading_in(folder, router, wanted, known, since):
     were asked for with it."""
     sections = {name: read_regular(os.path.join(folder, prefix + router), MOST_TABLE).split(b"\n")
                 for name, prefix in TABLES.items()}
+    boot = None
     if known is not None and known.by == origins.COLLECT and known.time >= since:
         facts, _ = read_facts(folder, PREFIX + router)
-        if facts is not None and not facts.failed():
-            sections.update({it: facts.sections[it] for it in SECTIONS
-                             if it in facts.sections and facts.fault(it) is None})
-    return reading_of(sections, wanted)
+        if facts is not None and not facts.failed() and all(facts.fault(it) is None for it in SECTIONS):
+            sections, boot = {it: facts.sections[it] for it in SECTIONS}, facts.boot
+    return reading_of(sections, wanted, boot)
 
 
 def of_sets(answer, site, current):

@@ -30,6 +30,7 @@ class Reading:
     vifs: dict = dataclasses.field(default_factory=dict)  # by number
     numbers: dict = dataclasses.field(default_factory=dict)  # by name
     devices: dict = dataclasses.field(default_factory=dict)  # by name
+    boot: "str | None" = None  # which boot of the router it was, where that is known
 
 
 def numbers_of(lines):
@@ -58,8 +59,8 @@ def devices_of(lines):
     return found
 
 
-def reading_of(sections, wanted):
-    """Returns the reading that sections have, lists of lines by name."""
+def reading_of(sections, wanted, boot=None):
+    """Returns the reading that sections have, lists of lines by name, and of which boot of the router it is."""
     return Reading(wanted.rows(sections.get("ip_mr_cache", ())), vifs_of(sections.get("ip_mr_vif", ())),
                    {**numbers_of(sections.get("snmp", [])), **numbers_of(sections.get("netstat", []))},
-                   devices_of(sections.get("dev", [])))
+                   devices_of(sections.get("dev", [])), boot)

@@ -38,9 +38,10 @@ def judge_reverse(facts, source, device, gateway):
         return
     filtering, route = max(one, every), facts.route_back(source)
     if route is None:
-        if filtering:
-            yield NOT_KNOWN, f"rp_filter of {device} is {filtering}, and the route back to {source} isn't known", ""
+        yield NOT_KNOWN, f"rp_filter of {device} is {filtering}, and the route back to {source} isn't known", ""
         return
+    if not route.is_whole and facts.addresses is None:
+        yield NOT_KNOWN, f"whether {source} is one of its own addresses", ""
     if route.kind == "local":
         if not any(facts.setting(it, "accept_local") for it in (device, "all")):
             yield DROPS, f"{source} is one of its own addresses", setting_line(device, "accept_local", 1)

@@ -68,10 +68,9 @@ class Rules:
         number = len(self.all)
         self.all.append(rule)
         for kind, it in map(single, rule):
-            left, right = (single(it.get("left")), it.get("right")) if kind == "match" else (("", {}), None)
-            if left[0] == "payload" and it.get("op") == "==" and isinstance(right, str) and ADDRESS.fullmatch(right) and (
-                    left[1].get("protocol"), left[1].get("field")) in (("ip", "saddr"), ("ip", "daddr")):
-                self.known.setdefault((left[1]["field"], right), []).append(number)
+            field = address_field(it) if kind == "match" else None
+            if field and ADDRESS.fullmatch(str(it.get("right"))):
+                self.known.setdefault((field, it["right"]), []).append(number)
                 return
         self.others.append(number)
 
@@ -242,6 +241,13 @@ class Ruleset:
             ends = {chain.policy if it in (NEXT, RETURN) else it for it in self.ends(chain.key, packet)}
             if DROP in ends:
                 yield chain, ends == {DROP} and not (is_of_device and chain.devices is None)
+
+
+def address_field(match):
+    """Returns which address a condition has to be equal to one, saddr or daddr; None of another condition."""
+    kind, it = single(match.get("left"))
+    is_address = kind == "payload" and match.get("op") == "==" and it.get("protocol") == "ip"
+    return it.get("field") if is_address and it.get("field") in ("saddr", "daddr") else None
 
 
 def bounds_of(items):

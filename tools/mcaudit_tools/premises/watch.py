@@ -18,6 +18,8 @@ from mcaudit_tools.premises.windows import KIND, ROUNDS, Windows, loss_text
 from mcaudit_tools.programs import MOST_WORDS, RUNNING
 
 MOST_FILES = 4096  # that are open at once
+MOST_LINES = 4096  # of a table, but for the cache
+MOST_LINE = 512  # bytes of a line by which an answer may end
 
 
 class Session:
@@ -66,8 +68,9 @@ class Session:
             self.end(f"the answer has more than {MOST_ANSWER} bytes")
             return
         self.file.write(piece)
-        self.tail = (self.tail + piece)[-(PIECE + 512):]
-        for line in self.tail.split(b"\n")[:-1]:
+        *lines, self.tail = (self.tail + piece).split(b"\n")
+        self.tail = self.tail[:MOST_LINE]
+        for line in lines:
             if line.startswith(self.ending):
                 self.is_waiting = False
                 self.identity = self.identity or line[len(self.ending):].strip() or b"?"
@@ -81,7 +84,7 @@ class Session:
                 name = line[1:-1].decode()
             elif name == SECTIONS[0]:
                 found[name] += wanted.kept([line])
-            elif name is not None and len(found[name]) < MOST_FILES:
+            elif name is not None and len(found[name]) < MOST_LINES:
                 found[name].append(line)
         return reading_of(found, wanted)
 
@@ -176,8 +179,8 @@ def watched(words, answer):
         say(f"not in the topology, so that nobody judges them: {' '.join(others)}")
     watch.begin([it for it in words.all if it.name in answer.routers])
     for number in range(ROUNDS):
-        if number:
-            RUNNING.rest(words.pauses[number - 1])
+        if number:  # what came is read within the pause
+            RUNNING.rest(max(0, times[-1][1] + words.pauses[number - 1] - time.monotonic()))
         found, when = watch.round(number, wanted)
         rounds.append(found)
         times.append(when)

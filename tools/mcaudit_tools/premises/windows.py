@@ -82,11 +82,20 @@ class Windows:
         a row that was made anew could have counted further than it had, and only what never comes is told."""
         self.is_close = is_close
         self.domain, self.rounds, self.counters = domain, rounds, Counters(flows=len(domain.trees))
-        self.routers = [it for it in domain.routers if all(it in one for one in rounds)]
+        self.faults = {it: fault for it, fault in zip(domain.routers, map(self.fault_of, domain.routers)) if fault}
+        self.routers = [it for it in domain.routers if it not in self.faults]
+        self.kept = {}  # by router and vif: whether it was there all the while
         self.copies = {}  # by router and vif: what rows of right flows must have sent
         self.compared = None, {}  # the flow that is judged, and its rows by router
         self.explained = set()  # routers and vifs of whose copies some are known to be lost
         self.coming, self.by_vif = set(), {}  # flows whose packets come; and those that each router's vif sends
+
+    def fault_of(self, router):
+        """Returns why the readings of a router can't be compared, or None."""
+        if any(router not in one for one in self.rounds):
+            return "it was not read"
+        boots = {one[router].boot for one in self.rounds} - {None}
+        return "it was booted meanwhile" if len(boots) > 1 else None
 
     def rise(self, router, kind, key, name=None):
         """Returns how a number of a router rose."""
@@ -106,14 +115,22 @@ class Windows:
 
     def compare(self, router, flow):
         """Returns the rows of a flow on a router in all rounds, or why they can't be compared."""
-        rows = [one[router].rows.get(flow) for one in self.rounds] if router in self.routers else [None]
+        if router in self.faults:
+            return None, self.faults[router]
+        rows = [one[router].rows.get(flow) for one in self.rounds]
         if None in rows:
-            return None, "there was no row of it all the while" if router in self.routers else "it was not read"
+            return None, "there was no row of it all the while"
         if len({it.vif for it in rows}) > 1:
             return None, "its row had another incoming vif meanwhile"
-        if rise_of([it.taken for it in rows]) is None:
+        if rise_of([it.taken for it in rows]) is None or not self.is_vif_kept(router, rows[0].vif):
             return None, "its row was made anew meanwhile"
         return rows, None
+
+    def is_vif_kept(self, router, number):
+        """Whether a vif was there all the while: a daemon that starts anew, or a router, makes its vifs anew too."""
+        if (router, number) not in self.kept:
+            self.kept[router, number] = self.rise(router, "vifs", number, "packets_in") is not None
+        return self.kept[router, number]
 
     def add(self, word, router, text, flow=None):
         """Adds what was found."""

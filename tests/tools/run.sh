@@ -5,7 +5,7 @@
 # and of their tests. Their manual pages are those that packaging/man_pages.py writes. page.py looks at the
 # pages that mcaudit-page makes, and rates.py at the words of a rate. What it needs that is not there is named,
 # and is a failure; but promtool reads the files for Prometheus, and systemd-analyze the units, only where they
-# are. hostile.py and premises.py try what hosts, routers and names may do to the tools, and loops.py ends them at
+# are. hostile.py tries what hosts, routers and names may do to the tools, and loops.py ends them at
 # random moments, fills their disks and forges answers, and prints its seed; upgrading.py holds the guide to what it says
 # of 0.2. flake8, pylint and mypy read their Python, as that of 3.9.
 # Usage: run.sh [CASE ...], as collect/unreachable. So many cases run at once as JOBS says.
@@ -148,11 +148,10 @@ if [ $# -eq 0 ]; then
     run_apart pages dot "$python" "$here/page.py"
     run_apart rates python3 "$python" "$here/rates.py"
     run_apart hostile dot "$python" "$here/hostile.py"
-    run_apart premises dot "$python" "$here/premises.py"
     run_apart loops dot "$python" "$here/loops.py"
     run_apart upgrading make "$python" "$here/upgrading.py"
     run_apart flake8 flake8 flake8 --max-line-length 120 "$tools" "$tools"/mcaudit-* "$here"/hostile.py "$here"/loops.py \
-        "$here"/premises.py "$here"/packets.py "$here"/rates.py "$here"/upgrading.py "$here"/commands "$here"/../cases.py \
+        "$here"/packets.py "$here"/rates.py "$here"/upgrading.py "$here"/commands "$here"/../cases.py \
         "$here"/../case_files.py
     run_apart pylint pylint check_python
     run_apart mypy mypy check_types

@@ -52,9 +52,11 @@ class RouterJudge:
             self.add(ROUTER, [(NOT_KNOWN, f"facts: {fault}", "")])
         self.add(tables.KIND, self.tables.judge_tables())
         for flow in self.judge.domain.flows:
-            row = self.rows.get(flow)
+            row, tree = self.rows.get(flow), self.judge.domain.trees.get(flow)
             if row is not None and row.vif in self.vifs:
-                self.judge_flow(flow, row, self.judge.domain.trees.get(flow))
+                self.judge_flow(flow, row, tree)
+            elif tree is not None and self.router in tree.ranks:
+                self.add(ROUTER, [(NOT_KNOWN, "facts: their byte order is not that of the tables", "")], flow)
         self.add(netfilter.KIND, self.filters.faults_found())
         self.add("igmp", self.judge_igmp())
         return self.found

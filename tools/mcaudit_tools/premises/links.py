@@ -24,10 +24,12 @@ def judge_link(facts, vif, side):
         yield DROPS, f"{name} was made anew: the vif is of interface {vif.index}, and {device} is {index} now", ""
     if not flags & UP:
         yield DROPS, f"{name} is down", f"ip link set {shlex.quote(device)} up"
-    elif facts.link(device, "carrier") == "0":
-        yield DROPS, f"{name} has no carrier", ""
-    if side == INCOMING and facts.setting(device, "mc_forwarding") == 0:
-        yield DROPS, f"mc_forwarding of {device} is 0", ""
+    elif facts.link(device, "carrier") != "1":
+        word = DROPS if facts.link(device, "carrier") == "0" else NOT_KNOWN
+        yield word, f"{name} has no carrier" if word == DROPS else f"whether {name} has a carrier", ""
+    if side == INCOMING and facts.setting(device, "mc_forwarding") != 1:
+        word = DROPS if facts.setting(device, "mc_forwarding") == 0 else NOT_KNOWN
+        yield word, f"mc_forwarding of {device}" + (" is 0" if word == DROPS else ""), ""
     yield from judge_master(facts, device, name, side)
 
 

@@ -11,6 +11,7 @@ from mcaudit_tools.facts import END, MOST_FILE
 from mcaudit_tools.files import read_regular, whole
 from mcaudit_tools.premises.routes import MainTable, Route, routes_of
 
+MOST_LINES = 1_000_000  # of a router's facts
 MOST_DEPTH = 32  # of JSON that a router answers
 NESTING = re.compile(r'"(?:[^"\\]|\\.)*"|[\[\]{}]')
 UNREADABLE = ValueError, KeyError, TypeError, AttributeError, IndexError, RecursionError
@@ -45,15 +46,17 @@ class Facts:
     def __init__(self, text):
         """Takes the text of its facts."""
         self.sections, name = {}, None
-        for line in text.split(b"\n"):
+        for line in text.split(b"\n")[:-1]:  # what has no end is cut
             if line.startswith(b"@"):
                 name = line[1:].decode("ascii", "replace")
                 self.sections.setdefault(name, [])
             elif line.startswith(b" ") and name is not None:
                 self.sections[name].append(line[1:])
+        self.is_whole = name == END
+        if name is not None and not self.is_whole:
+            self.sections[name].append(b"!cut short")
         about = ABOUT.match(self.text("about"))
         self.order, self.is_root = about[1] if about else None, bool(about) and about[2] == "0"
-        self.is_whole = name == END
         self.values = {}  # by path, all that there are
         for line in self.lines("settings") + self.lines("links"):
             path, _, value = line.partition(" ")
@@ -82,8 +85,11 @@ class Facts:
         """Returns why a section isn't there, or not whole: None where it is."""
         if name not in self.sections:
             return "there is nothing that says it"
-        faults = [it for it in self.sections[name] if it.startswith(b"!")]
-        return clean(faults[0][1:].decode("ascii", "replace"))[:80] if faults else None
+        for line in self.sections[name]:
+            if line.startswith(b"!"):
+                reason = clean(line[1:].decode("ascii", "replace"))[:80]
+                return f"it ended with status {reason}" if reason.isdigit() else reason
+        return None
 
     def failed(self):
         """Returns why the facts aren't all, or None."""
@@ -167,7 +173,8 @@ def read_facts(folder, name):
     if not os.path.lexists(path):
         return None, "not asked"
     try:
-        return Facts(read_regular(path, MOST_FILE)), None
+        text = read_regular(path, MOST_FILE)
+        return (Facts(text), None) if text.count(b"\n") <= MOST_LINES else (None, f"they have over {MOST_LINES} lines")
     except Failed as fault:
         return None, str(fault)
     except UNREADABLE as fault:

@@ -29,6 +29,15 @@ def remedy_of(facts, device, route, source, gateway, is_addressed):
     return " && ".join(lines)
 
 
+def judge_local(facts, source, device, filtering):
+    """Yields what becomes of packets from an address of the router's own."""
+    accepting = [facts.setting(it, "accept_local") for it in (device, "all")]
+    if accepting == [0, 0]:
+        yield DROPS, f"{source} is one of its own addresses", setting_line(device, "accept_local", 1)
+    elif filtering == 1 or None in accepting:
+        yield MAY_DROP, f"{source} is one of its own addresses, and rp_filter of {device} is {filtering}", ""
+
+
 def judge_reverse(facts, source, device, gateway):
     """Yields what the filter does with packets of the source that come in by the device: a word, a text and a remedy.
     The gateway is what returns the address of the router from which they come, or None."""
@@ -43,10 +52,7 @@ def judge_reverse(facts, source, device, gateway):
     if not route.is_whole and facts.addresses is None:
         yield NOT_KNOWN, f"whether {source} is one of its own addresses", ""
     if route.kind == "local":
-        if not any(facts.setting(it, "accept_local") for it in (device, "all")):
-            yield DROPS, f"{source} is one of its own addresses", setting_line(device, "accept_local", 1)
-        elif filtering == 1:
-            yield MAY_DROP, f"{source} is one of its own addresses, and rp_filter of {device} is 1", ""
+        yield from judge_local(facts, source, device, filtering)
         return
     if not filtering or route.kind == "unicast" and device in route.devices:
         return
@@ -58,7 +64,7 @@ def judge_reverse(facts, source, device, gateway):
     name = f"rp_filter {filtering} (all {every}, {device} {one})"
     name += f", {device} has no IPv4 address" if addresses == [] else ""
     remedy = remedy_of(facts, device, route, source, gateway(), addresses != [])
-    if any(facts.setting(it, "src_valid_mark") for it in (device, "all")):
+    if any(facts.setting(it, "src_valid_mark") != 0 for it in (device, "all")):
         yield MAY_DROP, f"{name}, and the route back to {source} depends on the packet's mark (src_valid_mark)", ""
     elif route.is_whole:
         yield DROPS, f"{name}, and {route_text(route, source)}", remedy

@@ -59,8 +59,8 @@ class Tables:
         """Yields what is so of all flows of a router: a word, a text and a remedy."""
         fault = self.facts.fault("mrule")
         if fault is not None:
-            reason = "its `ip` has none, as that of BusyBox" if "mrule" in self.facts.sections else fault
-            yield NOT_KNOWN, f"ip mrule: {reason}", ""
+            why = ", as where it is BusyBox's `ip`" if "mrule" in self.facts.sections else ""
+            yield NOT_KNOWN, f"ip mrule: {fault}{why}", ""
         if self.unread:
             yield NOT_KNOWN, f"ip mrule: {self.unread[0][:80]}", ""
         if self.others:
@@ -89,3 +89,5 @@ class Tables:
             if rule.is_plain and rule.end in self.others:
                 return
             is_sure = False
+        if not self.facts.fault("mrule"):
+            yield NOT_KNOWN, f"ip mrule: no rule is for all that comes by {device}", ""

@@ -64,7 +64,7 @@ lab: $(PROGRAM)
 	sh tests/lab/run.sh $(PROGRAM)
 	sh tests/lab/ten.sh $(PROGRAM) $(PAGES)
 	sh tests/lab/pim.sh $(PROGRAM)
-	python3 tests/lab/premises.py $(PROGRAM)
+	python3 tests/lab/premises.py $(PROGRAM) --ssh
 
 page-test:
 	sh tests/packages.sh page

@@ -56,7 +56,7 @@ set -l readings \
     '--readings:value:read a router at most so many times' \
     '--pause:value:wait so long between two readings of a router' \
     '--at-once:value:read at most so many routers side by side' \
-    '--facts::bring the addresses and routes of the routers too' \
+    '--facts::bring what decides beside the tables what a router forwards' \
     '--adopt::make a plain folder the first set'
 set -l asking \
     '--static:value:put into the list what a host wants that can not be asked' \

@@ -15,7 +15,7 @@ local -a readings=(
     '--readings[read a router at most so many times]:number: '
     '--pause[wait so long between two readings of a router]:seconds: '
     '--at-once[read at most so many routers side by side]:number: '
-    '--facts[bring the addresses and routes of the routers too]'
+    '--facts[bring what decides beside the tables what a router forwards]'
     '--adopt[make a plain folder the first set]'
 )
 local -a asking=(

@@ -1,10 +1,13 @@
 #!/usr/bin/env python3
-"""Hidden faults on a network of this machine's kernel: the tables are right and `mcaudit audit` says yes, while something
-else drops the packets. A host counts what comes, and mcaudit-premises is held against that: by the facts of a folder, by
-the counters now, and by the counters of four sets. Nothing that it calls `drops` or `none comes` may arrive, nothing
-that doesn't arrive may go unnamed, and where it prints a line that ends a fault that line is run and the host gets all.
+"""Hidden faults on a network of this machine's kernel: the tables are right and `mcaudit audit` says yes, while
+something else drops the packets. A host counts what comes, and mcaudit-premises is held against that: by the facts of a
+folder, by the counters now, and by the counters of four sets. Nothing that it calls `drops` or `none comes` may arrive,
+nothing that doesn't arrive may go unnamed, and where it prints a line that ends a fault that line is run and the host
+gets all.
 
-  python3 tests/lab/premises.py PROGRAM [CASE ...]     as root; PROGRAM is the built mcaudit
+  python3 tests/lab/premises.py PROGRAM [--ssh] [CASE ...]     as root; PROGRAM is the built mcaudit
+
+With --ssh the routers are read by ssh, from an sshd that is started for that.
 
   source 10.88.0.50 -- l0 -- r1 -- l1 -- r2 -- l2 -- r3 -- l3 -- member 10.88.3.77
                               \\--- lx ---/
@@ -30,6 +33,7 @@ ROUTERS = "r1", "r2", "r3"
 TRAFFIC = f"""
 import socket, sys, time
 kind, seconds, size, ttl, part = sys.argv[1], float(sys.argv[2]), int(sys.argv[3]), int(sys.argv[4]), sys.argv[5]
+rate = float(sys.argv[6])
 end, count = time.monotonic() + seconds, 0
 one = socket.socket(socket.AF_INET, socket.SOCK_DGRAM)
 if kind == "send":
@@ -46,7 +50,7 @@ if kind == "send":
             except OSError:
                 pass
             count += 1
-        time.sleep(max(0, begin + count / 100 - time.monotonic()))
+        time.sleep(max(0, begin + count / rate - time.monotonic()))
 else:
     one.bind(("{GROUP}", 5004))
     one.setsockopt(0, socket.IP_ADD_MEMBERSHIP, socket.inet_aton("{GROUP}") + socket.inet_aton("{MEMBER}"))
@@ -102,8 +106,8 @@ class Lab:
         """Builds the network, starts the routers and makes the folder."""
         for place in self.places:
             run(f"ip netns add {self.name}-{place}")
-            self.at(place, "ip link set lo up; for it in all default; do echo 0 > /proc/sys/net/ipv4/conf/$it/rp_filter; "
-                    "done")
+            self.at(place, "ip link set lo up; "
+                    "for it in all default; do echo 0 > /proc/sys/net/ipv4/conf/$it/rp_filter; done")
         for lan in dict.fromkeys(lan for _, _, lan, _ in PORTS):
             self.at("lans", f"ip link add {lan} type bridge mcast_snooping 0; ip link set {lan} up")
         for place, device, lan, address in PORTS:
@@ -140,6 +144,21 @@ class Lab:
             time.sleep(0.1)
         raise SystemExit(f"lab: smcroute on {router} has no row")
 
+    def begin_ssh(self):
+        """Starts an sshd, by which the routers are read from now on."""
+        os.makedirs("/run/sshd", exist_ok=True)
+        port, own = 20000 + os.getpid() % 10000, self.folder
+        for name in ("host", "user"):
+            run(["ssh-keygen", "-q", "-t", "ed25519", "-N", "", "-f", f"{own}/{name}"])
+        with open(f"{own}/sshd", "w", encoding="ascii") as file:
+            file.write(f"Port {port}\nListenAddress 127.0.0.1\nHostKey {own}/host\nAuthorizedKeysFile {own}/user.pub\n"
+                       f"PermitRootLogin yes\nStrictModes no\nUsePAM no\nPidFile {own}/sshd.pid\n")
+        self.running["sshd"] = subprocess.Popen(["/usr/sbin/sshd", "-D", "-f", f"{own}/sshd"],
+                                                stderr=subprocess.DEVNULL)
+        ssh = (f"ssh -p {port} -i {own}/user -o BatchMode=yes -o StrictHostKeyChecking=no -o LogLevel=ERROR "
+               "-o UserKnownHostsFile=/dev/null -o ConnectTimeout=10 -o ConnectionAttempts=5 127.0.0.1")
+        self.ways = [f"{it}=!{ssh} ip netns exec {self.name}-{it}" for it in ROUTERS]
+
     def begin(self, name, place, words, **how):
         """Begins a command at a place."""
         how = {"stdout": subprocess.DEVNULL, "stderr": subprocess.DEVNULL, **how}
@@ -161,16 +180,16 @@ class Lab:
             run(["ip", "netns", "del", f"{self.name}-{place}"], False)
         shutil.rmtree(self.folder, ignore_errors=True)
 
-    def send(self, size=200, ttl=16, part="1"):
-        """Begins to send 100 packets a second, in bursts of so many where part is a number."""
+    def send(self, size=200, ttl=16, part="1", rate=100):
+        """Begins to send so many packets a second, in bursts of so many where part is a number."""
         self.end("send")
-        words = ["python3", "-c", TRAFFIC, "send", "999", str(size), str(ttl), part]
+        words = ["python3", "-c", TRAFFIC, "send", "999", str(size), str(ttl), part, str(rate)]
         self.begin("send", "source", words)
         time.sleep(0.3)
 
     def count(self):
         """Returns how many packets the member gets in 1.5 seconds."""
-        words = ["python3", "-c", TRAFFIC, "member", "1.5", "0", "0", ""]
+        words = ["python3", "-c", TRAFFIC, "member", "1.5", "0", "0", "", "0"]
         with self.begin("count", "member", words, stdout=subprocess.PIPE, text=True) as process:
             printed = process.communicate()[0]
         del self.running["count"]
@@ -200,14 +219,6 @@ class Lab:
 
 
 LAB = None
-
-
-def case(fault, mending, **how):
-    """Makes a case of the lines that make a fault and take it away, each of a router or the LANs: `r2: LINE`."""
-    def take(function):
-        CASES.append((function.__doc__.rstrip("."), fault, mending, how))
-        return function
-    return take
 
 
 def hidden(name, fault, mending, facts=(), watch=(), **how):
@@ -319,8 +330,8 @@ def add_reverse():
     hidden("strict, by two next hops", f"{strict(1)}\nr2: ip route replace 10.88.0.0/24 nexthop via 10.88.9.1 "
            "nexthop via 10.88.1.1", BACK)
     hidden("strict, by a rule's table", f"{strict(1)}\n{AWAY}\nr2: ip route add 10.88.0.0/24 via 10.88.1.1 table 77; "
-           "ip rule add to 10.88.0.0/24 lookup 77", "r2: ip rule del to 10.88.0.0/24 lookup 77; ip route flush table 77\n"
-           + BACK)
+           "ip rule add to 10.88.0.0/24 lookup 77",
+           "r2: ip rule del to 10.88.0.0/24 lookup 77; ip route flush table 77\n" + BACK)
     hidden("the source's address is local", f"r2: ip address add {SOURCE}/32 dev lo",
            f"r2: ip address del {SOURCE}/32 dev lo; echo 0 > /proc/sys/net/ipv4/conf/eth0/accept_local",
            [("drops", "one of its own addresses")], [("none comes", "one of r2's own")])
@@ -350,10 +361,11 @@ def add_filters():
            [("may drop", "nft inet f forward")], NONE_FORWARD)
     hidden("another port is dropped", nft(table, FORWARD % "accept", "add rule inet f forward udp dport 9999 drop"),
            NO_RULES, [("may drop", "nft inet f forward")], is_doubtful=True)
-    hidden("prerouting drops", nft("add table ip m", "add chain ip m pre { type filter hook prerouting priority -300; }",
+    chain = "add chain ip m %s { type filter hook %s priority %d; }"
+    hidden("prerouting drops", nft("add table ip m", chain % ("pre", "prerouting", -300),
                                    "add rule ip m pre ip saddr 10.88.0.0/24 drop"), NO_RULES,
            [("drops", "nft ip m pre")], [("none comes", "netfilter PREROUTING")])
-    hidden("postrouting drops", nft("add table ip m", "add chain ip m post { type filter hook postrouting priority 0; }",
+    hidden("postrouting drops", nft("add table ip m", chain % ("post", "postrouting", 0),
                                     'add rule ip m post oifname "eth1" ip daddr 224.0.0.0/4 drop'), NO_RULES,
            [("drops", "nft ip m post")], NONE_FORWARD)
     ingress = "add chain netdev n i { type filter hook ingress device %s priority 0; policy drop; }"
@@ -364,7 +376,8 @@ def add_filters():
         hidden(f"Docker's rules by {program}", "r2: " + "; ".join(f"{program} {it}" for it in DOCKER),
                f"r2: {program} -P FORWARD ACCEPT; {program} -F; {program} -X", [("drops", "filter FORWARD")],
                NONE_FORWARD)
-    hidden("the last router's FORWARD drops", "r3: iptables -P FORWARD DROP", "r3: iptables -P FORWARD ACCEPT; iptables -F",
+    hidden("the last router's FORWARD drops", "r3: iptables -P FORWARD DROP",
+           "r3: iptables -P FORWARD ACCEPT; iptables -F",
            [("drops", "r3: iptables filter FORWARD")], [("lost", "r3: its vifs count")])
 
 
@@ -377,16 +390,18 @@ def add_links():
     hidden("the last LAN has no carrier", "lans: ip link set r3-eth1 down", "lans: ip link set r3-eth1 up",
            [("drops", "r3: eth1 (out) has no carrier")], [("lost", "r3: eth1: its vif counts")], settle=1)
     hidden("eth1's MTU is too small", "r2: ip link set eth1 mtu 1200", "r2: ip link set eth1 mtu 1500",
-           [("may drop", "r2: its packets have 1428 bytes")], [("none comes", "r2 did not send them by eth1")], size=1400)
+           [("may drop", "r2: its packets have 1428 bytes")], [("none comes", "r2 did not send them by eth1")],
+           size=1400)
     hidden("eth1's MTU cuts packets in pieces", "r2: ip link set eth1 mtu 1200", "r2: ip link set eth1 mtu 1500",
            [("may drop", "r2: its packets have 1428 bytes")], [("more come", "cut in pieces by r2")], size=1400,
            part="nodf", is_doubtful=True)
     hidden("packets of TTL 2", "", "", (), [("none comes", "r2 did not send them by eth1")], ttl=2)
     hidden("packets of TTL 3", "", "", (), [("lost", "r3: eth1: its rows made")], ttl=3)
-    hidden("mrule prohibits", "r2: ip mrule add iif eth0 prohibit", "r2: ip mrule del iif eth0 prohibit 2> /dev/null; true",
+    hidden("mrule prohibits", "r2: ip mrule add iif eth0 prohibit",
+           "r2: ip mrule del iif eth0 prohibit 2> /dev/null; true",
            [("drops", "r2: ip mrule: ")], [("none comes", "ip mrule, VRF")])
-    hidden("mrule to a table that isn't there", "r2: ip mrule add iif eth0 lookup 88", "r2: ip mrule del iif eth0 lookup 88",
-           [("beside", "r2: ip mrule: ")], is_doubtful=True)
+    hidden("mrule to a table that isn't there", "r2: ip mrule add iif eth0 lookup 88",
+           "r2: ip mrule del iif eth0 lookup 88", [("beside", "r2: ip mrule: ")], is_doubtful=True)
     hidden("eth0 is a port of a bridge",
            "r2: ip link add brx type bridge; ip link set brx up; ip link set eth0 master brx",
            "r2: ip link set eth0 nomaster; ip link del brx", [("drops", "r2: eth0 (in) is a port of the bridge brx")],
@@ -395,7 +410,8 @@ def add_links():
            "lans: bridge link set dev r2-eth0 mcast_flood off; ip link set l1 type bridge mcast_snooping 1",
            "lans: bridge link set dev r2-eth0 mcast_flood on; ip link set l1 type bridge mcast_snooping 0", (),
            [("none comes", "a switch that snoops")], settle=1)
-    hidden("each second packet is lost", nft("add table ip q", "add chain ip q f { type filter hook forward priority 0; }",
+    hidden("each second packet is lost", nft("add table ip q",
+                                             "add chain ip q f { type filter hook forward priority 0; }",
                                              "add rule ip q f numgen inc mod 2 == 0 drop"), NO_RULES,
            [("may drop", "nft ip q f")], [("lost", "r2")], pauses="0.3,3,0.3", is_doubtful=True)
     hidden("bursts", "", "", part="100", pauses="1,3,1")
@@ -419,25 +435,52 @@ def try_sets():
         LAB.collect()
     found, status, lines = LAB.premises(LAB.site)
     print(f"{name}, mended: {lines[-2]}\n{shown(found)}", end="")
-    judge(name, status == 0 and not any(it["kind"] == "packets" for it in found), f"found after it was mended, {status}")
+    judge(name, status == 0 and not any(it["kind"] == "packets" for it in found),
+          f"found after it was mended, {status}")
+
+
+def try_healthy(runs=3):
+    """A flow that comes whole, steady, in bursts, slow or fast, and while its row is taken out and put in again, gives
+    no alarm by the counters."""
+    control = f"smcroutectl -u {LAB.folder}/r2.sock"
+    again = (f"while :; do {control} remove eth0 {SOURCE} {GROUP}; {control} add eth0 {SOURCE} {GROUP} eth1; "
+             "sleep 1.7; done")
+    for name, rate, part, is_again in (
+            ("steady", 100, "1", False), ("slow", 1, "1", False), ("fast", 5000, "50", False),
+            ("in bursts each 3 s", 100, "300", False), ("in long bursts", 100, "500", False),
+            ("of a row that comes and goes", 100, "1", True)):
+        LAB.send(part=part, rate=rate)
+        if is_again:
+            LAB.begin("again", "r2", ["sh", "-c", again])
+        for _ in range(runs):
+            found, _, lines = LAB.premises("--watch", "1,3,1", LAB.site, *LAB.ways)
+            found = [it for it in found if it["kind"] == "packets"]
+            print(f"a flow {name}: {lines[-2]['packets']}\n{shown(found)}", end="", flush=True)
+            judge(f"a flow {name}", not found, "an alarm, and all is well")
+        LAB.end("again")
 
 
 def main():
     """Tries all, or some. Returns the status."""
     global LAB  # pylint: disable=global-statement
+    is_by_ssh = "--ssh" in sys.argv
+    sys.argv = [it for it in sys.argv if it != "--ssh"]
     if os.getuid() or len(sys.argv) < 2 or not os.access(sys.argv[1], os.X_OK):
-        raise SystemExit("Usage: premises.py PROGRAM [CASE ...], as root")
+        raise SystemExit("Usage: premises.py PROGRAM [--ssh] [CASE ...], as root")
     LAB = Lab(os.path.abspath(sys.argv[1]))
     add_reverse()
     add_filters()
     add_links()
     try:
         LAB.build()
+        if is_by_ssh:
+            LAB.begin_ssh()
         for it in CASES:
             if len(sys.argv) == 2 or it[0] in sys.argv[2:]:
                 try_case(*it)
-        if len(sys.argv) == 2 or "four sets" in sys.argv[2:]:
-            try_sets()
+        for name, function in (("four sets", try_sets), ("healthy flows", try_healthy)):
+            if len(sys.argv) == 2 or name in sys.argv[2:]:
+                function()
     finally:
         LAB.clear()
     print(f"{PASSED[True]} passed, {PASSED[False]} failed")

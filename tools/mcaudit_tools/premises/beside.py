@@ -38,6 +38,8 @@ class Beside:
             starved = {it.flow for it in self.findings if it.word == NONE_COMES}
             found.append(("flows_not_coming", "Right flows of which a router on their tree gets no packet.",
                           [({}, len(starved))]))
+            found.append(("flows_not_judged", "Right flows of which the counters say nothing.",
+                          [({}, self.counters.not_judged())]))
         found.append(("premise_contradicted", "1 for a router whose own settings drop what its tables forward.",
                       [({"router": it}, value) for it, value in self.contradicted().items()]))
         return found

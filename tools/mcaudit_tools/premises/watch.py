@@ -17,6 +17,7 @@ from mcaudit_tools.premises.rows import Wanted
 from mcaudit_tools.premises.windows import KIND, ROUNDS, Windows, loss_text
 from mcaudit_tools.programs import MOST_WORDS, RUNNING
 
+STARTING = 32  # sessions that begin at once
 MOST_FILES = 4096  # that are open at once
 MOST_LINES = 4096  # of a table, but for the cache
 MOST_LINE = 512  # bytes of a line by which an answer may end
@@ -25,13 +26,14 @@ MOST_LINE = 512  # bytes of a line by which an answer may end
 class Session:
     """A shell on a router that answers line by line."""
 
-    def __init__(self, router, ssh):
-        """Takes the router and the command that reaches a host, and begins."""
+    def __init__(self, router, words):
+        """Takes the router and the arguments, and begins."""
+        self.timeout, self.deadline = words.timeout, time.monotonic() + words.timeout
         self.name, self.words, self.fault, self.is_waiting, self.tail, self.taken = router.name, b"", None, True, b"", 0
         self.mark = random_word().encode()
         self.ending, self.identity = self.mark + b" ready", b""
         self.file = tempfile.TemporaryFile()
-        self.process = RUNNING.begin(router.shell(ssh), stdin=-1, stdout=-1, stderr=-1)
+        self.process = RUNNING.begin(router.shell(words.ssh), stdin=-1, stdout=-1, stderr=-1)
         for pipe in (self.process.stdout, self.process.stderr):
             os.set_blocking(pipe.fileno(), False)
         self.send(b"word=" + self.mark + b"\n" + script_of("counters.sh"))
@@ -45,6 +47,7 @@ class Session:
 
     def ask(self, number):
         """Asks for a reading."""
+        self.deadline = time.monotonic() + self.timeout
         self.file.seek(0)
         self.file.truncate()
         self.ending, self.is_waiting, self.tail, self.taken = self.mark + b" end %d" % number, True, b"", 0
@@ -106,9 +109,10 @@ class Watch:
             resource.setrlimit(resource.RLIMIT_NOFILE, (min(MOST_FILES, most) if most >= 0 else MOST_FILES, most))
 
     def begin(self, routers):
-        """Begins a session for each router, and waits until they are ready."""
+        """Begins a session for each router, some at once, as each costs both ends, and waits until they are ready."""
         for router in routers:
-            session = Session(router, self.words.ssh)
+            self.wait(STARTING - 1)
+            session = Session(router, self.words)
             self.sessions.append(session)
             if not session.fault:
                 for pipe in (session.process.stdout, session.process.stderr):
@@ -132,16 +136,16 @@ class Watch:
                 self.selector.unregister(pipe)
         session.end(fault)
 
-    def wait(self):
-        """Waits until all sessions have answered, or their time is over."""
-        deadline = time.monotonic() + self.words.timeout
-        while any(it.is_waiting for it in self.sessions):
-            left = deadline - time.monotonic()
-            if left <= 0:
-                for it in [it for it in self.sessions if it.is_waiting]:
-                    self.drop(it, f"no whole answer in {self.words.timeout} s")
+    def wait(self, most=0):
+        """Waits until so many sessions at most haven't answered yet. A session whose time is over is ended."""
+        while True:
+            waiting = [it for it in self.sessions if it.is_waiting]
+            if len(waiting) <= most:
                 return
-            for key, _ in self.selector.select(left):
+            now = time.monotonic()
+            for it in [it for it in waiting if it.deadline <= now]:
+                self.drop(it, f"no whole answer in {self.words.timeout} s")
+            for key, _ in self.selector.select(max(0, min(it.deadline for it in waiting) - now)):
                 if key.fileobj.closed or key.data.fault:
                     continue
                 if not key.data.take(key.fileobj) or key.data.fault:

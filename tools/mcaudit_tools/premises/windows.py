@@ -37,12 +37,19 @@ class Counters:
     window: str = ""  # how long it was, and what it can show
     reason: str = ""  # why they weren't looked at
 
+    def found(self):
+        """Returns of how many flows something was found."""
+        return len({it.flow for it in self.findings if it.flow is not None})
+
+    def not_judged(self):
+        """Returns of how many flows they say nothing."""
+        return self.flows - self.come - self.found()
+
     def sentence(self):
         """Returns what they say, in one line."""
         if self.reason:
             return f"packets: not looked at: {self.reason}"
-        found = len({it.flow for it in self.findings if it.flow is not None})
-        unjudged = len({flow for flow, _, _ in self.unjudged})
+        found, unjudged = self.found(), len({flow for flow, _, _ in self.unjudged})
         parts = [f"packets flow on {self.come} of {self.flows} flows", *(f"{name} {count}" for name, count in (
             ("idle", self.idle), ("with a finding", found), ("not judged everywhere", unjudged)) if count)]
         return f"{', '.join(parts)} ({self.window})"

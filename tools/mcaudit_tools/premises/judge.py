@@ -10,7 +10,7 @@ from mcaudit_tools.common import clean
 from mcaudit_tools.facts import EARLIER, PREFIX
 from mcaudit_tools.files import read_regular
 from mcaudit_tools.premises import links, netfilter, reverse, tables
-from mcaudit_tools.premises.findings import BESIDE, NOT_KNOWN, Finding, some
+from mcaudit_tools.premises.findings import BESIDE, DROPS, MAY_DROP, NOT_KNOWN, Finding, some
 from mcaudit_tools.premises.reader import UNREADABLE, read_facts
 from mcaudit_tools.premises.rows import Wanted, vifs_of
 from mcaudit_tools.premises.rules import Packet
@@ -28,6 +28,7 @@ class RouterJudge:
     def __init__(self, judge, router, facts):
         """Takes the router's name and its facts."""
         self.judge, self.router, self.facts, self.found = judge, router, facts, []
+        self.age_fault = judge.age_fault(router)
         self.vifs = vifs_of(judge.lines(f"vif-{router}"))
         self.rows = judge.wanted.rows(judge.lines(f"cache-{router}"), facts.order)
         earlier, _ = read_facts(judge.folder, EARLIER + router)
@@ -43,12 +44,13 @@ class RouterJudge:
     def add(self, kind, findings, flow=None):
         """Adds what was found of one kind, each a word, a text and a remedy, which has to be one as it is shown."""
         for word, text, remedy in findings:
+            word = MAY_DROP if word == DROPS and self.age_fault else word
             remedy = remedy if cleaned(remedy) == remedy else ""
             self.found.append(Finding(word, kind, self.router, cleaned(text), remedy, flow))
 
     def judge_all(self):
         """Judges the router. Returns what was found."""
-        for fault in filter(None, (self.facts.failed(), self.judge.age_fault(self.router))):
+        for fault in filter(None, (self.facts.failed(), self.age_fault)):
             self.add(ROUTER, [(NOT_KNOWN, f"facts: {fault}", "")])
         self.add(tables.KIND, self.tables.judge_tables())
         for flow in self.judge.domain.flows:
@@ -128,8 +130,7 @@ class Judge:
     def read(self, router):
         """Returns the facts of a router, or why there are none."""
         facts, fault = read_facts(self.folder, PREFIX + router)
-        if facts is not None:
-            self.addresses[router] = facts.addresses
+        self.addresses[router] = facts.addresses if facts is not None else None
         return facts, fault
 
     def lines(self, name):

@@ -19,6 +19,7 @@ ADDRESS_LINE = re.compile(r"\s+inet ([0-9.]+)")
 DEVICE_LINE = re.compile(r"\d+: ([^:@ ]+)")
 ABOUT = re.compile(r"order (little|big) uid (\d{1,10}) ")
 BOOT = re.compile(r".* boot ([0-9a-f-]{36})")
+ODD_RULE = re.compile(r"\bfrom (?!all\b)|\b(?:tos|dsfield|dscp|ipproto|sport|dport|uidrange|tun_id)\b")
 NUMBERS = {10: re.compile(r"[0-9]{1,10}"), 16: re.compile(r"0x[0-9a-fA-F]{1,8}")}
 
 
@@ -158,12 +159,18 @@ class Facts:
         """The routes of the main table."""
         return MainTable(self.lines("route"), self.order or "little")
 
+    @functools.cached_property
+    def odd_rule(self):
+        """The first rule that asks for more than what a route is asked by, or nothing."""
+        odd = next(filter(ODD_RULE.search, self.lines("rule")), "")
+        return " ".join(odd.split())[:80]
+
     def route_back(self, source):
         """Returns the route back to the source, or None where it isn't known."""
         if source in self.routes:
             return self.routes[source]
         if source in self.own_addresses:
-            return Route("local", ["lo"], True)
+            return Route("local", ["lo"])
         return self.main_table.route_back(int(ipaddress.IPv4Address(source)))
 
 

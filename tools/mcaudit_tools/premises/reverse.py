@@ -3,6 +3,7 @@
 import shlex
 
 from mcaudit_tools.premises.findings import DROPS, MAY_DROP, NOT_KNOWN
+from mcaudit_tools.premises.routes import WITHOUT_IPROUTE2
 
 KIND = "rp_filter"
 
@@ -38,6 +39,15 @@ def judge_local(facts, source, device, filtering):
         yield MAY_DROP, f"{source} is one of its own addresses, and rp_filter of {device} is {filtering}", ""
 
 
+def doubt_of(facts, device, route):
+    """Returns what else may decide which route the kernel looks up, or nothing."""
+    if any(facts.setting(it, "src_valid_mark") != 0 for it in (device, "all")):
+        return "the packet's mark may decide (src_valid_mark)"
+    if facts.link(device, "master") and not facts.link(device, "brport"):
+        return f"{device} belongs to {facts.link(device, 'master')}, which may have a table of its own"
+    return f"a rule may decide: {facts.odd_rule}" if facts.odd_rule else route.doubt
+
+
 def judge_reverse(facts, source, device, gateway):
     """Yields what the filter does with packets of the source that come in by the device: a word, a text and a remedy.
     The gateway is what returns the address of the router from which they come, or None."""
@@ -49,24 +59,27 @@ def judge_reverse(facts, source, device, gateway):
     if route is None:
         yield NOT_KNOWN, f"rp_filter of {device} is {filtering}, and the route back to {source} isn't known", ""
         return
-    if not route.is_whole and facts.addresses is None:
+    if route.doubt and facts.addresses is None:
         yield NOT_KNOWN, f"whether {source} is one of its own addresses", ""
     if route.kind == "local":
         yield from judge_local(facts, source, device, filtering)
-        return
-    if not filtering or route.kind == "unicast" and device in route.devices:
-        return
+    elif filtering:
+        yield from judge_filter(facts, source, device, (filtering, every, one), gateway, route)
+
+
+def judge_filter(facts, source, device, settings, gateway, route):
+    """Yields what the filter does where it is on, by its settings: that which counts, that of all, and the device's."""
+    filtering, every, one = settings
     addresses = None if facts.addresses is None else facts.addresses.get(device, [])
-    if route.kind == "unicast" and filtering != 1 and addresses != []:
-        if addresses is None:
-            yield NOT_KNOWN, f"rp_filter of {device} is {filtering}, and its addresses aren't known", ""
-        return
+    doubt = doubt_of(facts, device, route)
     name = f"rp_filter {filtering} (all {every}, {device} {one})"
-    name += f", {device} has no IPv4 address" if addresses == [] else ""
-    remedy = remedy_of(facts, device, route, source, gateway(), addresses != [])
-    if any(facts.setting(it, "src_valid_mark") != 0 for it in (device, "all")):
-        yield MAY_DROP, f"{name}, and the route back to {source} depends on the packet's mark (src_valid_mark)", ""
-    elif route.is_whole:
-        yield DROPS, f"{name}, and {route_text(route, source)}", remedy
-    else:
-        yield MAY_DROP, f"{name}, and {route_text(route, source)}, as far as is known without iproute2", remedy
+    is_taken = route.kind == "unicast" and (device in route.devices or filtering != 1 and addresses != [])
+    if is_taken and device not in route.devices and addresses is None:
+        yield NOT_KNOWN, f"rp_filter of {device} is {filtering}, and its addresses aren't known", ""
+    elif is_taken and doubt not in ("", WITHOUT_IPROUTE2):
+        yield NOT_KNOWN, f"{name}, and {route_text(route, source)}; {doubt}", ""
+    elif not is_taken:
+        name += f", {device} has no IPv4 address" if addresses == [] else ""
+        text = f"{name}, and {route_text(route, source)}" + (f"; {doubt}" if doubt else "")
+        remedy = remedy_of(facts, device, route, source, gateway(), addresses != [])
+        yield MAY_DROP if doubt else DROPS, text, remedy

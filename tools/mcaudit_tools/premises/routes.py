@@ -7,28 +7,29 @@ from mcaudit_tools.draft.told import address_word
 
 KINDS = "local", "broadcast", "unreachable", "blackhole", "prohibit", "throw"
 FAILED = re.compile(r"Command failed .*:(\d{1,8})\s*")
+WITHOUT_IPROUTE2 = "as far as is known without iproute2"
+ALONE = "that is its main table alone, without ip"
 UP, REJECTS = 1, 0x200  # in the flags of /proc/net/route
 MASKS = {(1 << 32) - (1 << 32 - it): it for it in range(33)}
 UNREADABLE = ValueError, KeyError, TypeError, AttributeError, IndexError
 
 
 class Route(typing.NamedTuple):
-    """The route back to a source: its kind, and the devices of its next hops, which may be more where it isn't
-    whole."""
+    """The route back to a source: its kind, the devices of its next hops, and what isn't sure of it."""
 
     kind: str
     devices: list
-    is_whole: bool
+    doubt: str = ""
 
 
 def route_of_json(answer):
     """Returns the route that `ip -j route get fibmatch` has, with all its next hops, or None."""
     try:
         if not answer:
-            return Route("none", [], True)
+            return Route("none", [])
         route = answer[0]
         devices = [route["dev"]] if "dev" in route else [it["dev"] for it in route.get("nexthops", []) if "dev" in it]
-        return Route(str(route.get("type", "unicast")), [str(it) for it in devices], True)
+        return Route(str(route.get("type", "unicast")), [str(it) for it in devices])
     except UNREADABLE:
         return None
 
@@ -37,7 +38,8 @@ def route_of_words(words):
     """Returns the route that `ip route get` prints, which is one of its next hops; nothing is printed where there is
     none."""
     kind = "none" if not words else words[0] if words[0] in KINDS else "unicast"
-    return Route(kind, [after for it, after in zip(words, words[1:]) if it == "dev"], kind != "unicast")
+    return Route(kind, [after for it, after in zip(words, words[1:]) if it == "dev"],
+                 WITHOUT_IPROUTE2 if kind == "unicast" else "")
 
 
 def routes_of(lines, json_lists):
@@ -57,7 +59,7 @@ def routes_of(lines, json_lists):
     there = [it for number, it in enumerate(batch, 1) if number not in failed]
     if len(there) == len(answers):
         found.update({source: route_of_json(it) for source, it in zip(there, answers)})
-        found.update({it: Route("none", [], True) for number, it in enumerate(batch, 1) if number in failed})
+        found.update({it: Route("none", []) for number, it in enumerate(batch, 1) if number in failed})
     return {source: it for source, it in found.items() if it is not None}
 
 
@@ -84,5 +86,5 @@ class MainTable:
             if source & mask in known:
                 _, device, flags = known[source & mask]
                 is_ended = flags & REJECTS or device == "*"
-                return Route("unreachable", [], False) if is_ended else Route("unicast", [device], False)
-        return Route("none", [], False) if self.networks else None
+                return Route("unreachable", [], ALONE) if is_ended else Route("unicast", [device], ALONE)
+        return Route("none", [], ALONE) if self.networks else None

@@ -365,3 +365,15 @@ def sets_of_a_clock_that_jumps(place):
     ahead = int(time.time()) + 86400
     found, _, is_seen = said_of(place, *rises, when=(1767225600, 1767225620, 1767225640, ahead))
     assert found in ([], ["none comes"]) and is_seen == bool(found), place.said
+
+
+@case
+def daemons_that_say_anything(place):
+    """What FRR says is taken of a bounded depth, and named where it is none; a daemon that doesn't run says nothing."""
+    text = good_site(place)
+    for told, word in (("[" * 40 + "]" * 40, "not known"), ('{"eth0":' * 40 + "1" + "}" * 40, "not known"),
+                       ("!too large", "not known"), ("7", "not known"), ("pimd is not running\n !1", None),
+                       ('{"eth0":{"mtraceOnly":true}}', "beside"), ('{"eth0":{},"eth1":{}}', None)):
+        set_file(place, "facts-r1", text.replace("@end\n", f"@frr_igmp\n {told}\n@end\n"))
+        kinds, found = looked_at(place)
+        assert kinds == KINDS and found == ([word] if word else []), (told[:40], place.said)

@@ -18,6 +18,7 @@ from mcaudit_tools.premises.rules import Packet
 KINDS = reverse.KIND, links.KIND, links.SIZES, netfilter.KIND, tables.KIND
 ROUTER = "facts"
 OLDER = 60  # seconds that facts may be older than the tables
+DAEMONS = {"frr_igmp": "igmp", "frr_neighbors": "neighbors"}  # sections, and what they tell of
 LEAST_SIZE, MOST_SIZE = 20, 65535  # bytes of a packet
 cleaned = functools.lru_cache(4096)(clean)  # the same is found of many flows
 
@@ -61,6 +62,10 @@ class RouterJudge:
                 self.add(ROUTER, [(NOT_KNOWN, "facts: their byte order is not that of the tables", "")], flow)
         self.add(netfilter.KIND, self.filters.faults_found())
         self.add("igmp", self.judge_igmp())
+        for name, kind in DAEMONS.items():
+            reason = self.facts.fault(name) or "it is no JSON of that"
+            if self.facts.is_asked(name) and not isinstance(self.facts.json(name), dict):
+                self.add(kind, [(NOT_KNOWN, f"what its FRR says of {kind}: {reason}", "")])
         return self.found
 
     def add_known(self, kind, key, judge, flow=None):

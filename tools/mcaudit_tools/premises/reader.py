@@ -102,6 +102,10 @@ class Facts:
         """Returns the value of a section of JSON, or None."""
         return json_of(self.text(name)) if self.fault(name) is None else None
 
+    def is_asked(self, name):
+        """Whether a daemon that runs was asked for a section."""
+        return name in self.sections and not any(b"is not running" in it for it in self.sections[name])
+
     def setting(self, device, name):
         """Returns a number of /proc/sys of a device, or None."""
         return self.number(f"/proc/sys/net/ipv4/conf/{device}/{name}")

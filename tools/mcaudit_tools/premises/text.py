@@ -2,25 +2,34 @@
 import json
 
 from mcaudit_tools.common import clean
-from mcaudit_tools.premises.findings import BAD, MAY_DROP, counts_of, grouped
+from mcaudit_tools.premises.findings import BAD, MAY_DROP, counts_of, grouped, some
 from mcaudit_tools.premises.judge import ROUTER, looked_at, looked_at_sentence
 
 MOST_LINES = 200  # for people; --json has all
 
 
-def place_of(it, flows):
+def together(findings):
+    """Returns what was found, each with its flows and routers: what is so of the facts of several routers at once."""
+    found = {}
+    for number, (it, flows) in enumerate(grouped(findings)):
+        key = it.text if it.kind == ROUTER and not flows else number
+        found.setdefault(key, (it, flows, []))[2].append(it.router)
+    return list(found.values())
+
+
+def place_of(it, flows, routers):
     """Returns where something was found: of which flows, and on which router."""
     if not flows:
-        return it.router
+        return some(routers)
     more = f" and {len(flows) - 1} more" if len(flows) > 1 else ""
     return f"flow {flows[0][0]} {flows[0][1]}{more}: {it.router}"
 
 
 def lines_of(findings):
     """Yields the lines of what was found."""
-    groups = list(grouped(findings))
-    for it, flows in groups[:MOST_LINES]:
-        yield f"{it.word}: {place_of(it, flows)}: {it.text}"
+    groups = together(findings)
+    for it, flows, routers in groups[:MOST_LINES]:
+        yield f"{it.word}: {place_of(it, flows, routers)}: {it.text}"
         if it.remedy:
             yield f"  {'if so' if it.word == MAY_DROP else 'to end it'}, on {it.router}: {it.remedy}"
     if len(groups) > MOST_LINES:

@@ -67,6 +67,21 @@ def sets_of_before(place):
     assert json.loads(place.read("site/collected.json"))["version"] == 2
 
 
+@line("`mcaudit-collect --facts` brings `facts-NAME`")
+def facts_beside(place):
+    """In a run of its own, so that a restricted key's tables come as before; and four sets stay, of which the monitor
+    says whether packets flow."""
+    ways = place.routers("r1", "r2")
+    kept(place)
+    assert place.run("collect", "--pause", "0", "--facts", "site", *ways) == 0, place.said
+    there = {it.partition("-")[0] for it in os.listdir(place.at("site"))}
+    assert {"vif", "cache", "address", "route", "facts"} <= there, there
+    for _ in range(2):
+        assert place.run("monitor", "--pause", "0", "--keep", "1", "site", *ways) == 0, place.said
+        assert "\npackets" in place.said, place.said
+    assert len(os.listdir(place.at("site.sets"))) >= 4
+
+
 @line("`--plugin` warns by default")
 def warnings_of_ages(place):
     """Beyond 900 s and 3600 s, unless that is ended by the options; and the crontab gathers each half hour."""

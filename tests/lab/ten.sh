@@ -118,7 +118,7 @@ watch_once() {
     on_routers mcaudit-monitor --keep 300 > "$scratch/watched" 2> "$scratch/said"
     watched=$?
     sed -e 's/20[0-9]*T[0-9]*Z/TIME/' -e 's/ [0-9]* s old$/ N s old/' -e 's/^\(packets: not looked at:\) [0-9]/\1 N/' \
-        "$scratch/watched"
+        -e 's/\(by the last 4 sets\), .*/\1)/' "$scratch/watched"
     return "$watched"
 }
 
@@ -179,7 +179,7 @@ TIME: verdict no, flows 2, right 1, wrong 1, unwanted 0, unlisted 0
 tables N s old
 reports N s old
 decided, not gathered: 10.77.0.0-24 10.77.1.0-24 10.77.2.0-24 10.77.3.0-24 10.77.4.0-24 10.77.6.0-24 10.77.8.0-24
-packets: not looked at: N of 4 sets, each read after the one before
+packets flow on 1 of 1 flows (by the last 4 sets)
 wrong: 10.77.0.50 239.1.2.3 Duplicate 10.77.4.0-24
 changed since TIME:
 flow 10.77.0.50 239.1.2.3: new fault: Duplicate 10.77.4.0-24

@@ -26,10 +26,3 @@ is_possible_for_files-from_reader {Y = Y} fault as_ours (Err e) own is =
     let there : (let r : Result Y InputFault = Err (as_ours e) in r) ≡ Err fault = is (λ memory. cc) in
     let same : as_ours e ≡ fault = cc in
     subst (λ (f : InputFault). is_possible_for_files (Input f) ≡ true) same (own e)
-
-pub is_possible_for_files-from_part_result : {X Y E : Type 0} (Keeps : X → Y → Type 0) (fault : InputFault)
-    (as_ours : E → InputFault) (read : Result Y E)
-    → ((e : E) → is_possible_for_files (Input (as_ours e)) ≡ true)
-    → IsPartResult Keeps (Err fault) (map_fault as_ours read) → is_possible_for_files (Input fault) ≡ true
-is_possible_for_files-from_part_result Keeps Memory as_ours read own is = refl
-is_possible_for_files-from_part_result Keeps fault as_ours read own is = is_possible_for_files-from_reader fault as_ours read own (λ _. is)

@@ -25,14 +25,6 @@ abbrev pub read_file : {X : Type 0} → ℕ → Slot → (PartText → Result X 
     → Result X SourceFault
 read_file n slot read files = read_part Input (part_from_file files n slot) read
 
--- the tables of a topology's routers
-abbrev pub read_all_tables : TopologyValue → List FileText → Result (List TablesValue) SourceFault
-read_all_tables t files = all_tables Input (part_from_file files) 1 t.routers
-
--- the records of the reports of a topology's LANs
-abbrev pub read_all_reports : TopologyValue → List FileText → Result (List (List Record)) SourceFault
-read_all_reports t files = all_reports Input (part_from_file files) (first_lan_number t) t.lans
-
 -- the input of the files
 abbrev pub input_of_files : List FileText → Result InputValue SourceFault
 input_of_files files = read_input Input (part_from_file files) (λ t. Ok tt)

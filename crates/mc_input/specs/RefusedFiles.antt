@@ -37,10 +37,6 @@ abbrev pub file_fault : {X : Type 0} → List FileText → Slot → (PartText �
     → Option SourceFault
 file_fault files slot read = result_err (read_part Input (part_from_file files 0 slot) read)
 
--- the first fault of the file of a router's cache
-abbrev pub cache_file_fault : List FileText → (router : List ℕ) → Order → Option SourceFault
-cache_file_fault files router order = file_fault files (cache_slot router) (cache_of order)
-
 -- a slot's file with its fault
 abbrev pub judged_file : {X : Type 0} → List FileText → Slot → (PartText → Result X InputFault)
     → JudgedFile
@@ -176,13 +172,3 @@ abbrev pub ListsRefused : (contents : Option (List FileText)) → (List FileText
     → (old new : List RefusedFile) → (before after : ℕ) → Type 0
 ListsRefused contents files old new before after =
     JudgesFiles contents files (map as_judged_file old) (map as_judged_file new) before after
-
--- if no memory ran out, the same for the tables of the router with this name and byte order, where the
--- listed pairs are those of some flows
-abbrev pub ListsRefusedTables : {E : Type 0} → (listed : List (ℕ × ℕ)) → (names : List (List ℕ))
-    → (router : List ℕ) → Order → Result (Unit {0}) E → (contents : Option (List FileText))
-    → (old new : List RefusedFile) → (before after : ℕ) → Type 0
-ListsRefusedTables listed names router order result contents old new before after =
-    (flows : List Flow) → AreFlowPairs flows listed →
-    OnOk result (ListsRefused contents
-    (λ files. judged_tables names files (record { name = router; order = order })) old new before after)

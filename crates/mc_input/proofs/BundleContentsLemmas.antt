@@ -1,10 +1,9 @@
 -- What a bundle gives after its topology, as the definitions read it of all parts.
-use Rattle.std.specs.Prelude.{◌≡◌, ℕ, suc, zero, ◌+◌, ◌*◌, Bool, true, false, List, [], ◌∷◌, drop, length, map, slice_get}
+use Rattle.std.specs.Prelude.{◌≡◌, ℕ, suc, zero, ◌+◌, Bool, true, false, List, [], ◌∷◌, drop, length, map, slice_get}
 use Rattle.std.specs.Prelude.{Option, Some, None, Result, Ok, Err, is_some, refl, unwrap_or}
 use Rattle.std.specs.FinMap.{FinMap}
 use Rattle.std.specs.Ordering.{nat_cmp}
-use Rattle.std.specs.Str.{bytes_eq}
-use Rattle.std.proofs.Common.{ap, ◌∙◌, arith, sym, subst}
+use Rattle.std.proofs.Common.{ap, ◌∙◌, arith, sym}
 use Rattle.std.proofs.lemmas.Slice.Eq.{bytes_eq-Decides}
 use Rattle.mc_text.specs.Bundle.{PartText}
 use Rattle.mc_text.specs.PartsReading.{PartsState, prepend_parts}
@@ -21,7 +20,7 @@ use Rattle.mc_files.specs.Layout.{reports_slot, slots, slots_after_topology, top
 use Rattle.mc_files.proofs.SlotLemmas.{slots-certificate_slot, length-slots_after_topology}
 use Rattle.mc_forward.specs.Domains.{TablesValue}
 use Rattle.mc_input.specs.Input.{InputValue}
-use Rattle.mc_input.specs.InputReading.{certificate_in, check_part_names, input_of_parts, named, part_at}
+use Rattle.mc_input.specs.InputReading.{certificate_in, check_part_names}
 use Rattle.mc_input.specs.InputReading.{part_with_slot_name}
 use Rattle.mc_input.specs.PartsOneByOne.{InputAndCertificate, certificate_number, check_names_from}
 use Rattle.mc_input.specs.PartsOneByOne.{IsFaultOf, read_all_parts, read_first_topology, read_rest}

@@ -1,19 +1,19 @@
 -- What is kept of a router's cache, with a summary or without.
 use Rattle.std.specs.Prelude.{◌≡◌, ℕ, Bool, List, Some, Result, Ok, Err, refl}
-use Rattle.std.proofs.Common.{ap, ◌∙◌, sym, subst}
+use Rattle.std.proofs.Common.{ap}
 use Rattle.mc_text.specs.Bundle.{PartText}
-use Rattle.mc_text.specs.Steps.{◌>>=◌, map_fault}
+use Rattle.mc_text.specs.Steps.{map_fault}
 use Rattle.mc_text.specs.declared.text.addr.Order.{Order}
 use Rattle.mc_tables.specs.CacheReading.{cache_in, cache_rows_in}
 use Rattle.mc_tables.specs.CacheTable.{CacheValue, RowValue}
 use Rattle.mc_tables.specs.ListedRows.{IsListedPart, listed_in}
-use Rattle.mc_tables.specs.Summary.{SummaryValue, summary_of}
+use Rattle.mc_tables.specs.Summary.{summary_of}
 use Rattle.mc_tables.specs.SummaryReading.{summary_in}
 use Rattle.mc_tables.specs.declared.fault.TableFault.{TableFault}
 use Rattle.mc_tables.specs.declared.summary.summarized_cache.SummarizedCache.{SummarizedCache}
 use Rattle.mc_tables.proofs.ListedPartLemmas.{listed_in-is_part, listed_in-same_fault}
 use Rattle.mc_files.proofs.PartLemmas.{Ok-from_refused_as}
-use Rattle.mc_input.specs.PartsReading.{cache_of, summary_of_part}
+use Rattle.mc_input.specs.PartsReading.{summary_of_part}
 use Rattle.mc_input.specs.Stream.{cache_and_text}
 use Rattle.mc_input.specs.declared.fault.InputFault.{InputFault}
 use Rattle.mc_input.specs.declared.fault.InputFault.TheVariants.{Cache}

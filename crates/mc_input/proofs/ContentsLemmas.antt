@@ -3,7 +3,7 @@ use Rattle.std.specs.Prelude.{◌≡◌, ℕ, ◌+◌, ◌*◌, Bool, List, [], 
 use Rattle.std.specs.Prelude.{refl}
 use Rattle.std.specs.FinMap.{FinMap}
 use Rattle.std.specs.Ordering.{nat_cmp}
-use Rattle.std.proofs.Common.{ap, ◌∙◌, arith, sym}
+use Rattle.std.proofs.Common.{ap, ◌∙◌, arith}
 use Rattle.mc_text.specs.Bundle.{PartText}
 use Rattle.mc_text.specs.Steps.{◌>>=◌, map_fault}
 use Rattle.mc_igmp.specs.declared.record.Record.{Record}

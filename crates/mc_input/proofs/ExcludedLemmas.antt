@@ -1,9 +1,9 @@
 -- Reading files with those of some routers excluded.
 use Rattle.std.specs.Prelude.{◌≡◌, ℕ, zero, suc, ◌+◌, ◌<◌, min, Bool, true, false, ◌||◌, List, [], ◌∷◌}
-use Rattle.std.specs.Prelude.{Option, Some, None, Result, Ok, Err, IfOk, Contains, get_or, is_some}
+use Rattle.std.specs.Prelude.{Option, Some, Result, Ok, Err, Contains, get_or, is_some}
 use Rattle.std.specs.Prelude.{length, map, option_map}
 use Rattle.std.specs.Prelude.{drop, refl}
-use Rattle.std.proofs.Common.{add-one, cond, ap, arith, subst, sym, ◌∙◌}
+use Rattle.std.proofs.Common.{add-one, cond, ap, arith, sym, ◌∙◌}
 use Rattle.std.specs.FinMap as map_of
 use Rattle.std.specs.List.{find, list_any, position_from}
 use Rattle.std.specs.Str.{bytes_eq}
@@ -11,24 +11,18 @@ use Rattle.std.proofs.lemmas.Iterator.Adapters.{position_from-zero}
 use Rattle.std.proofs.lemmas.Slice.Eq.{bytes_eq-Decides}
 use Rattle.mc_text.specs.Steps.{◌>>=◌, map_fault}
 use Rattle.mc_text.specs.declared.text.addr.Order.{Order}
-use Rattle.mc_tables.specs.CacheTable.{EntryValue, key_cmp}
-use Rattle.mc_tables.specs.Summary.{SummaryValue, summary_of}
 use denote.Ref.{Bor}
 use Rattle.mc_topology.specs.Lookup.{has_router, router_no_of}
 use Rattle.mc_topology.specs.SectionRows.{RouterRow}
 use Rattle.mc_topology.specs.Topology.{TopologyValue}
-use Rattle.mc_topology.specs.declared.flow.Flow.{Flow}
 use Rattle.mc_files.specs.FilePart.{file_part, bytes_within_max_part}
 use Rattle.mc_files.specs.Files.{FileText, file_named}
 use Rattle.mc_files.specs.Layout.{Slot, cache_slot, file_name, part_name, reports_slot, topology_slot}
 use Rattle.mc_files.specs.Layout.{vif_slot}
-use Rattle.mc_forward.specs.ListedTables.{IsListedPartOfTables, flow_pairs}
 use Rattle.mc_input.specs.FilesReading.{input_of_files, part_from_file}
-use Rattle.mc_input.specs.Kept.{GivesKept}
 use Rattle.mc_input.specs.ExcludedRouters.{AreRouterNames, cache_header, empty_tables}
 use Rattle.mc_input.specs.ExcludedRouters.{check_router_names, input_of_files_without}
 use Rattle.mc_input.specs.ExcludedRouters.{files_with_exclusions, vif_header}
-use Rattle.mc_input.specs.SummariesOfFiles.{IsSummaryOf}
 use Rattle.mc_input.specs.PartsReading.{all_reports, read_tables_and_reports, first_lan_number}
 use Rattle.mc_input.specs.PartsReading.{router_tables, read_part}
 use Rattle.mc_input.specs.PartsReading.{topology_of}

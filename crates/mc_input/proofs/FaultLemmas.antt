@@ -3,7 +3,6 @@ use Rattle.std.proofs.Common.{◌≡◌, true, Result, Ok, Err, refl, subst}
 use Rattle.mc_text.specs.Steps.{map_fault}
 use Rattle.mc_files.specs.declared.fault.FileFault.{FileFault}
 use Rattle.mc_files.specs.declared.fault.FileFault.TheVariants as file
-use Rattle.mc_input.specs.PartsOneByOne.{IsPartResult}
 use Rattle.mc_input.specs.SourceFault.{is_possible_for_files, from_file_fault}
 use Rattle.mc_input.specs.declared.fault.InputFault.{InputFault}
 use Rattle.mc_input.specs.declared.fault.InputFault.TheVariants.{Memory}

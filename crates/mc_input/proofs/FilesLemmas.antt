@@ -9,13 +9,10 @@ use Rattle.mc_files.specs.declared.fault.FileFault.{FileFault}
 use Rattle.mc_files.specs.declared.fault.FileFault.TheVariants as file
 use Rattle.mc_input.specs.SourceFault.{IsReadOrMemory, from_file_fault}
 use Rattle.mc_input.specs.FilesReading.{part_from_file}
-use Rattle.mc_input.specs.Kept.{GivesKept}
-use Rattle.mc_input.specs.PartsOneByOne.{IsPartResult}
 use Rattle.mc_input.specs.PartsReading.{read_part}
 use Rattle.mc_input.specs.declared.fault.InputFault.{InputFault}
 use Rattle.mc_input.specs.declared.fault.InputFault.TheVariants.{Memory}
 use Rattle.mc_input.specs.declared.source_fault.SourceFault.TheVariants.{Input}
-use Rattle.mc_input.proofs.PartResultLemmas.{Err-from_IsPartResult, Ok-from_IsPartResult}
 
 -- a silent fault of a file is silent as one of the folder
 pub IsReadOrMemory-from_file_fault : (fault : FileFault) → IsFailedOrMemory fault → IsReadOrMemory (from_file_fault fault)

@@ -2,7 +2,6 @@
 use Rattle.std.specs.Prelude.{◌≡◌, ℕ, ◌+◌, Bool, false, List, [], ◌∷◌, ◌++◌, drop, flat_map, map, Option, Some}
 use Rattle.std.specs.Prelude.{None, Result, Ok, Err, option_map}
 use Rattle.std.proofs.Common.{ap, ◌∙◌, sym, subst}
-use Rattle.mc_text.specs.Bundle.{PartText}
 use Rattle.mc_text.specs.Steps.{◌>>=◌, map_fault}
 use Rattle.mc_text.proofs.StepLemmas.{bind_ok, ok_injective}
 use Rattle.mc_tables.specs.CacheReading.{cache_rows_in}
@@ -24,7 +23,7 @@ use Rattle.mc_input.specs.PartsReading.{cache_of, read_tables_and_reports, vifs_
 use Rattle.mc_input.specs.SourceFault.{from_file_fault}
 use Rattle.mc_input.specs.Stream.{ContentsRead, NextParts, RouterRead, Stream, cache_and_text, files_give}
 use Rattle.mc_input.specs.Stream.{input_of_contents, parts_of_slots, read_contents, read_first, read_lans}
-use Rattle.mc_input.specs.Stream.{read_each, read_router, read_routers, router_read, value_and_rest}
+use Rattle.mc_input.specs.Stream.{read_each, read_router, read_routers, router_read}
 use Rattle.mc_input.specs.SummariesOfFiles.{AreSummariesOf, IsSummaryOf, IsSummaryOfRead}
 use Rattle.mc_input.specs.declared.source_fault.SourceFault.{SourceFault}
 use Rattle.mc_input.specs.declared.source_fault.SourceFault.TheVariants.{Input}

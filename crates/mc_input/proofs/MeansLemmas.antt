@@ -1,18 +1,14 @@
 -- The domain that consists of what was kept is the one that the bundle means.
-use Rattle.std.specs.Prelude.{◌≡◌, ℕ, Bool, List, [], ◌∷◌, Option, Some}
+use Rattle.std.specs.Prelude.{◌≡◌, ℕ, Bool, List, Option, Some}
 use Rattle.std.specs.declared.alloc.Global.{Global}
 use Rattle.std.specs.Prelude.{None, Vec, is_some, Result, Ok, Err, IfErr, IfOk, IfSome, MatchResult, refl}
 use Rattle.std.proofs.Common.{ap, ◌∙◌, sym, subst, inl, inr, arith}
-use Rattle.std.proofs.lemmas.Slice.Eq.{bytes_eq-Decides}
-use Rattle.mc_text.specs.Bundle.{PartText, max_input}
-use Rattle.mc_text.specs.PartsReading.{PartsState, prepend_parts}
+use Rattle.mc_text.specs.Bundle.{max_input}
+use Rattle.mc_text.specs.PartsReading.{PartsState}
 use Rattle.mc_text.specs.PartsLimits.{ConsumesWithin}
-use Rattle.mc_text.specs.RestOfBundle.{rest_of_bundle}
 use Rattle.mc_text.specs.ReadFault.{ConsumesUpTo}
 use Rattle.mc_text.specs.Steps.{map_fault}
 use Rattle.mc_text.specs.declared.bundle.stage.Stage.TheVariants as stages
-use Rattle.mc_topology.specs.Topology.{TopologyValue}
-use Rattle.mc_files.specs.Layout.{part_name, topology_slot}
 use Rattle.mc_forward.specs.Assembling.{AreWanted, IsAssembled}
 use Rattle.mc_forward.specs.Domains.{DomainValue, IsDomain}
 use Rattle.mc_forward.proofs.ListedTableLemmas.{pairwise-count, pairwise-each}

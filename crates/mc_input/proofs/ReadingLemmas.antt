@@ -1,24 +1,13 @@
 -- Reading parts one after another, whatever their source.
-use Rattle.std.specs.Prelude.{◌≡◌, ℕ, zero, suc, ◌+◌, ◌≤◌, List, [], ◌∷◌, ◌++◌, length, drop}
-use Rattle.std.specs.Prelude.{slice_get, option_map, Some, Result, Ok, Err, refl}
-use Rattle.std.proofs.Common.{ap, arith, ◌∙◌, sym, add-one, append_assoc, append-nil}
-use Rattle.std.proofs.lemmas.List.{drop_all}
-use Rattle.std.specs.FinMap.{FinMap}
-use Rattle.std.specs.Ordering.{nat_cmp}
-use Rattle.mc_tables.specs.CacheTable.{CacheValue}
-use Rattle.mc_tables.specs.VifTable.{VifValue}
-use Rattle.mc_text.specs.Steps.{◌>>=◌}
-use Rattle.mc_text.proofs.StepLemmas.{with_front, with_front-none}
+use Rattle.std.specs.Prelude.{◌≡◌, ℕ, zero, suc, ◌+◌, List, [], ◌∷◌, drop}
+use Rattle.std.specs.Prelude.{slice_get, Some, Result, Ok, refl}
+use Rattle.std.proofs.Common.{add-one}
 use Rattle.mc_text.specs.Bundle.{PartText}
-use Rattle.mc_text.specs.declared.text.addr.Order.{Order}
-use Rattle.mc_igmp.specs.declared.record.Record.{Record}
-use Rattle.mc_topology.specs.SectionRows.{RouterRow}
 use Rattle.mc_topology.specs.Topology.{TopologyValue}
-use Rattle.mc_files.specs.Layout.{Slot, cache_slot, reports_slot, topology_slot, vif_slot}
-use Rattle.mc_forward.specs.Domains.{TablesValue}
-use Rattle.mc_input.specs.PartsReading.{router_tables, all_tables, all_reports, reports_of, read_part}
-use Rattle.mc_input.specs.PartsReading.{cache_of, read_tables_and_reports, first_lan_number}
-use Rattle.mc_input.specs.PartsReading.{read_input, topology_of, vifs_of}
+use Rattle.mc_files.specs.Layout.{Slot, topology_slot}
+use Rattle.mc_input.specs.PartsReading.{read_part}
+use Rattle.mc_input.specs.PartsReading.{read_tables_and_reports}
+use Rattle.mc_input.specs.PartsReading.{read_input, topology_of}
 use Rattle.mc_input.specs.declared.fault.InputFault.{InputFault}
 
 -- a list from an index on begins with the item there

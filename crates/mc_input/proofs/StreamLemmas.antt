@@ -1,7 +1,7 @@
 -- What the two sources give, slot by slot.
 use Rattle.std.specs.Prelude.{◌≡◌, ℕ, ◌+◌, Bool, true, false, List, [], ◌∷◌, drop, map, slice_get, option_map}
-use Rattle.std.specs.Prelude.{Option, Some, None, Result, Ok, Err, IfOk, refl}
-use Rattle.std.proofs.Common.{ap, arith, ◌∙◌, sym, subst}
+use Rattle.std.specs.Prelude.{Option, Some, None, Result, Ok, Err, refl}
+use Rattle.std.proofs.Common.{ap, arith, ◌∙◌, sym}
 use Rattle.mc_text.specs.Bundle.{PartText}
 use Rattle.mc_text.specs.PartsReading.{PartsState, prepend_parts}
 use Rattle.mc_text.specs.RestOfBundle.{ReadsPart, rest_of_bundle}
@@ -101,17 +101,6 @@ module _ (s : PartsState) (certified : Bool) (t : TopologyValue) (n : ℕ) where
             sym (some_injective known) ∙ bundle_gives-part_passed new text x.0 x.1 x.3 x.4.0,
             x.4.1,
           )
-
-  pub ReadsFirst-of_bundle_result : {A F : Type 0} (r : Result A F) (new : PartsState)
-      (From To : A → PartText → Type 0)
-      → ((x : A) (part : PartText) → From x part → HasNameOfSlot certified t n part.name × To x part)
-      → IfOk r (λ x. ReadsPart s new (From x))
-      → IfOk r (λ x. ReadsFirst (option_map (bundle_gives s certified t n) s.remaining)
-      (option_map (bundle_gives new certified t (n + 1)) new.remaining) (To x))
-  ReadsFirst-of_bundle_result (Ok x) new From To each passes =
-      ReadsFirst-of_bundle new (To x) (λ text known.
-      let y = passes text known in (y.0, y.1, y.2, y.3, each x y.1 y.4))
-  ReadsFirst-of_bundle_result (Err fault) new From To each passes = tt
 
   -- after the last slot no part may come
   bundle_gives-ended : (text : List ℕ) (u : Unit {0}) → drop n (slots certified t) ≡ []

@@ -1,13 +1,13 @@
 -- The summaries of the caches in a folder's files.
-use Rattle.std.specs.Prelude.{◌≡◌, ℕ, ◌∷◌, Bool, List, [], Option, Some, None, Result, Ok, Err, refl}
-use Rattle.std.specs.Prelude.{◌++◌, filter, length, map as map_list, not, option_map, slice_get}
-use Rattle.std.proofs.Common.{ap, arith, ◌∙◌, sym, subst}
+use Rattle.std.specs.Prelude.{◌≡◌, ℕ, Bool, List, Option, Some, None, Ok, Err, refl}
+use Rattle.std.specs.Prelude.{filter, length, map as map_list, not}
+use Rattle.std.proofs.Common.{ap, arith, ◌∙◌, sym}
 use Rattle.std.proofs.lemmas.Option.{slice_get_within}
 use Rattle.std.specs.FinMap as map
 use Rattle.std.specs.FinSet as set
 use Rattle.std.specs.List.{filter_map}
 use Rattle.mc_text.specs.Bundle.{PartText}
-use Rattle.mc_text.specs.Steps.{◌>>=◌, map_fault}
+use Rattle.mc_text.specs.Steps.{◌>>=◌}
 use Rattle.mc_text.specs.declared.text.addr.Order.{Order}
 use Rattle.mc_tables.specs.declared.fault.TableFault.{TableFault}
 use Rattle.mc_tables.specs.declared.summary.summarized_cache.SummarizedCache.{SummarizedCache}
@@ -22,26 +22,16 @@ use Rattle.mc_tables.proofs.ListedLemmas.{set_has_key-listed_set}
 use Rattle.mc_tables.proofs.ListedPairLemmas.{from_list-same_groups, same_set}
 use Rattle.mc_tables.proofs.ListedPartLemmas.{listed_in-same_fault, listed_in-is_part}
 use Rattle.mc_tables.proofs.SummaryLemmas.{table_without_summary-listed_in}
-use Rattle.mc_text.proofs.StepLemmas.{bind_ok, err_injective, ok_injective}
+use Rattle.mc_text.proofs.StepLemmas.{bind_ok, ok_injective}
 use Rattle.mc_topology.specs.SectionRows.{RouterRow}
 use Rattle.mc_topology.specs.Topology.{TopologyValue}
 use Rattle.mc_topology.specs.declared.flow.Flow.{Flow}
-use Rattle.mc_files.specs.FilePart.{file_part}
 use Rattle.mc_files.specs.Files.{FileText}
-use Rattle.mc_files.specs.Layout.{cache_slot}
 use Rattle.mc_files.specs.declared.fault.FileFault.{FileFault}
-use Rattle.mc_files.proofs.PartLemmas.{Ok-from_refused_as}
-use Rattle.mc_forward.specs.Assembling.{RelatedAtEachIndex}
 use Rattle.mc_forward.specs.ListedTables.{flow_pairs}
-use Rattle.mc_forward.proofs.IndexLemmas.{related_at_each_index-push, slice_get-exists}
-use Rattle.mc_input.specs.FilesReading.{part_from_file}
-use Rattle.mc_input.specs.Kept.{AreSamePairs, GivesKept}
+use Rattle.mc_forward.proofs.IndexLemmas.{slice_get-exists}
+use Rattle.mc_input.specs.Kept.{AreSamePairs}
 use Rattle.mc_input.specs.SummariesOfFiles.{IsSummaryOf, AreSummariesOf}
-use Rattle.mc_input.specs.PartsReading.{cache_of, summary_of_part, read_part}
-use Rattle.mc_input.specs.SourceFault.{from_file_fault}
-use Rattle.mc_input.specs.declared.fault.InputFault.TheVariants.{Cache}
-use Rattle.mc_input.specs.declared.source_fault.SourceFault.{SourceFault}
-use Rattle.mc_input.specs.declared.source_fault.SourceFault.TheVariants.{Input}
 use Rattle.mc_input.proofs.UniqueDomain.{same_lists-from_slice_get}
 
 -- ---- in any order

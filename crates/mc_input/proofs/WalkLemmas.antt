@@ -1,5 +1,5 @@
 -- What is read of the slots' parts one after another, whatever gives them.
-use Rattle.std.specs.Prelude.{◌≡◌, ◌≢◌, ℕ, ◌+◌, List, [], ◌∷◌, ◌++◌, drop, Option, Some, None, Result, Ok, Err}
+use Rattle.std.specs.Prelude.{◌≡◌, ◌≢◌, ℕ, ◌+◌, List, [], ◌∷◌, ◌++◌, Option, Some, None, Result, Ok, Err}
 use Rattle.std.specs.Prelude.{IfOk, IfErr, map, option_map, refl}
 use Rattle.std.specs.FinMap.{FinMap}
 use Rattle.std.specs.Ordering.{nat_cmp}
@@ -16,7 +16,8 @@ use Rattle.mc_input.specs.PartsOneByOne.{IsPartResult}
 use Rattle.mc_forward.specs.Domains.{TablesValue}
 use Rattle.mc_input.specs.PartsReading.{read_part, reports_of, vifs_of}
 use Rattle.mc_input.specs.SourceFault.{IsReadOrMemory}
-use Rattle.mc_input.specs.Stream.{IsFaultBeforeOrOwn, IsFaultOfStream, KeepsOfFirst, NextParts, ReadsFirst}
+use Rattle.mc_input.specs.Stream.{IsFaultBeforeOrOwn, IsFaultOfStream, IsFedPart, IsReaderOf, KeepsOfFirst}
+use Rattle.mc_input.specs.Stream.{NextParts, ReadsFirst}
 use Rattle.mc_input.specs.Stream.{Stream, first_part, part_then, read_each, read_each_after, read_first}
 use Rattle.mc_input.specs.Stream.{ContentsRead, RouterRead, cache_and_text, read_contents, read_lan}
 use Rattle.mc_input.specs.Stream.{read_lans, read_router, read_routers, read_stream, router_read}
@@ -106,6 +107,29 @@ module _ {Y K : Type 0} (read : PartText → Result Y InputFault) (Keeps : K →
           λ memory. loud (inr (e ∙ ap (λ (f : InputFault). Input f) memory)) in
           rw (Err-from_part_result Keeps part_result (read part) own reads is real) (ap Err (sym e))
       by (Err before) part own loud is reads e = ap Err (sym e)
+
+-- a part that was fed to a reader whole is read with the reader's result
+pub ReadsFirst-part_result : {X Y : Type 0} (old between : Option Stream) (part_result : Result Y InputFault)
+    (own read : PartText → Result Y InputFault) (name : List ℕ) (before after : List ℕ → X)
+    → IsReaderOf own read
+    → ((bytes : List ℕ) → before bytes ≡ after [] → IsPartResult (λ kept value. kept ≡ value) part_result
+    (own (record { name = name; bytes = bytes })))
+    → ReadsFirst old between (IsFedPart name before after)
+    → ReadsFirst old between (λ part. IsPartResult (λ kept value. kept ≡ value) part_result (read part))
+ReadsFirst-part_result old between part_result own read name before after same finished passes = λ stream known.
+    let x = passes stream known in (
+      x.0,
+      x.1,
+      x.2,
+      x.3,
+      subst (λ r. IsPartResult (λ kept value. kept ≡ value) part_result r) (same x.1 x.4.1)
+          (subst (λ (part : PartText). IsPartResult (λ kept value. kept ≡ value) part_result (own part))
+          (named x.1 x.4.0) (finished x.1.bytes x.4.2)),
+    )
+  where
+    named : (part : PartText) → part.name ≡ name
+        → (let fed : PartText = record { name = name; bytes = part.bytes } in fed) ≡ part
+    named part is = ap (λ (n : List ℕ). let fed : PartText = record { name = n; bytes = part.bytes } in fed) (sym is)
 
 -- what is kept of a part is kept of another reading of it
 pub KeepsOfFirst-implied : {Y Z : Type 0} (old new : Option Stream) (a : PartText → Result Y InputFault)

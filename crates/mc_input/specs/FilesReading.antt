@@ -6,12 +6,9 @@ use Rattle.mc_text.specs.Bundle.{PartText}
 use Rattle.mc_files.specs.FilePart.{file_part}
 use Rattle.mc_files.specs.Files.{FileText}
 use Rattle.mc_files.specs.Layout.{Slot}
-use Rattle.mc_igmp.specs.declared.record.Record.{Record}
-use Rattle.mc_topology.specs.Topology.{TopologyValue}
-use Rattle.mc_forward.specs.Domains.{TablesValue}
 use Rattle.mc_input.specs.SourceFault.{from_file_fault}
 use Rattle.mc_input.specs.Input.{InputValue}
-use Rattle.mc_input.specs.PartsReading.{all_reports, all_tables, first_lan_number, read_input, read_part}
+use Rattle.mc_input.specs.PartsReading.{read_input, read_part}
 use Rattle.mc_input.specs.declared.fault.InputFault.{InputFault}
 use Rattle.mc_input.specs.declared.source_fault.SourceFault.{SourceFault}
 use Rattle.mc_input.specs.declared.source_fault.SourceFault.TheVariants.{Input}

@@ -5,7 +5,7 @@ use Rattle.mc_files.specs.Files.{FileText}
 use Rattle.mc_topology.specs.Topology.{TopologyValue}
 use Rattle.mc_topology.specs.declared.flow.Flow.{Flow}
 use Rattle.mc_theory.specs.Nets.{Row}
-use Rattle.mc_forward.specs.Assembling.{AreChannelsWanted, AreWanted, rows_by_tables, vifs_by_tables}
+use Rattle.mc_forward.specs.Assembling.{AreWanted, rows_by_tables, vifs_by_tables}
 use Rattle.mc_forward.specs.Domains.{DomainValue, VifsValue}
 use Rattle.mc_forward.specs.ListedTables.{Pairwise, flow_pairs}
 use Rattle.mc_forward.specs.RouterTables.{RouterTablesValue}

@@ -1,31 +1,23 @@
 -- The result of reading a bundle's parts one by one, in the order of the slots: of each the name is checked
 -- and the text is parsed.
-use Rattle.std.specs.Prelude.{◌≡◌, ◌≢◌, ℕ, ◌+◌, ◌*◌, Bool, true, false, List, [], ◌∷◌, ◌++◌, drop, length}
-use Rattle.std.specs.Prelude.{slice_get, Option, Some, None, Result, Ok, Err, if◌then◌else◌, ◌≤◌}
+use Rattle.std.specs.Prelude.{◌≡◌, ℕ, ◌+◌, Bool, List, [], ◌∷◌, drop, length}
+use Rattle.std.specs.Prelude.{slice_get, Option, Some, Result, Ok, Err, if◌then◌else◌, ◌≤◌}
 use Rattle.std.specs.Str.{bytes_eq}
 use Rattle.mc_text.specs.Bundle.{PartText, max_part}
-use Rattle.mc_text.specs.Lines.{max_text}
 use Rattle.mc_text.specs.PartsReading.{PartsState}
-use Rattle.mc_text.specs.RestOfBundle.{rest_of_bundle, ReadsPart}
+use Rattle.mc_text.specs.RestOfBundle.{rest_of_bundle}
 use Rattle.mc_text.specs.Steps.{◌>>=◌, map_fault}
 use Rattle.mc_text.specs.declared.bundle.stage.Stage.TheVariants as stages
-use Rattle.mc_igmp.specs.declared.record.Record.{Record}
-use Rattle.mc_tables.specs.CacheTable.{CacheValue}
-use Rattle.mc_tables.specs.RowsSoFar.{CacheSoFar, cache_if}
-use Rattle.mc_topology.specs.SectionRows.{RouterRow}
 use Rattle.mc_topology.specs.Topology.{TopologyValue}
 use Rattle.mc_files.specs.Layout.{Slot, part_name, slots, topology_slot}
-use Rattle.mc_forward.specs.Domains.{DomainValue, TablesValue}
-use Rattle.mc_forward.specs.ListedTables.{IsListedPartOfTables}
-use Rattle.mc_forward.specs.RouterTables.{RouterTablesValue, kept_of_tables}
+use Rattle.mc_forward.specs.Domains.{DomainValue}
 use Rattle.mc_input.specs.Input.{InputValue}
-use Rattle.mc_input.specs.InputReading.{certificate_in, input_of_parts, named, part_at}
-use Rattle.mc_input.specs.InputView.{input_with}
-use Rattle.mc_input.specs.Kept.{AreContentsOf, AreWantedBy, IsDomainOf}
-use Rattle.mc_input.specs.PartsReading.{topology_of, vifs_of, cache_of, reports_of, first_lan_number}
+use Rattle.mc_input.specs.InputReading.{certificate_in, input_of_parts, named}
+use Rattle.mc_input.specs.Kept.{IsDomainOf}
+use Rattle.mc_input.specs.PartsReading.{topology_of, first_lan_number}
 use Rattle.mc_input.specs.SourceFault.{IsReadOrMemory}
 use Rattle.mc_input.specs.declared.fault.InputFault.{InputFault}
-use Rattle.mc_input.specs.declared.fault.InputFault.TheVariants.{Bundle, Cache, Parts, Memory}
+use Rattle.mc_input.specs.declared.fault.InputFault.TheVariants.{Bundle, Parts, Memory}
 use Rattle.mc_input.specs.declared.source_fault.SourceFault.{SourceFault}
 use Rattle.mc_input.specs.declared.source_fault.SourceFault.TheVariants.{Input}
 

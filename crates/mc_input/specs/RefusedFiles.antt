@@ -1,20 +1,17 @@
 -- Which files of a folder are refused, each checked by itself.
 use Rattle.std.specs.Prelude.{◌≡◌, ℕ, ◌+◌, max, min, Bool, false, List, [], ◌∷◌, ◌++◌, filter, flat_map, map}
-use Rattle.std.specs.Prelude.{◌≢◌, is_some, OnOk, Option, Some, None, Result, Ok, Err, ◌⊎◌, ⊤}
+use Rattle.std.specs.Prelude.{◌≢◌, is_some, Option, Some, None, Result, Ok, Err, ◌⊎◌, ⊤}
 use Rattle.std.specs.Prelude.{if◌then◌else◌, string_bytes}
 use Rattle.std.specs.List.{AllByRecursion, list_any}
 use Rattle.std.specs.Result.{result_err}
 use Rattle.std.specs.Str.{bytes_eq}
 use Rattle.mc_text.specs.Bundle.{PartText}
-use Rattle.mc_text.specs.declared.text.addr.Order.{Order}
 use Rattle.mc_topology.specs.SectionRows.{RouterRow}
 use Rattle.mc_topology.specs.Topology.{TopologyValue}
-use Rattle.mc_topology.specs.declared.flow.Flow.{Flow}
 use Rattle.mc_files.specs.Files.{FileText, file_named}
 use Rattle.mc_files.specs.Layout.{Slot, cache_slot, file_name, reports_slot, topology_slot, vif_slot}
 use Rattle.mc_forward.specs.ListedTables.{Pairwise}
 use Rattle.mc_input.specs.FilesReading.{part_from_file}
-use Rattle.mc_input.specs.Kept.{AreFlowPairs}
 use Rattle.mc_input.specs.PartsReading.{cache_of, reports_of, read_part, topology_of, vifs_of}
 use Rattle.mc_input.specs.SourceFault.{is_read}
 use Rattle.mc_input.specs.declared.each_file.RefusedFile.{RefusedFile}

@@ -16,10 +16,10 @@ ghost use Rattle.mc_input.specs.Stream.{read_after_topology, read_stream};
 
 use crate::bundle_part::certificate_in;
 use crate::fault::InputFault;
-use crate::fed_part;
+use crate::fed_part::feed_part;
 use crate::part_result::listed_pairs;
 use crate::piece_reader::PieceReader;
-use crate::slot_part::check_names_to_end;
+use crate::slot_part::{check_names_to_end, open_slot};
 use crate::slots::Slots;
 use crate::source_fault::SourceFault;
 use crate::walk::{Contents, read_contents};
@@ -81,14 +81,9 @@ impl<R: Input> Slots for BundleSlots<R> {
         buffer: &mut [u8],
         reader: &mut P,
     ) -> Result<PartName, SourceFault> {
-        fed_part::feed_slot(
-            &mut self.parts,
-            buffer,
-            topology,
-            self.certified,
-            number,
-            reader,
-        )
+        open_slot(&mut self.parts, topology, self.certified, number)?;
+        feed_part(&mut self.parts, buffer, reader)?;
+        Ok(self.parts.name())
     }
 
     fn refuse(&mut self, topology: &Topology, number: u32, fault: InputFault) -> SourceFault {

@@ -1,6 +1,6 @@
 //! What is kept of the routers' caches: the rows of listed flows alone, or also a summary of each cache.
 
-ghost use Rattle.std.specs.Prelude.{◌≡◌, ◌<◌, ◌+◌, ◌++◌, ◌∷◌, ℕ, [], Bool, List, IfErr, IfOk, Some, false, length};
+ghost use Rattle.std.specs.Prelude.{◌≡◌, ◌<◌, ◌+◌, ℕ, Bool, List, IfErr, IfOk, Some, false, length};
 ghost use Rattle.std.specs.Prelude.{true};
 ghost use Rattle.mc_text.specs.Device.{failures_after};
 ghost use Rattle.mc_tables.specs.ListedRows.{IsListedPart};

@@ -12,7 +12,7 @@ ghost use Rattle.mc_input.specs.PartsReading.{topology_of as topology_reading};
 
 use crate::excluded::header_of_excluded;
 use crate::fault::InputFault;
-use crate::fed_file::feed_slot;
+use crate::fed_file::feed_header_or_file;
 use crate::part_result::topology_of;
 use crate::piece_reader::PieceReader;
 use crate::slots::Slots;
@@ -103,7 +103,9 @@ impl<'a, F: PieceSource> Slots for FileSlots<'a, F> {
             unreachable!()
         };
         let header = header_of_slot(topology, self.without, number);
-        Ok(feed_slot(alloc, &mut self.files, &slot, header, buffer, reader)?)
+        let name = slot.part_name(alloc)?;
+        feed_header_or_file(alloc, &mut self.files, &slot, header, buffer, reader)?;
+        Ok(name)
     }
 
     fn refuse(&mut self, _topology: &Topology, _number: u32, fault: InputFault) -> SourceFault {

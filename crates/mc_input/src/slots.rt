@@ -1,6 +1,6 @@
 //! What gives the parts of a domain's slots, one after another.
 
-ghost use Rattle.std.specs.Prelude.{◌≡◌, ◌<◌, ◌≤◌, ◌+◌, ℕ, [], Bool, false, true, Option, Some, IfErr, IfOk};
+ghost use Rattle.std.specs.Prelude.{◌≡◌, ◌<◌, ◌≤◌, ◌+◌, ℕ, Bool, false, true, Option, Some, IfErr, IfOk};
 ghost use Rattle.std.specs.Prelude.{cond, length};
 ghost use Rattle.mc_text.specs.Device.{failures_after};
 ghost use Rattle.mc_files.specs.Layout.{slots};

@@ -1,22 +1,20 @@
 //! One walk over the slots of a domain, whatever gives their parts.
 
-ghost use Rattle.std.specs.Prelude.{◌≡◌, ◌<◌, ◌≤◌, ◌+◌, ◌*◌, ◌++◌, ◌∷◌, [], ℕ, List, Some, Ok, Err, IfOk};
-ghost use Rattle.std.specs.Prelude.{IfErr, false, true, length, map, slice_get, Result};
+ghost use Rattle.std.specs.Prelude.{◌≡◌, ◌<◌, ◌≤◌, ◌+◌, ◌*◌, [], List, Some, Ok, Err, IfOk};
+ghost use Rattle.std.specs.Prelude.{IfErr, false, true, length, map, Result};
 ghost use Rattle.mc_text.specs.Bundle.{PartText};
 ghost use Rattle.mc_text.specs.Device.{failures_after};
 ghost use Rattle.mc_igmp.specs.declared.record.Record.{Record};
-ghost use Rattle.mc_topology.specs.SectionRows.{RouterRow};
 ghost use Rattle.mc_files.specs.Layout.{slots as all_slots};
-ghost use Rattle.mc_forward.specs.Assembling.{AreAnswers, AreChannelsWanted};
-ghost use Rattle.mc_forward.specs.ListedTables.{IsListedPartOfTables};
+ghost use Rattle.mc_forward.specs.Assembling.{AreAnswers};
 ghost use Rattle.mc_forward.specs.RouterTables.{AreTablesFor, kept_of_tables};
 ghost use Rattle.mc_input.specs.Kept.{AreContentsOf, AreFlowPairs, AreWantedBy};
 ghost use Rattle.mc_input.specs.PartsOneByOne.{certificate_number};
-ghost use Rattle.mc_input.specs.PartsReading.{first_lan_number, reports_of};
+ghost use Rattle.mc_input.specs.PartsReading.{first_lan_number};
 ghost use Rattle.mc_input.specs.SourceFault.{IsReadOrMemory, is_possible_for_files, is_read};
 ghost use Rattle.mc_input.specs.Stream.{ContentsRead, IsFaultBeforeOrOwn, IsFaultOfStream, IsReaderOf};
 ghost use Rattle.mc_input.specs.Stream.{KeepsOfFirst, RouterRead, Stream, input_of_contents};
-ghost use Rattle.mc_input.specs.Stream.{read_contents, read_first, read_lans, read_router, read_routers};
+ghost use Rattle.mc_input.specs.Stream.{read_contents, read_first, read_lans, read_routers};
 ghost use Rattle.mc_input.specs.Stream.{read_stream, value_and_rest};
 ghost use Rattle.mc_input.specs.declared.fault.InputFault.{InputFault as Fault};
 ghost use Rattle.mc_input.specs.declared.source_fault.SourceFault.TheVariants.{Input};
@@ -86,44 +84,6 @@ pub(crate) fn read_slot<S: Slots, R: PartReader + Drop>(
     value_or_refusal(slots, topology, number + 1, reader.finished(name))
 }
 
-/// Reads both tables of a router from the parts of two slots.
-fn tables_of<S: Slots, K: CacheKeeper>(
-    alloc: Global,
-    slots: &mut S,
-    buffer: &mut [u8],
-    topology: &Topology,
-    keeper: &mut K,
-    router: u32,
-) -> Result<Tables, SourceFault>
-    requires listed { AreFlowPairs topology.now.flows (K.settings keeper.old).0 }
-    requires router { router < length topology.now.routers }
-    requires below_max { 2 + 2 * router < u32.MAX }
-    requires room { 0 < length buffer.old }
-    requires failures { S.failed slots.old < u64.MAX }
-    ensures tables { IfOk result (λ tables. (r : RouterRow) (stream : Stream) →
-        slice_get topology.now.routers router ≡ Some r →
-        S.gives slots.old topology.now (1 + 2 * router) ≡ Some stream →
-        (later : Stream) × (own : RouterRead)
-        × (S.gives slots.new topology.now (1 + 2 * (router + 1)) ≡ Some later)
-        × IsListedPartOfTables topology.now.flows tables own.tables
-        × ((reads : List RouterRead) → K.has_kept keeper.old topology.now.flows reads →
-        K.has_kept keeper.new topology.now.flows (reads ++ own ∷ []))
-        × (read_stream (read_router r.order) stream ≡ value_and_rest own later)) }
-    ensures settings { K.settings keeper.new ≡ K.settings keeper.old }
-    ensures fault { (r : RouterRow) → slice_get topology.now.routers router ≡ Some r → IfErr result
-        (IsFaultOfStream (S.gives slots.old topology.now (1 + 2 * router)) (read_router r.order)) }
-    ensures faults { IfErr result (λ fault. S.is_possible fault ≡ true) }
-    ensures advances { S.advances slots.old slots.new }
-    ensures failures { S.failed slots.new ≡ failures_after is_read result (S.failed slots.old) }
-{
-    let number = 1 + 2 * router;
-    let order = topology.order(RouterNo(router));
-    let reader = VifReader::new(alloc);
-    let vifs = read_slot(alloc, slots, buffer, topology, number, reader)?;
-    let cache = keeper.read_cache(alloc, slots, buffer, topology, order, number + 1)?;
-    Ok(Tables { vifs, cache })
-}
-
 /// Reads the tables of each router, of which what the flows need is kept.
 fn read_tables<S: Slots, K: CacheKeeper>(
     alloc: Global,
@@ -153,38 +113,14 @@ fn read_tables<S: Slots, K: CacheKeeper>(
 {
     let mut tables = RouterTables::new(alloc, topology)?;
     for router in 0..topology.routers() {
-        let own = tables_of(alloc, slots, buffer, topology, keeper, router)?;
-        tables.add(alloc, topology, own)?;
+        let number = 1 + 2 * router;
+        let order = topology.order(RouterNo(router));
+        let reader = VifReader::new(alloc);
+        let vifs = read_slot(alloc, slots, buffer, topology, number, reader)?;
+        let cache = keeper.read_cache(alloc, slots, buffer, topology, order, number + 1)?;
+        tables.add(alloc, topology, Tables { vifs, cache })?;
     }
     Ok(tables)
-}
-
-/// Reads from the part of the slot with a number which of these channels a LAN wants.
-fn wanted_in<S: Slots>(
-    alloc: Global,
-    slots: &mut S,
-    buffer: &mut [u8],
-    topology: &Topology,
-    channels: &FlowChannels,
-    number: u32,
-) -> Result<Items<bool>, SourceFault>
-    requires within { number < length (all_slots false topology.now) }
-    requires below_max { number < u32.MAX }
-    requires room { 0 < length buffer.old }
-    requires failures { S.failed slots.old < u64.MAX }
-    ensures wanted { IfOk result (λ wanted. KeepsOfFirst (S.gives slots.old topology.now number)
-        (S.gives slots.new topology.now (number + 1)) reports_of
-        (λ records. AreChannelsWanted channels.now records wanted)) }
-    ensures count { IfOk result (λ wanted. length wanted ≡ length channels.now) }
-    ensures fault { IfErr result (IsFaultOfStream (S.gives slots.old topology.now number)
-        (read_first reports_of)) }
-    ensures faults { IfErr result (λ fault. S.is_possible fault ≡ true) }
-    ensures advances { S.advances slots.old slots.new }
-    ensures failures { S.failed slots.new ≡ failures_after is_read result (S.failed slots.old) }
-{
-    let reader = ListReader::new(alloc);
-    let reports = read_slot(alloc, slots, buffer, topology, number, reader)?;
-    Ok(channels.wanted(alloc, &reports)?)
 }
 
 /// Reads which flows each LAN wants.
@@ -214,7 +150,9 @@ fn read_wants<S: Slots>(
     let first = 1 + 2 * topology.routers();
     let mut wants = Vec::new(alloc);
     for lan in 0..topology.lans() {
-        wants.push(wanted_in(alloc, slots, buffer, topology, &channels, first + lan)?)?;
+        let reader = ListReader::new(alloc);
+        let reports = read_slot(alloc, slots, buffer, topology, first + lan, reader)?;
+        wants.push(channels.wanted(alloc, &reports)?)?;
     }
     Ok(wants)
 }

@@ -1,4 +1,4 @@
-use Rattle.std.proofs.Common.{◌≡◌, ◌∙◌, Ok, Some, ap, option_map, subst, sym}
+use Rattle.std.proofs.Common.{◌∙◌, ap, option_map, subst, sym}
 use Rattle.std.proofs.lemmas.Result.{err_from_is_err_and}
 use Rattle.mc_text.proofs.RestOfBundleLemmas.{advances_trans}
 use Rattle.mc_files.proofs.PartLemmas.{Ok-from_refused_as}

@@ -1,4 +1,4 @@
-use Rattle.std.proofs.Common.{◌≡◌, ◌∙◌, Some, map, sym}
+use Rattle.std.proofs.Common.{◌≡◌, ◌∙◌, Some, map}
 use Rattle.mc_files.specs.Layout.{Slot}
 use Rattle.mc_input.specs.RefusedFiles.{as_judged_file}
 use Rattle.mc_input.proofs.RefusedLemmas.{JudgesFiles-one_of_slot, OnOk-both}

@@ -1,12 +1,11 @@
-use Rattle.std.proofs.Common.{◌≡◌, ℕ, ◌+◌, ◌*◌, ◌∙◌, [], ◌∷◌, List, Some, ap, arith, false, map, refl, slice_get, subst, sym}
+use Rattle.std.proofs.Common.{ℕ, ◌+◌, ◌*◌, ◌∙◌, [], ◌∷◌, List, ap, arith, false, map, refl, sym}
 use Rattle.std.specs.List.{list_any}
 use Rattle.std.specs.Prelude.{option_map}
 use Rattle.std.specs.Str.{bytes_eq}
 use denote.Ref.{Bor}
 use Rattle.mc_text.specs.Steps.{map_fault}
 use Rattle.mc_text.specs.declared.text.addr.Order.{Order}
-use Rattle.mc_files.specs.Files.{FileText}
-use Rattle.mc_files.specs.Layout.{cache_slot, slots, vif_slot}
+use Rattle.mc_files.specs.Layout.{cache_slot, vif_slot}
 use Rattle.mc_files.proofs.SlotLemmas.{router_slot, slice_get-cache_slot, slice_get-vif_slot}
 use Rattle.mc_input.specs.PartsReading.{cache_of, vifs_of}
 use Rattle.mc_input.specs.RefusedFiles.{JudgedFile, as_judged_file, judged_file}
@@ -14,7 +13,7 @@ use Rattle.mc_input.specs.declared.fault.InputFault.TheVariants.{Cache, Vif}
 use Rattle.mc_input.proofs.CacheLemmas.{listed_part}
 use Rattle.mc_input.proofs.FinishLemmas.{router_slots-within_count}
 use Rattle.mc_input.proofs.RefusedLemmas.{JudgesFiles-excluded_router, JudgesFiles-router, JudgesFiles-same_files}
-use Rattle.mc_input.proofs.RefusedLemmas.{JudgesFiles-same_source, OnOk-both, judged_file-listed_part}
+use Rattle.mc_input.proofs.RefusedLemmas.{JudgesFiles-same_source, judged_file-listed_part}
 use Rattle.mc_input.proofs.WalkLemmas.{name-at, order-at}
 use Rattle.mc_text.proofs.StepLemmas.{on_ok_map}
 use Rattle.mc_input.proofs.each_file.judge_tables.Goals as goal

@@ -1,4 +1,4 @@
-use Rattle.std.proofs.Common.{◌≡◌, ◌+◌, List, Option, Some, ap, option_map, subst, sym}
+use Rattle.std.proofs.Common.{◌≡◌, List, Option, ap, option_map, subst, sym}
 use Rattle.mc_files.specs.Files.{FileText}
 use Rattle.mc_input.specs.RefusedFiles.{IsOwnFaultUnlessMemory, file_fault}
 use Rattle.mc_input.specs.Stream.{files_give}

@@ -1,11 +1,11 @@
-use Rattle.std.proofs.Common.{◌≡◌, ℕ, ◌+◌, ◌∙◌, IfErr, List, Some, ap, subst, sym}
+use Rattle.std.proofs.Common.{◌≡◌, ℕ, ◌+◌, ◌∙◌, List, Some, ap, subst, sym}
 use Rattle.mc_text.specs.Steps.{map_fault}
 use Rattle.mc_text.proofs.StepLemmas.{if_ok_map}
 use Rattle.mc_tables.specs.CacheTable.{CacheValue}
 use Rattle.mc_tables.specs.ListedRows.{IsListedPart}
 use Rattle.mc_tables.specs.RowsSoFar.{cache_start}
 use Rattle.mc_forward.specs.ListedTables.{flow_pairs}
-use Rattle.mc_input.specs.Stream.{IsReaderOf, KeepsCacheText, KeepsOfFirst, cache_and_text, read_first}
+use Rattle.mc_input.specs.Stream.{KeepsCacheText, KeepsOfFirst, cache_and_text, read_first}
 use Rattle.mc_input.specs.declared.fault.InputFault.TheVariants.{Cache}
 use Rattle.mc_input.proofs.CacheLemmas.{cache_and_text-from_listed, cache_and_text-listed_Err, listed_part}
 use Rattle.mc_input.proofs.PartResultLemmas.{cache_if-listed_in, cache_start-same_pairs}

@@ -21,7 +21,8 @@
 PREFIX ?= /usr/local
 VERSION = $(shell cat VERSION)
 PROGRAM = crates/mcaudit/out/mcaudit
-TOOLS = mcaudit-collect mcaudit-diff mcaudit-draft mcaudit-monitor mcaudit-page mcaudit-query mcaudit-reports mcaudit-site
+TOOLS = mcaudit-collect mcaudit-diff mcaudit-draft mcaudit-monitor mcaudit-page mcaudit-premises mcaudit-query \
+	mcaudit-reports mcaudit-site
 # each of them is quoted where it is used: a path may have spaces and signs of the shell
 UNITS = $(DESTDIR)$(PREFIX)/lib/systemd/system
 BASH_COMPLETIONS = $(DESTDIR)$(PREFIX)/share/bash-completion/completions
@@ -63,6 +64,7 @@ lab: $(PROGRAM)
 	sh tests/lab/run.sh $(PROGRAM)
 	sh tests/lab/ten.sh $(PROGRAM) $(PAGES)
 	sh tests/lab/pim.sh $(PROGRAM)
+	python3 tests/lab/premises.py $(PROGRAM) --ssh
 
 page-test:
 	sh tests/packages.sh page

@@ -144,7 +144,7 @@ def audited_of(domain):
     *verdicts, last = verdicts_of(domain).splitlines(keepends=True)
     lines = [line for both in zip(verdicts, wanted) for line in both]
     flows, unwanted = len(wanted), sum(line.startswith("  wanted 0:") for line in wanted)
-    summary = f"summary flows {flows} right {flows} wrong 0 unwanted {unwanted}\n"
+    summary = f"summary flows {flows} right {flows} wrong 0 unknown 0 unwanted {unwanted}\n"
     return "".join([*lines, *unlisted_of(domain), summary, last])
 
 

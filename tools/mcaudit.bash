@@ -47,7 +47,7 @@ _mcaudit_tool() {
         | --queries | --network | --querier | --interface) return ;;
         --tries | --static | --empty-lan | --by | --shell | --ttl | --measure | --count | --tenths \
         | --without) return ;;
-        --keep | --warn-age | --warn-reports | --label) return ;;
+        --watch | --keep | --warn-age | --warn-reports | --label) return ;;
     esac
     case $word in
         -*) mapfile -t COMPREPLY < <(compgen -W "$*" -- "$word") ;;
@@ -82,6 +82,11 @@ _mcaudit_page() {
         -o --audit --program --without --version --help
 }
 
+_mcaudit_premises() {
+    _mcaudit_tool "${COMP_WORDS[COMP_CWORD]}" "${COMP_WORDS[COMP_CWORD - 1]}" directory \
+        --routers --ssh --watch --timeout --json --strict --version --help
+}
+
 _mcaudit_query() {
     _mcaudit_tool "${COMP_WORDS[COMP_CWORD]}" "${COMP_WORDS[COMP_CWORD - 1]}" file \
         --count --pause --tenths --print --version --help
@@ -111,6 +116,7 @@ complete -F _mcaudit_diff mcaudit-diff
 complete -F _mcaudit_draft mcaudit-draft
 complete -F _mcaudit_monitor mcaudit-monitor
 complete -F _mcaudit_page mcaudit-page
+complete -F _mcaudit_premises mcaudit-premises
 complete -F _mcaudit_query mcaudit-query
 complete -F _mcaudit_reports mcaudit-reports
 complete -F _mcaudit_site mcaudit-site

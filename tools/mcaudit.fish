@@ -56,7 +56,7 @@ set -l readings \
     '--readings:value:read a router at most so many times' \
     '--pause:value:wait so long between two readings of a router' \
     '--at-once:value:read at most so many routers side by side' \
-    '--facts::bring the addresses and routes of the routers too' \
+    '--facts::bring what decides beside the tables what a router forwards' \
     '--adopt::make a plain folder the first set'
 set -l asking \
     '--static:value:put into the list what a host wants that can not be asked' \
@@ -93,10 +93,11 @@ __mcaudit_folders mcaudit '__mcaudit_command_is pack'
 __mcaudit_options mcaudit '__mcaudit_command_is replay' '--order:first last:which waiting copy is handled next'
 
 set -l tool
-for tool in mcaudit-collect mcaudit-draft mcaudit-monitor mcaudit-page
+for tool in mcaudit-collect mcaudit-draft mcaudit-monitor mcaudit-page mcaudit-premises
     __mcaudit_folders $tool true
 end
-for tool in mcaudit-collect mcaudit-diff mcaudit-draft mcaudit-monitor mcaudit-page mcaudit-query mcaudit-reports
+for tool in mcaudit-collect mcaudit-diff mcaudit-draft mcaudit-monitor mcaudit-page mcaudit-premises mcaudit-query \
+    mcaudit-reports
     __mcaudit_options $tool true $about
 end
 __mcaudit_options mcaudit-collect true $routers $timeout $readings '--shell:value:run a shell on a router by its way'
@@ -118,6 +119,10 @@ __mcaudit_options mcaudit-page true \
     '--audit:file:take what an audit answered' \
     '--program:file:run this program for mcaudit' \
     '--without:value:audit without the tables of a router'
+__mcaudit_options mcaudit-premises true $routers $timeout \
+    '--watch:value:read the counters four times, with these pauses' \
+    '--json::print an object a line' \
+    '--strict::end with status 1 for all that was found or is not known'
 __mcaudit_options mcaudit-query true \
     '--count:value:send so many' \
     '--pause:value:seconds between two' \

@@ -1,4 +1,4 @@
-#compdef mcaudit mcaudit-collect mcaudit-diff mcaudit-draft mcaudit-monitor mcaudit-page mcaudit-query mcaudit-reports mcaudit-site
+#compdef mcaudit mcaudit-collect mcaudit-diff mcaudit-draft mcaudit-monitor mcaudit-page mcaudit-premises mcaudit-query mcaudit-reports mcaudit-site
 # mcaudit.zsh: completes the words of mcaudit and of its tools in zsh, which looks for it under the name _mcaudit.
 
 # what several tools have
@@ -15,7 +15,7 @@ local -a readings=(
     '--readings[read a router at most so many times]:number: '
     '--pause[wait so long between two readings of a router]:seconds: '
     '--at-once[read at most so many routers side by side]:number: '
-    '--facts[bring the addresses and routes of the routers too]'
+    '--facts[bring what decides beside the tables what a router forwards]'
     '--adopt[make a plain folder the first set]'
 )
 local -a asking=(
@@ -77,6 +77,11 @@ mcaudit-page)
         '--audit[take what an audit answered]:file:_files' \
         '--program[run this program for mcaudit]:program:_files' \
         '*--without[audit without the tables of a router]:router: ' ;;
+mcaudit-premises)
+    _arguments $routers $timeout $about $site \
+        '--watch[read the counters four times, with these pauses]:seconds: ' \
+        '--json[print an object a line]' \
+        '--strict[end with status 1 for all that was found or is not known]' ;;
 mcaudit-query)
     _arguments $about ':interface:_files' \
         '--count[send so many]:number: ' \

@@ -117,6 +117,7 @@ class Domain:
         topology = tomllib.loads(read("topology").decode())
         self.lans = topology["lans"]
         self.routers = [router["name"] for router in topology.get("router", [])]
+        self.orders = [router.get("order", "little") for router in topology.get("router", [])]
         self.left_out = [number for number, name in enumerate(self.routers) if name in left_out]
         self.interfaces = [(self.routers.index(i["router"]), i["device"].encode(), self.lans.index(i["lan"]))
                            for i in topology.get("interface", [])]
@@ -126,10 +127,9 @@ class Domain:
         self.flows = [(address_of(f["source"]), address_of(f["group"]), f["ttl"], sources[f["source"]])
                       for f in topology["flow"]]
         self.tables = []
-        for number, router in enumerate(topology.get("router", [])):
+        for number, (name, order) in enumerate(zip(self.routers, self.orders)):
             known = number not in self.left_out
-            name = router["name"]
-            self.tables.append(Tables(router.get("order", "little"), read(f"vif-{name}") if known else b"",
+            self.tables.append(Tables(order, read(f"vif-{name}") if known else b"",
                                       read(f"cache-{name}") if known else b""))
         self.reports = [Records(read(f"igmp-{lan}")) for lan in self.lans]
         self.on_lan = [[] for _ in self.lans]
@@ -182,7 +182,7 @@ class Travel:
 
     def handle(self):
         router, vif, ttl = self.waiting.popleft()
-        event = {"router": self.domain.routers[router], "ttl": ttl, "vif": vif}
+        event = {"onto": [], "router": self.domain.routers[router], "ttl": ttl, "vif": vif}
         row = self.domain.exact(router, self.flow)
         if row is None:
             is_open = self.domain.open_row(router, self.flow) is not None
@@ -197,6 +197,7 @@ class Travel:
                 if ttl > threshold:
                     lan = self.domain.placed(router, out)
                     counts[lan is None] += 1
+                    event["onto"].append(out)
                     if lan is None:
                         self.strays.append((router, out))
                     else:
@@ -578,27 +579,45 @@ class Answer:
         if greatest.finding[0] == "Clean":
             travel = Travel(domain, self.flow, self.flow[2])
         self.found_ttl = 255 if travel is greatest else self.flow[2]
-        self.is_right = travel.finding[0] == "Clean"
+        self.is_clean = travel.finding[0] == "Clean"
         self.travel, self.with_events = travel, with_events
-        if self.is_right:
+        if self.is_clean:
+            self.right = None if domain.left_out else True
             self.entries = [entry_of(domain, greatest, copy) for copy in sorted(greatest.carried, key=lambda copy: copy[0])]
         else:
             self.why = Explained(domain, self.flow, greatest, travel).lines
             reached = {copy[0] for copy in travel.carried}
             self.also = [lan for lan in self.wanted if lan not in reached and lan != travel.finding[1]] if (
                 travel.finding[0] == "Missed") else []
+            may_be_right = travel is greatest and any(line["kind"] == "left_out" for line in self.why)
+            self.right = None if may_be_right else False
+            self.shown_from = self.need() if travel is greatest and self.flow[2] != 255 else None
+
+    def need(self):
+        """The greatest need among the copies that the finding rests on, None where it rests on none."""
+        kind, *place = self.travel.finding
+        travel, domain = self.travel, self.domain
+        if kind in ("Loop", "Duplicate"):
+            return max(need_of(travel.hops_back(copy)) for copy in (travel.first_on(place[0]), travel.second()))
+        if kind != "Stray":
+            return None
+        router, vif = place
+        row = domain.exact(router, self.flow)
+        hops = travel.hops_back(travel.first_on(domain.placed(router, vif if row is None else row.incoming)))
+        return need_of(hops) if row is None else max(need_of(hops), len(hops) + row.threshold(vif) + 1)
 
     def text(self):
         words = f"flow {self.names['source']} {self.names['group']} ttl {self.names['ttl']}"
         lans = self.domain.lans
-        if self.is_right:
+        if self.is_clean:
             said = "no fault known" if self.domain.left_out else "yes"
             names = [lans[lan] for lan in self.wanted]
             return [f"{words} {said} copies {len(self.entries)}",
                     f"  wanted {len(names)}: " + (some(names) if names else "no report asks for it")]
         kind, *place = self.travel.finding
         place = [lans[place[0]]] if len(place) == 1 else [self.domain.routers[place[0]], str(place[1])]
-        lines = [f"{words} no certificate", " ".join([f"found ttl {self.found_ttl}", kind, *place])]
+        lines = [" ".join([words, "unknown:" if self.right is None else "wrong:", kind, *place])]
+        lines += [f"  shown by packets sent with ttl {self.shown_from} or more"] if self.shown_from else []
         lines += [f"  {line}" for line in explanation_text(self.why)]
         lines += ["  also missed: " + some([lans[lan] for lan in self.also])] if self.also else []
         return lines + ([event_text(event) for event in self.travel.events] if self.with_events else [])
@@ -606,19 +625,20 @@ class Answer:
     def object(self, trees):
         """Its object, and before it that of its way, where that is a new one."""
         lans = self.domain.lans
-        if self.is_right:
+        if self.is_clean:
             tree, new = json.dumps(self.entries), []
             if tree not in trees:
                 trees[tree] = len(trees)
                 new = [{"entries": self.entries, "tree": trees[tree]}]
-            return new + [self.names | {"copies": len(self.entries), "right": None if self.domain.left_out else True, "tree": trees[tree],
+            return new + [self.names | {"copies": len(self.entries), "right": self.right, "tree": trees[tree],
                                         "wanted": [lans[lan] for lan in self.wanted]}]
         kind, *place = self.travel.finding
         finding = {"kind": kind, "lan": lans[place[0]]} if len(place) == 1 else (
             {"kind": kind, "router": self.domain.routers[place[0]], "vif": place[1]})
         events = {"events": self.travel.events} if self.with_events else {}
         return [self.names | events | {"also": [lans[lan] for lan in self.also], "finding": finding,
-                                       "found_ttl": self.found_ttl, "right": False, "why": with_text(self.why)}]
+                                       "found_ttl": self.found_ttl, "right": self.right, "shown_from": self.shown_from,
+                                       "wanted": [lans[lan] for lan in self.wanted], "why": with_text(self.why)}]
 
 
 def event_text(event):
@@ -631,8 +651,8 @@ def event_text(event):
 def entry_of(domain, travel, copy):
     hops = travel.hops_back(copy)
     router, vif = copy[2] or (None, None)
-    return {"lan": domain.lans[copy[0]], "need": need_of(hops), "rank": len(hops),
-            "router": None if router is None else domain.routers[router], "vif": vif}
+    return {"from_vif": hops[0][2] if hops else None, "lan": domain.lans[copy[0]], "need": need_of(hops),
+            "rank": len(hops), "router": None if router is None else domain.routers[router], "vif": vif}
 
 
 def unlisted_rows(domain):
@@ -655,9 +675,10 @@ def domain_object(domain, words):
                                "router": domain.routers[router], "vif": vif})
     interfaces += [{"device": escaped(device), "lan": domain.lans[lan], "router": domain.routers[router], "vif": None}
                    for router, device, lan in domain.interfaces if domain.tables[router].index_of(device) is None]
-    return {"domain": {"interfaces": interfaces, "lans": domain.lans, "routers": domain.routers,
+    routers = [{"name": name, "order": order} for name, order in zip(domain.routers, domain.orders)]
+    return {"domain": {"interfaces": interfaces, "lans": domain.lans, "routers": routers,
                        "sources": [{"address": address, "lan": domain.lans[lan]} for address, lan in domain.sources]},
-            "format": 1, "words": words}
+            "format": 2, "words": words}
 
 
 class Audit:
@@ -667,15 +688,15 @@ class Audit:
         self.domain = domain = Domain(folder, left_out)
         self.options, self.left_out = options, [domain.routers[number] for number in domain.left_out]
         self.answers = [Answer(domain, number, "--travel" in options) for number in range(len(domain.flows))]
-        right = [answer for answer in self.answers if answer.is_right]
-        unwanted = sum(not answer.wanted for answer in right)
-        self.counts = {"flows": len(self.answers), "right": len(right), "unwanted": unwanted,
-                       "wrong": len(self.answers) - len(right)}
-        self.is_yes = not self.counts["wrong"] and not left_out
+        rights = [answer.right for answer in self.answers]
+        unwanted = sum(answer.is_clean and not answer.wanted for answer in self.answers)
+        self.counts = {"flows": len(rights), "right": rights.count(True), "unknown": rights.count(None),
+                       "unwanted": unwanted, "wrong": rights.count(False)}
+        self.is_yes = all(rights) and not left_out
         self.is_strict = "--strict" in options and self.is_yes and unwanted > 0
         self.status = 0 if self.is_yes and not self.is_strict else 1
         self.shown = [answer for answer in self.answers
-                      if "--faults" not in options or not answer.is_right or not answer.wanted]
+                      if "--faults" not in options or not answer.is_clean or not answer.wanted]
         pairs = unlisted_rows(domain)
         self.unlisted = pairs if "--unlisted" in options else pairs[:SHOWN_PAIRS]
         self.further = sum(len(routers) for _, routers in pairs[len(self.unlisted):])
@@ -687,12 +708,12 @@ class Audit:
             if not 224 <= group >> 24 <= 239:
                 lines.append("  no multicast group: is the byte order of these routers right in the topology?")
         lines += [f"unlisted and {self.further} further rows"] if self.further else []
-        lines += [f"without {router}" for router in self.left_out]
+        lines += [f"excluded {router}" for router in self.left_out]
         counts = self.counts
         lines.append(f"summary flows {counts['flows']} right {counts['right']} wrong {counts['wrong']} "
-                     f"unwanted {counts['unwanted']}")
+                     f"unknown {counts['unknown']} unwanted {counts['unwanted']}")
         if self.left_out:
-            lines.append(f"  left out: {some(self.left_out)}: the verdict is no, since a yes is said of whole domains only")
+            lines.append(f"  excluded: {some(self.left_out)}: the verdict is no; a yes requires all routers")
         lines += [f"  strict: {counts['unwanted']} flows that nobody wants, status 1"] if self.is_strict else []
         return "".join(f"{line}\n" for line in [*lines, "verdict yes" if self.is_yes else "verdict no"])
 

@@ -79,7 +79,7 @@ class Made:
                          if self.interfaces[router].get(device) == lan]
                 if entry and self.pick.random() < 0.9:
                     waiting.remove(router)
-                    self.rows[router].append([group, source, str(entry[0]), self.outgoing(router, reached)])
+                    self.rows[router].append([group, source, str(self.pick.choice(entry)), self.outgoing(router, reached)])
 
     def outgoing(self, router, reached):
         pairs = {}

@@ -8,8 +8,10 @@ of them. answers.py works the answers out from their definitions, and the progra
 and as JSON, and end with the same status. An example is tried with all of WORDS and with its own, a random domain with
 TRIED of WORDS, beginning at its number, so that each set comes for half of them. For the examples, whose answers
 stand beside their folders and were read line by line against the tables, answers.py has to give these. Each kind of
-finding has to come, each kind of line that explains one, and each line behind the flows, or the domains would show too
-little. The last line counts the domains: `N passed, M failed`. The status is 0 if none failed and one was run.
+finding has to come, each kind of line that explains one, a finding that isn't known to make its flow wrong, one that
+is shown from some TTL on, each line behind the flows, and two trees that differ in a `from_vif` alone, or the domains
+would show too little. The last line counts the domains: `N passed, M failed`. The status is 0 if none failed and one
+was run.
 """
 import os
 import subprocess
@@ -41,14 +43,27 @@ LINES = {
     "stopped", "waits_for", "no_vif", "not_multicast", "expected_from_here", "no_router", "no_sender",
 }
 BEHIND = {"unlisted", "further rows", "without", "strict"}
+FLOWS = {"unknown", "shown from"}
+TREES = {"from_vif"}
+
+
+def trees_of(audit, *left_out):
+    """The different trees of a domain's right flows, by their entries without these keys."""
+    return {str([[entry[key] for key in sorted(entry) if key not in left_out] for entry in answer.entries])
+            for answer in audit.answers if answer.is_clean}
 
 
 def kinds_of(audit):
-    """The findings in a domain, the kinds of lines that explain them, and the lines behind the flows."""
+    """The findings in a domain, the kinds of lines that explain them, the lines behind the flows, and whether trees differ
+    in a `from_vif` alone."""
     kinds = {answer.travel.finding[0] for answer in audit.answers}
-    kinds |= {line["kind"] for answer in audit.answers if not answer.is_right for line in answer.why}
+    kinds |= {line["kind"] for answer in audit.answers if not answer.is_clean for line in answer.why}
+    found = [answer for answer in audit.answers if not answer.is_clean]
+    kinds |= {"unknown"} if any(answer.right is None for answer in found) else set()
+    kinds |= {"shown from"} if any(answer.shown_from for answer in found) else set()
     behind = (audit.unlisted, audit.further, audit.left_out, audit.is_strict)
-    return kinds | {name for name, is_there in zip(("unlisted", "further rows", "without", "strict"), behind) if is_there}
+    kinds |= {name for name, is_there in zip(("unlisted", "further rows", "without", "strict"), behind) if is_there}
+    return kinds | (TREES if len(trees_of(audit)) > len(trees_of(audit, "from_vif")) else set())
 
 
 def try_words(program, name, words):
@@ -128,7 +143,7 @@ def main():
     examples = sorted(name for name in os.listdir(faults.FOLDER) if os.path.isdir(os.path.join(faults.FOLDER, name)))
     tries = [(try_example, program, name) for name in examples]
     tries += [(try_random, program, number) for number in range(first, first + count)]
-    return try_all(tries, len(tries) if examples else 0, FINDINGS | LINES | BEHIND, "domain")
+    return try_all(tries, len(tries) if examples else 0, FINDINGS | LINES | FLOWS | BEHIND | TREES, "domain")
 
 
 if __name__ == "__main__":

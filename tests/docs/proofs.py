@@ -48,6 +48,7 @@ class Reader:
     def __init__(self):
         self.type, self.calls, self.about, self.comment, self.is_public = "", [], [], [], False
         self.call = None  # the call between whose head and body the line stands
+        self.depth = 0  # how many braces of its contract are open
 
     def read(self, text):
         for line in text.split("\n"):
@@ -57,7 +58,7 @@ class Reader:
     def read_line(self, line):
         bare = line.strip()
         indent = len(line) - len(line.lstrip())
-        if self.call is not None and self.read_contract(bare, indent):
+        if self.call is not None and self.read_contract(bare):
             return
         if bare.startswith("///"):
             self.about.append(bare[3:])
@@ -75,22 +76,24 @@ class Reader:
         """A call begins. One that isn't public is passed over."""
         name = f"{self.type}::{found[2]}" if indent else found[2]
         self.call = Call(name, sentence(self.about)) if found[1] or indent and self.is_public else Call("", "")
-        self.about, self.comment = [], []
-        if bare.endswith((";", "{}")):
+        self.about, self.comment, self.depth = [], [], 0
+        if bare.endswith((";", "{", "{}")):
             self.end()
 
-    def read_contract(self, bare, indent):
+    def read_contract(self, bare):
         """Reads a line of the head or the contract. Whether it is one."""
         if bare.startswith("//"):
             self.comment.append(bare[2:])
-        elif found := CLAUSE.match(bare):
+            return True
+        if found := CLAUSE.match(bare):
             about = " ".join(it.strip() for it in self.comment).rstrip(".").replace("|", "\\|")
             self.call.clauses.append((found[1] or "", about))
+        is_clause = self.depth > 0 or bare.startswith(("ensures", "requires"))
+        if is_clause:
             self.comment = []
-        elif bare in ("{", "{}") or bare.endswith(";") and indent <= 4 and not bare.startswith("|"):
+        self.depth += bare.count("{") - bare.count("}")
+        if bare.endswith(("{", "{}")) and not is_clause or bare.endswith(";") and self.depth == 0:
             self.end()
-        elif bare.startswith("requires"):
-            self.comment = []
         return True
 
     def end(self):

@@ -89,9 +89,9 @@ rule 'lemmas and definitions that nothing leads to' 0..0 "$(python3 tests/house/
 
 # --- what stands twice ---
 # (windows of 12 lines that are alike but for names, numbers and texts; these counts only fall)
-rule 'windows of code that stand again' 1..137 "$(python3 tests/house/duplicates.py code)"
-rule 'windows of definitions that stand again' 0..10 "$(python3 tests/house/duplicates.py definitions)"
-rule 'windows of proofs that stand again' 1..25 "$(python3 tests/house/duplicates.py proofs)"
+rule 'windows of code that stand again' 1..92 "$(python3 tests/house/duplicates.py code)"
+rule 'windows of definitions that stand again' 0..7 "$(python3 tests/house/duplicates.py definitions)"
+rule 'windows of proofs that stand again' 1..16 "$(python3 tests/house/duplicates.py proofs)"
 rule 'windows of the tools that stand again' 0..0 "$(python3 tests/house/duplicates.py tools)"
 
 # --- edits that must fail ---
@@ -115,7 +115,7 @@ rule 'signals: an interrupt before any is heeded, those heeded, those of an end,
 rule 'a lock: of a site, and of a scratch folder' 2..2 "$(lines 'fcntl\.flock\(' $tools)"
 rule 'how a file is opened that may be no regular one' 1..1 "$(lines 'O_RDONLY \| os\.O_NONBLOCK' $tools)"
 rule "a reader of the audit's JSON" 1..1 "$(lines '\["format"\]' $tools)"
-rule "readers of JSON: an audit's, that of files which the tools keep, dot's and ip's" 4..4 "$(lines 'json\.loads?\(' $tools)"
+rule "readers of JSON: an audit's, that of files which the tools keep, dot's, ip's and that of facts" 5..5 "$(lines 'json\.loads?\(' $tools)"
 rule 'a reader of TOML' 1..1 "$(lines 'tomllib\.loads?\(' $tools)"
 rule 'a decoder of hexadecimal digits' 1..1 "$(lines 'fromhex|unhexlify|b16decode' $tools)"
 rule "a reader of arguments: all tools', and mcaudit-query's" 2..2 "$(lines '\(argparse\.ArgumentParser\)' tools)"

@@ -18,7 +18,7 @@ ENDINGS = (".rt", ".antt", ".edit")
 
 # what isn't an identifier: texts in quotes, one character in quotes, and comments
 CODE = re.compile(r"""b?"(?:\\[\s\S]|[^"\\])*"|b?'(?:\\.[^']*|[^'\\])'|//[^\n]*""")
-PROOF = re.compile(r'"(?:\\.|[^"\\\n])*"|(?:(?<=\s)|^)--[^\n]*', re.M)
+PROOF = re.compile(r'"(?:\\.|[^"\\\n])*"|(?:(?<=\s)|^)--[^\n]*|\bg\.met\b', re.M)  # `g.met` is the prover's own name
 NAME = re.compile(r"[^\W\d][\w'+-]*")
 PART = re.compile(r"[A-Z]?[a-z]+|[A-Z]+(?![a-z])")
 HEAD = re.compile(r"^(?:file|old|new|clause): ", re.M)

@@ -130,7 +130,7 @@ flow 10.77.0.5 239.1.2.3 ttl 4 yes copies 3
   wanted 1: 10.77.2.0-24
 flow 10.77.0.5 239.1.2.4 ttl 4 yes copies 3
   wanted 1: 10.77.2.0-24
-summary flows 2 right 2 wrong 0 unwanted 0
+summary flows 2 right 2 wrong 0 unknown 0 unwanted 0
 verdict yes
 END
 make_certificate > "$site/certificate" || fail 'no certificate for right tables'
@@ -150,15 +150,15 @@ collect
 expect 1 "$mcaudit" audit "$site" --travel <<'END'
 flow 10.77.0.5 239.1.2.3 ttl 4 yes copies 3
   wanted 1: 10.77.2.0-24
-flow 10.77.0.5 239.1.2.4 ttl 4 no certificate
-found ttl 255 Duplicate 10.77.2.0-24
+flow 10.77.0.5 239.1.2.4 ttl 4 wrong: Duplicate 10.77.2.0-24
+  shown by packets sent with ttl 3 or more
   forwarded onto 10.77.2.0-24 by r1 eth2: entry (10.77.0.5,239.1.2.4) from eth0 to eth1 eth2 in cache-r1
   forwarded onto 10.77.2.0-24 by r2 eth1: entry (10.77.0.5,239.1.2.4) from eth0 to eth1 in cache-r2
   fix: remove eth1 from this entry of r2; every LAN reached now is still reached
   then audit again
 event r1 0 ttl 255 sent 2 strayed 0
 event r2 0 ttl 254 sent 1 strayed 0
-summary flows 2 right 1 wrong 1 unwanted 0
+summary flows 2 right 1 wrong 1 unknown 0 unwanted 0
 verdict no
 END
 expect 1 check_certificate <<'END'
@@ -175,7 +175,7 @@ member 239.1.2.4 3
 END
 collect
 expect 0 "$mcaudit" audit "$site" --faults <<'END'
-summary flows 2 right 2 wrong 0 unwanted 0
+summary flows 2 right 2 wrong 0 unknown 0 unwanted 0
 verdict yes
 END
 echo 'lab: the verdicts are those of the network'

@@ -100,7 +100,7 @@ flow 10.77.0.50 239.1.2.3 ttl $ttl yes copies 9
   wanted 3: 10.77.5.0-24 10.77.7.0-24 10.77.9.0-24
 flow 10.77.0.50 239.1.2.4 ttl 16 yes copies 5
   wanted 1: 10.77.5.0-24
-summary flows 2 right 2 wrong 0 unwanted 0
+summary flows 2 right 2 wrong 0 unknown 0 unwanted 0
 verdict yes
 END
 }
@@ -117,7 +117,8 @@ make_page() {
 watch_once() {
     on_routers mcaudit-monitor --keep 300 > "$scratch/watched" 2> "$scratch/said"
     watched=$?
-    sed -e 's/20[0-9]*T[0-9]*Z/TIME/' -e 's/ [0-9]* s old$/ N s old/' "$scratch/watched"
+    sed -e 's/20[0-9]*T[0-9]*Z/TIME/' -e 's/ [0-9]* s old$/ N s old/' -e 's/^\(packets: not looked at:\) [0-9]/\1 N/' \
+        -e 's/\(by the last 4 sets\), .*/\1)/' "$scratch/watched"
     return "$watched"
 }
 
@@ -147,6 +148,7 @@ TIME: verdict yes, flows 2, right 2, wrong 0, unwanted 0, unlisted 0
 tables N s old
 reports N s old
 decided, not gathered: 10.77.0.0-24 10.77.1.0-24 10.77.2.0-24 10.77.3.0-24 10.77.4.0-24 10.77.6.0-24 10.77.8.0-24
+packets: not looked at: N of 4 sets, each read after the one before
 no audit before it is there to compare with
 END
 
@@ -177,6 +179,7 @@ TIME: verdict no, flows 2, right 1, wrong 1, unwanted 0, unlisted 0
 tables N s old
 reports N s old
 decided, not gathered: 10.77.0.0-24 10.77.1.0-24 10.77.2.0-24 10.77.3.0-24 10.77.4.0-24 10.77.6.0-24 10.77.8.0-24
+packets flow on 1 of 1 flows (by the last 4 sets)
 wrong: 10.77.0.50 239.1.2.3 Duplicate 10.77.4.0-24
 changed since TIME:
 flow 10.77.0.50 239.1.2.3: new fault: Duplicate 10.77.4.0-24
@@ -187,13 +190,13 @@ flow 10.77.0.50 239.1.2.3: new fault: Duplicate 10.77.4.0-24
 verdict no, was yes
 END
 expect 1 "$mcaudit" audit "$site" --faults <<'END'
-flow 10.77.0.50 239.1.2.3 ttl 16 no certificate
-found ttl 255 Duplicate 10.77.4.0-24
+flow 10.77.0.50 239.1.2.3 ttl 16 wrong: Duplicate 10.77.4.0-24
+  shown by packets sent with ttl 4 or more
   forwarded onto 10.77.4.0-24 by r4 eth1: entry (10.77.0.50,239.1.2.3) from eth0 to eth1 in cache-r4
   forwarded onto 10.77.4.0-24 by r5 eth1: entry (10.77.0.50,239.1.2.3) from eth0 to eth1 in cache-r5
   fix: remove eth1 from this entry of r5; every LAN reached now is still reached
   then audit again
-summary flows 2 right 1 wrong 1 unwanted 0
+summary flows 2 right 1 wrong 1 unknown 0 unwanted 0
 verdict no
 END
 make_page duplicate 1
@@ -213,15 +216,15 @@ change_rows r3 add eth1 "$sender" 239.1.2.3 eth0
 expect_counts 9 9 6
 collect
 expect 1 "$mcaudit" audit "$site" --faults <<'END'
-flow 10.77.0.50 239.1.2.3 ttl 16 no certificate
-found ttl 255 Loop 10.77.1.0-24
+flow 10.77.0.50 239.1.2.3 ttl 16 wrong: Loop 10.77.1.0-24
+  shown by packets sent with ttl 6 or more
   10.77.1.0-24 to 10.77.2.0-24 through r2, eth0 to eth1: entry (10.77.0.50,239.1.2.3) from eth0 to eth1 in cache-r2
   10.77.2.0-24 to 10.77.4.0-24 through r4, eth0 to eth1: entry (10.77.0.50,239.1.2.3) from eth0 to eth1 in cache-r4
   10.77.4.0-24 to 10.77.3.0-24 through r5, eth1 to eth0: entry (10.77.0.50,239.1.2.3) from eth1 to eth0 in cache-r5
   10.77.3.0-24 to 10.77.1.0-24 through r3, eth1 to eth0: entry (10.77.0.50,239.1.2.3) from eth1 to eth0 in cache-r3
   fix: remove eth0 from this entry of r3; every LAN reached now is still reached
   then audit again
-summary flows 2 right 1 wrong 1 unwanted 0
+summary flows 2 right 1 wrong 1 unknown 0 unwanted 0
 verdict no
 END
 make_page loop 1
@@ -240,11 +243,11 @@ change_rows r9 add eth0 "$sender" 239.1.2.3 eth1 alone0
 collect
 stray=$(at r9 sed -n 's/^ *\([0-9]*\) alone0 .*/\1/p' /proc/net/ip_mr_vif)
 expect 1 "$mcaudit" audit "$site" --faults <<END
-flow 10.77.0.50 239.1.2.3 ttl 16 no certificate
-found ttl 255 Stray r9 $stray
+flow 10.77.0.50 239.1.2.3 ttl 16 wrong: Stray r9 $stray
+  shown by packets sent with ttl 8 or more
   alone0 of r9 is on no listed LAN
   entry (10.77.0.50,239.1.2.3) from eth0 to eth1 alone0 in cache-r9
-summary flows 2 right 1 wrong 1 unwanted 0
+summary flows 2 right 1 wrong 1 unknown 0 unwanted 0
 verdict no
 END
 make_page stray 1
@@ -257,27 +260,25 @@ change_rows r8 remove eth0 "$sender" 239.1.2.3 eth1
 expect_counts 3 0 0
 collect
 expect 1 "$mcaudit" audit "$site" --faults <<'END'
-flow 10.77.0.50 239.1.2.3 ttl 16 no certificate
-found ttl 255 Missed 10.77.7.0-24
+flow 10.77.0.50 239.1.2.3 ttl 16 wrong: Missed 10.77.7.0-24
   reaches: r8
   10.77.7.0-24: r8 receives it from 10.77.6.0-24 and does not forward it to eth1: entry (10.77.0.50,239.1.2.3) from eth0 to none in cache-r8
   10.77.7.0-24: expected from here by r9
   10.77.7.0-24: no entry for this flow forwards onto it
   also missed: 10.77.9.0-24
-summary flows 2 right 1 wrong 1 unwanted 0
+summary flows 2 right 1 wrong 1 unknown 0 unwanted 0
 verdict no
 END
 make_page missed 1
 expect 1 "$mcaudit" audit "$site" --faults --without r8 <<'END'
-flow 10.77.0.50 239.1.2.3 ttl 16 no certificate
-found ttl 255 Missed 10.77.7.0-24
+flow 10.77.0.50 239.1.2.3 ttl 16 unknown: Missed 10.77.7.0-24
   by the known tables no router of this search receives it
   10.77.7.0-24: r8 is excluded: its tables are unknown
   10.77.7.0-24: expected from here by r9
   also missed: 10.77.9.0-24
-without r8
-summary flows 2 right 1 wrong 1 unwanted 0
-  left out: r8: the verdict is no, since a yes is said of whole domains only
+excluded r8
+summary flows 2 right 0 wrong 0 unknown 2 unwanted 0
+  excluded: r8: the verdict is no; a yes requires all routers
 verdict no
 END
 echo '- The remedy of the guide: the row of r8 gets eth1.'
@@ -293,11 +294,10 @@ phyint eth1 enable ttl-threshold 12
 END
 collect
 expect 1 "$mcaudit" audit "$site" --faults <<'END'
-flow 10.77.0.50 239.1.2.3 ttl 16 no certificate
-found ttl 16 Missed 10.77.9.0-24
+flow 10.77.0.50 239.1.2.3 ttl 16 wrong: Missed 10.77.9.0-24
   10.77.9.0-24 is reached by packets sent with ttl 19 or more; this flow is listed with ttl 16
   stopped at r9 eth1: ttl 10 is not above threshold 12
-summary flows 2 right 1 wrong 1 unwanted 0
+summary flows 2 right 1 wrong 1 unknown 0 unwanted 0
 verdict no
 END
 make_page threshold 1

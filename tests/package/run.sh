@@ -33,17 +33,17 @@ status=0
 in_room mcaudit audit /tmp/second-router > "$room/tmp/audited" || status=$?
 [ "$status" -eq 1 ] || fail "an audit of a fault ended with $status"
 cmp "$room/tmp/audited" - <<'END' || fail 'the audit says something else'
-flow 10.0.0.5 239.1.2.3 ttl 3 no certificate
-found ttl 255 Duplicate l2
+flow 10.0.0.5 239.1.2.3 ttl 3 wrong: Duplicate l2
+  shown by packets sent with ttl 3 or more
   forwarded onto l2 by r3 eth1: entry (10.0.0.5,239.1.2.3) from eth0 to eth1 in cache-r3
   forwarded onto l2 by r2 eth1: entry (10.0.0.5,239.1.2.3) from eth0 to eth1 in cache-r2
   fix: remove eth1 from this entry of r2; every LAN reached now is still reached
   then audit again
-summary flows 1 right 0 wrong 1 unwanted 0
+summary flows 1 right 0 wrong 1 unknown 0 unwanted 0
 verdict no
 END
 in_room mcaudit audit /tmp/network | grep -qx 'verdict yes' || fail 'an audit of what is right says no yes'
-for tool in collect diff draft monitor page query reports site; do
+for tool in collect diff draft monitor page premises query reports site; do
     in_room "mcaudit-$tool" --version
 done
 for file in man/man1/mcaudit.1.gz man/man1/mcaudit-site.1.gz bash-completion/completions/mcaudit-site \

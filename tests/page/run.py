@@ -5,14 +5,17 @@
 
 Of each folder of examples/faults the page has to open without a complaint and without asking for anything else, and to
 show each line that explains its fault. Then: the search narrows the table; a click on a flow, and the keys alone, draw
-its way and show what explains it; the steps of a travel go back and forth; names that are markup are text; the policy
-lets no other script run; it prints; what it shows can be read on a light page, a dark one and printed; and a page of 4,096 flows is there in 2 s, the best of three times: of a processor,
-and by the clock too where the machine has nothing else to do. What audits the folders is tests/audited/answers.py. With PICTURES, the pictures of docs/ are written into that folder.
+its path and show what explains it; the steps of a travel go back and forth; what 0.2.0 answered is shown as far as it
+says it; names that are markup are text; the policy lets no other script run; it prints; what it shows can be read on a
+light page, a dark one and printed; and a page of 4,096 flows is there in 2 s, the best of three times: of a processor,
+and by the clock too where the machine has nothing else to do. What audits the folders is tests/audited/answers.py. With
+PICTURES, the pictures of docs/ are written into that folder.
 
 The last line counts: `N passed, M failed`. The status is 0 if none failed.
 """
 import json
 import os
+import re
 import subprocess
 import sys
 import tempfile
@@ -21,10 +24,11 @@ import time
 sys.dont_write_bytecode = True
 HERE = os.path.dirname(os.path.abspath(__file__))
 TOP = os.path.join(HERE, "..", "..")
-sys.path += [os.path.join(TOP, "tests", "audited"), os.path.join(TOP, "tests", "tools")]
+sys.path += [os.path.join(TOP, "tests", *it) for it in ((), ("audited",), ("tools",))]
 import answers
 import large
 from browser import Page
+from case_files import text_at
 from page import FAULTS, HOSTILE, TOOL, WORDS, turned
 
 LIMIT = 2.0  # seconds until a page of the most flows can be used
@@ -103,14 +107,16 @@ def look_at_faults(check, browser):
         text = " ".join(browser.run(TEXT).split())
         lines = [line.strip() for line in audited(name) if line.startswith("  ")]
         for line in lines:
-            if not line.startswith(("wanted", "left out", "no multicast group")):
+            if not line.startswith(("wanted", "excluded", "no multicast group")):
                 check.that(f"{name}: {line}", " ".join(line.split()) in text)
         verdict = audited(name)[-1].split()[1]
         check.that(f"{name}: verdict", browser.run("document.querySelector('h1').innerText") == f"Verdict: {verdict}")
-        finding = next((line.split(" ", 3)[3].strip() for line in audited(name) if line.startswith("found")), "right")
+        found = re.search(r"(?:wrong|unknown): .*", audited(name)[0])
+        finding = found[0] if found else "right"
         check.that(f"{name}: finding", finding in browser.run("document.getElementById('finding').innerText"))
-        is_wrong = verdict == "no"
+        is_wrong = finding.startswith("wrong")
         check.that(f"{name}: faults in the graph", bool(browser.run(MARKED.format("fault"))) == is_wrong)
+        check.that(f"{name}: doubts in the graph", bool(browser.run(MARKED.format("doubt"))) or finding[:7] != "unknown")
 
 
 def look_at_steps(check, browser):
@@ -130,6 +136,20 @@ def look_at_steps(check, browser):
     check.that("the way so far", sorted(browser.run(MARKED.format("way"))) == ["e0", "e1", "p0", "p1", "r0"])
     browser.click(".stepper button:nth-child(4)")
     check.that("the last step again", browser.run(said) == "step 5 of 5")
+    check.that("where a copy goes", "sends 1 copy onto annex by eth1" in browser.run(TEXT))
+    browser.open(os.path.join(check.folder, "stray-to-the-register-vif.html"))
+    check.that("by what it leaves", "1 copy leaves the known domain by pimreg" in browser.run(TEXT))
+
+
+def look_at_format_1(check, browser):
+    """Opens the page of what 0.2.0 answered, which doesn't say where copies went and came from."""
+    lines = text_at("tests/tools/monitor/kept.base/before.json").decode().splitlines(keepends=True)
+    browser.open(check.made("kept", lines))
+    check.that("what explains a fault, in brief", "sent onto: hall r3 eth1" in browser.run(TEXT))
+    browser.open(os.path.join(check.folder, "kept.html#flow-1"))
+    check.that("who sends", "hall by r2, to eth1; reached with ttl 3 or more" in browser.run(TEXT))
+    check.that("by what", sorted(browser.run(MARKED.format("way"))) == ["e1", "e4", "p1", "p4", "r0", "r1"])
+    check.that("no complaint", not browser.said)
 
 
 def look_at_table(check, browser):
@@ -262,8 +282,8 @@ def main():
     """Tries all. Returns the status."""
     with tempfile.TemporaryDirectory(prefix="mcaudit-page-") as folder, Page(1440, 940) as browser:
         check = Check(folder)
-        for look in (look_at_faults, look_at_steps, look_at_table, look_at_hostile_names, look_at_policy, look_at_prints,
-                     look_at_modes, look_at_most_flows):
+        for look in (look_at_faults, look_at_steps, look_at_format_1, look_at_table, look_at_hostile_names,
+                     look_at_policy, look_at_prints, look_at_modes, look_at_most_flows):
             look(check, browser)
         if len(sys.argv) > 1:
             take_pictures(check, browser, sys.argv[1])

@@ -6,8 +6,8 @@
 The page of each folder of examples/faults has to have the verdict, each flow, each line that explains it, each step of
 its travel and each unlisted flow, as tests/audited/answers.py works the text out. It has to be one file that asks for
 nothing from elsewhere, with no elements but its own, whatever the names of the domain are. An answer of which something
-is turned at random makes a page or is refused. And of random domains each arrow that a travel's steps show is one that
-the packet took. Each colour of its style has another one for a dark page, and texts can be read in both.
+is turned at random makes a page or is refused. And of random domains the arrows of a travel's steps are those that the
+packet took, and those of a path the entries' own. Each colour of its style has another one for a dark page, and texts can be read in both.
 
 PROGRAM audits the folders. Without it that is the built program, where that is there and knows the words, and else
 answers.py. The last line counts: `N passed, M failed`. The status is 0 if none failed.
@@ -141,13 +141,13 @@ def shown_lines(read):
     for flow in data["flows"]:
         words = f"flow {flow['source']} {flow['group']} ttl {flow['ttl']}"
         if "kind" not in flow:
-            said = "yes" if data["right"] == "right" else data["right"]
+            said = "yes" if flow["state"] == "right" else data["right"]
             names = [data["lans"][lan] for lan in flow["wanted"]]
             lines += [f"{words} {said} copies {flow['copies']}",
                       f"  wanted {len(names)}: " + (answers.some(names) if names else "no report asks for it")]
             continue
         place = flow["place"].split(" (")[0]
-        lines += [f"{words} no certificate", f"found ttl {flow['found_ttl']} {flow['kind']} {place}"]
+        lines.append(f"{words} {flow['state']}: {flow['kind']} {place}")
         reason = data["reasons"][flow["why"]][1:]
         lines += ["  " + text.replace(data["mark"], f"({flow['source']},{flow['group']})") for text, _ in reason]
         for port, ttl, outcome, copies, strays, _ in data["travels"][flow["travel"]][1:]:
@@ -176,7 +176,7 @@ def look_at_faults(check):
         read = check.whole(name, page)
         check.that(f"{name}: nothing from elsewhere: {ELSEWHERE.findall(page)}", not ELSEWHERE.search(page))
         lines = [with_devices(audit.domain, it) for it in audit.output().splitlines()]
-        end = next(n for n, it in enumerate(lines) if it.startswith(("unlisted", "without", "summary")))
+        end = next(n for n, it in enumerate(lines) if it.startswith(("unlisted", "excluded", "summary")))
         check.that(f"{name}: flows, explanations and steps", shown_lines(read) == lines[:end])
         check.that(f"{name}: status", status == audit.status)
         said = "\n".join(read.texts)
@@ -188,7 +188,7 @@ def look_at_faults(check):
             check.that(f"{name}: unlisted", row in said)
             check.that(f"{name}: byte order", (group >> 24 in range(224, 240)) != ("is the byte order" in said))
         for router in audit.left_out:
-            check.that(f"{name}: left out", f"Left out: {router}." in said)
+            check.that(f"{name}: excluded", f"Excluded: {router}." in said)
 
 
 def turned(value, names):
@@ -249,28 +249,49 @@ def look_at_turned_answers(check, tool):
             check.that(f"turn {number} of {example}", True)
 
 
-def look_at_travels(check, tool):
-    """Looks whether the steps of random travels show only what the packets did."""
-    known, all_sent = 0, 0
+def look_at_steps(check, name, answer, said, shown):
+    """Looks whether steps show where each copy of a travel went. Returns how many that are."""
+    count = 0
+    for event, sent in zip(said.travel.events, shown):
+        row = answer.domain.exact(answer.domain.routers.index(event["router"]), said.flow)
+        pairs = row.pairs if event["outcome"] == "sent" else []
+        wanted = [vif for vif, threshold in sorted(pairs) if event["ttl"] > threshold]
+        check.that(f"{name}: {event} shows {sent}, not {wanted}", sent == wanted)
+        count += len(wanted)
+    return count
+
+
+def look_at_paths(check, tool):
+    """Looks whether the steps of random travels show where each copy went, and the entries of paths by which vif it came
+    to its router; and that nothing of this is shown where an answer doesn't say it."""
+    count = 0
     for number in range(DOMAINS):
         with tempfile.TemporaryDirectory(prefix="mcaudit-page-") as folder:
             random_domains.Made(number).write(folder)
             answer = answers.audit([folder, "--json", "--travel"])
-        audit = tool.audit_of(map(json.loads, answer.output().splitlines()))
+        lines = list(map(json.loads, answer.output().splitlines()))
+        audit = tool.audit_of(lines)
+        vifs = [port.vif for port in audit.domain.ports]
         for said, flow in zip(answer.answers, audit.flows):
-            if said.is_right:
-                continue
-            for event, step in zip(said.travel.events, json.loads(list(audit.travels)[flow["travel"]])[1:]):
-                router = answer.domain.routers.index(event["router"])
-                row = answer.domain.exact(router, said.flow)
-                pairs = row.pairs if event["outcome"] == "sent" else []
-                sent = {vif for vif, threshold in pairs
-                        if event["ttl"] > threshold and answer.domain.placed(router, vif) is not None}
-                shown = {audit.domain.ports[port].vif for port in step[5]}
-                check.that(f"domain {number} flow {flow['number']}: {event} shows {shown}, not {sent}", shown <= sent)
-                known, all_sent = known + len(shown), all_sent + len(sent)
-    print(f"arrows of travels: {known} of {all_sent} are known")
-    check.that("most arrows are known", known > all_sent * 0.8 > 0)
+            name = f"domain {number} flow {flow['number']}"
+            if "kind" not in flow:
+                for lan, _, _, port, start in audit.trees[flow["tree"]]:
+                    row = port is not None and answer.domain.exact(audit.domain.ports[port].router, said.flow)
+                    wanted = row.incoming if row else None
+                    check.that(f"{name}: {lan} from {wanted}", wanted == (None if start is None else vifs[start]))
+                    count += wanted is not None
+            else:
+                steps = json.loads(list(audit.travels)[flow["travel"]])[1:]
+                count += look_at_steps(check, name, answer, said, [[vifs[port] for port in step[5]] for step in steps])
+        for line in lines:
+            for one in [*line.get("entries", []), *line.get("events", [])]:
+                one.pop("from_vif", one.pop("onto", None))
+        audit = tool.audit_of(lines)
+        arrows = [step[5] for text in audit.travels for step in json.loads(text)[1:]]
+        check.that(f"domain {number}: nothing is guessed", not any(arrows) and
+                   all(entry[4] is None for tree in audit.trees for entry in tree))
+    print(f"arrows: {count}")
+    check.that("there are arrows", count > DOMAINS)
 
 
 def colours_of(block):
@@ -338,7 +359,7 @@ def main():
         look_at_faults(check)
         look_at_hostile_names(check, tool)
         look_at_turned_answers(check, tool)
-        look_at_travels(check, tool)
+        look_at_paths(check, tool)
     print(f"{check.passed} passed, {check.failed} failed")
     return 1 if check.failed or not check.passed else 0
 

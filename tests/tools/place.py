@@ -125,10 +125,14 @@ class Place:
             self.write(path, "".join(open(path, encoding="ascii").readlines()[:1]))
         os.symlink("site.sets/20260101T000000Z", self.at("site"))
 
+    def audited(self, *words):
+        """Returns what an audit with these words answers."""
+        done = subprocess.run([PROGRAM, "audit", *words], cwd=self.folder, capture_output=True, check=False)
+        return done.stdout.decode()
+
     def verdict(self):
         """Returns the last line of an audit of `site`."""
-        done = subprocess.run([PROGRAM, "audit", "site"], cwd=self.folder, capture_output=True, check=False)
-        return done.stdout.decode().splitlines()[-1]
+        return self.audited("site").splitlines()[-1]
 
 
 def framed(*pairs):

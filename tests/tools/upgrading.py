@@ -20,7 +20,7 @@ import time
 sys.dont_write_bytecode = True
 sys.path.insert(0, os.path.dirname(os.path.abspath(__file__)))
 import packets as p  # noqa: E402 pylint: disable=wrong-import-position
-from place import GOOD, HERE, LISTED, NETWORK, TOOLS, TOP, collected, framed, kept, run_cases  # noqa: E402
+from place import GOOD, HERE, LAST, LISTED, NETWORK, TOOLS, TOP, collected, framed, kept, run_cases  # noqa: E402
 
 with open(os.path.join(TOP, "docs", "GUIDE.md"), encoding="utf-8") as opened:
     GUIDE = opened.read()
@@ -58,13 +58,30 @@ def restricted_keys(place):
 
 @line("Sets, `collected.json`, `audit.json` and `site.monitor.json` of 0.2.0 are read.")
 def sets_of_before(place):
-    """The monitor goes on from them, and a new set has the new version."""
+    """The monitor goes on from them, and a new set has the new version, and its audit the new format."""
     ways = place.routers("r1", "r2")
     kept(place)
     assert json.loads(place.read("site/collected.json"))["version"] == 1
     assert place.run("monitor", "--pause", "0", "site", *ways) == 0, place.said
     assert "nothing changed since" in place.said and "can't be read" not in place.said, place.said
     assert json.loads(place.read("site/collected.json"))["version"] == 2
+    assert [json.loads(place.read(it).split("\n")[0])["format"] for it in (
+        f"site.sets/{LAST}/audit.json", "site/audit.json")] == [1, 2]
+
+
+@line("`mcaudit-collect --facts` brings `facts-NAME`")
+def facts_beside(place):
+    """In a run of its own, so that a restricted key's tables come as before; and four sets stay, of which the monitor
+    says whether packets flow."""
+    ways = place.routers("r1", "r2")
+    kept(place)
+    assert place.run("collect", "--pause", "0", "--facts", "site", *ways) == 0, place.said
+    there = {it.partition("-")[0] for it in os.listdir(place.at("site"))}
+    assert {"vif", "cache", "address", "route", "facts"} <= there, there
+    for _ in range(2):
+        assert place.run("monitor", "--pause", "0", "--keep", "1", "site", *ways) == 0, place.said
+        assert "\npackets" in place.said, place.said
+    assert len(os.listdir(place.at("site.sets"))) >= 4
 
 
 @line("`--plugin` warns by default")
@@ -153,6 +170,22 @@ def pythons(place):
         os.symlink(path, place.at("router", name))
     place.script("plain", f"R=$1 PATH={place.at('router')} exec /bin/sh")
     collected(place, ["r1=!plain r1; :", "r2=!plain r2; :"])
+
+
+@line("What reads the text or the JSON of `audit`")
+def readers_of_audits(place):
+    """The JSON and the text of a fault have what the changelog names, and not what they had."""
+    with open(os.path.join(TOP, "CHANGELOG.md"), encoding="utf-8") as file:
+        section = file.read().split("\nUpgrading\n")[1].split("\n## ")[0]
+    place.site("r2")
+    text = place.audited("--without", "r2", "site") + place.audited("site")
+    said = place.audited("--json", "--travel", "site")
+    for new, old in (("wrong: Missed l2", "no certificate"), ("unknown: Missed l2", "found ttl"),
+                     ("\nexcluded r2\n", "\nwithout r2\n"), ("  excluded: r2", "  left out: "), ("unknown 1", "row (")):
+        assert new in text and old not in text, (new, old, text)
+    for key in ("name", "order", "unknown", "onto", "wanted", "shown_from", "text"):
+        assert f'"{key}":' in said and f"`{key}`" in section, (key, said)
+    assert '"format":2' in said and "`format` is 2" in section and '"from_vif":' in place.audited("--json", NETWORK)
 
 
 if __name__ == "__main__":

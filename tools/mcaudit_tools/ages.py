@@ -1,4 +1,4 @@
-"""How old what an audit judges is: the tables of its routers, and its LANs' lists of reports."""
+"""How old what is judged is: the tables of routers, their facts, and the LANs' lists of reports."""
 import contextlib
 import os
 import time
@@ -14,8 +14,8 @@ class Ages:
     def __init__(self, folder, known, routers=None, lans=None):
         """Takes the set's folder, which is read at once, what is told of its files, and the names of what is judged;
         all, where that isn't known."""
-        self.files = {"vif": [], "cache": [], "igmp": []}  # of each kind, whose file it is, and where it comes from
-        judged, entries = {"vif": routers, "cache": routers, "igmp": lans}, []
+        judged, entries = {"vif": routers, "cache": routers, "facts": routers, "igmp": lans}, []
+        self.files = {kind: [] for kind in judged}  # of each kind, whose file it is, and where it comes from
         with contextlib.suppress(OSError):
             is_copied = origins.is_copy(folder, known)
             entries = sorted(os.scandir(folder), key=lambda it: it.name)
@@ -39,6 +39,10 @@ class Ages:
         """Returns when each router's tables were read."""
         return self.times("vif", "cache")
 
+    def facts(self):
+        """Returns when each router's facts were asked for."""
+        return self.times("facts")
+
     def reports(self):
         """Returns when each LAN's reports were gathered."""
         return self.times("igmp")
@@ -48,9 +52,9 @@ class Ages:
         return sorted({name for name, it in self.files["igmp"] if it.by == origins.STATIC})
 
     def sentences(self):
-        """Returns how old the oldest of the tables and of the lists are, and which lists were decided."""
+        """Returns how old the oldest of the tables, of the lists and of the facts are, and which lists were decided."""
         now, found = time.time(), []
-        for what, times in (("tables", self.tables()), ("reports", self.reports())):
+        for what, times in (("tables", self.tables()), ("reports", self.reports()), ("facts", self.facts())):
             if LATER in times.values():
                 found.append(f"{what} of a later time than now")
             elif times:

@@ -1,4 +1,6 @@
-"""What `mcaudit audit --json` prints, read in one place: line by line, in bounds, and whole or not at all."""
+"""What `mcaudit audit --json` prints, read in one place: line by line, in bounds, and whole or not at all. Of format 1,
+which 0.2.0 wrote, each object is made one of format 2, without what format 1 doesn't say."""
+import collections
 import contextlib
 import io
 import json
@@ -11,7 +13,7 @@ from mcaudit_tools.programs import run
 AUDITING = 300  # seconds that an audit may take
 MOST_BYTES = 256 << 20
 MOST_LINE = 16 << 20
-COUNTS = "flows", "right", "wrong", "unwanted"
+COUNTS = "flows", "right", "wrong", "unknown", "unwanted"
 
 
 class NoAudit(Refused):
@@ -28,33 +30,55 @@ class Lines:
 
     def __init__(self):
         """Begins before the first one."""
-        self.flows, self.wrong, self.doubtful = 0, 0, 0
-        self.has_domain, self.summary, self.verdict = False, None, None
+        self.format, self.summary, self.verdict = None, None, None
+        self.flows = collections.Counter()  # by whether they are right, or None, where that isn't known
+        self.missed = 0  # flows of format 1 that are counted as wrong, of which it isn't known
 
     def see(self, value):
-        """Sees that an object has its place among the others, and that the counts and the verdict are theirs."""
-        if self.has_domain == ("domain" in value) or (self.summary is not None) != ("verdict" in value) or self.verdict:
+        """Sees that an object has its place among the others, and that the counts and the verdict are theirs. Returns
+        it as format 2 has it."""
+        has_place = ("domain" in value) == (self.format is None) and ("verdict" in value) == (self.summary is not None)
+        if self.verdict or not has_place:
             raise NoAudit("no such line stands here in what audit prints")
         if "domain" in value:
-            if value["format"] != 1:
+            self.format = value["format"]
+            if self.format not in (1, 2):
                 raise NoAudit("it is of another format")
-            self.has_domain = True
-        elif "flow" in value:
-            self.flows += 1
-            self.wrong += value["right"] is False
-            self.doubtful += value["right"] is None
-        elif "summary" in value:
-            self.summary = value["summary"]
-            if not all(type(self.summary[it]) is int for it in COUNTS):  # pylint: disable=unidiomatic-typecheck
-                raise TypeError
-            if self.summary["flows"] != self.flows:
-                raise NoAudit("it doesn't tell all flows: it was made with --faults, or lines are missing")
-            if self.summary["wrong"] != self.wrong:
-                raise NoAudit("it counts other flows as wrong than it tells")
-        elif "verdict" in value:
-            self.verdict = {"yes": "yes", "no": "no"}[value["verdict"]]
-            if self.verdict == "yes" and (self.wrong or self.doubtful):
+        found = self.as_format_2(value) if self.format == 1 else value
+        if "flow" in found:
+            self.flows[found["right"]] += 1
+        elif "summary" in found:
+            self.summary = found["summary"]
+            self.check_summary()
+        elif "verdict" in found:
+            self.verdict = {"yes": "yes", "no": "no"}[found["verdict"]]
+            if self.verdict == "yes" and self.flows[True] != sum(self.flows.values()):
                 raise NoAudit("it is a yes with a flow that is wrong or not known")
+        return found
+
+    def check_summary(self):
+        """Sees that the summary counts the flows that were told."""
+        if not all(type(self.summary[it]) is int for it in COUNTS):  # pylint: disable=unidiomatic-typecheck
+            raise TypeError
+        if self.summary["flows"] != sum(self.flows.values()):
+            raise NoAudit("it doesn't tell all flows: it was made with --faults, or lines are missing")
+        if [self.summary["wrong"], self.summary["unknown"]] != [self.flows[False], self.flows[None]]:
+            raise NoAudit("it counts other flows as wrong than it tells")
+
+    def as_format_2(self, value):
+        """Returns an object of format 1 as format 2 has it. There a flow isn't known to be wrong where the search for a
+        LAN that was missed came to a router that is excluded, and one without a fault isn't right then."""
+        if "domain" in value:
+            routers = [{"name": it} for it in value["domain"]["routers"]]
+            return {**value, "domain": {**value["domain"], "routers": routers}}
+        if "finding" in value and any(it["kind"] == "left_out" for it in value["why"]):
+            self.missed += 1
+            return {**value, "right": None}
+        if "summary" in value:
+            counts, unknown = value["summary"], self.flows[None]
+            return {"summary": {**counts, "right": counts["right"] + self.missed - unknown, "unknown": unknown,
+                                "wrong": counts["wrong"] - self.missed}}
+        return value
 
 
 def lines_of(file):
@@ -70,7 +94,7 @@ def lines_of(file):
             value = json.loads(line, parse_int=whole, parse_float=refuse, parse_constant=refuse)
             if not isinstance(value, dict):
                 raise TypeError
-            lines.see(value)
+            value = lines.see(value)
         except NoAudit as fault:
             raise NoAudit(f"line {count}: {fault}") from fault
         except (ValueError, KeyError, TypeError, AttributeError, RecursionError) as fault:

@@ -14,7 +14,7 @@ import sys
 import threading
 import time
 
-from mcaudit_tools import answers, origins, topology, ways
+from mcaudit_tools import answers, facts, origins, topology, ways
 from mcaudit_tools.common import Ended, Failed, Parser, Wrong, printable, say
 from mcaudit_tools.programs import RUNNING, run
 from mcaudit_tools.sets import Site
@@ -56,9 +56,10 @@ OPTIONS = [
     ("--timeout", "SECONDS", "give a router up when a reading takes longer (60)", 1, 999, 60),
     ("--at-once", "N", "read at most N routers side by side, 1 to 100 (8)", 1, 100, 8),
     ("--ssh", "COMMAND", f"reach a HOST by `COMMAND HOST sh` ({ways.SSH})"),
-    ("--facts", None, "bring the router's addresses and routes too, as address-NAME and route-NAME: what `ip -j "
-     "address` says, or where it can't, `ip -o -4 address`, and /proc/net/route. mcaudit-draft reads them; what a "
-     "router has not is empty"),
+    ("--facts", None, "bring what else decides what a router forwards too, as facts-NAME, which mcaudit-premises "
+     "judges (rp_filter, links, filters, counters ..; as root it has the filters), and those of the last set as "
+     "earlier-NAME; addresses and routes for mcaudit-draft, as address-NAME and route-NAME. What a router has not is "
+     "left out"),
     ("--shell", "NAME", "collect nothing: run a shell on the router NAME by its way, with this standard input and "
      "output")]
 FILES = {  # the tables that a set has
@@ -76,6 +77,7 @@ class Collected:
     line: str = ""
     folder: str = ""
     time: int = 0
+    facts_time: int = 0
     identity: "bytes | None" = None  # the boot and the network namespace, where the router says them
 
 
@@ -177,6 +179,8 @@ class Reading:
             if not fault:
                 parts = [self.identity_part(it) for it in answers.IDENTITY]
                 found.identity = b" ".join(parts) if all(parts) else None
+        if wanted:
+            found.facts_time = facts.ask(self.words, self.router, self.folder)
         return found
 
     def identity_part(self, name):
@@ -248,6 +252,8 @@ def new_files(words, found):
         for table in tables_of(words) if not one.fault else ():
             files[f"{FILES[table]}-{name}"] = (os.path.join(one.folder, table),
                                                origins.Origin(origins.COLLECT, name, one.time))
+        if words.facts and not one.fault:
+            files.update(facts.files_of(words.site.folder(), name, one.folder, one.facts_time))
     return files
 
 
@@ -273,7 +279,7 @@ def publish(words, found, scratch):
     """Makes the new set. Returns whether all routers are in it, and in its topology."""
     missing = [name for name, one in found.items() if one.fault]
     count = f"{len(words.all) - len(missing)} of {len(words.all)} routers collected"
-    replaced = tuple(f"{FILES[it]}-" for it in tables_of(words))  # also of routers that were not collected
+    replaced = (*(f"{FILES[it]}-" for it in tables_of(words)), *(facts.PREFIXES if words.facts else ()))
     folder = words.site.publish(new_files(words, found), lambda it: it.startswith(replaced), scratch,
                                 lambda folder: show(words, f"{count}: {folder}"))
     if missing:

@@ -13,7 +13,8 @@ from mcaudit_tools import audit as audits
 from mcaudit_tools.common import Failed, Parser, Refused, find_tool, say
 from mcaudit_tools.files import printing
 
-UNKNOWN = "no fault known"  # of a flow without a fault, where routers are left out
+NO_FAULT = "no fault known"  # of a flow without a fault, where routers are excluded
+UNKNOWN = "unknown: "  # before what is found of a flow that isn't known to be wrong
 ABOUT = """Tells what changed from OLD to NEW, a line each: faults that came or went, which stand first, flows that are
 listed now or no longer, the LANs that a flow reaches and who forwards onto them, how many LANs carry a copy, which LANs
 want the flow, and the sources and groups that stand in the caches and are no flow's.
@@ -31,10 +32,10 @@ Examples:
 class Audit:
     """What an audit says."""
     devices: "dict | None" = None  # by router and vif
-    ways: dict = dataclasses.field(default_factory=dict)  # by tree: of each LAN who sends onto it, and its need
+    ways: dict = dataclasses.field(default_factory=dict)  # by tree: what `sender` says of each LAN
     flows: dict = dataclasses.field(default_factory=dict)  # by source and group
     unlisted: dict = dataclasses.field(default_factory=dict)  # by group and source: routers
-    left_out: list = dataclasses.field(default_factory=list)
+    excluded: list = dataclasses.field(default_factory=list)
     is_whole: bool = True  # whether it tells all pairs that are no flow's
     verdict: "str | None" = None
 
@@ -53,10 +54,10 @@ class Audit:
         elif "unlisted_more" in line:
             self.is_whole = False
         elif "without" in line:
-            self.left_out = names(line["without"])
+            self.excluded = names(line["without"])
         elif "verdict" in line:
             self.verdict = line["verdict"]
-        elif line["summary"]["flows"] != len(self.flows):
+        elif "summary" in line and line["summary"]["flows"] != len(self.flows):
             raise Refused("it has a flow twice")
 
     def vif(self, router, vif):
@@ -65,19 +66,24 @@ class Audit:
         return f"{router} vif/{vif}" if device is None else f"{router} {device}"
 
     def sender(self, entry):
-        """Returns who sends onto the LAN of an entry, and the least time to live that reaches it."""
-        return entry["router"] and self.vif(entry["router"], entry["vif"]), typed(int, entry["need"])
+        """Returns who sends onto the LAN of an entry, the least time to live that reaches it, and by which interface
+        the sender takes it in, where format 2 says it."""
+        start = entry.get("from_vif")
+        return (entry["router"] and self.vif(entry["router"], entry["vif"]), typed(int, entry["need"]),
+                None if start is None else self.vif(entry["router"], start))
 
     def flow(self, line):
         """Returns what is told of a flow, as the parts that are compared."""
-        if line["right"] is not False:
-            return {"ttl": typed(int, line["ttl"]), "fault": None, "said": "right" if line["right"] else UNKNOWN,
-                    "copies": typed(int, line["copies"]), "wanted": names(line["wanted"]),
-                    "way": self.ways[line["tree"]]}
+        is_told = "wanted" in line or "finding" not in line  # format 1 doesn't say it of a flow with a fault
+        common = {"ttl": typed(int, line["ttl"]), "wanted": names(line["wanted"]) if is_told else None}
+        if "finding" not in line:
+            return {**common, "fault": None, "said": "right" if line["right"] else NO_FAULT,
+                    "copies": typed(int, line["copies"]), "way": self.ways[line["tree"]]}
         finding = line["finding"]
         place = self.vif(finding["router"], finding["vif"]) if "vif" in finding else typed(str, finding["lan"])
         told = without_vifs([line["found_ttl"], line["also"], line["why"]])
-        return {"ttl": typed(int, line["ttl"]), "fault": f"{typed(str, finding['kind'])} {place}", "told": told}
+        return {**common, "fault": UNKNOWN * (line["right"] is None) + f"{typed(str, finding['kind'])} {place}",
+                "told": told}
 
 
 def typed(kind, value):
@@ -111,9 +117,10 @@ def without_vifs(told):
 # The audits
 
 def is_printed(value):
-    """Whether audit prints all its texts so: in printable characters of ASCII."""
+    """Whether audit prints all its texts so: in printable characters of ASCII. Sentences, which may be of two lines,
+    aren't compared or told."""
     if isinstance(value, dict):
-        return all(is_printed(it) for it in (*value, *value.values()))
+        return all(is_printed(key) and (key == "text" or is_printed(it)) for key, it in value.items())
     if isinstance(value, list):
         return all(map(is_printed, value))
     return not isinstance(value, str) or all(" " <= it <= "~" for it in value)
@@ -170,9 +177,11 @@ def way_changes(old, new):
     both = [lan for lan in new if lan in old]
     yield from names_change("reached", [sends(old, it) for it in old if it not in new],
                             [sends(new, it) for it in new if it not in old])
-    for number, change in enumerate(("forwarder", "least_ttl")):
+    for number, change in enumerate(("forwarder", "least_ttl", "incoming_interface")):
         found = [lan for lan in both if old[lan][number] != new[lan][number]]
-        tell = (lambda way, lan: f"{lan} {way[lan][1]}") if number else sends
+        if number == 2:
+            found = [it for it in found if old[it][0] == new[it][0] and None not in (old[it][2], new[it][2])]
+        tell = (lambda way, lan, at=number: f"{lan} {way[lan][at]}") if number else sends
         if found:
             yield change, [tell(old, lan) for lan in found], [tell(new, lan) for lan in found]
 
@@ -182,33 +191,32 @@ def flow_changes(old, new):
     if old["ttl"] != new["ttl"]:
         yield "ttl", old["ttl"], new["ttl"]
     if old["fault"] != new["fault"]:
-        yield "fault", old["fault"], new["fault"] or (UNKNOWN if new["said"] == UNKNOWN else None)
-    if new["fault"]:
-        if old["fault"] == new["fault"] and old["told"] != new["told"]:
-            yield "explanation", new["fault"], new["fault"]
-        return
-    if not old["fault"]:
+        yield "fault", old["fault"], new["fault"] or (NO_FAULT if new["said"] == NO_FAULT else None)
+    elif new["fault"] and old["told"] != new["told"]:
+        yield "explanation", new["fault"], new["fault"]
+    if not old["fault"] and not new["fault"]:
         yield from way_changes(old["way"], new["way"])
         if old["copies"] != new["copies"]:
             yield "copies", old["copies"], new["copies"]
+    if None not in (old["wanted"], new["wanted"]):
         yield from names_change("wanted", old["wanted"], new["wanted"])
     was = not old["fault"] and not old["wanted"]
-    if was != (not new["wanted"]):
+    if not new["fault"] and was != (not new["wanted"]):
         yield "unwanted", was, not was
 
 
 def state_of(flow):
     """Returns what is told of a flow that is in one audit alone."""
     if flow["fault"]:
-        return f"fault {flow['fault']}"
+        return flow["fault"] if flow["fault"].startswith(UNKNOWN) else f"fault {flow['fault']}"
     return f"{flow['said']}, copies {flow['copies']}, wanted by {' '.join(flow['wanted']) or 'nobody'}"
 
 
 def all_changes(old, new):
     """Yields each change: whose it is, which, what was and what is."""
-    for router in dict.fromkeys([*old.left_out, *new.left_out]):
-        if (router in old.left_out) != (router in new.left_out):
-            yield {"router": router}, "left_out", router in old.left_out, router in new.left_out
+    for router in dict.fromkeys([*old.excluded, *new.excluded]):
+        if (router in old.excluded) != (router in new.excluded):
+            yield {"router": router}, "left_out", router in old.excluded, router in new.excluded
     for key in dict.fromkeys([*new.flows, *old.flows]):
         was, now = old.flows.get(key), new.flows.get(key)
         whose = {"flow": {"source": key[0], "group": key[1]}}
@@ -232,7 +240,7 @@ def faults_first(changes):
     """Returns the changes in an order in which a fault that came or went isn't lost among paths that moved, nor that of
     a flow that is in one audit alone."""
     return sorted(changes, key=lambda it: it[1] not in ("left_out", "fault")
-                  and not (it[1] == "listed" and (it[2] or it[3]).startswith("fault ")))
+                  and not (it[1] == "listed" and (it[2] or it[3]).startswith(("fault ", UNKNOWN))))
 
 
 def sides(change, was, now):
@@ -241,24 +249,32 @@ def sides(change, was, now):
     return "; ".join([f"{change} now: {come}"] * bool(now) + [f"{change} no longer: {gone}"] * bool(was))
 
 
+def fault_text(was, now):
+    """Returns how it is told that another fault is found of a flow, that one came or that one went."""
+    if now and (now == NO_FAULT or now.startswith(UNKNOWN)):
+        state, _, found = now.partition(": ")
+        return f"{state} now" + (f": {found}" if found else "") + (f", was {was}" if was else "")
+    if was and was.startswith(UNKNOWN) and not now:
+        return f"unknown no longer: {was.removeprefix(UNKNOWN)}"
+    return f"fault {now}, was {was}" if was and now else f"new fault: {now}" if now else f"fault gone: {was}"
+
+
 def change_text(change, was, now):
     """Returns a change as a line tells it behind whose it is."""
     if change == "listed":
         return f"listed now: {now}" if now else f"listed no longer: it was {was}"
-    if change == "fault" and now == UNKNOWN:
-        return f"{now} now, was {was}"
-    if change == "fault" and not (was and now):
-        return f"new fault: {now}" if now else f"fault gone: {was}"
+    if change == "fault":
+        return fault_text(was, now)
     if change == "pair":
         return f"come: in the caches of {' '.join(now)}" if now else f"gone: it was in the caches of {' '.join(was)}"
     if change == "explanation":
         return f"fault stays and is told otherwise: {now}"
     if change in ("unwanted", "left_out"):
-        said = "no LAN wants it" if change == "unwanted" else "left out"
+        said = "no LAN wants it" if change == "unwanted" else "excluded"
         return f"{said} now" if now else f"{said} no longer" if change == "left_out" else "some LAN wants it again"
     if change in ("reached", "wanted", "routers"):
         return sides(change, was, now)
-    if change in ("forwarder", "least_ttl"):
+    if change in ("forwarder", "least_ttl", "incoming_interface"):
         pairs = zip(now, was)
         return f"{change.replace('_', ' ')} " + ", ".join(f"{new}, was {old.split(' ', 1)[1]}" for new, old in pairs)
     return f"{change} {now}, was {was}"

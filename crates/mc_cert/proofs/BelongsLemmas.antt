@@ -10,17 +10,19 @@ use Rattle.mc_topology.proofs.NameLemmas.{index_of-below_length, router_name-rou
 use Rattle.mc_cert.specs.declared.version.Version.{Version}
 use Rattle.mc_cert.specs.declared.version.Version.TheVariants.{One, Two}
 use Rattle.mc_cert.specs.Certificate.{Tree, IsEntryOf, BelongsTo}
-use Rattle.mc_cert.specs.Denotation.{DenotesEntry, DenotesEntries, DenotesFlow, DenotesTree, DenotesSharedFlow}
-use Rattle.mc_cert.specs.Denotation.{DenotesVersion, DenotesCertificate}
+use Rattle.mc_cert.specs.Denotation.{DenotesEntry, DenotesEntries, DenotesFlow, DenotesTree}
+use Rattle.mc_cert.specs.Denotation.{DenotesSharedFlow, DenotesVersion, DenotesCertificate}
 use Rattle.mc_cert.proofs.StoredTrees.{All-at_number}
-use Rattle.mc_cert.proofs.CertificateParts.{length-EachDenotes, All-from_EachDenotes, IfSome-from_DenotesForwarder}
+use Rattle.mc_cert.proofs.CertificateParts.{length-EachDenotes, All-from_EachDenotes}
+use Rattle.mc_cert.proofs.CertificateParts.{IfSome-from_DenotesForwarder}
 
 -- a router that has a name is one of the routers
 router_with_name-below_length : (routers : List RouterRow) (router : ℕ) (name : List ℕ)
     → option_map (λ r. r.name) (slice_get routers router) ≡ Some name → router < length routers
 router_with_name-below_length [] router name e = absurd cc
 router_with_name-below_length (r ∷ routers) zero name e = omega arith
-router_with_name-below_length (r ∷ routers) (suc router) name e = omega (arith, router_with_name-below_length routers router name e)
+router_with_name-below_length (r ∷ routers) (suc router) name e =
+    omega (arith, router_with_name-below_length routers router name e)
 
 IsEntryOf-from_denotes : (t : TopologyValue) (d : Data) (e : Entry) → DenotesEntry t d e → IsEntryOf t e
 IsEntryOf-from_denotes t d e is = record {

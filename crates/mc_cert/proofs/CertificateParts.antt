@@ -14,14 +14,15 @@ use Rattle.mc_text.specs.Addr.{dotted}
 use Rattle.mc_theory.specs.Nets.{Interface}
 use Rattle.mc_theory.specs.Certificates.{Entry}
 use Rattle.mc_topology.specs.declared.flow.Flow.{Flow}
+use Rattle.mc_topology.specs.Answer.{read_rows}
 use Rattle.mc_topology.specs.Names.{index_of}
 use Rattle.mc_topology.specs.SectionRows.{RouterRow}
 use Rattle.mc_topology.specs.Lookup.{router_no_of}
 use Rattle.mc_topology.specs.Topology.{TopologyValue}
-use Rattle.mc_topology.proofs.Steps.{bind_ok, test_ok, ok_or_ok, ok_injective}
+use Rattle.mc_topology.proofs.Steps.{bind_ok, test_ok, checked_ok, ok_or_ok, ok_injective}
+use Rattle.mc_topology.proofs.Steps.{located_ok, map_fault_ok}
 use Rattle.mc_cert.specs.declared.fault.At.{At}
 use Rattle.mc_cert.specs.declared.fault.At.TheVariants as at
-use Rattle.mc_cert.specs.declared.fault.CertFaultKind.{CertFaultKind}
 use Rattle.mc_cert.specs.declared.fault.CertFaultKind.TheVariants.{MissingKey, BadNumber}
 use Rattle.mc_cert.specs.declared.fault.CertFaultKind.TheVariants.{UnknownName, WrongFlows}
 use Rattle.mc_cert.specs.declared.fault.CertFault.{CertFault}
@@ -34,27 +35,26 @@ use Rattle.mc_cert.specs.Entries.{entries_of}
 use Rattle.mc_cert.specs.VersionOne.{are_texts_of_flow, flow_at, flow_keys, reached_rows, flow_of}
 use Rattle.mc_cert.specs.VersionTwo.{tree_entry_rows, tree_of, below_count, shared_flow_keys, tree_no_of}
 use Rattle.mc_cert.specs.VersionTwo.{shared_flow_of}
-use Rattle.mc_cert.specs.Denotation.{HasText, HasNumber, HasRows, EachDenotes, DenotesInterface, DenotesForwarder}
-use Rattle.mc_cert.specs.Denotation.{DenotesEntry, DenotesEntries, DenotesFlow, DenotesTree}
-use Rattle.mc_cert.proofs.Fields.{unsigned-from_as_u64, string-from_text_of, number-from_number_of, HasText-from_text_at}
-use Rattle.mc_cert.proofs.Fields.{text_at-from_HasText, HasNumber-from_number_at, number_at-from_HasNumber, in_range-sound}
-use Rattle.mc_cert.proofs.Fields.{in_range-complete, HasNumber-from_whole_at, whole_at-from_HasNumber, IsObject-from_object_of}
-use Rattle.mc_cert.proofs.Fields.{object_of-from_IsObject, AreRows-from_list_of, list_of-from_AreRows, HasRows-from_list_at}
-use Rattle.mc_cert.proofs.Fields.{list_at-from_HasRows, at_most-sound, at_most-complete}
+use Rattle.mc_cert.specs.Denotation.{HasText, HasNumber, HasRows, EachDenotes, DenotesInterface}
+use Rattle.mc_cert.specs.Denotation.{DenotesForwarder, DenotesEntry, DenotesEntries, DenotesFlow}
+use Rattle.mc_cert.specs.Denotation.{DenotesTree}
+use Rattle.mc_cert.proofs.Fields.{unsigned-from_as_u64, string-from_text_of, number-from_number_of}
+use Rattle.mc_cert.proofs.Fields.{HasText-from_text_at, text_at-from_HasText, HasNumber-from_number_at}
+use Rattle.mc_cert.proofs.Fields.{number_at-from_HasNumber, in_range-sound, in_range-complete}
+use Rattle.mc_cert.proofs.Fields.{HasNumber-from_whole_at, whole_at-from_HasNumber}
+use Rattle.mc_cert.proofs.Fields.{IsObject-from_object_of, object_of-from_IsObject, AreRows-from_list_of}
+use Rattle.mc_cert.proofs.Fields.{list_of-from_AreRows, HasRows-from_list_at, list_at-from_HasRows}
+use Rattle.mc_cert.proofs.Fields.{at_most-sound, at_most-complete}
 
 -- ---- rows
-
-pub locate_fault_ok : {A : Type 0} (at : At) (r : Result A CertFaultKind) (x : A)
-    → locate_fault at r ≡ Ok x → r ≡ Ok x
-locate_fault_ok at (Ok y) x e = cc
-locate_fault_ok at (Err k) x e = absurd cc
 
 module _ {X : Type 0} (one : ℕ → Data → Result X CertFault) (Denotation : ℕ → Data → X → Type 0) where
   pub each_row-denotes : ((n : ℕ) (d : Data) (x : X) → one n d ≡ Ok x → Denotation n d x)
       → (earlier : List X) (ds : List Data) (xs : List X) → each_row one earlier ds ≡ Ok xs
       → (ys : List X) × (xs ≡ earlier ++ ys) × EachDenotes Denotation (length earlier) ds ys
-  unfolding each_row
-  each_row-denotes takes earlier [] xs e = ([], sym (ok_injective earlier xs e) ∙ sym (append-nil earlier), tt)
+  unfolding read_rows
+  each_row-denotes takes earlier [] xs e =
+      ([], sym (ok_injective earlier xs e) ∙ sym (append-nil earlier), tt)
   each_row-denotes takes earlier (d ∷ ds) xs e =
       let a = bind_ok (one (length earlier) d) (λ x. each_row one (earlier ++ x ∷ []) ds) xs e in
       let (ys, is, denoted) = each_row-denotes takes (earlier ++ a.0 ∷ []) ds xs a.2 in (
@@ -70,7 +70,7 @@ module _ {X : Type 0} (one : ℕ → Data → Result X CertFault) (Denotation : 
   pub each_row-from_denotes : ((n : ℕ) (d : Data) (x : X) → Denotation n d x → one n d ≡ Ok x)
       → (earlier : List X) (ds : List Data) (xs : List X) → EachDenotes Denotation (length earlier) ds xs
       → each_row one earlier ds ≡ Ok (earlier ++ xs)
-  unfolding each_row
+  unfolding read_rows
   each_row-from_denotes again earlier [] [] s = ap Ok (sym (append-nil earlier))
   each_row-from_denotes again earlier [] (x ∷ xs) s = absurd s
   each_row-from_denotes again earlier (d ∷ ds) [] s = absurd s
@@ -79,16 +79,11 @@ module _ {X : Type 0} (one : ℕ → Data → Result X CertFault) (Denotation : 
       rw (again (length earlier) d x s.0) (each_row-from_denotes again (earlier ++ x ∷ []) ds xs denoted
       ∙ ap Ok (append_assoc earlier (x ∷ []) xs))
 
-  -- all of them, from the first one on
   pub each_row-denotes_all : ((n : ℕ) (d : Data) (x : X) → one n d ≡ Ok x → Denotation n d x)
       → (ds : List Data) (xs : List X) → each_row one [] ds ≡ Ok xs → EachDenotes Denotation 0 ds xs
   each_row-denotes_all takes ds xs e =
       let (ys, is, denoted) = each_row-denotes takes [] ds xs e in
       subst (λ (zs : List X). EachDenotes Denotation 0 ds zs) (sym is) denoted
-
-  pub each_row-from_denotes_all : ((n : ℕ) (d : Data) (x : X) → Denotation n d x → one n d ≡ Ok x)
-      → (ds : List Data) (xs : List X) → EachDenotes Denotation 0 ds xs → each_row one [] ds ≡ Ok xs
-  each_row-from_denotes_all again ds xs denoted = each_row-from_denotes again [] ds xs denoted
 
 module _ {X : Type 0} (Denotation : ℕ → Data → X → Type 0) where
   pub length-EachDenotes : (n : ℕ) (ds : List Data) (xs : List X) → EachDenotes Denotation n ds xs
@@ -159,7 +154,8 @@ unfolding forwarder_of
 forwarder_of-from_denotes routers None None forwarder is = ap Ok (sym is)
 forwarder_of-from_denotes routers None (Some v) forwarder is = absurd is
 forwarder_of-from_denotes routers (Some d) None forwarder is = absurd is
-forwarder_of-from_denotes routers (Some d) (Some v) forwarder (i, same, is) = forwarder_of-from_DenotesInterface routers d v i is
+forwarder_of-from_denotes routers (Some d) (Some v) forwarder (i, same, is) =
+    forwarder_of-from_DenotesInterface routers d v i is
     ∙ ap Ok (sym same)
 
 entry_of-denotes : (t : TopologyValue) (d : Data) (e : Entry) → entry_of t d ≡ Ok e → DenotesEntry t d e
@@ -218,17 +214,19 @@ unfolding entries_of
 entries_of-denotes t list rows es few e =
     record {
       few = few;
-      each = each_row-denotes_all (λ n d. locate_fault (entry_place list (n + 1)) (entry_of t d)) (λ _. DenotesEntry t)
-          (λ n d x read. entry_of-denotes t d x (locate_fault_ok (entry_place list (n + 1))
-          (entry_of t d) x read)) rows es e;
+      each = each_row-denotes_all (λ n d. locate_fault (entry_place list (n + 1)) (entry_of t d))
+          (λ _. DenotesEntry t)
+          (λ n d x read. entry_of-denotes t d x (map_fault_ok _ (entry_of t d) x read)) rows es e;
     }
 
 entries_of-from_denotes : (t : TopologyValue) (list : At) (rows : List Data) (es : Tree)
     → DenotesEntries t rows es → entries_of t list rows ≡ Ok es
 unfolding entries_of
 entries_of-from_denotes t list rows es are =
-    each_row-from_denotes_all (λ n d. locate_fault (entry_place list (n + 1)) (entry_of t d)) (λ _. DenotesEntry t)
-    (λ n d x is. ap (locate_fault (entry_place list (n + 1))) (entry_of-from_denotes t d x is)) rows es are.each
+    each_row-from_denotes (λ n d. locate_fault (entry_place list (n + 1)) (entry_of t d))
+    (λ _. DenotesEntry t)
+    (λ n d x is. ap (locate_fault (entry_place list (n + 1))) (entry_of-from_denotes t d x is)) [] rows
+    es are.each
 
 -- what holds of each interface that is denoted holds of a forwarder
 pub IfSome-from_DenotesForwarder : (P : Interface → Type 0) (routers : List RouterRow)
@@ -237,9 +235,11 @@ pub IfSome-from_DenotesForwarder : (P : Interface → Type 0) (routers : List Ro
 IfSome-from_DenotesForwarder P routers gives None None forwarder is = rw is tt
 IfSome-from_DenotesForwarder P routers gives None (Some v) forwarder is = absurd is
 IfSome-from_DenotesForwarder P routers gives (Some d) None forwarder is = absurd is
-IfSome-from_DenotesForwarder P routers gives (Some d) (Some v) forwarder (i, same, is) = rw same (gives d v i is)
+IfSome-from_DenotesForwarder P routers gives (Some d) (Some v) forwarder (i, same, is) =
+    rw same (gives d v i is)
 
-IsWritableEntry-from_denotes : (t : TopologyValue) (d : Data) (e : Entry) → DenotesEntry t d e → IsWritableEntry e
+IsWritableEntry-from_denotes : (t : TopologyValue) (d : Data) (e : Entry) → DenotesEntry t d e
+    → IsWritableEntry e
 IsWritableEntry-from_denotes t d e is =
     record {
       need = is.need_from;
@@ -248,12 +248,14 @@ IsWritableEntry-from_denotes t d e is =
     }
 
 -- entries that are denoted can be written
-pub IsWritableTree-from_denotes : (t : TopologyValue) (rows : List Data) (es : Tree) → DenotesEntries t rows es
+pub IsWritableTree-from_denotes : (t : TopologyValue) (rows : List Data) (es : Tree)
+    → DenotesEntries t rows es
     → IsWritableTree es
 IsWritableTree-from_denotes t rows es are =
     record {
       few = omega (arith, are.few, length-EachDenotes (λ _. DenotesEntry t) 0 rows es are.each);
-      each = All-from_EachDenotes (λ _. DenotesEntry t) IsWritableEntry (λ _ d e is. IsWritableEntry-from_denotes t d e is) 0 rows es
+      each = All-from_EachDenotes (λ _. DenotesEntry t) IsWritableEntry
+          (λ _ d e is. IsWritableEntry-from_denotes t d e is) 0 rows es
           are.each;
     }
 
@@ -271,19 +273,13 @@ are_texts_of_flow-dotted f = rw (
   (bytes_eq-Decides (dotted f.source) (dotted f.source)).1 refl,
 ) refl
 
-slice_get-from_flow_at : (t : TopologyValue) (n : ℕ) (at : At) (f : Flow)
-    → locate_fault at (flow_at t n) ≡ Ok f → slice_get t.flows n ≡ Some f
-slice_get-from_flow_at t n at f e = ok_or_ok (slice_get t.flows n) WrongFlows f
-    (locate_fault_ok at (flow_at t n) f e)
-
 pub flow_of-denotes : (t : TopologyValue) (n : ℕ) (d : Data) (es : Tree) → flow_of t n d ≡ Ok es
     → DenotesFlow t n d es
 unfolding flow_of reached_rows
 flow_of-denotes t n d es e =
-    let f = bind_ok (locate_fault (at.Flow (n + 1)) (flow_at t n)) _ es e in
-    let r = bind_ok (locate_fault (at.Flow (n + 1)) (reached_rows f.0 d)) _ es f.2 in
-    let o = bind_ok (object_of flow_keys d) _ r.0
-    (locate_fault_ok (at.Flow (n + 1)) (reached_rows f.0 d) r.0 r.1) in
+    let f = located_ok _ (flow_at t n) _ es e in
+    let r = located_ok _ (reached_rows f.0 d) _ es f.2 in
+    let o = bind_ok (object_of flow_keys d) _ r.0 r.1 in
     let group = bind_ok (text_at (codes "group") o.0) _ r.0 o.2 in
     let rows = bind_ok (list_at (codes "reached") o.0) _ r.0 group.2 in
     let source = bind_ok (text_at (codes "source") o.0) _ r.0 rows.2 in
@@ -294,7 +290,7 @@ flow_of-denotes t n d es e =
       flow = f.0;
       members = o.0;
       rows = r.0;
-      listed = slice_get-from_flow_at t n (at.Flow (n + 1)) f.0 f.1;
+      listed = ok_or_ok (slice_get t.flows n) WrongFlows f.0 f.1;
       is_object = IsObject-from_object_of flow_keys d o.0 o.1;
       group = subst (HasText (codes "group") o.0) is_group
           (HasText-from_text_at (codes "group") o.0 group.0 group.1);
@@ -326,9 +322,8 @@ pub tree_of-denotes : (t : TopologyValue) (n : ℕ) (d : Data) (es : Tree) → t
     → DenotesTree t d es
 unfolding tree_of tree_entry_rows
 tree_of-denotes t n d es e =
-    let r = bind_ok (locate_fault (at.Tree (n + 1)) (tree_entry_rows d)) _ es e in
-    let rows = bind_ok (list_of d) (at_most 1024) r.0
-    (locate_fault_ok (at.Tree (n + 1)) (tree_entry_rows d) r.0 r.1) in
+    let r = located_ok _ (tree_entry_rows d) _ es e in
+    let rows = bind_ok (list_of d) (at_most 1024) r.0 r.1 in
     let (same, few) = at_most-sound 1024 rows.0 r.0 rows.2 in
     record {
       rows = r.0;
@@ -343,12 +338,12 @@ tree_of-from_denotes t n d es is =
     rw (list_of-from_AreRows d is.rows is.list, at_most-complete 1024 is.rows is.entries.few)
     (entries_of-from_denotes t (at.Tree (n + 1)) is.rows es is.entries)
 
-below_count-sound : (count : ℕ) (o : Option ℕ) (n : ℕ) → below_count count o ≡ Ok n → (o ≡ Some n) × (n < count)
+below_count-sound : (count : ℕ) (o : Option ℕ) (n : ℕ) → below_count count o ≡ Ok n
+    → (o ≡ Some n) × (n < count)
 below_count-sound count None n e = absurd cc
 below_count-sound count (Some m) n e =
-    let t = test_ok (nat_lt m count) BadNumber (Ok m) n e in
-    let same : m ≡ n = ok_injective m n t.1 in
-    (ap Some same, subst (λ k. k < count) same (ltb-true m count t.0))
+    let (same, below) = checked_ok (λ k. nat_lt k count) BadNumber m n e in
+    (ap Some same, ltb-true n count below)
 
 -- a flow of version 2 denotes the number of its tree
 pub record NamesTree (t : TopologyValue) (trees n : ℕ) (d : Data) (number : ℕ) : Type 0 where
@@ -365,9 +360,9 @@ pub NamesTree-from_shared_flow_of : (t : TopologyValue) (trees n : ℕ) (d : Dat
     → shared_flow_of t trees n d ≡ Ok m → NamesTree t trees n d m
 unfolding shared_flow_of tree_no_of
 NamesTree-from_shared_flow_of t trees n d m e =
-    let f = bind_ok (locate_fault (at.Flow (n + 1)) (flow_at t n)) _ m e in
+    let f = located_ok _ (flow_at t n) _ m e in
     let o = bind_ok (object_of shared_flow_keys d) _ m
-    (locate_fault_ok (at.Flow (n + 1)) (tree_no_of f.0 trees d) m f.2) in
+    (map_fault_ok _ (tree_no_of f.0 trees d) m f.2) in
     let group = bind_ok (text_at (codes "group") o.0) _ m o.2 in
     let source = bind_ok (text_at (codes "source") o.0) _ m group.2 in
     let num = bind_ok (number_at (codes "tree") o.0) _ m source.2 in
@@ -379,7 +374,7 @@ NamesTree-from_shared_flow_of t trees n d m e =
     record {
       flow = f.0;
       members = o.0;
-      listed = slice_get-from_flow_at t n (at.Flow (n + 1)) f.0 f.1;
+      listed = ok_or_ok (slice_get t.flows n) WrongFlows f.0 f.1;
       is_object = o.1;
       group = subst (HasText (codes "group") o.0) is_group
           (HasText-from_text_at (codes "group") o.0 group.0 group.1);
@@ -390,7 +385,8 @@ NamesTree-from_shared_flow_of t trees n d m e =
       in_range = subst (λ k. k < trees) same lt;
     }
 
-pub shared_flow_of-from_NamesTree : (t : TopologyValue) (trees n : ℕ) (d : Data) (m : ℕ) → NamesTree t trees n d m
+pub shared_flow_of-from_NamesTree : (t : TopologyValue) (trees n : ℕ) (d : Data) (m : ℕ)
+    → NamesTree t trees n d m
     → shared_flow_of t trees n d ≡ Ok m
 unfolding shared_flow_of tree_no_of
 shared_flow_of-from_NamesTree t trees n d m is =

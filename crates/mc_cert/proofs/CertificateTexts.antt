@@ -12,30 +12,33 @@ use Rattle.serde_json.specs.Data.{Data, unsigned, number, Members}
 use Rattle.serde_json.specs.Find.{as_object, as_u64}
 use Rattle.serde_json.specs.Read.{read}
 use Rattle.mc_topology.specs.Topology.{TopologyValue}
-use Rattle.mc_topology.proofs.Steps.{bind_ok, test_ok, ok_or_ok, ok_injective}
-use Rattle.mc_cert.specs.declared.fault.At.TheVariants.{Top}
+use Rattle.mc_topology.proofs.Steps.{bind_ok, test_ok, checked_ok, ok_or_ok, ok_injective, located_ok}
 use Rattle.mc_cert.specs.declared.fault.CertFaultKind.TheVariants.{NotJson, BadVersion, UnknownKey}
 use Rattle.mc_cert.specs.declared.fault.CertFaultKind.TheVariants.{BadKind, WrongFlows, TooMany}
 use Rattle.mc_cert.specs.declared.version.Version.{Version}
 use Rattle.mc_cert.specs.declared.version.Version.TheVariants.{One, Two}
-use Rattle.mc_cert.specs.Answer.{locate_fault, each_row}
+use Rattle.mc_cert.specs.Answer.{each_row}
 use Rattle.mc_cert.specs.Certificate.{Tree, tree_at, IsWritableTree}
 use Rattle.mc_cert.specs.Object.{has_only, number_at, list_at, at_most}
-use Rattle.mc_cert.specs.Reading.{parse_json, parse_bounded_json, members_of, version_of, top_keys, version_in}
-use Rattle.mc_cert.specs.Reading.{flows_of_version, parse_certificate}
-use Rattle.mc_cert.specs.Denotation.{HasNumber, HasRows, EachDenotes, DenotesFlow, DenotesTree, DenotesSharedFlow}
-use Rattle.mc_cert.specs.Denotation.{DenotesVersionOne, DenotesVersionTwo, version_no, DenotesVersion}
-use Rattle.mc_cert.specs.Denotation.{DenotesCertificate}
+use Rattle.mc_cert.specs.Reading.{parse_json, parse_bounded_json, members_of, version_of, top_keys}
+use Rattle.mc_cert.specs.Reading.{version_in, flows_of_version, parse_certificate}
+use Rattle.mc_cert.specs.Denotation.{HasNumber, HasRows, EachDenotes, DenotesFlow, DenotesTree}
+use Rattle.mc_cert.specs.Denotation.{DenotesSharedFlow, DenotesVersionOne, DenotesVersionTwo, version_no}
+use Rattle.mc_cert.specs.Denotation.{DenotesVersion, DenotesCertificate}
 use Rattle.mc_cert.specs.VersionOne.{flow_rows, flow_of, flows_in}
 use Rattle.mc_cert.specs.VersionTwo.{tree_rows, tree_of, shared_flow_keys, shared_flow_of}
 use Rattle.mc_cert.specs.VersionTwo.{shared_flows_in}
-use Rattle.mc_cert.proofs.Fields.{object-from_as_object, unsigned-from_as_u64, HasNumber-from_number_at, number_at-from_HasNumber}
-use Rattle.mc_cert.proofs.Fields.{HasRows-from_list_at, list_at-from_HasRows, at_most-sound, at_most-complete}
-use Rattle.mc_cert.proofs.Fields.{IsObject-from_object_of, object_of-from_IsObject}
+use Rattle.mc_cert.proofs.Fields.{object-from_as_object, unsigned-from_as_u64, HasNumber-from_number_at}
+use Rattle.mc_cert.proofs.Fields.{number_at-from_HasNumber, HasRows-from_list_at, list_at-from_HasRows}
+use Rattle.mc_cert.proofs.Fields.{at_most-sound, at_most-complete, IsObject-from_object_of}
+use Rattle.mc_cert.proofs.Fields.{object_of-from_IsObject}
 use Rattle.mc_cert.proofs.StoredTrees.{slice_get-unwrap_or}
-use Rattle.mc_cert.proofs.CertificateParts.{locate_fault_ok, each_row-denotes_all, each_row-from_denotes_all, All-from_EachDenotes}
-use Rattle.mc_cert.proofs.CertificateParts.{IsWritableTree-from_denotes, flow_of-denotes, flow_of-from_denotes, tree_of-denotes, tree_of-from_denotes}
-use Rattle.mc_cert.proofs.CertificateParts.{NamesTree, NamesTree-from_shared_flow_of, shared_flow_of-from_NamesTree}
+use Rattle.mc_cert.proofs.CertificateParts.{each_row-denotes_all}
+use Rattle.mc_cert.proofs.CertificateParts.{each_row-from_denotes, All-from_EachDenotes}
+use Rattle.mc_cert.proofs.CertificateParts.{IsWritableTree-from_denotes, flow_of-denotes}
+use Rattle.mc_cert.proofs.CertificateParts.{flow_of-from_denotes, tree_of-denotes, tree_of-from_denotes}
+use Rattle.mc_cert.proofs.CertificateParts.{NamesTree, NamesTree-from_shared_flow_of}
+use Rattle.mc_cert.proofs.CertificateParts.{shared_flow_of-from_NamesTree}
 
 -- ---- version 1
 
@@ -45,10 +48,9 @@ unfolding flow_rows
 HasRows-from_flow_rows t ms rows e =
     let a = bind_ok (list_at (codes "flows") ms)
     (λ rs. cond (eqb (length rs) (length t.flows)) (Ok rs) (Err WrongFlows)) rows e in
-    let c = test_ok (eqb (length a.0) (length t.flows)) WrongFlows (Ok a.0) rows a.2 in
-    let same : a.0 ≡ rows = ok_injective a.0 rows c.1 in
-    subst (λ (rs : List Data). HasRows (codes "flows") ms rs × (length rs ≡ length t.flows)) same
-    (HasRows-from_list_at (codes "flows") ms a.0 a.1, eqb-true _ _ c.0)
+    let (same, count) =
+    checked_ok (λ (rs : List Data). eqb (length rs) (length t.flows)) WrongFlows a.0 rows a.2 in
+    (HasRows-from_list_at (codes "flows") ms rows (a.1 ∙ ap Ok same), eqb-true _ _ count)
 
 flow_rows-from_HasRows : (t : TopologyValue) (ms : Members) (rows : List Data)
     → HasRows (codes "flows") ms rows → length rows ≡ length t.flows → flow_rows t ms ≡ Ok rows
@@ -62,8 +64,8 @@ flows_in-denotes : (t : TopologyValue) (ms : Members) (flows : List Tree)
     → flows_in t ms ≡ Ok flows → DenotesVersionOne t ms flows
 unfolding flows_in
 flows_in-denotes t ms flows e =
-    let r = bind_ok (locate_fault Top (flow_rows t ms)) (λ rows. each_row (flow_of t) [] rows) flows e in
-    let (has, count) = HasRows-from_flow_rows t ms r.0 (locate_fault_ok Top (flow_rows t ms) r.0 r.1) in
+    let r = located_ok _ (flow_rows t ms) (each_row (flow_of t) []) flows e in
+    let (has, count) = HasRows-from_flow_rows t ms r.0 r.1 in
     record {
       rows = r.0;
       list = has;
@@ -77,13 +79,14 @@ flows_in-from_denotes : (t : TopologyValue) (ms : Members) (flows : List Tree) �
 unfolding flows_in
 flows_in-from_denotes t ms flows is =
     rw (flow_rows-from_HasRows t ms is.rows is.list is.count)
-    (each_row-from_denotes_all (flow_of t) (DenotesFlow t) (flow_of-from_denotes t) is.rows flows is.each)
+    (each_row-from_denotes (flow_of t) (DenotesFlow t) (flow_of-from_denotes t) [] is.rows flows is.each)
 
 -- the entries of flows that are read can be written
 pub IsWritableTree-from_flow_rows : (t : TopologyValue) (rows : List Data) (flows : List Tree)
     → each_row (flow_of t) [] rows ≡ Ok flows → All IsWritableTree flows
 IsWritableTree-from_flow_rows t rows flows e =
-    All-from_EachDenotes (DenotesFlow t) IsWritableTree (λ _ d es is. IsWritableTree-from_denotes t is.rows es is.entries) 0 rows flows
+    All-from_EachDenotes (DenotesFlow t) IsWritableTree
+    (λ _ d es is. IsWritableTree-from_denotes t is.rows es is.entries) 0 rows flows
     (each_row-denotes_all (flow_of t) (DenotesFlow t) (flow_of-denotes t) rows flows e)
 
 -- ---- version 2
@@ -147,7 +150,8 @@ EachDenotes-from_NamesTree t trees n (d ∷ ds) (m ∷ ms) s = (
   EachDenotes-from_NamesTree t trees (n + 1) ds ms s.1,
 )
 
-NamesTree-from_EachDenotes : (t : TopologyValue) (trees : List Tree) (n : ℕ) (ds : List Data) (flows : List Tree)
+NamesTree-from_EachDenotes : (t : TopologyValue) (trees : List Tree) (n : ℕ) (ds : List Data)
+    (flows : List Tree)
     → EachDenotes (DenotesSharedFlow t trees) n ds flows → (ms : List ℕ)
     × EachDenotes (NamesTree t (length trees)) n ds ms × (map (tree_at trees) ms ≡ flows)
 NamesTree-from_EachDenotes t trees n [] [] s = ([], tt, refl)
@@ -162,12 +166,12 @@ shared_flows_in-denotes : (t : TopologyValue) (ms : Members) (flows : List Tree)
     → shared_flows_in t ms ≡ Ok flows → DenotesVersionTwo t ms flows
 unfolding shared_flows_in
 shared_flows_in-denotes t ms flows e =
-    let r = bind_ok (locate_fault Top (flow_rows t ms)) _ flows e in
-    let l = bind_ok (locate_fault Top (tree_rows ms)) _ flows r.2 in
+    let r = located_ok _ (flow_rows t ms) _ flows e in
+    let l = located_ok _ (tree_rows ms) _ flows r.2 in
     let trees = bind_ok (each_row (tree_of t) [] l.0) _ flows l.2 in
     let numbers = bind_ok (each_row (shared_flow_of t (length trees.0)) [] r.0) _ flows trees.2 in
-    let (has, count) = HasRows-from_flow_rows t ms r.0 (locate_fault_ok Top (flow_rows t ms) r.0 r.1) in
-    let (has_trees, few) = HasRows-from_tree_rows ms l.0 (locate_fault_ok Top (tree_rows ms) l.0 l.1) in
+    let (has, count) = HasRows-from_flow_rows t ms r.0 r.1 in
+    let (has_trees, few) = HasRows-from_tree_rows ms l.0 l.1 in
     let named = each_row-denotes_all (shared_flow_of t (length trees.0)) (NamesTree t (length trees.0))
     (NamesTree-from_shared_flow_of t (length trees.0)) r.0 numbers.0 numbers.1 in
     record {
@@ -178,13 +182,15 @@ shared_flows_in-denotes t ms flows e =
       count = count;
       tree_list = has_trees;
       few_trees = few;
-      each_tree = each_row-denotes_all (tree_of t) (λ _. DenotesTree t) (tree_of-denotes t) l.0 trees.0 trees.1;
+      each_tree = each_row-denotes_all (tree_of t) (λ _. DenotesTree t)
+          (tree_of-denotes t) l.0 trees.0 trees.1;
       each = subst (λ (xs : List Tree). EachDenotes (DenotesSharedFlow t trees.0) 0 r.0 xs)
           (ok_injective (map (tree_at trees.0) numbers.0) flows numbers.2)
           (EachDenotes-from_NamesTree t trees.0 0 r.0 numbers.0 named);
     }
 
-shared_flows_in-from_denotes : (t : TopologyValue) (ms : Members) (flows : List Tree) → DenotesVersionTwo t ms flows
+shared_flows_in-from_denotes : (t : TopologyValue) (ms : Members) (flows : List Tree)
+    → DenotesVersionTwo t ms flows
     → shared_flows_in t ms ≡ Ok flows
 unfolding shared_flows_in
 shared_flows_in-from_denotes t ms flows is =
@@ -192,10 +198,11 @@ shared_flows_in-from_denotes t ms flows is =
     rw (
       flow_rows-from_HasRows t ms is.rows is.list is.count,
       tree_rows-from_HasRows ms is.tree_rows is.tree_list is.few_trees,
-      each_row-from_denotes_all (tree_of t) (λ _. DenotesTree t) (tree_of-from_denotes t) is.tree_rows is.trees
+      each_row-from_denotes (tree_of t) (λ _. DenotesTree t)
+          (tree_of-from_denotes t) [] is.tree_rows is.trees
           is.each_tree,
-      each_row-from_denotes_all (shared_flow_of t (length is.trees))
-          (NamesTree t (length is.trees)) (shared_flow_of-from_NamesTree t (length is.trees)) is.rows
+      each_row-from_denotes (shared_flow_of t (length is.trees))
+          (NamesTree t (length is.trees)) (shared_flow_of-from_NamesTree t (length is.trees)) [] is.rows
           numbers named,
     )
     (ap Ok same)
@@ -204,31 +211,34 @@ shared_flows_in-from_denotes t ms flows is =
 pub IsWritableTree-from_tree_rows : (t : TopologyValue) (rows : List Data) (trees : List Tree)
     → each_row (tree_of t) [] rows ≡ Ok trees → All IsWritableTree trees
 IsWritableTree-from_tree_rows t rows trees e =
-    All-from_EachDenotes (λ _. DenotesTree t) IsWritableTree (λ _ d es is. IsWritableTree-from_denotes t is.rows es is.entries) 0 rows
+    All-from_EachDenotes (λ _. DenotesTree t) IsWritableTree
+    (λ _ d es is. IsWritableTree-from_denotes t is.rows es is.entries) 0 rows
     trees (each_row-denotes_all (tree_of t) (λ _. DenotesTree t) (tree_of-denotes t) rows trees e)
 
 pub tree_numbers-below_count : (t : TopologyValue) (trees : ℕ) (rows : List Data) (ms : List ℕ)
     → each_row (shared_flow_of t trees) [] rows ≡ Ok ms → All (λ n. n < trees) ms
 tree_numbers-below_count t trees rows ms e =
     All-from_EachDenotes (NamesTree t trees) (λ n. n < trees) (λ _ d m is. is.in_range) 0 rows ms
-    (each_row-denotes_all (shared_flow_of t trees) (NamesTree t trees) (NamesTree-from_shared_flow_of t trees) rows ms e)
+    (each_row-denotes_all (shared_flow_of t trees) (NamesTree t trees)
+    (NamesTree-from_shared_flow_of t trees) rows ms e)
 
 -- ---- the version
 
 version_no-from_version_of : (o : Option ℕ) (version : Version) → version_of o ≡ Ok version
     → o ≡ Some (version_no version)
 version_no-from_version_of None version e = absurd cc
-version_no-from_version_of (Some n) version e = version_no-from_tests n (eqb n 1) (eqb n 2) version refl refl e where
-  version_no-from_tests : (n : ℕ) (b c : Bool) (version : Version) → eqb n 1 ≡ b → eqb n 2 ≡ c
-      → cond b (Ok One) (cond c (Ok Two) (Err BadVersion)) ≡ Ok version
-      → Some n ≡ Some (version_no version)
-  version_no-from_tests n true c version one two e =
-      let is : One ≡ version = cc in
-      ap Some (eqb-true n 1 one) ∙ ap (λ v. Some (version_no v)) is
-  version_no-from_tests n false true version one two e =
-      let is : Two ≡ version = cc in
-      ap Some (eqb-true n 2 two) ∙ ap (λ v. Some (version_no v)) is
-  version_no-from_tests n false false version one two e = absurd cc
+version_no-from_version_of (Some n) version e =
+    version_no-from_tests n (eqb n 1) (eqb n 2) version refl refl e where
+      version_no-from_tests : (n : ℕ) (b c : Bool) (version : Version) → eqb n 1 ≡ b → eqb n 2 ≡ c
+          → cond b (Ok One) (cond c (Ok Two) (Err BadVersion)) ≡ Ok version
+          → Some n ≡ Some (version_no version)
+      version_no-from_tests n true c version one two e =
+          let is : One ≡ version = cc in
+          ap Some (eqb-true n 1 one) ∙ ap (λ v. Some (version_no v)) is
+      version_no-from_tests n false true version one two e =
+          let is : Two ≡ version = cc in
+          ap Some (eqb-true n 2 two) ∙ ap (λ v. Some (version_no v)) is
+      version_no-from_tests n false false version one two e = absurd cc
 
 version_of-version_no : (version : Version) → version_of (Some (version_no version)) ≡ Ok version
 version_of-version_no One = refl
@@ -240,15 +250,10 @@ unfolding version_in
 HasNumber-from_version_in ms version e =
     let n = bind_ok (number_at (codes "version") ms) _ version e in
     let v = bind_ok (version_of (as_u64 n.0)) _ version n.2 in
-    let c = test_ok (has_only (top_keys v.0) ms) UnknownKey (Ok v.0) version v.2 in
-    let same : v.0 ≡ version = ok_injective v.0 version c.1 in
-    let whole = unsigned-from_as_u64 n.0 (version_no v.0) (version_no-from_version_of (as_u64 n.0) v.0 v.1) in
-    subst (λ (w : Version). HasNumber (codes "version") ms (version_no w)
-    × (has_only (top_keys w) ms ≡ true)) same (
-      HasNumber-from_number_at (codes "version") ms n.0 n.1
-          ∙ ap (λ k. Some (number k)) whole,
-      c.0,
-    )
+    let (same, keys) = checked_ok (λ (w : Version). has_only (top_keys w) ms) UnknownKey v.0 version v.2 in
+    let whole = unsigned-from_as_u64 n.0 (version_no version)
+    (version_no-from_version_of (as_u64 n.0) version (v.1 ∙ ap Ok same)) in
+    (HasNumber-from_number_at (codes "version") ms n.0 n.1 ∙ ap (λ k. Some (number k)) whole, keys)
 
 version_in-from_HasNumber : (ms : Members) (version : Version)
     → HasNumber (codes "version") ms (version_no version) → has_only (top_keys version) ms ≡ true
@@ -280,16 +285,13 @@ pub parse_certificate-denotes : (t : TopologyValue) (text : List ℕ) (flows : L
     → parse_certificate t text ≡ Ok flows → DenotesCertificate t text flows
 unfolding parse_certificate parse_bounded_json parse_json
 parse_certificate-denotes t text flows e =
-    let v = bind_ok (locate_fault Top (parse_bounded_json text)) _ flows e in
-    let m = bind_ok (locate_fault Top (members_of v.0)) _ flows v.2 in
-    let version = bind_ok (locate_fault Top (version_in m.0)) _ flows m.2 in
-    let few = test_ok (nat_le (length text) 16777216) TooMany (parse_json text) v.0
-    (locate_fault_ok Top (parse_bounded_json text) v.0 v.1) in
+    let v = located_ok _ (parse_bounded_json text) _ flows e in
+    let m = located_ok _ (members_of v.0) _ flows v.2 in
+    let version = located_ok _ (version_in m.0) _ flows m.2 in
+    let few = test_ok (nat_le (length text) 16777216) TooMany (parse_json text) v.0 v.1 in
     let utf8 = test_ok (is_utf8 text) NotJson (ok_or (read text) NotJson) v.0 few.1 in
-    let (version_is, keys) = HasNumber-from_version_in m.0 version.0
-    (locate_fault_ok Top (version_in m.0) version.0 version.1) in
-    let is_object = object-from_as_object v.0 m.0 (ok_or_ok (as_object v.0) BadKind m.0
-    (locate_fault_ok Top (members_of v.0) m.0 m.1)) in
+    let (version_is, keys) = HasNumber-from_version_in m.0 version.0 version.1 in
+    let is_object = object-from_as_object v.0 m.0 (ok_or_ok (as_object v.0) BadKind m.0 m.1) in
     record {
       document = m.0;
       version = version.0;

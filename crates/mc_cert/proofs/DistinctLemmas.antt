@@ -38,9 +38,7 @@ module _ {X : Type 0} (p : X → Bool) where
 
   None-from_cond : (b : Bool) (o : Option ℕ) → cond b (Some 0) (option_map suc o) ≡ None
       → (b ≡ false) × (o ≡ None)
-  None-from_cond true o e = absurd cc
-  None-from_cond false None e = (refl, refl)
-  None-from_cond false (Some n) e = absurd cc
+  None-from_cond b o e = grind (arith, e)
 
   -- an added item that passes is the first to pass, where no other does
   pub position-push_new : (xs : List X) (y : X) → position p xs ≡ None → p y ≡ true
@@ -147,7 +145,8 @@ pub with_tree-new : (trees : List Tree) (es : Tree) → find_tree trees es ≡ N
 with_tree-new trees es e = rw e refl
 
 -- a tree keeps its number
-pub find_tree-with_tree : (trees : List Tree) (es more : Tree) (tree_no : ℕ) → find_tree trees es ≡ Some tree_no
+pub find_tree-with_tree : (trees : List Tree) (es more : Tree) (tree_no : ℕ)
+    → find_tree trees es ≡ Some tree_no
     → find_tree (with_tree trees more) es ≡ Some tree_no
 find_tree-with_tree trees es more tree_no e = by (is_some (find_tree trees more)) where
   by : (b : Bool) → find_tree (cond b trees (trees ++ more ∷ [])) es ≡ Some tree_no
@@ -157,7 +156,8 @@ find_tree-with_tree trees es more tree_no e = by (is_some (find_tree trees more)
 pub find_tree-fold_with_tree : (trees : List Tree) (es : Tree) (tree_no : ℕ) (flows : List Tree)
     → find_tree trees es ≡ Some tree_no → find_tree (fold with_tree trees flows) es ≡ Some tree_no
 find_tree-fold_with_tree trees es tree_no [] e = e
-find_tree-fold_with_tree trees es tree_no (f ∷ flows) e = find_tree-fold_with_tree (with_tree trees f) es tree_no flows
+find_tree-fold_with_tree trees es tree_no (f ∷ flows) e =
+    find_tree-fold_with_tree (with_tree trees f) es tree_no flows
     (find_tree-with_tree trees es f tree_no e)
 
 -- ---- an added tree
@@ -186,7 +186,8 @@ length-with_tree trees es = by (is_some (find_tree trees es)) where
 pub length-fold_with_tree : (trees flows : List Tree)
     → length (fold with_tree trees flows) ≤ length trees + length flows
 length-fold_with_tree trees [] = omega arith
-length-fold_with_tree trees (f ∷ flows) = omega (arith, length-fold_with_tree (with_tree trees f) flows, length-with_tree trees f)
+length-fold_with_tree trees (f ∷ flows) =
+    omega (arith, length-fold_with_tree (with_tree trees f) flows, length-with_tree trees f)
 
 -- the tree with the number of a tree is that tree
 pub slice_get-find_tree : (trees : List Tree) (es : Tree) (n : ℕ) → find_tree trees es ≡ Some n
@@ -208,7 +209,8 @@ module _ (P : Tree → Type 0) where
       → All P (fold with_tree trees flows)
   All-fold_with_tree trees [] all each = all
   All-fold_with_tree trees (f ∷ flows) all each =
-      All-fold_with_tree (with_tree trees f) flows (All-with_tree trees f all (each zero [] (omega arith))) (λ k d lt. each (suc k) d (omega (arith, lt)))
+      All-fold_with_tree (with_tree trees f) flows (All-with_tree trees f all (each zero [] (omega arith)))
+      (λ k d lt. each (suc k) d (omega (arith, lt)))
 
   pub All-distinct_trees : (flows viewed trees : List Tree) → viewed ≡ flows → All P flows
       → trees ≡ distinct_trees viewed → All P trees

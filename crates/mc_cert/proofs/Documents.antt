@@ -32,9 +32,10 @@ use Rattle.mc_cert.specs.Object.{has_only, rows_in}
 use Rattle.mc_cert.specs.Denotation.{EachDenotes, DenotesForwarder, DenotesEntry, DenotesTree}
 use Rattle.mc_cert.specs.Writable.{IsWritableEntryFor, IsWritableTreeFor}
 use Rattle.mc_cert.proofs.StoredTrees.{slice_get-unwrap_or}
-use Rattle.mc_cert.proofs.JsonValues.{IsPlain, escape-plain, IsPlain-from_is_name, IsPlain-dotted, IsReadBack}
-use Rattle.mc_cert.proofs.JsonValues.{IsReadBack-string, IsReadBack-number, IsReadBack-array, items_from, AreReadBack-items_from}
-use Rattle.mc_cert.proofs.JsonValues.{HasReadBack, HasReadBack-none, HasReadBack-member, IsReadBack-object}
+use Rattle.mc_cert.proofs.JsonValues.{IsPlain, escape-plain, IsPlain-from_is_name, IsPlain-dotted}
+use Rattle.mc_cert.proofs.JsonValues.{IsReadBack, IsReadBack-string, IsReadBack-number, IsReadBack-array}
+use Rattle.mc_cert.proofs.JsonValues.{items_from, AreReadBack-items_from, HasReadBack, HasReadBack-none}
+use Rattle.mc_cert.proofs.JsonValues.{HasReadBack-member, IsReadBack-object}
 
 -- ---- the value
 
@@ -158,7 +159,8 @@ flow_text-compact p =
           ∙ ap (λ s. start ++ s) (append-closing_quote group escaped_group _ e)
 
 module _ {A : Type 0} (text : A → List ℕ) (f : A → Data) where
-  listed_after-items_text : (later : Bool) (xs : List A) → AllByRecursion (λ x. text x ≡ compact_text (f x)) xs
+  listed_after-items_text : (later : Bool) (xs : List A)
+      → AllByRecursion (λ x. text x ≡ compact_text (f x)) xs
       → listed_after (comma_if later) (map text xs) ++ 93 ∷ [] ≡ items_text later (items_from f xs)
   listed_after-items_text later [] all = refl
   listed_after-items_text later (x ∷ xs) (here, all) =
@@ -203,7 +205,8 @@ module _ {A : Type 0} (P : A → Type 0) where
   pub AllByRecursion-implies : (Q : A → Type 0) → ((x : A) → P x → Q x) → (xs : List A) → AllByRecursion P xs
       → AllByRecursion Q xs
   AllByRecursion-implies Q follows [] all = tt
-  AllByRecursion-implies Q follows (x ∷ xs) (here, all) = (follows x here, AllByRecursion-implies Q follows xs all)
+  AllByRecursion-implies Q follows (x ∷ xs) (here, all) =
+      (follows x here, AllByRecursion-implies Q follows xs all)
 
 -- what holds of the image of each element holds of the images
 pub AllByRecursion-map : {A B : Type 0} (P : B → Type 0) (f : A → B) (xs : List A)
@@ -332,7 +335,8 @@ IsReadBack-entry_data t e rules is =
     let forwarder = IsListedInterface-from_parts t e.forwarder is.among.router is.writable.vif in
     let need_small : e.need < 2 ^ 64 = omega (arith, is.bytes.need) in
     let rank_small : e.rank < 2 ^ 64 = omega (arith, is.bytes.rank) in
-    IsReadBack-object 0 (entry_members t e) (of_members-entry_fields t (lan_name t e.lan) e.need e.rank e.forwarder
+    IsReadBack-object 0 (entry_members t e)
+    (of_members-entry_fields t (lan_name t e.lan) e.need e.rank e.forwarder
     need_small rank_small forwarder)
     (HasReadBack-member 0 (codes "lan") _ _ (IsUtf8-are_ascii _ refl)
     (IsReadBack-string 0 (lan_name t e.lan) (lan_name-is_plain t e.lan rules is.among.lan))
@@ -344,8 +348,10 @@ IsReadBack-entry_data t e rules is =
 entry_text-of_writable : (t : TopologyValue) (e : Entry) → IsValidTopology t → IsWritableEntryFor t e
     → entry_text t e ≡ compact_text (entry_data t e)
 entry_text-of_writable t e rules is =
-    entry_text-from_plain_names t e (escape-plain (lan_name t e.lan) (lan_name-is_plain t e.lan rules is.among.lan))
-    (escape-forwarder_router t rules e.forwarder (IsListedInterface-from_parts t e.forwarder is.among.router is.writable.vif))
+    entry_text-from_plain_names t e
+    (escape-plain (lan_name t e.lan) (lan_name-is_plain t e.lan rules is.among.lan))
+    (escape-forwarder_router t rules e.forwarder
+    (IsListedInterface-from_parts t e.forwarder is.among.router is.writable.vif))
 
 -- it denotes the entry
 entry_data-denotes : (t : TopologyValue) (e : Entry) → IsValidTopology t → IsWritableEntryFor t e
@@ -386,7 +392,8 @@ IsReadBack-tree_data : (t : TopologyValue) (es : Tree) → IsValidTopology t →
 IsReadBack-tree_data t es rules is =
     IsReadBack-array 1 _ (AreReadBack-items_from (entry_data t) 1 es
     (AllByRecursion-implies (IsWritableEntryFor t) (λ e. IsReadBack 1 (entry_data t e))
-    (λ e written. IsReadBack-entry_data t e rules written) es (AllByRecursion-from_All (IsWritableEntryFor t) es is.each)))
+    (λ e written. IsReadBack-entry_data t e rules written) es
+    (AllByRecursion-from_All (IsWritableEntryFor t) es is.each)))
 
 -- its text is the tree's
 tree_text-of_writable : (t : TopologyValue) (es : Tree) → IsValidTopology t → IsWritableTreeFor t es
@@ -395,7 +402,8 @@ tree_text-of_writable t es rules is =
     ap (λ s. 91 ∷ s)
     (listed_after-items_text (entry_text t) (entry_data t) false es
     (AllByRecursion-implies (IsWritableEntryFor t) (λ e. entry_text t e ≡ compact_text (entry_data t e))
-    (λ e written. entry_text-of_writable t e rules written) es (AllByRecursion-from_All (IsWritableEntryFor t) es is.each)))
+    (λ e written. entry_text-of_writable t e rules written) es
+    (AllByRecursion-from_All (IsWritableEntryFor t) es is.each)))
 
 -- it denotes the tree
 pub tree_data-denotes : (t : TopologyValue) (es : Tree) → IsValidTopology t → IsWritableTreeFor t es
@@ -422,7 +430,8 @@ IsReadBack-flow_data p small =
     (IsReadBack-string 1 (dotted p.0.group) (IsPlain-dotted p.0.group))
     (HasReadBack-member 1 (codes "source") _ _ (IsUtf8-are_ascii _ refl)
     (IsReadBack-string 1 (dotted p.0.source) (IsPlain-dotted p.0.source))
-    (HasReadBack-member 1 (codes "tree") _ no_members (IsUtf8-are_ascii _ refl) (IsReadBack-number 1 p.1 small)
+    (HasReadBack-member 1 (codes "tree") _ no_members (IsUtf8-are_ascii _ refl)
+    (IsReadBack-number 1 p.1 small)
     (HasReadBack-none 1))))
 
 -- ---- the text as a whole
@@ -454,12 +463,14 @@ IsReadBack-document t tree_numbers trees rules small written =
     let flows_good =
     AreReadBack-items_from flow_data 2 (zip t.flows tree_numbers)
     (AllByRecursion-implies (λ (p : Flow × ℕ). p.1 < 2 ^ 64) (λ (p : Flow × ℕ). IsReadBack 2 (flow_data p))
-    IsReadBack-flow_data (zip t.flows tree_numbers) (AllByRecursion-zip (λ n. n < 2 ^ 64) t.flows tree_numbers small)) in
+    IsReadBack-flow_data (zip t.flows tree_numbers)
+    (AllByRecursion-zip (λ n. n < 2 ^ 64) t.flows tree_numbers small)) in
     let trees_good = AreReadBack-items_from (tree_data t) 2 trees
     (AllByRecursion-implies (IsWritableTreeFor t) (λ es. IsReadBack 2 (tree_data t es))
     (λ es is. IsReadBack-tree_data t es rules is) trees written) in
     IsReadBack-deeper 4 127 _ (omega arith)
-    (IsReadBack-object 3 (document t tree_numbers trees) (of_members-document _ _ 2 flows_good.reads trees_good.reads
+    (IsReadBack-object 3 (document t tree_numbers trees)
+    (of_members-document _ _ 2 flows_good.reads trees_good.reads
     (omega arith))
     (HasReadBack-member 3 (codes "flows") _ _ (IsUtf8-are_ascii _ refl) (IsReadBack-array 2 _ flows_good)
     (HasReadBack-member 3 (codes "trees") _ _ (IsUtf8-are_ascii _ refl) (IsReadBack-array 2 _ trees_good)
@@ -467,7 +478,8 @@ IsReadBack-document t tree_numbers trees rules small written =
     (IsReadBack-number 3 2 (omega arith)) (HasReadBack-none 3)))))
 
 -- its text is that of these numbers and trees
-pub version_two_text-compact : (t : TopologyValue) (tree_numbers : List ℕ) (trees : List Tree) → IsValidTopology t
+pub version_two_text-compact : (t : TopologyValue) (tree_numbers : List ℕ) (trees : List Tree)
+    → IsValidTopology t
     → AllByRecursion (IsWritableTreeFor t) trees → version_two_text t tree_numbers trees
     ≡ compact_text (object (document t tree_numbers trees))
 unfolding escape_byte

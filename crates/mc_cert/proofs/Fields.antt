@@ -1,54 +1,32 @@
 -- What is read under a key is the key's value, and the key's value is read.
 use Rattle.std.proofs.Common.{◌≡◌, ℕ, ◌≤◌, cond, List, length, Option, Some, None, Ok, Err, nat_le}
-use Rattle.std.proofs.Common.{◌&&◌, le-leb, refl, sym, ap, subst, ◌∙◌}
+use Rattle.std.proofs.Common.{◌&&◌, le-leb, refl, sym, ap, ◌∙◌, arith}
 use Rattle.std.specs.Option.{ok_or}
 use Rattle.std.proofs.lemmas.Bool.{leb-true, and_parts}
-use Rattle.serde_json.specs.Data.{Num, unsigned, negative, float, Data, null, boolean, number}
-use Rattle.serde_json.specs.Data.{string, array, object, Items, Members}
+use Rattle.serde_json.specs.Data.{Num, unsigned, Data, number, string, array, object, Items, Members}
 use Rattle.serde_json.specs.Find.{get_member, as_str, as_number, as_array, as_object, as_u64}
-use Rattle.mc_topology.proofs.Steps.{bind_ok, test_ok, ok_or_ok, ok_injective}
+use Rattle.mc_topology.proofs.Steps.{bind_ok, checked_ok, ok_or_ok, ok_injective}
 use Rattle.mc_cert.specs.declared.fault.CertFaultKind.TheVariants.{MissingKey, BadKind, BadNumber}
 use Rattle.mc_cert.specs.declared.fault.CertFaultKind.TheVariants.{UnknownKey, TooMany}
 use Rattle.mc_cert.specs.Object.{has_only, rows_in, text_of, number_of, list_of, object_of, at_key}
 use Rattle.mc_cert.specs.Object.{text_at, number_at, list_at, in_range, whole_at, at_most}
 use Rattle.mc_cert.specs.Denotation.{IsObject, AreRows, HasRows, HasText, HasNumber}
 
+-- a value that is taken as one of a type is one
 string-from_as_str : (d : Data) (s : List ℕ) → as_str d ≡ Some s → d ≡ string s
-string-from_as_str null s e = absurd cc
-string-from_as_str (boolean b) s e = absurd cc
-string-from_as_str (number n) s e = absurd cc
-string-from_as_str (string t) s e = cc
-string-from_as_str (array ds) s e = absurd cc
-string-from_as_str (object ms) s e = absurd cc
+string-from_as_str d s e = grind (arith, e)
 
 number-from_as_number : (d : Data) (n : Num) → as_number d ≡ Some n → d ≡ number n
-number-from_as_number null n e = absurd cc
-number-from_as_number (boolean b) n e = absurd cc
-number-from_as_number (number m) n e = cc
-number-from_as_number (string t) n e = absurd cc
-number-from_as_number (array ds) n e = absurd cc
-number-from_as_number (object ms) n e = absurd cc
+number-from_as_number d n e = grind (arith, e)
 
 array-from_as_array : (d : Data) (ds : Items) → as_array d ≡ Some ds → d ≡ array ds
-array-from_as_array null ds e = absurd cc
-array-from_as_array (boolean b) ds e = absurd cc
-array-from_as_array (number n) ds e = absurd cc
-array-from_as_array (string t) ds e = absurd cc
-array-from_as_array (array es) ds e = cc
-array-from_as_array (object ms) ds e = absurd cc
+array-from_as_array d ds e = grind (arith, e)
 
 pub object-from_as_object : (d : Data) (ms : Members) → as_object d ≡ Some ms → d ≡ object ms
-object-from_as_object null ms e = absurd cc
-object-from_as_object (boolean b) ms e = absurd cc
-object-from_as_object (number n) ms e = absurd cc
-object-from_as_object (string t) ms e = absurd cc
-object-from_as_object (array es) ms e = absurd cc
-object-from_as_object (object ns) ms e = cc
+object-from_as_object d ms e = grind (arith, e)
 
 pub unsigned-from_as_u64 : (n : Num) (m : ℕ) → as_u64 n ≡ Some m → n ≡ unsigned m
-unsigned-from_as_u64 (unsigned k) m e = cc
-unsigned-from_as_u64 (negative z) m e = absurd cc
-unsigned-from_as_u64 (float x) m e = absurd cc
+unsigned-from_as_u64 n m e = grind (arith, e)
 
 -- ---- texts and numbers
 
@@ -88,13 +66,9 @@ pub in_range-sound : (low high : ℕ) (o : Option ℕ) (n : ℕ) → in_range lo
     → (o ≡ Some n) × (low ≤ n) × (n ≤ high)
 in_range-sound low high None n e = absurd cc
 in_range-sound low high (Some m) n e =
-    let t = test_ok (nat_le low m && nat_le m high) BadNumber (Ok m) n e in
-    let same : m ≡ n = ok_injective m n t.1 in
-    let (from, to) = and_parts _ _ t.0 in (
-      ap Some same,
-      subst (λ k. low ≤ k) same (leb-true _ _ from),
-      subst (λ k. k ≤ high) same (leb-true _ _ to),
-    )
+    let (same, passed) = checked_ok (λ k. nat_le low k && nat_le k high) BadNumber m n e in
+    let (from, to) = and_parts _ _ passed in
+    (ap Some same, leb-true _ _ from, leb-true _ _ to)
 
 pub in_range-complete : (low high n : ℕ) → low ≤ n → n ≤ high → in_range low high (Some n) ≡ Ok n
 in_range-complete low high n from to = rw (le-leb low n from, le-leb n high to) refl
@@ -104,8 +78,12 @@ pub HasNumber-from_whole_at : (key : List ℕ) (low high : ℕ) (ms : Members) (
 unfolding whole_at
 HasNumber-from_whole_at key low high ms n e =
     let a = bind_ok (number_at key ms) (λ m. in_range low high (as_u64 m)) n e in
-    let w = in_range-sound low high (as_u64 a.0) n a.2 in
-    (HasNumber-from_number_at key ms a.0 a.1 ∙ ap (λ m. Some (number m)) (unsigned-from_as_u64 a.0 n w.0), w.1, w.2)
+    let w = in_range-sound low high (as_u64 a.0) n a.2 in (
+      HasNumber-from_number_at key ms a.0 a.1
+          ∙ ap (λ m. Some (number m)) (unsigned-from_as_u64 a.0 n w.0),
+      w.1,
+      w.2,
+    )
 
 pub whole_at-from_HasNumber : (key : List ℕ) (low high : ℕ) (ms : Members) (n : ℕ) → HasNumber key ms n
     → low ≤ n → n ≤ high → whole_at key low high ms ≡ Ok n
@@ -121,11 +99,10 @@ unfolding object_of
 IsObject-from_object_of known d ms e =
     let a = bind_ok (ok_or (as_object d) BadKind)
     (λ ns. cond (has_only known ns) (Ok ns) (Err UnknownKey)) ms e in
-    let t = test_ok (has_only known a.0) UnknownKey (Ok a.0) ms a.2 in
-    let same : a.0 ≡ ms = ok_injective a.0 ms t.1 in
+    let (same, keys) = checked_ok (has_only known) UnknownKey a.0 ms a.2 in
     record {
       members = object-from_as_object d ms (ok_or_ok (as_object d) BadKind a.0 a.1 ∙ ap Some same);
-      keys = ap (has_only known) (sym same) ∙ t.0;
+      keys = keys;
     }
 
 pub object_of-from_IsObject : (known : List (List ℕ)) (d : Data) (ms : Members) → IsObject known d ms
@@ -162,9 +139,8 @@ pub at_most-sound : (most : ℕ) (rows taken : List Data) → at_most most rows 
     → (rows ≡ taken) × (length taken ≤ most)
 unfolding at_most
 at_most-sound most rows taken e =
-    let t = test_ok (nat_le (length rows) most) TooMany (Ok rows) taken e in
-    let same : rows ≡ taken = ok_injective rows taken t.1 in
-    (same, subst (λ (rs : List Data). length rs ≤ most) same (leb-true (length rows) most t.0))
+    let (same, few) = checked_ok (λ (rs : List Data). nat_le (length rs) most) TooMany rows taken e in
+    (same, leb-true (length taken) most few)
 
 pub at_most-complete : (most : ℕ) (rows : List Data) → length rows ≤ most → at_most most rows ≡ Ok rows
 unfolding at_most

@@ -92,7 +92,8 @@ IsPlain-from_IsDigitOrDot b (inr dot) = record {
 
 -- an address
 pub IsPlain-dotted : (a : ℕ) → All IsPlain (dotted a)
-IsPlain-dotted a k d lt = IsPlain-from_IsDigitOrDot _ (All-ipv4_text (octets_of a) (octets_of-below_256 a) k d lt)
+IsPlain-dotted a k d lt =
+    IsPlain-from_IsDigitOrDot _ (All-ipv4_text (octets_of a) (octets_of-below_256 a) k d lt)
 
 -- ---- values
 

@@ -1,7 +1,6 @@
 pub mod BelongsLemmas
 pub mod DistinctLemmas
 pub mod Documents
-pub mod EachRow
 pub mod Fields
 pub mod JsonValues
 pub mod StoredTrees

@@ -79,7 +79,8 @@ tree_text-pieces t es s a b c p1 p2 p3 =
     append-three s (codes "[") (listed (map (entry_text t) es)) (codes "]") a b c p1 p2 p3
 
 -- the pieces of the whole text
-pub version_two_text-pieces : (t : TopologyValue) (tree_numbers : List ℕ) (trees : List Tree) (s a b c d e : List ℕ)
+pub version_two_text-pieces : (t : TopologyValue) (tree_numbers : List ℕ) (trees : List Tree)
+    (s a b c d e : List ℕ)
     → s ≡ codes "{\"flows\":[" ++ a → a ≡ listed (flow_texts t.flows tree_numbers) ++ b
     → b ≡ codes "],\"trees\":[" ++ c → c ≡ listed (map (tree_text t) trees) ++ d
     → d ≡ codes "],\"version\":2}" ++ e → s ≡ version_two_text t tree_numbers trees ++ e

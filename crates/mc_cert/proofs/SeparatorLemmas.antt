@@ -112,7 +112,8 @@ pub flow_texts-push : (s before after later separator : List ℕ) (flows : List 
     → s ≡ listed (flow_texts flows tree_numbers) ++ before → before ≡ separator ++ after
     → after ≡ flow_text f tree_no ++ later → separator ≡ separator_of (zip flows tree_numbers)
     → (s ≡ listed (flow_texts flows new) ++ later) × (codes "," ≡ separator_of (zip flows new))
-flow_texts-push s before after later separator flows tree_numbers new f tree_no n long here made e cut piece is =
+flow_texts-push s before after later separator flows tree_numbers new f tree_no n long here made e cut piece
+    is =
     let there : slice_get flows (length tree_numbers) ≡ Some f =
     ap (slice_get flows) (sym long) ∙ here in
     let grown : zip flows new ≡ zip flows tree_numbers ++ (f, tree_no) ∷ [] =

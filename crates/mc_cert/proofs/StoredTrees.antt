@@ -21,14 +21,17 @@ slice_get-unwrap_or xs n d lt = slice_get-get_or xs n d lt ∙ ap Some (sym (unw
 IsWritableTree-none : IsWritableTree []
 IsWritableTree-none = record { few = omega arith; each = λ k d lt. absurd (omega (arith, lt)) }
 
-IsWritableTree-unwrap_or : (trees : List Tree) (o : Option Tree) (n : ℕ) → slice_get trees n ≡ o → All IsWritableTree trees
+IsWritableTree-unwrap_or : (trees : List Tree) (o : Option Tree) (n : ℕ) → slice_get trees n ≡ o
+    → All IsWritableTree trees
     → IsWritableTree (unwrap_or o [])
 IsWritableTree-unwrap_or trees None n e all = IsWritableTree-none
 IsWritableTree-unwrap_or trees (Some es) n e all = All-at_number IsWritableTree trees n es all e
 
 pub IsWritableTree-from_valid : (trees : List Tree) (numbers : Option (List ℕ)) (n : ℕ) (es : Tree)
-    → IsValidCertificate trees numbers → slice_get (trees_by_flow trees numbers) n ≡ Some es → IsWritableTree es
+    → IsValidCertificate trees numbers → slice_get (trees_by_flow trees numbers) n ≡ Some es
+    → IsWritableTree es
 IsWritableTree-from_valid trees None n es kept e = All-at_number IsWritableTree trees n es kept.lists e
 IsWritableTree-from_valid trees (Some ns) n es kept e =
-    All-at_number IsWritableTree (map (tree_at trees) ns) n es (All-map IsWritableTree (tree_at trees) ns (λ k d lt.
+    All-at_number IsWritableTree (map (tree_at trees) ns) n es
+    (All-map IsWritableTree (tree_at trees) ns (λ k d lt.
     IsWritableTree-unwrap_or trees (slice_get trees (get_or ns k d)) (get_or ns k d) refl kept.lists)) e

@@ -18,8 +18,9 @@ use Rattle.mc_cert.specs.Object.{rows_in}
 use Rattle.mc_cert.specs.Denotation.{EachDenotes, DenotesTree, DenotesSharedFlow, DenotesCertificate}
 use Rattle.mc_cert.specs.Writable.{IsWritableTreeFor}
 use Rattle.mc_cert.proofs.Documents.{flow_members, flow_data, tree_data, document, IsReadBack-document}
-use Rattle.mc_cert.proofs.Documents.{version_two_text-compact, tree_data-denotes, items_from-denotes, AllByRecursion-from_All}
-use Rattle.mc_cert.proofs.Documents.{AllByRecursion-implies, length-rows_in, length-zip_equal}
+use Rattle.mc_cert.proofs.Documents.{version_two_text-compact, tree_data-denotes, items_from-denotes}
+use Rattle.mc_cert.proofs.Documents.{AllByRecursion-from_All, AllByRecursion-implies, length-rows_in}
+use Rattle.mc_cert.proofs.Documents.{length-zip_equal}
 use Rattle.mc_cert.proofs.StoredTrees.{slice_get-unwrap_or}
 use Rattle.mc_cert.proofs.LineFeed.{read-with_line_feed}
 use Rattle.mc_cert.proofs.JsonValues.{items_from, read-compact_text}
@@ -124,8 +125,10 @@ IsTextEnd-from_rest rest (inr feed) = subst IsTextEnd (sym feed)
 
 -- the text of trees that can be written, with the number of each flow's tree and with what may follow a
 -- text, denotes the trees with these numbers
-pub version_two_text-denotes : (t : TopologyValue) (tree_numbers : List ℕ) (trees : List Tree) (text rest : List ℕ)
-    → IsValidTopology t → length tree_numbers ≡ length t.flows → AllByRecursion (λ n. n < length trees) tree_numbers
+pub version_two_text-denotes : (t : TopologyValue) (tree_numbers : List ℕ) (trees : List Tree)
+    (text rest : List ℕ)
+    → IsValidTopology t → length tree_numbers ≡ length t.flows
+    → AllByRecursion (λ n. n < length trees) tree_numbers
     → length trees ≤ 4096 → All (IsWritableTreeFor t) trees → length text ≤ 16777216
     → text ≡ version_two_text t tree_numbers trees ++ rest → IsTextEnd rest
     → DenotesCertificate t text (map (tree_at trees) tree_numbers)

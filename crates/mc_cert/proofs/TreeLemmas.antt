@@ -17,8 +17,9 @@ use Rattle.mc_cert.specs.Certificate.{Tree, tree_at, IsWritableTree}
 use Rattle.mc_cert.specs.CertificateText.{version_two_text, certificate_text}
 use Rattle.mc_cert.specs.Distinct.{same_tree, find_tree, with_tree, distinct_trees, tree_number_of}
 use Rattle.mc_cert.specs.Trees.{trees_of, IsTreeNumberMap, AreSharedTrees}
-use Rattle.mc_cert.proofs.DistinctLemmas.{same_tree-Decides, same_tree-flip_false, find_tree-push_new, position-push_failing}
-use Rattle.mc_cert.proofs.DistinctLemmas.{find_tree-with_tree, tree_at-with_tree, length-fold_with_tree, slice_get-find_tree, All-with_tree}
+use Rattle.mc_cert.proofs.DistinctLemmas.{same_tree-Decides, same_tree-flip_false, find_tree-push_new}
+use Rattle.mc_cert.proofs.DistinctLemmas.{position-push_failing, find_tree-with_tree, tree_at-with_tree}
+use Rattle.mc_cert.proofs.DistinctLemmas.{length-fold_with_tree, slice_get-find_tree, All-with_tree}
 
 -- ---- trees in the map
 

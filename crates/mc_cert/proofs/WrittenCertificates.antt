@@ -11,8 +11,9 @@ use Rattle.mc_cert.specs.CertificateText.{certificate_text}
 use Rattle.mc_cert.specs.Distinct.{find_tree, with_tree, distinct_trees, tree_number_of}
 use Rattle.mc_cert.specs.Denotation.{DenotesCertificate}
 use Rattle.mc_cert.specs.Writable.{IsWritableTreeFor}
-use Rattle.mc_cert.proofs.DistinctLemmas.{with_tree-known, with_tree-new, find_tree-push_new, find_tree-fold_with_tree}
-use Rattle.mc_cert.proofs.DistinctLemmas.{length-fold_with_tree, slice_get-find_tree, All-distinct_trees}
+use Rattle.mc_cert.proofs.DistinctLemmas.{with_tree-known, with_tree-new, find_tree-push_new}
+use Rattle.mc_cert.proofs.DistinctLemmas.{find_tree-fold_with_tree, length-fold_with_tree}
+use Rattle.mc_cert.proofs.DistinctLemmas.{slice_get-find_tree, All-distinct_trees}
 use Rattle.mc_cert.proofs.Documents.{AllByRecursion-implies, AllByRecursion-map}
 use Rattle.mc_cert.proofs.TextDenotation.{IsTextEnd-from_rest, version_two_text-denotes}
 
@@ -100,14 +101,16 @@ IsWritableTreeFor-from_parts t es list bytes among =
     }
 
 -- the same where the numbers of the distinct trees are bytes
-pub certificate_text-denotes_as_written : (t : TopologyValue) (flows trees : List Tree) (text : List ℕ) → IsValidTopology t
+pub certificate_text-denotes_as_written : (t : TopologyValue) (flows trees : List Tree) (text : List ℕ)
+    → IsValidTopology t
     → BelongsTo t flows → trees ≡ distinct_trees flows → All IsWritableTree trees
     → All (All HasByteNumbers) trees
     → text ≡ certificate_text t flows → length text ≤ 16777216 → DenotesCertificate t text flows
 certificate_text-denotes_as_written t flows trees text rules belongs made lists bytes is few =
     let among : All (All (IsEntryOf t)) trees = All-distinct_trees
     (All (IsEntryOf t)) flows flows trees refl belongs.entries made in
-    let writable : All (IsWritableTreeFor t) trees = λ k d lt. IsWritableTreeFor-from_parts t (get_or trees k d)
+    let writable : All (IsWritableTreeFor t) trees =
+    λ k d lt. IsWritableTreeFor-from_parts t (get_or trees k d)
     (lists k d lt) (bytes k d lt) (among k d lt) in
     let short : length (certificate_text t flows) ≤ 16777216 =
     subst (λ (s : List ℕ). length s ≤ 16777216) is few in

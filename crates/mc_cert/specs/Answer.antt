@@ -1,5 +1,5 @@
 -- The results of steps that may fail, and how a call's result agrees with them.
-use Rattle.std.specs.Prelude.{◌≡◌, ℕ, List, [], ◌∷◌, ◌++◌, length, Result, Ok, Err}
+use Rattle.std.specs.Prelude.{◌≡◌, ℕ, List, ◌++◌, length, Result, codes, decimal}
 use Rattle.mc_cert.specs.declared.fault.At.{At}
 use Rattle.mc_cert.specs.declared.fault.At.TheVariants.{Top, Flow, FlowEntry, Tree}
 use Rattle.mc_cert.specs.declared.fault.At.TheVariants.{TreeEntry}
@@ -7,13 +7,12 @@ use Rattle.mc_cert.specs.declared.fault.CertFaultKind.{CertFaultKind}
 use Rattle.mc_cert.specs.declared.fault.CertFaultKind.TheVariants.{Memory}
 use Rattle.mc_cert.specs.declared.fault.CertFault.{CertFault}
 use Rattle.mc_text.specs.Steps as Steps
-use Rattle.mc_topology.specs.Answer.{◌>>=◌}
-use Rattle.std.specs.Prelude.{codes, decimal}
+use Rattle.mc_text.specs.Steps.{map_fault}
+use Rattle.mc_topology.specs.Answer.{read_rows}
 
 -- the result of a step, with its fault placed here
 abbrev pub locate_fault : {A : Type 0} → At → Result A CertFaultKind → Result A CertFault
-locate_fault at (Ok x) = Ok x
-locate_fault at (Err kind) = Err (record { place = at; kind = kind })
+locate_fault at = map_fault (λ kind. record { place = at; kind = kind })
 
 -- the place of the entry with this number of a flow or a tree
 abbrev pub entry_place : At → ℕ → At
@@ -36,10 +35,9 @@ abbrev pub Gives : {X Y : Type 0} → (X → Y) → Result X CertFault → Resul
 Gives = Steps.Gives IsOutOfMemory
 
 -- The values of rows, each read by its number, counted from 0, or the first fault.
-unfoldable pub each_row : {D X : Type 0} → (ℕ → D → Result X CertFault) → List X → List D
+abbrev pub each_row : {D X : Type 0} → (ℕ → D → Result X CertFault) → List X → List D
     → Result (List X) CertFault
-each_row one earlier [] = Ok earlier
-each_row one earlier (d ∷ ds) = one (length earlier) d >>= λ x. each_row one (earlier ++ x ∷ []) ds
+each_row one = read_rows (λ earlier. one (length earlier))
 
 -- the text of a place
 abbrev pub place_text : At → List ℕ

@@ -1,14 +1,13 @@
 -- The values of an object by their keys.
 use Rattle.std.specs.Prelude.{ℕ, nat_le, ◌&&◌, Bool, List, [], ◌∷◌, length, Option, Some, None}
 use Rattle.std.specs.Prelude.{Result, Ok, Err, ok_or, if◌then◌else◌}
-use Rattle.std.specs.List.{list_all, list_any}
-use Rattle.std.specs.Str.{bytes_eq}
 use Rattle.serde_json.specs.Data.{Num, Data, Items, no_items, item, Members, no_members, member}
 use Rattle.serde_json.specs.Find.{get_member, as_str, as_number, as_array, as_object, as_u64}
 use Rattle.mc_cert.specs.declared.fault.CertFaultKind.{CertFaultKind}
 use Rattle.mc_cert.specs.declared.fault.CertFaultKind.TheVariants.{MissingKey, UnknownKey, BadKind}
 use Rattle.mc_cert.specs.declared.fault.CertFaultKind.TheVariants.{BadNumber, TooMany}
 use Rattle.mc_topology.specs.Answer.{◌>>=◌}
+use Rattle.mc_topology.specs.Document.{are_known}
 
 -- the keys of an object
 abbrev pub keys_in : Members → List (List ℕ)
@@ -17,7 +16,7 @@ keys_in (member key d ms) = key ∷ keys_in ms
 
 -- the object has no other keys than the known ones
 abbrev pub has_only : List (List ℕ) → Members → Bool
-has_only known ms = list_all (λ key. list_any (λ k. bytes_eq k key) known) (keys_in ms)
+has_only known ms = are_known known (keys_in ms)
 
 -- the values of a list
 abbrev pub rows_in : Items → List Data

@@ -1,5 +1,6 @@
 -- What clap finds in the words, for the program without `audit`.
-use Rattle.std.proofs.Common.{◌≡◌, ℕ, Bool, true, false, List, [], ◌∷◌, refl, subst, ap, inl, inr, Ok, Err, Result}
+use Rattle.std.proofs.Common.{◌≡◌, ℕ, Bool, true, false, List, [], ◌∷◌, refl, subst, ap, inl, inr, Ok}
+use Rattle.std.proofs.Common.{Err, Result}
 use Rattle.std.proofs.lemmas.Bool.{false≢true}
 use Rattle.clap.specs.Faults.{fault_of, is_simple_and_free}
 use Rattle.clap.specs.Kinds.{FailsBy, HasKind, Kinds}
@@ -18,20 +19,23 @@ is_simple-commands = refl
 is_simple_and_free-commands : is_simple_and_free commands ≡ true
 is_simple_and_free-commands = refl
 
-pub subcommand_rows_of-commands : (command : Command) (words : List (List ℕ)) (matches : ArgMatches) → IsCommand commands command
+pub subcommand_rows_of-commands : (command : Command) (words : List (List ℕ)) (matches : ArgMatches)
+    → IsCommand commands command
     → HasMatchesOf (app_of command) words matches → subcommand_rows_of matches ≡ subcommand_in words
 subcommand_rows_of-commands command words matches is has =
     let P : App → Type 0 = λ app. HasMatchesOf app words matches in
     (subst P is.same has is_simple-commands).1
 
-FailsBy-commands : {T : Type 0} (command : Command) (words : List (List ℕ)) (result : Result T Error) → IsCommand commands command
+FailsBy-commands : {T : Type 0} (command : Command) (words : List (List ℕ)) (result : Result T Error)
+    → IsCommand commands command
     → (is_simple_and_free (app_of command) ≡ true → FailsBy (fault_of (app_of command) words) result)
     → FailsBy (fault_of commands words) result
 FailsBy-commands {T} command words result is by =
     let P : App → Type 0 = λ app. is_simple_and_free app ≡ true → FailsBy (fault_of app words) result in
     subst P is.same by is_simple_and_free-commands
 
-pub AreAcceptedByClap-from_Ok : (command : Command) (words : List (List ℕ)) (matches : ArgMatches) → IsCommand commands command
+pub AreAcceptedByClap-from_Ok : (command : Command) (words : List (List ℕ)) (matches : ArgMatches)
+    → IsCommand commands command
     → (is_simple_and_free (app_of command) ≡ true → FailsBy (fault_of (app_of command) words) (Ok matches))
     → AreAcceptedByClap words
 AreAcceptedByClap-from_Ok command words matches is by = FailsBy-commands command words (Ok matches) is by
@@ -40,14 +44,19 @@ abbrev is_empty_kinds : Kinds → Bool
 is_empty_kinds [] = true
 is_empty_kinds (kind ∷ kinds) = false
 
-OutOfMemory-from_no_kind : (kinds : Kinds) (error : Error) → HasKind kinds error → kinds ≡ [] → kind_of error ≡ OutOfMemory
+OutOfMemory-from_no_kind : (kinds : Kinds) (error : Error) → HasKind kinds error → kinds ≡ []
+    → kind_of error ≡ OutOfMemory
 OutOfMemory-from_no_kind [] error (inl memory) none = memory
 OutOfMemory-from_no_kind [] error (inr among) none = absurd among
-OutOfMemory-from_no_kind (kind ∷ kinds) error has none = absurd (false≢true (ap (λ (kinds : Kinds). is_empty_kinds kinds) none))
+OutOfMemory-from_no_kind (kind ∷ kinds) error has none =
+    absurd (false≢true (ap (λ (kinds : Kinds). is_empty_kinds kinds) none))
 
 -- where clap accepts the words, an error is that memory ran out
-pub OutOfMemory-from_clap_error : (T : Type 0) (command : Command) (words : List (List ℕ)) (error : Error) → IsCommand commands command
-    → (is_simple_and_free (app_of command) ≡ true → FailsBy {T = T} (fault_of (app_of command) words) (Err error))
+pub OutOfMemory-from_clap_error : (T : Type 0) (command : Command) (words : List (List ℕ)) (error : Error)
+    → IsCommand commands command
+    → (is_simple_and_free (app_of command) ≡ true
+    → FailsBy {T = T} (fault_of (app_of command) words) (Err error))
     → AreAcceptedByClap words → kind_of error ≡ OutOfMemory
 OutOfMemory-from_clap_error T command words error is by none =
-    OutOfMemory-from_no_kind (fault_of commands words) error (FailsBy-commands {T = T} command words (Err error) is by) none
+    OutOfMemory-from_no_kind (fault_of commands words) error
+    (FailsBy-commands {T = T} command words (Err error) is by) none

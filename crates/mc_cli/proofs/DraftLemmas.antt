@@ -1,6 +1,6 @@
 -- What words give, by the first of them and the rest.
-use Rattle.std.proofs.Common.{◌≡◌, ◌≢◌, ◌∙◌, ℕ, ◌+◌, ◌<◌, ◌≤◌, true, false, List, ◌++◌, length, drop, take, map}
-use Rattle.std.proofs.Common.{get_or, ap, sym, refl, Bool, Option, Some, None, codes, cond}
+use Rattle.std.proofs.Common.{◌≡◌, ◌≢◌, ◌∙◌, ℕ, ◌+◌, ◌<◌, ◌≤◌, true, false, List, ◌++◌, length, drop}
+use Rattle.std.proofs.Common.{take, map, get_or, ap, sym, refl, Bool, Option, Some, None, codes, cond}
 use Rattle.std.specs.Borrow.{Bor}
 use Rattle.std.specs.Bool.{then_some}
 use Rattle.std.specs.Option.{option_map}
@@ -40,7 +40,8 @@ router_after_equals-cond : (word : List ℕ) (test : Bool) → bytes_eq (take 10
     → cond test (Some (drop 10 word)) None ≡ router_after_equals word
 router_after_equals-cond word test is = ap (λ test. cond test (Some (drop 10 word)) None) (sym is)
 
-router_after_equals-no_prefix : (word : List ℕ) (test : Bool) → bytes_eq (take 10 word) without_equals_text ≡ test
+router_after_equals-no_prefix : (word : List ℕ) (test : Bool)
+    → bytes_eq (take 10 word) without_equals_text ≡ test
     → ((rest : List ℕ) → word ≢ without_equals_text ++ rest) → None ≡ cond test (Some (drop 10 word)) None
 router_after_equals-no_prefix word false is lacks = refl
 router_after_equals-no_prefix word true is lacks =
@@ -49,7 +50,8 @@ router_after_equals-no_prefix word true is lacks =
 
 -- what follows `--without=` is the router
 pub router_after_equals-strip_prefix : (read : Option (Bor (List ℕ))) (word : List ℕ)
-    → MatchOption read (FindsTextPrefix without_equals_text word None) (λ rest. StripsPrefix (FindsTextPrefix without_equals_text) word rest.now)
+    → MatchOption read (FindsTextPrefix without_equals_text word None)
+    (λ rest. StripsPrefix (FindsTextPrefix without_equals_text) word rest.now)
     → option_map (λ router. router.now) read ≡ router_after_equals word
 router_after_equals-strip_prefix None word lacks =
     router_after_equals-no_prefix word (bytes_eq (take 10 word) without_equals_text) refl lacks
@@ -57,15 +59,18 @@ router_after_equals-strip_prefix None word lacks =
 router_after_equals-strip_prefix (Some router) word strips =
     let whole = strips.1.1 in
     let after : strips.0 ≡ 10 = strips.1.0 in
-    let test : bytes_eq (take 10 word) without_equals_text ≡ true = ap (λ w. bytes_eq (take 10 w) without_equals_text) whole in
+    let test : bytes_eq (take 10 word) without_equals_text ≡ true =
+    ap (λ w. bytes_eq (take 10 w) without_equals_text) whole in
     ap Some (strips.2 ∙ ap (λ n. drop n word) after)
     ∙ router_after_equals-cond word true test
 
 -- what is given by whether the next word is valid
-pub Some-from_IsNextGiven : (right : Bool) (next : Option Given) (given : Given) → right ≡ true → next ≡ then_some right given
+pub Some-from_IsNextGiven : (right : Bool) (next : Option Given) (given : Given) → right ≡ true
+    → next ≡ then_some right given
     → next ≡ Some given
 Some-from_IsNextGiven right next given is says = says ∙ ap (λ right. then_some right given) is
 
-pub None-from_IsNextGiven : (right : Bool) (next : Option Given) (given : Given) → right ≡ false → next ≡ then_some right given
+pub None-from_IsNextGiven : (right : Bool) (next : Option Given) (given : Given) → right ≡ false
+    → next ≡ then_some right given
     → next ≡ None
 None-from_IsNextGiven right next given is says = says ∙ ap (λ right. then_some right given) is

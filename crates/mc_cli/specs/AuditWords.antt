@@ -20,7 +20,8 @@ is_among word words = list_any (λ other. bytes_eq other word) words
 -- each word is a router's name, and none is repeated after itself
 unfoldable pub are_distinct_router_names : List (List ℕ) → Bool
 are_distinct_router_names [] = true
-are_distinct_router_names (word ∷ after) = (is_name word && not (is_among word after)) && are_distinct_router_names after
+are_distinct_router_names (word ∷ after) =
+    (is_name word && not (is_among word after)) && are_distinct_router_names after
 
 -- the word begins with `-`, as options do
 abbrev pub is_option : List ℕ → Bool

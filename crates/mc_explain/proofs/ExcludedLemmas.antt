@@ -3,8 +3,8 @@ use Rattle.std.proofs.Common.{ℕ, Bool, List, [], ◌∷◌, ◌++◌, codes}
 use Rattle.std.proofs.Common.{inl, inr, refl, sym, subst, append-nil}
 use Rattle.mc_topology.specs.Topology.{TopologyValue, IsValidTopology, router_name}
 use Rattle.mc_explain.specs.Indented.{AreIndented, HasNoLineFeed}
-use Rattle.mc_explain.specs.ExcludedText.{AreWithoutLines, IsWithoutLine, excluded_routers, excluded_text}
-use Rattle.mc_explain.specs.ExcludedText.{verdict_reason, without_line, without_text}
+use Rattle.mc_explain.specs.ExcludedText.{AreExcludedLines, IsExcludedLine, excluded_routers, excluded_text}
+use Rattle.mc_explain.specs.ExcludedText.{verdict_reason, excluded_line, excluded_lines}
 use Rattle.mc_explain.specs.ShownNames.{routers_text}
 use Rattle.mc_explain.proofs.LineFeedLemmas.{no_feed-router_name, no_feed-append_front}
 use Rattle.mc_explain.proofs.IndentedLemmas.{has_no_line_feed-from_no_byte, are_indented-from_line_rest}
@@ -16,37 +16,37 @@ use Rattle.mc_explain.proofs.NameListLemmas.{no_feed-routers_text}
 
 -- ---- how they begin
 
-are_without_lines-line : (t : TopologyValue) (router : ℕ) → IsValidTopology t
-    → AreWithoutLines (without_line t router)
-are_without_lines-line t router ok = record {
-  lines = (codes "without " ++ router_name t router) ∷ [];
+are_excluded_lines-line : (t : TopologyValue) (router : ℕ) → IsValidTopology t
+    → AreExcludedLines (excluded_line t router)
+are_excluded_lines-line t router ok = record {
+  lines = (codes "excluded " ++ router_name t router) ∷ [];
   begins = λ line h. elim h [
     | inl e ↦ (router_name t router, sym e)
     | inr none ↦ absurd none
   ];
   feedless = λ line h. elim h [
-    | inl e ↦ subst HasNoLineFeed e (has_no_line_feed-from_no_byte (codes "without " ++ router_name t router)
-        (no_feed-append_front (codes "without ") (router_name t router) refl (no_feed-router_name t router
+    | inl e ↦ subst HasNoLineFeed e (has_no_line_feed-from_no_byte (codes "excluded " ++ router_name t router)
+        (no_feed-append_front (codes "excluded ") (router_name t router) refl (no_feed-router_name t router
         ok)))
     | inr none ↦ absurd none
   ];
-  spelled = sym (append-nil (without_line t router));
+  spelled = sym (append-nil (excluded_line t router));
 }
 
-pub are_without_lines-without_text : (t : TopologyValue) (marks : List Bool) → IsValidTopology t
-    → AreWithoutLines (without_text t marks)
-are_without_lines-without_text t marks ok =
-    are_lines-flat_map IsWithoutLine (without_line t) (excluded_routers t marks)
-    (λ router. are_without_lines-line t router ok)
+pub are_excluded_lines-excluded_lines : (t : TopologyValue) (marks : List Bool) → IsValidTopology t
+    → AreExcludedLines (excluded_lines t marks)
+are_excluded_lines-excluded_lines t marks ok =
+    are_lines-flat_map IsExcludedLine (excluded_line t) (excluded_routers t marks)
+    (λ router. are_excluded_lines-line t router ok)
 
 are_indented-verdict_reason : (t : TopologyValue) (routers : List ℕ) → IsValidTopology t
     → AreIndented (verdict_reason t routers)
 are_indented-verdict_reason t [] ok = are_indented-none
 are_indented-verdict_reason t (r ∷ rs) ok =
     are_indented-from_line_rest _
-    (is_line_rest-append_front (codes "left out:") _ refl
+    (is_line_rest-append_front (codes "excluded:") _ refl
     (is_line_rest-append (routers_text t (r ∷ rs)) _ (no_feed-routers_text t (r ∷ rs) ok)
-    (is_line_rest-append_front (codes ": the verdict is no, since a yes is said of whole domains only") _
+    (is_line_rest-append_front (codes ": the verdict is no; a yes requires all routers") _
     refl is_line_rest-feed)))
 
 pub are_indented-excluded_text : (t : TopologyValue) (marks : List Bool) → IsValidTopology t

@@ -65,7 +65,7 @@ first_double-after_distinct earlier (d ∷ before) c later once again =
     (subst (λ xs. Distinct (lans xs)) (sym same) once)
     (subst (λ xs. In c.lan (lans xs)) (sym same) again))
 
-first_double-from_is_first_double : (cs : List Copy) (c : Copy) → IsFirstDouble cs c → first_double [] cs
+pub first_double-from_is_first_double : (cs : List Copy) (c : Copy) → IsFirstDouble cs c → first_double [] cs
     ≡ Some c
 first_double-from_is_first_double cs c d = ap (first_double []) d.split ∙ first_double-after_distinct []
     d.earlier c d.later d.once d.again

@@ -10,6 +10,7 @@ pub mod LastFlightLemmas
 pub mod StrayLemmas
 pub mod CauseLemmas
 pub mod RemedyLemmas
+pub mod ShownNeedLemmas
 pub mod UniqueCauseLemmas
 pub mod ProbeLemmas
 pub mod GroupLemmas

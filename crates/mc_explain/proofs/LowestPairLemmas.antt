@@ -19,10 +19,11 @@ use Rattle.mc_topology.specs.Topology.{TopologyValue}
 use Rattle.mc_theory.specs.Lists.{In, below}
 use Rattle.mc_theory.proofs.ListLemmas.{in-append_cases, in-append_left, in-flat_map}
 use Rattle.mc_explain.specs.UnlistedText.{has_pair, has_unlisted_row, shown_unlisted_pairs, routers_with}
-use Rattle.mc_explain.proofs.MergeLemmas.{AreAbove, are_above-trans, as_keys}
+use Rattle.mc_explain.proofs.MergeLemmas.{AreAbove, are_above-trans}
+use Rattle.mc_tables.proofs.LowestLemmas.{as_keys, find-in_order}
 use Rattle.mc_explain.proofs.MergeLemmas.{in_order-append_in_order, is_strictly_sorted_by-in_order}
 use Rattle.mc_explain.proofs.MergeLemmas.{merge_into}
-use Rattle.mc_explain.proofs.MergeLemmas.{lowest-append, merge, merge_step, find-in_order}
+use Rattle.mc_explain.proofs.MergeLemmas.{lowest-append, merge, merge_step}
 use Rattle.mc_explain.proofs.MergeLemmas.{shown_pairs-of_parts}
 use Rattle.mc_explain.proofs.UnlistedLemmas.{lowest}
 

@@ -16,7 +16,7 @@ use Rattle.mc_tables.specs.Summary.{in_order, shown_pairs}
 use Rattle.mc_tables.specs.SummarySoFar.{put_at, put_pair}
 use Rattle.mc_tables.proofs.CacheLemmas.{key_cmp-total}
 use Rattle.mc_tables.proofs.CacheMapLemmas.{key_cmp-antisymmetric}
-use Rattle.mc_tables.proofs.LowestLemmas.{take_in_order-push}
+use Rattle.mc_tables.proofs.LowestLemmas.{as_keys, find-in_order, take_in_order-push}
 use Rattle.mc_explain.proofs.UnlistedLemmas.{lowest, is_strictly_sorted_by-lowest}
 
 -- ---- merging two ascending lists
@@ -133,9 +133,6 @@ lowest-append qs (b ∷ l) up =
 
 -- ---- all pairs in order
 
-abbrev pub as_keys : List (ℕ × ℕ) → List ((ℕ × ℕ) × Unit {0})
-as_keys ps = map (λ p. (p, tt {0})) ps
-
 true-from_t : (b : Bool) → T b → b ≡ true
 true-from_t true is = refl
 true-from_t false is = absurd is
@@ -166,26 +163,12 @@ is_strictly_sorted_by-in_order ps =
     is_strictly_sorted_by-from_is_sorted (fin.entries m)
     (true-from_t (fin.is_sorted key_cmp (fin.entries m)) (fin.entries_sorted m))
 
--- the keys of the entries are the entries
-as_keys-map_keys : (es : List ((ℕ × ℕ) × Unit {0})) → as_keys (map (λ e. e.0) es) ≡ es
-as_keys-map_keys [] = refl
-as_keys-map_keys (e ∷ es) =
-    ap (λ (ys : List ((ℕ × ℕ) × Unit {0})). e ∷ ys) (as_keys-map_keys es)
-
 find-append_same_back : (q : ℕ × ℕ) (xs ys zs : List (ℕ × ℕ))
     → fin.find key_cmp q (as_keys ys) ≡ fin.find key_cmp q (as_keys zs)
     → fin.find key_cmp q (as_keys (xs ++ ys)) ≡ fin.find key_cmp q (as_keys (xs ++ zs))
 find-append_same_back q [] ys zs same = same
 find-append_same_back q (x ∷ xs) ys zs same =
     ap (cond (eq_by_cmp key_cmp q x) (Some (tt {0}))) (find-append_same_back q xs ys zs same)
-
--- the same keys are found
-pub find-in_order : (q : ℕ × ℕ) (ps : List (ℕ × ℕ))
-    → fin.find key_cmp q (as_keys (in_order ps)) ≡ fin.find key_cmp q (as_keys ps)
-find-in_order q ps =
-    let m = fin.from_entries {R = key_cmp} (as_keys ps) in
-    ap (fin.find key_cmp q) (as_keys-map_keys (fin.entries m)) ∙ sym (fin.get-entries m q)
-    ∙ fin.get-from_entries key_cmp-total (as_keys ps) q
 
 abbrev found_in_either : Option (Unit {0}) → Option (Unit {0}) → Option (Unit {0})
 found_in_either None other = other

@@ -14,8 +14,8 @@ wanted_text-some_lan t (lan ∷ lans) some = refl
 
 -- if some router is excluded
 pub verdict_reason-some_router : (t : TopologyValue) (routers : List ℕ) → (length routers == 0) ≡ false
-    → codes "  left out:" ++ (routers_text t routers
-    ++ codes ": the verdict is no, since a yes is said of whole domains only\n")
+    → codes "  excluded:" ++ (routers_text t routers
+    ++ codes ": the verdict is no; a yes requires all routers\n")
     ≡ verdict_reason t routers
 verdict_reason-some_router t [] some = absurd cc
 verdict_reason-some_router t (r ∷ rs) some = refl

@@ -12,18 +12,18 @@ excluded_routers t marks = filter (is_excluded marks) (below (length t.routers))
 
 -- ---- a line for each
 
-abbrev pub without_line : TopologyValue → (router : ℕ) → List ℕ
-without_line t router = codes "without " ++ (router_name t router ++ codes "\n")
+abbrev pub excluded_line : TopologyValue → (router : ℕ) → List ℕ
+excluded_line t router = codes "excluded " ++ (router_name t router ++ codes "\n")
 
-abbrev pub without_text : TopologyValue → List Bool → List ℕ
-without_text t marks = flat_map (without_line t) (excluded_routers t marks)
+abbrev pub excluded_lines : TopologyValue → List Bool → List ℕ
+excluded_lines t marks = flat_map (excluded_line t) (excluded_routers t marks)
 
--- the line begins with `without `
-abbrev pub IsWithoutLine : List ℕ → Type 0
-IsWithoutLine line = (rest : List ℕ) × (line ≡ codes "without " ++ rest)
+-- the line begins with `excluded `
+abbrev pub IsExcludedLine : List ℕ → Type 0
+IsExcludedLine line = (rest : List ℕ) × (line ≡ codes "excluded " ++ rest)
 
-abbrev pub AreWithoutLines : List ℕ → Type 0
-AreWithoutLines = AreLines IsWithoutLine
+abbrev pub AreExcludedLines : List ℕ → Type 0
+AreExcludedLines = AreLines IsExcludedLine
 
 -- ---- one line for all
 
@@ -31,8 +31,8 @@ AreWithoutLines = AreLines IsWithoutLine
 abbrev pub verdict_reason : TopologyValue → (routers : List ℕ) → List ℕ
 verdict_reason t [] = []
 verdict_reason t (r ∷ rs) =
-    codes "  left out:" ++ (routers_text t (r ∷ rs)
-    ++ codes ": the verdict is no, since a yes is said of whole domains only\n")
+    codes "  excluded:" ++ (routers_text t (r ∷ rs)
+    ++ codes ": the verdict is no; a yes requires all routers\n")
 
 abbrev pub excluded_text : TopologyValue → List Bool → List ℕ
 excluded_text t marks = verdict_reason t (excluded_routers t marks)

@@ -5,6 +5,7 @@ pub mod Indented
 pub mod WantedText
 pub mod LastFlights
 pub mod CauseFacts
+pub mod ShownNeed
 pub mod TopologyLans
 pub mod BucketsAndMarks
 pub mod SearchLine
@@ -23,6 +24,7 @@ pub use Rattle.mc_theory.specs.Nets
 pub use Rattle.mc_theory.specs.Flights
 pub use Rattle.mc_theory.specs.Findings
 pub use Rattle.mc_theory.specs.Paths
+pub use Rattle.mc_theory.specs.ShownFrom
 pub use Rattle.mc_forward.specs.Domains
 pub use Rattle.mc_forward.specs.ListedTables
 pub use Rattle.mc_replay.specs.FindingValues

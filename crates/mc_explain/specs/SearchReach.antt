@@ -5,6 +5,8 @@ use Rattle.std.specs.List.{list_any}
 use Rattle.mc_theory.specs.Events.{Event, Outcome}
 use Rattle.mc_theory.specs.Events.Outcome.{Open, NoRow, OtherVif, Sent}
 use Rattle.mc_explain.specs.SearchLine.{Search, append_new, lans_of_search, routers_on, search_lines}
+use Rattle.mc_explain.specs.declared.searches.search_line.SearchLine.{SearchLine}
+use Rattle.mc_explain.specs.declared.searches.search_line.SearchLine.TheVariants.{Excluded}
 use Rattle.mc_explain.specs.declared.searches.searching.LanSearch.{LanSearch}
 
 -- whether an event sent the copy on, or else took none; a row for every source does neither
@@ -33,6 +35,17 @@ sent_on events routers = filter (has_event true events) routers
 -- the others that a copy came to and that didn't take it
 abbrev pub took_none : List Event → List ℕ → List ℕ
 took_none events routers = filter (λ r. has_event false events r && not (has_event true events r)) routers
+
+-- ---- excluded routers
+
+-- whether the line says that a router is excluded
+abbrev pub is_of_excluded : SearchLine → Bool
+is_of_excluded (Excluded lan router) = true
+is_of_excluded _ = false
+
+-- whether one of these lines does: what that router sends isn't known
+abbrev pub name_excluded_router : List SearchLine → Bool
+name_excluded_router lines = list_any is_of_excluded lines
 
 -- ---- the result of a search
 

@@ -5,10 +5,12 @@ mod explanation;
 pub(crate) mod first_copies;
 mod hop;
 mod path;
+mod shown_need;
 
 pub use explained::explain;
-pub use explanation::Explanation;
+pub use explanation::{Certainty, Explanation};
 use mc_topology::{LanNo, RouterNo};
+pub use shown_need::shown_from;
 
 /// A cause of a flow's fault, with LANs, routers and vifs by their numbers. A router's row is the one that
 /// it has for the flow.

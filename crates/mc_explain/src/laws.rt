@@ -27,7 +27,7 @@ ghost use Rattle.mc_explain.specs.CauseFacts.{IsMissedOrClean, IsRemedyForTtl, I
 ghost use Rattle.mc_explain.specs.CauseFacts.{ReachesAsMuch, ReachesEverySourceRow, SendsOnto, StaysReached};
 ghost use Rattle.mc_explain.specs.CauseFacts.{StopsShortOfLan, final_finding};
 
-pub use excluded_laws::without_lines_have_prefix;
+pub use excluded_laws::excluded_lines_have_prefix;
 pub use line_laws::wanted_lines_begin_with_two_spaces;
 pub use search_laws::{a_search_ends, a_search_names_each_router};
 pub use unlisted_laws::the_lowest_unlisted_pairs_are_shown;

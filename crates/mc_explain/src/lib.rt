@@ -9,8 +9,8 @@ mod shown;
 mod unlisted;
 mod wanted;
 
-pub use causes::{Cause, Explanation, explain};
-pub use excluded::{list_excluded_routers, push_excluded, push_without_lines};
+pub use causes::{Cause, Certainty, Explanation, explain, shown_from};
+pub use excluded::{list_excluded_routers, push_excluded, push_excluded_lines};
 pub use searches::{
     ExpectingRouters, InterfacesOfLans, LanSearch, Reach, SearchLine, ShownLine, ShownLines,
     search, vif_of_device,

@@ -1,15 +1,16 @@
 -- What is packed of files, and when.
-use Rattle.std.proofs.Common.{◌≡◌, ℕ, zero, suc, ◌+◌, ◌≤◌, Bool, true, false, List, []}
+use Rattle.std.proofs.Common.{◌≡◌, ℕ, suc, ◌+◌, ◌≤◌, Bool, false, List, []}
 use Rattle.std.proofs.Common.{◌∷◌, ◌++◌, codes, length, drop, Some, Result}
-use Rattle.std.proofs.Common.{Ok, Err, refl, ap, sym, subst, ◌∙◌, arith, add-one}
-use Rattle.std.specs.Prelude.{nat_le, if◌then◌else◌, slice_get}
+use Rattle.std.proofs.Common.{Ok, Err, refl, ap, sym, subst, ◌∙◌, arith}
+use Rattle.std.specs.Prelude.{nat_le, slice_get}
 use Rattle.std.specs.List.{AllByRecursion}
-use Rattle.std.proofs.lemmas.Bool.{leb-true, le-leb}
-use Rattle.std.proofs.lemmas.List.{append-nil, append_assoc, drop_all}
+use Rattle.std.proofs.lemmas.Bool.{false_from_ne_true, leb-true, le-leb}
+use Rattle.std.proofs.lemmas.List.{append-nil, append_assoc, drop_all, drop_more}
+use Rattle.std.proofs.lemmas.Option.{slice_get_within, get_or_from_slice_get}
 use Rattle.mc_text.specs.Steps.{◌>>=◌, Gives}
 use Rattle.mc_text.specs.Bundle.{PartText, IsPartName, AreWithinLimits, bundle_spelling}
 use Rattle.mc_text.specs.Bundle.{max_bundle, max_parts}
-use Rattle.mc_topology.proofs.Steps.{bind_ok, test_ok, ok_injective}
+use Rattle.mc_topology.proofs.Steps.{bind_ok, checked_ok, map_fault_ok, ok_injective}
 use Rattle.mc_topology.proofs.TopologyTexts.{parse_topology-denotes, parse_topology-from_denotes}
 use Rattle.mc_topology.proofs.Validity.{IsValidTopology-from_denotes}
 use Rattle.mc_topology.specs.Reading.{parse_topology}
@@ -19,7 +20,8 @@ use Rattle.mc_files.specs.Files.{FileText, file_named}
 use Rattle.mc_files.specs.Layout.{Slot, file_name, part_name, topology_slot, slots_after_topology, slots}
 use Rattle.mc_files.specs.Packing.{ArePacked, IsPacked}
 use Rattle.mc_files.proofs.SlotLemmas.{slots_after_topology-at_most_1537, HasPartName-slots}
-use Rattle.mc_files.proofs.PartLemmas.{IsWithinMaxPart, IsPartOfFile, Ok-from_refused_as, IsPartOfFile-from_file_part, file_part-Ok}
+use Rattle.mc_files.proofs.PartLemmas.{IsWithinMaxPart, IsPartOfFile}
+use Rattle.mc_files.proofs.PartLemmas.{IsPartOfFile-from_file_part, file_part-Ok}
 use Rattle.mc_files.specs.FilePart.{IsFailedOrMemory, file_part}
 use Rattle.mc_files.specs.PackReading.{from_file_fault, part_packed, parts_after, parts_before_limits}
 use Rattle.mc_files.specs.PackReading.{within_limits, packed_parts, read_topology}
@@ -31,18 +33,13 @@ use Rattle.mc_files.specs.declared.fault.PackFault.TheVariants.{Topology, TooLar
 
 -- ---- one part
 
--- the test of `≤` isn't false where it holds
-nat_le-not_false : (a b : ℕ) → a ≤ b → nat_le a b ≡ false → ⊥
-nat_le-not_false a b small is =
-    let known : nat_le a b ≡ true = le-leb a b small in
-    absurd cc
-
 -- what is packed of a file is exactly its part
 IsPartOfFile-from_part_packed : (files : List FileText) (slot : Slot) (part : PartText)
     → part_packed files slot ≡ Ok part
     → IsPartOfFile (file_named files (file_name slot)) (part_name slot) part
 IsPartOfFile-from_part_packed files slot part e =
-    IsPartOfFile-from_file_part files slot part (Ok-from_refused_as from_file_fault (file_part files slot) part e)
+    IsPartOfFile-from_file_part files slot part
+    (map_fault_ok from_file_fault (file_part files slot) part e)
 
 part_packed-Ok : (files : List FileText) (slot : Slot) (part : PartText)
     → part.name ≡ part_name slot → file_named files (file_name slot) ≡ Some part.bytes
@@ -51,7 +48,8 @@ part_packed-Ok files slot part named found small =
     rw (file_part-Ok files slot part named found small) refl
 
 -- a file's silent fault is silent as one of packing
-IsIoOrMemory-from_file_fault : (fault : FileFault) → IsFailedOrMemory fault → IsIoOrMemory (from_file_fault fault)
+IsIoOrMemory-from_file_fault : (fault : FileFault) → IsFailedOrMemory fault
+    → IsIoOrMemory (from_file_fault fault)
 IsIoOrMemory-from_file_fault file.Failed silent = tt
 IsIoOrMemory-from_file_fault file.TooLarge silent = absurd silent
 IsIoOrMemory-from_file_fault file.Memory silent = tt
@@ -124,7 +122,8 @@ record AreReadParts (files : List FileText) (certified : Bool) (parts : List Par
 -- the text denotes the topology that is parsed
 DenotesBoundedTopology-from_read_topology : (text : List ℕ) (t : TopologyValue) → read_topology text ≡ Ok t
     → DenotesBoundedTopology text t
-DenotesBoundedTopology-from_read_topology text t e = parse_topology-denotes text t (Ok-from_refused_as Topology (parse_topology text) t e)
+DenotesBoundedTopology-from_read_topology text t e =
+    parse_topology-denotes text t (map_fault_ok Topology (parse_topology text) t e)
 
 read_topology-Ok : (text : List ℕ) (t : TopologyValue) → DenotesBoundedTopology text t
     → read_topology text ≡ Ok t
@@ -142,8 +141,10 @@ AreReadParts-from_Ok files certified parts e =
     let two = bind_ok (read_topology one.0.bytes)
     (λ t. parts_after files (one.0 ∷ []) (slots_after_topology certified t)) parts one.2 in
     let denotes = DenotesBoundedTopology-from_read_topology one.0.bytes two.0 two.1 in
-    let more = ArePartsAfter-from_parts_after files (one.0 ∷ []) (slots_after_topology certified two.0) parts two.2 in
-    let few = slots_after_topology-at_most_1537 certified two.0 (IsValidTopology-from_denotes one.0.bytes two.0 denotes.denotes) in
+    let more = ArePartsAfter-from_parts_after files (one.0 ∷ [])
+    (slots_after_topology certified two.0) parts two.2 in
+    let few = slots_after_topology-at_most_1537 certified two.0
+    (IsValidTopology-from_denotes one.0.bytes two.0 denotes.denotes) in
     let all : AreReadParts files certified (one.0 ∷ more.rest) = record {
       text = one.0.bytes;
       topology = two.0;
@@ -184,18 +185,6 @@ IsPacked-within_limits files certified parts e limits =
       limits = limits;
     }
 
-within_limits-Err : (b : Bool) (parts : List PartText)
-    → nat_le (length (bundle_spelling parts)) max_bundle ≡ b
-    → AllByRecursion IsWithinMaxPart parts → length parts ≤ max_parts → ¬ AreWithinLimits parts
-    → (if b then Ok parts else Err TooLarge) ≡ Err TooLarge
-within_limits-Err true parts is sizes count beyond =
-    absurd (beyond (record {
-      sizes = sizes;
-      count = count;
-      size = leb-true (length (bundle_spelling parts)) max_bundle is;
-    }))
-within_limits-Err false parts is sizes count beyond = refl
-
 -- and else they are too large together
 pub packed_parts-too_large : (files : List FileText) (certified : Bool) (parts : List PartText)
     → parts_before_limits certified files ≡ Ok parts → ¬ AreWithinLimits parts
@@ -203,8 +192,13 @@ pub packed_parts-too_large : (files : List FileText) (certified : Bool) (parts :
 unfolding packed_parts within_limits
 packed_parts-too_large files certified parts e beyond =
     let all = AreReadParts-from_Ok files certified parts e in
-    rw (e) (within_limits-Err (nat_le (length (bundle_spelling parts)) max_bundle) parts refl all.sizes
-    all.count beyond)
+    let large : nat_le (length (bundle_spelling parts)) max_bundle ≡ false =
+    false_from_ne_true _ (λ small. beyond (record {
+      sizes = all.sizes;
+      count = all.count;
+      size = leb-true (length (bundle_spelling parts)) max_bundle small;
+    })) in
+    rw (e, large) refl
 
 -- what isn't read isn't packed
 pub packed_parts-Err : (files : List FileText) (certified : Bool) (fault : PackFault)
@@ -217,25 +211,16 @@ pub IsPacked-from_packed_parts : (files : List FileText) (certified : Bool) (par
 unfolding packed_parts within_limits
 IsPacked-from_packed_parts files certified parts e =
     let one = bind_ok (parts_before_limits certified files) within_limits parts e in
-    let size = test_ok (nat_le (length (bundle_spelling one.0)) max_bundle) TooLarge
-    (Ok one.0) parts
+    let (same, small) =
+    checked_ok (λ (ps : List PartText). nat_le (length (bundle_spelling ps)) max_bundle) TooLarge one.0 parts
     one.2 in
-    let all = AreReadParts-from_Ok files certified one.0 one.1 in
-    let limits : AreWithinLimits one.0 = record {
+    let read = one.1 ∙ ap Ok same in
+    let all = AreReadParts-from_Ok files certified parts read in
+    IsPacked-within_limits files certified parts read (record {
       sizes = all.sizes;
       count = all.count;
-      size = leb-true (length (bundle_spelling one.0)) max_bundle size.0;
-    } in
-    subst (λ (ps : List PartText). IsPacked files certified ps) (ok_injective one.0 parts size.1)
-    (IsPacked-within_limits files certified one.0 one.1 limits)
-
-within_limits-Ok : (b : Bool) (parts : List PartText)
-    → nat_le (length (bundle_spelling parts)) max_bundle ≡ b
-    → length (bundle_spelling parts) ≤ max_bundle
-    → (if b then Ok parts else Err TooLarge) ≡ Ok parts
-within_limits-Ok true parts is small = refl
-within_limits-Ok false parts is small =
-    absurd (nat_le-not_false (length (bundle_spelling parts)) max_bundle small is)
+      size = leb-true (length (bundle_spelling parts)) max_bundle small;
+    })
 
 pub packed_parts-Ok : (files : List FileText) (certified : Bool) (parts : List PartText)
     → IsPacked files certified parts → packed_parts certified files ≡ Ok parts
@@ -243,8 +228,7 @@ unfolding packed_parts within_limits
 packed_parts-Ok files certified parts is =
     let read = parts_before_limits-Ok files certified is.text is.topology parts is.first is.denotes is.each
     is.limits.sizes in
-    rw (read) (within_limits-Ok (nat_le (length (bundle_spelling parts)) max_bundle) parts refl
-    is.limits.size)
+    rw (read, le-leb (length (bundle_spelling parts)) max_bundle is.limits.size) refl
 
 pub IsPacked-unique : (files : List FileText) (certified : Bool) (ps qs : List PartText)
     → IsPacked files certified ps → IsPacked files certified qs → ps ≡ qs
@@ -268,7 +252,8 @@ pub IsPartName-from_IsPacked : (files : List FileText) (certified : Bool) (parts
     → IsPacked files certified parts → AllByRecursion (λ part. IsPartName part.name) parts
 IsPartName-from_IsPacked files certified parts is =
     IsPartName-from_ArePacked files (slots certified is.topology) parts is.each
-    (HasPartName-slots certified is.topology (IsValidTopology-from_denotes is.text is.topology is.denotes.denotes))
+    (HasPartName-slots certified is.topology
+    (IsValidTopology-from_denotes is.text is.topology is.denotes.denotes))
 
 -- ---- steps over the files of a source
 
@@ -280,15 +265,11 @@ Gives-bind_Err : {Y Z V : Type 0} (seen : Z → V) (r : Result Z PackFault)
 Gives-bind_Err seen r fault step next given e = rw (e) (λ says. rw (given says) refl)
 
 -- the slots from an index on are the slot there and those after it
-drop-slice_get_suc : (slots : List Slot) (i : ℕ) (slot : Slot) → slice_get slots i ≡ Some slot
-    → drop i slots ≡ slot ∷ drop (suc i) slots
-drop-slice_get_suc [] i slot at = absurd cc
-drop-slice_get_suc (s ∷ slots) zero slot at = cc
-drop-slice_get_suc (s ∷ slots) (suc i) slot at = drop-slice_get_suc slots i slot at
-
 pub drop-slice_get : (slots : List Slot) (i : ℕ) (slot : Slot) → slice_get slots i ≡ Some slot
     → drop i slots ≡ slot ∷ drop (i + 1) slots
-drop-slice_get slots i slot at = rw (add-one) (drop-slice_get_suc slots i slot at)
+drop-slice_get slots i slot at =
+    drop_more slots i slot (slice_get_within slots i slot at)
+    ∙ ap (λ (s : Slot). s ∷ drop (i + 1) slots) (get_or_from_slice_get slots i slot slot at)
 
 -- its part isn't read
 pub Gives-part_refused : {X : Type 0} (files : List FileText) (before : List PartText)

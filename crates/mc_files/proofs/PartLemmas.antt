@@ -1,21 +1,15 @@
 -- When a file of a folder makes a part.
-use Rattle.std.proofs.Common.{◌≡◌, ℕ, ◌≤◌, Bool, true, false, List, length, Option, Some, None}
-use Rattle.std.proofs.Common.{Result, Ok, Err, refl, subst}
-use Rattle.std.specs.Prelude.{nat_le, if◌then◌else◌}
+use Rattle.std.proofs.Common.{◌≡◌, ℕ, ◌≤◌, List, length, Option, Some, None, Ok, refl, ap, subst}
+use Rattle.std.specs.Prelude.{nat_le}
 use Rattle.std.proofs.lemmas.Bool.{leb-true, le-leb}
-use Rattle.mc_text.specs.Steps.{◌>>=◌, map_fault}
+use Rattle.mc_text.specs.Steps.{◌>>=◌}
 use Rattle.mc_text.specs.Bundle.{PartText, max_part}
-use Rattle.mc_topology.proofs.Steps.{ok_injective}
+use Rattle.mc_topology.proofs.Steps.{bind_ok, checked_ok, ok_injective}
+pub use Rattle.mc_topology.proofs.Steps.{map_fault_ok as Ok-from_refused_as}
 use Rattle.mc_files.specs.FilePart.{bytes_within_max_part, file_part}
 use Rattle.mc_files.specs.Files.{FileText, file_named}
 use Rattle.mc_files.specs.Layout.{Slot, file_name, part_name}
 use Rattle.mc_files.specs.declared.fault.FileFault.TheVariants.{TooLarge}
-
--- a value that was not refused was read
-pub Ok-from_refused_as : {X E F : Type 0} (as_ours : E → F) (r : Result X E) (x : X)
-    → map_fault as_ours r ≡ Ok x → r ≡ Ok x
-Ok-from_refused_as as_ours (Ok y) x e = let same : y ≡ x = cc in cc
-Ok-from_refused_as as_ours (Err fault) x e = absurd cc
 
 -- a part is no larger than it may be
 abbrev pub IsWithinMaxPart : PartText → Type 0
@@ -25,23 +19,17 @@ IsWithinMaxPart part = length part.bytes ≤ max_part
 abbrev pub IsPartOfFile : Option (List ℕ) → List ℕ → PartText → Type 0
 IsPartOfFile found name part = (part.name ≡ name) × (found ≡ Some part.bytes) × IsWithinMaxPart part
 
-IsPartOfFile-from_size_test : (b : Bool) (bytes name : List ℕ) (part : PartText)
-    → nat_le (length bytes) max_part ≡ b
-    → ((if b then Ok bytes else Err TooLarge) >>= λ bytes. Ok
-    (record { name = name; bytes = bytes })) ≡ Ok part
-    → IsPartOfFile (Some bytes) name part
-IsPartOfFile-from_size_test true bytes name part small e =
-    let is : record { name = name; bytes = bytes } ≡ part = ok_injective _ part e in
-    subst (λ (p : PartText). IsPartOfFile (Some bytes) name p) is
-    (refl, refl, leb-true (length bytes) max_part small)
-IsPartOfFile-from_size_test false bytes name part small e = absurd cc
-
 IsPartOfFile-from_bytes : (found : Option (List ℕ)) (name : List ℕ) (part : PartText)
     → (bytes_within_max_part found >>= λ bytes. Ok (record { name = name; bytes = bytes })) ≡ Ok part
     → IsPartOfFile found name part
 IsPartOfFile-from_bytes None name part e = absurd cc
-IsPartOfFile-from_bytes (Some bytes) name part e = IsPartOfFile-from_size_test (nat_le (length bytes) max_part) bytes name part
-    refl e
+IsPartOfFile-from_bytes (Some bytes) name part e =
+    let kept = bind_ok (bytes_within_max_part (Some bytes)) _ part e in
+    let (same, small) =
+    checked_ok (λ (bs : List ℕ). nat_le (length bs) max_part) TooLarge bytes kept.0 kept.1 in
+    let is : record { name = name; bytes = kept.0 } ≡ part = ok_injective _ part kept.2 in
+    subst (λ (p : PartText). IsPartOfFile (Some bytes) name p) is
+    (refl, ap Some same, leb-true (length kept.0) max_part small)
 
 pub IsPartOfFile-from_file_part : (files : List FileText) (slot : Slot) (part : PartText)
     → file_part files slot ≡ Ok part

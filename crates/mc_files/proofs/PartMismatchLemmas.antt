@@ -1,6 +1,6 @@
 -- Which parts belong to a domain: those with the names of its slots.
-use Rattle.std.proofs.Common.{◌≡◌, ℕ, ◌+◌, Bool, true, false, List, []}
-use Rattle.std.proofs.Common.{◌∷◌, Option, Some, None, refl}
+use Rattle.std.proofs.Common.{◌≡◌, ℕ, ◌+◌, Bool, true, List, []}
+use Rattle.std.proofs.Common.{◌∷◌, Option, Some, None, refl, arith}
 use Rattle.std.specs.Prelude.{if◌then◌else◌, option_map}
 use Rattle.std.specs.Str.{bytes_eq}
 use Rattle.std.proofs.lemmas.Slice.Eq.{bytes_eq-Decides}
@@ -8,16 +8,13 @@ use Rattle.mc_files.specs.PartMismatch.{first_mismatch}
 
 -- ---- lists without a mismatch are equal
 
-None-from_option_map : (o : Option ℕ) → option_map (λ n. n + 1) o ≡ None → o ≡ None
-None-from_option_map None e = refl
-None-from_option_map (Some n) e = absurd cc
-
-first_mismatch-None_more : (b : Bool) (o : Option ℕ) → (if b then option_map (λ n. n + 1) o else Some 0) ≡ None
+first_mismatch-None_more : (b : Bool) (o : Option ℕ)
+    → (if b then option_map (λ n. n + 1) o else Some 0) ≡ None
     → (b ≡ true) × (o ≡ None)
-first_mismatch-None_more true o e = (refl, None-from_option_map o e)
-first_mismatch-None_more false o e = absurd cc
+first_mismatch-None_more b o e = grind (arith, e)
 
-pub same_names-from_first_mismatch : (names others : List (List ℕ)) → first_mismatch names others ≡ None → names ≡ others
+pub same_names-from_first_mismatch : (names others : List (List ℕ)) → first_mismatch names others ≡ None
+    → names ≡ others
 same_names-from_first_mismatch [] [] e = refl
 same_names-from_first_mismatch [] (other ∷ others) e = absurd cc
 same_names-from_first_mismatch (name ∷ names) [] e = absurd cc

@@ -14,7 +14,8 @@ is_part_byte-from_is_name_byte : (b : ℕ) → is_name_byte b ≡ true → is_pa
 is_part_byte-from_is_name_byte b e = (and_parts (is_part_byte b) (not (b == 47)) e).0
 
 -- and so are those of a whole name
-list_all-is_part_byte : (name : List ℕ) → list_all is_name_byte name ≡ true → list_all is_part_byte name ≡ true
+list_all-is_part_byte : (name : List ℕ) → list_all is_name_byte name ≡ true
+    → list_all is_part_byte name ≡ true
 list_all-is_part_byte [] e = refl
 list_all-is_part_byte (b ∷ bs) e =
     let both = and_parts (is_name_byte b) (list_all is_name_byte bs) e in

@@ -14,15 +14,18 @@ use Rattle.mc_files.specs.PackRun.{WritesPackedPrefix}
 use Rattle.mc_files.specs.declared.fault.PackFault.{PackFault}
 use Rattle.mc_files.specs.declared.fault.PackFault.TheVariants.{Topology, TooLarge, Read, Write}
 use Rattle.mc_files.specs.declared.fault.PackFault.TheVariants.{Memory}
-use Rattle.mc_files.proofs.PackLemmas.{IsPacked-within_limits, packed_parts-too_large, packed_parts-Err, packed_parts-Ok}
+use Rattle.mc_files.proofs.PackLemmas.{IsPacked-within_limits, packed_parts-too_large, packed_parts-Err}
+use Rattle.mc_files.proofs.PackLemmas.{packed_parts-Ok}
 
 -- ---- the files are refused
 
 IsPackAnswer-refused : {X : Type 0} (view : X → List PartText) (certified : Bool) (files : List FileText)
     (f : PackFault) → Gives IsIoOrMemory view (Err f) (parts_before_limits certified files)
     → IsPackAnswer certified files (Err f)
-IsPackAnswer-refused view certified files (Topology f) given = packed_parts-Err files certified (Topology f) (given (λ no. no))
-IsPackAnswer-refused view certified files TooLarge given = packed_parts-Err files certified TooLarge (given (λ no. no))
+IsPackAnswer-refused view certified files (Topology f) given =
+    packed_parts-Err files certified (Topology f) (given (λ no. no))
+IsPackAnswer-refused view certified files TooLarge given =
+    packed_parts-Err files certified TooLarge (given (λ no. no))
 IsPackAnswer-refused view certified files Read given = tt
 IsPackAnswer-refused view certified files Write given = tt
 IsPackAnswer-refused view certified files Memory given = tt
@@ -37,7 +40,8 @@ IsPackAnswer-from_error view (Some files) certified r f given e =
 
 -- a bundle of the files says that they aren't refused
 IsIoOrMemory-from_packed : {X : Type 0} (view : X → List PartText) (certified : Bool) (files : List FileText)
-    (parts : List PartText) (f : PackFault) → Gives IsIoOrMemory view (Err f) (parts_before_limits certified files)
+    (parts : List PartText) (f : PackFault)
+    → Gives IsIoOrMemory view (Err f) (parts_before_limits certified files)
     → packed_parts certified files ≡ Ok parts → IsIoOrMemory f
 IsIoOrMemory-from_packed view certified files parts (Topology f) given is =
     let bad = packed_parts-Err files certified (Topology f) (given (λ no. no)) in
@@ -54,7 +58,8 @@ pub IsIoOrMemory-from_IsPacked : {X : Type 0} (view : X → List PartText) (cert
     (f : PackFault) → Gives IsIoOrMemory view (Err f) (parts_before_limits certified files) → r ≡ Err f
     → IsPacked files certified parts → IfErr r IsIoOrMemory
 IsIoOrMemory-from_IsPacked view certified files parts r f given e is =
-    rw (e) (IsIoOrMemory-from_packed view certified files parts f given (packed_parts-Ok files certified parts is))
+    rw (e) (IsIoOrMemory-from_packed view certified files parts f given
+    (packed_parts-Ok files certified parts is))
 
 -- ---- the parts are read, and written or not
 
@@ -102,10 +107,12 @@ pub IsIoOrMemory-written : (files : List FileText) (certified : Bool) (items tex
     → IsPacked files certified parts → IfErr r IsIoOrMemory
 IsIoOrMemory-written files certified items texts parts (Ok x) read same faults beyond is = tt
 IsIoOrMemory-written files certified items texts parts (Err f) read same faults beyond is =
-    IsIoOrMemory-from_write_fault files certified items parts f read (packed_parts-Ok files certified parts is) faults
+    IsIoOrMemory-from_write_fault files certified items parts f read
+    (packed_parts-Ok files certified parts is) faults
     (λ e. subst (λ (ps : List PartText). ¬ AreWithinLimits ps) same (beyond (ap (λ x. Err x) e)))
 
-pub WritesPackedBundle-written : (contents : Option (List FileText)) (certified : Bool) (items texts : List PartText)
+pub WritesPackedBundle-written : (contents : Option (List FileText)) (certified : Bool)
+    (items texts : List PartText)
     (old new : Option (List ℕ)) (r : Result (Unit {0}) PackFault)
     → ((files : List FileText) → contents ≡ Some files → parts_before_limits certified files ≡ Ok items)
     → texts ≡ items → OnOk r (AppendsBundle old new texts)
@@ -119,7 +126,8 @@ WritesPackedBundle-written (Some files) certified items texts old new (Ok x) rea
 )
 WritesPackedBundle-written (Some files) certified items texts old new (Err f) read same ok = tt
 
-pub WritesPackedPrefix-cut : (contents : Option (List FileText)) (certified : Bool) (items texts : List PartText)
+pub WritesPackedPrefix-cut : (contents : Option (List FileText)) (certified : Bool)
+    (items texts : List PartText)
     (old new : Option (List ℕ))
     → ((files : List FileText) → contents ≡ Some files → parts_before_limits certified files ≡ Ok items)
     → texts ≡ items → AreWithinLimits texts → AppendsProperPrefix old new (bundle_spelling texts)

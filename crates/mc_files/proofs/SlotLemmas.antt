@@ -7,11 +7,12 @@ use Rattle.std.specs.List.{AllByRecursion, list_all}
 use Rattle.std.proofs.lemmas.Bool.{and_parts}
 use Rattle.std.proofs.lemmas.List.{length-append, length-map}
 use Rattle.mc_text.specs.Bundle.{IsPartName}
+use Rattle.mc_text.proofs.Lists.{AllByRecursion-append}
 use Rattle.mc_topology.specs.Names.{is_name, is_name_byte}
 use Rattle.mc_topology.specs.SectionRows.{RouterRow}
 use Rattle.mc_topology.specs.Topology.{TopologyValue, IsValidTopology}
-use Rattle.mc_files.specs.Layout.{Slot, part_name, file_name, router_slots, reports_slot}
-use Rattle.mc_files.specs.Layout.{vif_slot, cache_slot, certificate_slot, certificate_slots, slots_after_topology}
+use Rattle.mc_files.specs.Layout.{Slot, part_name, file_name, router_slots, reports_slot, vif_slot}
+use Rattle.mc_files.specs.Layout.{cache_slot, certificate_slot, certificate_slots, slots_after_topology}
 use Rattle.mc_files.specs.Layout.{slots, topology_slot}
 use Rattle.mc_files.proofs.PartNames.{IsPartName-append}
 
@@ -131,7 +132,8 @@ pub slots-reports_slot : (certified : Bool) (t : TopologyValue) (n k : ℕ) (lan
     → n ≡ k + 2 * length t.routers + 1 → slice_get t.lans k ≡ Some lan
     → slice_get (slots certified t) n ≡ Some (reports_slot lan)
 slots-reports_slot certified t n k lan is at =
-    slots-behind_routers certified t n k is ∙ slice_get-reports_slot (certificate_slots certified) t.lans k lan at
+    slots-behind_routers certified t n k is
+    ∙ slice_get-reports_slot (certificate_slots certified) t.lans k lan at
 
 -- and behind those of the LANs the certificate's alone
 pub slots-certificate_slot : (certified : Bool) (t : TopologyValue) (n : ℕ)
@@ -154,11 +156,6 @@ abbrev HasPartName : Slot → Type 0
 HasPartName slot = IsPartName (part_name slot)
 
 module _ (P : Slot → Type 0) where
-  AllByRecursion-append : (xs ys : List Slot) → AllByRecursion P xs → AllByRecursion P ys
-      → AllByRecursion P (xs ++ ys)
-  AllByRecursion-append [] ys p q = q
-  AllByRecursion-append (x ∷ xs) ys p q = (p.0, AllByRecursion-append xs ys p.1 q)
-
   AllByRecursion-router_slots : (rs : List RouterRow)
       → ((n : ℕ) (r : RouterRow) → slice_get rs n ≡ Some r → IsTrue (is_name r.name))
       → ((name : List ℕ) → IsTrue (is_name name) → P (vif_slot name) × P (cache_slot name))
@@ -182,9 +179,10 @@ module _ (P : Slot → Type 0) where
       → ((name : List ℕ) → IsTrue (is_name name) → P (reports_slot name))
       → AllByRecursion P (certificate_slots certified) → AllByRecursion P (slots_after_topology certified t)
   AllByRecursion-slots_after_topology certified t is routers lans last =
-      AllByRecursion-append (flat_map router_slots t.routers) (map reports_slot t.lans ++ certificate_slots certified)
+      AllByRecursion-append P (flat_map router_slots t.routers)
+      (map reports_slot t.lans ++ certificate_slots certified)
       (AllByRecursion-router_slots t.routers is.valid_router_names routers)
-      (AllByRecursion-append (map reports_slot t.lans) (certificate_slots certified)
+      (AllByRecursion-append P (map reports_slot t.lans) (certificate_slots certified)
       (AllByRecursion-reports_slots t.lans is.valid_lan_names lans) last)
 
 is_name-topology : is_name (codes "topology") ≡ true
@@ -218,7 +216,8 @@ pub HasPartName-slots : (certified : Bool) (t : TopologyValue) → IsValidTopolo
     → AllByRecursion HasPartName (slots certified t)
 HasPartName-slots certified t is = (
   IsPartName-topology,
-  AllByRecursion-slots_after_topology HasPartName certified t is (λ name ok. (HasPartName-vif_slot name ok, HasPartName-cache_slot name ok))
+  AllByRecursion-slots_after_topology HasPartName certified t is
+      (λ name ok. (HasPartName-vif_slot name ok, HasPartName-cache_slot name ok))
       HasPartName-reports_slot (HasPartName-certificate_slots certified),
 )
 
@@ -234,7 +233,8 @@ list_all-is_name_byte name is =
     (and_parts (nat_le 1 (length name) && nat_le (length name) 32)
     (list_all is_name_byte name) is).1
 
-HasPlainFileName-certificate_slots : (certified : Bool) → AllByRecursion HasPlainFileName (certificate_slots certified)
+HasPlainFileName-certificate_slots : (certified : Bool)
+    → AllByRecursion HasPlainFileName (certificate_slots certified)
 HasPlainFileName-certificate_slots true = (refl, tt)
 HasPlainFileName-certificate_slots false = tt
 
@@ -242,6 +242,7 @@ pub HasPlainFileName-slots : (certified : Bool) (t : TopologyValue) → IsValidT
     → AllByRecursion HasPlainFileName (slots certified t)
 HasPlainFileName-slots certified t is = (
   refl,
-  AllByRecursion-slots_after_topology HasPlainFileName certified t is (λ name ok. (list_all-is_name_byte name ok, list_all-is_name_byte name ok)) list_all-is_name_byte
+  AllByRecursion-slots_after_topology HasPlainFileName certified t is
+      (λ name ok. (list_all-is_name_byte name ok, list_all-is_name_byte name ok)) list_all-is_name_byte
       (HasPlainFileName-certificate_slots certified),
 )

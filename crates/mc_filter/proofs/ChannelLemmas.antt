@@ -80,7 +80,8 @@ wanted_answers_more channels records places answers place answer below is own be
           ap (λ n. get_or places n d) last
           ∙ get_or_default places (length answers) d place below ∙ sym is in
           let states : get_or (answers ++ answer ∷ []) i false ≡ answer =
-          ap (λ n. get_or (answers ++ answer ∷ []) n false) last ∙ get_or_push answers answer false (length answers) refl
+          ap (λ n. get_or (answers ++ answer ∷ []) n false) last
+          ∙ get_or_push answers answer false (length answers) refl
           in
           subst (λ p. IsAnswerAtPlace channels records p (get_or (answers ++ answer ∷ []) i false))
           (sym here) (subst (λ b. IsAnswerAtPlace channels records place b) (sym states) own)

@@ -1,9 +1,9 @@
 -- Reading files with those of some routers excluded.
 use Rattle.std.specs.Prelude.{◌≡◌, ℕ, zero, suc, ◌+◌, ◌<◌, min, Bool, true, false, ◌||◌, List, [], ◌∷◌}
-use Rattle.std.specs.Prelude.{Option, Some, None, Result, Ok, Err, IfOk, Contains, get_or, is_some}
+use Rattle.std.specs.Prelude.{Option, Some, Result, Ok, Err, Contains, get_or, is_some}
 use Rattle.std.specs.Prelude.{length, map, option_map}
 use Rattle.std.specs.Prelude.{drop, refl}
-use Rattle.std.proofs.Common.{add-one, cond, ap, arith, subst, sym, ◌∙◌}
+use Rattle.std.proofs.Common.{add-one, cond, ap, arith, sym, ◌∙◌}
 use Rattle.std.specs.FinMap as map_of
 use Rattle.std.specs.List.{find, list_any, position_from}
 use Rattle.std.specs.Str.{bytes_eq}
@@ -11,24 +11,18 @@ use Rattle.std.proofs.lemmas.Iterator.Adapters.{position_from-zero}
 use Rattle.std.proofs.lemmas.Slice.Eq.{bytes_eq-Decides}
 use Rattle.mc_text.specs.Steps.{◌>>=◌, map_fault}
 use Rattle.mc_text.specs.declared.text.addr.Order.{Order}
-use Rattle.mc_tables.specs.CacheTable.{EntryValue, key_cmp}
-use Rattle.mc_tables.specs.Summary.{SummaryValue, summary_of}
 use denote.Ref.{Bor}
 use Rattle.mc_topology.specs.Lookup.{has_router, router_no_of}
 use Rattle.mc_topology.specs.SectionRows.{RouterRow}
 use Rattle.mc_topology.specs.Topology.{TopologyValue}
-use Rattle.mc_topology.specs.declared.flow.Flow.{Flow}
 use Rattle.mc_files.specs.FilePart.{file_part, bytes_within_max_part}
 use Rattle.mc_files.specs.Files.{FileText, file_named}
 use Rattle.mc_files.specs.Layout.{Slot, cache_slot, file_name, part_name, reports_slot, topology_slot}
 use Rattle.mc_files.specs.Layout.{vif_slot}
-use Rattle.mc_forward.specs.ListedTables.{IsListedPartOfTables, flow_pairs}
 use Rattle.mc_input.specs.FilesReading.{input_of_files, part_from_file}
-use Rattle.mc_input.specs.Kept.{GivesKept}
 use Rattle.mc_input.specs.ExcludedRouters.{AreRouterNames, cache_header, empty_tables}
 use Rattle.mc_input.specs.ExcludedRouters.{check_router_names, input_of_files_without}
 use Rattle.mc_input.specs.ExcludedRouters.{files_with_exclusions, vif_header}
-use Rattle.mc_input.specs.SummariesOfFiles.{IsSummaryOf}
 use Rattle.mc_input.specs.PartsReading.{all_reports, read_tables_and_reports, first_lan_number}
 use Rattle.mc_input.specs.PartsReading.{router_tables, read_part}
 use Rattle.mc_input.specs.PartsReading.{topology_of}
@@ -149,29 +143,6 @@ module _ (files : List FileText) where
   unfolding router_tables
   router_tables-header_only n name order vif cache = rw (vif, cache) refl
 
-  -- and the cache's summary is that of no row
-  pub IsSummaryOf-header_only : (all : Bool) (flows : List Flow) (r : RouterRow) (summary : SummaryValue)
-      → file_named files (file_name (cache_slot r.name)) ≡ Some cache_header
-      → summary ≡ summary_of all (flow_pairs flows) [] → IsSummaryOf all files flows r summary
-  IsSummaryOf-header_only all flows r summary cache summarized = record {
-    part = record { name = part_name (cache_slot r.name); bytes = cache_header };
-    rows = [];
-    made = rw cache refl;
-    read = refl;
-    summarized = summarized;
-  }
-
--- empty tables have all that flows need of them
-pub IsListedPartOfTables-empty : (flows : List Flow) → IsListedPartOfTables flows empty_tables empty_tables
-IsListedPartOfTables-empty flows = record {
-  vifs = refl;
-  cache = record {
-    entries = λ key is. refl;
-    others = λ key is. map_of.get-empty {X = EntryValue} key_cmp key;
-    wildcards = refl;
-  };
-}
-
 -- ---- where the files are the same, the same is read
 
 module _ (files others : List FileText) where
@@ -187,17 +158,6 @@ module _ (files others : List FileText) where
   unfolding router_tables
   router_tables-same_files n name order vif cache =
       rw (file_part-same_file (vif_slot name) vif, file_part-same_file (cache_slot name) cache) refl
-
-  pub IsSummaryOf-same_file : (all : Bool) (flows : List Flow) (r : RouterRow) (summary : SummaryValue)
-      → IsSameFile files others (cache_slot r.name) → IsSummaryOf all others flows r summary
-      → IsSummaryOf all files flows r summary
-  IsSummaryOf-same_file all flows r summary same own = record {
-    part = own.part;
-    rows = own.rows;
-    made = file_part-same_file (cache_slot r.name) same ∙ own.made;
-    read = own.read;
-    summarized = own.summarized;
-  }
 
   pub all_reports-same_files : ((lan : List ℕ) → IsSameFile files others (reports_slot lan))
       → (n : ℕ) (lans : List (List ℕ))
@@ -218,24 +178,6 @@ pub all_reports-with_exclusions : (names : List (List ℕ)) (files : List FileTe
     ≡ all_reports Input (part_from_file files) (first_lan_number t) t.lans
 all_reports-with_exclusions names files t =
     all_reports-same_files (files_with_exclusions names files) files (IsSameFile-reports_slot names files) (first_lan_number t) t.lans
-
--- the file of a router with this name
-pub IsSameFile-same_name : (files others : List FileText) (r : RouterRow) (name : List ℕ) → r.name ≡ name
-    → IsSameFile files others (cache_slot name) → IsSameFile files others (cache_slot r.name)
-IsSameFile-same_name files others r name named same =
-    subst (λ (n : List ℕ). IsSameFile files others (cache_slot n)) (sym named) same
-
--- what is kept of a step's answer is kept of an equal step's,
-pub GivesKept-same_step : {X Y : Type 0} (Keeps : X → Y → Type 0) (r : Result X SourceFault)
-    {step other : Result Y SourceFault} → step ≡ other → GivesKept Keeps r other
-    → GivesKept Keeps r step
-GivesKept-same_step Keeps r same gives = subst (GivesKept Keeps r) (sym same) gives
-
--- what holds of an answer can be weakened
-pub IfOk-implies : {X : Type 0} {P Q : X → Type 0} (r : Result X SourceFault) → ((x : X) → P x → Q x)
-    → IfOk r P → IfOk r Q
-IfOk-implies (Ok x) on holds = on x holds
-IfOk-implies (Err fault) on holds = tt
 
 -- ---- the names
 

@@ -3,7 +3,6 @@ use Rattle.std.proofs.Common.{◌≡◌, true, Result, Ok, Err, refl, subst}
 use Rattle.mc_text.specs.Steps.{map_fault}
 use Rattle.mc_files.specs.declared.fault.FileFault.{FileFault}
 use Rattle.mc_files.specs.declared.fault.FileFault.TheVariants as file
-use Rattle.mc_input.specs.PartsOneByOne.{IsPartResult}
 use Rattle.mc_input.specs.SourceFault.{is_possible_for_files, from_file_fault}
 use Rattle.mc_input.specs.declared.fault.InputFault.{InputFault}
 use Rattle.mc_input.specs.declared.fault.InputFault.TheVariants.{Memory}
@@ -26,10 +25,3 @@ is_possible_for_files-from_reader {Y = Y} fault as_ours (Err e) own is =
     let there : (let r : Result Y InputFault = Err (as_ours e) in r) ≡ Err fault = is (λ memory. cc) in
     let same : as_ours e ≡ fault = cc in
     subst (λ (f : InputFault). is_possible_for_files (Input f) ≡ true) same (own e)
-
-pub is_possible_for_files-from_part_result : {X Y E : Type 0} (Keeps : X → Y → Type 0) (fault : InputFault)
-    (as_ours : E → InputFault) (read : Result Y E)
-    → ((e : E) → is_possible_for_files (Input (as_ours e)) ≡ true)
-    → IsPartResult Keeps (Err fault) (map_fault as_ours read) → is_possible_for_files (Input fault) ≡ true
-is_possible_for_files-from_part_result Keeps Memory as_ours read own is = refl
-is_possible_for_files-from_part_result Keeps fault as_ours read own is = is_possible_for_files-from_reader fault as_ours read own (λ _. is)

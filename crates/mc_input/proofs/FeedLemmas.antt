@@ -3,9 +3,11 @@ use Rattle.std.specs.Prelude.{◌≡◌, ◌≢◌, ℕ, ◌+◌, ◌≤◌, tru
 use Rattle.std.specs.Prelude.{Result, Ok, Err}
 use Rattle.std.specs.Prelude.{IfErr, IfSome, OnOk, if◌then◌else◌, is_ok, is_some, refl}
 use Rattle.std.proofs.Common.{ap, ◌∙◌, sym, append_assoc, arith}
-use Rattle.mc_text.specs.Lines.{max_text}
+use Rattle.mc_text.specs.Lines.{LineText, max_text}
 use Rattle.mc_text.specs.declared.memory.Memory.{Memory}
+use Rattle.mc_tables.specs.LinesSoFar.{read_after}
 use Rattle.mc_tables.specs.Steps.{out_of_memory, unless_fault}
+use Rattle.mc_tables.specs.TableSoFar.{TableSoFar, table_if}
 use Rattle.mc_tables.specs.declared.fault.TableFault.{TableFault}
 
 -- the bytes of the text before a piece are the piece and the bytes after it
@@ -30,45 +32,43 @@ counted_size-at_most : (fault : Option TableFault) (size : ℕ) → counted_size
 counted_size-at_most None size = omega arith
 counted_size-at_most (Some fault) size = omega arith
 
-module _ {S T : Type 0} (fault : S → Option TableFault) (size : S → ℕ)
-    (read : S → List ℕ → Result T TableFault) (old new : S) (fed : Result (Unit {0}) TableFault)
-    (again : IfSome (fault old) (λ own. (fed ≡ Err own) × (new ≡ old))) where
+module _ {R A : Type 0} (first : List ℕ) (read : R → List LineText → Result A TableFault)
+    (old new : TableSoFar R) (fed : Result (Unit {0}) TableFault)
+    (again : IfSome old.fault (λ own. (fed ≡ Err own) × (new ≡ old))) where
   -- whatever bytes follow, the result is the same
   pub result_after-kept_fault : (piece more : List ℕ) (r : Result (Unit {0}) Memory)
       → OnOk r (fed ≢ Err out_of_memory)
-      → (fed ≢ Err out_of_memory → size old + length (piece ++ more) ≤ max_text
-      → unless_fault (fault new) (read new more) ≡ unless_fault (fault old) (read old (piece ++ more)))
-      → counted_size (fault old) (size old) + length (piece ++ more) ≤ max_text
-      → OnOk r
-      (unless_fault (fault new) (read new more) ≡ unless_fault (fault old) (read old (piece ++ more)))
-  result_after-kept_fault piece more r loud goes within = by r loud (fault old) refl again within
+      → (fed ≢ Err out_of_memory → old.lines.size + length (piece ++ more) ≤ max_text
+      → table_if first read new more ≡ table_if first read old (piece ++ more))
+      → counted_size old.fault old.lines.size + length (piece ++ more) ≤ max_text
+      → OnOk r (table_if first read new more ≡ table_if first read old (piece ++ more))
+  result_after-kept_fault piece more r loud goes within = by r loud old.fault refl again within
     where
       by : (r : Result (Unit {0}) Memory) → OnOk r (fed ≢ Err out_of_memory)
-          → (known : Option TableFault) → fault old ≡ known
+          → (known : Option TableFault) → old.fault ≡ known
           → IfSome known (λ own. (fed ≡ Err own) × (new ≡ old))
-          → counted_size known (size old) + length (piece ++ more) ≤ max_text
-          → OnOk r
-          (unless_fault (fault new) (read new more) ≡ unless_fault (fault old) (read old (piece ++ more)))
+          → counted_size known old.lines.size + length (piece ++ more) ≤ max_text
+          → OnOk r (table_if first read new more ≡ table_if first read old (piece ++ more))
       by (Ok u) loud None is again within = goes loud within
       by (Ok u) loud (Some own) is again within =
-          ap (λ (s : S). unless_fault (fault s) (read s more)) again.1
-          ∙ ap (λ (f : Option TableFault). unless_fault f (read old more)) is
-          ∙ sym (ap (λ (f : Option TableFault). unless_fault f (read old (piece ++ more))) is)
+          ap (λ s. table_if first read s more) again.1
+          ∙ ap (λ f. unless_fault f (read_after first (read old.rows) old.lines more)) is
+          ∙ sym (ap (λ f. unless_fault f (read_after first (read old.rows) old.lines (piece ++ more))) is)
       by (Err own) loud known is again within = tt
 
   -- no byte counts twice towards the limit
-  pub counted_size-more : (n : ℕ) → OnOk fed (size new ≡ size old + n)
-      → IfErr fed (λ own. fault new ≡ Some own)
-      → counted_size (fault new) (size new) ≤ counted_size (fault old) (size old) + n
-  counted_size-more n grown kept = by fed (fault old) again grown kept
+  pub counted_size-more : (n : ℕ) → OnOk fed (new.lines.size ≡ old.lines.size + n)
+      → IfErr fed (λ own. new.fault ≡ Some own)
+      → counted_size new.fault new.lines.size ≤ counted_size old.fault old.lines.size + n
+  counted_size-more n grown kept = by fed old.fault again grown kept
     where
       by : (fed : Result (Unit {0}) TableFault) (known : Option TableFault)
-          → IfSome known (λ own. (fed ≡ Err own) × (new ≡ old)) → OnOk fed (size new ≡ size old + n)
-          → IfErr fed (λ own. fault new ≡ Some own)
-          → counted_size (fault new) (size new) ≤ counted_size known (size old) + n
-      by (Ok u) None again grown kept = omega (arith, grown, counted_size-at_most (fault new) (size new))
+          → IfSome known (λ own. (fed ≡ Err own) × (new ≡ old))
+          → OnOk fed (new.lines.size ≡ old.lines.size + n) → IfErr fed (λ own. new.fault ≡ Some own)
+          → counted_size new.fault new.lines.size ≤ counted_size known old.lines.size + n
+      by (Ok u) None again grown kept = omega (arith, grown, counted_size-at_most new.fault new.lines.size)
       by (Ok u) (Some own) again grown kept = absurd (let e = again.0 in cc)
       by (Err own) known again grown kept =
-          let none : counted_size (fault new) (size new) ≡ 0 =
-          ap (λ (f : Option TableFault). counted_size f (size new)) kept in
+          let none : counted_size new.fault new.lines.size ≡ 0 =
+          ap (λ f. counted_size f new.lines.size) kept in
           omega (arith, none)

@@ -9,16 +9,13 @@ use Rattle.mc_files.specs.declared.fault.FileFault.{FileFault}
 use Rattle.mc_files.specs.declared.fault.FileFault.TheVariants as file
 use Rattle.mc_input.specs.SourceFault.{IsReadOrMemory, from_file_fault}
 use Rattle.mc_input.specs.FilesReading.{part_from_file}
-use Rattle.mc_input.specs.Kept.{GivesKept}
-use Rattle.mc_input.specs.PartsOneByOne.{IsPartResult}
 use Rattle.mc_input.specs.PartsReading.{read_part}
 use Rattle.mc_input.specs.declared.fault.InputFault.{InputFault}
 use Rattle.mc_input.specs.declared.fault.InputFault.TheVariants.{Memory}
 use Rattle.mc_input.specs.declared.source_fault.SourceFault.TheVariants.{Input}
-use Rattle.mc_input.proofs.PartResultLemmas.{Err-from_IsPartResult, Ok-from_IsPartResult}
 
 -- a silent fault of a file is silent as one of the folder
-IsReadOrMemory-from_file_fault : (fault : FileFault) → IsFailedOrMemory fault → IsReadOrMemory (from_file_fault fault)
+pub IsReadOrMemory-from_file_fault : (fault : FileFault) → IsFailedOrMemory fault → IsReadOrMemory (from_file_fault fault)
 IsReadOrMemory-from_file_fault file.Failed silent = inl refl
 IsReadOrMemory-from_file_fault file.TooLarge silent = absurd silent
 IsReadOrMemory-from_file_fault file.Memory silent = inr refl
@@ -54,21 +51,3 @@ module _ {X : Type 0} (files : List FileText) (n : ℕ) (slot given : Slot)
       let here = subst (λ (s : Slot). file_part files s ≡ Ok part) is made in
       let reads = subst (λ (p : PartText). read p ≡ Ok x) same found in
       rw (here, reads) refl
-
-module _ {K Y : Type 0} (Keeps : K → Y → Type 0) (files : List FileText) (n : ℕ)
-    (slot given : Slot) (read : PartText → Result Y InputFault) (part : PartText)
-    (is : given ≡ slot) (made : file_part files given ≡ Ok part) where
-  -- the reader refuses the file's part
-  pub read_part-kept_Err : (fault : InputFault) → IsPartResult Keeps (Err fault) (read part)
-      → (¬ IsReadOrMemory (Input fault))
-      → read_part Input (part_from_file files n slot) read ≡ Err (Input fault)
-  read_part-kept_Err fault reads says =
-      read_part-content_Err files n slot given read part part fault is made refl
-      (Err-from_IsPartResult Keeps fault (read part) reads) says
-
-  -- or this is kept of its value
-  pub GivesKept-from_part_result : (kept : K) → IsPartResult Keeps (Ok kept) (read part)
-      → GivesKept Keeps (Ok kept) (read_part Input (part_from_file files n slot) read)
-  GivesKept-from_part_result kept reads =
-      let own = Ok-from_IsPartResult Keeps (Ok kept) (read part) kept reads refl in
-      (own.0, read_part-Ok files n slot given read part part own.0 is made refl own.1, own.2)

@@ -1,4 +1,7 @@
 mod BundleDenotesInputLemmas
+mod BundleContentsLemmas
+mod CacheLemmas
+mod ContentsLemmas
 mod ReadRestLemmas
 mod InputCounts
 mod FaultLemmas
@@ -6,13 +9,16 @@ mod FeedLemmas
 mod FilesFeedLemmas
 mod FilesLemmas
 mod FilesMeansLemmas
+mod HeaderLemmas
 mod FilesDenoteInputLemmas
 pub mod UniqueDomain
 mod OneByOneLemmas
 mod PartResultLemmas
 mod ExcludedLemmas
 mod MeansLemmas
+mod StreamLemmas
 mod SummaryLemmas
+mod WalkLemmas
 mod HasNoVifOrRowLemmas
 mod UniqueInput
 pub mod ExcludedPerFlowLemmas
@@ -22,4 +28,5 @@ mod RefusedLemmas
 mod SourceOfPartsLemmas
 mod CollectedPartLemmas
 mod FinishLemmas
+mod FolderLemmas
 pub mod WithCertificate

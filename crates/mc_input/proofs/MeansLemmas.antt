@@ -1,18 +1,14 @@
 -- The domain that consists of what was kept is the one that the bundle means.
-use Rattle.std.specs.Prelude.{◌≡◌, ℕ, Bool, List, [], ◌∷◌, Option, Some}
+use Rattle.std.specs.Prelude.{◌≡◌, ℕ, Bool, List, Option, Some}
 use Rattle.std.specs.declared.alloc.Global.{Global}
 use Rattle.std.specs.Prelude.{None, Vec, is_some, Result, Ok, Err, IfErr, IfOk, IfSome, MatchResult, refl}
 use Rattle.std.proofs.Common.{ap, ◌∙◌, sym, subst, inl, inr, arith}
-use Rattle.std.proofs.lemmas.Slice.Eq.{bytes_eq-Decides}
-use Rattle.mc_text.specs.Bundle.{PartText, max_input}
-use Rattle.mc_text.specs.PartsReading.{PartsState, prepend_parts}
+use Rattle.mc_text.specs.Bundle.{max_input}
+use Rattle.mc_text.specs.PartsReading.{PartsState}
 use Rattle.mc_text.specs.PartsLimits.{ConsumesWithin}
-use Rattle.mc_text.specs.RestOfBundle.{rest_of_bundle}
 use Rattle.mc_text.specs.ReadFault.{ConsumesUpTo}
 use Rattle.mc_text.specs.Steps.{map_fault}
 use Rattle.mc_text.specs.declared.bundle.stage.Stage.TheVariants as stages
-use Rattle.mc_topology.specs.Topology.{TopologyValue}
-use Rattle.mc_files.specs.Layout.{part_name, topology_slot}
 use Rattle.mc_forward.specs.Assembling.{AreWanted, IsAssembled}
 use Rattle.mc_forward.specs.Domains.{DomainValue, IsDomain}
 use Rattle.mc_forward.proofs.ListedTableLemmas.{pairwise-count, pairwise-each}
@@ -21,49 +17,17 @@ use Rattle.mc_input.specs.Input.{InputValue, DenotesInput}
 use Rattle.mc_input.specs.InputReading.{input_of_bundle}
 use Rattle.mc_input.specs.InputView.{certificate_text}
 use Rattle.mc_input.specs.Meaning.{Means, MeansDomain}
-use Rattle.mc_input.specs.PartsOneByOne.{ReadsDomain, IsFaultOf, read_rest, check_names_then}
-use Rattle.mc_input.specs.PartsOneByOne.{finish_with_tables, read_all_parts}
+use Rattle.mc_input.specs.PartsOneByOne.{ReadsDomain, IsFaultOf, read_all_parts, read_rest}
 use Rattle.mc_input.specs.Kept.{IsDomainOf}
-use Rattle.mc_input.specs.PartsOneByOne.{read_first_topology}
-use Rattle.mc_input.specs.PartsReading.{topology_of}
 use Rattle.mc_input.specs.SourceFault.{IsReadOrMemory}
 use Rattle.mc_input.specs.declared.fault.InputFault.TheVariants as input
 use Rattle.mc_input.specs.declared.source_fault.SourceFault.{SourceFault}
 use Rattle.mc_input.specs.declared.source_fault.SourceFault.TheVariants.{Input, Read}
-use Rattle.mc_input.proofs.ReadRestLemmas.{Err-from_map_fault, read_rest-same}
-use Rattle.mc_input.proofs.ReadRestLemmas.{read_rest-part_passed, read_rest-both_Err}
+use Rattle.mc_input.proofs.ReadRestLemmas.{Err-from_map_fault}
 use Rattle.mc_input.proofs.UniqueDomain.{MeansDomain-unique}
 use Rattle.mc_input.proofs.ReadLemmas.{input_of_bundle-Ok, read_bundle}
 use Rattle.mc_input.proofs.ReadLemmas.{input_of_bundle-Err_from_read_bundle}
 use Rattle.mc_input.proofs.ReadLemmas.{DenotesInput-from_read_bundle}
-
--- ---- the topology first
-
--- where the topology is refused, so is all
-pub IsFaultOf-read_all_parts : (certified : Bool) (s : PartsState) (own : SourceFault)
-    → IsFaultOf s read_first_topology own → IsFaultOf s (read_all_parts certified) own
-IsFaultOf-read_all_parts certified s own refused = λ text remaining loud.
-    read_rest-both_Err s text read_first_topology (read_all_parts certified) own
-    (λ parts fault e. rw e refl) (refused text remaining loud)
-
--- the result after the topology
-read_all_parts-after_topology : (certified : Bool) (part : PartText) (t : TopologyValue) (parts : List PartText)
-    → part.name ≡ part_name topology_slot → topology_of part ≡ Ok t
-    → read_all_parts certified (part ∷ parts)
-    ≡ check_names_then certified t 1 (finish_with_tables certified t [] t.routers) parts
-read_all_parts-after_topology certified part t parts name remaining =
-    rw ((bytes_eq-Decides part.name (part_name topology_slot)).1 name, remaining) refl
-
-pub read_rest-after_topology : (certified : Bool) (s new : PartsState) (text later : List ℕ) (part : PartText)
-    (t : TopologyValue) → rest_of_bundle s text ≡ prepend_parts (part ∷ []) (rest_of_bundle new later)
-    → part.name ≡ part_name topology_slot → topology_of part ≡ Ok t
-    → read_rest s text (read_all_parts certified)
-    ≡ read_rest new later (check_names_then certified t 1 (finish_with_tables certified t [] t.routers))
-read_rest-after_topology certified s new text later part t e name remaining =
-    read_rest-part_passed s new text later part (read_all_parts certified) e
-    ∙ read_rest-same new later (λ parts. read_all_parts certified (part ∷ parts))
-    (check_names_then certified t 1 (finish_with_tables certified t [] t.routers))
-    (λ parts. read_all_parts-after_topology certified part t parts name remaining)
 
 -- ---- from the start
 
@@ -184,7 +148,7 @@ ConsumesUpTo-same {b = b} {old = old} all first last =
     (subst (λ o. ConsumesUpTo max_input o b) first all)
 
 -- a clause for each known text, as one for an optional text
-is_some-certificate_text : (o : Option (Vec ℕ Global)) → is_some (certificate_text o) ≡ is_some o
+pub is_some-certificate_text : (o : Option (Vec ℕ Global)) → is_some (certificate_text o) ≡ is_some o
 is_some-certificate_text None = refl
 is_some-certificate_text (Some bytes) = refl
 

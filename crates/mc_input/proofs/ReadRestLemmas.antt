@@ -236,38 +236,9 @@ read_rest-names_Err s text names read own e =
     read_rest-both_Err s text names (λ parts. names parts >>= λ _. read parts) own
     (λ parts fault refused. rw refused refl) e
 
--- where they are right, the fault is the one that waited for them
-pub read_rest-held_fault : {X : Type 0} (s : PartsState) (text : List ℕ)
-    (names : List PartText → Result (Unit {0}) InputFault) (fault : InputFault) (u : Unit {0})
-    → map_fault Input (read_rest s text names) ≡ Ok u
-    → read_rest s text (λ parts. names parts >>= λ _. (let r : Result X InputFault = Err fault in r))
-    ≡ Err fault
-read_rest-held_fault {X = X} s text names fault u e = by (rest_of_bundle s text) e
-  where
-    after : (r : Result (Unit {0}) InputFault) → map_fault Input r ≡ Ok u
-        → (r >>= λ _. (let q : Result X InputFault = Err fault in q)) ≡ Err fault
-    after (Ok v) e = refl
-    after (Err other) e = absurd cc
-
-    by : (r : Result (List PartText) BundleFault) → map_fault Input (map_fault Bundle r >>= names) ≡ Ok u
-        → (map_fault Bundle r
-        >>= λ parts. names parts >>= λ _. (let q : Result X InputFault = Err fault in q)) ≡ Err fault
-    by (Ok parts) e = after (names parts) e
-    by (Err other) e = absurd cc
-
 pub Some-from_IsSome_name : (s : PartsState) → IsSome s.name → (name : List ℕ) × (s.name ≡ Some name)
 Some-from_IsSome_name s there = by s.name there
   where
     by : (o : Option (List ℕ)) → IsSome o → (name : List ℕ) × (o ≡ Some name)
     by None there = absurd cc
     by (Some name) there = (name, refl)
-
-pub read_rest-held_fault_of : {X : Type 0} (s : PartsState) (text : List ℕ)
-    (names : List PartText → Result (Unit {0}) InputFault) (read : List PartText → Result X InputFault)
-    (fault : InputFault) (u : Unit {0}) → map_fault Input (read_rest s text names) ≡ Ok u
-    → ((parts : List PartText) → read parts ≡ Err fault)
-    → read_rest s text (λ parts. names parts >>= λ _. read parts) ≡ Err fault
-read_rest-held_fault_of s text names read fault u e each =
-    read_rest-same s text (λ parts. names parts >>= λ _. read parts)
-    (λ parts. names parts >>= λ _. Err fault) (λ parts. ap (λ r. names parts >>= λ _. r) (each parts))
-    ∙ read_rest-held_fault s text names fault u e

@@ -1,7 +1,7 @@
 -- How a folder's files are checked, and which of them are listed.
 use Rattle.std.specs.Prelude.{◌≡◌, ◌≢◌, ℕ, zero, suc, ◌+◌, ◌≤◌, Bool, true, false, List, [], ◌∷◌, ◌++◌}
 use Rattle.std.specs.Prelude.{flat_map, is_some, map, Option, Some, None, Result, Ok, Err, refl}
-use Rattle.std.specs.Prelude.{length, option_map, slice_get, take, OnOk, if◌then◌else◌}
+use Rattle.std.specs.Prelude.{length, slice_get, take, IfErr, IfOk, OnOk, if◌then◌else◌}
 use Rattle.std.proofs.Common.{ap, add-one, append_assoc, arith, inl, inr, sym, subst, ◌∙◌}
 use Rattle.std.proofs.lemmas.List.{append-nil, take_all}
 use Rattle.std.proofs.lemmas.List.Elements.{filter-append}
@@ -9,14 +9,18 @@ use Rattle.std.specs.List.{AllByRecursion, list_any}
 use Rattle.std.specs.Result.{result_err}
 use Rattle.std.specs.Str.{bytes_eq}
 use Rattle.mc_text.specs.Bundle.{PartText}
+use Rattle.mc_text.specs.Steps.{map_fault}
 use Rattle.mc_text.specs.declared.text.addr.Order.{Order}
+use Rattle.mc_tables.specs.CacheTable.{CacheValue}
+use Rattle.mc_tables.specs.ListedRows.{listed_in}
+use Rattle.mc_tables.specs.declared.fault.TableFault.{TableFault}
+use Rattle.mc_tables.proofs.ListedPartLemmas.{listed_in-is_part, listed_in-same_fault}
 use Rattle.mc_topology.specs.SectionRows.{RouterRow}
 use Rattle.mc_topology.specs.Topology.{TopologyValue}
 use Rattle.mc_files.specs.Files.{FileText, file_named}
-use Rattle.mc_files.specs.Layout.{Slot, cache_slot, file_name, reports_slot, topology_slot, vif_slot}
+use Rattle.mc_files.specs.Layout.{Slot, cache_slot, file_name, reports_slot, slots, topology_slot, vif_slot}
 use Rattle.mc_forward.specs.ListedTables.{Pairwise}
 use Rattle.mc_input.specs.FilesReading.{part_from_file}
-use Rattle.mc_input.specs.Kept.{GivesKept}
 use Rattle.mc_input.specs.PartsReading.{cache_of, reports_of, read_part, topology_of, vifs_of}
 use Rattle.mc_input.specs.RefusedFiles.{AreSameFilesOrUnread, AreUnreadFilesMissing}
 use Rattle.mc_input.specs.RefusedFiles.{AreRefusedFiles, IsOwnFaultUnlessMemory, IsSameFileOrUnread}
@@ -26,10 +30,12 @@ use Rattle.mc_input.specs.RefusedFiles.{judged_file, judged_with_topology, judge
 use Rattle.mc_input.specs.RefusedFiles.{judged_reports, judged_tables}
 use Rattle.mc_input.specs.RefusedFiles.{files_with_fault, refused_files_of, unread_count, unread_topology}
 use Rattle.mc_input.specs.SourceFault.{IsReadOrMemory}
-use Rattle.mc_input.proofs.SummaryLemmas.{RouterRow-from_fields}
-use Rattle.mc_input.proofs.ReadingLemmas.{RouterRow-at}
+use Rattle.mc_input.specs.Stream.{IsFaultOfStream, KeepsOfFirst, Stream, files_give, part_then, read_first}
+use Rattle.mc_input.specs.Stream.{read_stream}
+use Rattle.mc_input.proofs.CacheLemmas.{listed_part}
+use Rattle.mc_input.proofs.ReadingLemmas.{drop-slice_get}
 use Rattle.mc_input.specs.declared.fault.InputFault.{InputFault}
-use Rattle.mc_input.specs.declared.fault.InputFault.TheVariants.{Memory}
+use Rattle.mc_input.specs.declared.fault.InputFault.TheVariants.{Cache, Memory}
 use Rattle.mc_input.specs.declared.source_fault.SourceFault.{SourceFault}
 use Rattle.mc_input.specs.declared.source_fault.SourceFault.TheVariants.{Input, Read}
 
@@ -40,12 +46,54 @@ not_IsReadOrMemory-from_fault : (fault : InputFault) → (let own : Option Sourc
     → ¬ IsReadOrMemory (Input fault)
 not_IsReadOrMemory-from_fault fault loud silent = elim silent [ inl e ↦ absurd cc | inr e ↦ loud (ap Some e) ]
 
--- the answer of a reader gives the file's fault
-pub IsOwnFaultUnlessMemory-from_GivesKept : {X Y : Type 0} (Keeps : X → Y → Type 0) (r : Result X SourceFault)
-    (step : Result Y SourceFault) → GivesKept Keeps r step → IsOwnFaultUnlessMemory (result_err r) (result_err step)
-IsOwnFaultUnlessMemory-from_GivesKept Keeps (Ok kept) step (whole, is, keeps) = λ loud. ap result_err is
-IsOwnFaultUnlessMemory-from_GivesKept Keeps (Err Read) step gives = λ loud. tt
-IsOwnFaultUnlessMemory-from_GivesKept Keeps (Err (Input fault)) step gives = λ loud. ap result_err (gives (not_IsReadOrMemory-from_fault fault loud))
+-- what is read of a slot gives the fault of its file
+pub IsOwnFaultUnlessMemory-of_slot : {K Y : Type 0} (files : List FileText) (t : TopologyValue) (n : ℕ) (slot : Slot)
+    (read : PartText → Result Y InputFault) (gives later : Option Stream) (Keeps : K → Y → Type 0)
+    (r : Result K SourceFault) → slice_get (slots false t) n ≡ Some slot → gives ≡ Some (files_give t n files)
+    → IfOk r (λ kept. KeepsOfFirst gives later read (Keeps kept))
+    → IfErr r (IsFaultOfStream gives (read_first read))
+    → IsOwnFaultUnlessMemory (result_err r) (file_fault files slot read)
+IsOwnFaultUnlessMemory-of_slot {K = K} {Y = Y} files t n slot read gives later Keeps r at known keeps refused =
+    by r keeps refused
+  where
+    same : read_stream (read_first read) (files_give t n files) ≡ read_part Input (part_from_file files 0 slot) read
+    same = rw (drop-slice_get (slots false t) n slot at) refl
+
+    kept : (y : Y) (part : PartText) (rest : Stream) → read part ≡ Ok y → files_give t n files ≡ part_then part rest
+        → read_part Input (part_from_file files 0 slot) read ≡ Ok y
+    kept y part (Ok others) is e =
+        sym same ∙ ap (read_stream (read_first read)) e ∙ ap (map_fault Input) is
+    kept y part (Err fault) is e = absurd cc
+
+    by : (r : Result K SourceFault) → IfOk r (λ kept. KeepsOfFirst gives later read (Keeps kept))
+        → IfErr r (IsFaultOfStream gives (read_first read))
+        → IsOwnFaultUnlessMemory (result_err r) (file_fault files slot read)
+    by (Ok own) keeps refused = λ loud.
+        let x = keeps (files_give t n files) known in ap result_err (kept x.4.0 x.1 x.0 x.4.1 x.3)
+    by (Err Read) keeps refused = λ loud. tt
+    by (Err (Input fault)) keeps refused = λ loud. ap result_err (sym same
+        ∙ refused (files_give t n files) known (not_IsReadOrMemory-from_fault fault loud))
+
+-- the rows of these sources and groups are refused as the whole cache is
+file_fault-listed_part : (files : List FileText) (slot : Slot) (order : Order) (pairs : List (ℕ × ℕ))
+    → file_fault files slot (listed_part order pairs) ≡ file_fault files slot (cache_of order)
+file_fault-listed_part files slot order pairs = by (part_from_file files 0 slot)
+  where
+    by_part : (part : PartText) (r : Result CacheValue TableFault) → listed_in order (Some pairs) part.bytes ≡ r
+        → result_err (map_fault Input (map_fault (Cache part.name) r)) ≡ result_err (map_fault Input (cache_of order part))
+    by_part part (Ok listed) is =
+        let whole = listed_in-is_part order (Some pairs) part.bytes listed is in rw whole.1 refl
+    by_part part (Err own) is = rw ((listed_in-same_fault order (Some pairs) part.bytes own).0 is) refl
+
+    by : (given : Result PartText SourceFault)
+        → result_err (read_part Input given (listed_part order pairs)) ≡ result_err (read_part Input given (cache_of order))
+    by (Ok part) = by_part part (listed_in order (Some pairs) part.bytes) refl
+    by (Err fault) = refl
+
+pub judged_file-listed_part : (files : List FileText) (slot : Slot) (order : Order) (pairs : List (ℕ × ℕ))
+    → judged_file files slot (listed_part order pairs) ≡ judged_file files slot (cache_of order)
+judged_file-listed_part files slot order pairs =
+    λ i. record { name = file_name slot; fault = file_fault-listed_part files slot order pairs i }
 
 -- ---- lists
 
@@ -210,24 +258,6 @@ module _ (contents : Option (List FileText)) (names : List (List ℕ)) (rs : Lis
       ∙ ap (λ n. flat_map (judged_tables names known) (take n rs)) (sym (add-one i)))
       (JudgesFiles-append contents (λ known. flat_map (judged_tables names known) (take i rs))
       (λ known. judged_tables names known r) old between new before middle after one other)
-
--- the same for the row with this name and byte order, with a source of the same contents
-pub JudgesFiles-routers_more_by_row : (contents other : Option (List FileText)) (names : List (List ℕ)) (rs : List RouterRow)
-    (i : ℕ) (name : List ℕ) (order : Order) (old between new : List JudgedFile) (before middle after : ℕ)
-    → option_map (λ r. r.name) (slice_get rs i) ≡ Some name
-    → option_map (λ r. r.order) (slice_get rs i) ≡ Some order → other ≡ contents
-    → JudgesFiles contents (λ known. flat_map (judged_tables names known) (take i rs)) old between before middle
-    → JudgesFiles other (λ known. judged_tables names known (record { name = name; order = order })) between new
-    middle after
-    → JudgesFiles contents (λ known. flat_map (judged_tables names known) (take (i + 1) rs)) old new before after
-JudgesFiles-routers_more_by_row contents other names rs i name order old between new before middle after named ordered same
-    one next =
-    let row = RouterRow-at rs i name order named ordered in
-    JudgesFiles-routers_more contents names rs i old between new before middle after row.0 row.1 one
-    (subst (λ (r : RouterRow). JudgesFiles contents (λ known. judged_tables names known r) between new middle after)
-    (RouterRow-from_fields row.0 name order row.2 row.3)
-    (JudgesFiles-same_source contents other (λ known. judged_tables names known (record { name = name; order = order }))
-    between new middle after same next))
 
 -- of all
 pub JudgesFiles-routers_all : (contents : Option (List FileText)) (names : List (List ℕ)) (rs : List RouterRow) (i : ℕ)

@@ -1,13 +1,13 @@
 -- The summaries of the caches in a folder's files.
-use Rattle.std.specs.Prelude.{◌≡◌, ℕ, ◌∷◌, Bool, List, [], Option, Some, None, Result, Ok, Err, refl}
-use Rattle.std.specs.Prelude.{◌++◌, filter, length, map as map_list, not, option_map, slice_get}
-use Rattle.std.proofs.Common.{ap, arith, ◌∙◌, sym, subst}
+use Rattle.std.specs.Prelude.{◌≡◌, ℕ, Bool, List, Option, Some, None, Ok, Err, refl}
+use Rattle.std.specs.Prelude.{filter, length, map as map_list, not}
+use Rattle.std.proofs.Common.{ap, arith, ◌∙◌, sym}
 use Rattle.std.proofs.lemmas.Option.{slice_get_within}
 use Rattle.std.specs.FinMap as map
 use Rattle.std.specs.FinSet as set
 use Rattle.std.specs.List.{filter_map}
 use Rattle.mc_text.specs.Bundle.{PartText}
-use Rattle.mc_text.specs.Steps.{◌>>=◌, map_fault}
+use Rattle.mc_text.specs.Steps.{◌>>=◌}
 use Rattle.mc_text.specs.declared.text.addr.Order.{Order}
 use Rattle.mc_tables.specs.declared.fault.TableFault.{TableFault}
 use Rattle.mc_tables.specs.declared.summary.summarized_cache.SummarizedCache.{SummarizedCache}
@@ -22,28 +22,17 @@ use Rattle.mc_tables.proofs.ListedLemmas.{set_has_key-listed_set}
 use Rattle.mc_tables.proofs.ListedPairLemmas.{from_list-same_groups, same_set}
 use Rattle.mc_tables.proofs.ListedPartLemmas.{listed_in-same_fault, listed_in-is_part}
 use Rattle.mc_tables.proofs.SummaryLemmas.{table_without_summary-listed_in}
-use Rattle.mc_text.proofs.StepLemmas.{bind_ok, err_injective, ok_injective}
+use Rattle.mc_text.proofs.StepLemmas.{bind_ok, ok_injective}
 use Rattle.mc_topology.specs.SectionRows.{RouterRow}
 use Rattle.mc_topology.specs.Topology.{TopologyValue}
 use Rattle.mc_topology.specs.declared.flow.Flow.{Flow}
-use Rattle.mc_files.specs.FilePart.{file_part}
 use Rattle.mc_files.specs.Files.{FileText}
-use Rattle.mc_files.specs.Layout.{cache_slot}
 use Rattle.mc_files.specs.declared.fault.FileFault.{FileFault}
-use Rattle.mc_files.proofs.PartLemmas.{Ok-from_refused_as}
-use Rattle.mc_forward.specs.Assembling.{RelatedAtEachIndex}
 use Rattle.mc_forward.specs.ListedTables.{flow_pairs}
-use Rattle.mc_forward.proofs.IndexLemmas.{related_at_each_index-push, slice_get-exists}
-use Rattle.mc_input.specs.FilesReading.{part_from_file}
-use Rattle.mc_input.specs.Kept.{AreSamePairs, GivesKept}
+use Rattle.mc_forward.proofs.IndexLemmas.{slice_get-exists}
+use Rattle.mc_input.specs.Kept.{AreSamePairs}
 use Rattle.mc_input.specs.SummariesOfFiles.{IsSummaryOf, AreSummariesOf}
-use Rattle.mc_input.specs.PartsReading.{cache_of, summary_of_part, read_part}
-use Rattle.mc_input.specs.SourceFault.{from_file_fault}
-use Rattle.mc_input.specs.declared.fault.InputFault.TheVariants.{Cache}
-use Rattle.mc_input.specs.declared.source_fault.SourceFault.{SourceFault}
-use Rattle.mc_input.specs.declared.source_fault.SourceFault.TheVariants.{Input}
 use Rattle.mc_input.proofs.UniqueDomain.{same_lists-from_slice_get}
-use Rattle.mc_input.proofs.ReadingLemmas.{RouterRow-at}
 
 -- ---- in any order
 
@@ -117,97 +106,6 @@ cache_rows_in-from_summary_in all order pairs text summarized e =
       read.1,
       sym (ap (λ (n : SummarizedCache). n.summary) (ok_injective {E = TableFault} (both read.0) summarized read.2)),
     )
-
--- ---- the cache in a file
-
-module _ (all : Bool) (order : Order) (pairs : List (ℕ × ℕ)) where
-  -- a cache that is read with a summary comes of a part
-  summary_in-from_read_part : (given : Result PartText SourceFault) (summarized : SummarizedCache)
-      → read_part Input given (summary_of_part all order pairs) ≡ Ok summarized
-      → (part : PartText) × (given ≡ Ok part) × (summary_in all order pairs part.bytes ≡ Ok summarized)
-  summary_in-from_read_part (Ok part) summarized e = (
-    part,
-    refl,
-    Ok-from_refused_as (Cache part.name) (summary_in all order pairs part.bytes) summarized
-        (Ok-from_refused_as Input (summary_of_part all order pairs part) summarized e),
-  )
-  summary_in-from_read_part (Err fault) summarized e = absurd cc
-
-  -- and the part is read without a summary, too
-  read_part-cache_from_summary : (given : Result PartText SourceFault) (summarized : SummarizedCache)
-      → read_part Input given (summary_of_part all order pairs) ≡ Ok summarized
-      → (whole : CacheValue) × (read_part Input given (cache_of order) ≡ Ok whole)
-      × IsListedPart (Some pairs) summarized.table whole
-  read_part-cache_from_summary given summarized e =
-      let found = summary_in-from_read_part given summarized e in
-      let whole = cache_in-from_summary_in all order pairs found.0.bytes summarized found.2 in
-      (whole.0, read given found.0 whole.0 found.1 whole.1, whole.2)
-    where
-      read : (given : Result PartText SourceFault) (part : PartText) (w : CacheValue) → given ≡ Ok part
-          → cache_in order part.bytes ≡ Ok w → read_part Input given (cache_of order) ≡ Ok w
-      read given part w is found = rw (is, found) refl
-
-  -- or is refused for the same
-  read_part-cache_Err_from_summary : (given : Result PartText SourceFault) (fault : SourceFault)
-      → read_part Input given (summary_of_part all order pairs) ≡ Err fault
-      → read_part Input given (cache_of order) ≡ Err fault
-  read_part-cache_Err_from_summary (Err other) fault e = ap (λ f. Err f) (err_injective {A = SummarizedCache} e)
-  read_part-cache_Err_from_summary (Ok part) fault e = by (summary_in all order pairs part.bytes) refl e
-    where
-      by : (r : Result SummarizedCache TableFault) → summary_in all order pairs part.bytes ≡ r
-          → map_fault Input (map_fault (Cache part.name) r) ≡ Err fault
-          → map_fault Input (cache_of order part) ≡ Err fault
-      by (Ok summarized) is e = absurd cc
-      by (Err own) is e = rw (cache_in-Err_from_summary_in all order pairs part.bytes own is)
-          (ap (λ f. Err f) (err_injective {A = SummarizedCache} e))
-
-  pub GivesKept-listed_from_summary : (given : Result PartText SourceFault) (r : Result SummarizedCache SourceFault)
-      → GivesKept (λ kept summarized. kept ≡ summarized) r (read_part Input given (summary_of_part all order pairs))
-      → GivesKept (λ summarized whole. IsListedPart (Some pairs) summarized.table whole) r
-      (read_part Input given (cache_of order))
-  GivesKept-listed_from_summary given (Ok own) (summarized, found, is) =
-      let whole = read_part-cache_from_summary given summarized found in (
-        whole.0,
-        whole.1,
-        subst (λ (n : SummarizedCache). IsListedPart (Some pairs) n.table whole.0) (sym is) whole.2,
-      )
-  GivesKept-listed_from_summary given (Err fault) gives = λ loud. read_part-cache_Err_from_summary given fault (gives loud)
-
--- the summary of a router's file is that of its rows
-pub IsSummaryOf-from_GivesKept : (all : Bool) (files : List FileText) (flows : List Flow) (r : RouterRow) (n : ℕ)
-    (own : SummarizedCache)
-    → GivesKept (λ kept summarized. kept ≡ summarized) (Ok own)
-    (read_part Input (part_from_file files n (cache_slot r.name)) (summary_of_part all r.order (flow_pairs flows)))
-    → IsSummaryOf all files flows r own.summary
-IsSummaryOf-from_GivesKept all files flows r n own (summarized, found, is) =
-    let slot = cache_slot r.name in
-    let part = summary_in-from_read_part all r.order (flow_pairs flows) (part_from_file files n slot) summarized found in
-    let rows = cache_rows_in-from_summary_in all r.order (flow_pairs flows) part.0.bytes summarized part.2 in
-    record {
-      part = part.0;
-      rows = rows.0;
-      made = Ok-from_refused_as from_file_fault (file_part files slot) part.0 part.1;
-      read = rows.1;
-      summarized = ap (λ (n : SummarizedCache). n.summary) is ∙ rows.2;
-    }
-
--- the row of a router with this name and byte order
-pub RouterRow-from_fields : (r : RouterRow) (name : List ℕ) (order : Order) → r.name ≡ name → r.order ≡ order
-    → (let row : RouterRow = record { name = name; order = order } in row) ≡ r
-RouterRow-from_fields r name order named ordered = λ i. record { name = sym named i; order = sym ordered i }
-
--- the summaries of one router more
-pub AreSummariesOf-more : (all : Bool) (files : List FileText) (t : TopologyValue) (summary : List SummaryValue)
-    (own : SummaryValue) (k : ℕ) (name : List ℕ) (order : Order) → length summary ≡ k
-    → option_map (λ r. r.name) (slice_get t.routers k) ≡ Some name
-    → option_map (λ r. r.order) (slice_get t.routers k) ≡ Some order
-    → ((r : RouterRow) → r.name ≡ name → r.order ≡ order → IsSummaryOf all files t.flows r own)
-    → RelatedAtEachIndex (IsSummaryOf all files t.flows) t.routers summary
-    → RelatedAtEachIndex (IsSummaryOf all files t.flows) t.routers (summary ++ own ∷ [])
-AreSummariesOf-more all files t summary own k name order count named ordered are each =
-    let r = RouterRow-at t.routers k name order named ordered in
-    related_at_each_index-push (IsSummaryOf all files t.flows) t.routers summary r.0 own each
-    (subst (λ (n : ℕ). slice_get t.routers n ≡ Some r.0) (sym count) r.1) (are r.0 r.2 r.3)
 
 -- ---- at most one list of summaries
 

@@ -43,6 +43,12 @@ header_only_files router =
     (record { name = file_name (vif_slot router); bytes = vif_header })
     ∷ (record { name = file_name (cache_slot router); bytes = cache_header }) ∷ []
 
+-- the header of a router's table, of vifs or of its cache, if the router has one of these names
+abbrev pub header_of_excluded : (names : List (List ℕ)) → (router : List ℕ) → (vifs : Bool) → Option (List ℕ)
+header_of_excluded names router vifs =
+    if list_any (λ name. bytes_eq name router) names
+    then Some (if vifs then vif_header else cache_header) else None
+
 -- borrowed names as names
 abbrev pub names_of : List (Bor (List ℕ)) → List (List ℕ)
 names_of names = map (λ name. name.now) names

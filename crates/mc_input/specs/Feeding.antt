@@ -1,15 +1,14 @@
 -- Texts that were fed to a reader whole, in pieces. The reader's state is seen by the result that it gives
 -- if further bytes are fed: `before` by its old state, and `after` by its new one.
-use Rattle.std.specs.Prelude.{◌≡◌, ◌≤◌, ℕ, Bool, List, [], ◌∷◌, length, Ok, Some}
+use Rattle.std.specs.Prelude.{◌≡◌, ◌≤◌, ℕ, List, [], ◌∷◌, length, Ok, Option, Some, None, option_map}
+use denote.Ref.{Bor}
 use Rattle.mc_text.specs.Bundle.{PartText}
 use Rattle.mc_text.specs.Lines.{max_text}
 use Rattle.mc_text.specs.PartsReading.{PartsState, parts_from_current, prepend_parts}
 use Rattle.mc_text.specs.RestOfBundle.{rest_of_bundle}
-use Rattle.mc_topology.specs.Topology.{TopologyValue}
-use Rattle.mc_files.specs.FilePart.{bytes_within_max_part, file_part}
+use Rattle.mc_files.specs.FilePart.{bytes_within_max_part}
 use Rattle.mc_files.specs.Files.{FileText, file_named}
-use Rattle.mc_files.specs.Layout.{Slot}
-use Rattle.mc_input.specs.PartsOneByOne.{HasNameOfSlot}
+use Rattle.mc_files.specs.Layout.{Slot, file_name}
 
 -- the file with this name was fed
 abbrev pub HasFedFile : {R : Type 0} → List FileText → (name : List ℕ) → (before after : List ℕ → R) → Type 0
@@ -17,13 +16,16 @@ HasFedFile files name before after =
     (bytes : List ℕ) × (bytes_within_max_part (file_named files name) ≡ Ok bytes)
     × (length bytes ≤ max_text) × (before bytes ≡ after [])
 
--- the file of a slot was fed, whose part has this name
-abbrev pub HasFedSlot : {R : Type 0} → List FileText → Slot → (before after : List ℕ → R)
-    → (name : List ℕ) → Type 0
-HasFedSlot files slot before after name =
-    (part : PartText) × (file_part files slot ≡ Ok part) × (part.name ≡ name)
-    × (length part.bytes ≤ max_text)
-    × (before part.bytes ≡ after [])
+-- the header, if there is one, or the file
+abbrev pub header_or_file : (header found : Option (List ℕ)) → Option (List ℕ)
+header_or_file (Some bytes) found = Some bytes
+header_or_file None found = found
+
+-- the files are seen with this header in place of the slot's file, if there is a header
+abbrev pub SeesHeaderOrFile : (files seen : List FileText) → Slot → Option (Bor (List ℕ)) → Type 0
+SeesHeaderOrFile files seen slot header =
+    file_named seen (file_name slot)
+    ≡ header_or_file (option_map (λ bytes. bytes.now) header) (file_named files (file_name slot))
 
 -- the current part of a bundle, whose text is still to be read, was fed
 abbrev pub HasFedPart : {R : Type 0} → (old new : PartsState) → (text : List ℕ)
@@ -32,12 +34,4 @@ HasFedPart old new text before after =
     (later : List ℕ) × (part : PartText) × (new.remaining ≡ Some later)
     × (parts_from_current old [] text ≡ prepend_parts (part ∷ []) (rest_of_bundle new later))
     × (old.name ≡ Some part.name) × (length part.bytes ≤ max_text)
-    × (before part.bytes ≡ after [])
-
--- this part was fed, which has this name and is that of the slot with this number
-abbrev pub IsFedPartOfSlot : {R : Type 0} → (certified : Bool) → TopologyValue → ℕ → (name : List ℕ)
-    → (before after : List ℕ → R) → PartText → Type 0
-IsFedPartOfSlot certified t n name before after part =
-    HasNameOfSlot certified t n part.name × (part.name ≡ name)
-    × (length part.bytes ≤ max_text)
     × (before part.bytes ≡ after [])

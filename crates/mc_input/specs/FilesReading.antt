@@ -6,12 +6,9 @@ use Rattle.mc_text.specs.Bundle.{PartText}
 use Rattle.mc_files.specs.FilePart.{file_part}
 use Rattle.mc_files.specs.Files.{FileText}
 use Rattle.mc_files.specs.Layout.{Slot}
-use Rattle.mc_igmp.specs.declared.record.Record.{Record}
-use Rattle.mc_topology.specs.Topology.{TopologyValue}
-use Rattle.mc_forward.specs.Domains.{TablesValue}
 use Rattle.mc_input.specs.SourceFault.{from_file_fault}
 use Rattle.mc_input.specs.Input.{InputValue}
-use Rattle.mc_input.specs.PartsReading.{all_reports, all_tables, first_lan_number, read_input, read_part}
+use Rattle.mc_input.specs.PartsReading.{read_input, read_part}
 use Rattle.mc_input.specs.declared.fault.InputFault.{InputFault}
 use Rattle.mc_input.specs.declared.source_fault.SourceFault.{SourceFault}
 use Rattle.mc_input.specs.declared.source_fault.SourceFault.TheVariants.{Input}
@@ -24,14 +21,6 @@ part_from_file files n slot = map_fault from_file_fault (file_part files slot)
 abbrev pub read_file : {X : Type 0} → ℕ → Slot → (PartText → Result X InputFault) → List FileText
     → Result X SourceFault
 read_file n slot read files = read_part Input (part_from_file files n slot) read
-
--- the tables of a topology's routers
-abbrev pub read_all_tables : TopologyValue → List FileText → Result (List TablesValue) SourceFault
-read_all_tables t files = all_tables Input (part_from_file files) 1 t.routers
-
--- the records of the reports of a topology's LANs
-abbrev pub read_all_reports : TopologyValue → List FileText → Result (List (List Record)) SourceFault
-read_all_reports t files = all_reports Input (part_from_file files) (first_lan_number t) t.lans
 
 -- the input of the files
 abbrev pub input_of_files : List FileText → Result InputValue SourceFault

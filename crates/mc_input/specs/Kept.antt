@@ -5,7 +5,7 @@ use Rattle.mc_files.specs.Files.{FileText}
 use Rattle.mc_topology.specs.Topology.{TopologyValue}
 use Rattle.mc_topology.specs.declared.flow.Flow.{Flow}
 use Rattle.mc_theory.specs.Nets.{Row}
-use Rattle.mc_forward.specs.Assembling.{AreChannelsWanted, AreWanted, rows_by_tables, vifs_by_tables}
+use Rattle.mc_forward.specs.Assembling.{AreWanted, rows_by_tables, vifs_by_tables}
 use Rattle.mc_forward.specs.Domains.{DomainValue, VifsValue}
 use Rattle.mc_forward.specs.ListedTables.{Pairwise, flow_pairs}
 use Rattle.mc_forward.specs.RouterTables.{RouterTablesValue}
@@ -24,10 +24,6 @@ AreFlowPairs flows pairs = AreSamePairs pairs (flow_pairs flows)
 -- the LANs' reports want these flows
 abbrev pub AreWantedBy : TopologyValue → List (List Record) → List (List Bool) → Type 0
 AreWantedBy t reports wants = Pairwise (AreWanted t.flows) reports wants
-
--- these are the wants for the channels by the records, as what is kept of them
-abbrev pub AreWantsOf : (channels : List (ℕ × ℕ)) → List Bool → List Record → Type 0
-AreWantsOf channels wants records = AreChannelsWanted channels records wants
 
 -- This is kept of an input: the routers' vifs, their rows for the flows, and which LAN wants which flow.
 pub record AreKeptContents (input : InputValue) (t : TopologyValue) (vifs : List VifsValue)
@@ -61,9 +57,3 @@ abbrev pub GivesKeptFromContents : {X Y : Type 0} → Option (List FileText) →
     → Result X SourceFault → (List FileText → Result Y SourceFault) → Type 0
 GivesKeptFromContents contents Keeps result step =
     (files : List FileText) → contents ≡ Some files → GivesKept Keeps result (step files)
-
--- the same for a value that is kept whole
-abbrev pub GivesWholeFromContents : {X : Type 0} → Option (List FileText) → Result X SourceFault
-    → (List FileText → Result X SourceFault) → Type 0
-GivesWholeFromContents contents result step =
-    GivesKeptFromContents contents (λ kept whole. kept ≡ whole) result step

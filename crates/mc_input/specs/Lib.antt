@@ -6,9 +6,9 @@ pub mod PartsOneByOne
 pub mod PartsReading
 pub mod RefusedFiles
 pub mod SourceFault
+pub mod Stream
 pub mod Feeding
 pub mod FilesInput
-pub mod FilesKept
 pub mod FilesReading
 pub mod ExcludedRouters
 pub mod SummariesOfFiles

@@ -1,20 +1,17 @@
 -- Which files of a folder are refused, each checked by itself.
 use Rattle.std.specs.Prelude.{◌≡◌, ℕ, ◌+◌, max, min, Bool, false, List, [], ◌∷◌, ◌++◌, filter, flat_map, map}
-use Rattle.std.specs.Prelude.{◌≢◌, is_some, OnOk, Option, Some, None, Result, Ok, Err, ◌⊎◌, ⊤}
+use Rattle.std.specs.Prelude.{◌≢◌, is_some, Option, Some, None, Result, Ok, Err, ◌⊎◌, ⊤}
 use Rattle.std.specs.Prelude.{if◌then◌else◌, string_bytes}
 use Rattle.std.specs.List.{AllByRecursion, list_any}
 use Rattle.std.specs.Result.{result_err}
 use Rattle.std.specs.Str.{bytes_eq}
 use Rattle.mc_text.specs.Bundle.{PartText}
-use Rattle.mc_text.specs.declared.text.addr.Order.{Order}
 use Rattle.mc_topology.specs.SectionRows.{RouterRow}
 use Rattle.mc_topology.specs.Topology.{TopologyValue}
-use Rattle.mc_topology.specs.declared.flow.Flow.{Flow}
 use Rattle.mc_files.specs.Files.{FileText, file_named}
 use Rattle.mc_files.specs.Layout.{Slot, cache_slot, file_name, reports_slot, topology_slot, vif_slot}
 use Rattle.mc_forward.specs.ListedTables.{Pairwise}
 use Rattle.mc_input.specs.FilesReading.{part_from_file}
-use Rattle.mc_input.specs.Kept.{AreFlowPairs}
 use Rattle.mc_input.specs.PartsReading.{cache_of, reports_of, read_part, topology_of, vifs_of}
 use Rattle.mc_input.specs.SourceFault.{is_read}
 use Rattle.mc_input.specs.declared.each_file.RefusedFile.{RefusedFile}
@@ -36,10 +33,6 @@ pub record JudgedFile : Type 0 where
 abbrev pub file_fault : {X : Type 0} → List FileText → Slot → (PartText → Result X InputFault)
     → Option SourceFault
 file_fault files slot read = result_err (read_part Input (part_from_file files 0 slot) read)
-
--- the first fault of the file of a router's cache
-abbrev pub cache_file_fault : List FileText → (router : List ℕ) → Order → Option SourceFault
-cache_file_fault files router order = file_fault files (cache_slot router) (cache_of order)
 
 -- a slot's file with its fault
 abbrev pub judged_file : {X : Type 0} → List FileText → Slot → (PartText → Result X InputFault)
@@ -176,13 +169,3 @@ abbrev pub ListsRefused : (contents : Option (List FileText)) → (List FileText
     → (old new : List RefusedFile) → (before after : ℕ) → Type 0
 ListsRefused contents files old new before after =
     JudgesFiles contents files (map as_judged_file old) (map as_judged_file new) before after
-
--- if no memory ran out, the same for the tables of the router with this name and byte order, where the
--- listed pairs are those of some flows
-abbrev pub ListsRefusedTables : {E : Type 0} → (listed : List (ℕ × ℕ)) → (names : List (List ℕ))
-    → (router : List ℕ) → Order → Result (Unit {0}) E → (contents : Option (List FileText))
-    → (old new : List RefusedFile) → (before after : ℕ) → Type 0
-ListsRefusedTables listed names router order result contents old new before after =
-    (flows : List Flow) → AreFlowPairs flows listed →
-    OnOk result (ListsRefused contents
-    (λ files. judged_tables names files (record { name = router; order = order })) old new before after)

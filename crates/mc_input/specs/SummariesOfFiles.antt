@@ -1,5 +1,5 @@
 -- The summaries of the caches in a folder's files.
-use Rattle.std.specs.Prelude.{◌≡◌, Bool, List, length, Ok}
+use Rattle.std.specs.Prelude.{◌≡◌, ℕ, Bool, List, length, Ok}
 use Rattle.mc_text.specs.Bundle.{PartText}
 use Rattle.mc_tables.specs.CacheReading.{cache_rows_in}
 use Rattle.mc_tables.specs.CacheTable.{RowValue}
@@ -12,6 +12,7 @@ use Rattle.mc_files.specs.Files.{FileText}
 use Rattle.mc_files.specs.Layout.{cache_slot}
 use Rattle.mc_forward.specs.Assembling.{RelatedAtEachIndex}
 use Rattle.mc_forward.specs.ListedTables.{flow_pairs}
+use Rattle.mc_input.specs.Stream.{RouterRead}
 
 -- The summary, for these flows, of the rows in the router's file `cache-<router>`, whose addresses are in
 -- the router's byte order. With `all` it holds all pairs that no flow has, else the lowest ones.
@@ -22,6 +23,12 @@ pub record IsSummaryOf (all : Bool) (files : List FileText) (flows : List Flow) 
   pub made : file_part files (cache_slot r.name) ≡ Ok part
   pub read : cache_rows_in r.order part.bytes ≡ Ok rows
   pub summarized : summary ≡ summary_of all (flow_pairs flows) rows
+
+-- The summary, for these pairs, of the rows in the text of a router's cache.
+abbrev pub IsSummaryOfRead : (all : Bool) → (pairs : List (ℕ × ℕ)) → RouterRead → SummaryValue → Type 0
+IsSummaryOfRead all pairs read summary =
+    (rows : List RowValue) × (cache_rows_in read.order read.cache_text ≡ Ok rows)
+    × (summary ≡ summary_of all pairs rows)
 
 -- One summary for each router, in the topology's order.
 pub record AreSummariesOf (all : Bool) (files : List FileText) (t : TopologyValue)

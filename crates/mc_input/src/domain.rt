@@ -23,12 +23,14 @@ ghost use Rattle.mc_input.specs.PartsOneByOne.{ReadsDomain, IsFaultOf, read_all_
 ghost use Rattle.mc_input.specs.SourceFault.{IsReadOrMemory, is_possible_for_files, is_read};
 ghost use Rattle.mc_input.specs.declared.source_fault.SourceFault.TheVariants.{Input as refused};
 
-use crate::bundle::read_contents;
 use crate::bundle_part::topology_in;
+use crate::bundle_slots::{BundleSlots, read_bundle_contents};
+use crate::cache_keeper::SummaryKeeper;
 use crate::excluded::check_names;
-use crate::file_part::topology_in as topology_of_files;
-use crate::files::read_contents as contents_of_files;
+use crate::file_slots::{FileSlots, topology_in as topology_of_files};
+use crate::part_result::summary_pairs;
 use crate::source_fault::SourceFault;
+use crate::walk::read_contents;
 use crate::without_fault::WithoutFault;
 use mc_files::PieceSource;
 use mc_forward::Domain;
@@ -52,24 +54,26 @@ pub struct BundleDomain {
 /// Reads the domain from the parts of a bundle.
 fn read_parts<R: Input>(
     alloc: Global,
-    parts: &mut Parts<R>,
+    slots: &mut BundleSlots<R>,
     buffer: &mut [u8],
-    certified: bool,
 ) -> Result<BundleDomain, SourceFault>
     requires room { 0 < length buffer.old }
-    requires failures { parts.old.failed < u64.MAX }
-    ensures read { IfOk result (λ read. (text : List ℕ) → parts.old.remaining ≡ Some text →
-        ReadsDomain parts.old text certified read.domain (certificate_text read.certificate)) }
-    ensures certified { IfOk result (λ read. is_some read.certificate ≡ certified) }
+    requires failures { slots.old.parts.failed < u64.MAX }
+    ensures read { IfOk result (λ read. (text : List ℕ) → slots.old.parts.remaining ≡ Some text →
+        ReadsDomain slots.old.parts text slots.old.certified read.domain
+        (certificate_text read.certificate)) }
+    ensures certified { IfOk result (λ read. is_some read.certificate ≡ slots.old.certified) }
     ensures rules { IfOk result (λ read. IsDomain read.domain) }
-    ensures fault { IfErr result (IsFaultOf parts.old (read_all_parts certified)) }
-    ensures advances { Advances parts.old parts.new }
-    ensures failures { parts.new.failed ≡ failures_after is_read result parts.old.failed }
+    ensures fault { IfErr result (IsFaultOf slots.old.parts (read_all_parts slots.old.certified)) }
+    ensures advances { Advances slots.old.parts slots.new.parts }
+    ensures failures { slots.new.parts.failed
+        ≡ failures_after is_read result slots.old.parts.failed }
 {
-    let topology = topology_in(alloc, parts, buffer)?;
-    let listed = read_contents(alloc, parts, buffer, &topology, certified)?;
+    let topology = topology_in(alloc, &mut slots.parts, buffer)?;
+    let listed = read_bundle_contents(alloc, slots, buffer, &topology)?;
     let certificate = listed.certificate;
-    let domain = Domain::from_wants(alloc, topology, listed.tables, listed.wants)?;
+    let kept = listed.kept;
+    let domain = Domain::from_wants(alloc, topology, kept.tables, kept.wants)?;
     Ok(BundleDomain {
         domain,
         certificate,
@@ -97,9 +101,10 @@ fn read_with_buffer<R: Input>(
     ensures consumed { ConsumesUpTo max_input (R.remaining input.old) (R.remaining input.new) }
     ensures failures { R.failed input.new ≡ failures_after is_read result (R.failed input.old) }
 {
-    let mut parts = Parts::new(input);
-    let read = read_parts(alloc, &mut parts, buffer, certified);
-    let _input = parts.into_input();
+    let parts = Parts::new(input);
+    let mut slots = BundleSlots { parts, certified };
+    let read = read_parts(alloc, &mut slots, buffer);
+    let _input = slots.into_input();
     read
 }
 
@@ -152,8 +157,44 @@ pub struct FolderDomain {
     pub summary: Vec<CacheSummary>,
 }
 
-/// Reads the files after the topology's, in pieces through the buffer, as the domain of this topology
-/// with some routers excluded, and the summaries of the caches.
+/// Reads the slots after the topology's, in pieces through the buffer, as the domain of this topology, and
+/// the summaries of the caches.
+fn read_rest_of_slots<F: PieceSource>(
+    alloc: Global,
+    slots: &mut FileSlots<'_, F>,
+    buffer: &mut [u8],
+    topology: Topology,
+    all: bool,
+) -> Result<FolderDomain, SourceFault>
+    requires room { 0 < length buffer.old }
+    requires reads { F.failed slots.old.files < u64.MAX }
+    ensures same { F.borrows slots.new.files ≡ F.borrows slots.old.files }
+    ensures kept { F.contents slots.new.files ≡ F.contents slots.old.files }
+    ensures domain { GivesKeptFromContents (F.contents slots.old.files) (λ read. IsDomainOf read.domain)
+        result (input_of_other_files topology (names_of slots.old.without.now)) }
+    ensures topology { IfOk result (λ read. read.domain.topology ≡ topology) }
+    ensures rules { IfOk result (λ read. IsDomain read.domain) }
+    ensures summary { (contents : List FileText) → F.contents slots.old.files ≡ Some contents →
+        IfOk result (λ read. AreSummariesOf all (files_without slots.old.without.now contents)
+        read.domain.topology read.summary.items) }
+    ensures faults { IfErr result (λ fault. is_possible_for_files fault ≡ true) }
+    ensures failures { F.failed slots.new.files
+        ≡ failures_after is_read result (F.failed slots.old.files) }
+{
+    let mut keeper = SummaryKeeper {
+        listed: summary_pairs(alloc, &topology)?,
+        all,
+        summary: Vec::new(alloc),
+    };
+    let kept = read_contents(alloc, slots, buffer, &topology, &mut keeper)?;
+    let domain = Domain::from_wants(alloc, topology, kept.tables, kept.wants)?;
+    Ok(FolderDomain {
+        domain,
+        summary: keeper.summary,
+    })
+}
+
+/// Reads the files after the topology's as the domain of this topology with some routers excluded.
 fn read_rest_with_buffer<F: PieceSource>(
     alloc: Global,
     files: &mut F,
@@ -175,10 +216,10 @@ fn read_rest_with_buffer<F: PieceSource>(
     ensures faults { IfErr result (λ fault. is_possible_for_files fault ≡ true) }
     ensures failures { F.failed files.new ≡ failures_after is_read result (F.failed files.old) }
 {
-    let listed = contents_of_files(alloc, files, buffer, &topology, without, all)?;
-    let summary = listed.summary;
-    let domain = Domain::from_wants(alloc, topology, listed.tables, listed.wants)?;
-    Ok(FolderDomain { domain, summary })
+    let mut slots = FileSlots { files, without };
+    let read = read_rest_of_slots(alloc, &mut slots, buffer, topology, all);
+    let _files = slots.into_files();
+    read
 }
 
 /// Reads the domain that files mean with some routers excluded, and the summaries of the caches.

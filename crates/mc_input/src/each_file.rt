@@ -1,36 +1,39 @@
 //! Lists all refused files of a folder, each with its own fault.
 
-ghost use Rattle.std.specs.Prelude.{◌≡◌, ◌≢◌, ◌<◌, ◌∷◌, ◌++◌, List, [], IfOk, IsTrue, OnOk, Some};
-ghost use Rattle.std.specs.Prelude.{length, map};
+ghost use Rattle.std.specs.Prelude.{◌≡◌, ◌≢◌, ◌<◌, ◌+◌, ◌*◌, ◌∷◌, ◌++◌, List, [], IfOk, OnOk, Some, Result};
+ghost use Rattle.std.specs.Prelude.{false, length, map, slice_get};
 ghost use Rattle.std.specs.Result.{result_err};
-ghost use Rattle.mc_topology.specs.Names.{is_name};
-ghost use Rattle.mc_topology.specs.declared.flow.Flow.{Flow};
+ghost use Rattle.mc_text.specs.Bundle.{PartText};
+ghost use Rattle.mc_topology.specs.SectionRows.{RouterRow};
 ghost use Rattle.mc_files.specs.Files.{FileText};
-ghost use Rattle.mc_files.specs.Layout.{file_name, reports_slot, topology_slot, vif_slot};
+ghost use Rattle.mc_files.specs.Layout.{Slot as SlotText, file_name, slots, topology_slot};
 ghost use Rattle.mc_input.specs.ExcludedRouters.{names_of};
 ghost use Rattle.mc_input.specs.FilesReading.{part_from_file};
-ghost use Rattle.mc_input.specs.Kept.{AreFlowPairs};
-ghost use Rattle.mc_input.specs.PartsReading.{reports_of, read_part, topology_of, vifs_of};
+ghost use Rattle.mc_input.specs.PartsReading.{read_part, topology_of};
 ghost use Rattle.mc_input.specs.RefusedFiles.{AreExactlyRefusedFiles, AreRefusedFiles};
-ghost use Rattle.mc_input.specs.RefusedFiles.{IsOwnFaultUnlessMemory, ListsRefused, ListsRefusedTables};
-ghost use Rattle.mc_input.specs.RefusedFiles.{as_judged_file, cache_file_fault, failure_count};
+ghost use Rattle.mc_input.specs.RefusedFiles.{IsOwnFaultUnlessMemory, ListsRefused};
+ghost use Rattle.mc_input.specs.RefusedFiles.{as_judged_file, failure_count, judged_file, judged_tables};
 ghost use Rattle.mc_input.specs.RefusedFiles.{fault_of_refusal, file_fault, files_with_fault};
-ghost use Rattle.mc_input.specs.RefusedFiles.{judged_files_of, judged_lans, judged_reports, judged_routers};
+ghost use Rattle.mc_input.specs.RefusedFiles.{judged_files_of, judged_lans, judged_routers};
 ghost use Rattle.mc_input.specs.RefusedFiles.{saturating_failures, unread_count};
 ghost use Rattle.mc_input.specs.SourceFault.{GivesFromContents};
+ghost use Rattle.mc_input.specs.Stream.{IsReaderOf};
+ghost use Rattle.mc_input.specs.declared.fault.InputFault.{InputFault as Fault};
 ghost use Rattle.mc_input.specs.declared.source_fault.SourceFault.TheVariants.{Input};
 
 use crate::domain::PIECE;
 use crate::excluded::is_excluded;
 use crate::fault::InputFault;
-use crate::file_part::{cache_in, topology_in, vifs_in, wanted_in};
-use crate::part_result::summary_pairs;
+use crate::file_slots::{FileSlots, topology_in};
+use crate::part_reader::PartReader;
+use crate::part_result::listed_pairs;
 use crate::source_fault::SourceFault;
-use mc_files::{PieceSource, Slot, Unread};
-use mc_forward::FlowChannels;
-use mc_tables::SummaryPairs;
-use mc_text::{Memory, Order};
-use mc_topology::{LanNo, RouterNo, Topology};
+use crate::walk::read_slot;
+use mc_files::{PieceSource, Slot, Unread, slot_at};
+use mc_igmp::ListReader;
+use mc_tables::{CacheReader, ListedPairs, VifReader};
+use mc_text::Memory;
+use mc_topology::{RouterNo, Topology};
 use std::alloc::Global;
 
 /// Why a file is refused.
@@ -70,74 +73,39 @@ fn topology_unless_u64_max<F: PieceSource>(
     topology_in(alloc, files)
 }
 
-/// The fault of a router's file of vifs, if it has one.
-fn vifs_fault<F: PieceSource>(
+/// The fault of the file of the slot with a number, as this reader reads it, if it has one.
+fn slot_fault<F: PieceSource, R: PartReader + Drop>(
     alloc: Global,
     files: &mut F,
     buffer: &mut [u8],
-    router: &str,
+    topology: &Topology,
+    number: u32,
+    reader: R,
 ) -> Option<SourceFault>
-    requires name { IsTrue (is_name router.now) }
+    requires within { number < length (slots false topology.now) }
+    requires below_max { number < u32.MAX }
     requires room { 0 < length buffer.old }
+    requires start { R.size reader ≡ 0 }
     ensures same { F.borrows files.new ≡ F.borrows files.old }
     ensures kept { F.contents files.new ≡ F.contents files.old }
-    ensures fault { (contents : List FileText) → F.contents files.old ≡ Some contents →
-        IsOwnFaultUnlessMemory result (file_fault contents (vif_slot router.now) vifs_of) }
-    ensures failures { F.failed files.new
-        ≡ saturating_failures (failure_count result) (F.failed files.old) }
-{
-    if files.failures() == u64::MAX {
-        return Some(SourceFault::Read);
-    }
-    vifs_in(alloc, files, buffer, router).err()
-}
-
-/// The fault of the file of the forwarding cache of a router with this byte order, if it has one.
-fn cache_fault<F: PieceSource>(
-    alloc: Global,
-    files: &mut F,
-    buffer: &mut [u8],
-    listed: &SummaryPairs,
-    router: &str,
-    order: Order,
-) -> Option<SourceFault>
-    requires name { IsTrue (is_name router.now) }
-    requires room { 0 < length buffer.old }
-    ensures same { F.borrows files.new ≡ F.borrows files.old }
-    ensures kept { F.contents files.new ≡ F.contents files.old }
-    ensures fault { (flows : List Flow) (contents : List FileText) → AreFlowPairs flows listed.now →
+    ensures fault { (read : PartText → Result R.Out Fault) (slot : SlotText) (contents : List FileText) →
+        IsReaderOf (R.part_result reader) read →
+        slice_get (slots false topology.now) number ≡ Some slot →
         F.contents files.old ≡ Some contents →
-        IsOwnFaultUnlessMemory result (cache_file_fault contents router.now order) }
+        IsOwnFaultUnlessMemory result (file_fault contents slot read) }
     ensures failures { F.failed files.new
         ≡ saturating_failures (failure_count result) (F.failed files.old) }
 {
     if files.failures() == u64::MAX {
         return Some(SourceFault::Read);
     }
-    cache_in(alloc, files, buffer, listed, router, order, false).err()
-}
-
-/// The fault of a LAN's file of reports, if it has one.
-fn reports_fault<F: PieceSource>(
-    alloc: Global,
-    files: &mut F,
-    buffer: &mut [u8],
-    channels: &FlowChannels,
-    lan: &str,
-) -> Option<SourceFault>
-    requires name { IsTrue (is_name lan.now) }
-    requires room { 0 < length buffer.old }
-    ensures same { F.borrows files.new ≡ F.borrows files.old }
-    ensures kept { F.contents files.new ≡ F.contents files.old }
-    ensures fault { (contents : List FileText) → F.contents files.old ≡ Some contents →
-        IsOwnFaultUnlessMemory result (file_fault contents (reports_slot lan.now) reports_of) }
-    ensures failures { F.failed files.new
-        ≡ saturating_failures (failure_count result) (F.failed files.old) }
-{
-    if files.failures() == u64::MAX {
-        return Some(SourceFault::Read);
-    }
-    wanted_in(alloc, files, buffer, channels, lan).err()
+    let mut slots = FileSlots {
+        files,
+        without: &[],
+    };
+    let fault = read_slot(alloc, &mut slots, buffer, topology, number, reader).err();
+    let _files = slots.into_files();
+    fault
 }
 
 /// Why the file that was just read is refused.
@@ -173,53 +141,66 @@ fn push_if_fault<F: PieceSource>(
     Ok(())
 }
 
-/// Checks the tables of a router with this byte order, unless it is excluded.
+/// Checks the file of the slot with a number.
+fn judge_slot<F: PieceSource, R: PartReader + Drop>(
+    alloc: Global,
+    files: &mut F,
+    buffer: &mut [u8],
+    topology: &Topology,
+    number: u32,
+    reader: R,
+    refused: &mut Vec<RefusedFile>,
+) -> Result<(), Memory>
+    requires within { number < length (slots false topology.now) }
+    requires below_max { number < u32.MAX }
+    requires room { 0 < length buffer.old }
+    requires start { R.size reader ≡ 0 }
+    ensures same { F.borrows files.new ≡ F.borrows files.old }
+    ensures kept { F.contents files.new ≡ F.contents files.old }
+    ensures judged { (read : PartText → Result R.Out Fault) (slot : SlotText) →
+        IsReaderOf (R.part_result reader) read →
+        slice_get (slots false topology.now) number ≡ Some slot →
+        OnOk result (ListsRefused (F.contents files.old) (λ contents.
+        judged_file contents slot read ∷ []) refused.old.items refused.new.items
+        (F.failed files.old) (F.failed files.new)) }
+{
+    let Some(slot) = slot_at(topology, false, number) else {
+        unreachable!()
+    };
+    let fault = slot_fault(alloc, files, buffer, topology, number, reader);
+    push_if_fault(alloc, files, &slot, fault, refused)
+}
+
+/// Checks the tables of a router, unless it is excluded.
 fn judge_tables<F: PieceSource>(
     alloc: Global,
     files: &mut F,
     buffer: &mut [u8],
-    listed: &SummaryPairs,
+    topology: &Topology,
+    listed: &ListedPairs,
     without: &[&str],
-    router: &str,
-    order: Order,
+    router: u32,
     refused: &mut Vec<RefusedFile>,
 ) -> Result<(), Memory>
-    requires name { IsTrue (is_name router.now) }
+    requires router { router < length topology.now.routers }
+    requires below_max { 2 + 2 * router < u32.MAX }
     requires room { 0 < length buffer.old }
     ensures same { F.borrows files.new ≡ F.borrows files.old }
     ensures kept { F.contents files.new ≡ F.contents files.old }
-    ensures judged { ListsRefusedTables listed.now (names_of without.now) router.now order result
-        (F.contents files.old) refused.old.items refused.new.items
-        (F.failed files.old) (F.failed files.new) }
-{
-    if is_excluded(without, router) {
-        return Ok(());
-    }
-    let vifs = vifs_fault(alloc, files, buffer, router);
-    push_if_fault(alloc, files, &Slot::vifs(router), vifs, refused)?;
-    let cache = cache_fault(alloc, files, buffer, listed, router, order);
-    push_if_fault(alloc, files, &Slot::cache(router), cache, refused)
-}
-
-/// Checks the reports of a LAN.
-fn judge_reports<F: PieceSource>(
-    alloc: Global,
-    files: &mut F,
-    buffer: &mut [u8],
-    channels: &FlowChannels,
-    lan: &str,
-    refused: &mut Vec<RefusedFile>,
-) -> Result<(), Memory>
-    requires name { IsTrue (is_name lan.now) }
-    requires room { 0 < length buffer.old }
-    ensures same { F.borrows files.new ≡ F.borrows files.old }
-    ensures kept { F.contents files.new ≡ F.contents files.old }
-    ensures judged { OnOk result (ListsRefused (F.contents files.old) (λ contents.
-        judged_reports contents lan.now ∷ []) refused.old.items refused.new.items
+    ensures judged { (r : RouterRow) → slice_get topology.now.routers router ≡ Some r →
+        OnOk result (ListsRefused (F.contents files.old) (λ contents.
+        judged_tables (names_of without.now) contents r) refused.old.items refused.new.items
         (F.failed files.old) (F.failed files.new)) }
 {
-    let fault = reports_fault(alloc, files, buffer, channels, lan);
-    push_if_fault(alloc, files, &Slot::reports(lan), fault, refused)
+    if is_excluded(without, topology.router_name(RouterNo(router))) {
+        return Ok(());
+    }
+    let number = 1 + 2 * router;
+    let vifs = VifReader::new(alloc);
+    judge_slot(alloc, files, buffer, topology, number, vifs, refused)?;
+    let order = topology.order(RouterNo(router));
+    let cache = CacheReader::new(alloc, order, listed.clone()?);
+    judge_slot(alloc, files, buffer, topology, number + 1, cache, refused)
 }
 
 /// Checks the tables of all routers but the excluded ones.
@@ -238,13 +219,13 @@ fn judge_routers<F: PieceSource>(
         (judged_routers (names_of without.now) topology.now) refused.old.items refused.new.items
         (F.failed files.old) (F.failed files.new)) }
 {
-    let Ok(listed) = summary_pairs(alloc, topology) else {
+    let Ok(listed) = listed_pairs(alloc, topology) else {
         return Err(Memory);
     };
     for router in 0..topology.routers() {
-        let name = topology.router_name(RouterNo(router));
-        let order = topology.order(RouterNo(router));
-        judge_tables(alloc, files, buffer, &listed, without, name, order, refused)?;
+        judge_tables(
+            alloc, files, buffer, topology, &listed, without, router, refused,
+        )?;
     }
     Ok(())
 }
@@ -263,10 +244,10 @@ fn judge_lans<F: PieceSource>(
     ensures judged { OnOk result (ListsRefused (F.contents files.old) (judged_lans topology.now)
         refused.old.items refused.new.items (F.failed files.old) (F.failed files.new)) }
 {
-    let channels = FlowChannels::of(alloc, topology)?;
+    let first = 1 + 2 * topology.routers();
     for lan in 0..topology.lans() {
-        let name = topology.lan_name(LanNo(lan));
-        judge_reports(alloc, files, buffer, &channels, name, refused)?;
+        let reader = ListReader::new(alloc);
+        judge_slot(alloc, files, buffer, topology, first + lan, reader, refused)?;
     }
     Ok(())
 }

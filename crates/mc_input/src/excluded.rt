@@ -1,19 +1,21 @@
-//! Excluded routers: which they are, and the tables that they have in place of their own.
+//! Excluded routers: which they are, and what is read in place of their files.
 
-ghost use Rattle.std.specs.Prelude.{◌≡◌, [], false, true, IfErr, IfOk};
+ghost use Rattle.std.specs.Prelude.{◌≡◌, ◌≤◌, false, true, IfErr, IfSome, length, option_map};
 ghost use Rattle.std.specs.List.{list_any};
 ghost use Rattle.std.specs.Str.{bytes_eq};
-ghost use Rattle.mc_tables.specs.Summary.{summary_of};
-ghost use Rattle.mc_input.specs.ExcludedRouters.{check_router_names, empty_tables};
+ghost use Rattle.mc_input.specs.ExcludedRouters.{check_router_names, header_of_excluded};
 ghost use Rattle.mc_input.specs.ExcludedRouters.{is_possible_for_files_without, is_read_without};
 ghost use Rattle.mc_input.specs.ExcludedRouters.{names_of};
 
 use crate::without_fault::WithoutFault;
-use mc_forward::Tables;
-use mc_tables::{CacheSummary, CacheTable, SummaryPairs, VifTable};
-use mc_text::Memory;
 use mc_topology::Topology;
-use std::alloc::Global;
+
+/// The header of a kernel's table of vifs.
+const VIF_HEADER: &[u8] =
+    b"Interface      BytesIn  PktsIn  BytesOut PktsOut Flags Local    Remote\n";
+
+/// That of its forwarding cache.
+const CACHE_HEADER: &[u8] = b"Group    Origin   Iif     Pkts    Bytes    Wrong Oifs\n";
 
 /// Whether a router's name is one of the excluded ones.
 pub fn is_excluded(without: &[&str], router: &str) -> bool
@@ -21,6 +23,26 @@ pub fn is_excluded(without: &[&str], router: &str) -> bool
         list_any (λ name. bytes_eq name router.now) (names_of without.now) }
 {
     without.iter().any(|name| *name == router)
+}
+
+/// The header of a router's table, of vifs or of its forwarding cache, if its name is one of these.
+pub(crate) fn header_of_excluded(
+    without: &[&str],
+    router: &str,
+    vifs: bool,
+) -> Option<&'static [u8]>
+    ensures header { option_map (λ header. header.now) result
+        ≡ header_of_excluded (names_of without.now) router.now vifs }
+    ensures small { IfSome result (λ header. length header.now ≤ 100) }
+{
+    if !is_excluded(without, router) {
+        return None;
+    }
+    if vifs {
+        Some(VIF_HEADER)
+    } else {
+        Some(CACHE_HEADER)
+    }
 }
 
 /// Refuses the first of the names that no router of the topology has, by its place, counted from 1.
@@ -36,21 +58,4 @@ pub(crate) fn check_names(topology: &Topology, without: &[&str]) -> Result<(), W
         }
     }
     Ok(())
-}
-
-/// The tables of an excluded router, without a vif or a row, and the summary of its cache.
-pub(crate) fn empty_tables(
-    alloc: Global,
-    listed: &SummaryPairs,
-    all: bool,
-) -> Result<(Tables, CacheSummary), Memory>
-    ensures tables { IfOk result (λ read. read.0 ≡ empty_tables) }
-    ensures summary { IfOk result (λ read. read.1 ≡ summary_of all listed.now []) }
-{
-    let summary = CacheSummary::empty(alloc, listed.clone()?, all);
-    let tables = Tables {
-        vifs: VifTable::empty(alloc),
-        cache: CacheTable::empty(alloc),
-    };
-    Ok((tables, summary))
 }

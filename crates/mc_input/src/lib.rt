@@ -2,21 +2,24 @@
 //! the order in which faults are reported. From a folder it also reads a summary of each cache.
 #![tactic(auto)]
 
-mod bundle;
 mod bundle_part;
+mod bundle_slots;
+mod cache_keeper;
 mod domain;
 mod each_file;
 mod excluded;
 mod fault;
 mod fed_file;
 mod fed_part;
-mod file_part;
-mod files;
+mod file_slots;
 pub mod laws;
+mod part_reader;
 mod part_result;
 mod piece_reader;
 mod slot_part;
+mod slots;
 mod source_fault;
+mod walk;
 mod without_fault;
 
 pub use domain::{BundleDomain, FolderDomain, PIECE, read_bundle_domain, read_folder_domain};

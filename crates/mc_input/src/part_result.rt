@@ -1,26 +1,22 @@
 //! Turns the result of a text's reader into that of its part: a fault gets the part's name.
 
-ghost use Rattle.std.specs.FinMap.{FinMap};
-ghost use Rattle.std.specs.Ordering.{nat_cmp};
-ghost use Rattle.std.specs.Prelude.{◌≡◌, ◌≢◌, Err, IfErr, IfOk, List, Result, length};
+ghost use Rattle.std.specs.Prelude.{◌≡◌, IfErr, IfOk, Err, true};
+ghost use Rattle.mc_igmp.specs.ReadingList.{oom_fault};
+ghost use Rattle.mc_tables.specs.Steps.{out_of_memory};
 ghost use Rattle.mc_text.specs.BundleView.{part_text};
 ghost use Rattle.mc_text.specs.Steps.{map_fault};
-ghost use Rattle.mc_tables.specs.Steps.{out_of_memory};
-ghost use Rattle.mc_tables.specs.VifTable.{VifValue};
-ghost use Rattle.mc_tables.specs.declared.fault.TableFault.{TableFault as FaultOfTable};
-ghost use Rattle.mc_igmp.specs.ReadingList.{oom_fault};
-ghost use Rattle.mc_igmp.specs.declared.fault.ListFault.{ListFault as FaultOfList};
-ghost use Rattle.mc_igmp.specs.declared.record.Record.{Record};
-ghost use Rattle.mc_input.specs.Kept.{AreFlowPairs, AreWantsOf};
+ghost use Rattle.mc_input.specs.InputReading.{Gives};
+ghost use Rattle.mc_input.specs.Kept.{AreFlowPairs};
 ghost use Rattle.mc_input.specs.PartsOneByOne.{IsPartResult};
+ghost use Rattle.mc_input.specs.PartsReading.{topology_of};
+ghost use Rattle.mc_input.specs.SourceFault.{is_possible_for_files};
 ghost use Rattle.mc_input.specs.declared.fault.InputFault.TheVariants.{Cache as RefusedCache};
 ghost use Rattle.mc_input.specs.declared.fault.InputFault.TheVariants.{Reports as RefusedReports};
 ghost use Rattle.mc_input.specs.declared.fault.InputFault.TheVariants.{Vif as RefusedVif};
-ghost use Rattle.mc_input.specs.InputReading.{Gives};
-ghost use Rattle.mc_input.specs.PartsReading.{topology_of};
+ghost use Rattle.mc_input.specs.declared.source_fault.SourceFault.TheVariants.{Input};
 
 use crate::fault::InputFault;
-use mc_forward::{FlowChannels, Items, source_group_pairs};
+use mc_forward::source_group_pairs;
 use mc_igmp::{ListFault, ListFaultKind, ReportList};
 use mc_tables::{ListedPairs, SummaryPairs, TableFault, TableFaultKind, VifTable};
 use mc_text::{Part, PartName};
@@ -48,9 +44,9 @@ pub(crate) fn vifs_or_fault(
     name: PartName,
     found: Result<VifTable, TableFault>,
 ) -> Result<VifTable, InputFault>
-    ensures { (read : Result (FinMap nat_cmp VifValue) FaultOfTable) →
-        (found ≢ Err out_of_memory → read ≡ found) →
-        IsPartResult (λ kept vifs. kept ≡ vifs) result (map_fault (RefusedVif name) read) }
+    ensures vifs { IsPartResult (λ kept vifs. kept ≡ vifs) result (map_fault (RefusedVif name) found) }
+    ensures memory { found ≡ Err out_of_memory → result ≡ Err InputFault.Memory }
+    ensures faults { IfErr result (λ fault. is_possible_for_files (Input fault) ≡ true) }
 {
     match found {
         Ok(vifs) => Ok(vifs),
@@ -86,9 +82,9 @@ pub(crate) fn cache_or_fault<T: Drop>(
     name: PartName,
     found: Result<T, TableFault>,
 ) -> Result<T, InputFault>
-    ensures { (read : Result T FaultOfTable) →
-        (found ≢ Err out_of_memory → read ≡ found) →
-        IsPartResult (λ kept cache. kept ≡ cache) result (map_fault (RefusedCache name) read) }
+    ensures cache { IsPartResult (λ kept cache. kept ≡ cache) result (map_fault (RefusedCache name) found) }
+    ensures memory { found ≡ Err out_of_memory → result ≡ Err InputFault.Memory }
+    ensures faults { IfErr result (λ fault. is_possible_for_files (Input fault) ≡ true) }
 {
     match found {
         Ok(cache) => Ok(cache),
@@ -102,21 +98,18 @@ pub(crate) fn cache_or_fault<T: Drop>(
     }
 }
 
-/// Which of these channels a LAN wants by the report list that the reader of the part with this name
-/// found, or its fault.
-pub(crate) fn wanted_or_fault(
-    alloc: Global,
-    channels: &FlowChannels,
+/// The report list that the reader of the part with this name found, or its fault.
+pub(crate) fn reports_or_fault(
     name: PartName,
     found: Result<ReportList, ListFault>,
-) -> Result<Items<bool>, InputFault>
-    ensures wanted { (read : Result (List Record) FaultOfList) →
-        (found ≢ Err oom_fault → read ≡ found) →
-        IsPartResult (AreWantsOf channels.now) result (map_fault (RefusedReports name) read) }
-    ensures count { IfOk result (λ wanted. length wanted ≡ length channels.now) }
+) -> Result<ReportList, InputFault>
+    ensures reports { IsPartResult (λ kept records. kept ≡ records) result
+        (map_fault (RefusedReports name) found) }
+    ensures memory { found ≡ Err oom_fault → result ≡ Err InputFault.Memory }
+    ensures faults { IfErr result (λ fault. is_possible_for_files (Input fault) ≡ true) }
 {
     match found {
-        Ok(reports) => Ok(channels.wanted(alloc, &reports)?),
+        Ok(reports) => Ok(reports),
         Err(
             ListFault {
                 kind: ListFaultKind::Memory,

@@ -9,9 +9,8 @@ use Rattle.mc_explain.specs.TopologyLans.{vif_of_device}
 use Rattle.serde_json.specs.Data.{Data, string}
 use Rattle.serde_json.specs.Written.{has_float}
 use Rattle.mc_json.specs.DomainData.{domain_data, interfaces_data, lan_or_null, parts_data, source_data}
-use Rattle.mc_json.specs.DomainData.{unmatched_data, unmatched_data_of, vif_data, vifs_data}
+use Rattle.mc_json.specs.DomainData.{router_with_order, unmatched_data, unmatched_data_of, vif_data, vifs_data}
 use Rattle.mc_json.proofs.NoFloatLemmas.{HaveNoFloat, no_float-append, no_float-map, no_float-lans}
-use Rattle.mc_json.proofs.NoFloatLemmas.{no_float-routers}
 
 -- items with several values each
 no_float-flat_map : {A : Type 0} (f : A → List Data) → ((x : A) → HaveNoFloat (f x)) → (xs : List A)
@@ -53,7 +52,7 @@ no_float-parts_data d =
     rw (
       no_float-interfaces_data d,
       no_float-lans t (below (length t.lans)),
-      no_float-routers t (below (length t.routers)),
+      no_float-map (router_with_order t) (λ router. refl) (below (length t.routers)),
       no_float-map (source_data t) (λ s. refl) t.sources,
     )
 

@@ -5,11 +5,13 @@ use Rattle.mc_topology.specs.Topology.{TopologyValue}
 use Rattle.mc_topology.specs.declared.flow.Flow.{Flow}
 use Rattle.mc_theory.specs.Certificates.{Entry}
 use Rattle.mc_theory.specs.Events.{Event}
+use Rattle.mc_theory.specs.Nets.{Net}
 use Rattle.mc_forward.specs.ListedTables.{DomainFacts}
 use Rattle.mc_replay.specs.declared.finding.Finding.{Finding}
 use Rattle.mc_explain.specs.ExcludedText.{excluded_routers}
 use Rattle.mc_explain.specs.UnlistedPairs.{with_routers}
 use Rattle.mc_explain.specs.UnlistedText.{further_rows, shown_unlisted_pairs}
+use Rattle.mc_explain.specs.declared.causes.explanation.Certainty.{Certainty}
 use Rattle.serde_json.specs.Data.{Data}
 use Rattle.json.specs.Print.{escape_byte}
 use Rattle.mc_json.specs.DomainData.{domain_data}
@@ -29,10 +31,10 @@ are_object_lines-domain d words = are_object_lines-one (domain_data d words) ref
 
 -- ---- flows
 
-pub are_object_lines-tree : (t : TopologyValue) (es : List Entry) (tree : ℕ)
-    → AreObjectLines (line_of (tree_data t es tree))
+pub are_object_lines-tree : (t : TopologyValue) (n : Net) (es : List Entry) (tree : ℕ)
+    → AreObjectLines (line_of (tree_data t n es tree))
 unfolding escape_byte
-are_object_lines-tree t es tree = are_object_lines-one (tree_data t es tree) refl refl
+are_object_lines-tree t n es tree = are_object_lines-one (tree_data t n es tree) refl refl
 
 pub are_object_lines-right : (whole : Bool) (number : ℕ) (f : Flow) (copies tree : ℕ) (wanted : List Data)
     → AreObjectLines (line_of (right_data whole number f copies tree wanted))
@@ -47,11 +49,11 @@ pub are_object_lines-wrong_flow : (number : ℕ) (f : Flow) (w : WrongFlow)
 unfolding escape_byte
 are_object_lines-wrong_flow number f w = are_object_lines-one (wrong_data number f w) refl refl
 
-pub are_object_lines-wrong : (d : DomainFacts) (number : ℕ) (f : Flow) (found_ttl : ℕ) (finding : Finding)
-    (events : List Event) (also : List ℕ) (why : List Data) (events_asked : Bool)
-    → AreObjectLines (wrong_line d number f found_ttl finding events also why events_asked)
-are_object_lines-wrong d number f found_ttl finding events also why events_asked =
-    are_object_lines-wrong_flow number f (wrong_flow_of d.topology found_ttl finding events also why
+pub are_object_lines-wrong : (d : DomainFacts) (number : ℕ) (f : Flow) (certainty : Certainty) (found_ttl : ℕ)
+    (finding : Finding) (events : List Event) (also : List ℕ) (why : List Data) (events_asked : Bool)
+    → AreObjectLines (wrong_line d number f certainty found_ttl finding events also why events_asked)
+are_object_lines-wrong d number f certainty found_ttl finding events also why events_asked =
+    are_object_lines-wrong_flow number f (wrong_flow_of d number certainty found_ttl finding events also why
     events_asked)
 
 -- ---- after the flows
@@ -89,8 +91,8 @@ pub are_object_lines-without : (t : TopologyValue) (excluded : List Bool)
     → AreObjectLines (without_line t excluded)
 are_object_lines-without t excluded = are_object_lines-without_line_of t (excluded_routers t excluded)
 
-pub are_object_lines-summary : (right unwanted wrong : ℕ)
-    → AreObjectLines (line_of (summary_data right unwanted wrong))
+pub are_object_lines-summary : (right unknown unwanted wrong : ℕ)
+    → AreObjectLines (line_of (summary_data right unknown unwanted wrong))
 unfolding escape_byte
-are_object_lines-summary right unwanted wrong = are_object_lines-one (summary_data right unwanted wrong)
-    refl refl
+are_object_lines-summary right unknown unwanted wrong =
+    are_object_lines-one (summary_data right unknown unwanted wrong) refl refl

@@ -5,3 +5,5 @@ pub mod DomainNoFloatLemmas
 pub mod NoFeedLemmas
 pub mod ObjectLemmas
 pub mod EachLineLemmas
+pub mod SentVifLemmas
+pub mod TreeKeyLemmas

@@ -10,10 +10,11 @@ use Rattle.mc_topology.specs.declared.flow.Flow.{Flow}
 use Rattle.mc_theory.specs.Certificates.{Entry}
 use Rattle.mc_theory.specs.Events.{Event, Outcome}
 use Rattle.mc_theory.specs.Events.Outcome.{Open as open_row, NoRow as no_row, OtherVif, Sent}
-use Rattle.mc_theory.specs.Nets.{Interface, Row}
+use Rattle.mc_theory.specs.Nets.{Interface, Net, Row}
 use Rattle.mc_theory.specs.Nets.Row.{Exact, Open, NoRow}
 use Rattle.mc_forward.specs.Domains.{oif_pairs}
 use Rattle.mc_forward.specs.ListedTables.{DomainFacts}
+use Rattle.mc_explain.specs.WantedText.{lans_wanting}
 use Rattle.mc_replay.specs.declared.finding.Finding.{Finding}
 use Rattle.mc_replay.specs.declared.finding.Finding.TheVariants.{Clean, Duplicate, Loop, Stray}
 use Rattle.mc_replay.specs.declared.finding.Finding.TheVariants.{Missed}
@@ -23,11 +24,13 @@ use Rattle.serde_json.specs.Written.{has_float, items_have_float}
 use Rattle.mc_json.specs.RowData.{device_data_of, entry_data, every_source_row_data, oif_data}
 use Rattle.mc_json.specs.RowData.{flow_row_data, row_data}
 use Rattle.mc_json.specs.RowData.{incoming_device, incoming_vif}
-use Rattle.mc_json.specs.RowData.{lan_data, router_data}
-use Rattle.mc_json.specs.FlowData.{event_data, events_if_asked, finding_data}
-use Rattle.mc_json.specs.FlowData.{outcome_data, reached_data, right_data, sender_router, sender_vif}
+use Rattle.mc_json.specs.RowData.{count_data, lan_data, router_data}
+use Rattle.mc_json.specs.FlowData.{event_data, events_if_asked, finding_data, passed_vifs}
+use Rattle.mc_json.specs.FlowData.{interface_router, interface_vif, outcome_data, reached_data, right_data}
 use Rattle.mc_json.specs.EndData.{unlisted_data, without_data}
-use Rattle.mc_json.specs.FlowData.{tree_data, wrong_data, wrong_flow_of}
+use Rattle.mc_json.specs.FlowData.{shown_from_data, tree_data, wrong_data, wrong_flow_of, wrong_mark}
+use Rattle.mc_json.specs.TreeKey.{taking_interface}
+use Rattle.mc_explain.specs.declared.causes.explanation.Certainty.{Certainty}
 
 -- ---- lists
 
@@ -94,21 +97,26 @@ no_float-incoming_vif NoRow = refl
 
 -- ---- flows
 
-no_float-sender_router : (t : TopologyValue) (o : Option Interface)
-    → has_float (sender_router t o) ≡ false
-no_float-sender_router t None = refl
-no_float-sender_router t (Some i) = refl
+no_float-interface_router : (t : TopologyValue) (o : Option Interface)
+    → has_float (interface_router t o) ≡ false
+no_float-interface_router t None = refl
+no_float-interface_router t (Some i) = refl
 
-no_float-sender_vif : (o : Option Interface) → has_float (sender_vif o) ≡ false
-no_float-sender_vif None = refl
-no_float-sender_vif (Some i) = refl
+no_float-interface_vif : (o : Option Interface) → has_float (interface_vif o) ≡ false
+no_float-interface_vif None = refl
+no_float-interface_vif (Some i) = refl
 
-no_float-reached_data : (t : TopologyValue) (e : Entry) → has_float (reached_data t e) ≡ false
-no_float-reached_data t e = rw (no_float-sender_router t e.forwarder, no_float-sender_vif e.forwarder)
+no_float-reached_data : (t : TopologyValue) (n : Net) (e : Entry) → has_float (reached_data t n e) ≡ false
+no_float-reached_data t n e =
+    rw (
+      no_float-interface_vif (taking_interface n e.forwarder),
+      no_float-interface_router t e.forwarder,
+      no_float-interface_vif e.forwarder,
+    )
 
-pub no_float-tree_data : (t : TopologyValue) (es : List Entry) (tree : ℕ)
-    → has_float (tree_data t es tree) ≡ false
-no_float-tree_data t es tree = rw (no_float-map (reached_data t) (no_float-reached_data t) es)
+pub no_float-tree_data : (t : TopologyValue) (n : Net) (es : List Entry) (tree : ℕ)
+    → has_float (tree_data t n es tree) ≡ false
+no_float-tree_data t n es tree = rw (no_float-map (reached_data t n) (no_float-reached_data t n) es)
 
 pub no_float-lans : (t : TopologyValue) (lans : List ℕ) → HaveNoFloat (map (lan_data t) lans)
 no_float-lans t lans = no_float-map (lan_data t) (λ lan. refl) lans
@@ -118,14 +126,16 @@ pub no_float-right_data : (whole : Bool) (number : ℕ) (f : Flow) (copies tree 
 no_float-right_data true number f copies tree wanted plain = rw plain
 no_float-right_data false number f copies tree wanted plain = rw plain
 
-no_float-outcome_data : (t : TopologyValue) (e : Event) (o : Outcome) → has_float (outcome_data t e o) ≡ false
-no_float-outcome_data t e open_row = refl
-no_float-outcome_data t e no_row = refl
-no_float-outcome_data t e OtherVif = refl
-no_float-outcome_data t e (Sent copies strays) = refl
+no_float-outcome_data : (t : TopologyValue) (n : Net) (e : Event) (o : Outcome)
+    → has_float (outcome_data t n e o) ≡ false
+no_float-outcome_data t n e open_row = refl
+no_float-outcome_data t n e no_row = refl
+no_float-outcome_data t n e OtherVif = refl
+no_float-outcome_data t n e (Sent copies strays) =
+    rw (no_float-map count_data (λ vif. refl) (passed_vifs e.ttl (n.row e.router)))
 
-no_float-events : (t : TopologyValue) (es : List Event) → HaveNoFloat (map (event_data t) es)
-no_float-events t es = no_float-map (event_data t) (λ e. no_float-outcome_data t e e.outcome) es
+no_float-events : (t : TopologyValue) (n : Net) (es : List Event) → HaveNoFloat (map (event_data t n) es)
+no_float-events t n es = no_float-map (event_data t n) (λ e. no_float-outcome_data t n e e.outcome) es
 
 no_float-finding_data : (t : TopologyValue) (f : Finding) → has_float (finding_data t f) ≡ false
 no_float-finding_data t Clean = refl
@@ -139,34 +149,62 @@ abbrev pub EventsHaveNoFloat : Option (List Data) → Type 0
 EventsHaveNoFloat None = Unit {0}
 EventsHaveNoFloat (Some es) = HaveNoFloat es
 
-no_float-wrong_data : (number : ℕ) (f : Flow) (also : List Data) (events : Option (List Data))
-    (finding : Data) (found_ttl : ℕ) (why : List Data) → HaveNoFloat also → EventsHaveNoFloat events
-    → has_float finding ≡ false → HaveNoFloat why
+no_float-wrong_mark : (known : Bool) → has_float (wrong_mark known) ≡ false
+no_float-wrong_mark true = refl
+no_float-wrong_mark false = refl
+
+no_float-shown_from : (shown_from : Option ℕ) → has_float (shown_from_data shown_from) ≡ false
+no_float-shown_from None = refl
+no_float-shown_from (Some ttl) = refl
+
+no_float-wrong_data : (number : ℕ) (f : Flow) (certainty : Certainty) (also : List Data) (events : Option (List Data))
+    (finding : Data) (found_ttl : ℕ) (wanted why : List Data) → HaveNoFloat also → EventsHaveNoFloat events
+    → has_float finding ≡ false → HaveNoFloat wanted → HaveNoFloat why
     → has_float (wrong_data number f (record {
+      certainty = certainty;
       also = also;
       events = events;
       finding = finding;
       found_ttl = found_ttl;
+      wanted = wanted;
       why = why;
     })) ≡ false
-no_float-wrong_data number f also None finding found_ttl why plain causes found because =
-    rw (plain, found, because)
-no_float-wrong_data number f also (Some es) finding found_ttl why plain causes found because =
-    rw (plain, causes, found, because)
+no_float-wrong_data number f certainty also None finding found_ttl wanted why plain causes found lans because =
+    rw (
+      plain,
+      found,
+      no_float-wrong_mark certainty.known,
+      no_float-shown_from certainty.shown_from,
+      lans,
+      because,
+    )
+no_float-wrong_data number f certainty also (Some es) finding found_ttl wanted why plain causes found lans because =
+    rw (
+      plain,
+      causes,
+      found,
+      no_float-wrong_mark certainty.known,
+      no_float-shown_from certainty.shown_from,
+      lans,
+      because,
+    )
 
-no_float-events_if_asked : (t : TopologyValue) (events_asked : Bool) (es : List Event)
-    → EventsHaveNoFloat (events_if_asked t events_asked es)
-no_float-events_if_asked t true es = no_float-events t es
-no_float-events_if_asked t false es = tt
+no_float-events_if_asked : (t : TopologyValue) (n : Net) (events_asked : Bool) (es : List Event)
+    → EventsHaveNoFloat (events_if_asked t n events_asked es)
+no_float-events_if_asked t n true es = no_float-events t n es
+no_float-events_if_asked t n false es = tt
 
-pub no_float-wrong_flow_of : (number : ℕ) (f : Flow) (t : TopologyValue) (found_ttl : ℕ) (finding : Finding)
-    (events : List Event) (also : List ℕ) (why : List Data) (events_asked : Bool) → HaveNoFloat why
-    → has_float (wrong_data number f (wrong_flow_of t found_ttl finding events also why events_asked)) ≡ false
-no_float-wrong_flow_of number f t found_ttl finding events also why events_asked because =
-    no_float-wrong_data number f (map (lan_data t) also) (events_if_asked t events_asked events)
-    (finding_data t finding) found_ttl why (no_float-lans t also) (no_float-events_if_asked t events_asked
-    events)
-    (no_float-finding_data t finding) because
+pub no_float-wrong_flow_of : (d : DomainFacts) (flow : ℕ) (f : Flow) (certainty : Certainty) (found_ttl : ℕ)
+    (finding : Finding) (events : List Event) (also : List ℕ) (why : List Data) (events_asked : Bool)
+    → HaveNoFloat why → has_float (wrong_data flow f
+    (wrong_flow_of d flow certainty found_ttl finding events also why events_asked)) ≡ false
+no_float-wrong_flow_of d flow f certainty found_ttl finding events also why events_asked because =
+    let t = d.topology in
+    no_float-wrong_data flow f certainty (map (lan_data t) also)
+    (events_if_asked t (d.nets flow) events_asked events)
+    (finding_data t finding) found_ttl (map (lan_data t) (lans_wanting d flow)) why (no_float-lans t also)
+    (no_float-events_if_asked t (d.nets flow) events_asked events) (no_float-finding_data t finding)
+    (no_float-lans t (lans_wanting d flow)) because
 
 -- ---- after the flows
 

@@ -1,6 +1,9 @@
 -- The first line in JSON: the domain that was read, and the words of the command line.
 use Rattle.std.specs.Prelude.{ℕ, List, [], ◌∷◌, ◌++◌, length, map, flat_map, Option, Some, None, codes}
+use Rattle.std.specs.Prelude.{option_map, slice_get, unwrap_or}
 use Rattle.mc_text.specs.Addr.{dotted}
+use Rattle.mc_text.specs.declared.text.addr.Order.{Order}
+use Rattle.mc_text.specs.declared.text.addr.Order.TheVariants.{Little, Big}
 use Rattle.mc_tables.specs.VifTable.{VifValue}
 use Rattle.mc_topology.specs.SectionRows.{InterfaceRow, SourceRow}
 use Rattle.mc_topology.specs.Topology.{TopologyValue}
@@ -49,6 +52,22 @@ interfaces_data d =
     flat_map (vifs_data d) (below (length d.topology.routers))
     ++ flat_map (unmatched_data d) d.topology.interfaces
 
+-- ---- routers
+
+-- the order in which a router's table shows the bytes of addresses; little for a number that the topology
+-- doesn't have
+abbrev pub router_order : TopologyValue → (router : ℕ) → Order
+router_order t router = unwrap_or (option_map (λ r. r.order) (slice_get t.routers router)) Little
+
+abbrev pub order_word : Order → List ℕ
+order_word Little = codes "little"
+order_word Big = codes "big"
+
+abbrev pub router_with_order : TopologyValue → (router : ℕ) → Data
+router_with_order t router = object_data (
+    (codes "name", router_data t router)
+    ∷ (codes "order", string (order_word (router_order t router))) ∷ [])
+
 -- ---- the line
 
 abbrev pub source_data : TopologyValue → SourceRow → Data
@@ -59,12 +78,12 @@ abbrev pub parts_data : DomainFacts → Data
 parts_data d = object_data (
     (codes "interfaces", list_data (interfaces_data d))
     ∷ (codes "lans", list_data (map (lan_data d.topology) (below (length d.topology.lans))))
-    ∷ (codes "routers", list_data (map (router_data d.topology) (below (length d.topology.routers))))
+    ∷ (codes "routers", list_data (map (router_with_order d.topology) (below (length d.topology.routers))))
     ∷ (codes "sources", list_data (map (source_data d.topology) d.topology.sources)) ∷ [])
 
 -- with the words of the command line, in order
 abbrev pub domain_data : DomainFacts → List (List ℕ) → Data
 domain_data d words = object_data (
     (codes "domain", parts_data d)
-    ∷ (codes "format", count_data 1)
+    ∷ (codes "format", count_data 2)
     ∷ (codes "words", list_data (map string words)) ∷ [])

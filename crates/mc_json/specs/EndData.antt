@@ -56,11 +56,13 @@ without_line_of t (router ∷ routers) = line_of (without_data t (router ∷ rou
 abbrev pub without_line : TopologyValue → (excluded : List Bool) → List ℕ
 without_line t excluded = without_line_of t (excluded_routers t excluded)
 
--- how many flows there are, how many are right, how many of these no LAN wants, and how many aren't right
-abbrev pub summary_data : (right unwanted wrong : ℕ) → Data
-summary_data right unwanted wrong = single_member (codes "summary") (object_data (
-    (codes "flows", count_data (right + wrong))
+-- how many flows there are, how many are right, of how many that isn't known, how many without a finding no
+-- LAN wants, and how many aren't right
+abbrev pub summary_data : (right unknown unwanted wrong : ℕ) → Data
+summary_data right unknown unwanted wrong = single_member (codes "summary") (object_data (
+    (codes "flows", count_data (right + wrong + unknown))
     ∷ (codes "right", count_data right)
+    ∷ (codes "unknown", count_data unknown)
     ∷ (codes "unwanted", count_data unwanted)
     ∷ (codes "wrong", count_data wrong) ∷ []))
 

@@ -1,21 +1,24 @@
 -- The line of a flow, and of the tree of a right one, in JSON.
 use Rattle.std.specs.Prelude.{ℕ, ◌+◌, Bool, true, false, List, [], ◌∷◌, ◌++◌, map, Option, Some, None}
-use Rattle.std.specs.Prelude.{if◌then◌else◌, codes}
+use Rattle.std.specs.Prelude.{flat_map, if◌then◌else◌, nat_lt, codes}
 use Rattle.mc_text.specs.Addr.{dotted}
 use Rattle.mc_topology.specs.Topology.{TopologyValue}
 use Rattle.mc_topology.specs.declared.flow.Flow.{Flow}
 use Rattle.mc_theory.specs.Certificates.{Entry}
 use Rattle.mc_theory.specs.Events.{Event, Outcome}
 use Rattle.mc_theory.specs.Events.Outcome.{Open, NoRow, OtherVif, Sent}
-use Rattle.mc_theory.specs.Nets.{Interface}
-use Rattle.mc_forward.specs.ListedTables.{DomainFacts, facts}
+use Rattle.mc_theory.specs.Nets.{Interface, Net, Row}
+use Rattle.mc_theory.specs.Nets.Row.{Exact, Open as open_row, NoRow as no_row}
+use Rattle.mc_forward.specs.ListedTables.{DomainFacts}
+use Rattle.mc_explain.specs.WantedText.{lans_wanting}
 use Rattle.mc_replay.specs.declared.finding.Finding.{Finding}
 use Rattle.mc_replay.specs.declared.finding.Finding.TheVariants.{Clean, Duplicate, Loop, Stray}
 use Rattle.mc_replay.specs.declared.finding.Finding.TheVariants.{Missed}
-use Rattle.mc_replay.specs.declared.travel.FinishedTravel.{FinishedTravel}
+use Rattle.mc_explain.specs.declared.causes.explanation.Certainty.{Certainty}
 use Rattle.serde_json.specs.Data.{Data, null, boolean, string}
 use Rattle.mc_json.specs.RowData.{count_data, line_of, list_data, object_data}
 use Rattle.mc_json.specs.RowData.{lan_data, router_data}
+use Rattle.mc_json.specs.TreeKey.{taking_interface}
 
 -- ---- any flow
 
@@ -29,27 +32,30 @@ flow_members number f =
 
 -- ---- trees
 
--- the router and the vif that send onto a LAN, null for the source's own
-abbrev pub sender_router : TopologyValue → Option Interface → Data
-sender_router t None = null
-sender_router t (Some i) = router_data t i.0
+-- the router and the vif of an interface, null for none
+abbrev pub interface_router : TopologyValue → Option Interface → Data
+interface_router t None = null
+interface_router t (Some i) = router_data t i.0
 
-abbrev pub sender_vif : Option Interface → Data
-sender_vif None = null
-sender_vif (Some i) = count_data i.1
+abbrev pub interface_vif : Option Interface → Data
+interface_vif None = null
+interface_vif (Some i) = count_data i.1
 
-abbrev pub reached_data : TopologyValue → Entry → Data
-reached_data t e = object_data (
-    (codes "lan", lan_data t e.lan)
+-- an entry, by the interface that sends onto its LAN, none for the source's own, and by the vif at which
+-- the sending router takes the packets
+abbrev pub reached_data : TopologyValue → Net → Entry → Data
+reached_data t n e = object_data (
+    (codes "from_vif", interface_vif (taking_interface n e.forwarder))
+    ∷ (codes "lan", lan_data t e.lan)
     ∷ (codes "need", count_data e.need)
     ∷ (codes "rank", count_data e.rank)
-    ∷ (codes "router", sender_router t e.forwarder)
-    ∷ (codes "vif", sender_vif e.forwarder) ∷ [])
+    ∷ (codes "router", interface_router t e.forwarder)
+    ∷ (codes "vif", interface_vif e.forwarder) ∷ [])
 
 -- a tree with its number
-abbrev pub tree_data : TopologyValue → List Entry → (tree : ℕ) → Data
-tree_data t es tree = object_data (
-    (codes "entries", list_data (map (reached_data t) es))
+abbrev pub tree_data : TopologyValue → Net → List Entry → (tree : ℕ) → Data
+tree_data t n es tree = object_data (
+    (codes "entries", list_data (map (reached_data t n) es))
     ∷ (codes "tree", count_data tree) ∷ [])
 
 -- ---- a right flow
@@ -89,48 +95,86 @@ finding_data t (Stray router vif) = object_data (
     ∷ (codes "vif", count_data vif) ∷ [])
 finding_data t (Missed lan) = finding_at_lan t (codes "Missed") lan
 
+-- an outgoing vif with its threshold, if a copy that came with this TTL passes that
+abbrev pub passed_vif : (ttl : ℕ) → ℕ × ℕ → List ℕ
+passed_vif ttl p = if nat_lt p.1 ttl then p.0 ∷ [] else []
+
+-- The vifs by which a row sends a copy that came with this TTL, in the row's order, which is ascending,
+-- whether they are placed or not.
+abbrev pub passed_vifs : (ttl : ℕ) → Row → List ℕ
+passed_vifs ttl (Exact incoming pairs) = flat_map (passed_vif ttl) pairs
+passed_vifs ttl open_row = []
+passed_vifs ttl no_row = []
+
+-- those by which copies went in an event that sent some
+abbrev pub sent_vifs : Net → Event → List ℕ
+sent_vifs n e = passed_vifs e.ttl (n.row e.router)
+
+abbrev pub vifs_data : List ℕ → Data
+vifs_data vifs = list_data (map count_data vifs)
+
 -- an event that sent no copies
 abbrev pub event_without_copies_data : TopologyValue → Event → (outcome : List ℕ) → Data
 event_without_copies_data t e outcome = object_data (
-    (codes "outcome", string outcome)
+    (codes "onto", vifs_data [])
+    ∷ (codes "outcome", string outcome)
     ∷ (codes "router", router_data t e.router)
     ∷ (codes "ttl", count_data e.ttl)
     ∷ (codes "vif", count_data e.vif) ∷ [])
 
-abbrev pub outcome_data : TopologyValue → Event → Outcome → Data
-outcome_data t e Open = event_without_copies_data t e (codes "open")
-outcome_data t e NoRow = event_without_copies_data t e (codes "no row")
-outcome_data t e OtherVif = event_without_copies_data t e (codes "other vif")
-outcome_data t e (Sent copies strays) = object_data (
+-- an event that sent copies by these vifs
+abbrev pub event_with_copies_data : TopologyValue → Event → (copies strays : ℕ) → (vifs : List ℕ) → Data
+event_with_copies_data t e copies strays vifs = object_data (
     (codes "copies", count_data copies)
+    ∷ (codes "onto", vifs_data vifs)
     ∷ (codes "outcome", string (codes "sent"))
     ∷ (codes "router", router_data t e.router)
     ∷ (codes "strays", count_data strays)
     ∷ (codes "ttl", count_data e.ttl)
     ∷ (codes "vif", count_data e.vif) ∷ [])
 
-abbrev pub event_data : TopologyValue → Event → Data
-event_data t e = outcome_data t e e.outcome
+abbrev pub outcome_data : TopologyValue → Net → Event → Outcome → Data
+outcome_data t n e Open = event_without_copies_data t e (codes "open")
+outcome_data t n e NoRow = event_without_copies_data t e (codes "no row")
+outcome_data t n e OtherVif = event_without_copies_data t e (codes "other vif")
+outcome_data t n e (Sent copies strays) = event_with_copies_data t e copies strays (sent_vifs n e)
 
--- the members that each flow has that isn't right, by the TTL of its finding
-abbrev pub each_wrong_members : (number : ℕ) → Flow → (found_ttl : ℕ) → (why : List Data)
+abbrev pub event_data : TopologyValue → Net → Event → Data
+event_data t n e = outcome_data t n e e.outcome
+
+-- that it isn't right, if that is known, or else null
+abbrev pub wrong_mark : (known : Bool) → Data
+wrong_mark true = boolean false
+wrong_mark false = null
+
+-- the TTL from which on packets show a finding, null where none is said
+abbrev pub shown_from_data : Option ℕ → Data
+shown_from_data None = null
+shown_from_data (Some ttl) = count_data ttl
+
+-- the members that each flow has that has a finding, by the TTL of that and the LANs that want the flow
+abbrev pub each_wrong_members : (number : ℕ) → Flow → Certainty → (found_ttl : ℕ) → (wanted why : List Data)
     → List (List ℕ × Data)
-each_wrong_members number f found_ttl why =
+each_wrong_members number f certainty found_ttl wanted why =
     (codes "flow", count_data (number + 1))
     ∷ (codes "found_ttl", count_data found_ttl)
     ∷ (codes "group", string (dotted f.group))
-    ∷ (codes "right", boolean false)
+    ∷ (codes "right", wrong_mark certainty.known)
+    ∷ (codes "shown_from", shown_from_data certainty.shown_from)
     ∷ (codes "source", string (dotted f.source))
     ∷ (codes "ttl", count_data f.ttl)
+    ∷ (codes "wanted", list_data wanted)
     ∷ (codes "why", list_data why) ∷ []
 
--- A flow that isn't right: the finding and its TTL, the LANs that were also missed, the travel's events
--- if they are asked for, and the causes.
+-- A flow with a finding: how certain that is, the finding and its TTL, the LANs that want the flow, those of
+-- them that were also missed, the travel's events if they are asked for, and the causes.
 pub record WrongFlow : Type 0 where
+  pub certainty : Certainty
   pub also : List Data
   pub events : Option (List Data)
   pub finding : Data
   pub found_ttl : ℕ
+  pub wanted : List Data
   pub why : List Data
 
 abbrev pub events_member : Option (List Data) → List (List ℕ × Data)
@@ -141,42 +185,30 @@ abbrev pub wrong_members : (number : ℕ) → Flow → WrongFlow → List (List 
 wrong_members number f w =
     (codes "also", list_data w.also)
     ∷ (events_member w.events
-    ++ ((codes "finding", w.finding) ∷ each_wrong_members number f w.found_ttl w.why))
+    ++ ((codes "finding", w.finding) ∷ each_wrong_members number f w.certainty w.found_ttl w.wanted w.why))
 
 abbrev pub wrong_data : (number : ℕ) → Flow → WrongFlow → Data
 wrong_data number f w = object_data (wrong_members number f w)
 
 -- the events of a travel, if they are asked for
-abbrev pub events_if_asked : TopologyValue → (events_asked : Bool) → List Event → Option (List Data)
-events_if_asked t events_asked es = if events_asked then Some (map (event_data t) es) else None
+abbrev pub events_if_asked : TopologyValue → Net → (events_asked : Bool) → List Event → Option (List Data)
+events_if_asked t n events_asked es = if events_asked then Some (map (event_data t n) es) else None
 
--- by a travel's finding, its events and the LANs that it also missed
-abbrev pub wrong_flow_of : TopologyValue → (found_ttl : ℕ) → Finding → List Event → (also : List ℕ)
-    → (why : List Data) → (events_asked : Bool) → WrongFlow
-wrong_flow_of t found_ttl finding events also why events_asked = record {
-  also = map (lan_data t) also;
-  events = events_if_asked t events_asked events;
-  finding = finding_data t finding;
+-- the flow with this number, by a travel's finding, its events and the LANs that it also missed
+abbrev pub wrong_flow_of : DomainFacts → (flow : ℕ) → Certainty → (found_ttl : ℕ) → Finding → List Event
+    → (also : List ℕ) → (why : List Data) → (events_asked : Bool) → WrongFlow
+wrong_flow_of d flow certainty found_ttl finding events also why events_asked = record {
+  certainty = certainty;
+  also = map (lan_data d.topology) also;
+  events = events_if_asked d.topology (d.nets flow) events_asked events;
+  finding = finding_data d.topology finding;
   found_ttl = found_ttl;
+  wanted = map (lan_data d.topology) (lans_wanting d flow);
   why = why;
 }
 
--- the line of a flow that isn't right
-abbrev pub wrong_line : DomainFacts → (number : ℕ) → Flow → (found_ttl : ℕ) → Finding → List Event
+-- and its line
+abbrev pub wrong_line : DomainFacts → (flow : ℕ) → Flow → Certainty → (found_ttl : ℕ) → Finding → List Event
     → (also : List ℕ) → (why : List Data) → (events_asked : Bool) → List ℕ
-wrong_line d number f found_ttl finding events also why events_asked =
-    line_of (wrong_data number f (wrong_flow_of d.topology found_ttl finding events also why events_asked))
-
--- the flow by the finished travel that shows its fault, and by the LANs that its packet also missed
-abbrev pub wrong_flow_of_travel : FinishedTravel → (found_ttl : ℕ) → (also : List ℕ) → (why : List Data)
-    → (events_asked : Bool) → WrongFlow
-wrong_flow_of_travel e found_ttl also why events_asked =
-    wrong_flow_of e.flight.domain.topology found_ttl e.travel.finding e.travel.events.items also why
-    events_asked
-
--- and the line of the flow
-abbrev pub wrong_line_of_travel : (number : ℕ) → Flow → FinishedTravel → (found_ttl : ℕ) → (also : List ℕ)
-    → (why : List Data) → (events_asked : Bool) → List ℕ
-wrong_line_of_travel number f e found_ttl also why events_asked =
-    wrong_line (facts e.flight.domain) number f found_ttl e.travel.finding e.travel.events.items also why
-    events_asked
+wrong_line d flow f certainty found_ttl finding events also why events_asked = line_of (wrong_data flow f
+    (wrong_flow_of d flow certainty found_ttl finding events also why events_asked))

@@ -1,6 +1,7 @@
 pub mod RowData
 pub mod FactData
 pub mod LineData
+pub mod TreeKey
 pub mod FlowData
 pub mod EndData
 pub mod WhyData

@@ -8,17 +8,18 @@ ghost use Rattle.mc_theory.specs.Lists.{below};
 ghost use Rattle.mc_forward.specs.Domains.{vif_of};
 ghost use Rattle.mc_forward.specs.ListedTables.{facts};
 ghost use Rattle.mc_json.specs.DomainData.{domain_data, interface_data, interfaces_data, lan_or_null};
+ghost use Rattle.mc_json.specs.DomainData.{order_word, router_with_order};
 ghost use Rattle.mc_json.specs.DomainData.{parts_data, source_data, unmatched_data, vif_data, vifs_data};
 ghost use Rattle.mc_json.specs.RowData.{line_of};
-ghost use Rattle.mc_json.specs.RowData.{lan_data, router_data};
+ghost use Rattle.mc_json.specs.RowData.{lan_data};
 
 use crate::device_value::device_name;
 use crate::fields::Fields;
 use crate::line::push_line;
-use crate::name_values::{lan_names, router_names};
+use crate::name_values::lan_names;
 use mc_explain::vif_of_device;
 use mc_forward::Domain;
-use mc_text::Memory;
+use mc_text::{Memory, Order};
 use mc_topology::{Interface, LanNo, RouterNo, Source, Topology};
 use serde_json::Value;
 use std::alloc::{AllocError, Global};
@@ -164,17 +165,6 @@ fn all_lans(alloc: Global, topology: &Topology) -> Result<Vec<LanNo>, AllocError
     Ok(lans)
 }
 
-/// The numbers of all routers.
-fn all_routers(alloc: Global, topology: &Topology) -> Result<Vec<RouterNo>, AllocError>
-    ensures { IfOk result (λ routers. routers.items ≡ below (length topology.now.routers)) }
-{
-    let mut routers = Vec::new(alloc);
-    for number in 0..topology.routers() {
-        routers.push(RouterNo(number))?;
-    }
-    Ok(routers)
-}
-
 /// The names of all LANs.
 fn lan_values(alloc: Global, topology: &Topology) -> Result<Vec<Value>, AllocError>
     ensures { IfOk result (λ values. map data_of values.items
@@ -184,13 +174,38 @@ fn lan_values(alloc: Global, topology: &Topology) -> Result<Vec<Value>, AllocErr
     lan_names(alloc, topology, &lans)
 }
 
-/// The names of all routers.
+/// The word for an order of bytes.
+fn order_word(order: Order) -> &'static str
+    ensures { result.now ≡ order_word order }
+{
+    match order {
+        Order::Little => "little",
+        Order::Big => "big",
+    }
+}
+
+/// A router, with the order in which its table shows the bytes of addresses.
+fn router_value(alloc: Global, topology: &Topology, router: RouterNo) -> Result<Value, AllocError>
+    requires known { router < length topology.now.routers }
+    ensures value { IfOk result (λ value. data_of value ≡ router_with_order topology.now router) }
+{
+    let order = order_word(topology.order(router));
+    Fields::new(alloc)
+        .router("name", topology, router)
+        .text("order", order)
+        .object()
+}
+
+/// All routers.
 fn router_values(alloc: Global, topology: &Topology) -> Result<Vec<Value>, AllocError>
     ensures { IfOk result (λ values. map data_of values.items
-        ≡ map (router_data topology.now) (below (length topology.now.routers))) }
+        ≡ map (router_with_order topology.now) (below (length topology.now.routers))) }
 {
-    let routers = all_routers(alloc, topology)?;
-    router_names(alloc, topology, &routers)
+    let mut values = Vec::new(alloc);
+    for number in 0..topology.routers() {
+        values.push(router_value(alloc, topology, RouterNo(number))?)?;
+    }
+    Ok(values)
 }
 
 /// A source with its LAN.
@@ -248,7 +263,7 @@ fn domain_value(alloc: Global, domain: &Domain, words: &[String]) -> Result<Valu
 {
     Fields::new(alloc)
         .value("domain", parts_value(alloc, domain))
-        .count("format", 1)
+        .count("format", 2)
         .list("words", word_values(alloc, words))
         .object()
 }

@@ -135,22 +135,29 @@ pub fn push_without_line(
     Ok(())
 }
 
-/// How many flows there are, and how many are right, unwanted and wrong.
-fn summary_value(alloc: Global, right: u32, unwanted: u32, wrong: u32) -> Result<Value, AllocError>
-    ensures { IfOk result (λ value. data_of value ≡ summary_data right unwanted wrong) }
+/// How many flows there are, and how many are right, unknown, unwanted and wrong.
+fn summary_value(
+    alloc: Global,
+    right: u32,
+    unknown: u32,
+    unwanted: u32,
+    wrong: u32,
+) -> Result<Value, AllocError>
+    ensures { IfOk result (λ value. data_of value ≡ summary_data right unknown unwanted wrong) }
 {
-    let flows = right as u64 + wrong as u64;
+    let flows = right as u64 + wrong as u64 + unknown as u64;
     let inner = Fields::new(alloc)
         .count("flows", flows)
         .count("right", right as u64)
+        .count("unknown", unknown as u64)
         .count("unwanted", unwanted as u64)
         .count("wrong", wrong as u64)
         .object();
     Fields::new(alloc).value("summary", inner).object()
 }
 
-/// Writes the line that counts the flows: how many are right, how many of these no LAN wants, and how
-/// many aren't right.
+/// Writes the line that counts the flows: how many are right, of how many that isn't known, how many
+/// without a finding no LAN wants, and how many aren't right.
 ///
 /// # Errors
 ///
@@ -159,13 +166,14 @@ pub fn push_summary_line(
     alloc: Global,
     text: &mut String,
     right: u32,
+    unknown: u32,
     unwanted: u32,
     wrong: u32,
 ) -> Result<(), Memory>
     ensures line { OnOk result (string_bytes text.new ≡ string_bytes text.old
-        ++ line_of (summary_data right unwanted wrong)) }
+        ++ line_of (summary_data right unknown unwanted wrong)) }
 {
-    let value = summary_value(alloc, right, unwanted, wrong)?;
+    let value = summary_value(alloc, right, unknown, unwanted, wrong)?;
     push_line(alloc, text, &value)?;
     Ok(())
 }

@@ -1,25 +1,31 @@
-//! Theorems about the lines: each is a JSON object, and only the last one has a verdict.
+//! Theorems about the lines: each is a JSON object, only the last one has a verdict, and what trees and events
+//! have in common.
 
-ghost use Rattle.std.specs.Prelude.{◌≡◌, ℕ, Bool, List, codes, false, true};
+ghost use Rattle.std.specs.Prelude.{◌≡◌, ◌+◌, ℕ, Bool, List, codes, false, length, true};
 ghost use Rattle.serde_json.specs.Data.{Data};
 ghost use Rattle.mc_tables.specs.Summary.{SummaryValue};
 ghost use Rattle.mc_topology.specs.declared.flow.Flow.{Flow};
 ghost use Rattle.mc_topology.specs.Topology.{TopologyValue};
 ghost use Rattle.mc_theory.specs.Certificates.{Entry};
+ghost use Rattle.mc_theory.specs.Events.{event_of};
+ghost use Rattle.mc_theory.specs.Events.Outcome.{Sent};
+ghost use Rattle.mc_theory.specs.Flights.{Waiting};
+ghost use Rattle.mc_theory.specs.Nets.{Net};
 ghost use Rattle.mc_forward.specs.ListedTables.{DomainFacts};
 ghost use Rattle.mc_json.specs.DomainData.{domain_data};
 ghost use Rattle.mc_json.specs.EndData.{summary_data, unlisted_lines, verdict_data, without_line};
-ghost use Rattle.mc_json.specs.FlowData.{WrongFlow, right_data, tree_data, wrong_data};
+ghost use Rattle.mc_json.specs.FlowData.{WrongFlow, right_data, sent_vifs, tree_data, wrong_data};
 ghost use Rattle.mc_json.specs.ObjectLines.{AreObjectLines};
 ghost use Rattle.mc_json.specs.RowData.{line_of};
+ghost use Rattle.mc_json.specs.TreeKey.{tree_key};
 
 /// Each line except the verdict's begins an object other than the verdict, and its only line feed ends it,
 /// whatever words of the command line and names of LANs, routers and devices it has.
 pub fn each_line_is_an_object()
     ensures domain { (d : DomainFacts) (words : List (List ℕ)) →
         AreObjectLines (line_of (domain_data d words)) }
-    ensures tree { (t : TopologyValue) (es : List Entry) (tree : ℕ) →
-        AreObjectLines (line_of (tree_data t es tree)) }
+    ensures tree { (t : TopologyValue) (n : Net) (es : List Entry) (tree : ℕ) →
+        AreObjectLines (line_of (tree_data t n es tree)) }
     ensures right { (whole : Bool) (number : ℕ) (f : Flow) (copies tree : ℕ) (wanted : List Data) →
         AreObjectLines (line_of (right_data whole number f copies tree wanted)) }
     ensures wrong { (number : ℕ) (f : Flow) (w : WrongFlow) →
@@ -28,12 +34,25 @@ pub fn each_line_is_an_object()
         AreObjectLines (unlisted_lines all t summary) }
     ensures without { (t : TopologyValue) (excluded : List Bool) →
         AreObjectLines (without_line t excluded) }
-    ensures summary { (right unwanted wrong : ℕ) →
-        AreObjectLines (line_of (summary_data right unwanted wrong)) }
+    ensures summary { (right unknown unwanted wrong : ℕ) →
+        AreObjectLines (line_of (summary_data right unknown unwanted wrong)) }
 {}
 
 /// The line of each verdict, letter by letter.
 pub fn the_verdict_is_a_line()
     ensures yes { line_of (verdict_data true) ≡ codes "{\"verdict\":\"yes\"}\n" }
     ensures no { line_of (verdict_data false) ≡ codes "{\"verdict\":\"no\"}\n" }
+{}
+
+/// An event that sent copies names a vif for each of its copies and for each of its strays.
+pub fn each_copy_of_an_event_has_its_vif()
+    ensures { (n : Net) (w : Waiting) (copies strays : ℕ) → (event_of n w).outcome ≡ Sent copies strays →
+        length (sent_vifs n (event_of n w)) ≡ copies + strays }
+{}
+
+/// Trees that aren't told apart, even of different flows, have one line: so the line with a flow's number of
+/// a tree is that of its own tree.
+pub fn trees_with_one_key_have_one_line()
+    ensures { (t : TopologyValue) (n m : Net) (es fs : List Entry) (tree : ℕ) → tree_key n es ≡ tree_key m fs →
+        tree_data t n es tree ≡ tree_data t m fs tree }
 {}

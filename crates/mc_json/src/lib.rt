@@ -14,9 +14,11 @@ mod line_values;
 mod name_values;
 mod right_line;
 mod row_value;
+mod tree_keys;
 mod wrong_line;
 
 pub use domain_line::push_domain_line;
 pub use end_lines::{push_summary_line, push_unlisted_lines, push_verdict_line, push_without_line};
 pub use right_line::{push_right_line, push_tree_line};
+pub use tree_keys::tree_key;
 pub use wrong_line::push_wrong_line;

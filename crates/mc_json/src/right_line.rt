@@ -5,59 +5,74 @@ ghost use Rattle.std.specs.String.{string_bytes};
 ghost use Rattle.serde_json.specs.Data.{Members, put as with_member};
 ghost use Rattle.serde_json.specs.View.{view as data_of};
 ghost use Rattle.mc_topology.specs.Topology.{flow_at};
+ghost use Rattle.mc_forward.specs.FlightsInDomain.{net_in};
 ghost use Rattle.mc_json.specs.RowData.{lan_data};
 ghost use Rattle.mc_json.specs.ObjectLines.{HasMembers};
-ghost use Rattle.mc_json.specs.FlowData.{reached_data, right_data, right_mark, sender_router};
-ghost use Rattle.mc_json.specs.FlowData.{sender_vif, tree_data};
+ghost use Rattle.mc_json.specs.FlowData.{interface_router, interface_vif, reached_data, right_data};
+ghost use Rattle.mc_json.specs.FlowData.{right_mark, tree_data};
 ghost use Rattle.mc_json.specs.RowData.{line_of};
 
 use crate::fields::Fields;
 use crate::flow_fields::flow_fields;
 use crate::line::push_line;
 use crate::name_values::lan_names;
+use crate::tree_keys::taking_interface;
 use mc_cert::Reached;
+use mc_forward::FlowView;
 use mc_text::Memory;
 use mc_topology::{Flow, LanNo, RouterNo, Topology};
 use serde_json::Value;
 use std::alloc::{AllocError, Global};
 
-/// Adds the router and the vif that send onto a LAN of a tree, null for the source's own LAN.
-fn with_sender(fields: Fields, topology: &Topology, forwarder: Option<(RouterNo, u8)>) -> Fields
+/// Adds the router of an interface, null for none.
+fn with_router(fields: Fields, topology: &Topology, interface: Option<(RouterNo, u8)>) -> Fields
     ensures { (ms : Members) → HasMembers fields ms
-        → HasMembers result (with_member (codes "vif") (sender_vif forwarder)
-        (with_member (codes "router") (sender_router topology.now forwarder) ms)) }
+        → HasMembers result (with_member (codes "router") (interface_router topology.now interface) ms) }
 {
-    match forwarder {
-        Some((router, vif)) => fields
-            .router("router", topology, router)
-            .count("vif", vif as u64),
-        None => fields.null("router").null("vif"),
+    match interface {
+        Some((router, _)) => fields.router("router", topology, router),
+        None => fields.null("router"),
+    }
+}
+
+/// Adds the vif of an interface, null for none.
+fn with_vif(fields: Fields, key: &str, interface: Option<(RouterNo, u8)>) -> Fields
+    ensures { (ms : Members) → HasMembers fields ms
+        → HasMembers result (with_member key.now (interface_vif interface) ms) }
+{
+    match interface {
+        Some((_, vif)) => fields.count(key, vif as u64),
+        None => fields.null(key),
     }
 }
 
 /// A LAN of a tree.
-fn reached_value(alloc: Global, topology: &Topology, entry: &Reached) -> Result<Value, AllocError>
-    ensures { IfOk result (λ value. data_of value ≡ reached_data topology.now entry.now) }
+fn reached_value(alloc: Global, view: &FlowView<'_>, entry: &Reached) -> Result<Value, AllocError>
+    ensures { IfOk result (λ value. data_of value
+        ≡ reached_data view.now.domain.topology (net_in view.now) entry.now) }
 {
+    let topology = view.topology();
     let fields = Fields::new(alloc)
         .lan("lan", topology, entry.lan)
         .count("need", entry.need as u64)
         .count("rank", entry.rank as u64);
-    with_sender(fields, topology, entry.forwarder).object()
+    let fields = with_router(fields, topology, entry.forwarder);
+    let fields = with_vif(fields, "vif", entry.forwarder);
+    with_vif(fields, "from_vif", taking_interface(view, entry.forwarder)).object()
 }
 
 /// The LANs of a tree.
 fn reached_values(
     alloc: Global,
-    topology: &Topology,
+    view: &FlowView<'_>,
     entries: &[Reached],
 ) -> Result<Vec<Value>, AllocError>
     ensures { IfOk result (λ values. map data_of values.items
-        ≡ map (reached_data topology.now) entries.now) }
+        ≡ map (reached_data view.now.domain.topology (net_in view.now)) entries.now) }
 {
     let mut values = Vec::new(alloc);
     for entry in entries {
-        values.push(reached_value(alloc, topology, entry)?)?;
+        values.push(reached_value(alloc, view, entry)?)?;
     }
     Ok(values)
 }
@@ -65,19 +80,20 @@ fn reached_values(
 /// A tree with its number.
 fn tree_value(
     alloc: Global,
-    topology: &Topology,
+    view: &FlowView<'_>,
     entries: &[Reached],
     tree: u32,
 ) -> Result<Value, AllocError>
-    ensures { IfOk result (λ value. data_of value ≡ tree_data topology.now entries.now tree) }
+    ensures { IfOk result (λ value. data_of value
+        ≡ tree_data view.now.domain.topology (net_in view.now) entries.now tree) }
 {
     Fields::new(alloc)
-        .list("entries", reached_values(alloc, topology, entries))
+        .list("entries", reached_values(alloc, view, entries))
         .count("tree", tree as u64)
         .object()
 }
 
-/// Writes the line of the tree with this number, with the topology's names.
+/// Writes the line of the tree with this number, of a flow.
 ///
 /// # Errors
 ///
@@ -85,14 +101,14 @@ fn tree_value(
 pub fn push_tree_line(
     alloc: Global,
     text: &mut String,
-    topology: &Topology,
+    view: &FlowView<'_>,
     entries: &[Reached],
     tree: u32,
 ) -> Result<(), Memory>
     ensures line { OnOk result (string_bytes text.new ≡ string_bytes text.old
-        ++ line_of (tree_data topology.now entries.now tree)) }
+        ++ line_of (tree_data view.now.domain.topology (net_in view.now) entries.now tree)) }
 {
-    let value = tree_value(alloc, topology, entries, tree)?;
+    let value = tree_value(alloc, view, entries, tree)?;
     push_line(alloc, text, &value)?;
     Ok(())
 }

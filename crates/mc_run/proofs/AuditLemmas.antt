@@ -1,8 +1,7 @@
 -- What the text of `mcaudit audit` says of the domain that was read.
-use Rattle.std.proofs.Common.{◌≡◌, ℕ, zero, suc, inl, inr, Bool, true, false, List, [], ◌∷◌, ◌++◌}
+use Rattle.std.proofs.Common.{◌≡◌, ◌≤◌, ℕ, zero, suc, inl, inr, Bool, true, false, List, [], ◌∷◌, ◌++◌}
 use Rattle.std.proofs.Common.{length}
 use Rattle.std.proofs.Common.{Option, Some, None, Result, Ok, Err, refl, sym, ap, subst, ◌∙◌, arith}
-use Rattle.std.proofs.Common.{append_assoc}
 use Rattle.std.specs.Prelude.{◌&&◌, ◌==◌, ◌↔◌, ◌⊎◌, IfErr, IfOk, IfSome, IsTrue, flat_map, map}
 use Rattle.std.specs.Prelude.{Vec, slice_get, take}
 use Rattle.std.specs.declared.alloc.Global.{Global}
@@ -10,16 +9,19 @@ use Rattle.std.specs.String.{string_bytes}
 use Rattle.std.proofs.lemmas.Bool.{false≢true, ne_eqb}
 use Rattle.std.proofs.lemmas.List.{length-map}
 use Rattle.mc_files.specs.Files.{FileText}
-use Rattle.mc_topology.specs.Topology.{flow_at}
 use Rattle.mc_theory.specs.Certificates.{IsRight}
+use Rattle.mc_theory.specs.Flights.{Flight}
 use Rattle.mc_theory.specs.Headline.{HeadlineHolds}
-use Rattle.mc_forward.specs.Domains.{DomainValue, net_of}
+use Rattle.mc_theory.specs.ShownFrom.{EachCompleteRunHasFault, IsShownFrom}
+use Rattle.mc_theory.proofs.ShownFrom.{each_complete_run_has_fault}
+use Rattle.mc_forward.specs.Domains.{DomainValue, IsDomain, net_of, ttl_of}
+use Rattle.mc_forward.proofs.DomainLemmas.{is_net-net_of}
 use Rattle.mc_forward.specs.ListedTables.{DomainFacts, facts}
 use Rattle.mc_forward.proofs.IndexLemmas.{slice_get-exists}
 use Rattle.mc_cert.specs.Certificate.{Tree, tree_at}
 use Rattle.mc_cert.specs.declared.reached.Reached.{Reached}
 use Rattle.mc_explain.specs.WantedText.{lans_wanting}
-use Rattle.mc_maker.specs.Examined.{IfCertified, is_certified}
+use Rattle.mc_maker.specs.Examined.{IfCertified, IfFound, is_certified}
 use Rattle.mc_maker.specs.declared.examination.Examined.{Examined}
 use Rattle.mc_maker.specs.declared.examination.Examined.TheVariants.{Certified, Found}
 use Rattle.mc_json.specs.FlowData.{wrong_flow_of}
@@ -30,21 +32,28 @@ use Rattle.mc_run.specs.Failures.{is_write}
 use Rattle.mc_run.specs.AuditRun.{AreFlowAnswers, FilesKeepHeadline, IsFlowAnswer, IsAudited}
 use Rattle.mc_run.specs.AuditRun.{IsAuditText, IsChecked}
 use Rattle.mc_run.specs.AuditRun.{KeepsHeadlineByLists, MeansAudited, AuditedValue, SaysFlowRight, SaysOfEach}
-use Rattle.mc_run.specs.AuditRun.{SaysNoCertificate, SaysWhatIsFound, SaysWhichAreRight, SaysYesOf}
+use Rattle.mc_run.specs.AuditRun.{SaysFinding, SaysWhatIsFound, SaysWhichAreRight, SaysYesOf}
 use Rattle.mc_run.specs.AuditRun.{WritesOfEach, WritesWhichAreRight, is_whole, is_yes, excluded}
 use Rattle.mc_run.specs.AuditRun.{trees_shown}
-use Rattle.mc_run.specs.AuditText.{Explanation, events_if_shown, explanation_lines}
+use Rattle.mc_run.specs.AuditText.{Explanation, events_if_shown, explanation_lines, shown_from_text}
 use Rattle.mc_run.specs.AuditFlowText.{answer_lines, right_flow_lines, wrong_lines_or_object}
 use Rattle.mc_run.specs.AuditFlowText.{wrong_flow_lines}
-use Rattle.mc_run.specs.AuditExplanation.{IsExplanation}
+use Rattle.mc_run.specs.AuditExplanation.{IsExplanation, IsShownFromAt255, IsShownFromUnless}
+use Rattle.mc_run.specs.AuditExplanation.{is_known_wrong}
+use Rattle.mc_explain.specs.declared.searches.searching.LanSearch.{LanSearch}
 use Rattle.mc_tables.specs.Summary.{SummaryValue}
-use Rattle.mc_maker.specs.ExaminedFlights.{HasExaminedFlights}
+use Rattle.mc_maker.specs.ExaminedFlights.{HasExaminedFlights, IsFinishedTravelOf, without_flights}
 use Rattle.mc_maker.specs.declared.examined_flights.ExaminedFlights.{ExaminedFlights}
+use Rattle.mc_maker.specs.declared.examined_flights.ExaminedFlights.TheVariants.{FoundAtTtl255}
+use Rattle.mc_maker.specs.declared.examined_flights.ExaminedFlights.TheVariants.{FoundAtFlowTtl}
+use Rattle.mc_maker.specs.declared.examined_flights.ExaminedFlights.TheVariants.{Certified as CertifiedFlights}
+use Rattle.mc_replay.specs.FindingValues.{finding_value}
+use Rattle.mc_replay.specs.declared.travel.FinishedTravel.{FinishedTravel}
+use Rattle.mc_explain.specs.ShownNeed.{IsShownFromIfAny}
 use Rattle.mc_replay.specs.declared.travel.Travel.{Travel}
 use Rattle.mc_input.specs.ExcludedRouters.{files_with_exclusions}
 use Rattle.mc_input.specs.Meaning.{FilesMeanDomain}
-use Rattle.mc_run.specs.MakeRun.{AreExamined, AreRight, IsExamined, are_certified, found_line}
-use Rattle.mc_run.specs.MakeRun.{certified_lists, no_certificate_line}
+use Rattle.mc_run.specs.MakeRun.{AreExamined, AreRight, IsExamined, are_certified, certified_lists}
 use Rattle.mc_cli.specs.declared.audit_options.AuditOptions.{AuditOptions}
 use Rattle.mc_run.specs.declared.audit.audit_output.AuditOutput.{AuditOutput}
 use Rattle.mc_run.specs.declared.fault.RunFault.{RunFault}
@@ -155,46 +164,57 @@ each_answer-each_lines P v o answers are holds flow ls printed =
     subst (λ (xs : List ℕ). P flow xs) here.2
     (holds (trees_shown o (take flow answers)) flow here.0 (are.each flow here.0 here.1))
 
--- the lines of a flow that isn't right start so
-wrong_flow_lines-say_no_certificate : (o : AuditOptions) (d : DomainFacts)
+-- where the whole domain is known, a flow with a finding is known to be wrong
+is_known-whole : (whole known : Bool) (search : Option LanSearch) → known ≡ is_known_wrong whole search
+    → whole ≡ true → known ≡ true
+is_known-whole true known search same is = same
+is_known-whole false known search same is = absurd cc
+
+-- the lines of a flow with a finding start so
+wrong_flow_lines-say_finding : (o : AuditOptions) (whole : Bool) (d : DomainFacts)
     (summary : List SummaryValue) (flow ttl : ℕ) (travel : Travel) (e : Explanation) (lines : List ℕ)
-    → lines ≡ wrong_flow_lines o d summary flow ttl travel e → SaysNoCertificate o.json d.topology flow lines
-wrong_flow_lines-say_no_certificate o d summary flow ttl travel e lines is = by o.json is
+    → e.certainty.known ≡ is_known_wrong whole e.search → lines ≡ wrong_flow_lines o d summary flow ttl travel e
+    → SaysFinding o.json whole d.topology flow lines
+wrong_flow_lines-say_finding o whole d summary flow ttl travel e lines known is = by o.json is
   where
     by : (json : Bool) → lines ≡ wrong_lines_or_object json o.travels d summary flow ttl travel e
-        → SaysNoCertificate json d.topology flow lines
+        → SaysFinding json whole d.topology flow lines
     by true is = (
-      wrong_flow_of d.topology ttl travel.finding travel.events.items e.also
+      wrong_flow_of d flow e.certainty ttl travel.finding travel.events.items e.also
           (why_data d summary flow e.printed e.search) o.travels,
+      is_known-whole whole e.certainty.known e.search known,
       is,
     )
     by false is = (
-      found_line d.topology ttl travel.finding
+      e.certainty.known,
+      travel.finding,
+      shown_from_text e.certainty.shown_from
           ++ (explanation_lines d summary flow e ++ events_if_shown o.travels d.topology travel),
-      is ∙ append_assoc (no_certificate_line (flow_at d.topology flow))
-          (found_line d.topology ttl travel.finding)
-          (explanation_lines d summary flow e ++ events_if_shown o.travels d.topology travel),
+      is_known-whole whole e.certainty.known e.search known,
+      is,
     )
 
 says_flow_right-answer_lines : (v : AuditedValue) (o : AuditOptions) (printed : List Tree)
     (flow : ℕ)
     (x : Examined) (e : Explanation) (wanted lines : List ℕ)
     → (IsTrue (is_certified x) ↔ IsRight (net_of v.domain flow))
+    → e.certainty.known ≡ is_known_wrong (is_whole v) e.search
     → wanted ≡ lans_wanting (facts v.domain) flow
     → lines ≡ answer_lines o (is_whole v) (facts v.domain) v.summary printed flow x e wanted
     → SaysFlowRight v o flow lines
-says_flow_right-answer_lines v o printed flow (Certified entries) e wanted lines right wants is = record {
+says_flow_right-answer_lines v o printed flow (Certified entries) e wanted lines right known wants is = record {
   right = λ _. (
     printed,
     entries.items,
     is ∙ ap (λ (w : List ℕ).
-        right_flow_lines o (is_whole v) v.domain.topology printed flow entries.items w) wants,
+        right_flow_lines o (is_whole v) (facts v.domain) printed flow entries.items w) wants,
   );
   wrong = λ not. absurd (not (right.0 refl));
 }
-says_flow_right-answer_lines v o printed flow (Found ttl travel) e wanted lines right wants is = record {
+says_flow_right-answer_lines v o printed flow (Found ttl travel) e wanted lines right known wants is = record {
   right = λ so. absurd (false≢true (right.1 so));
-  wrong = λ _. wrong_flow_lines-say_no_certificate o (facts v.domain) v.summary flow ttl travel e lines is;
+  wrong = λ _. wrong_flow_lines-say_finding o (is_whole v) (facts v.domain) v.summary flow ttl travel e lines
+      known is;
 }
 
 -- each flow's lines say whether it is right, and the answer whether all flows are
@@ -212,7 +232,8 @@ writes_which_are_right-audited v o all written a =
       count = length-map answers (λ (b : FlowAnswer). b.lines) ∙ are.count;
       each = each_answer-each_lines (λ flow ls. SaysFlowRight v o flow ls) v o answers are
           (λ printed flow b is. says_flow_right-answer_lines v o printed flow b.examined
-          is.explanation b.wanted b.lines is.checked.examined.right is.wanted is.spelled);
+          is.explanation b.wanted b.lines is.checked.examined.right is.explained.known is.wanted
+          is.spelled);
       spelled = audit_text-split_at_lines v o all written a;
       are_right = subst (AreRight d) (are_right-examinations answers)
           (are_certified-are_right d (examinations_of answers) (are_examined-answers v o answers are));
@@ -234,22 +255,55 @@ says_yes_of-certified v o printed flow entries e wanted lines checked wants is =
   accepted = checked.examined.accepted;
   headline = checked.headline;
   spelled = is ∙ ap (λ (w : List ℕ).
-      right_flow_lines o (is_whole v) v.domain.topology printed flow entries.items w) wants;
+      right_flow_lines o (is_whole v) (facts v.domain) printed flow entries.items w) wants;
 }
+
+-- where a TTL is said from which on packets show the finding, they do
+shows_from_ttl-by_flights : (d : DomainValue) (flow : ℕ) (x : Examined) (flights : ExaminedFlights)
+    (shown : Option ℕ) → IsDomain d → HasExaminedFlights d flow flights
+    → x ≡ without_flights d flow flights → IsShownFromAt255 d flow flights shown
+    → IfFound (λ ttl travel. (k t : ℕ) → shown ≡ Some k → k ≤ t
+    → EachCompleteRunHasFault (net_of d flow) t (finding_value travel.finding)) x
+shows_from_ttl-by_flights d flow x flights shown ok has same is =
+    subst (λ (y : Examined). IfFound (λ ttl travel. (k t : ℕ) → shown ≡ Some k → k ≤ t
+    → EachCompleteRunHasFault (net_of d flow) t (finding_value travel.finding)) y) (sym same)
+    (by flights has is)
+  where
+    above : (greatest : Bool) (ended : FinishedTravel) (k t : ℕ) → IsFinishedTravelOf d flow 255 ended
+        → IsShownFromUnless greatest (net_of d flow) ended.flight.flight.carried
+        (finding_value ended.travel.finding) shown → shown ≡ Some k → k ≤ t
+        → EachCompleteRunHasFault (net_of d flow) t (finding_value ended.travel.finding)
+    above true ended k t has is some le =
+        absurd (let both : ◌≡◌ {A = Option ℕ} None (Some k) = sym is ∙ some in cc)
+    above false ended k t has is some le =
+        let n = net_of d flow in
+        let x = finding_value ended.travel.finding in
+        let shown = subst (IsShownFromIfAny n ended.flight.flight.carried x) some is in
+        each_complete_run_has_fault n (length d.topology.lans) 255 t k [] false has.run.picks x x
+        (is_net-net_of d flow ok) has.run.travel
+        (subst (λ (f : Flight). IsShownFrom n f.carried x k) has.run.ends shown) le
+
+    by : (w : ExaminedFlights) → HasExaminedFlights d flow w → IsShownFromAt255 d flow w shown
+        → IfFound (λ ttl travel. (k t : ℕ) → shown ≡ Some k → k ≤ t
+        → EachCompleteRunHasFault (net_of d flow) t (finding_value travel.finding)) (without_flights d flow w)
+    by (CertifiedFlights entries) has is = tt
+    by (FoundAtTtl255 ended) has is = λ k t some le. above (ttl_of d flow == 255) ended k t has is some le
+    by (FoundAtFlowTtl greatest least) has is = λ k t some le.
+        absurd (let both : ◌≡◌ {A = Option ℕ} None (Some k) = sym is ∙ some in cc)
 
 says_yes_or_found-answer_lines : (v : AuditedValue) (o : AuditOptions) (printed : List Tree)
     (flow : ℕ) (x : Examined)
-    (flights : ExaminedFlights) (e : Explanation) (wanted lines : List ℕ)
-    → HasExaminedFlights v.domain flow flights
+    (flights : ExaminedFlights) (e : Explanation) (wanted lines : List ℕ) → IsDomain v.domain
+    → HasExaminedFlights v.domain flow flights → x ≡ without_flights v.domain flow flights
     → IsChecked v.domain flow x → IsExplanation v.domain v.summary (excluded v) (is_whole v) flow flights e
     → wanted ≡ lans_wanting (facts v.domain) flow
     → lines ≡ answer_lines o (is_whole v) (facts v.domain) v.summary printed flow x e wanted
     → SaysYesOf v o flow lines ⊎ SaysWhatIsFound v o flow lines
-says_yes_or_found-answer_lines v o printed flow (Certified entries) flights e wanted lines
-    has_flights checked explained wants is =
+says_yes_or_found-answer_lines v o printed flow (Certified entries) flights e wanted lines ok
+    has_flights same checked explained wants is =
     inl (says_yes_of-certified v o printed flow entries e wanted lines checked wants is)
-says_yes_or_found-answer_lines v o printed flow (Found ttl travel) flights e wanted lines
-    has_flights checked explained wants is =
+says_yes_or_found-answer_lines v o printed flow (Found ttl travel) flights e wanted lines ok
+    has_flights same checked explained wants is =
     inr (record {
       ttl = ttl;
       travel = travel;
@@ -261,13 +315,15 @@ says_yes_or_found-answer_lines v o printed flow (Found ttl travel) flights e wan
       ttl_shown = checked.examined.ttl;
       has_flights = has_flights;
       explained = explained;
+      shown = shows_from_ttl-by_flights v.domain flow (Found ttl travel) flights e.certainty.shown_from ok
+          has_flights same explained.shown;
       spelled = is;
     })
 
 -- a yes for which the headline holds, or the finding of a run of its net
 pub writes_of_each-audited : (v : AuditedValue) (o : AuditOptions) (all : Bool) (written : List ℕ)
-    → IsAudited v o all written → WritesOfEach v o all written
-writes_of_each-audited v o all written a =
+    → IsDomain v.domain → IsAudited v o all written → WritesOfEach v o all written
+writes_of_each-audited v o all written ok a =
     let answers = a.answers in
     let are = a.are_answers in
     record {
@@ -278,7 +334,7 @@ writes_of_each-audited v o all written a =
       each = each_answer-each_lines (λ flow ls. SaysYesOf v o flow ls ⊎ SaysWhatIsFound v o flow ls) v o
           answers are (λ printed flow b is. says_yes_or_found-answer_lines v o printed flow
           b.examined is.flights is.explanation
-          b.wanted b.lines is.has_flights is.checked is.explained is.wanted is.spelled);
+          b.wanted b.lines ok is.has_flights is.examined is.checked is.explained is.wanted is.spelled);
       spelled = audit_text-split_at_lines v o all written a;
     }
 
@@ -298,10 +354,12 @@ pub is_output_of-each_flow : (contents : Option (List FileText)) (o : AuditOptio
     (s : Result RunOutput RunFault) → IsOutputOf contents (IsAuditText o names) s
     → IsOutputOf contents (SaysOfEach o names) s
 is_output_of-each_flow contents o names s =
-    is_output_of-implication contents (IsAuditText o names) (SaysOfEach o names) s (λ files all written.
-    of_domain-implication (MeansAudited o names) (λ v. IsAudited v o all written)
-    (λ v. WritesOfEach v o all written)
-    (λ v. writes_of_each-audited v o all written) files)
+    is_output_of-implication contents (IsAuditText o names) (SaysOfEach o names) s
+    (λ files all written is. record {
+      domain = is.domain;
+      means = is.means;
+      holds = writes_of_each-audited is.domain o all written is.means.means.rules is.holds;
+    })
 
 -- without excluded routers, the files are unchanged
 excluded_files-no_names : (files : List FileText) (names : List (List ℕ)) (d : DomainValue)

@@ -9,7 +9,7 @@ use Rattle.mc_topology.specs.Topology.{TopologyValue, IsValidTopology, flow_at, 
 use Rattle.mc_theory.specs.Events.{Event, Outcome}
 use Rattle.mc_theory.specs.Events.Outcome.{Open, NoRow, OtherVif, Sent}
 use Rattle.mc_cert.specs.Certificate.{Tree}
-use Rattle.mc_cert.specs.Distinct.{find_tree, tree_number_of, with_tree}
+use Rattle.mc_cert.specs.Distinct.{find_tree}
 use Rattle.mc_check.specs.declared.verdict.Verdict.TheVariants.{Yes}
 use Rattle.mc_replay.specs.TravelText.{event_text, finding_text, outcome_text}
 use Rattle.mc_replay.specs.declared.finding.Finding.{Finding}
@@ -22,7 +22,7 @@ use Rattle.mc_tables.specs.Summary.{SummaryValue}
 use Rattle.mc_forward.specs.ListedTables.{DomainFacts, facts}
 use Rattle.mc_lines.specs.ExplanationText.{causes_text}
 use Rattle.mc_explain.specs.Indented.{AreIndented, HasNoLineFeed, indented}
-use Rattle.mc_explain.specs.ExcludedText.{IsWithoutLine, excluded_text, without_text}
+use Rattle.mc_explain.specs.ExcludedText.{IsExcludedLine, excluded_text, excluded_lines}
 use Rattle.mc_theory.specs.Lists.{In}
 use Rattle.mc_explain.specs.UnlistedLines.{AreLines, IsUnlistedLine, with_line_feed}
 use Rattle.mc_explain.specs.UnlistedText.{unlisted_text}
@@ -31,7 +31,7 @@ use Rattle.mc_explain.specs.declared.searches.searching.LanSearch.{LanSearch}
 use Rattle.mc_explain.proofs.NameListLemmas.{are_indented-also_missed_text}
 use Rattle.mc_explain.proofs.NameListLemmas.{are_indented-wanted_text}
 use Rattle.mc_lines.proofs.IndentedLemmas.{are_indented-causes_text}
-use Rattle.mc_explain.proofs.ExcludedLemmas.{are_indented-excluded_text, are_without_lines-without_text}
+use Rattle.mc_explain.proofs.ExcludedLemmas.{are_indented-excluded_text, are_excluded_lines-excluded_lines}
 use Rattle.mc_explain.proofs.UnlistedLineLemmas.{are_unlisted_lines-unlisted_text}
 use Rattle.mc_lines.proofs.IndentedLemmas.{are_indented-search_text}
 use Rattle.mc_json.specs.DomainData.{domain_data}
@@ -46,16 +46,15 @@ use Rattle.mc_json.proofs.EachLineLemmas.{are_object_lines-summary, are_object_l
 use Rattle.mc_json.proofs.EachLineLemmas.{are_object_lines-all_unlisted, are_object_lines-without}
 use Rattle.mc_json.proofs.EachLineLemmas.{are_object_lines-wrong}
 use Rattle.mc_run.specs.AuditEnd.{FlowAnswer, begin_lines, count, end_text_or_objects, end_lines, end_objects}
-use Rattle.mc_run.specs.AuditEnd.{end_text, is_right, is_unwanted, is_wrong, option_words, strict_lines}
+use Rattle.mc_run.specs.AuditEnd.{end_text, is_right, is_unknown, is_unwanted, is_wrong, option_words, strict_lines}
 use Rattle.mc_run.specs.AuditEnd.{summary_line}
-use Rattle.mc_run.specs.AuditObjects.{tree_line}
+use Rattle.mc_run.specs.AuditObjects.{key_of_tree, tree_line, tree_number}
 use Rattle.mc_run.specs.AuditRun.{AreFlowAnswers, IsFlowAnswer, AuditedValue, is_whole, is_yes, excluded}
 use Rattle.mc_run.specs.AuditRun.{AreYesWords, trees_shown, yes_object}
 use Rattle.mc_run.specs.AuditText.{Explanation, events_if_shown, explanation_lines, right_line}
-use Rattle.mc_run.specs.AuditText.{searched_lines}
+use Rattle.mc_run.specs.AuditText.{found_flow_line, known_word, searched_lines, shown_from_text}
 use Rattle.mc_run.specs.AuditFlowText.{answer_lines, is_hidden, right_lines_or_object, wrong_lines_or_object}
 use Rattle.mc_cli.specs.declared.audit_options.AuditOptions.{AuditOptions}
-use Rattle.mc_run.specs.MakeRun.{found_line, found_lines, no_certificate_line}
 use Rattle.mc_run.specs.ReplayRun.{event_line, event_lines}
 use Rattle.mc_run.specs.VerdictText.{flow_words}
 use Rattle.mc_explain.proofs.LineFeedLemmas.{no_feed-dotted, number, no_feed-from_list_all}
@@ -85,10 +84,6 @@ no_yes_line-flow_words f more none =
     (no_feed-append (flow_words f) more (flow_words-no_yes f) none)
     (sym (append_assoc (flow_words f) more (codes "\n")))
 
-no_yes_line-no_certificate_line : (f : Flow) → AreLinesWithoutYes (no_certificate_line f)
-no_yes_line-no_certificate_line f = no_yes_line-flow_words f (codes " no certificate")
-    (no_feed-from_list_all (codes " no certificate") refl)
-
 no_yes_line-right_line : (whole : Bool) (t : TopologyValue) (f : Flow) (copies : ℕ) → IsValidTopology t
     → AreLinesWithoutYes (right_line whole t f copies)
 no_yes_line-right_line true t f copies ok = no_yes_line-verdict_line t f (Yes copies) ok
@@ -109,15 +104,25 @@ finding_text-no_yes t (Stray router vif) ok =
 finding_text-no_yes t (Missed lan) ok =
     lan_name-no_line_feed (codes "Missed ") t lan (no_feed-from_list_all (codes "Missed ") refl) ok
 
-no_yes_line-found_lines : (t : TopologyValue) (ttl : ℕ) (x : Finding) → IsValidTopology t
-    → AreLinesWithoutYes (found_line t ttl x)
-no_yes_line-found_lines t ttl x ok =
-    let last = codes " " ++ finding_text t x in
-    no_yes_line-text_line (found_line t ttl x) (codes "found ttl " ++ (decimal ttl ++ last)) (refl, refl)
-    (no_feed-append (codes "found ttl ") _ (no_feed-from_list_all (codes "found ttl ") refl)
-    (no_feed-append (decimal ttl) last (number ttl)
-    (no_feed-append (codes " ") (finding_text t x) (refl, tt) (finding_text-no_yes t x ok))))
-    (ap (λ xs. codes "found ttl " ++ xs) (sym (append_assoc (decimal ttl) last (codes "\n"))))
+no_feed-known_word : (known : Bool) → HasNoByte 10 (known_word known)
+no_feed-known_word true = no_feed-from_list_all (codes "wrong") refl
+no_feed-known_word false = no_feed-from_list_all (codes "unknown") refl
+
+no_yes_line-found_flow_line : (t : TopologyValue) (f : Flow) (known : Bool) (x : Finding) → IsValidTopology t
+    → AreLinesWithoutYes (found_flow_line t f known x)
+no_yes_line-found_flow_line t f known x ok =
+    let text = finding_text t x in
+    let last = no_feed-append (codes ": ") text (no_feed-from_list_all (codes ": ") refl)
+    (finding_text-no_yes t x ok) in
+    let words = no_feed-append (codes " ") (known_word known ++ (codes ": " ++ text))
+    (no_feed-from_list_all (codes " ") refl)
+    (no_feed-append (known_word known) _ (no_feed-known_word known) last) in
+    subst (λ (more : List ℕ). AreLinesWithoutYes (flow_words f ++ more))
+    (append_assoc (codes " ") (known_word known ++ (codes ": " ++ text)) (codes "\n")
+    ∙ ap (λ (more : List ℕ). codes " " ++ more) (append_assoc (known_word known) (codes ": " ++ text)
+    (codes "\n") ∙ ap (λ (more : List ℕ). known_word known ++ more)
+    (append_assoc (codes ": ") text (codes "\n"))))
+    (no_yes_line-flow_words f (codes " " ++ (known_word known ++ (codes ": " ++ text))) words)
 
 outcome_text-no_yes : (o : Outcome) → HasNoByte 10 (outcome_text o)
 outcome_text-no_yes Open = no_feed-from_list_all (codes "open") refl
@@ -201,7 +206,7 @@ begins-row_line : (l : List ℕ) → IsUnlistedLine l → BeginsWithOtherByte l
 begins-row_line l (rest, inl begins) = subst BeginsWithOtherByte (sym begins) (refl, refl)
 begins-row_line l (rest, inr begins) = subst BeginsWithOtherByte (sym begins) (refl, refl)
 
-begins-excluded_line : (l : List ℕ) → IsWithoutLine l → BeginsWithOtherByte l
+begins-excluded_line : (l : List ℕ) → IsExcludedLine l → BeginsWithOtherByte l
 begins-excluded_line l (rest, begins) = subst BeginsWithOtherByte (sym begins) (refl, refl)
 
 -- ---- lines that are objects
@@ -251,26 +256,38 @@ no_yes_line-objects text are =
 
 -- ---- a flow
 
-no_yes_line-tree_line : (t : TopologyValue) (printed : List Tree) (es : Tree)
-    → AreLinesWithoutYes (tree_line t printed es)
-no_yes_line-tree_line t printed es =
-    no_yes_line-if (is_some (find_tree printed es)) [] (line_of (tree_data t es (length printed)))
-    no_yes_line-no_lines
-    (no_yes_line-objects _ (are_object_lines-tree t es (length printed)))
+no_yes_line-tree_line : (d : DomainFacts) (printed : List Tree) (flow : ℕ) (es : Tree)
+    → AreLinesWithoutYes (tree_line d printed flow es)
+no_yes_line-tree_line d printed flow es =
+    no_yes_line-if (is_some (find_tree printed (key_of_tree d flow es))) []
+    (line_of (tree_data d.topology (d.nets flow) es (length printed))) no_yes_line-no_lines
+    (no_yes_line-objects _ (are_object_lines-tree d.topology (d.nets flow) es (length printed)))
 
-no_yes_line-right_lines_or_object : (json whole : Bool) (t : TopologyValue) (printed : List Tree)
+no_yes_line-right_lines_or_object : (json whole : Bool) (d : DomainFacts) (printed : List Tree)
     (flow : ℕ)
-    (es : Tree) (wanted : List ℕ) → IsValidTopology t
-    → AreLinesWithoutYes (right_lines_or_object json whole t printed flow es wanted)
-no_yes_line-right_lines_or_object true whole t printed flow es wanted ok =
-    no_yes_line-append (tree_line t printed es) _ (no_yes_line-tree_line t printed es)
-    (no_yes_line-objects _ (are_object_lines-right whole flow (flow_at t flow) (length es)
-    (tree_number_of (with_tree printed es) es)
-    (map (lan_data t) wanted)))
-no_yes_line-right_lines_or_object false whole t printed flow es wanted ok =
+    (es : Tree) (wanted : List ℕ) → IsValidTopology d.topology
+    → AreLinesWithoutYes (right_lines_or_object json whole d printed flow es wanted)
+no_yes_line-right_lines_or_object true whole d printed flow es wanted ok =
+    no_yes_line-append (tree_line d printed flow es) _ (no_yes_line-tree_line d printed flow es)
+    (no_yes_line-objects _ (are_object_lines-right whole flow (flow_at d.topology flow) (length es)
+    (tree_number d printed flow es) (map (lan_data d.topology) wanted)))
+no_yes_line-right_lines_or_object false whole d printed flow es wanted ok =
+    let t = d.topology in
     no_yes_line-append (right_line whole t (flow_at t flow) (length es)) (wanted_text t wanted)
     (no_yes_line-right_line whole t (flow_at t flow) (length es) ok)
     (no_yes_line-indented_lines (wanted_text t wanted) (are_indented-wanted_text t wanted ok))
+
+no_yes_line-shown_from_text : (shown_from : Option ℕ) → AreLinesWithoutYes (shown_from_text shown_from)
+no_yes_line-shown_from_text None = no_yes_line-no_lines
+no_yes_line-shown_from_text (Some ttl) =
+    let last = codes " or more" in
+    no_yes_line-text_line (shown_from_text (Some ttl))
+    (codes "  shown by packets sent with ttl " ++ (decimal ttl ++ last)) (refl, refl)
+    (no_feed-append (codes "  shown by packets sent with ttl ") _
+    (no_feed-from_list_all (codes "  shown by packets sent with ttl ") refl)
+    (no_feed-append (decimal ttl) last (number ttl) (no_feed-from_list_all last refl)))
+    (ap (λ xs. codes "  shown by packets sent with ttl " ++ xs)
+    (sym (append_assoc (decimal ttl) last (codes "\n"))))
 
 no_yes_line-explanation_lines : (d : DomainFacts) (summary : List SummaryValue) (flow : ℕ)
     (x : Explanation) → IsValidTopology d.topology → AreLinesWithoutYes
@@ -293,17 +310,16 @@ no_yes_line-wrong_lines_or_object : (json travels : Bool) (d : DomainFacts)
     → AreLinesWithoutYes (wrong_lines_or_object json travels d summary flow ttl travel x)
 no_yes_line-wrong_lines_or_object true travels d summary flow ttl travel x ok =
     no_yes_line-objects _
-    (are_object_lines-wrong d flow (flow_at d.topology flow) ttl travel.finding travel.events.items x.also
+    (are_object_lines-wrong d flow (flow_at d.topology flow) x.certainty ttl travel.finding travel.events.items x.also
     (why_data d summary flow x.printed x.search) travels)
 no_yes_line-wrong_lines_or_object false travels d summary flow ttl travel x ok =
     let t = d.topology in
-    let f = flow_at t flow in
-    no_yes_line-append (found_lines t f ttl travel.finding) _
-    (no_yes_line-append (no_certificate_line f) (found_line t ttl travel.finding)
-    (no_yes_line-no_certificate_line f)
-    (no_yes_line-found_lines t ttl travel.finding ok))
+    no_yes_line-append (found_flow_line t (flow_at t flow) x.certainty.known travel.finding) _
+    (no_yes_line-found_flow_line t (flow_at t flow) x.certainty.known travel.finding ok)
+    (no_yes_line-append (shown_from_text x.certainty.shown_from) _
+    (no_yes_line-shown_from_text x.certainty.shown_from)
     (no_yes_line-append (explanation_lines d summary flow x) (events_if_shown travels t travel)
-    (no_yes_line-explanation_lines d summary flow x ok) (no_yes_line-events_if_shown travels t travel ok))
+    (no_yes_line-explanation_lines d summary flow x ok) (no_yes_line-events_if_shown travels t travel ok)))
 
 no_yes_line-answer_lines : (o : AuditOptions) (whole : Bool) (d : DomainFacts) (summary : List SummaryValue)
     (printed : List Tree) (flow : ℕ) (x : Examined) (e : Explanation) (wanted : List ℕ)
@@ -311,8 +327,8 @@ no_yes_line-answer_lines : (o : AuditOptions) (whole : Bool) (d : DomainFacts) (
     → AreLinesWithoutYes (answer_lines o whole d summary printed flow x e wanted)
 no_yes_line-answer_lines o whole d summary printed flow (Certified entries) e wanted ok =
     no_yes_line-if (is_hidden o.faults wanted) []
-    (right_lines_or_object o.json whole d.topology printed flow entries.items wanted) no_yes_line-no_lines
-    (no_yes_line-right_lines_or_object o.json whole d.topology printed flow entries.items wanted ok)
+    (right_lines_or_object o.json whole d printed flow entries.items wanted) no_yes_line-no_lines
+    (no_yes_line-right_lines_or_object o.json whole d printed flow entries.items wanted ok)
 no_yes_line-answer_lines o whole d summary printed flow (Found ttl travel) e wanted ok =
     no_yes_line-wrong_lines_or_object o.json o.travels d summary flow ttl travel e ok
 
@@ -333,30 +349,39 @@ no_yes_line-all_answers v o (a ∷ answers) each ok =
 -- ---- after the flows
 
 -- whatever the counts, the summary before its line feed
-summary_line-before_line_feed : (a b c d : List ℕ)
+summary_line-before_line_feed : (a b c d e : List ℕ)
     → codes "summary flows " ++ (a ++ (codes " right " ++ (b ++ (codes " wrong " ++ (c
-    ++ (codes " unwanted " ++ (d ++ codes "\n")))))))
+    ++ (codes " unknown " ++ (d ++ (codes " unwanted " ++ (e ++ codes "\n")))))))))
     ≡ (codes "summary flows " ++ (a ++ (codes " right " ++ (b ++ (codes " wrong " ++ (c
-    ++ (codes " unwanted " ++ d))))))) ++ codes "\n"
-summary_line-before_line_feed a b c d = simp append_assoc
+    ++ (codes " unknown " ++ (d ++ (codes " unwanted " ++ e))))))))) ++ codes "\n"
+summary_line-before_line_feed a b c d e = simp append_assoc
 
-no_yes_line-summary_line : (flows right wrong unwanted : ℕ)
-    → AreLinesWithoutYes (summary_line flows right wrong unwanted)
-no_yes_line-summary_line flows right wrong unwanted =
+-- a number, and words before it
+no_feed-number_after : (words : List ℕ) (n : ℕ) (more : List ℕ) → HasNoByte 10 words → HasNoByte 10 more
+    → HasNoByte 10 (words ++ (decimal n ++ more))
+no_feed-number_after words n more none rest =
+    no_feed-append words _ none (no_feed-append (decimal n) more (number n) rest)
+
+no_yes_line-summary_line : (flows right wrong unknown unwanted : ℕ)
+    → AreLinesWithoutYes (summary_line flows right wrong unknown unwanted)
+no_yes_line-summary_line flows right wrong unknown unwanted =
     let last = no_feed-append (codes " unwanted ") (decimal unwanted)
-    (no_feed-from_list_all (codes " unwanted ") refl)
-    (number unwanted) in
-    let third = no_feed-append (decimal wrong) _ (number wrong) last in
-    let second = no_feed-append (decimal right) _ (number right)
-    (no_feed-append (codes " wrong ") _ (no_feed-from_list_all (codes " wrong ") refl) third) in
-    let first = no_feed-append (decimal flows) _ (number flows)
-    (no_feed-append (codes " right ") _ (no_feed-from_list_all (codes " right ") refl) second) in
-    no_yes_line-text_line (summary_line flows right wrong unwanted)
+    (no_feed-from_list_all (codes " unwanted ") refl) (number unwanted) in
+    let fourth = no_feed-number_after (codes " unknown ") unknown _
+    (no_feed-from_list_all (codes " unknown ") refl) last in
+    let third = no_feed-number_after (codes " wrong ") wrong _
+    (no_feed-from_list_all (codes " wrong ") refl) fourth in
+    let second = no_feed-number_after (codes " right ") right _
+    (no_feed-from_list_all (codes " right ") refl) third in
+    no_yes_line-text_line (summary_line flows right wrong unknown unwanted)
     (codes "summary flows " ++ (decimal flows ++ (codes " right " ++ (decimal right
-    ++ (codes " wrong " ++ (decimal wrong ++ (codes " unwanted " ++ decimal unwanted)))))))
+    ++ (codes " wrong " ++ (decimal wrong ++ (codes " unknown " ++ (decimal unknown
+    ++ (codes " unwanted " ++ decimal unwanted)))))))))
     (refl, refl)
-    (no_feed-append (codes "summary flows ") _ (no_feed-from_list_all (codes "summary flows ") refl) first)
-    (summary_line-before_line_feed (decimal flows) (decimal right) (decimal wrong) (decimal unwanted))
+    (no_feed-number_after (codes "summary flows ") flows _
+    (no_feed-from_list_all (codes "summary flows ") refl) second)
+    (summary_line-before_line_feed (decimal flows) (decimal right) (decimal wrong) (decimal unknown)
+    (decimal unwanted))
 
 no_yes_line-strict_lines : (strict all : Bool) (unwanted : ℕ)
     → AreLinesWithoutYes (strict_lines strict all unwanted)
@@ -372,39 +397,39 @@ no_yes_line-strict_lines strict all unwanted =
 
 no_yes_line-end_text : (o : AuditOptions) (t : TopologyValue) (summary : List SummaryValue)
     (marks : List Bool)
-    (all : Bool) (flows right wrong unwanted : ℕ) → IsValidTopology t
-    → AreLinesWithoutYes (end_text o t summary marks all flows right wrong unwanted)
-no_yes_line-end_text o t summary marks all flows right wrong unwanted ok =
+    (all : Bool) (flows right wrong unknown unwanted : ℕ) → IsValidTopology t
+    → AreLinesWithoutYes (end_text o t summary marks all flows right wrong unknown unwanted)
+no_yes_line-end_text o t summary marks all flows right wrong unknown unwanted ok =
     no_yes_line-append (unlisted_text o.unlisted t summary) _
     (no_yes_line-lines IsUnlistedLine _ begins-row_line
     (are_unlisted_lines-unlisted_text o.unlisted t summary ok))
-    (no_yes_line-append (without_text t marks) _
-    (no_yes_line-lines IsWithoutLine _ begins-excluded_line (are_without_lines-without_text t marks ok))
-    (no_yes_line-append (summary_line flows right wrong unwanted) _
-    (no_yes_line-summary_line flows right wrong unwanted)
+    (no_yes_line-append (excluded_lines t marks) _
+    (no_yes_line-lines IsExcludedLine _ begins-excluded_line (are_excluded_lines-excluded_lines t marks ok))
+    (no_yes_line-append (summary_line flows right wrong unknown unwanted) _
+    (no_yes_line-summary_line flows right wrong unknown unwanted)
     (no_yes_line-append (excluded_text t marks) (strict_lines o.strict all unwanted)
     (no_yes_line-indented_lines _ (are_indented-excluded_text t marks ok))
     (no_yes_line-strict_lines o.strict all unwanted))))
 
 no_yes_line-end_objects : (o : AuditOptions) (t : TopologyValue) (summary : List SummaryValue)
-    (marks : List Bool) (right wrong unwanted : ℕ)
-    → AreLinesWithoutYes (end_objects o t summary marks right wrong unwanted)
-no_yes_line-end_objects o t summary marks right wrong unwanted =
+    (marks : List Bool) (right wrong unknown unwanted : ℕ)
+    → AreLinesWithoutYes (end_objects o t summary marks right wrong unknown unwanted)
+no_yes_line-end_objects o t summary marks right wrong unknown unwanted =
     no_yes_line-append (unlisted_lines o.unlisted t summary) _
     (no_yes_line-objects _ (are_object_lines-all_unlisted o.unlisted t summary))
-    (no_yes_line-append (without_line t marks) (line_of (summary_data right unwanted wrong))
+    (no_yes_line-append (without_line t marks) (line_of (summary_data right unknown unwanted wrong))
     (no_yes_line-objects _ (are_object_lines-without t marks))
-    (no_yes_line-objects _ (are_object_lines-summary right unwanted wrong)))
+    (no_yes_line-objects _ (are_object_lines-summary right unknown unwanted wrong)))
 
 no_yes_line-end_lines : (o : AuditOptions) (t : TopologyValue) (summary : List SummaryValue)
     (marks : List Bool)
-    (all : Bool) (flows right wrong unwanted : ℕ) → IsValidTopology t
-    → AreLinesWithoutYes (end_text_or_objects o t summary marks all flows right wrong unwanted)
-no_yes_line-end_lines o t summary marks all flows right wrong unwanted ok =
-    no_yes_line-if o.json (end_objects o t summary marks right wrong unwanted)
-    (end_text o t summary marks all flows right wrong unwanted)
-    (no_yes_line-end_objects o t summary marks right wrong unwanted)
-    (no_yes_line-end_text o t summary marks all flows right wrong unwanted ok)
+    (all : Bool) (flows right wrong unknown unwanted : ℕ) → IsValidTopology t
+    → AreLinesWithoutYes (end_text_or_objects o t summary marks all flows right wrong unknown unwanted)
+no_yes_line-end_lines o t summary marks all flows right wrong unknown unwanted ok =
+    no_yes_line-if o.json (end_objects o t summary marks right wrong unknown unwanted)
+    (end_text o t summary marks all flows right wrong unknown unwanted)
+    (no_yes_line-end_objects o t summary marks right wrong unknown unwanted)
+    (no_yes_line-end_text o t summary marks all flows right wrong unknown unwanted ok)
 
 -- ---- all lines but the last
 
@@ -438,4 +463,5 @@ no_yes_line-text_before_verdict v o answers are ok =
     ))
     ok)
     (no_yes_line-end_lines o v.domain.topology v.summary marks (is_yes v answers) (length answers)
-    (count is_right answers) (count is_wrong answers) (count is_unwanted answers) ok))
+    (count is_right answers) (count is_wrong answers) (count is_unknown answers)
+    (count is_unwanted answers) ok))

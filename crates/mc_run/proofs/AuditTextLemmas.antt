@@ -1,18 +1,17 @@
 -- The whole text of an audit, and what it says of the files.
 use Rattle.std.proofs.Common.{◌≡◌, ℕ, Bool, List, ◌++◌, length, Option, Some, None, Result, Ok, Err}
-use Rattle.std.proofs.Common.{refl, sym, ap, subst, ◌∙◌, append_assoc}
+use Rattle.std.proofs.Common.{refl, sym, ap, ap₂, subst, ◌∙◌, append_assoc}
 use Rattle.std.specs.Prelude.{◌==◌, ◌&&◌, IfOk, IfSome, flat_map}
 use Rattle.mc_files.specs.Files.{FileText}
 use Rattle.mc_tables.specs.Summary.{SummaryValue}
-use Rattle.mc_topology.specs.Topology.{TopologyValue}
 use Rattle.mc_forward.specs.Domains.{DomainValue}
 use Rattle.mc_forward.specs.ListedTables.{facts}
 use Rattle.mc_cert.specs.Certificate.{Tree}
 use Rattle.mc_input.specs.ExcludedRouters.{AreRouterNames, files_with_exclusions}
 use Rattle.mc_input.specs.Meaning.{FilesMeanDomain, MeansDomainWhere}
 use Rattle.mc_input.specs.SummariesOfFiles.{AreSummariesOf}
-use Rattle.mc_run.specs.AuditEnd.{are_right, begin_lines, count as count_of, end_text_or_objects, is_right}
-use Rattle.mc_run.specs.AuditEnd.{is_unwanted, is_wrong, verdict_line}
+use Rattle.mc_run.specs.AuditEnd.{begin_lines, count as count_of, end_text_or_objects, is_right}
+use Rattle.mc_run.specs.AuditEnd.{is_unknown, is_unwanted, is_wrong, verdict_line}
 use Rattle.mc_run.specs.AuditPieces.{AreFlowsPushed, output_of, yes_of}
 use Rattle.mc_run.specs.AuditRun.{AuditSaysYes, IsAudited, MeansAudited, AuditedValue, is_whole, is_yes}
 use Rattle.mc_run.specs.AuditRun.{excluded}
@@ -24,7 +23,7 @@ use Rattle.mc_run.specs.declared.fault.RunFault.TheVariants.{Write}
 use Rattle.mc_run.specs.RunOutput.{IsOutputWritten}
 use Rattle.mc_run.specs.declared.run_output.RunOutput.{RunOutput}
 use Rattle.mc_run.specs.declared.audit.flow_status.FlowCounts.{FlowCounts}
-use Rattle.mc_run.proofs.AuditFlows.{are_right-zero_wrong}
+use Rattle.mc_run.proofs.AuditFlows.{is_yes-zero_wrong}
 
 -- ---- one text
 
@@ -39,36 +38,33 @@ pub is_audited-all_pushed : (v : AuditedValue) (o : AuditOptions) (s : FlowCount
     → AreFlowsPushed v o (length v.domain.topology.flows) s printed begin lines
     → every ≡ ((count == 0) && (s.wrong == 0))
     → text ≡ lines ++ (end_text_or_objects o v.domain.topology v.summary marks every
-    (length v.domain.topology.flows) s.right s.wrong s.unwanted ++ verdict_line o.json every)
+    (length v.domain.topology.flows) s.right s.wrong s.unknown s.unwanted ++ verdict_line o.json every)
     → IsAudited v o every text
 is_audited-all_pushed v o s printed marks count every begin lines text same size begins to is ends =
     let answers = to.answers in
     let t = v.domain.topology in
     let ours = flat_map (λ a. a.lines) answers in
-    let right : (s.wrong == 0) ≡ are_right answers =
-    ap (λ (n : ℕ). n == 0) to.wrong ∙ are_right-zero_wrong answers in
     let answer : every ≡ is_yes v answers =
     is ∙ ap (λ (b : Bool). b && (s.wrong == 0)) (sym (no_names-no_count v count size))
-    ∙ ap (λ (b : Bool). is_whole v && b) right in
+    ∙ ap (λ (n : ℕ). is_whole v && (n == 0)) to.wrong
+    ∙ is_yes-zero_wrong v o answers (is_whole v) refl to.each in
     let first : begin ≡ begin_lines o (facts v.domain) (excluded v) =
     begins ∙ ap (begin_lines o (facts v.domain)) same in
-    let end = λ (ms : List Bool) (b : Bool) (n r w u : ℕ).
-    end_text_or_objects o t v.summary ms b n r w u ++ verdict_line o.json b in
-    let last : end marks every (length t.flows) s.right s.wrong s.unwanted
+    let end = λ (ms : List Bool) (b : Bool) (n r w k u : ℕ).
+    end_text_or_objects o t v.summary ms b n r w k u ++ verdict_line o.json b in
+    let last : end marks every (length t.flows) s.right s.wrong s.unknown s.unwanted
     ≡ end (excluded v) (is_yes v answers) (length answers) (count_of is_right answers)
-    (count_of is_wrong answers) (count_of is_unwanted answers) =
-    ap (λ (ms : List Bool). end ms every (length t.flows) s.right s.wrong s.unwanted) same
-    ∙ ap (λ (b : Bool). end (excluded v) b (length t.flows) s.right s.wrong s.unwanted) answer
-    ∙ ap (λ (n : ℕ). end (excluded v) (is_yes v answers) n s.right s.wrong s.unwanted)
+    (count_of is_wrong answers) (count_of is_unknown answers) (count_of is_unwanted answers) =
+    ap (λ (ms : List Bool). end ms every (length t.flows) s.right s.wrong s.unknown s.unwanted) same
+    ∙ ap (λ (b : Bool). end (excluded v) b (length t.flows) s.right s.wrong s.unknown s.unwanted) answer
+    ∙ ap (λ (n : ℕ). end (excluded v) (is_yes v answers) n s.right s.wrong s.unknown s.unwanted)
     (sym to.count_is)
-    ∙ ap (λ (n : ℕ). end (excluded v) (is_yes v answers) (length answers) n s.wrong s.unwanted)
-    to.right
-    ∙ ap (λ (n : ℕ). end (excluded v) (is_yes v answers) (length answers)
-    (count_of is_right answers) n s.unwanted) to.wrong
-    ∙ ap (λ (n : ℕ). end (excluded v) (is_yes v answers) (length answers)
-    (count_of is_right answers) (count_of is_wrong answers) n) to.unwanted in
+    ∙ ap₂ (λ (n m : ℕ). end (excluded v) (is_yes v answers) (length answers) n m s.unknown s.unwanted)
+    to.right to.wrong
+    ∙ ap₂ (λ (n m : ℕ). end (excluded v) (is_yes v answers) (length answers) (count_of is_right answers)
+    (count_of is_wrong answers) n m) to.unknown to.unwanted in
     let behind = end (excluded v) (is_yes v answers) (length answers) (count_of is_right answers)
-    (count_of is_wrong answers) (count_of is_unwanted answers) in
+    (count_of is_wrong answers) (count_of is_unknown answers) (count_of is_unwanted answers) in
     record {
       answers = answers;
       are_answers = record { count = to.count_is; each = to.each };

@@ -1,13 +1,16 @@
 -- The explanation of a finding, and its lines.
-use Rattle.std.proofs.Common.{◌≡◌, ℕ, ◌<◌, Bool, true, false, not, filter, List, ◌++◌, length, Option, Some}
+use Rattle.std.proofs.Common.{◌≡◌, ℕ, ◌<◌, Bool, true, false, not, filter, List, ◌++◌, length, Option}
 use Rattle.std.proofs.Common.{None, Result, Ok}
-use Rattle.std.proofs.Common.{Err, refl, sym, ap, subst, ◌∙◌, append_assoc}
-use Rattle.std.specs.Prelude.{OnOk}
+use Rattle.std.proofs.Common.{Err, refl, sym, ap, ap₂, subst, ◌∙◌, append_assoc}
+use Rattle.std.specs.Prelude.{◌≢◌, IfOk, OnOk}
+use Rattle.std.proofs.Common.{eq-eqb}
+use Rattle.std.proofs.lemmas.Bool.{ne_eqb}
 use Rattle.mc_topology.specs.declared.flow.Flow.{Flow}
 use Rattle.mc_topology.specs.Topology.{TopologyValue, flow_at}
 use Rattle.mc_theory.specs.Findings.{IsTravel}
 use Rattle.mc_theory.specs.Flights.{start}
-use Rattle.mc_forward.specs.Domains.{DomainValue, net_of}
+use Rattle.mc_forward.specs.Domains.{DomainValue, net_of, ttl_of}
+use Rattle.mc_forward.specs.FlightsInDomain.{FlowOfDomain, net_in}
 use Rattle.mc_forward.specs.ListedTables.{facts}
 use Rattle.mc_replay.specs.FindingValues.{finding_value}
 use Rattle.mc_replay.specs.declared.finding.Finding.{Finding}
@@ -20,21 +23,20 @@ use Rattle.mc_maker.specs.declared.examined_flights.ExaminedFlights.{ExaminedFli
 use Rattle.mc_maker.specs.declared.examined_flights.ExaminedFlights.TheVariants.{FoundAtTtl255}
 use Rattle.mc_maker.specs.declared.examined_flights.ExaminedFlights.TheVariants.{FoundAtFlowTtl}
 use Rattle.mc_lines.specs.ExplanationText.{causes_text}
+use Rattle.mc_explain.specs.ShownNeed.{IsShownFromIfAny}
 use Rattle.mc_explain.specs.WantedText.{missed_besides, also_missed_text}
 use Rattle.mc_explain.specs.declared.searches.searching.LanSearch.{LanSearch}
 use Rattle.mc_explain.specs.declared.causes.Cause.{Cause}
-use Rattle.mc_json.specs.FlowData.{wrong_line_of_travel, wrong_line}
-use Rattle.mc_json.specs.WhyData.{why_data}
-use Rattle.mc_run.specs.AuditObjects.{wrong_object}
-use Rattle.mc_run.specs.AuditFlowText.{wrong_lines_or_object}
+use Rattle.mc_run.specs.AuditFlowText.{wrong_flow_lines}
+use Rattle.mc_cli.specs.declared.audit_options.AuditOptions.{AuditOptions}
 use Rattle.mc_run.specs.AuditPieces.{also_missed_of, explanation_in}
 use Rattle.mc_run.specs.AuditExplanation.{IsExplanation, IsSearchIfMissed, ArePrintedCauses, is_remedy}
+use Rattle.mc_run.specs.AuditExplanation.{IsShownFromAt255, IsShownFromUnless, is_known_wrong}
 use Rattle.mc_run.specs.AuditExplanation.{search_context}
 use Rattle.mc_run.specs.AuditExplanation.{without_remedies}
 use Rattle.mc_run.specs.AuditRun.{AuditedValue, is_whole, excluded}
 use Rattle.mc_run.specs.AuditText.{Explanation, events_if_shown, explanation_lines, searched_lines}
-use Rattle.mc_run.specs.AuditText.{wrong_lines}
-use Rattle.mc_run.specs.MakeRun.{found_lines}
+use Rattle.mc_run.specs.AuditText.{found_flow_line, shown_from_text, wrong_lines}
 use Rattle.mc_run.proofs.MissedLemmas.{missed_lan-below_count}
 
 -- ---- a search
@@ -86,37 +88,68 @@ pub without_remedies-filtered : (whole : Bool) (printed kept : List Cause) → w
 without_remedies-filtered true printed kept part same = absurd cc
 without_remedies-filtered false printed kept part same = same
 
+-- from which TTL on packets show the finding isn't said where the flow's TTL is 255,
+pub is_shown_from-greatest : (d : DomainValue) (flow ttl : ℕ) (view : FlowOfDomain) (ended : FinishedTravel)
+    → view ≡ record { domain = d; flow = flow } → ttl ≡ (net_in view).ttl → ttl ≡ 255
+    → IsShownFromAt255 d flow (FoundAtTtl255 ended) None
+is_shown_from-greatest d flow ttl view ended same is greatest =
+    let own : ttl_of d flow ≡ 255 = sym (is ∙ ap (λ (w : FlowOfDomain). (net_in w).ttl) same) ∙ greatest in
+    subst (λ (b : Bool). IsShownFromUnless b (net_of d flow) ended.flight.flight.carried
+    (finding_value ended.travel.finding) None) (sym (eq-eqb (ttl_of d flow) 255 own)) refl
+
+-- and is what was worked out elsewhere
+pub is_shown_from-less : {X : Type 0} (d : DomainValue) (flow ttl : ℕ) (view : FlowOfDomain)
+    (ended : FinishedTravel) (r : Result (Option ℕ) X) → view ≡ record { domain = d; flow = flow }
+    → ttl ≡ (net_in view).ttl → ttl ≢ 255
+    → IfOk r (IsShownFromIfAny (net_of d flow) ended.flight.flight.carried
+    (finding_value ended.travel.finding))
+    → IfOk r (λ shown. IsShownFromAt255 d flow (FoundAtTtl255 ended) shown)
+is_shown_from-less d flow ttl view ended (Err e) same is less found = tt
+is_shown_from-less d flow ttl view ended (Ok shown) same is less found =
+    let own : ttl_of d flow ≢ 255 =
+    λ e. less (is ∙ ap (λ (w : FlowOfDomain). (net_in w).ttl) same ∙ e) in
+    subst (λ (b : Bool). IsShownFromUnless b (net_of d flow) ended.flight.flight.carried
+    (finding_value ended.travel.finding) shown) (sym (ne_eqb (ttl_of d flow) 255 own)) found
+
 pub is_explanation-at_255 : (v : AuditedValue) (flow : ℕ) (x : ExaminedFlights)
     (ended : FinishedTravel) (printed : List Cause)
-    (found : Option LanSearch) → x ≡ FoundAtTtl255 ended → HasExaminedFlights v.domain flow x
+    (found : Option LanSearch) (shown_from : Option ℕ) → x ≡ FoundAtTtl255 ended
+    → HasExaminedFlights v.domain flow x
     → ArePrintedCauses (is_whole v) v.domain flow x printed
     → IsSearchIfMissed (search_context (facts v.domain) v.summary (excluded v) flow
     ended.flight.flight.carried)
     ended.travel.events.items ended.travel.finding found
-    → IsExplanation v.domain v.summary (excluded v) (is_whole v) flow x (explanation_in ended printed found)
-is_explanation-at_255 v flow x ended printed found same has_flights why search =
+    → IsShownFromAt255 v.domain flow (FoundAtTtl255 ended) shown_from
+    → IsExplanation v.domain v.summary (excluded v) (is_whole v) flow x
+    (explanation_in (is_whole v) ended printed found shown_from)
+is_explanation-at_255 v flow x ended printed found shown_from same has_flights why search shown =
     subst (λ (y : ExaminedFlights). IsExplanation v.domain v.summary (excluded v) (is_whole v) flow y
-    (explanation_in ended printed found)) (sym same) (record {
+    (explanation_in (is_whole v) ended printed found shown_from)) (sym same) (record {
       printed = subst (λ (y : ExaminedFlights). ArePrintedCauses (is_whole v) v.domain flow y
           printed) same why;
       search = search;
       also = missed_besides-domain_flow v.domain flow 255 ended
           (is_finished_travel-at_255 v.domain flow x ended same has_flights);
+      known = refl;
+      shown = shown;
     })
 
 pub is_explanation-at_flow_ttl : (v : AuditedValue) (flow : ℕ) (x : ExaminedFlights)
     (greatest least : FinishedTravel)
     (printed : List Cause) → x ≡ FoundAtFlowTtl greatest least → HasExaminedFlights v.domain flow x
     → ArePrintedCauses (is_whole v) v.domain flow x printed
-    → IsExplanation v.domain v.summary (excluded v) (is_whole v) flow x (explanation_in least printed None)
+    → IsExplanation v.domain v.summary (excluded v) (is_whole v) flow x
+    (explanation_in (is_whole v) least printed None None)
 is_explanation-at_flow_ttl v flow x greatest least printed same has_flights why =
     subst (λ (y : ExaminedFlights). IsExplanation v.domain v.summary (excluded v) (is_whole v) flow y
-    (explanation_in least printed None)) (sym same) (record {
+    (explanation_in (is_whole v) least printed None None)) (sym same) (record {
       printed = subst (λ (y : ExaminedFlights). ArePrintedCauses (is_whole v) v.domain flow y
           printed) same why;
       search = refl;
       also = missed_besides-domain_flow v.domain flow (net_of v.domain flow).ttl least
           (is_finished_travel-at_flow_ttl v.domain flow x greatest least same has_flights);
+      known = refl;
+      shown = refl;
     })
 
 -- ---- its lines
@@ -137,48 +170,52 @@ explanation_lines-pushed v flow e t (Ok a) old one two new same first second thi
     ∙ ap (λ xs. xs ++ missed) second ∙ ap (λ xs. (xs ++ search) ++ missed) first
     ∙ append_assoc (old ++ lines) search missed ∙ append_assoc old lines (search ++ missed)
 
-pub wrong_lines-pushed : {A X : Type 0} (v : AuditedValue) (flow ttl : ℕ) (travels : Bool) (travel : Travel)
-    (e : Explanation) (t : TopologyValue) (f : Flow) (r : Result A X) (old one two new : List ℕ)
+pub wrong_lines-pushed : {A X : Type 0} (v : AuditedValue) (flow : ℕ) (travels : Bool) (travel : Travel)
+    (e : Explanation) (t : TopologyValue) (f : Flow) (r : Result A X) (old one two three new : List ℕ)
     → t ≡ v.domain.topology → f ≡ flow_at v.domain.topology flow
-    → one ≡ old ++ found_lines t f ttl travel.finding
-    → two ≡ one ++ explanation_lines (facts v.domain) v.summary flow e
-    → OnOk r (new ≡ two ++ events_if_shown travels t travel)
-    → OnOk r (new ≡ old ++ wrong_lines travels (facts v.domain) v.summary flow ttl travel e)
-wrong_lines-pushed v flow ttl travels travel e t f (Err x) old one two new same listed first second third = tt
-wrong_lines-pushed v flow ttl travels travel e t f (Ok a) old one two new same listed first second third =
-    let begun = found_lines v.domain.topology (flow_at v.domain.topology flow) ttl travel.finding in
+    → one ≡ old ++ found_flow_line t f e.certainty.known travel.finding
+    → two ≡ one ++ shown_from_text e.certainty.shown_from
+    → three ≡ two ++ explanation_lines (facts v.domain) v.summary flow e
+    → OnOk r (new ≡ three ++ events_if_shown travels t travel)
+    → OnOk r (new ≡ old ++ wrong_lines travels (facts v.domain) v.summary flow travel e)
+wrong_lines-pushed v flow travels travel e t f (Err x) old one two three new same listed first second third
+    fourth = tt
+wrong_lines-pushed v flow travels travel e t f (Ok a) old one two three new same listed first second third
+    fourth =
+    let begun = found_flow_line v.domain.topology (flow_at v.domain.topology flow) e.certainty.known
+    travel.finding in
+    let from = shown_from_text e.certainty.shown_from in
     let why = explanation_lines (facts v.domain) v.summary flow e in
     let events = events_if_shown travels v.domain.topology travel in
     let puts : one ≡ old ++ begun =
-    first ∙ ap (λ (u : TopologyValue). old ++ found_lines u f ttl travel.finding) same
-    ∙ ap (λ (h : Flow). old ++ found_lines v.domain.topology h ttl travel.finding) listed in
-    third ∙ ap (λ (u : TopologyValue). two ++ events_if_shown travels u travel) same
-    ∙ ap (λ xs. xs ++ events) second ∙ ap (λ xs. (xs ++ why) ++ events) puts
-    ∙ append_assoc (old ++ begun) why events ∙ append_assoc old begun (why ++ events)
+    first ∙ ap (λ (u : TopologyValue). old ++ found_flow_line u f e.certainty.known travel.finding) same
+    ∙ ap (λ (h : Flow). old ++ found_flow_line v.domain.topology h e.certainty.known travel.finding) listed in
+    fourth ∙ ap (λ (u : TopologyValue). three ++ events_if_shown travels u travel) same
+    ∙ ap (λ xs. xs ++ events) third ∙ ap (λ xs. (xs ++ why) ++ events) second
+    ∙ ap (λ xs. ((xs ++ from) ++ why) ++ events) puts
+    ∙ append_assoc ((old ++ begun) ++ from) why events
+    ∙ append_assoc (old ++ begun) from (why ++ events) ∙ append_assoc old begun (from ++ (why ++ events))
 
--- in JSON
-pub wrong_object-pushed : {A X : Type 0} (v : AuditedValue) (flow ttl : ℕ) (travels : Bool)
-    (ended : FinishedTravel) (e : Explanation) (r : Result A X) (old new : List ℕ)
-    → ended.flight.domain ≡ v.domain
-    → OnOk r (new ≡ old ++ wrong_line_of_travel flow (flow_at v.domain.topology flow) ended ttl e.also
-    (why_data (facts v.domain) v.summary flow e.printed e.search) travels)
-    → OnOk r (new ≡ old ++ wrong_object travels (facts v.domain) v.summary flow ttl ended.travel e)
-wrong_object-pushed v flow ttl travels ended e (Err x) old new here puts = tt
-wrong_object-pushed v flow ttl travels ended e (Ok a) old new here puts =
-    puts
-    ∙ ap (λ (d : DomainValue). old ++ wrong_line (facts d) flow (flow_at v.domain.topology flow) ttl
-    ended.travel.finding ended.travel.events.items e.also
-    (why_data (facts v.domain) v.summary flow e.printed e.search) travels) here
+-- an explanation by its parts
+abbrev pub explanation_with : List Cause → Option LanSearch → (also : List ℕ) → (known : Bool)
+    → (shown_from : Option ℕ) → Explanation
+explanation_with causes found also known shown_from = record {
+  printed = causes;
+  search = found;
+  also = also;
+  certainty = record { known = known; shown_from = shown_from };
+}
 
--- in both, with the LANs that the travel also missed
-pub wrong_lines_or_object-same_also : {A X : Type 0} (v : AuditedValue) (json travels : Bool) (flow ttl : ℕ)
-    (ended : FinishedTravel) (causes : List Cause) (found : Option LanSearch) (also : List ℕ) (r : Result A X)
-    (old new : List ℕ) → also ≡ also_missed_of ended
-    → OnOk r (new ≡ old ++ wrong_lines_or_object json travels (facts v.domain) v.summary flow ttl ended.travel
-    (record { printed = causes; search = found; also = also }))
-    → OnOk r (new ≡ old ++ wrong_lines_or_object json travels (facts v.domain) v.summary flow ttl ended.travel
-    (explanation_in ended causes found))
-wrong_lines_or_object-same_also v json travels flow ttl ended causes found also (Err x) old new same puts = tt
-wrong_lines_or_object-same_also v json travels flow ttl ended causes found also (Ok a) old new same puts =
-    puts ∙ ap (λ (lans : List ℕ). old ++ wrong_lines_or_object json travels (facts v.domain) v.summary flow ttl
-    ended.travel (record { printed = causes; search = found; also = lans })) same
+-- in both, with the LANs that the travel also missed, and whether the flow is known to be wrong
+pub wrong_flow_lines-same_parts : (v : AuditedValue) (o : AuditOptions) (flow ttl : ℕ)
+    (ended : FinishedTravel) (causes : List Cause) (found : Option LanSearch) (shown_from : Option ℕ)
+    (also : List ℕ) (whole known : Bool) (old new : List ℕ) → also ≡ also_missed_of ended
+    → whole ≡ is_whole v → known ≡ is_known_wrong whole found
+    → new ≡ old ++ wrong_flow_lines o (facts v.domain) v.summary flow ttl ended.travel
+    (explanation_with causes found also known shown_from)
+    → new ≡ old ++ wrong_flow_lines o (facts v.domain) v.summary flow ttl ended.travel
+    (explanation_in (is_whole v) ended causes found shown_from)
+wrong_flow_lines-same_parts v o flow ttl ended causes found shown_from also whole known old new same all is
+    puts = puts ∙ ap₂ (λ (lans : List ℕ) (b : Bool). old ++ wrong_flow_lines o (facts v.domain) v.summary flow
+    ttl ended.travel (explanation_with causes found lans b shown_from)) same
+    (is ∙ ap (λ (b : Bool). is_known_wrong b found) all)

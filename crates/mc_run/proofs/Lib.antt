@@ -18,6 +18,7 @@ pub mod ExplanationLemmas
 mod RefusalTextLemmas
 pub mod ReplayLemmas
 pub mod RunLemmas
+pub mod ShownTrees
 pub mod CheckTextLemmas
 pub mod VerdictLines
 pub mod WantsLemmas

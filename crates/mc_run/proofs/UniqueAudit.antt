@@ -1,14 +1,15 @@
 -- The text of an audit is determined by the domain, and by the folder's files.
 use Rattle.std.proofs.Common.{◌≡◌, ℕ, suc, ◌+◌, Bool, true, false, cond, List, [], ◌∷◌, ◌++◌}
 use Rattle.std.proofs.Common.{length, Option, Some, None, refl, sym, ap, ap₂, subst, ◌∙◌, arith}
-use Rattle.std.proofs.Common.{filter, fold, take, ◌&&◌, not, slice_get}
-use Rattle.std.specs.Prelude.{◌==◌, flat_map, ⊤}
+use Rattle.std.proofs.Common.{filter, fold, take, ◌&&◌, slice_get}
+use Rattle.std.specs.Prelude.{◌==◌, flat_map, ⊤, is_none}
 use Rattle.mc_files.specs.Files.{FileText}
 use Rattle.mc_tables.specs.Summary.{SummaryValue}
 use Rattle.mc_topology.specs.Topology.{TopologyValue, flow_at}
 use Rattle.mc_cert.specs.Certificate.{Tree}
 use Rattle.mc_theory.specs.Events.{Event}
-use Rattle.mc_forward.specs.Domains.{DomainValue, IsDomain, ttl_of}
+use Rattle.mc_theory.specs.Nets.{Net}
+use Rattle.mc_forward.specs.Domains.{DomainValue, IsDomain, net_of, ttl_of}
 use Rattle.mc_forward.specs.ListedTables.{DomainFacts, facts}
 use Rattle.mc_input.specs.ExcludedRouters.{files_with_exclusions}
 use Rattle.mc_input.specs.SummariesOfFiles.{AreSummariesOf}
@@ -18,6 +19,7 @@ use Rattle.mc_replay.specs.declared.travel.FinishedTravel.{FinishedTravel}
 use Rattle.mc_maker.specs.Examined.{is_certified}
 use Rattle.mc_maker.specs.ExaminedFlights.{without_flights}
 use Rattle.mc_maker.specs.declared.examination.Examined.{Examined}
+use Rattle.mc_maker.specs.declared.examination.Examined.TheVariants as examined_as
 use Rattle.mc_maker.specs.declared.examined_flights.ExaminedFlights.{ExaminedFlights}
 use Rattle.mc_maker.specs.declared.examined_flights.ExaminedFlights.TheVariants.{Certified}
 use Rattle.mc_maker.specs.declared.examined_flights.ExaminedFlights.TheVariants.{FoundAtTtl255}
@@ -27,23 +29,27 @@ use Rattle.mc_lines.specs.ExplanationText.{causes_text}
 use Rattle.mc_lines.specs.ExplanationText.{search_text}
 use Rattle.mc_explain.specs.WantedText.{also_missed_text}
 use Rattle.mc_explain.specs.declared.causes.Cause.{Cause}
+use Rattle.mc_explain.specs.declared.causes.explanation.Certainty.{Certainty}
 use Rattle.mc_explain.specs.declared.searches.search_line.SearchLine.{SearchLine}
 use Rattle.mc_json.specs.FlowData.{wrong_line}
 use Rattle.mc_json.specs.WhyData.{search_data}
 use Rattle.mc_json.specs.WhyData.{causes_data}
 use Rattle.mc_json.specs.WhyData.{search_data_if_any, why_data}
+use Rattle.mc_json.specs.TreeKey.{tree_key}
 use Rattle.serde_json.specs.Data.{Data}
 use Rattle.mc_run.specs.AuditEnd.{FlowAnswer, are_right, begin_lines, count, end_text_or_objects, end_lines}
-use Rattle.mc_run.specs.AuditEnd.{is_right, is_unwanted, is_wrong, verdict_line}
+use Rattle.mc_run.specs.AuditEnd.{is_right, is_unknown, is_unwanted, is_wrong, says_right, says_wrong}
+use Rattle.mc_run.specs.AuditEnd.{verdict_line}
 use Rattle.mc_run.specs.AuditObjects.{wrong_object}
 use Rattle.mc_run.specs.AuditRun.{IsFlowAnswer, IsAuditText, IsAudited, MeansAudited, AuditedValue}
 use Rattle.mc_run.specs.AuditRun.{is_whole, is_yes, excluded, trees_shown}
 use Rattle.mc_run.specs.AuditText.{Explanation, events_if_shown, explanation_lines, searched_lines}
-use Rattle.mc_run.specs.AuditText.{wrong_lines}
-use Rattle.mc_run.specs.AuditFlowText.{answer_lines, is_hidden, right_flow_lines, shown_trees_with}
+use Rattle.mc_run.specs.AuditText.{found_flow_line, shown_from_text, wrong_lines}
+use Rattle.mc_run.specs.AuditFlowText.{answer_lines, is_hidden, known_right, right_flow_lines}
+use Rattle.mc_run.specs.AuditFlowText.{shown_trees_with}
 use Rattle.mc_run.specs.AuditFlowText.{with_shown_tree}
 use Rattle.mc_run.specs.AuditFlowText.{wrong_lines_or_object}
-use Rattle.mc_run.specs.MakeRun.{IsExamined, found_lines}
+use Rattle.mc_run.specs.MakeRun.{IsExamined}
 use Rattle.mc_run.specs.ReplayRun.{event_lines}
 use Rattle.mc_cli.specs.declared.audit_options.AuditOptions.{AuditOptions}
 use Rattle.mc_run.proofs.UniqueExamination.{IsSameFinishedTravel, IsSameExplanation}
@@ -80,18 +86,20 @@ explanation_lines-same_explanation d summary flow x y same =
     (searched_lines-same_search d summary flow x.search y.search same.search) same.also
 
 wrong_lines-same_travel : (travels : Bool) (d : DomainFacts) (summary : List SummaryValue)
-    (flow ttl : ℕ) (a b : FinishedTravel) (x y : Explanation) → IsSameFinishedTravel a b
+    (flow : ℕ) (a b : FinishedTravel) (x y : Explanation) → IsSameFinishedTravel a b
     → IsSameExplanation x y
-    → wrong_lines travels d summary flow ttl a.travel x
-    ≡ wrong_lines travels d summary flow ttl b.travel y
-wrong_lines-same_travel travels d summary flow ttl a b x y ended same =
-    ap (λ (w : Finding). found_lines d.topology (flow_at d.topology flow) ttl w
-    ++ (explanation_lines d summary flow x ++ events_if_shown travels d.topology a.travel))
-    ended.finding
+    → wrong_lines travels d summary flow a.travel x ≡ wrong_lines travels d summary flow b.travel y
+wrong_lines-same_travel travels d summary flow a b x y ended same =
+    let t = d.topology in
+    ap₂ (λ (c : Certainty) (w : Finding). found_flow_line t (flow_at t flow) c.known w
+    ++ (shown_from_text c.shown_from
+    ++ (explanation_lines d summary flow x ++ events_if_shown travels t a.travel)))
+    same.certainty ended.finding
     ∙ ap₂ (λ (why : List ℕ) (es : List ℕ).
-    found_lines d.topology (flow_at d.topology flow) ttl b.travel.finding ++ (why ++ es))
+    found_flow_line t (flow_at t flow) y.certainty.known b.travel.finding
+    ++ (shown_from_text y.certainty.shown_from ++ (why ++ es)))
     (explanation_lines-same_explanation d summary flow x y same)
-    (events_if_shown-same_events travels d.topology a b ended)
+    (events_if_shown-same_events travels t a b ended)
 
 found_data-same_travel : (d : DomainFacts) (summary : List SummaryValue) (flow : ℕ)
     (s t : Option LanSearch) → HaveSameSearch s t
@@ -118,10 +126,12 @@ wrong_object-same_travel : (travels : Bool) (d : DomainFacts) (summary : List Su
     → wrong_object travels d summary flow ttl a.travel x
     ≡ wrong_object travels d summary flow ttl b.travel y
 wrong_object-same_travel travels d summary flow ttl a b x y ended same =
-    ap₂ (λ (w : Finding) (es : List Event). wrong_line d flow (flow_at d.topology flow) ttl w es x.also
+    ap₂ (λ (w : Finding) (es : List Event). wrong_line d flow (flow_at d.topology flow) x.certainty ttl w es x.also
     (why_data d summary flow x.printed x.search) travels) ended.finding ended.events
-    ∙ ap₂ (λ (also : List ℕ) (why : List Data).
-    wrong_line d flow (flow_at d.topology flow) ttl b.travel.finding b.travel.events.items also why travels)
+    ∙ ap (λ (c : Certainty). wrong_line d flow (flow_at d.topology flow) c ttl b.travel.finding
+    b.travel.events.items x.also (why_data d summary flow x.printed x.search) travels) same.certainty
+    ∙ ap₂ (λ (also : List ℕ) (why : List Data). wrong_line d flow (flow_at d.topology flow) y.certainty ttl
+    b.travel.finding b.travel.events.items also why travels)
     same.also
     (why_data-same_explanation d summary flow x y same)
 
@@ -133,7 +143,7 @@ wrong_flow_lines-same_travel : (json travels : Bool) (d : DomainFacts) (summary 
 wrong_flow_lines-same_travel true travels d summary flow ttl a b x y ended same =
     wrong_object-same_travel travels d summary flow ttl a b x y ended same
 wrong_flow_lines-same_travel false travels d summary flow ttl a b x y ended same =
-    wrong_lines-same_travel travels d summary flow ttl a b x y ended same
+    wrong_lines-same_travel travels d summary flow a b x y ended same
 
 -- ---- the answer of a flow
 
@@ -141,9 +151,11 @@ wrong_flow_lines-same_travel false travels d summary flow ttl a b x y ended same
 record IsSameAnswer (o : AuditOptions) (a b : FlowAnswer) : Type 0 where
   lines : a.lines ≡ b.lines
   wanted : a.wanted ≡ b.wanted
-  right : is_certified a.examined ≡ is_certified b.examined
+  certified : is_certified a.examined ≡ is_certified b.examined
+  right : a.right ≡ b.right
   shown_trees : (printed : List Tree)
-      → shown_trees_with o printed a.examined a.wanted ≡ shown_trees_with o printed b.examined b.wanted
+      → shown_trees_with o a.net printed a.examined a.wanted
+      ≡ shown_trees_with o b.net printed b.examined b.wanted
 
 -- the answers by two results of an examination
 answer_lines-same_flights : (o : AuditOptions) (whole : Bool) (d : DomainValue) (summary : List SummaryValue)
@@ -153,7 +165,7 @@ answer_lines-same_flights : (o : AuditOptions) (whole : Bool) (d : DomainValue) 
     ≡ answer_lines o whole (facts d) summary printed flow (without_flights d flow b) y wanted
 answer_lines-same_flights o whole d summary printed flow (Certified xs) (Certified ys) x y wanted
     same explained =
-    ap (λ (es : Tree). right_flow_lines o whole d.topology printed flow es wanted) same
+    ap (λ (es : Tree). right_flow_lines o whole (facts d) printed flow es wanted) same
 answer_lines-same_flights o whole d summary printed flow (FoundAtTtl255 a) (FoundAtTtl255 b) x y
     wanted same explained =
     wrong_flow_lines-same_travel o.json o.travels (facts d) summary flow 255 a b x y same explained
@@ -196,10 +208,11 @@ is_certified-same_flights d flow (FoundAtFlowTtl a b) (FoundAtTtl255 c) same = a
 shown_trees_with-same_flights : (o : AuditOptions) (d : DomainValue) (flow : ℕ)
     (a b : ExaminedFlights) (wanted : List ℕ)
     (printed : List Tree) → HaveSameFlights a b
-    → shown_trees_with o printed (without_flights d flow a) wanted
-    ≡ shown_trees_with o printed (without_flights d flow b) wanted
+    → shown_trees_with o (net_of d flow) printed (without_flights d flow a) wanted
+    ≡ shown_trees_with o (net_of d flow) printed (without_flights d flow b) wanted
 shown_trees_with-same_flights o d flow (Certified xs) (Certified ys) wanted printed same =
-    ap (λ (es : Tree). with_shown_tree o.json (is_hidden o.faults wanted) printed es) same
+    ap (λ (es : Tree). with_shown_tree o.json (is_hidden o.faults wanted) printed
+    (tree_key (net_of d flow) es)) same
 shown_trees_with-same_flights o d flow (FoundAtTtl255 a) (FoundAtTtl255 b) wanted printed same = refl
 shown_trees_with-same_flights o d flow (FoundAtFlowTtl a b) (FoundAtFlowTtl c e) wanted printed same = refl
 shown_trees_with-same_flights o d flow (Certified xs) (FoundAtTtl255 b) wanted printed same = absurd same
@@ -210,6 +223,14 @@ shown_trees_with-same_flights o d flow (FoundAtTtl255 a) (FoundAtFlowTtl b c) wa
 shown_trees_with-same_flights o d flow (FoundAtFlowTtl a b) (Certified ys) wanted printed same = absurd same
 shown_trees_with-same_flights o d flow (FoundAtFlowTtl a b) (FoundAtTtl255 c) wanted printed same =
     absurd same
+
+known_right-same : (whole : Bool) (x y : Examined) (known other : Bool) → is_certified x ≡ is_certified y
+    → known ≡ other → known_right whole x known ≡ known_right whole y other
+known_right-same whole (examined_as.Certified xs) (examined_as.Certified ys) known other same is = refl
+known_right-same whole (examined_as.Certified xs) (examined_as.Found ttl travel) known other same is = absurd cc
+known_right-same whole (examined_as.Found ttl travel) (examined_as.Certified ys) known other same is = absurd cc
+known_right-same whole (examined_as.Found ttl travel) (examined_as.Found at other_travel) known other same is =
+    ap (λ (b : Bool). known_right whole (examined_as.Found ttl travel) b) is
 
 same_answer-flow_answers : (v : AuditedValue) (o : AuditOptions) (printed : List Tree) (flow : ℕ)
     (a b : FlowAnswer)
@@ -226,6 +247,9 @@ same_answer-flow_answers v o printed flow a b ok p q =
     q.flights p.explanation
     q.explanation ok flights p.explained q.explained in
     let wanted : a.wanted ≡ b.wanted = p.wanted ∙ sym q.wanted in
+    let certified : is_certified a.examined ≡ is_certified b.examined =
+    ap is_certified p.examined ∙ is_certified-same_flights d flow p.flights q.flights flights
+    ∙ ap is_certified (sym q.examined) in
     let lines = λ (x : Examined) (w : List ℕ) (y : Explanation).
     answer_lines o (is_whole v) (facts d) v.summary printed flow x y w in
     record {
@@ -236,12 +260,16 @@ same_answer-flow_answers v o printed flow a b ok p q =
           ∙ ap (λ (x : Examined). lines x b.wanted q.explanation) (sym q.examined)
           ∙ sym q.spelled;
       wanted = wanted;
-      right = ap is_certified p.examined ∙ is_certified-same_flights d flow p.flights q.flights flights
-          ∙ ap is_certified (sym q.examined);
+      certified = certified;
+      right = p.right ∙ known_right-same (is_whole v) a.examined b.examined p.explanation.certainty.known
+          q.explanation.certainty.known certified (ap (λ (c : Certainty). c.known) explained.certainty)
+          ∙ sym q.right;
       shown_trees = λ ts.
-          ap₂ (λ (x : Examined) (w : List ℕ). shown_trees_with o ts x w) p.examined wanted
+          ap (λ (n : Net). shown_trees_with o n ts a.examined a.wanted) p.net
+          ∙ ap₂ (λ (x : Examined) (w : List ℕ). shown_trees_with o (net_of d flow) ts x w) p.examined wanted
           ∙ shown_trees_with-same_flights o d flow p.flights q.flights b.wanted ts flights
-          ∙ ap (λ (x : Examined). shown_trees_with o ts x b.wanted) (sym q.examined);
+          ∙ ap₂ (λ (n : Net) (x : Examined). shown_trees_with o n ts x b.wanted) (sym q.net)
+          (sym q.examined);
     }
 
 -- ---- the answers of all flows
@@ -257,7 +285,7 @@ abbrev AreAnswersFrom : AuditedValue → AuditOptions → ℕ → List Tree → 
 AreAnswersFrom v o k printed answers =
     (i : ℕ) (a : FlowAnswer) → slice_get answers i ≡ Some a
     → IsFlowAnswer v o
-    (fold (λ (ts : List Tree) (b : FlowAnswer). shown_trees_with o ts b.examined b.wanted) printed
+    (fold (λ (ts : List Tree) (b : FlowAnswer). shown_trees_with o b.net ts b.examined b.wanted) printed
     (take i answers)) (k + i) a
 
 are_answers_from-first : (v : AuditedValue) (o : AuditOptions) (answers : List FlowAnswer)
@@ -269,12 +297,12 @@ are_answers_from-first v o answers each flow a there =
 
 are_answers_from-next : (v : AuditedValue) (o : AuditOptions) (k : ℕ) (printed : List Tree) (a : FlowAnswer)
     (answers : List FlowAnswer) → AreAnswersFrom v o k printed (a ∷ answers)
-    → AreAnswersFrom v o (suc k) (shown_trees_with o printed a.examined a.wanted) answers
+    → AreAnswersFrom v o (suc k) (shown_trees_with o a.net printed a.examined a.wanted) answers
 are_answers_from-next v o k printed a answers from i b there =
     let place : k + suc i ≡ suc k + i = omega arith in
     subst (λ (n : ℕ). IsFlowAnswer v o
-    (fold (λ (ts : List Tree) (c : FlowAnswer). shown_trees_with o ts c.examined c.wanted)
-    (shown_trees_with o printed a.examined a.wanted) (take i answers)) n b) place (from (suc i) b there)
+    (fold (λ (ts : List Tree) (c : FlowAnswer). shown_trees_with o c.net ts c.examined c.wanted)
+    (shown_trees_with o a.net printed a.examined a.wanted) (take i answers)) n b) place (from (suc i) b there)
 
 have_same_answers-flow_answers : (v : AuditedValue) (o : AuditOptions) (k : ℕ) (printed : List Tree)
     (xs ys : List FlowAnswer) → IsDomain v.domain → length xs ≡ length ys → AreAnswersFrom v o k printed xs
@@ -285,11 +313,11 @@ have_same_answers-flow_answers v o k printed (a ∷ xs) [] ok size p q = absurd 
 have_same_answers-flow_answers v o k printed (a ∷ xs) (b ∷ ys) ok size p q =
     let first = same_answer-flow_answers v o printed (k + 0) a b ok (p 0 a refl) (q 0 b refl) in
     let next = are_answers_from-next v o k printed a xs p in
-    let more : AreAnswersFrom v o (suc k) (shown_trees_with o printed a.examined a.wanted) ys =
+    let more : AreAnswersFrom v o (suc k) (shown_trees_with o a.net printed a.examined a.wanted) ys =
     subst (λ (ts : List Tree). AreAnswersFrom v o (suc k) ts ys) (sym (first.shown_trees printed))
     (are_answers_from-next v o k printed b ys q) in (
       first,
-      have_same_answers-flow_answers v o (suc k) (shown_trees_with o printed a.examined a.wanted) xs ys ok
+      have_same_answers-flow_answers v o (suc k) (shown_trees_with o a.net printed a.examined a.wanted) xs ys ok
           (omega (arith, size)) next more,
     )
 
@@ -307,7 +335,7 @@ are_right-same_answers o [] [] same = refl
 are_right-same_answers o [] (b ∷ ys) same = absurd same
 are_right-same_answers o (a ∷ xs) [] same = absurd same
 are_right-same_answers o (a ∷ xs) (b ∷ ys) same =
-    ap₂ (λ (x y : Bool). x && y) same.0.right (are_right-same_answers o xs ys same.1)
+    ap₂ (λ (x y : Bool). x && y) same.0.certified (are_right-same_answers o xs ys same.1)
 
 count-cons_same : (x y : Bool) (a b : FlowAnswer) (xs ys : List FlowAnswer) → x ≡ y
     → length xs ≡ length ys → length (cond x (a ∷ xs) xs) ≡ length (cond y (b ∷ ys) ys)
@@ -337,19 +365,23 @@ end_lines-same_answers : (v : AuditedValue) (o : AuditOptions) (xs ys : List Flo
     ≡ end_lines o v.domain.topology v.summary (excluded v) (is_yes v ys) ys
     ++ verdict_line o.json (is_yes v ys)
 end_lines-same_answers v o xs ys flows same all =
-    let end = λ (all : Bool) (n r w u : ℕ).
-    end_text_or_objects o v.domain.topology v.summary (excluded v) all n r w u ++ verdict_line o.json all in
-    let right = count-same_answers o is_right xs ys (λ a b s. s.right) same in
-    let wrong = count-same_answers o is_wrong xs ys (λ a b s. ap not s.right) same in
+    let end = λ (all : Bool) (n r w k u : ℕ).
+    end_text_or_objects o v.domain.topology v.summary (excluded v) all n r w k u
+    ++ verdict_line o.json all in
+    let right = count-same_answers o is_right xs ys (λ a b s. ap says_right s.right) same in
+    let wrong = count-same_answers o is_wrong xs ys (λ a b s. ap says_wrong s.right) same in
+    let unknown = count-same_answers o is_unknown xs ys
+    (λ a b s. ap (λ (r : Option Bool). is_none r) s.right) same in
     let unwanted = count-same_answers o is_unwanted xs ys
-    (λ a b s. ap₂ (λ (x : Bool) (w : List ℕ). x && (length w == 0)) s.right s.wanted) same in
-    ap (λ (all : Bool).
-    end all (length xs) (count is_right xs) (count is_wrong xs) (count is_unwanted xs)) all
-    ∙ ap (λ (n : ℕ). end (is_yes v ys) n (count is_right xs) (count is_wrong xs)
+    (λ a b s. ap₂ (λ (x : Bool) (w : List ℕ). x && (length w == 0)) s.certified s.wanted) same in
+    ap (λ (all : Bool). end all (length xs) (count is_right xs) (count is_wrong xs) (count is_unknown xs)
+    (count is_unwanted xs)) all
+    ∙ ap (λ (n : ℕ). end (is_yes v ys) n (count is_right xs) (count is_wrong xs) (count is_unknown xs)
     (count is_unwanted xs)) flows
-    ∙ ap (λ (n : ℕ). end (is_yes v ys) (length ys) n (count is_wrong xs) (count is_unwanted xs))
-    right
-    ∙ ap₂ (λ (w u : ℕ). end (is_yes v ys) (length ys) (count is_right ys) w u) wrong unwanted
+    ∙ ap₂ (λ (r w : ℕ). end (is_yes v ys) (length ys) r w (count is_unknown xs) (count is_unwanted xs))
+    right wrong
+    ∙ ap₂ (λ (k u : ℕ). end (is_yes v ys) (length ys) (count is_right ys) (count is_wrong ys) k u)
+    unknown unwanted
 
 is_audited-unique : (v : AuditedValue) (o : AuditOptions) (all every : Bool) (text other : List ℕ)
     → IsDomain v.domain → IsAudited v o all text → IsAudited v o every other

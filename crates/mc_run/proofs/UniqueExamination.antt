@@ -2,7 +2,7 @@
 use Rattle.std.proofs.Common.{◌≡◌, ◌≢◌, ℕ, suc, ◌+◌, ◌<◌, inl, inr, Bool, true, false}
 use Rattle.std.proofs.Common.{List, [], ◌∷◌, length, map, get_or, Option, Some, None}
 use Rattle.std.proofs.Common.{refl, sym, ap, ap₂, subst, ◌∙◌, arith}
-use Rattle.std.specs.Prelude.{◌↔◌, IsTrue, ⊤}
+use Rattle.std.specs.Prelude.{◌==◌, ◌↔◌, IsTrue, ⊤, not}
 use Rattle.std.specs.List.Sorted.{IsStrictlyIncreasing}
 use Rattle.std.proofs.lemmas.Bool.{false≢true}
 use Rattle.mc_tables.specs.Summary.{SummaryValue}
@@ -10,10 +10,16 @@ use Rattle.mc_theory.specs.Certificates.{Entry, IsReordering, IsRight}
 use Rattle.mc_theory.specs.Events.{Event, events}
 use Rattle.mc_theory.specs.Findings.{Choices, Finding as FindingValue, IsTravel, finding, handles}
 use Rattle.mc_theory.specs.Findings.{numbers_left}
-use Rattle.mc_theory.specs.Flights.{Flight, run, start, step}
+use Rattle.mc_theory.specs.Flights.{Copy, Flight, run, start, step}
 use Rattle.mc_theory.specs.Lists.{In}
 use Rattle.mc_theory.specs.CertificateOfCopies.{entries_of}
-use Rattle.mc_theory.specs.Nets.{Net}
+use Rattle.mc_theory.specs.Nets.{IsNet, Net}
+use Rattle.mc_theory.specs.ExcludedRouters.{IsSecondCopyOrStray}
+use Rattle.mc_theory.specs.ShownFrom.{IsShownFrom}
+use Rattle.mc_theory.specs.Findings.Finding.{Clean as FoundClean, Duplicate as FoundDuplicate}
+use Rattle.mc_theory.specs.Findings.Finding.{Loop as FoundLoop, Stray as FoundStray}
+use Rattle.mc_theory.specs.Findings.Finding.{Missed as FoundMissed}
+use Rattle.mc_theory.proofs.ShownFrom.{need-unique}
 use Rattle.mc_forward.specs.Domains.{DomainValue, IsDomain, net_of, ttl_of}
 use Rattle.mc_forward.specs.ListedTables.{DomainFacts, facts}
 use Rattle.mc_forward.proofs.DomainLemmas.{is_net-net_of}
@@ -31,11 +37,16 @@ use Rattle.mc_maker.specs.declared.examined_flights.ExaminedFlights.TheVariants.
 use Rattle.mc_maker.specs.declared.examined_flights.ExaminedFlights.TheVariants.{FoundAtFlowTtl}
 use Rattle.mc_explain.specs.Explained.{ExplainsAtFlowTtl, ExplainsFinding, IsExplained}
 use Rattle.mc_explain.specs.SearchLine.{Search}
+use Rattle.mc_explain.specs.SearchReach.{name_excluded_router}
+use Rattle.mc_explain.specs.ShownNeed.{IsShownFromIfAny}
 use Rattle.mc_explain.specs.WantedText.{missed_besides}
+use Rattle.mc_explain.specs.declared.searches.search_line.SearchLine.{SearchLine}
 use Rattle.mc_explain.specs.declared.searches.searching.LanSearch.{LanSearch}
 use Rattle.mc_explain.specs.declared.causes.Cause.{Cause}
+use Rattle.mc_explain.specs.declared.causes.explanation.Certainty.{Certainty}
 use Rattle.mc_explain.proofs.UniqueCauseLemmas.{causes-are_unique}
 use Rattle.mc_run.specs.AuditExplanation.{IsExplanation, IsSearchAt255, IsSearchIfMissed, also_missed}
+use Rattle.mc_run.specs.AuditExplanation.{IsShownFromAt255, IsShownFromUnless, is_known_wrong}
 use Rattle.mc_run.specs.AuditExplanation.{search_context}
 use Rattle.mc_run.specs.AuditExplanation.{without_remedies}
 use Rattle.mc_run.specs.AuditText.{Explanation}
@@ -331,23 +342,81 @@ also_missed-same_flights d flow (FoundAtTtl255 a) (FoundAtFlowTtl b c) same = ab
 also_missed-same_flights d flow (FoundAtFlowTtl a b) (Certified ys) same = absurd same
 also_missed-same_flights d flow (FoundAtFlowTtl a b) (FoundAtTtl255 c) same = absurd same
 
+-- ---- whole explanations
+
 -- Two explanations are the same.
 pub record IsSameExplanation (x y : Explanation) : Type 0 where
   pub printed : x.printed ≡ y.printed
   pub search : HaveSameSearch x.search y.search
   pub also : x.also ≡ y.also
+  pub certainty : x.certainty ≡ y.certainty
+
+is_known_wrong-same_search : (whole : Bool) (s t : Option LanSearch) → HaveSameSearch s t
+    → is_known_wrong whole s ≡ is_known_wrong whole t
+is_known_wrong-same_search true s t same = refl
+is_known_wrong-same_search false None None same = refl
+is_known_wrong-same_search false None (Some b) same = absurd same
+is_known_wrong-same_search false (Some a) None same = absurd same
+is_known_wrong-same_search false (Some a) (Some b) same =
+    ap (λ (ls : List SearchLine). not (name_excluded_router ls)) same.0
+
+-- the TTL from which on packets show a finding is unique
+is_shown_from-not_none : (n : Net) (cs : List Copy) (x : FindingValue) (k : ℕ) → IsShownFrom n cs x k
+    → IsSecondCopyOrStray x
+is_shown_from-not_none n cs FoundClean k shown = shown
+is_shown_from-not_none n cs (FoundDuplicate lan) k shown = tt
+is_shown_from-not_none n cs (FoundLoop lan) k shown = tt
+is_shown_from-not_none n cs (FoundStray router vif) k shown = tt
+is_shown_from-not_none n cs (FoundMissed lan) k shown = shown
+
+is_shown_from_if_any-unique : (n : Net) (cs : List Copy) (x : FindingValue) (s t : Option ℕ) → IsNet n
+    → IsShownFromIfAny n cs x s → IsShownFromIfAny n cs x t → s ≡ t
+is_shown_from_if_any-unique n cs x None None net p q = refl
+is_shown_from_if_any-unique n cs x None (Some k) net p q = absurd (p (is_shown_from-not_none n cs x k q))
+is_shown_from_if_any-unique n cs x (Some k) None net p q = absurd (q (is_shown_from-not_none n cs x k p))
+is_shown_from_if_any-unique n cs x (Some k) (Some m) net p q = ap Some (need-unique n cs x k m net p q)
+
+is_shown_from_unless-unique : (greatest : Bool) (n : Net) (cs : List Copy) (x : FindingValue) (s t : Option ℕ)
+    → IsNet n → IsShownFromUnless greatest n cs x s → IsShownFromUnless greatest n cs x t → s ≡ t
+is_shown_from_unless-unique true n cs x s t net p q = p ∙ sym q
+is_shown_from_unless-unique false n cs x s t net p q = is_shown_from_if_any-unique n cs x s t net p q
+
+is_shown_from-unique : (d : DomainValue) (flow : ℕ) (a b : ExaminedFlights) (s t : Option ℕ) → IsDomain d
+    → HaveSameFlights a b → IsShownFromAt255 d flow a s → IsShownFromAt255 d flow b t → s ≡ t
+is_shown_from-unique d flow (FoundAtTtl255 a) (FoundAtTtl255 b) s t ok same p q =
+    let n = net_of d flow in
+    let greatest = ttl_of d flow == 255 in
+    is_shown_from_unless-unique greatest n b.flight.flight.carried (finding_value b.travel.finding) s t
+    (is_net-net_of d flow ok) (subst (λ (f : Flight). IsShownFromUnless greatest n f.carried
+    (finding_value b.travel.finding) s) same.flight (subst (λ (x : Finding). IsShownFromUnless greatest n
+    a.flight.flight.carried (finding_value x) s) same.finding p)) q
+is_shown_from-unique d flow (Certified xs) (Certified ys) s t ok same p q = p ∙ sym q
+is_shown_from-unique d flow (FoundAtFlowTtl a b) (FoundAtFlowTtl c e) s t ok same p q = p ∙ sym q
+is_shown_from-unique d flow (Certified xs) (FoundAtTtl255 b) s t ok same p q = absurd same
+is_shown_from-unique d flow (Certified xs) (FoundAtFlowTtl b c) s t ok same p q = absurd same
+is_shown_from-unique d flow (FoundAtTtl255 a) (Certified ys) s t ok same p q = absurd same
+is_shown_from-unique d flow (FoundAtTtl255 a) (FoundAtFlowTtl b c) s t ok same p q = absurd same
+is_shown_from-unique d flow (FoundAtFlowTtl a b) (Certified ys) s t ok same p q = absurd same
+is_shown_from-unique d flow (FoundAtFlowTtl a b) (FoundAtTtl255 c) s t ok same p q = absurd same
+
+same_certainty : (x y : Certainty) → x.known ≡ y.known → x.shown_from ≡ y.shown_from → x ≡ y
+same_certainty x y known shown = λ i. record { known = known i; shown_from = shown i }
 
 pub is_explanation-unique : (d : DomainValue) (summary : List SummaryValue) (excluded : List Bool)
     (whole : Bool) (flow : ℕ) (a b : ExaminedFlights) (x y : Explanation) → IsDomain d → HaveSameFlights a b
     → IsExplanation d summary excluded whole flow a x → IsExplanation d summary excluded whole flow b y
     → IsSameExplanation x y
-is_explanation-unique d summary excluded whole flow a b x y ok same p q = record {
-  printed = p.printed.shown
-      ∙ ap (without_remedies whole) (causes-are_unique d flow b p.printed.all q.printed.all
-      (is_net-net_of d flow ok)
-      (is_explained-same_flights d flow a b p.printed.all same p.printed.explained) q.printed.explained)
-      ∙ sym q.printed.shown;
-  search = is_search_if_missed-unique (facts d) summary excluded flow a b x.search y.search same
-      p.search q.search;
-  also = p.also ∙ also_missed-same_flights (facts d) flow a b same ∙ sym q.also;
-}
+is_explanation-unique d summary excluded whole flow a b x y ok same p q =
+    let search = is_search_if_missed-unique (facts d) summary excluded flow a b x.search y.search same
+    p.search q.search in record {
+      printed = p.printed.shown
+          ∙ ap (without_remedies whole) (causes-are_unique d flow b p.printed.all q.printed.all
+          (is_net-net_of d flow ok)
+          (is_explained-same_flights d flow a b p.printed.all same p.printed.explained) q.printed.explained)
+          ∙ sym q.printed.shown;
+      search = search;
+      also = p.also ∙ also_missed-same_flights (facts d) flow a b same ∙ sym q.also;
+      certainty = same_certainty x.certainty y.certainty
+          (p.known ∙ is_known_wrong-same_search whole x.search y.search search ∙ sym q.known)
+          (is_shown_from-unique d flow a b x.certainty.shown_from y.certainty.shown_from ok same p.shown q.shown);
+    }

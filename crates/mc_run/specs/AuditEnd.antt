@@ -1,17 +1,18 @@
 -- The lines before and after those of the flows: in JSON the domain and the words of the call; the
--- unlisted sources and groups of the caches, the excluded routers, and the numbers of right and wrong
--- flows.
+-- unlisted sources and groups of the caches, the excluded routers, and the numbers of right, wrong and
+-- unknown flows.
 use Rattle.std.specs.Prelude.{ℕ, ◌==◌, ◌+◌, ◌&&◌, not, Bool, List, [], ◌∷◌, ◌++◌, codes, decimal, filter}
-use Rattle.std.specs.Prelude.{flat_map, length, map, if◌then◌else◌}
+use Rattle.std.specs.Prelude.{flat_map, length, map, if◌then◌else◌, Option, Some, None, is_none, true, false}
 use Rattle.std.specs.List.{list_all, list_any}
 use Rattle.std.specs.Str.{bytes_eq}
 use Rattle.mc_tables.specs.Summary.{SummaryValue}
 use Rattle.mc_topology.specs.Topology.{TopologyValue, router_name}
 use Rattle.mc_theory.specs.Lists.{below}
+use Rattle.mc_theory.specs.Nets.{Net}
 use Rattle.mc_forward.specs.ListedTables.{DomainFacts}
 use Rattle.mc_maker.specs.Examined.{is_certified}
 use Rattle.mc_maker.specs.declared.examination.Examined.{Examined}
-use Rattle.mc_explain.specs.ExcludedText.{excluded_routers, excluded_text, without_text}
+use Rattle.mc_explain.specs.ExcludedText.{excluded_routers, excluded_text, excluded_lines}
 use Rattle.mc_explain.specs.UnlistedText.{unlisted_text}
 use Rattle.mc_json.specs.DomainData.{domain_data}
 use Rattle.mc_json.specs.EndData.{summary_data, unlisted_lines, verdict_data, without_line}
@@ -21,47 +22,70 @@ use Rattle.mc_cli.specs.AuditOptionWords.{without_word}
 use Rattle.mc_run.specs.VerdictText.{last_line}
 use Rattle.mc_cli.specs.declared.audit_options.AuditOptions.{AuditOptions}
 use Rattle.mc_run.specs.declared.audit.flow_status.FlowStatus.{FlowStatus}
-use Rattle.mc_run.specs.declared.audit.flow_status.FlowStatus.TheVariants.{Wanted, Unwanted, Wrong}
 use Rattle.mc_run.specs.declared.audit.flow_status.FlowCounts.{FlowCounts}
 
--- what is printed of a flow: the result of its examination, the LANs that want it, and its lines
+-- what is printed of a flow: the domain for it, the result of its examination, whether that shows the flow to
+-- be right or not, the LANs that want it, and its lines
 pub record FlowAnswer : Type 0 where
+  pub net : Net
   pub examined : Examined
+  pub right : Option Bool
   pub wanted : List ℕ
   pub lines : List ℕ
 
--- whether every flow is right
+-- whether every flow is certified
 abbrev pub are_right : List FlowAnswer → Bool
 are_right answers = list_all (λ a. is_certified a.examined) answers
 
 -- ---- the counts of flows
 
+-- whether it is known that a flow is right, that it isn't, or neither
+abbrev pub says_right : Option Bool → Bool
+says_right None = false
+says_right (Some right) = right
+
+abbrev pub says_wrong : Option Bool → Bool
+says_wrong None = false
+says_wrong (Some right) = not right
+
+-- 1 for what is counted
+abbrev pub one_if_true : Bool → ℕ
+one_if_true true = 1
+one_if_true false = 0
+
 -- the counts with one more flow of this status
 abbrev pub with_status : FlowCounts → FlowStatus → FlowCounts
-with_status s Wanted = record { right = s.right + 1; wrong = s.wrong; unwanted = s.unwanted }
-with_status s Unwanted =
-    record { right = s.right + 1; wrong = s.wrong; unwanted = s.unwanted + 1 }
-with_status s Wrong = record { right = s.right; wrong = s.wrong + 1; unwanted = s.unwanted }
+with_status s f = record {
+  right = s.right + one_if_true (says_right f.right);
+  wrong = s.wrong + one_if_true (says_wrong f.right);
+  unknown = s.unknown + one_if_true (is_none f.right);
+  unwanted = s.unwanted + one_if_true f.unwanted;
+}
 
 abbrev pub is_right : FlowAnswer → Bool
-is_right a = is_certified a.examined
+is_right a = says_right a.right
 
 abbrev pub is_wrong : FlowAnswer → Bool
-is_wrong a = not (is_certified a.examined)
+is_wrong a = says_wrong a.right
 
--- right, and wanted by no LAN
+-- neither known to be right nor known to be wrong
+abbrev pub is_unknown : FlowAnswer → Bool
+is_unknown a = is_none a.right
+
+-- without a finding, and wanted by no LAN
 abbrev pub is_unwanted : FlowAnswer → Bool
 is_unwanted a = is_certified a.examined && (length a.wanted == 0)
 
 abbrev pub count : (FlowAnswer → Bool) → List FlowAnswer → ℕ
 count p answers = length (filter p answers)
 
-abbrev pub summary_line : (flows right wrong unwanted : ℕ) → List ℕ
-summary_line flows right wrong unwanted =
+abbrev pub summary_line : (flows right wrong unknown unwanted : ℕ) → List ℕ
+summary_line flows right wrong unknown unwanted =
     codes "summary flows " ++ (decimal flows
     ++ (codes " right " ++ (decimal right
     ++ (codes " wrong " ++ (decimal wrong
-    ++ (codes " unwanted " ++ (decimal unwanted ++ codes "\n")))))))
+    ++ (codes " unknown " ++ (decimal unknown
+    ++ (codes " unwanted " ++ (decimal unwanted ++ codes "\n")))))))))
 
 -- with the option strict: a yes isn't enough if some right flow is wanted by nobody
 abbrev pub strict_lines : (strict all : Bool) → (unwanted : ℕ) → List ℕ
@@ -106,24 +130,24 @@ begin_lines o d excluded =
 
 -- as text, by the counts of flows, where all flows are right and no router is excluded, or not
 abbrev pub end_text : AuditOptions → TopologyValue → List SummaryValue → (excluded : List Bool)
-    → (all : Bool) → (flows right wrong unwanted : ℕ) → List ℕ
-end_text o t summary excluded all flows right wrong unwanted =
+    → (all : Bool) → (flows right wrong unknown unwanted : ℕ) → List ℕ
+end_text o t summary excluded all flows right wrong unknown unwanted =
     unlisted_text o.unlisted t summary
-    ++ (without_text t excluded
-    ++ (summary_line flows right wrong unwanted
+    ++ (excluded_lines t excluded
+    ++ (summary_line flows right wrong unknown unwanted
     ++ (excluded_text t excluded ++ strict_lines o.strict all unwanted)))
 
 abbrev pub end_objects : AuditOptions → TopologyValue → List SummaryValue → (excluded : List Bool)
-    → (right wrong unwanted : ℕ) → List ℕ
-end_objects o t summary excluded right wrong unwanted =
+    → (right wrong unknown unwanted : ℕ) → List ℕ
+end_objects o t summary excluded right wrong unknown unwanted =
     unlisted_lines o.unlisted t summary
-    ++ (without_line t excluded ++ line_of (summary_data right unwanted wrong))
+    ++ (without_line t excluded ++ line_of (summary_data right unknown unwanted wrong))
 
 abbrev pub end_text_or_objects : AuditOptions → TopologyValue → List SummaryValue → (excluded : List Bool)
-    → (all : Bool) → (flows right wrong unwanted : ℕ) → List ℕ
-end_text_or_objects o t summary excluded all flows right wrong unwanted =
-    if o.json then end_objects o t summary excluded right wrong unwanted
-    else end_text o t summary excluded all flows right wrong unwanted
+    → (all : Bool) → (flows right wrong unknown unwanted : ℕ) → List ℕ
+end_text_or_objects o t summary excluded all flows right wrong unknown unwanted =
+    if o.json then end_objects o t summary excluded right wrong unknown unwanted
+    else end_text o t summary excluded all flows right wrong unknown unwanted
 
 -- by the flows themselves
 abbrev pub end_lines : AuditOptions → TopologyValue → List SummaryValue → (excluded : List Bool)
@@ -131,6 +155,7 @@ abbrev pub end_lines : AuditOptions → TopologyValue → List SummaryValue → 
 end_lines o t summary excluded all answers =
     end_text_or_objects o t summary excluded all (length answers) (count is_right answers)
     (count is_wrong answers)
+    (count is_unknown answers)
     (count is_unwanted answers)
 
 -- the last line

@@ -1,11 +1,13 @@
 -- The explanation of a flow's finding, by the flights of its packets.
-use Rattle.std.specs.Prelude.{◌≡◌, ℕ, Bool, true, false, not, List, [], filter, Option, Some, None}
+use Rattle.std.specs.Prelude.{◌≡◌, ◌==◌, ℕ, Bool, true, false, not, List, [], filter, Option, Some, None}
 use Rattle.mc_tables.specs.Summary.{SummaryValue}
 use Rattle.mc_theory.specs.Events.{Event}
-use Rattle.mc_theory.specs.Findings.{first_copy_on}
+use Rattle.mc_theory.specs.Findings.{Finding as FindingValue, first_copy_on}
 use Rattle.mc_theory.specs.Flights.{Copy}
-use Rattle.mc_forward.specs.Domains.{DomainValue}
+use Rattle.mc_theory.specs.Nets.{Net}
+use Rattle.mc_forward.specs.Domains.{DomainValue, net_of, ttl_of}
 use Rattle.mc_forward.specs.ListedTables.{DomainFacts, facts}
+use Rattle.mc_replay.specs.FindingValues.{finding_value}
 use Rattle.mc_replay.specs.declared.finding.Finding.{Finding}
 use Rattle.mc_replay.specs.declared.finding.Finding.TheVariants.{Clean, Duplicate, Loop, Stray}
 use Rattle.mc_replay.specs.declared.finding.Finding.TheVariants.{Missed}
@@ -14,7 +16,8 @@ use Rattle.mc_maker.specs.declared.examined_flights.ExaminedFlights.TheVariants.
 use Rattle.mc_maker.specs.declared.examined_flights.ExaminedFlights.TheVariants.{FoundAtTtl255}
 use Rattle.mc_maker.specs.declared.examined_flights.ExaminedFlights.TheVariants.{FoundAtFlowTtl}
 use Rattle.mc_explain.specs.Explained.{IsExplained}
-use Rattle.mc_explain.specs.SearchReach.{IsLanSearch}
+use Rattle.mc_explain.specs.ShownNeed.{IsShownFromIfAny}
+use Rattle.mc_explain.specs.SearchReach.{IsLanSearch, name_excluded_router}
 use Rattle.mc_explain.specs.SearchLine.{Search}
 use Rattle.mc_explain.specs.WantedText.{missed_besides}
 use Rattle.mc_explain.specs.declared.searches.searching.LanSearch.{LanSearch}
@@ -86,9 +89,31 @@ pub record ArePrintedCauses (whole : Bool) (d : DomainValue) (flow : ℕ) (fligh
   pub explained : IsExplained d flow flights all
   pub shown : printed ≡ without_remedies whole all
 
+-- Whether it is known that a flow with a finding isn't right. With routers excluded it isn't, where a LAN is
+-- missed whose search comes to one of them: that router may send a copy. No tables of theirs take away a
+-- second copy or a stray.
+abbrev pub is_known_wrong : (whole : Bool) → Option LanSearch → Bool
+is_known_wrong true search = true
+is_known_wrong false None = true
+is_known_wrong false (Some found) = not (name_excluded_router found.lines.items)
+
+-- The TTL from which on packets show the finding. None is said where the flow's own TTL is the greatest.
+abbrev pub IsShownFromUnless : (greatest : Bool) → Net → List Copy → FindingValue → Option ℕ → Type 0
+IsShownFromUnless true n cs x shown = shown ≡ None
+IsShownFromUnless false n cs x shown = IsShownFromIfAny n cs x shown
+
+-- of a finding at TTL 255; none is said of one at the flow's TTL
+abbrev pub IsShownFromAt255 : DomainValue → (flow : ℕ) → ExaminedFlights → Option ℕ → Type 0
+IsShownFromAt255 d flow (Certified entries) shown = shown ≡ None
+IsShownFromAt255 d flow (FoundAtTtl255 ended) shown = IsShownFromUnless (ttl_of d flow == 255)
+    (net_of d flow) ended.flight.flight.carried (finding_value ended.travel.finding) shown
+IsShownFromAt255 d flow (FoundAtFlowTtl greatest least) shown = shown ≡ None
+
 -- The explanation of the finding of a domain's flow, by the flights of its packets.
 pub record IsExplanation (d : DomainValue) (summary : List SummaryValue) (excluded : List Bool)
     (whole : Bool) (flow : ℕ) (flights : ExaminedFlights) (x : Explanation) : Type 0 where
   pub printed : ArePrintedCauses whole d flow flights x.printed
   pub search : IsSearchAt255 (facts d) summary excluded flow flights x.search
   pub also : x.also ≡ also_missed (facts d) flow flights
+  pub known : x.certainty.known ≡ is_known_wrong whole x.search
+  pub shown : IsShownFromAt255 d flow flights x.certainty.shown_from

@@ -1,19 +1,19 @@
 -- The lines of one flow in an audit, as text or in JSON, after those of flows whose trees were printed.
-use Rattle.std.specs.Prelude.{ℕ, ◌==◌, ◌&&◌, not, Bool, true, false, List, [], ◌∷◌, length}
+use Rattle.std.specs.Prelude.{ℕ, ◌==◌, ◌&&◌, not, Bool, true, false, List, [], length, Option, Some, None}
 use Rattle.std.specs.Prelude.{if◌then◌else◌}
 use Rattle.mc_tables.specs.Summary.{SummaryValue}
-use Rattle.mc_topology.specs.Topology.{TopologyValue}
+use Rattle.mc_theory.specs.Nets.{Net}
 use Rattle.mc_forward.specs.ListedTables.{DomainFacts}
 use Rattle.mc_cert.specs.Certificate.{Tree}
 use Rattle.mc_cert.specs.Distinct.{with_tree}
 use Rattle.mc_replay.specs.declared.travel.Travel.{Travel}
 use Rattle.mc_maker.specs.declared.examination.Examined.{Examined}
 use Rattle.mc_maker.specs.declared.examination.Examined.TheVariants.{Certified, Found}
+use Rattle.mc_json.specs.TreeKey.{tree_key}
 use Rattle.mc_run.specs.AuditObjects.{right_objects, wrong_object}
 use Rattle.mc_run.specs.AuditText.{Explanation, right_lines, wrong_lines}
 use Rattle.mc_cli.specs.declared.audit_options.AuditOptions.{AuditOptions}
 use Rattle.mc_run.specs.declared.audit.flow_status.FlowStatus.{FlowStatus}
-use Rattle.mc_run.specs.declared.audit.flow_status.FlowStatus.TheVariants.{Wanted, Unwanted, Wrong}
 
 -- ---- a flow that is right
 
@@ -24,25 +24,26 @@ is_hidden faults wanted = faults && not (length wanted == 0)
 abbrev pub unless_hidden : (faults : Bool) → (wanted : List ℕ) → (lines : List ℕ) → List ℕ
 unless_hidden faults wanted lines = if is_hidden faults wanted then [] else lines
 
-abbrev pub right_lines_or_object : (json whole : Bool) → TopologyValue → (printed : List Tree)
+abbrev pub right_lines_or_object : (json whole : Bool) → DomainFacts → (printed : List Tree)
     → (flow : ℕ) → Tree → (wanted : List ℕ) → List ℕ
-right_lines_or_object true whole t printed flow es wanted = right_objects whole t printed flow es wanted
-right_lines_or_object false whole t printed flow es wanted = right_lines whole t flow (length es) wanted
+right_lines_or_object true whole d printed flow es wanted = right_objects whole d printed flow es wanted
+right_lines_or_object false whole d printed flow es wanted =
+    right_lines whole d.topology flow (length es) wanted
 
 -- the lines of a right flow with this tree, where the whole domain is known, or not
-abbrev pub right_flow_lines : AuditOptions → (whole : Bool) → TopologyValue → (printed : List Tree)
+abbrev pub right_flow_lines : AuditOptions → (whole : Bool) → DomainFacts → (printed : List Tree)
     → (flow : ℕ) → Tree → (wanted : List ℕ) → List ℕ
-right_flow_lines o whole t printed flow es wanted =
-    unless_hidden o.faults wanted (right_lines_or_object o.json whole t printed flow es wanted)
+right_flow_lines o whole d printed flow es wanted =
+    unless_hidden o.faults wanted (right_lines_or_object o.json whole d printed flow es wanted)
 
--- ---- a flow that isn't
+-- ---- a flow with a finding
 
 abbrev pub wrong_lines_or_object : (json travels : Bool) → DomainFacts → List SummaryValue
     → (flow ttl : ℕ) → Travel → Explanation → List ℕ
 wrong_lines_or_object true travels d summary flow ttl travel x =
     wrong_object travels d summary flow ttl travel x
 wrong_lines_or_object false travels d summary flow ttl travel x =
-    wrong_lines travels d summary flow ttl travel x
+    wrong_lines travels d summary flow travel x
 
 abbrev pub wrong_flow_lines : AuditOptions → DomainFacts → List SummaryValue → (flow ttl : ℕ) → Travel
     → Explanation → List ℕ
@@ -56,25 +57,37 @@ wrong_flow_lines o d summary flow ttl travel x =
 abbrev pub answer_lines : AuditOptions → (whole : Bool) → DomainFacts → List SummaryValue
     → (printed : List Tree) → (flow : ℕ) → Examined → Explanation → (wanted : List ℕ) → List ℕ
 answer_lines o whole d summary printed flow (Certified entries) x wanted =
-    right_flow_lines o whole d.topology printed flow entries.items wanted
+    right_flow_lines o whole d printed flow entries.items wanted
 answer_lines o whole d summary printed flow (Found ttl travel) x wanted =
     wrong_flow_lines o d summary flow ttl travel x
 
--- the printed trees after those of this flow; text prints none
-abbrev pub with_shown_tree : (json hidden : Bool) → List Tree → Tree → List Tree
-with_shown_tree true false printed es = with_tree printed es
-with_shown_tree _ _ printed es = printed
+-- the printed trees after those of this flow, each by its key; text prints none
+abbrev pub with_shown_tree : (json hidden : Bool) → List Tree → (key : Tree) → List Tree
+with_shown_tree true false printed key = with_tree printed key
+with_shown_tree _ _ printed key = printed
 
-abbrev pub shown_trees_with : AuditOptions → List Tree → Examined → (wanted : List ℕ) → List Tree
-shown_trees_with o printed (Certified entries) wanted =
-    with_shown_tree o.json (is_hidden o.faults wanted) printed entries.items
-shown_trees_with o printed (Found ttl travel) wanted = printed
+abbrev pub shown_trees_with : AuditOptions → Net → List Tree → Examined → (wanted : List ℕ) → List Tree
+shown_trees_with o n printed (Certified entries) wanted =
+    with_shown_tree o.json (is_hidden o.faults wanted) printed (tree_key n entries.items)
+shown_trees_with o n printed (Found ttl travel) wanted = printed
 
--- the status of a right flow, and of any flow
-abbrev pub status_of_right : (wanted : List ℕ) → FlowStatus
-status_of_right [] = Unwanted
-status_of_right (lan ∷ wanted) = Wanted
+-- ---- what is known of a flow
 
-abbrev pub status_of : Examined → (wanted : List ℕ) → FlowStatus
-status_of (Certified entries) wanted = status_of_right wanted
-status_of (Found ttl travel) wanted = Wrong
+-- without a finding it is right, if the whole domain is known; with one it isn't, if that is known
+abbrev pub known_right : (whole : Bool) → Examined → (known : Bool) → Option Bool
+known_right whole (Certified entries) known = if whole then Some true else None
+known_right whole (Found ttl travel) known = if known then Some false else None
+
+-- the status of a flow without a finding, of one with a finding, and of any flow
+abbrev pub status_of_right : (whole : Bool) → (wanted : List ℕ) → FlowStatus
+status_of_right whole wanted = record {
+  right = if whole then Some true else None;
+  unwanted = length wanted == 0;
+}
+
+abbrev pub status_of_wrong : (known : Bool) → FlowStatus
+status_of_wrong known = record { right = if known then Some false else None; unwanted = false }
+
+abbrev pub status_of : (whole : Bool) → Examined → (known : Bool) → (wanted : List ℕ) → FlowStatus
+status_of whole (Certified entries) known wanted = status_of_right whole wanted
+status_of whole (Found ttl travel) known wanted = status_of_wrong known

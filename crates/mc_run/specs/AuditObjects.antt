@@ -1,37 +1,47 @@
 -- The objects of a flow in the JSON of `mcaudit audit`, one a line, with the same facts as its text.
 use Rattle.std.specs.Prelude.{ℕ, Bool, List, [], ◌++◌, map, length, is_some, if◌then◌else◌}
 use Rattle.mc_tables.specs.Summary.{SummaryValue}
-use Rattle.mc_topology.specs.Topology.{TopologyValue, flow_at}
+use Rattle.mc_topology.specs.Topology.{flow_at}
 use Rattle.mc_forward.specs.ListedTables.{DomainFacts}
 use Rattle.mc_cert.specs.Certificate.{Tree}
 use Rattle.mc_cert.specs.Distinct.{find_tree, tree_number_of, with_tree}
 use Rattle.mc_replay.specs.declared.travel.Travel.{Travel}
 use Rattle.mc_json.specs.FlowData.{right_data, tree_data, wrong_line}
-use Rattle.mc_json.specs.RowData.{line_of}
-use Rattle.mc_json.specs.RowData.{lan_data}
+use Rattle.mc_json.specs.RowData.{lan_data, line_of}
+use Rattle.mc_json.specs.TreeKey.{tree_key}
 use Rattle.mc_json.specs.WhyData.{why_data}
 use Rattle.mc_run.specs.AuditText.{Explanation}
 
 -- ---- a flow that is right
 
+-- what a flow's tree is told apart by from those that were printed
+abbrev pub key_of_tree : DomainFacts → (flow : ℕ) → Tree → Tree
+key_of_tree d flow es = tree_key (d.nets flow) es
+
 -- the tree of a flow, unless it was printed before
-abbrev pub tree_line : TopologyValue → (printed : List Tree) → Tree → List ℕ
-tree_line t printed es =
-    if is_some (find_tree printed es) then [] else line_of (tree_data t es (length printed))
+abbrev pub tree_line : DomainFacts → (printed : List Tree) → (flow : ℕ) → Tree → List ℕ
+tree_line d printed flow es =
+    if is_some (find_tree printed (key_of_tree d flow es)) then []
+    else line_of (tree_data d.topology (d.nets flow) es (length printed))
+
+-- the number of a flow's tree, after those that were printed
+abbrev pub tree_number : DomainFacts → (printed : List Tree) → (flow : ℕ) → Tree → ℕ
+tree_number d printed flow es =
+    tree_number_of (with_tree printed (key_of_tree d flow es)) (key_of_tree d flow es)
 
 -- and after it the flow, with the number of its tree and the LANs that want it
-abbrev pub right_objects : (whole : Bool) → TopologyValue → (printed : List Tree) → (flow : ℕ) → Tree
+abbrev pub right_objects : (whole : Bool) → DomainFacts → (printed : List Tree) → (flow : ℕ) → Tree
     → (wanted : List ℕ) → List ℕ
-right_objects whole t printed flow es wanted =
-    tree_line t printed es
-    ++ line_of (right_data whole flow (flow_at t flow) (length es) (tree_number_of (with_tree printed es) es)
-    (map (lan_data t) wanted))
+right_objects whole d printed flow es wanted =
+    tree_line d printed flow es
+    ++ line_of (right_data whole flow (flow_at d.topology flow) (length es) (tree_number d printed flow es)
+    (map (lan_data d.topology) wanted))
 
--- ---- a flow that isn't
+-- ---- a flow with a finding
 
 -- the finding, why, the other missed LANs, and with the option the travel
 abbrev pub wrong_object : (travels : Bool) → DomainFacts → List SummaryValue → (flow ttl : ℕ) → Travel
     → Explanation → List ℕ
 wrong_object travels d summary flow ttl travel x =
-    wrong_line d flow (flow_at d.topology flow) ttl travel.finding travel.events.items x.also
+    wrong_line d flow (flow_at d.topology flow) x.certainty ttl travel.finding travel.events.items x.also
     (why_data d summary flow x.printed x.search) travels

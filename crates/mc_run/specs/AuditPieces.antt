@@ -11,14 +11,16 @@ use Rattle.mc_explain.specs.WantedText.{lans_wanting, missed_besides}
 use Rattle.mc_explain.specs.declared.causes.explanation.Explanation.{Explanation as ExplanationParts}
 use Rattle.mc_explain.specs.declared.searches.searching.LanSearch.{LanSearch}
 use Rattle.mc_explain.specs.declared.causes.Cause.{Cause}
+use Rattle.mc_explain.specs.declared.causes.explanation.Certainty.{Certainty}
 use Rattle.mc_input.specs.declared.domain.FolderDomain.{FolderDomain}
 use Rattle.mc_run.specs.AuditEnd.{FlowAnswer, count, end_objects, end_text, end_text_or_objects}
-use Rattle.mc_run.specs.AuditEnd.{is_right, is_unwanted, is_wrong}
-use Rattle.mc_run.specs.AuditObjects.{right_objects, wrong_object}
-use Rattle.mc_run.specs.AuditExplanation.{search_context}
+use Rattle.mc_run.specs.AuditEnd.{is_right, is_unknown, is_unwanted, is_wrong}
+use Rattle.mc_run.specs.AuditObjects.{key_of_tree, right_objects, wrong_object}
+use Rattle.mc_run.specs.AuditExplanation.{is_known_wrong, search_context}
 use Rattle.mc_run.specs.AuditRun.{IsFlowAnswer, AuditedValue, excluded, is_whole, trees_shown}
 use Rattle.mc_run.specs.AuditText.{Explanation, explanation_lines, right_lines, searched_lines, wrong_lines}
-use Rattle.mc_run.specs.AuditFlowText.{right_flow_lines, shown_trees_with, status_of, wrong_flow_lines}
+use Rattle.mc_run.specs.AuditFlowText.{right_flow_lines, shown_trees_with, status_of, status_of_right}
+use Rattle.mc_run.specs.AuditFlowText.{status_of_wrong, wrong_flow_lines}
 use Rattle.mc_cli.specs.declared.audit_options.AuditOptions.{AuditOptions}
 use Rattle.mc_run.specs.declared.audit.audited_domain.AuditedDomain.{AuditedDomain}
 use Rattle.mc_run.specs.declared.audit.audit_output.AuditAnswer.{AuditAnswer}
@@ -50,17 +52,32 @@ abbrev pub also_missed_of : FinishedTravel → List ℕ
 also_missed_of ended = missed_besides (facts ended.flight.domain) ended.flight.flow
     ended.flight.flight.carried ended.travel.finding
 
--- the explanation of a finished travel's finding, with these causes and this search
-abbrev pub explanation_in : FinishedTravel → List Cause → Option LanSearch → Explanation
-explanation_in ended printed search = record {
+-- how certain a finding is, by the search for a missed LAN and the TTL from which on packets show it, where
+-- the whole domain is known, or not
+abbrev pub certainty_of : (whole : Bool) → Option LanSearch → (shown_from : Option ℕ) → Certainty
+certainty_of whole search shown_from = record {
+  known = is_known_wrong whole search;
+  shown_from = shown_from;
+}
+
+-- the explanation of a finished travel's finding, with these causes, and by these
+abbrev pub explanation_in : (whole : Bool) → FinishedTravel → List Cause → Option LanSearch
+    → (shown_from : Option ℕ) → Explanation
+explanation_in whole ended printed search shown_from = record {
   printed = printed;
   search = search;
   also = also_missed_of ended;
+  certainty = certainty_of whole search shown_from;
 }
 
 -- an explanation as a value
 abbrev pub explanation_value : ExplanationParts → Explanation
-explanation_value x = record { printed = x.causes.now; search = x.search.now; also = x.also.now }
+explanation_value x = record {
+  printed = x.causes.now;
+  search = x.search.now;
+  also = x.also.now;
+  certainty = x.certainty;
+}
 
 -- The lines of a flow were appended, after those of flows whose trees were printed, and this is its
 -- status.
@@ -68,8 +85,8 @@ pub record IsFlowPushed (v : AuditedValue) (o : AuditOptions) (flow : ℕ) (flow
     (printed new_printed : List Tree) (old new : List ℕ) : Type 0 where
   pub answer : FlowAnswer
   pub is : IsFlowAnswer v o printed flow answer
-  pub matches : flow_status ≡ status_of answer.examined answer.wanted
-  pub shown_trees : new_printed ≡ shown_trees_with o printed answer.examined answer.wanted
+  pub matches : flow_status ≡ status_of (is_whole v) answer.examined is.explanation.certainty.known answer.wanted
+  pub shown_trees : new_printed ≡ shown_trees_with o answer.net printed answer.examined answer.wanted
   pub spelled : new ≡ old ++ answer.lines
 
 -- The lines of the first k flows were appended, and these are their counts and their trees.
@@ -81,6 +98,7 @@ pub record AreFlowsPushed (v : AuditedValue) (o : AuditOptions) (k : ℕ) (s : F
       → IsFlowAnswer v o (trees_shown o (take flow answers)) flow a
   pub right : s.right ≡ count is_right answers
   pub wrong : s.wrong ≡ count is_wrong answers
+  pub unknown : s.unknown ≡ count is_unknown answers
   pub unwanted : s.unwanted ≡ count is_unwanted answers
   pub shown_trees : printed ≡ trees_shown o answers
   pub spelled : new ≡ old ++ flat_map (λ a. a.lines) answers
@@ -97,22 +115,29 @@ AreAllFlowsPushed a o flow_counts old new = (printed : List Tree)
 abbrev pub lans_wanting_flow : AuditedDomain → (flow : ℕ) → List ℕ
 lans_wanting_flow a flow = lans_wanting (facts (audited_value a).domain) flow
 
+-- the status of a flow without a finding
+abbrev pub status_of_right_flow : AuditedDomain → (flow : ℕ) → FlowStatus
+status_of_right_flow a flow = status_of_right (is_whole (audited_value a)) (lans_wanting_flow a flow)
+
 -- a right flow, as text with its number of copies,
 abbrev pub right_lines_of : AuditedDomain → (flow copies : ℕ) → (wanted : List ℕ) → List ℕ
 right_lines_of a flow copies wanted =
     right_lines (is_whole (audited_value a)) (audited_value a).domain.topology flow copies wanted
 
--- in JSON, after the printed trees,
+-- in JSON, after the printed trees, of which this one has its key,
+abbrev pub key_of_shown_tree : AuditedDomain → (flow : ℕ) → Tree → Tree
+key_of_shown_tree a flow es = key_of_tree (facts (audited_value a).domain) flow es
+
 abbrev pub right_objects_of : AuditedDomain → (printed : List Tree) → (flow : ℕ) → Tree → (wanted : List ℕ)
     → List ℕ
 right_objects_of a printed flow es wanted =
-    right_objects (is_whole (audited_value a)) (audited_value a).domain.topology printed flow es wanted
+    right_objects (is_whole (audited_value a)) (facts (audited_value a).domain) printed flow es wanted
 
 -- and as the options ask
 abbrev pub right_flow_lines_of : AuditedDomain → AuditOptions → (printed : List Tree) → (flow : ℕ) → Tree
     → List ℕ
 right_flow_lines_of a o printed flow es = right_flow_lines o (is_whole (audited_value a))
-    (audited_value a).domain.topology printed flow es (lans_wanting_flow a flow)
+    (facts (audited_value a).domain) printed flow es (lans_wanting_flow a flow)
 
 -- the context of the search for a LAN that the packet of a finished travel missed
 abbrev pub search_context_of : AuditedDomain → (flow : ℕ) → FinishedTravel → Search
@@ -129,11 +154,10 @@ abbrev pub explanation_lines_of : AuditedDomain → (flow : ℕ) → Explanation
 explanation_lines_of a flow x =
     explanation_lines (facts (audited_value a).domain) (audited_value a).summary flow x
 
--- a wrong flow, by the finished travel of a packet with this TTL: as text,
-abbrev pub wrong_lines_of : AuditedDomain → (travels : Bool) → (flow ttl : ℕ) → Travel → Explanation
-    → List ℕ
-wrong_lines_of a travels flow ttl travel x =
-    wrong_lines travels (facts (audited_value a).domain) (audited_value a).summary flow ttl travel x
+-- a flow with a finding, by the finished travel that shows it, of a packet with this TTL: as text,
+abbrev pub wrong_lines_of : AuditedDomain → (travels : Bool) → (flow : ℕ) → Travel → Explanation → List ℕ
+wrong_lines_of a travels flow travel x =
+    wrong_lines travels (facts (audited_value a).domain) (audited_value a).summary flow travel x
 
 -- in JSON,
 abbrev pub wrong_object_of : AuditedDomain → (travels : Bool) → (flow ttl : ℕ) → Travel → Explanation
@@ -141,11 +165,22 @@ abbrev pub wrong_object_of : AuditedDomain → (travels : Bool) → (flow ttl : 
 wrong_object_of a travels flow ttl travel x =
     wrong_object travels (facts (audited_value a).domain) (audited_value a).summary flow ttl travel x
 
--- and as the options ask
+-- as the options ask,
+abbrev pub explained_lines_of : AuditedDomain → AuditOptions → (flow ttl : ℕ) → FinishedTravel → Explanation
+    → List ℕ
+explained_lines_of a o flow ttl ended x = wrong_flow_lines o (facts (audited_value a).domain)
+    (audited_value a).summary flow ttl ended.travel x
+
+-- and with these causes, and by these
 abbrev pub wrong_flow_lines_of : AuditedDomain → AuditOptions → (flow ttl : ℕ) → FinishedTravel → List Cause
-    → Option LanSearch → List ℕ
-wrong_flow_lines_of a o flow ttl ended causes search = wrong_flow_lines o (facts (audited_value a).domain)
-    (audited_value a).summary flow ttl ended.travel (explanation_in ended causes search)
+    → Option LanSearch → (shown_from : Option ℕ) → List ℕ
+wrong_flow_lines_of a o flow ttl ended causes search shown_from = wrong_flow_lines o (facts (audited_value a).domain)
+    (audited_value a).summary flow ttl ended.travel
+    (explanation_in (is_whole (audited_value a)) ended causes search shown_from)
+
+-- the status of a flow with a finding, by the search for the LAN that its packet missed, if there was one
+abbrev pub status_of_wrong_flow : AuditedDomain → Option LanSearch → FlowStatus
+status_of_wrong_flow a search = status_of_wrong (is_known_wrong (is_whole (audited_value a)) search)
 
 -- ---- the lines after the flows, with these counts
 
@@ -153,19 +188,19 @@ wrong_flow_lines_of a o flow ttl ended causes search = wrong_flow_lines o (facts
 abbrev pub end_text_of : AuditedDomain → AuditOptions → FlowCounts → (all : Bool) → List ℕ
 end_text_of a o s all = end_text o (audited_value a).domain.topology (audited_value a).summary
     a.excluded.now all
-    (length (audited_value a).domain.topology.flows) s.right s.wrong s.unwanted
+    (length (audited_value a).domain.topology.flows) s.right s.wrong s.unknown s.unwanted
 
 -- in JSON,
 abbrev pub end_objects_of : AuditedDomain → AuditOptions → FlowCounts → List ℕ
 end_objects_of a o s = end_objects o (audited_value a).domain.topology (audited_value a).summary
     a.excluded.now
-    s.right s.wrong s.unwanted
+    s.right s.wrong s.unknown s.unwanted
 
 -- and as the options ask
 abbrev pub end_text_or_objects_of : AuditedDomain → AuditOptions → FlowCounts → (all : Bool) → List ℕ
 end_text_or_objects_of a o s all = end_text_or_objects o (audited_value a).domain.topology
     (audited_value a).summary
-    a.excluded.now all (length (audited_value a).domain.topology.flows) s.right s.wrong s.unwanted
+    a.excluded.now all (length (audited_value a).domain.topology.flows) s.right s.wrong s.unknown s.unwanted
 
 -- ---- the output of an audit
 

@@ -8,10 +8,12 @@ use Rattle.mc_topology.specs.Topology.{TopologyValue, flow_at}
 use Rattle.mc_theory.specs.Certificates.{IsAccepted, IsRight}
 use Rattle.mc_theory.specs.Headline.{HeadlineHolds}
 use Rattle.mc_theory.specs.ExcludedRouters.{IsSecondCopyOrStray}
+use Rattle.mc_theory.specs.ShownFrom.{EachCompleteRunHasFault}
 use Rattle.mc_forward.specs.Domains.{DomainValue, net_of, ttl_of}
 use Rattle.mc_forward.specs.ListedTables.{facts}
 use Rattle.mc_cert.specs.Certificate.{Tree}
 use Rattle.mc_replay.specs.FindingValues.{finding_value}
+use Rattle.mc_replay.specs.declared.finding.Finding.{Finding}
 use Rattle.mc_replay.specs.declared.travel.Travel.{Travel}
 use Rattle.mc_maker.specs.Examined.{FindsFault, IfCertified, IsFirstPickTravel, IsTtlOfFault}
 use Rattle.mc_maker.specs.ExaminedFlights.{HasExaminedFlights, without_flights}
@@ -26,10 +28,11 @@ use Rattle.mc_json.specs.RowData.{line_of}
 use Rattle.mc_run.specs.AuditEnd.{FlowAnswer, are_right, begin_lines, count, end_lines, is_unwanted}
 use Rattle.mc_run.specs.AuditEnd.{excluded_marks, verdict_line}
 use Rattle.mc_run.specs.AuditExplanation.{IsExplanation}
-use Rattle.mc_run.specs.AuditText.{Explanation}
-use Rattle.mc_run.specs.AuditFlowText.{answer_lines, right_flow_lines, shown_trees_with, wrong_flow_lines}
+use Rattle.mc_run.specs.AuditText.{Explanation, found_flow_line}
+use Rattle.mc_run.specs.AuditFlowText.{answer_lines, known_right, right_flow_lines, shown_trees_with}
+use Rattle.mc_run.specs.AuditFlowText.{wrong_flow_lines}
 use Rattle.mc_run.specs.CheckRun.{IsLineStart, KeepsHeadline, WroteAtStart, WroteYes}
-use Rattle.mc_run.specs.MakeRun.{AreExamined, AreRight, IsExamined, certified_lists, no_certificate_line}
+use Rattle.mc_run.specs.MakeRun.{AreExamined, AreRight, IsExamined, certified_lists}
 use Rattle.mc_cli.specs.declared.audit_options.AuditOptions.{AuditOptions}
 use Rattle.mc_run.specs.declared.fault.RunFault.{RunFault}
 
@@ -56,26 +59,28 @@ pub record IsChecked (d : DomainValue) (flow : ℕ) (x : Examined) : Type 0 wher
   pub headline : IfCertified (λ es. HeadlineHolds (net_of d flow) (length es)) x
 
 -- What is printed of the flow with this number, after flows whose trees were printed: the result of its
--- examination, by the flights of its packets, what explains it, and the LANs that want the flow; and
--- the lines of all this.
+-- examination, by the flights of its packets, what explains it, whether the flow is then known to be right
+-- or not, and the LANs that want it; and the lines of all this.
 pub record IsFlowAnswer (v : AuditedValue) (o : AuditOptions) (printed : List Tree) (flow : ℕ)
     (a : FlowAnswer)
     : Type 0 where
   pub flights : ExaminedFlights
   pub explanation : Explanation
   pub listed : flow < length v.domain.topology.flows
+  pub net : a.net ≡ net_of v.domain flow
   pub has_flights : HasExaminedFlights v.domain flow flights
   pub examined : a.examined ≡ without_flights v.domain flow flights
   pub checked : IsChecked v.domain flow a.examined
   pub explained : IsExplanation v.domain v.summary (excluded v) (is_whole v) flow flights
       explanation
+  pub right : a.right ≡ known_right (is_whole v) a.examined explanation.certainty.known
   pub wanted : a.wanted ≡ lans_wanting (facts v.domain) flow
   pub spelled : a.lines ≡ answer_lines o (is_whole v) (facts v.domain) v.summary printed flow
       a.examined explanation a.wanted
 
 -- the trees that the lines of these flows print, each once, in the order of first use
 abbrev pub trees_shown : AuditOptions → List FlowAnswer → List Tree
-trees_shown o = fold (λ printed a. shown_trees_with o printed a.examined a.wanted) []
+trees_shown o = fold (λ printed a. shown_trees_with o a.net printed a.examined a.wanted) []
 
 -- an answer for each flow of the domain's topology, in order
 pub record AreFlowAnswers (v : AuditedValue) (o : AuditOptions) (answers : List FlowAnswer) : Type 0 where
@@ -118,7 +123,7 @@ abbrev pub IsAuditText : AuditOptions → (names : List (List ℕ)) → List Fil
 IsAuditText o names files all written =
     MeansDomainWhere (MeansAudited o names) (λ v. IsAudited v o all written) files
 
--- the number of the domain's flows that are right and wanted by no LAN
+-- the number of the domain's flows that are right, or without a finding, and wanted by no LAN
 pub record HasUnwanted (v : AuditedValue) (o : AuditOptions) (unwanted : ℕ) : Type 0 where
   pub answers : List FlowAnswer
   pub are_answers : AreFlowAnswers v o answers
@@ -126,20 +131,23 @@ pub record HasUnwanted (v : AuditedValue) (o : AuditOptions) (unwanted : ℕ) : 
 
 -- ---- what the text says of the flows
 
--- the lines of a flow that isn't right start with this, whatever the finding
-abbrev pub SaysNoCertificate : (json : Bool) → TopologyValue → (flow : ℕ) → (lines : List ℕ) → Type 0
-SaysNoCertificate true t flow lines =
-    (w : WrongFlow) × (lines ≡ line_of (wrong_data flow (flow_at t flow) w))
-SaysNoCertificate false t flow lines =
-    (more : List ℕ) × (lines ≡ no_certificate_line (flow_at t flow) ++ more)
+-- The lines of a flow that isn't right start with this, whatever the finding: that it is wrong, or, where
+-- routers are excluded, that this may be unknown.
+abbrev pub SaysFinding : (json whole : Bool) → TopologyValue → (flow : ℕ) → (lines : List ℕ) → Type 0
+SaysFinding true whole t flow lines = (w : WrongFlow) × (whole ≡ true → w.certainty.known ≡ true)
+    × (lines ≡ line_of (wrong_data flow (flow_at t flow) w))
+SaysFinding false whole t flow lines = (known : Bool) × (finding : Finding) × (more : List ℕ)
+    × (whole ≡ true → known ≡ true) × (lines ≡ found_flow_line t (flow_at t flow) known finding ++ more)
 
--- The lines of a flow say that it has a certificate, and which LANs want it, if it is right (nothing, if
--- it is wanted and only faults are asked for), and otherwise that it has none.
+-- The lines of a flow say that it is right, or without a fault that is known, and which LANs want it, if by
+-- the known tables it is right (nothing, if it is wanted and only faults are asked for), and otherwise
+-- that it has a finding.
 pub record SaysFlowRight (v : AuditedValue) (o : AuditOptions) (flow : ℕ) (lines : List ℕ) : Type 0 where
   pub right : IsRight (net_of v.domain flow) → (printed : List Tree) × (es : Tree)
-      × (lines ≡ right_flow_lines o (is_whole v) v.domain.topology printed flow es
+      × (lines ≡ right_flow_lines o (is_whole v) (facts v.domain) printed flow es
       (lans_wanting (facts v.domain) flow))
-  pub wrong : ¬ IsRight (net_of v.domain flow) → SaysNoCertificate o.json v.domain.topology flow lines
+  pub wrong : ¬ IsRight (net_of v.domain flow)
+      → SaysFinding o.json (is_whole v) v.domain.topology flow lines
 
 -- The text has for each flow lines that say whether it is right, and last whether all flows are right
 -- and no router is excluded.
@@ -171,12 +179,14 @@ pub record SaysYesOf (v : AuditedValue) (o : AuditOptions) (flow : ℕ) (lines :
   pub right : IsRight (net_of v.domain flow)
   pub accepted : IsAccepted (net_of v.domain flow) list
   pub headline : HeadlineHolds (net_of v.domain flow) (length list)
-  pub spelled : lines ≡ right_flow_lines o (is_whole v) v.domain.topology printed flow list
+  pub spelled : lines ≡ right_flow_lines o (is_whole v) (facts v.domain) printed flow list
       (lans_wanting (facts v.domain) flow)
 
--- The lines say that the flow has no certificate, and the finding, and this is true: the flow isn't
--- right, and the finding is that of a run of its net, the travel of a packet with the printed TTL. The
--- explanation is by the flights of the examination.
+-- The lines give the finding of the flow, and this is true: by the known tables the flow isn't right, and the
+-- finding is that of a run of its net, the travel of a packet with this TTL. The explanation is by the
+-- flights of the examination. Where a TTL is said from which on packets show the finding, each packet with
+-- that TTL or more carries two copies on the finding's LAN, or makes the stray, in each complete run in
+-- which no copy is lost.
 pub record SaysWhatIsFound (v : AuditedValue) (o : AuditOptions) (flow : ℕ) (lines : List ℕ)
     : Type 0 where
   pub ttl : ℕ
@@ -190,6 +200,8 @@ pub record SaysWhatIsFound (v : AuditedValue) (o : AuditOptions) (flow : ℕ) (l
   pub has_flights : HasExaminedFlights v.domain flow flights
   pub explained : IsExplanation v.domain v.summary (excluded v) (is_whole v) flow flights
       explanation
+  pub shown : (k t : ℕ) → explanation.certainty.shown_from ≡ Some k → k ≤ t
+      → EachCompleteRunHasFault (net_of v.domain flow) t (finding_value travel.finding)
   pub spelled : lines ≡ wrong_flow_lines o (facts v.domain) v.summary flow ttl travel explanation
 
 -- The text has for each flow, in order, lines that truly say the one or the other, and last the line

@@ -1,18 +1,20 @@
--- The lines of a flow in the text of `mcaudit audit`: that it is right and which LANs want it, or the
--- finding, what explains it, and with the option the travel that shows it.
+-- The lines of a flow in the text of `mcaudit audit`: that it is right and which LANs want it, or that it is
+-- wrong, or may be, by the finding, what explains that, and with the option the travel that shows it.
 use Rattle.std.specs.Prelude.{ℕ, Bool, true, false, List, [], ◌++◌, Option, Some, None, codes, decimal}
 use Rattle.mc_tables.specs.Summary.{SummaryValue}
 use Rattle.mc_topology.specs.declared.flow.Flow.{Flow}
 use Rattle.mc_topology.specs.Topology.{TopologyValue, flow_at}
 use Rattle.mc_forward.specs.ListedTables.{DomainFacts}
 use Rattle.mc_check.specs.declared.verdict.Verdict.TheVariants.{Yes}
+use Rattle.mc_replay.specs.TravelText.{finding_text}
+use Rattle.mc_replay.specs.declared.finding.Finding.{Finding}
 use Rattle.mc_replay.specs.declared.travel.Travel.{Travel}
 use Rattle.mc_lines.specs.ExplanationText.{causes_text}
 use Rattle.mc_lines.specs.ExplanationText.{search_text}
 use Rattle.mc_explain.specs.WantedText.{also_missed_text, wanted_text}
 use Rattle.mc_explain.specs.declared.searches.searching.LanSearch.{LanSearch}
 use Rattle.mc_explain.specs.declared.causes.Cause.{Cause}
-use Rattle.mc_run.specs.MakeRun.{found_lines}
+use Rattle.mc_explain.specs.declared.causes.explanation.Certainty.{Certainty}
 use Rattle.mc_run.specs.ReplayRun.{event_lines}
 use Rattle.mc_run.specs.VerdictText.{flow_line, flow_words}
 
@@ -29,14 +31,31 @@ abbrev pub right_lines : (whole : Bool) → TopologyValue → (flow copies : ℕ
 right_lines whole t flow copies wanted =
     right_line whole t (flow_at t flow) copies ++ wanted_text t wanted
 
--- ---- a flow that isn't
+-- ---- a flow with a finding
 
--- The explanation of a finding: its causes, the search if a LAN is missed at TTL 255, and the other
--- missed LANs.
+-- The explanation of a finding: its causes, the search if a LAN is missed at TTL 255, the other missed
+-- LANs, and how certain the finding is.
 pub record Explanation : Type 0 where
   pub printed : List Cause
   pub search : Option LanSearch
   pub also : List ℕ
+  pub certainty : Certainty
+
+-- that the flow is wrong, or, where that isn't known, unknown
+abbrev pub known_word : (known : Bool) → List ℕ
+known_word true = codes "wrong"
+known_word false = codes "unknown"
+
+-- the line of a flow with a finding
+abbrev pub found_flow_line : TopologyValue → Flow → (known : Bool) → Finding → List ℕ
+found_flow_line t f known finding = flow_words f
+    ++ (codes " " ++ (known_word known ++ (codes ": " ++ (finding_text t finding ++ codes "\n"))))
+
+-- from which TTL on packets show the finding, if that is said
+abbrev pub shown_from_text : Option ℕ → List ℕ
+shown_from_text None = []
+shown_from_text (Some ttl) =
+    codes "  shown by packets sent with ttl " ++ (decimal ttl ++ codes " or more\n")
 
 abbrev pub searched_lines : DomainFacts → List SummaryValue → (flow : ℕ) → Option LanSearch → List ℕ
 searched_lines d summary flow None = []
@@ -54,9 +73,10 @@ abbrev pub events_if_shown : (travels : Bool) → TopologyValue → Travel → L
 events_if_shown true t travel = event_lines t travel.events.items
 events_if_shown false t travel = []
 
--- the finding, what explains it, and with the option the travel that shows it
-abbrev pub wrong_lines : (travels : Bool) → DomainFacts → List SummaryValue → (flow ttl : ℕ) → Travel
+-- the finding, who shows it, what explains it, and with the option the travel that shows it
+abbrev pub wrong_lines : (travels : Bool) → DomainFacts → List SummaryValue → (flow : ℕ) → Travel
     → Explanation → List ℕ
-wrong_lines travels d summary flow ttl travel x =
-    found_lines d.topology (flow_at d.topology flow) ttl travel.finding
-    ++ (explanation_lines d summary flow x ++ events_if_shown travels d.topology travel)
+wrong_lines travels d summary flow travel x =
+    found_flow_line d.topology (flow_at d.topology flow) x.certainty.known travel.finding
+    ++ (shown_from_text x.certainty.shown_from
+    ++ (explanation_lines d summary flow x ++ events_if_shown travels d.topology travel))

@@ -154,16 +154,17 @@ fn audit_files<F: PieceSource>(
 /// each certificate list that results.
 ///
 /// For each flow, in order, it writes the checker's yes with the number of copies and the LANs that
-/// want the flow, or that the flow has no certificate, what a packet of it meets, and why. After the
-/// flows come the unlisted sources and groups of the caches and the numbers of right and wrong flows,
-/// and last `verdict yes` or `verdict no`. The options add lines, leave some away, or choose JSON, one
-/// object a line.
+/// want the flow, or that the flow is wrong, what a packet of it meets, from which TTL on packets show
+/// that, and why. After the flows come the unlisted sources and groups of the caches and the numbers of
+/// right, wrong and unknown flows, and last `verdict yes` or `verdict no`. The options add lines, leave
+/// some away, or choose JSON, one object a line.
 ///
 /// The routers of the names `without` are excluded: their files aren't opened, their tables aren't
-/// known, and the verdict is no, since a yes is only given for a whole domain.
+/// known, and the verdict is no, since a yes is only given for a whole domain. Of a flow without a finding,
+/// and of one of which a LAN is missed where such a router may send, it isn't known whether it is right.
 ///
-/// It returns whether all flows are right and no router is excluded, and how many flows are right but
-/// wanted by no LAN.
+/// It returns whether all flows are right and no router is excluded, and how many flows have no finding
+/// and are wanted by no LAN.
 ///
 /// # Errors
 ///
@@ -187,11 +188,12 @@ pub fn run_audit<F: PieceSource, W: Output>(
     // After an answer, its text is written whole.
     ensures written { IsWrittenWhole (IsAuditText options (map (λ name. name.now) without.now))
         (F.contents files.old) (yes_of result) (W.written output.old) (W.written output.new) }
-    // The text says of a flow that it has no certificate exactly where the flow isn't right, and ends
-    // with yes exactly where every listed flow is right and no router is excluded.
+    // The text says of a flow that it is wrong exactly where the flow isn't right, with routers excluded
+    // that it is wrong or unknown, and ends with yes exactly where every listed flow is right and no
+    // router is excluded.
     ensures right { IsWrittenWhole (SaysWhichAreRight options (map (λ name. name.now) without.now))
         (F.contents files.old) (yes_of result) (W.written output.old) (W.written output.new) }
-    // The answer has the number of flows that are right but wanted by no LAN.
+    // The answer has the number of flows without a finding that are wanted by no LAN.
     ensures unwanted { IfOk result (λ answer. IfSome (F.contents files.old)
         (MeansDomainWhere (MeansAudited options (map (λ name. name.now) without.now))
         (λ v. HasUnwanted v options answer.unwanted))) }
@@ -200,7 +202,8 @@ pub fn run_audit<F: PieceSource, W: Output>(
         WritesPart (IsAuditText options (map (λ name. name.now) without.now)) contents
         (W.written output.old) (W.written output.new)) }
     // The lines of each flow, in a whole text or in a part, are true: a yes of the checker, for which
-    // the headline holds, or the finding of a run of the flow's net, and what explains it.
+    // the headline holds, or the finding of a run of the flow's net, from which TTL on each complete run
+    // without loss has it, and what explains it.
     ensures each { IsWrittenWhole (SaysOfEach options (map (λ name. name.now) without.now))
         (F.contents files.old) (yes_of result) (W.written output.old) (W.written output.new) }
     ensures each_in_part { result ≡ Err RunFault.Write → IfSome (F.contents files.old) (λ contents.

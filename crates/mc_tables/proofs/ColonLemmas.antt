@@ -1,6 +1,6 @@
 -- A word's parts around its colons.
 use Rattle.std.proofs.Common.{◌≡◌, ℕ, suc, ◌+◌, ◌≤◌, Bool, true, false, cond, ltb, List, [], ◌∷◌}
-use Rattle.std.proofs.Common.{length, Option, Some, None, refl, ◌∙◌, arith}
+use Rattle.std.proofs.Common.{length, Option, Some, None, refl, arith}
 use Rattle.std.specs.Prelude.{not, position, is_some, unwrap_or}
 use Rattle.std.specs.List.{position_or_len, prefix_len}
 use Rattle.std.proofs.lemmas.Bool.{ltb-false}

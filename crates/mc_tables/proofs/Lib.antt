@@ -36,5 +36,6 @@ pub mod SummaryStepLemmas
 pub mod SummaryLemmas
 pub mod SummaryRuleLemmas
 pub mod ListedPartLemmas
+pub mod TextPairLemmas
 pub mod TableRuleLemmas
 pub mod LawLemmas

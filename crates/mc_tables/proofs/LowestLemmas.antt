@@ -361,6 +361,24 @@ contains-found q (p ∷ ps) is =
           (suc later.0, omega (arith, later.1), later.2)
     ] refl is
 
+-- the keys of the entries are the entries
+as_keys-map_keys : (es : List ((ℕ × ℕ) × Unit {0})) → as_keys (map (λ e. e.0) es) ≡ es
+as_keys-map_keys [] = refl
+as_keys-map_keys (e ∷ es) = ap (λ (ys : List ((ℕ × ℕ) × Unit {0})). e ∷ ys) (as_keys-map_keys es)
+
+-- the same keys are found in order
+pub find-in_order : (q : ℕ × ℕ) (ps : List (ℕ × ℕ))
+    → fin.find key_cmp q (as_keys (in_order ps)) ≡ fin.find key_cmp q (as_keys ps)
+find-in_order q ps =
+    let m = fin.from_entries {R = key_cmp} (as_keys ps) in
+    ap (fin.find key_cmp q) (as_keys-map_keys (fin.entries m)) ∙ sym (fin.get-entries m q)
+    ∙ fin.get-from_entries key_cmp-total (as_keys ps) q
+
+-- a pair that is in the list is among its pairs in order
+pub contains-in_order : (q : ℕ × ℕ) (ps : List (ℕ × ℕ)) → Contains ps q → Contains (in_order ps) q
+contains-in_order q ps there =
+    contains-found q (in_order ps) (find-in_order q ps ∙ find-contained q ps there.0 there.1 there.2)
+
 -- two marks are equal if each is there where the other is
 pub marks-equal_from_both : (a b : Option (Unit {0})) → (a ≡ Some (tt {0}) → b ≡ Some (tt {0}))
     → (b ≡ Some (tt {0}) → a ≡ Some (tt {0})) → a ≡ b

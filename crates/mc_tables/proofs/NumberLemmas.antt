@@ -1,6 +1,6 @@
 -- The numbers of listed keys.
 use Rattle.std.proofs.Common.{◌≡◌, ℕ, zero, suc, ◌+◌, ◌<◌, true, false, cond, List, [], ◌∷◌}
-use Rattle.std.proofs.Common.{◌++◌, length, get_or, Option, Some, None, refl, sym}
+use Rattle.std.proofs.Common.{◌++◌, length, get_or, Some, None, refl, sym}
 use Rattle.std.proofs.Common.{add-one, ap, subst, ◌∙◌, inl, inr, arith}
 use Rattle.std.specs.Prelude.{◌≢◌, is_some, replicate, slice_set}
 use Rattle.std.specs.FinSet as set
@@ -11,11 +11,9 @@ use Rattle.std.proofs.lemmas.List.Folds.{list_any_at}
 use Rattle.std.proofs.lemmas.Map.Keys.{IsDistinct-head, IsDistinct-tail}
 use Rattle.mc_text.proofs.Lists.{AllByRecursion-get_or}
 use Rattle.mc_tables.specs.CacheTable.{key_cmp, same_key}
-use Rattle.mc_tables.specs.CacheNumbers.{IsNumberInserted, IsPlaceOf, EntryNumbersValue, AddsNumber}
-use Rattle.mc_tables.specs.CacheNumbers.{numbers_at_places, listed_or_all}
+use Rattle.mc_tables.specs.CacheNumbers.{IsPlaceOf, EntryNumbersValue, AddsNumber}
+use Rattle.mc_tables.specs.CacheNumbers.{numbers_at_places}
 use Rattle.mc_tables.specs.CacheNumbers.{number_of_key, decoded_number}
-use Rattle.mc_tables.specs.declared.listed.listed_entry_numbers.Inserted.TheVariants.{New}
-use Rattle.std.specs.BTreeMap.{is_at}
 use Rattle.mc_tables.specs.ListedRows.{set_has_key}
 use Rattle.mc_tables.proofs.CacheLemmas.{key_cmp-total, same_key-equivalence}
 use Rattle.mc_tables.proofs.UnlistedRowLemmas.{same_key-equal}
@@ -178,21 +176,3 @@ listed_numbers_value-append_zeros keys ns more zeros s is kept =
       numbers = l;
     } in t) (ap (numbers_at_places keys) is ∙ numbers_at_places-append_zeros keys ns zeros)
     ∙ kept
-
--- ---- where all keys can have a number
-
--- a key that has no number gets this one
-pub number_inserted-all_listed : (listed : Option EntryNumbersValue) (all more : List ((ℕ × ℕ) × ℕ))
-    (key : ℕ × ℕ) (n : ℕ)
-    (s : EntryNumbersValue) → listed ≡ None → listed_or_all listed all ≡ s → number_of_key all key ≡ None
-    → AddsNumber key n all more → IsNumberInserted key n s (listed_or_all listed more) New
-number_inserted-all_listed (Some keys) all more key n s is kept none listed_numbers_value-append_zeros =
-    absurd cc
-number_inserted-all_listed None all more key n s is kept none listed_numbers_value-append_zeros = (
-  ap (λ (t : EntryNumbersValue). set_has_key t.listed key) (sym kept),
-  ap (λ (t : EntryNumbersValue). number_of_key t.numbers key) (sym kept) ∙ none,
-  ap (λ (t : EntryNumbersValue). t.listed) kept,
-  λ q. listed_numbers_value-append_zeros q
-      ∙ ap (λ (t : EntryNumbersValue). cond (is_at (key_cmp key) q) (Some n) (number_of_key t.numbers q))
-      kept,
-)

@@ -1,9 +1,9 @@
 -- The lines of a text that comes in pieces.
 use Rattle.std.proofs.Common.{◌≡◌, ℕ, ◌+◌, ◌<◌, ◌≤◌, true, false, eqb, cond, List, [], ◌∷◌, ◌++◌}
 use Rattle.std.proofs.Common.{length, take, drop, Some, Result, Ok, Err, refl}
-use Rattle.std.proofs.Common.{sym, ap, ◌∙◌, arith, inl, inr}
+use Rattle.std.proofs.Common.{sym, ap, ◌∙◌, arith, eq-eqb, inl, inr}
 use Rattle.std.specs.Prelude.{nat_lt, position}
-use Rattle.std.proofs.lemmas.Bool.{cases_Bool, eqb-true, ltb-true, ltb-false}
+use Rattle.std.proofs.lemmas.Bool.{false_from_ne_true, cases_Bool, eqb-true, ltb-true, ltb-false}
 use Rattle.std.proofs.lemmas.Bool.Decides.{nat_tests}
 use Rattle.std.proofs.lemmas.List.{append-nil, length-append, nil_from_length}
 use Rattle.mc_text.specs.Lines.{LineText, HasNoLineFeed, lines_from}
@@ -21,6 +21,7 @@ use Rattle.mc_tables.specs.TableLines.{lines_after_header}
 use Rattle.mc_tables.specs.LinesSoFar.{LinesSoFar, IsValidLinesSoFar, with_begun}
 use Rattle.mc_tables.specs.LinesSoFar.{with_ended, line_begun, lines_to_come, read_after, header_line}
 use Rattle.mc_tables.specs.LinesSoFar.{line_after, check_end_of_lines, ReadsInSteps}
+use Rattle.mc_tables.specs.TableSoFar.{whole_if}
 
 -- the state keeps its rules when bytes are taken
 pub lines_so_far-with_begun : (lines : LinesSoFar) (size : ℕ) (bytes : List ℕ) → IsValidLinesSoFar lines
@@ -151,10 +152,10 @@ lines_to_come-none lines none =
 module _ {A : Type 0} (first : List ℕ) (read : List LineText → Result A TableFault) where
   -- a text that ends in its header
   pub read_after-no_header : (lines : LinesSoFar) (then : Result A TableFault)
-      → HasNoLineFeed lines.begun → eqb lines.ended 0 ≡ true
+      → HasNoLineFeed lines.begun → lines.ended ≡ 0
       → read_after first read lines [] ≡ (check_end_of_lines lines >>= λ _. then)
-  read_after-no_header lines then without none =
-      let zero_is : lines.ended ≡ 0 = eqb-true lines.ended 0 none in
+  read_after-no_header lines then without zero_is =
+      let none = eq-eqb lines.ended 0 zero_is in
       elim (cases_Bool (eqb (length lines.begun) 0)) [
         | inl empty ↦
             ap (λ all. cond (eqb lines.ended 0) (lines_after_header first all >>= read) (read all))
@@ -167,51 +168,44 @@ module _ {A : Type 0} (first : List ℕ) (read : List LineText → Result A Tabl
       ]
 
   -- a text that ends in a later line
-  pub read_after-end_in_line : (lines : LinesSoFar) → HasNoLineFeed lines.begun → eqb lines.ended 0 ≡ false
-      → eqb (length lines.begun) 0 ≡ false
+  pub read_after-unended : (lines : LinesSoFar) (fault : TableFault) → HasNoLineFeed lines.begun
+      → (lines.ended ≡ 0 → ⊥) → check_end_of_lines lines ≡ Err fault
       → read_after first read lines [] ≡ read (last_line lines ∷ [])
-  read_after-end_in_line lines without later begun =
-      ap (λ all. cond (eqb lines.ended 0) (lines_after_header first all >>= read) (read all))
-      (lines_to_come-begun lines without begun)
-      ∙ rw later refl
-
-  -- a text that ends after a line
-  pub read_after-end_after_line : (lines : LinesSoFar) → eqb lines.ended 0 ≡ false
-      → eqb (length lines.begun) 0 ≡ true → read_after first read lines [] ≡ read []
-  read_after-end_after_line lines later none =
-      ap (λ all. cond (eqb lines.ended 0) (lines_after_header first all >>= read) (read all))
-      (lines_to_come-none lines none)
-      ∙ rw later refl
+  read_after-unended lines fault without some is =
+      let later = false_from_ne_true (eqb lines.ended 0) (λ none. some (eqb-true lines.ended 0 none)) in
+      elim (cases_Bool (eqb (length lines.begun) 0)) [
+        | inl empty ↦ absurd (let wrong = rw (empty, later) at is in cc)
+        | inr begun ↦
+            ap (λ all. cond (eqb lines.ended 0) (lines_after_header first all >>= read) (read all))
+            (lines_to_come-begun lines without begun)
+            ∙ rw later refl
+      ]
 
 -- ---- a text in one piece
 
--- What reading ends with if these bytes come, before a piece and after it. Before the piece it is what
--- the whole text is read as.
-module _ {A : Type 0} (before behind : List ℕ → Result A TableFault) (whole : Result A TableFault)
-    (text : List ℕ) (size : ℕ) (none : size ≡ 0)
-    (reads : length text ≤ 16777216 → before text ≡ whole)
-    (goes_on : size + length (text ++ []) ≤ 16777216 → behind [] ≡ before (text ++ [])) where
-  only_piece : length text ≤ 16777216 → behind [] ≡ whole
-  only_piece fits = goes_on (omega (arith, fits, none, length-append text []))
-      ∙ ap before (append-nil text) ∙ reads fits
+-- What is answered after the only piece of a text is what the whole text is read as, by what reading
+-- ends with before and after the piece.
+pub whole_if-only_piece : {A : Type 0} (before behind : List ℕ → Result A TableFault) (text : List ℕ)
+    (size : ℕ) (answer : Result A TableFault) → size ≡ 0
+    → (size + length (text ++ []) ≤ 16777216 → behind [] ≡ before (text ++ [])) → answer ≡ behind []
+    → (16777216 < size + length text → answer ≡ Err (fault_at 0 TooLarge)) → answer ≡ whole_if before text
+whole_if-only_piece before behind text size answer none goes_on is too_large =
+    elim (cases_Bool (nat_lt 16777216 (length text))) [
+      | inl more ↦
+          let large = ltb-true 16777216 (length text) more in
+          rw more (too_large (omega (arith, large, none)))
+      | inr fits ↦
+          let within = ltb-false 16777216 (length text) fits in
+          rw fits (is ∙ goes_on (omega (arith, within, none, length-append text []))
+          ∙ ap before (append-nil text))
+    ]
 
-  -- a fault of the only piece is that of the text
-  pub whole_refused : (fault : TableFault)
-      → (nat_lt 16777216 (length text) ≡ true → whole ≡ Err (fault_at 0 TooLarge))
-      → behind [] ≡ Err fault → (16777216 < size + length text → fault ≡ fault_at 0 TooLarge)
-      → whole ≡ Err fault
-  whole_refused fault over is too_large = elim (cases_Bool (nat_lt 16777216 (length text))) [
-    | inl more ↦
-        let large = ltb-true 16777216 (length text) more in
-        over more ∙ ap Err (sym (too_large (omega (arith, large, none))))
-    | inr fits ↦ sym (only_piece (ltb-false 16777216 (length text) fits)) ∙ is
-  ]
-
-  -- a text of only one piece is read whole
-  pub whole_taken : (16777216 < size + length text → ⊥) → behind [] ≡ whole
-  whole_taken small = elim (cases_Bool (nat_lt 16777216 (length text))) [
-    | inl more ↦
-        let large = ltb-true 16777216 (length text) more in
-        absurd (small (omega (arith, large, none)))
-    | inr fits ↦ only_piece (ltb-false 16777216 (length text) fits)
-  ]
+-- what a whole text is read as, if each text within the limit is, and a larger one is refused
+pub whole_if-is : {A : Type 0} (read : List ℕ → Result A TableFault) (text : List ℕ)
+    (whole : Result A TableFault) → (length text ≤ 16777216 → read text ≡ whole)
+    → (nat_lt 16777216 (length text) ≡ true → whole ≡ Err (fault_at 0 TooLarge))
+    → whole_if read text ≡ whole
+whole_if-is read text whole reads over = elim (cases_Bool (nat_lt 16777216 (length text))) [
+  | inl more ↦ rw more (sym (over more))
+  | inr fits ↦ rw fits (reads (ltb-false 16777216 (length text) fits))
+]

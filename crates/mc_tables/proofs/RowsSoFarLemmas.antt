@@ -1,6 +1,6 @@
 -- Reading a cache in pieces, of which the rows of listed sources and groups are kept.
 use Rattle.std.proofs.Common.{◌≡◌, ℕ, ◌+◌, ◌≤◌, Bool, true, false, cond, eqb, List, [], ◌∷◌, ◌++◌}
-use Rattle.std.proofs.Common.{length, arith, Option, Some, None, Result, Ok, Err, refl, sym, ap, subst}
+use Rattle.std.proofs.Common.{length, arith, Some, None, Result, Ok, Err, refl, sym, ap, subst}
 use Rattle.std.proofs.Common.{◌∙◌, inl, inr}
 use Rattle.std.specs.Prelude.{◌⊎◌, nat_lt, not, filter, map, codes}
 use Rattle.std.specs.List.{filter_map, cons_option, list_any, slice_split}
@@ -18,26 +18,23 @@ use Rattle.mc_tables.specs.declared.fault.TableFaultKind.TheVariants.{TooLarge}
 use Rattle.mc_text.specs.Steps.{◌>>=◌}
 use Rattle.mc_tables.specs.Steps.{demand, at_line}
 use Rattle.mc_tables.specs.TableLines.{is_among, lines_after_header, rows_after}
-use Rattle.mc_text.specs.Lines.{HasNoLineFeed}
-use Rattle.mc_tables.specs.LinesSoFar.{LinesSoFar, header_line, ReadsInSteps}
+use Rattle.mc_tables.specs.LinesSoFar.{header_line, ReadsInSteps}
 use Rattle.mc_tables.specs.CacheTable.{RowValue, CacheValue, same_key}
 use Rattle.mc_tables.specs.CacheTable.{key_of, table_of}
 use Rattle.mc_tables.specs.CacheReading.{row_in_words, entry_repeats, row_in_line, row_at_line}
-use Rattle.mc_tables.specs.CacheReading.{cache_rows_in, cache_in}
 use Rattle.mc_tables.specs.CacheSteps.{row_with_room, row_added}
-use Rattle.mc_tables.specs.ListedRows.{Listed, is_kept_key, is_kept, kept_rows, listed_in}
+use Rattle.mc_tables.specs.ListedRows.{Listed, is_kept, kept_rows, listed_in}
 use Rattle.mc_tables.specs.ListedRows.{listed_set, is_kept_by_set}
 use Rattle.mc_tables.specs.UnlistedRows.{UnlistedRow, first_repeat, repeat_fault}
+use Rattle.mc_tables.specs.RowsSoFar.{refusal_at, first_of_faults}
 use Rattle.mc_tables.specs.RowsSoFar.{RowsSoFar, unlisted_added, kept_added, any_row_added, ListedRowsSoFar}
 use Rattle.mc_tables.specs.RowsSoFar.{rows_start, row_added_so_far, line_added, first_fault, row_step}
-use Rattle.mc_tables.specs.RowsSoFar.{table_from, cache_after, rows_end, cache_start, cache_if}
+use Rattle.mc_tables.specs.RowsSoFar.{table_from, cache_start, cache_if}
 use Rattle.mc_text.proofs.StepLemmas.{bind_ok, ok_injective}
 use Rattle.mc_tables.proofs.CacheStepLemmas.{row_added-table_of}
 use Rattle.mc_tables.proofs.ListedLemmas.{is_kept_by_set-listed_set}
 use Rattle.mc_tables.proofs.UnlistedRowLemmas.{first_repeat-none, AreBefore, are_before-next, are_before-push}
 use Rattle.mc_tables.proofs.UnlistedRowLemmas.{first_repeat-stays, first_repeat-begins}
-use Rattle.mc_tables.proofs.PieceLemmas.{read_after-no_header, read_after-end_in_line}
-use Rattle.mc_tables.proofs.PieceLemmas.{read_after-end_after_line}
 use Rattle.mc_tables.proofs.KeptRowLemmas.{is_among-kept_rows, any_key-unlisted_rows, key_of-unlisted_row}
 use Rattle.mc_tables.proofs.KeptRowLemmas.{unlisted_row_keys}
 
@@ -386,57 +383,14 @@ cache_if-start order listed text within =
     (lines_after_header (codes "Group") (lines_of text)) >>= rows_after (row_at_line order) [])
     >>= λ all. Ok (table_of (kept_rows listed all))) (sym fits)
 
--- the fault of a last line that isn't ended
-abbrev unended_fault : {A : Type 0} → LinesSoFar → Result A TableFault
-unended_fault lines = Err (record { line = lines.ended + 1; kind = Unended })
-
--- what a text that ends here is read as
-pub cache_after-end : (lines : LinesSoFar) (so_far : ListedRowsSoFar) → HasNoLineFeed lines.begun
-    → cache_after lines so_far [] ≡ (rows_end lines so_far >>= λ _. Ok so_far.rows.table)
-cache_after-end lines so_far without =
-    let read = table_from so_far in
-    elim (cases_Bool (eqb lines.ended 0)) [
-      | inl none ↦
-          read_after-no_header (codes "Group") read lines (Ok so_far.rows.table) without none
-          ∙ rw none refl
-      | inr later ↦ elim (cases_Bool (eqb (length lines.begun) 0)) [
-        | inl none ↦ read_after-end_after_line (codes "Group") read lines later none
-            ∙ rw (later, none) (elim (first_repeat so_far.rows.others) as (λ o.
-            (repeat_fault o >>= λ _. Ok so_far.rows.table)
-            ≡ ((repeat_fault o >>= λ _. (let u : Result (Unit {0}) TableFault = Ok tt in u))
-            >>= λ _. Ok so_far.rows.table)) [
-              | None ↦ refl
-              | Some line ↦ refl
-            ])
-        | inr begun ↦ read_after-end_in_line (codes "Group") read lines without later begun
-            ∙ rw (later, begun) (elim (first_repeat so_far.rows.others) as (λ o.
-            ((repeat_fault o >>= λ _. unended_fault {A = ListedRowsSoFar} lines) >>= λ more. table_from more
-            [])
-            ≡ ((repeat_fault o >>= λ _. unended_fault {A = Unit {0}} lines)
-            >>= λ _. Ok so_far.rows.table)) [
-              | None ↦ refl
-              | Some line ↦ refl
-            ])
-      ]
+-- a line that isn't ended is refused, if no earlier row repeats another
+pub table_from-unended : (so_far : ListedRowsSoFar) (number : ℕ) (bytes : List ℕ)
+    → table_from so_far (record { number = number; bytes = bytes; ended = false } ∷ [])
+    ≡ Err (refusal_at so_far.rows.others number Unended)
+table_from-unended so_far number bytes = elim (first_repeat so_far.rows.others) as (λ o.
+    ((repeat_fault o >>= λ _. let refused : Result ListedRowsSoFar TableFault =
+    Err (record { line = number; kind = Unended }) in refused) >>= λ more. table_from more [])
+    ≡ Err (first_of_faults (repeat_fault o) (record { line = number; kind = Unended }))) [
+      | None ↦ refl
+      | Some line ↦ refl
     ]
-
--- where all keys are listed each is
-is_kept_key-all_listed : (own : Option (ℕ × ℕ)) → is_kept_key None own ≡ true
-is_kept_key-all_listed None = refl
-is_kept_key-all_listed (Some key) = refl
-
--- where all keys are listed all rows are kept
-kept_rows-all_listed : (rows : List RowValue) → kept_rows None rows ≡ rows
-kept_rows-all_listed [] = refl
-kept_rows-all_listed (row ∷ rows) =
-    ap (λ b. cond b (row ∷ kept_rows None rows) (kept_rows None rows)) (is_kept_key-all_listed (key_of row))
-    ∙ ap (λ (rest : List RowValue). row ∷ rest) (kept_rows-all_listed rows)
-
--- so the table is that of all rows
-table_of_kept-all_listed : (rows : Result (List RowValue) TableFault)
-    → (rows >>= λ all. Ok (table_of (kept_rows None all))) ≡ (rows >>= λ all. Ok (table_of all))
-table_of_kept-all_listed (Err fault) = refl
-table_of_kept-all_listed (Ok rows) = ap (λ all. Ok (table_of all)) (kept_rows-all_listed rows)
-
-pub listed_in-all : (order : Order) (text : List ℕ) → listed_in order None text ≡ cache_in order text
-listed_in-all order text = table_of_kept-all_listed (cache_rows_in order text)

@@ -1,5 +1,5 @@
 -- A cache that is read with a summary of its rows.
-use Rattle.std.proofs.Common.{◌≡◌, ℕ, ◌+◌, ◌≤◌, Bool, true, false, cond, eqb, List, [], ◌∷◌, ◌++◌}
+use Rattle.std.proofs.Common.{◌≡◌, ℕ, ◌+◌, ◌≤◌, Bool, true, false, cond, List, [], ◌∷◌, ◌++◌}
 use Rattle.std.proofs.Common.{length}
 use Rattle.std.proofs.Common.{drop, Option, Some, None, Result, Ok, Err, refl, sym, ap, subst, ◌∙◌, inl, inr}
 use Rattle.std.specs.Prelude.{◌&&◌, ◌||◌, not, nat_lt, filter, is_some, map as map_list, codes}
@@ -21,8 +21,7 @@ use Rattle.mc_tables.specs.declared.fault.TableFaultKind.TheVariants.{RepeatedEn
 use Rattle.mc_tables.specs.declared.summary.summarized_cache.SummarizedCache.{SummarizedCache}
 use Rattle.mc_tables.specs.Steps.{at_line, demand}
 use Rattle.mc_tables.specs.TableLines.{lines_after_header, rows_after}
-use Rattle.mc_text.specs.Lines.{HasNoLineFeed}
-use Rattle.mc_tables.specs.LinesSoFar.{LinesSoFar, header_line, lines_to_come, lines_start}
+use Rattle.mc_tables.specs.LinesSoFar.{header_line}
 use Rattle.mc_tables.specs.LinesSoFar.{ReadsInSteps}
 use Rattle.mc_tables.specs.CacheTable.{CacheValue, EntryValue, RowValue, key_cmp, key_of, same_key}
 use Rattle.mc_tables.specs.CacheTable.{table_of}
@@ -31,8 +30,8 @@ use Rattle.mc_tables.specs.CacheReading.{cache_rows_in, entry_repeats, row_at_li
 use Rattle.mc_tables.specs.CacheSteps.{row_with_room}
 use Rattle.mc_tables.specs.ListedRows.{set_has_key, is_listed, kept_rows, listed_in, listed_set}
 use Rattle.mc_tables.specs.UnlistedRows.{UnlistedRow, without_repeat}
-use Rattle.mc_tables.specs.RowsSoFar.{ListedRowsSoFar, RowsSoFar, cache_after, first_fault, line_added}
-use Rattle.mc_tables.specs.RowsSoFar.{row_added_so_far, any_row_added, row_step, rows_end, table_from}
+use Rattle.mc_tables.specs.RowsSoFar.{ListedRowsSoFar, RowsSoFar, first_fault, line_added}
+use Rattle.mc_tables.specs.RowsSoFar.{row_added_so_far, any_row_added, row_step, table_from}
 use Rattle.mc_tables.specs.Summary.{every_source_entry, group_first, in_order, keys_for_every_source}
 use Rattle.mc_tables.specs.Summary.{summary_of, shown_pairs, unresolved_key}
 use Rattle.mc_tables.specs.SummarySoFar.{KeptPairs, SummarySoFar, summary_with_every_source}
@@ -42,7 +41,6 @@ use Rattle.mc_tables.specs.SummarySoFar.{summary_with_read}
 use Rattle.mc_tables.specs.SummarySoFar.{summary_with_row, finished_summary}
 use Rattle.mc_tables.specs.SummarySoFar.{summary_with_unresolved, with_first_entry}
 use Rattle.mc_tables.specs.SummaryReading.{SummarizedRowsSoFar, summary_start, summary_rows_start}
-use Rattle.mc_tables.specs.SummaryReading.{summary_after}
 use Rattle.mc_tables.specs.SummaryReading.{summary_from, summary_if, summary_in, summary_step}
 use Rattle.mc_tables.specs.SummaryReading.{table_without_summary}
 use Rattle.mc_text.proofs.StepLemmas.{bind_ok, ok_injective}
@@ -53,8 +51,9 @@ use Rattle.mc_tables.proofs.KeptRowLemmas.{same_key-listed_differs}
 use Rattle.mc_tables.proofs.ListedLemmas.{set_has_key-listed_set}
 use Rattle.mc_tables.proofs.LowestLemmas.{shown_pairs-none, shown_pairs-push}
 use Rattle.mc_tables.proofs.UnlistedRowLemmas.{same_key-equal}
-use Rattle.mc_tables.proofs.PieceLemmas.{lines_to_come-none}
-use Rattle.mc_tables.proofs.RowsSoFarLemmas.{cache_after-end, filter-push_passing, filter-push_failing}
+use Rattle.mc_tables.specs.RowsSoFar.{refusal_at}
+use Rattle.mc_tables.proofs.RowsSoFarLemmas.{table_from-unended}
+use Rattle.mc_tables.proofs.RowsSoFarLemmas.{filter-push_passing, filter-push_failing}
 use Rattle.mc_tables.proofs.RowsSoFarLemmas.{cache_if-start}
 
 -- ---- line by line
@@ -86,7 +85,7 @@ row_step-same_order so_far more line is =
     sym (ap (λ (s : ListedRowsSoFar). s.order) (ok_injective {E = TableFaultKind} (make one.0) more one.2))
 
 -- the table and the summary
-abbrev with_summary : Order → SummarySoFar → List LineText → CacheValue → Result SummarizedCache TableFault
+abbrev pub with_summary : Order → SummarySoFar → List LineText → CacheValue → Result SummarizedCache TableFault
 with_summary order summary lines table =
     Ok (record { table = table; summary = finished_summary (summary_of_lines order summary lines) })
 
@@ -106,13 +105,18 @@ summary_reads_in_steps = record {
       ] refl;
 }
 
+-- a line that isn't ended is refused, if no earlier row repeats another
+pub summary_from-unended : (so_far : SummarizedRowsSoFar) (number : ℕ) (bytes : List ℕ)
+    → summary_from so_far (record { number = number; bytes = bytes; ended = false } ∷ [])
+    ≡ Err (refusal_at so_far.rows.rows.others number Unended)
+summary_from-unended so_far number bytes =
+    let line : LineText = record { number = number; bytes = bytes; ended = false } in
+    ap (λ r. r >>= with_summary so_far.rows.order so_far.summary (line ∷ []))
+    (table_from-unended so_far.rows number bytes)
+
 -- ---- the table is that without the summary
 
--- the rows of the lines to come
-abbrev row_lines_to_come : LinesSoFar → List ℕ → List LineText
-row_lines_to_come lines more =
-    cond (eqb lines.ended 0) (drop 1 (lines_to_come lines more)) (lines_to_come lines more)
-
+-- what is read is the table that is read without a summary, with the summary of the lines to come
 lines_after_header-summary_from : (so_far : SummarizedRowsSoFar) (lines : List LineText)
     → (lines_after_header (codes "Group") lines >>= summary_from so_far)
     ≡ ((lines_after_header (codes "Group") lines >>= table_from so_far.rows)
@@ -126,64 +130,6 @@ lines_after_header-summary_from so_far (header ∷ lines) =
       | Err kind ↦ refl
       | Ok u ↦ refl
     ]
-
--- what is read is the table that is read without a summary, with the summary of the rows to come
-summary_after-cache_after : (lines : LinesSoFar) (so_far : SummarizedRowsSoFar) (more : List ℕ)
-    → summary_after lines so_far more
-    ≡ (cache_after lines so_far.rows more
-    >>= with_summary so_far.rows.order so_far.summary (row_lines_to_come lines more))
-summary_after-cache_after lines so_far more =
-    let all = lines_to_come lines more in
-    elim (eqb lines.ended 0) as (λ b.
-    cond b (lines_after_header (codes "Group") all >>= summary_from so_far) (summary_from so_far all)
-    ≡ (cond b (lines_after_header (codes "Group") all >>= table_from so_far.rows) (table_from so_far.rows all)
-    >>= with_summary so_far.rows.order so_far.summary (cond b (drop 1 all) all))) [
-      | true ↦ lines_after_header-summary_from so_far all
-      | false ↦ refl
-    ]
-
--- ---- a text that ends
-
--- at such an end no line has begun
-rows_end-no_begun_line : (lines : LinesSoFar) (so_far : ListedRowsSoFar) (u : Unit {0})
-    → rows_end lines so_far ≡ Ok u → eqb (length lines.begun) 0 ≡ true
-rows_end-no_begun_line lines so_far u is =
-    elim (cases_Bool (eqb (length lines.begun) 0)) [
-      | inl none ↦ none
-      | inr begun ↦ elim (cases_Bool (eqb lines.ended 0)) [
-        | inl first ↦ absurd (let wrong = rw (first, begun) at is in cc)
-        | inr later ↦ absurd (
-            let wrong = rw (later, begun) at is in
-            bind_err-not_ok (without_repeat so_far.rows.others)
-            (record { line = lines.ended + 1; kind = Unended }) u wrong)
-      ]
-    ]
-
-pub summary_after-end : (lines : LinesSoFar) (so_far : SummarizedRowsSoFar) → HasNoLineFeed lines.begun
-    → summary_after lines so_far []
-    ≡ (rows_end lines so_far.rows >>= λ _.
-    Ok (record { table = so_far.rows.rows.table; summary = finished_summary so_far.summary }))
-summary_after-end lines so_far without =
-    let order = so_far.rows.order in
-    let table = so_far.rows.rows.table in
-    let left = row_lines_to_come lines [] in
-    summary_after-cache_after lines so_far []
-    ∙ ap (λ r. r >>= with_summary order so_far.summary left) (cache_after-end lines so_far.rows without)
-    ∙ elim (rows_end lines so_far.rows) as (λ r. rows_end lines so_far.rows ≡ r
-    → ((r >>= λ _. Ok table) >>= with_summary order so_far.summary left)
-    ≡ (r >>= λ _. Ok (record { table = table; summary = finished_summary so_far.summary }))) [
-      | Err fault ↦ λ is. refl
-      | Ok u ↦ λ is.
-          let none = lines_to_come-none lines (rows_end-no_begun_line lines so_far.rows u is) in
-          ap (λ (all : List LineText).
-          with_summary order so_far.summary (cond (eqb lines.ended 0) (drop 1 all) all) table) none
-          ∙ elim (eqb lines.ended 0) as (λ b.
-          with_summary order so_far.summary (cond b (drop 1 []) []) table
-          ≡ Ok (record { table = table; summary = finished_summary so_far.summary })) [
-            | true ↦ refl
-            | false ↦ refl
-          ]
-    ] refl
 
 -- ---- the summary of some rows
 
@@ -496,7 +442,7 @@ summary_if-start all order listed text within =
     let fits : nat_lt 16777216 (length text) ≡ false = le-ltb 16777216 (length text) within in
     let start = summary_rows_start all order listed in
     let left = drop 1 (lines_of text) in
-    summary_after-cache_after lines_start start text
+    lines_after_header-summary_from start (lines_of text)
     ∙ ap (λ r. r >>= with_summary order (empty_summary all listed) left)
     (cache_if-start order (Some listed) text within)
     ∙ elim (cache_rows_in order text) as (λ r. cache_rows_in order text ≡ r

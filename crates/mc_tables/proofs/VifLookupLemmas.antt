@@ -4,7 +4,7 @@ use Rattle.std.proofs.Common.{Some, None, refl, sym, ap, subst, ◌∙◌, inl, 
 use Rattle.std.proofs.Common.{Greater}
 use Rattle.std.specs.Option.{option_map}
 use Rattle.std.specs.List as lists
-use Rattle.std.specs.Prelude.{nat_eq, map, IsSome, IsSomeAnd, IfSome, ◌||◌, ◌&&◌, ◌↔◌, T}
+use Rattle.std.specs.Prelude.{nat_eq, map, IsSome, IsSomeAnd, IfSome, ◌||◌, ◌↔◌, T}
 use Rattle.std.specs.List.{IsDistinct, AllByRecursion, filter_map, cons_option, list_any}
 use Rattle.std.specs.Ordering.{nat_cmp, eq_by_cmp, is_lt, is_eq}
 use Rattle.std.specs.Cmp.{unsigned_tied}

@@ -1,8 +1,6 @@
 -- Reading a table of vifs in pieces.
-use Rattle.std.proofs.Common.{◌≡◌, ℕ, ◌+◌, ◌≤◌, false, eqb, length, List, [], ◌∷◌, ◌++◌, Result, Ok, Err}
-use Rattle.std.proofs.Common.{refl, ap, ◌∙◌, inl, inr}
-use Rattle.std.specs.Prelude.{codes}
-use Rattle.std.proofs.lemmas.Bool.{cases_Bool}
+use Rattle.std.proofs.Common.{◌≡◌, ℕ, ◌≤◌, false, List, [], ◌∷◌, ◌++◌, Result, Ok, Err}
+use Rattle.std.proofs.Common.{refl, ap}
 use Rattle.std.specs.List.{IsDistinct}
 use Rattle.std.specs.FinMap.{from_entries}
 use Rattle.mc_text.specs.Lines.{LineText}
@@ -14,12 +12,9 @@ use Rattle.mc_tables.specs.Steps.{at_line}
 use Rattle.mc_tables.specs.TableLines.{rows_after}
 use Rattle.mc_tables.specs.VifTable.{VifValue, AreValidVifRows}
 use Rattle.mc_tables.specs.VifReading.{vif_in_line, vif_at_line}
-use Rattle.mc_tables.specs.VifsSoFar.{vif_step, vifs_from_lines, vifs_after}
+use Rattle.mc_tables.specs.VifsSoFar.{vif_step, vifs_from_lines}
 use Rattle.mc_tables.proofs.VifLemmas.{vif_at_line-reads_rows, denoted_vifs-at_most_31}
-use Rattle.mc_text.specs.Lines.{HasNoLineFeed}
-use Rattle.mc_tables.specs.LinesSoFar.{LinesSoFar, check_end_of_lines, ReadsInSteps}
-use Rattle.mc_tables.proofs.PieceLemmas.{last_line, read_after-no_header, read_after-end_in_line}
-use Rattle.mc_tables.proofs.PieceLemmas.{read_after-end_after_line}
+use Rattle.mc_tables.specs.LinesSoFar.{ReadsInSteps}
 
 -- one line and then the others
 rows_after-line_first : (n : ℕ) (rows : List (ℕ × VifValue)) (lines : List LineText)
@@ -42,24 +37,13 @@ vif_in_line-unended : (rows : List (ℕ × VifValue)) (line : LineText) → line
 unfolding vif_in_line
 vif_in_line-unended rows line none = rw none refl
 
--- what a text that ends here is read as
-pub vifs_after-end : (lines : LinesSoFar) (rows : List (ℕ × VifValue)) → HasNoLineFeed lines.begun
-    → vifs_after lines rows [] ≡ (check_end_of_lines lines >>= λ _. vifs_from_lines rows [])
-vifs_after-end lines rows without =
-    elim (cases_Bool (eqb lines.ended 0)) [
-      | inl none ↦ read_after-no_header (codes "Interface") (vifs_from_lines rows) lines
-          (vifs_from_lines rows []) without none
-      | inr later ↦ elim (cases_Bool (eqb (length lines.begun) 0)) [
-        | inl none ↦ read_after-end_after_line (codes "Interface") (vifs_from_lines rows) lines later none
-            ∙ rw (none, later) refl
-        | inr begun ↦ read_after-end_in_line (codes "Interface")
-            (vifs_from_lines rows) lines without later begun
-            ∙ ap (λ r. (at_line (lines.ended + 1) r
-            >>= λ row. rows_after vif_at_line (rows ++ row ∷ []) []) >>= λ all. Ok (from_entries all))
-            (vif_in_line-unended rows (last_line lines) refl)
-            ∙ rw begun refl
-      ]
-    ]
+pub vifs_from_lines-unended : (rows : List (ℕ × VifValue)) (number : ℕ) (bytes : List ℕ)
+    → vifs_from_lines rows (record { number = number; bytes = bytes; ended = false } ∷ [])
+    ≡ Err (record { line = number; kind = Unended })
+vifs_from_lines-unended rows number bytes =
+    ap (λ r. (at_line number r >>= λ row. rows_after vif_at_line (rows ++ row ∷ []) [])
+    >>= λ all. Ok (from_entries all))
+    (vif_in_line-unended rows (record { number = number; bytes = bytes; ended = false }) refl)
 
 -- no rows are valid
 pub vif_rows-valid_none : AreValidVifRows []

@@ -50,11 +50,6 @@ decoded_number (suc n) = Some n
 abbrev pub IsPlaceOf : List (ℕ × ℕ) → ℕ × ℕ → ℕ → Type 0
 IsPlaceOf keys key place = (place < length keys) × (get_or keys place key ≡ key)
 
--- the listed keys with their numbers, or numbers of which all keys can have one
-abbrev pub listed_or_all : Option EntryNumbersValue → List ((ℕ × ℕ) × ℕ) → EntryNumbersValue
-listed_or_all (Some keys) all = keys
-listed_or_all None all = record { listed = None; numbers = all }
-
 -- the numbers with that of one more key
 abbrev pub AddsNumber : (key : ℕ × ℕ) (number : ℕ) (numbers more : List ((ℕ × ℕ) × ℕ)) → Type 0
 AddsNumber key number numbers more =

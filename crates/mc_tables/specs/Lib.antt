@@ -3,6 +3,7 @@ pub mod TableWords
 pub mod TableLines
 pub mod FlatRows
 pub mod LinesSoFar
+pub mod TableSoFar
 pub mod VifTable
 pub mod VifReading
 pub mod RowWords

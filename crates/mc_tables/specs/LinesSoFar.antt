@@ -1,5 +1,5 @@
 -- A text that comes in pieces: how far its lines have come.
-use Rattle.std.specs.Prelude.{◌≡◌, ℕ, ◌+◌, ◌≤◌, ◌==◌, true, false, List, [], ◌∷◌, ◌++◌, length}
+use Rattle.std.specs.Prelude.{◌≡◌, ℕ, ◌+◌, ◌≤◌, ◌==◌, true, List, [], ◌∷◌, ◌++◌, length}
 use Rattle.std.specs.Prelude.{Option, Some, MatchOption, Result, Ok, Err, position, take, not}
 use Rattle.std.specs.Prelude.{if◌then◌else◌}
 use Rattle.mc_text.specs.Lines.{LineText, HasNoLineFeed, lines_from, max_text}

@@ -1,5 +1,5 @@
 -- Reading a cache whose text comes in pieces, of which the rows of listed sources and groups are kept.
-use Rattle.std.specs.Prelude.{ℕ, ◌+◌, ◌==◌, List, [], ◌∷◌, ◌++◌, Option, None}
+use Rattle.std.specs.Prelude.{ℕ, ◌+◌, List, [], ◌∷◌, ◌++◌}
 use Rattle.std.specs.Prelude.{Result, Ok, Err, if◌then◌else◌, codes, refl}
 use Rattle.std.specs.Coded.{Coded, code_by, coded×, coded_list, coded_ℕ}
 use Rattle.mc_text.specs.declared.text.addr.Order.{Order}
@@ -7,8 +7,8 @@ use Rattle.mc_text.specs.Lines.{LineText}
 use Rattle.mc_tables.specs.declared.fault.TableFault.{TableFault}
 use Rattle.mc_tables.specs.declared.fault.TableFaultKind.{TableFaultKind}
 use Rattle.mc_text.specs.Steps.{◌>>=◌}
-use Rattle.mc_tables.specs.Steps.{at_line, unless_fault}
-use Rattle.mc_tables.specs.LinesSoFar.{LinesSoFar, lines_start, check_end_of_lines, read_after}
+use Rattle.mc_tables.specs.Steps.{at_line}
+use Rattle.mc_tables.specs.TableSoFar.{TableSoFar, table_start, table_if}
 use Rattle.mc_tables.specs.CacheTable.{RowValue, CacheValue, cache_code, table_of}
 use Rattle.mc_tables.specs.CacheNumbers.{KeptRowsValue}
 use Rattle.mc_tables.specs.ListedRows.{Listed, ListedSet, listed_set, is_kept_by_set}
@@ -107,33 +107,16 @@ abbrev pub table_from : ListedRowsSoFar → List LineText → Result CacheValue 
 table_from so_far [] = without_repeat so_far.rows.others >>= λ _. Ok so_far.rows.table
 table_from so_far (line ∷ lines) = row_step so_far line >>= λ more. table_from more lines
 
--- the table if these bytes follow
-abbrev pub cache_after : LinesSoFar → ListedRowsSoFar → List ℕ → Result CacheValue TableFault
-cache_after lines so_far more = read_after (codes "Group") (table_from so_far) lines more
-
--- the text may end here: no row repeats another, and each line has ended
-abbrev pub rows_end : LinesSoFar → ListedRowsSoFar → Result (Unit {0}) TableFault
-rows_end lines so_far =
-    if lines.ended == 0 then check_end_of_lines lines
-    else (without_repeat so_far.rows.others >>= λ _. check_end_of_lines lines)
-
 -- ---- how far reading has come
 
--- the state of reading: the lines, the rows, and the fault if there was one
-pub record CacheSoFar : Type 0 where
-  pub lines : LinesSoFar
-  pub rows : ListedRowsSoFar
-  pub fault : Option TableFault
-
--- before the first byte, where the keys of this set are listed
-abbrev pub cache_start_for_set : Order → ListedSet → CacheSoFar
-cache_start_for_set order listed =
-    record { lines = lines_start; rows = rows_start order listed; fault = None }
+-- the state of reading
+abbrev pub CacheSoFar : Type 0
+CacheSoFar = TableSoFar ListedRowsSoFar
 
 -- before the first byte, where these keys are listed
 abbrev pub cache_start : Order → Listed → CacheSoFar
-cache_start order listed = cache_start_for_set order (listed_set listed)
+cache_start order listed = table_start (rows_start order (listed_set listed))
 
 -- what reading ends with if these bytes follow: the table, or the first fault
 abbrev pub cache_if : CacheSoFar → List ℕ → Result CacheValue TableFault
-cache_if cache more = unless_fault cache.fault (cache_after cache.lines cache.rows more)
+cache_if cache more = table_if (codes "Group") table_from cache more

@@ -1,12 +1,11 @@
 -- Reading a cache with a summary of its rows: its table and the summary, or the first fault.
-use Rattle.std.specs.Prelude.{Bool, ℕ, List, Option, Some, None, Result, Ok, Err, codes}
+use Rattle.std.specs.Prelude.{Bool, ℕ, List, Some, Result, Ok, Err, codes}
 use Rattle.mc_text.specs.declared.text.addr.Order.{Order}
 use Rattle.mc_text.specs.Lines.{LineText}
 use Rattle.mc_text.specs.Steps.{◌>>=◌}
 use Rattle.mc_tables.specs.declared.fault.TableFault.{TableFault}
 use Rattle.mc_tables.specs.declared.summary.summarized_cache.SummarizedCache.{SummarizedCache}
-use Rattle.mc_tables.specs.Steps.{unless_fault}
-use Rattle.mc_tables.specs.LinesSoFar.{LinesSoFar, lines_start, read_after}
+use Rattle.mc_tables.specs.TableSoFar.{TableSoFar, table_start, table_if}
 use Rattle.mc_tables.specs.CacheTable.{CacheValue, table_of}
 use Rattle.mc_tables.specs.CacheReading.{cache_rows_in}
 use Rattle.mc_tables.specs.ListedRows.{kept_rows, listed_set}
@@ -53,11 +52,9 @@ summary_from so_far lines =
 
 -- ---- how far reading has come
 
--- the state of reading: the lines, the rows with their summary, and the fault if there was one
-pub record SummarizedCacheSoFar : Type 0 where
-  pub lines : LinesSoFar
-  pub rows : SummarizedRowsSoFar
-  pub fault : Option TableFault
+-- the state of reading
+abbrev pub SummarizedCacheSoFar : Type 0
+SummarizedCacheSoFar = TableSoFar SummarizedRowsSoFar
 
 -- before the first row, where these keys are listed
 abbrev pub summary_rows_start : (all : Bool) → Order → List (ℕ × ℕ) → SummarizedRowsSoFar
@@ -66,13 +63,8 @@ summary_rows_start all order listed =
 
 -- before the first byte, where these keys are listed
 abbrev pub summary_start : (all : Bool) → Order → List (ℕ × ℕ) → SummarizedCacheSoFar
-summary_start all order listed =
-    record { lines = lines_start; rows = summary_rows_start all order listed; fault = None }
-
--- the table and the summary if these bytes follow
-abbrev pub summary_after : LinesSoFar → SummarizedRowsSoFar → List ℕ → Result SummarizedCache TableFault
-summary_after lines so_far more = read_after (codes "Group") (summary_from so_far) lines more
+summary_start all order listed = table_start (summary_rows_start all order listed)
 
 -- what reading ends with if these bytes follow: the table and the summary, or the first fault
 abbrev pub summary_if : SummarizedCacheSoFar → List ℕ → Result SummarizedCache TableFault
-summary_if cache more = unless_fault cache.fault (summary_after cache.lines cache.rows more)
+summary_if cache more = table_if (codes "Group") summary_from cache more

@@ -1,5 +1,5 @@
 -- Reading a table of vifs whose text comes in pieces.
-use Rattle.std.specs.Prelude.{ℕ, List, [], ◌∷◌, ◌++◌, Option, None, Result, Ok}
+use Rattle.std.specs.Prelude.{ℕ, List, [], ◌∷◌, ◌++◌, Result, Ok}
 use Rattle.std.specs.Prelude.{codes}
 use Rattle.std.specs.Ordering.{nat_cmp}
 use Rattle.std.specs.FinMap.{FinMap, from_entries}
@@ -7,9 +7,9 @@ use Rattle.mc_text.specs.Lines.{LineText}
 use Rattle.mc_tables.specs.declared.fault.TableFault.{TableFault}
 use Rattle.mc_tables.specs.declared.fault.TableFaultKind.{TableFaultKind}
 use Rattle.mc_text.specs.Steps.{◌>>=◌}
-use Rattle.mc_tables.specs.Steps.{at_line, unless_fault}
+use Rattle.mc_tables.specs.Steps.{at_line}
 use Rattle.mc_tables.specs.TableLines.{rows_after}
-use Rattle.mc_tables.specs.LinesSoFar.{LinesSoFar, lines_start, read_after}
+use Rattle.mc_tables.specs.TableSoFar.{TableSoFar, table_start, table_if}
 use Rattle.mc_tables.specs.VifTable.{VifValue}
 use Rattle.mc_tables.specs.VifReading.{vif_in_line, vif_at_line}
 
@@ -25,21 +25,14 @@ vif_step rows line = at_line line.number (vif_added rows line)
 abbrev pub vifs_from_lines : List (ℕ × VifValue) → List LineText → Result (FinMap nat_cmp VifValue) TableFault
 vifs_from_lines rows lines = rows_after vif_at_line rows lines >>= λ all. Ok (from_entries all)
 
--- the table if these bytes follow
-abbrev pub vifs_after : LinesSoFar → List (ℕ × VifValue) → List ℕ
-    → Result (FinMap nat_cmp VifValue) TableFault
-vifs_after lines rows more = read_after (codes "Interface") (vifs_from_lines rows) lines more
-
--- the state of reading: the lines, the rows, and the fault if there was one
-pub record VifsSoFar : Type 0 where
-  pub lines : LinesSoFar
-  pub rows : List (ℕ × VifValue)
-  pub fault : Option TableFault
+-- the state of reading
+abbrev pub VifsSoFar : Type 0
+VifsSoFar = TableSoFar (List (ℕ × VifValue))
 
 -- before the first byte
 abbrev pub vifs_start : VifsSoFar
-vifs_start = record { lines = lines_start; rows = []; fault = None }
+vifs_start = table_start []
 
 -- what reading ends with if these bytes follow: the table, or the first fault
 abbrev pub vifs_if : VifsSoFar → List ℕ → Result (FinMap nat_cmp VifValue) TableFault
-vifs_if vifs more = unless_fault vifs.fault (vifs_after vifs.lines vifs.rows more)
+vifs_if vifs more = table_if (codes "Interface") vifs_from_lines vifs more

@@ -1,7 +1,7 @@
 //! The table of the forwarding cache: its rows, its reader and its lookups.
 
 mod cache_line;
-pub(crate) mod cache_reader;
+mod cache_reader;
 pub(crate) mod cache_row;
 pub(crate) mod cache_row_reader;
 pub(crate) mod cache_rows;
@@ -11,6 +11,7 @@ mod flat_oifs;
 mod four_oifs;
 mod outgoing;
 mod plain_row;
+mod text_pairs;
 
 pub use cache_reader::CacheReader;
 pub use cache_table::CacheTable;

@@ -103,3 +103,11 @@ impl<T: Drop> From<AllocFailed<T>> for TableFault {
         TableFaultKind::Memory.at(0)
     }
 }
+
+impl From<mc_text::Memory> for TableFault {
+    ghost from_gives = { λ _ fault. fault ≡ out_of_memory };
+
+    fn from(_refused: mc_text::Memory) -> TableFault {
+        TableFaultKind::Memory.at(0)
+    }
+}

@@ -12,6 +12,7 @@ mod vifs;
 
 pub use cache::{CacheReader, CacheTable, Entry, FlatOifs, Oif};
 pub use fault::{TableFault, TableFaultKind};
+pub use lines::{TableReader, TableRows};
 pub use listed::ListedPairs;
 pub use summary::{CacheSummary, SummarizedCache, SummaryPairs, SummaryReader};
 pub use vifs::{Vif, VifReader, VifTable};

@@ -5,4 +5,8 @@ pub(crate) mod header;
 pub(crate) mod line_buffer;
 pub(crate) mod marked_line;
 pub(crate) mod rows;
+pub(crate) mod table_reader;
 pub(crate) mod table_words;
+
+pub use rows::TableRows;
+pub use table_reader::TableReader;

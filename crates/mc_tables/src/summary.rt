@@ -4,10 +4,10 @@ mod cache_summary;
 mod distinct;
 mod lowest_pairs;
 mod shown_pairs;
-mod summarized_cache;
+pub(crate) mod summarized_cache;
 mod summarized_rows;
-mod summary_pairs;
-mod summary_reader;
+pub(crate) mod summary_pairs;
+pub(crate) mod summary_reader;
 pub(crate) mod summary_so_far;
 pub(crate) mod unlisted_rows;
 

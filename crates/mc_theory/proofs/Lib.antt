@@ -26,6 +26,8 @@ pub mod LeastTtl
 pub mod LeastRanks
 pub mod EachHearerForwards
 pub mod SpareInterface
+pub mod StrayOrigins
+pub mod ShownFrom
 pub mod ExcludedRouters
 pub mod ExampleBranching
 pub mod ExampleReasons

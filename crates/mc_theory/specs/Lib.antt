@@ -11,5 +11,6 @@ pub mod CertificateOfCopies
 pub mod FindingMeaning
 pub mod Paths
 pub mod Hops
+pub mod ShownFrom
 pub mod ExcludedRouters
 pub mod ExampleNetworks

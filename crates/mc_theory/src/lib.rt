@@ -3,8 +3,8 @@
 //!
 //! The definitions are in `specs/`, to be read in this order: `Nets`, `Flights`, `Headline`,
 //! `Certificates`, `Reasons`, `Events`, `Findings`, `FindingMeaning`, `CopyOrigins`,
-//! `CertificateOfCopies`, `Paths`, `Hops`, `ExcludedRouters`; `ExampleNetworks` has small networks to try
-//! them on. Nothing here runs: each function below is a law about them.
+//! `CertificateOfCopies`, `Paths`, `Hops`, `ShownFrom`, `ExcludedRouters`; `ExampleNetworks` has small
+//! networks to try them on. Nothing here runs: each function below is a law about them.
 
 #![tactic(auto)]
 
@@ -14,6 +14,7 @@ mod excluded_laws;
 mod headline_laws;
 mod hop_laws;
 mod path_laws;
+mod shown_from_laws;
 mod travel_laws;
 
 pub use certificate_laws::{
@@ -44,6 +45,9 @@ pub use path_laws::{
     carried_copy_came_by_a_path, complete_run_carries_reached_lans, first_copy_has_the_least_rank,
     need_is_the_least_reaching_ttl, packet_passes_iff_ttl_meets_need,
     second_copy_came_by_another_path, spare_interface_removal_keeps_reach,
+};
+pub use shown_from_laws::{
+    finding_is_shown_from_its_need, greatest_need_shows_the_finding, need_of_finding_is_unique,
 };
 pub use travel_laws::{
     a_clean_travel_makes_a_tree, a_travel_ends, clean_travels_certify,

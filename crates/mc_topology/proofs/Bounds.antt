@@ -7,8 +7,8 @@ use Rattle.mc_topology.specs.declared.read.bounds.Scan.{Scan}
 use Rattle.mc_topology.specs.declared.read.bounds.LinePart.{LinePart}
 use Rattle.mc_topology.specs.declared.read.bounds.LinePart.TheVariants.{Margin, Header, Rest}
 use Rattle.mc_topology.specs.declared.read.bounds.LexState.{LexState}
-use Rattle.mc_topology.specs.Bounds.{after_byte, is_outside, is_skipped_in_header, nesting_after, header_after, is_mark}
-use Rattle.mc_topology.specs.Bounds.{with_byte, initial_scan, is_bounded}
+use Rattle.mc_topology.specs.Bounds.{after_byte, is_outside, is_skipped_in_header, nesting_after}
+use Rattle.mc_topology.specs.Bounds.{header_after, is_mark, with_byte, initial_scan, is_bounded}
 
 -- after this many bytes, scanning the rest from this scan is scanning the whole text
 pub record IsScannedTo (text : List ℕ) (scan : Scan) (place : ℕ) : Type 0 where

@@ -28,7 +28,8 @@ module _ {X K : Type 0} (key : X → K) (test : X → X → Bool)
   item-from_is_key_taken : (xs : List X) (x : X) → is_key_taken x xs ≡ true → (i : ℕ) × (z : X)
       × (slice_get xs i ≡ Some z) × (key z ≡ key x)
   item-from_is_key_taken [] x e = absurd cc
-  item-from_is_key_taken (y ∷ xs) x e = item-from_is_key_taken_first y xs x (test y x) refl (λ h. item-from_is_key_taken xs x h) e
+  item-from_is_key_taken (y ∷ xs) x e =
+      item-from_is_key_taken_first y xs x (test y x) refl (λ h. item-from_is_key_taken xs x h) e
 
   -- where an item has the key, the key is taken
   is_key_taken-from_item : (xs : List X) (i : ℕ) (y x : X) → slice_get xs i ≡ Some y → key y ≡ key x
@@ -52,7 +53,8 @@ module _ {X K : Type 0} (key : X → K) (test : X → X → Bool)
               absurd cc
         ]
         | inr last_i ↦ elim (slice_get-push_cases xs x j b at_j) [
-          | inl before_j ↦ let taken = is_key_taken-from_item xs j b x before_j (sym k ∙ ap key (sym last_i.1)) in
+          | inl before_j ↦ let taken =
+              is_key_taken-from_item xs j b x before_j (sym k ∙ ap key (sym last_i.1)) in
               absurd cc
           | inr last_j ↦ last_i.0 ∙ sym last_j.0
         ]
@@ -65,6 +67,7 @@ module _ {X K : Type 0} (key : X → K) (test : X → X → Bool)
       false_from_ne_true _ (λ taken.
       let (i, y, at, k) = item-from_is_key_taken xs x taken in
       let here : i ≡ length xs =
-      distinct i (length xs) y x (slice_get-append_front xs (x ∷ ys) i y at) (slice_get-append_next xs ys x) k in
+      distinct i (length xs) y x (slice_get-append_front xs (x ∷ ys) i y at)
+      (slice_get-append_next xs ys x) k in
       let within = slice_get_within xs i y at in
       omega (arith, here, within))

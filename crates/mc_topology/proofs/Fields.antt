@@ -1,12 +1,13 @@
 -- What is read under a key is the key's value, and the key's value is read.
 use Rattle.std.proofs.Common.{◌≡◌, ℕ, ℤ, ◌≤◌, Bool, true, false, cond, List, [], length, codes}
-use Rattle.std.proofs.Common.{Option, Some, None, Ok, Err, nat_le, le-leb, refl, sym, ap, ◌∙◌}
+use Rattle.std.proofs.Common.{Option, Some, None, Ok, Err, nat_le, le-leb, refl, sym, ap, ◌∙◌, arith}
 use Rattle.std.specs.Option.{ok_or}
 use Rattle.std.specs.Str.{bytes_eq}
 use Rattle.std.proofs.lemmas.Bool.{leb-true}
 use Rattle.std.proofs.lemmas.Slice.Eq.{bytes_eq-Decides}
-use Rattle.toml.specs.Data.{Data, string, integer, float, boolean, datetime, array, table, Items}
+use Rattle.toml.specs.Data.{Data, string, integer, array, Items}
 use Rattle.toml.specs.Data.{Members, get_member, as_str, as_integer, as_array, as_table}
+use Rattle.toml.proofs.Lines.{data_of_array, data_of_table}
 use Rattle.mc_text.specs.declared.text.addr.Order.{Order}
 use Rattle.mc_text.specs.declared.text.addr.Order.TheVariants.{Little, Big}
 use Rattle.mc_topology.specs.declared.fault.TopologyFaultKind.TheVariants.{MissingKey, BadKind}
@@ -16,44 +17,14 @@ use Rattle.mc_topology.specs.Document.{list_or_empty, text_or_none, known_table,
 use Rattle.mc_topology.specs.Document.{list_at, optional_text_at, optional_list_at, rows_at, at_key}
 use Rattle.mc_topology.specs.Routers.{order_of}
 use Rattle.mc_topology.specs.Denotation.{IsTable, AreRows, DenotesOrder, order_text}
-use Rattle.mc_topology.proofs.Steps.{bind_ok, test_ok, ok_or_ok, ok_injective}
+use Rattle.mc_topology.proofs.Steps.{bind_ok, checked_ok, ok_or_ok, ok_injective}
 
--- a value that is taken as a text is one, and so for the other types
+-- a value that is taken as a text is one, and so for a whole number
 string-from_as_str : (d : Data) (s : List ℕ) → as_str d ≡ Some s → d ≡ string s
-string-from_as_str (string t) s e = cc
-string-from_as_str (integer z) s e = absurd cc
-string-from_as_str (float x) s e = absurd cc
-string-from_as_str (boolean b) s e = absurd cc
-string-from_as_str (datetime t) s e = absurd cc
-string-from_as_str (array ds) s e = absurd cc
-string-from_as_str (table ms) s e = absurd cc
+string-from_as_str d s e = grind (arith, e)
 
 integer-from_as_integer : (d : Data) (z : ℤ) → as_integer d ≡ Some z → d ≡ integer z
-integer-from_as_integer (string t) z e = absurd cc
-integer-from_as_integer (integer y) z e = cc
-integer-from_as_integer (float x) z e = absurd cc
-integer-from_as_integer (boolean b) z e = absurd cc
-integer-from_as_integer (datetime t) z e = absurd cc
-integer-from_as_integer (array ds) z e = absurd cc
-integer-from_as_integer (table ms) z e = absurd cc
-
-array-from_as_array : (d : Data) (ds : Items) → as_array d ≡ Some ds → d ≡ array ds
-array-from_as_array (string t) ds e = absurd cc
-array-from_as_array (integer y) ds e = absurd cc
-array-from_as_array (float x) ds e = absurd cc
-array-from_as_array (boolean b) ds e = absurd cc
-array-from_as_array (datetime t) ds e = absurd cc
-array-from_as_array (array es) ds e = cc
-array-from_as_array (table ms) ds e = absurd cc
-
-table-from_as_table : (d : Data) (ms : Members) → as_table d ≡ Some ms → d ≡ table ms
-table-from_as_table (string t) ms e = absurd cc
-table-from_as_table (integer y) ms e = absurd cc
-table-from_as_table (float x) ms e = absurd cc
-table-from_as_table (boolean b) ms e = absurd cc
-table-from_as_table (datetime t) ms e = absurd cc
-table-from_as_table (array es) ms e = absurd cc
-table-from_as_table (table ns) ms e = cc
+integer-from_as_integer d z e = grind (arith, e)
 
 -- ---- texts and numbers
 
@@ -99,11 +70,10 @@ unfolding known_table
 IsTable-from_known_table known d ms e =
     let a = bind_ok (ok_or (as_table d) BadKind)
     (λ ns. cond (has_only known ns) (Ok ns) (Err UnknownKey)) ms e in
-    let t = test_ok (has_only known a.0) UnknownKey (Ok a.0) ms a.2 in
-    let same : a.0 ≡ ms = ok_injective a.0 ms t.1 in
+    let (same, keys) = checked_ok (has_only known) UnknownKey a.0 ms a.2 in
     record {
-      members = table-from_as_table d ms (ok_or_ok (as_table d) BadKind a.0 a.1 ∙ ap Some same);
-      keys = ap (has_only known) (sym same) ∙ t.0;
+      members = data_of_table d ms (ok_or_ok (as_table d) BadKind a.0 a.1 ∙ ap Some same);
+      keys = keys;
     }
 
 -- and such a table is read
@@ -120,7 +90,7 @@ array-from_list_of : (d : Data) (rows : List Data) → list_of d ≡ Ok rows →
 array-from_list_of d rows e =
     let a = bind_ok (ok_or (as_array d) BadKind) (λ items. Ok (rows_in items)) rows e in (
       a.0,
-      array-from_as_array d a.0 (ok_or_ok (as_array d) BadKind a.0 a.1),
+      data_of_array d a.0 (ok_or_ok (as_array d) BadKind a.0 a.1),
       sym (ok_injective (rows_in a.0) rows a.2),
     )
 
@@ -145,7 +115,8 @@ AreRows-from_list_or_empty None rows e = sym (ok_injective [] rows e)
 AreRows-from_list_or_empty (Some d) rows e = array-from_list_of d rows e
 
 -- and its rows are read
-pub list_or_empty-from_AreRows : (o : Option Data) (rows : List Data) → AreRows o rows → list_or_empty o ≡ Ok rows
+pub list_or_empty-from_AreRows : (o : Option Data) (rows : List Data) → AreRows o rows
+    → list_or_empty o ≡ Ok rows
 list_or_empty-from_AreRows None rows is = ap Ok (sym is)
 list_or_empty-from_AreRows (Some d) rows is = rw (is.1, is.2) refl
 
@@ -168,12 +139,8 @@ unfolding rows_at
 AreRows-from_rows_at key most ms rows e =
     let a = bind_ok (optional_list_at key ms)
     (λ rs. cond (nat_le (length rs) most) (Ok rs) (Err TooMany)) rows e in
-    let t = test_ok (nat_le (length a.0) most) TooMany (Ok a.0) rows a.2 in
-    let same : a.0 ≡ rows = ok_injective a.0 rows t.1 in (
-      AreRows-from_optional_list_at key ms rows (a.1 ∙ ap Ok same),
-      leb-true (length rows) most
-          (ap (λ (rs : List Data). nat_le (length rs) most) (sym same) ∙ t.0),
-    )
+    let (same, few) = checked_ok (λ (rs : List Data). nat_le (length rs) most) TooMany a.0 rows a.2 in
+    (AreRows-from_optional_list_at key ms rows (a.1 ∙ ap Ok same), leb-true (length rows) most few)
 
 -- and rows there that are no more than the most are read
 pub rows_at-from_AreRows : (key : List ℕ) (most : ℕ) (ms : Members) (rows : List Data)
@@ -203,7 +170,8 @@ order_of-order_text Little = refl
 order_of-order_text Big = refl
 
 -- an order that is read of a value that may be missing is the value's
-DenotesOrder-from_order_of : (m : Option Data) (text : Option (List ℕ)) (order : Order) → text_or_none m ≡ Ok text
+DenotesOrder-from_order_of : (m : Option Data) (text : Option (List ℕ)) (order : Order)
+    → text_or_none m ≡ Ok text
     → order_of text ≡ Ok order → DenotesOrder m order
 unfolding order_of
 DenotesOrder-from_order_of None text order e named =
@@ -217,18 +185,22 @@ DenotesOrder-from_order_of (Some d) text order e named =
     string-from_text_of d a.0 a.1 ∙ ap string (order_text-from_tests _ _ a.0 order refl refl at)
 
 -- and the value's order is read
-order_of-from_DenotesOrder : (m : Option Data) (order : Order) → DenotesOrder m order → (text : Option (List ℕ))
+order_of-from_DenotesOrder : (m : Option Data) (order : Order) → DenotesOrder m order
+    → (text : Option (List ℕ))
     × (text_or_none m ≡ Ok text) × (order_of text ≡ Ok order)
 unfolding order_of
 order_of-from_DenotesOrder None order is = (None, refl, ap Ok (sym is))
-order_of-from_DenotesOrder (Some d) order is = (Some (order_text order), rw is refl, order_of-order_text order)
+order_of-from_DenotesOrder (Some d) order is =
+    (Some (order_text order), rw is refl, order_of-order_text order)
 
 -- an order that is read under a key that may be missing is that of the value there
-pub DenotesOrder-from_optional_text_at : (key : List ℕ) (ms : Members) (text : Option (List ℕ)) (order : Order)
+pub DenotesOrder-from_optional_text_at : (key : List ℕ) (ms : Members) (text : Option (List ℕ))
+    (order : Order)
     → optional_text_at key ms ≡ Ok text → order_of text ≡ Ok order
     → DenotesOrder (get_member key ms) order
 unfolding optional_text_at
-DenotesOrder-from_optional_text_at key ms text order e named = DenotesOrder-from_order_of (get_member key ms) text order e named
+DenotesOrder-from_optional_text_at key ms text order e named =
+    DenotesOrder-from_order_of (get_member key ms) text order e named
 
 -- and the order of the value there is read
 pub optional_text_at-from_DenotesOrder : (key : List ℕ) (ms : Members) (order : Order)

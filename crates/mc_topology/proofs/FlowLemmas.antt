@@ -57,10 +57,13 @@ ttl_of-from_failed_test_by_cases : (z : ℤ) (low high : Bool) → is_le (int_cm
     → is_le (int_cmp z (pos 255)) ≡ high
     → (low && high) ≡ false → ttl_of z ≡ Err BadTtl
 ttl_of-from_failed_test_by_cases z true true at_low at_high e = absurd cc
-ttl_of-from_failed_test_by_cases z true false at_low at_high e = ttl_of-high z (lt-from_not_is_le z (pos 255) _ refl at_high)
-ttl_of-from_failed_test_by_cases z false high at_low at_high e = ttl_of-low z (lt-from_not_is_le (pos 1) z _ refl at_low)
+ttl_of-from_failed_test_by_cases z true false at_low at_high e =
+    ttl_of-high z (lt-from_not_is_le z (pos 255) _ refl at_high)
+ttl_of-from_failed_test_by_cases z false high at_low at_high e =
+    ttl_of-low z (lt-from_not_is_le (pos 1) z _ refl at_low)
 
 -- so a number that fails one of the two tests is no time to live
 pub ttl_of-from_failed_test : (z : ℤ) → (is_le (int_cmp (pos 1) z) && is_le (int_cmp z (pos 255))) ≡ false
     → ttl_of z ≡ Err BadTtl
-ttl_of-from_failed_test z e = ttl_of-from_failed_test_by_cases z (is_le (int_cmp (pos 1) z)) (is_le (int_cmp z (pos 255))) refl refl e
+ttl_of-from_failed_test z e =
+    ttl_of-from_failed_test_by_cases z (is_le (int_cmp (pos 1) z)) (is_le (int_cmp z (pos 255))) refl refl e

@@ -14,7 +14,8 @@ abbrev pub interface_row_of : ℕ → List ℕ → ℕ → InterfaceRow
 interface_row_of router device lan = record { router = router; device = device; lan = lan }
 
 -- the look-up's result at the first interface, by whether it is the one
-lan_of_interface-first : (router : ℕ) (device : List ℕ) (i : InterfaceRow) (more : List InterfaceRow) (b : Bool)
+lan_of_interface-first : (router : ℕ) (device : List ℕ) (i : InterfaceRow) (more : List InterfaceRow)
+    (b : Bool)
     → is_interface_of router device i ≡ b
     → lan_of_interface router device (i ∷ more)
     ≡ cond b (Some i.lan) (lan_of_interface router device more)
@@ -29,7 +30,8 @@ IsIn-first_interface : (router : ℕ) (device : List ℕ) (i : InterfaceRow) (mo
     → IsIn (i ∷ more) (interface_row_of router device lan)
 IsIn-first_interface router device i more lan true at later e =
     let key = (is_interface_of-Decides router device i).0 at in
-    let here : i.lan ≡ lan = let first = sym (lan_of_interface-first router device i more true at) ∙ e in cc in
+    let here : i.lan ≡ lan = let first =
+    sym (lan_of_interface-first router device i more true at) ∙ e in cc in
     let r : i.router ≡ router = ap (λ (k : ℕ × List ℕ). k.0) key in
     let d : i.device ≡ device = ap (λ (k : ℕ × List ℕ). k.1) key in
     (0, rw (← r, ← d, ← here) refl)
@@ -73,13 +75,15 @@ lan_of_interface-listed_row [] n x distinct e = absurd cc
 lan_of_interface-listed_row (i ∷ more) zero x distinct e =
     let same : i ≡ x = cc in
     subst (λ (y : InterfaceRow). lan_of_interface y.router y.device (i ∷ more) ≡ Some y.lan) same
-    (lan_of_interface-first i.router i.device i more true ((is_interface_of-Decides i.router i.device i).1 refl))
+    (lan_of_interface-first i.router i.device i more true
+    ((is_interface_of-Decides i.router i.device i).1 refl))
 lan_of_interface-listed_row (i ∷ more) (suc n) x distinct e =
     lan_of_interface-later more i n x (is_interface_of x.router x.device i) refl distinct e
     (lan_of_interface-listed_row more n x (AreDistinctBy-rest i more distinct) e)
 
 -- the LAN that the look-up finds is one of the topology's
-pub lan_of_interface-below_length : (t : TopologyValue) (router : ℕ) (device : List ℕ) (o : Option ℕ) → IsValidTopology t
+pub lan_of_interface-below_length : (t : TopologyValue) (router : ℕ) (device : List ℕ) (o : Option ℕ)
+    → IsValidTopology t
     → lan_of_interface router device t.interfaces ≡ o → IfSome o (λ lan. lan < length t.lans)
 lan_of_interface-below_length t router device None is e = tt
 lan_of_interface-below_length t router device (Some lan) is e =

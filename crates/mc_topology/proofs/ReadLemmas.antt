@@ -22,10 +22,12 @@ use Rattle.mc_topology.specs.Reading.{sources_and_flows_in, interfaces_and_flows
 use Rattle.mc_topology.specs.Denotation.{DenotesTopology}
 use Rattle.mc_topology.specs.Topology.{TopologyValue}
 use Rattle.mc_topology.proofs.Steps.{ok_injective}
-use Rattle.mc_topology.proofs.TopologyTexts.{parse_unbounded_topology-from_denotes, parse_topology-denotes, parse_topology-from_denotes}
+use Rattle.mc_topology.proofs.TopologyTexts.{parse_unbounded_topology-from_denotes}
+use Rattle.mc_topology.proofs.TopologyTexts.{parse_topology-denotes, parse_topology-from_denotes}
 
 -- a text that is read denotes what is read
-denotes-from_parse_topology : (text : List ℕ) (r : Result TopologyValue TopologyFault) → r ≡ parse_topology text
+denotes-from_parse_topology : (text : List ℕ) (r : Result TopologyValue TopologyFault)
+    → r ≡ parse_topology text
     → IfOk r (DenotesTopology text)
 denotes-from_parse_topology text (Ok t) gives = (parse_topology-denotes text t (sym gives)).denotes
 denotes-from_parse_topology text (Err fault) gives = tt
@@ -33,7 +35,8 @@ denotes-from_parse_topology text (Err fault) gives = tt
 -- the same of a result that `Memory` may replace
 pub denotes-unless_out_of_memory : (text : List ℕ) (r : Result TopologyValue TopologyFault)
     → (r ≢ Err out_of_memory → r ≡ parse_topology text) → IfOk r (DenotesTopology text)
-denotes-unless_out_of_memory text (Ok t) gives = denotes-from_parse_topology text (Ok t) (gives (λ e. absurd cc))
+denotes-unless_out_of_memory text (Ok t) gives =
+    denotes-from_parse_topology text (Ok t) (gives (λ e. absurd cc))
 denotes-unless_out_of_memory text (Err fault) gives = tt
 
 -- a text within the bounds that denotes a topology is read as that, unless memory runs out
@@ -47,7 +50,8 @@ Ok-unless_out_of_memory text r gives t is bounded other =
 pub DenotesTopology-unique : (text : List ℕ) (t u : TopologyValue) → DenotesTopology text t
     → DenotesTopology text u → t ≡ u
 DenotesTopology-unique text t u is_t is_u =
-    ok_injective {E = TopologyFault} t u (sym (parse_unbounded_topology-from_denotes text t is_t) ∙ parse_unbounded_topology-from_denotes text u is_u)
+    ok_injective {E = TopologyFault} t u (sym (parse_unbounded_topology-from_denotes text t is_t)
+    ∙ parse_unbounded_topology-from_denotes text u is_u)
 
 -- ---- refusals
 
@@ -103,7 +107,8 @@ bind-flows : (lans : List (List ℕ)) (routers : List RouterRow) (interfaces : L
       sources = sources;
       flows = flows;
     }))
-    ≡ (((r >>= ok_sources_and_flows sources) >>= ok_interfaces_and_flows interfaces) >>= ok_topology_with lans routers)
+    ≡ (((r >>= ok_sources_and_flows sources) >>= ok_interfaces_and_flows interfaces) >>= ok_topology_with lans
+    routers)
 bind-flows lans routers interfaces sources (Ok flows) = refl
 bind-flows lans routers interfaces sources (Err k) = refl
 

@@ -1,6 +1,6 @@
 -- A row of a section that is read denotes its value, and a row that denotes a value is read as that.
-use Rattle.std.proofs.Common.{◌≡◌, ℕ, ℤ, pos, negsuc, ◌+◌, ◌≤◌, Bool, true, false, not}
-use Rattle.std.proofs.Common.{List, [], ◌∷◌, ◌++◌, length, codes, Option, Some, None, Result, Ok}
+use Rattle.std.proofs.Common.{◌≡◌, ℕ, ℤ, pos, negsuc, ◌≤◌, Bool, true, false, not}
+use Rattle.std.proofs.Common.{List, [], ◌∷◌, ◌++◌, codes, Option, Some, None, Result, Ok}
 use Rattle.std.proofs.Common.{nat_le, ◌&&◌, le-leb, refl, sym, ap, subst, ◌∙◌, arith, append_assoc}
 use Rattle.std.specs.Bool.{Decides}
 use Rattle.std.specs.List.{list_any}
@@ -24,7 +24,7 @@ use Rattle.mc_topology.specs.declared.fault.TopologyFaultKind.TheVariants.{Repea
 use Rattle.mc_topology.specs.declared.flow.Flow.{Flow}
 use Rattle.mc_topology.specs.SectionRows.{RouterRow, InterfaceRow, SourceRow}
 use Rattle.mc_topology.specs.Addresses.{checked_address, source_address_of, group_address_of}
-use Rattle.mc_topology.specs.Answer.{locate_fault, each_row}
+use Rattle.mc_topology.specs.Answer.{read_rows, each_row}
 use Rattle.mc_topology.specs.Document.{known_table, text_of, text_at, number_at, optional_text_at}
 use Rattle.mc_topology.specs.Names.{is_name, is_device, index_of}
 use Rattle.mc_topology.specs.Lans.{has_lan, lan_name_of}
@@ -33,13 +33,16 @@ use Rattle.mc_topology.specs.Lookup.{has_router, router_no_of, has_interface}
 use Rattle.mc_topology.specs.Interfaces.{interface_keys, interface_of, interface_of_values}
 use Rattle.mc_topology.specs.Sources.{source_keys, source_of, source_of_values, has_source, lan_of_source}
 use Rattle.mc_topology.specs.Flows.{flow_keys, flow_of, flow_of_values, ttl_of, has_flow}
-use Rattle.mc_topology.specs.Denotation.{EachDenotes, DenotesLan, DenotesRouter, DenotesInterface, DenotesSource, DenotesFlow}
+use Rattle.mc_topology.specs.Denotation.{EachDenotes, DenotesLan, DenotesRouter, DenotesInterface}
+use Rattle.mc_topology.specs.Denotation.{DenotesSource, DenotesFlow}
 use Rattle.mc_topology.specs.Topology.{AreDistinctBy}
 use Rattle.mc_topology.proofs.Distinct.{AreDistinctBy-push, is_key_taken-from_distinct}
-use Rattle.mc_topology.proofs.Fields.{string-from_text_of, HasText-from_text_at, text_at-from_HasText, HasNumber-from_number_at}
-use Rattle.mc_topology.proofs.Fields.{number_at-from_HasNumber, IsTable-from_known_table, known_table-from_IsTable}
-use Rattle.mc_topology.proofs.Fields.{DenotesOrder-from_optional_text_at, optional_text_at-from_DenotesOrder}
-use Rattle.mc_topology.proofs.Steps.{bind_ok, refusal_ok, test_ok, ok_or_ok, ok_injective, locate_fault_ok}
+use Rattle.mc_topology.proofs.Fields.{string-from_text_of, HasText-from_text_at, text_at-from_HasText}
+use Rattle.mc_topology.proofs.Fields.{HasNumber-from_number_at, number_at-from_HasNumber}
+use Rattle.mc_topology.proofs.Fields.{IsTable-from_known_table, known_table-from_IsTable}
+use Rattle.mc_topology.proofs.Fields.{DenotesOrder-from_optional_text_at}
+use Rattle.mc_topology.proofs.Fields.{optional_text_at-from_DenotesOrder}
+use Rattle.mc_topology.proofs.Steps.{bind_ok, refusal_ok, checked_ok, ok_or_ok, ok_injective, located_ok}
 
 -- ---- addresses and times to live
 
@@ -48,9 +51,8 @@ checked_address-Ok : (p : ℕ → Bool) (o : Option ℕ) (a : ℕ) → checked_a
     × (p a ≡ true)
 checked_address-Ok p None a e = absurd cc
 checked_address-Ok p (Some b) a e =
-    let t = test_ok (p b) BadAddress (Ok b) a e in
-    let same : b ≡ a = ok_injective b a t.1 in
-    (ap Some same, ap p (sym same) ∙ t.0)
+    let (same, passed) = checked_ok p BadAddress b a e in
+    (ap Some same, passed)
 
 -- a text that is read as a source's address is that address, dotted
 dotted-from_source_address_of : (text : List ℕ) (a : ℕ) → source_address_of text ≡ Ok a → (text ≡ dotted a)
@@ -85,13 +87,9 @@ group_address_of-dotted a is = rw (address_of_text-complete (dotted a) a (omega 
 range-from_ttl_of : (z : ℤ) (n : ℕ) → ttl_of z ≡ Ok n → (z ≡ pos n) × (1 ≤ n) × (n ≤ 255)
 unfolding ttl_of
 range-from_ttl_of (pos m) n e =
-    let t = test_ok (nat_le 1 m && nat_le m 255) BadTtl (Ok m) n e in
-    let same : m ≡ n = ok_injective m n t.1 in
-    let (low, high) = and_parts _ _ t.0 in (
-      ap pos same,
-      subst (λ k. 1 ≤ k) same (leb-true _ _ low),
-      subst (λ k. k ≤ 255) same (leb-true _ _ high),
-    )
+    let (same, passed) = checked_ok (λ k. nat_le 1 k && nat_le k 255) BadTtl m n e in
+    let (low, high) = and_parts _ _ passed in
+    (ap pos same, leb-true _ _ low, leb-true _ _ high)
 range-from_ttl_of (negsuc m) n e = absurd cc
 
 -- and a number of 1 to 255 is read
@@ -102,7 +100,8 @@ ttl_of-in_range n low high = rw (le-leb 1 n low, le-leb n 255 high) refl
 -- ---- the rows of the sections
 
 -- a value that is read as a LAN denotes it, and no earlier LAN has its name
-pub lan_name_of-denotes : (earlier : List (List ℕ)) (d : Data) (name : List ℕ) → lan_name_of earlier d ≡ Ok name
+pub lan_name_of-denotes : (earlier : List (List ℕ)) (d : Data) (name : List ℕ)
+    → lan_name_of earlier d ≡ Ok name
     → DenotesLan d name × (has_lan name earlier ≡ false)
 unfolding lan_name_of
 lan_name_of-denotes earlier d name e =
@@ -332,7 +331,7 @@ module _ {X K : Type 0} (section : Section) (one : List X → Data → Result X 
       → (earlier : List X) (ds : List Data) (ys : List X) → AreDistinctBy key earlier
       → each_row section one earlier ds ≡ Ok ys → (xs : List X) × (ys ≡ earlier ++ xs)
       × EachDenotes Denotation ds xs × AreDistinctBy key ys
-  unfolding each_row
+  unfolding read_rows
   each_row-denotes takes earlier [] ys distinct e =
       let all : earlier ≡ ys = ok_injective earlier ys e in (
         [],
@@ -342,10 +341,8 @@ module _ {X K : Type 0} (section : Section) (one : List X → Data → Result X 
             distinct,
       )
   each_row-denotes takes earlier (d ∷ ds) ys distinct e =
-      let a = bind_ok (locate_fault section (length earlier + 1) (one earlier d))
-      (λ x. each_row section one (earlier ++ x ∷ []) ds) ys e in
-      let taken = takes earlier d a.0
-      (locate_fault_ok section (length earlier + 1) (one earlier d) a.0 a.1) in
+      let a = located_ok _ (one earlier d) (λ x. each_row section one (earlier ++ x ∷ []) ds) ys e in
+      let taken = takes earlier d a.0 a.1 in
       let (xs, is, denoted, apart) =
       each_row-denotes takes (earlier ++ a.0 ∷ []) ds ys
       (AreDistinctBy-push key test same earlier a.0 distinct taken.1) a.2 in
@@ -356,7 +353,7 @@ module _ {X K : Type 0} (section : Section) (one : List X → Data → Result X 
       → list_any (λ y. test y x) earlier ≡ false → one earlier d ≡ Ok x)
       → (earlier : List X) (ds : List Data) (xs : List X) → EachDenotes Denotation ds xs
       → AreDistinctBy key (earlier ++ xs) → each_row section one earlier ds ≡ Ok (earlier ++ xs)
-  unfolding each_row
+  unfolding read_rows
   each_row-from_denotes again earlier [] [] denoted distinct = ap Ok (sym (append-nil earlier))
   each_row-from_denotes again earlier [] (x ∷ xs) denoted distinct = absurd denoted
   each_row-from_denotes again earlier (d ∷ ds) [] denoted distinct = absurd denoted

@@ -1,10 +1,9 @@
 -- Steps that may fail.
-use Rattle.std.proofs.Common.{◌≡◌, ℕ, Bool, true, false, cond, Result, Ok, Err}
-use Rattle.std.proofs.Common.{refl}
-use Rattle.mc_topology.specs.declared.fault.Section.{Section}
-use Rattle.mc_topology.specs.declared.fault.TopologyFaultKind.{TopologyFaultKind}
+use Rattle.std.proofs.Common.{◌≡◌, Bool, true, false, cond, Result, Ok, Err}
+use Rattle.std.proofs.Common.{refl, sym, ap, ◌∙◌}
 pub use Rattle.mc_text.proofs.StepLemmas.{bind_ok, ok_or_ok, ok_injective}
-use Rattle.mc_topology.specs.Answer.{locate_fault}
+use Rattle.mc_text.proofs.StepLemmas.{if_ok}
+use Rattle.mc_text.specs.Steps.{◌>>=◌, map_fault}
 
 module _ {A E : Type 0} where
   -- a test that fails
@@ -19,8 +18,21 @@ module _ {A E : Type 0} where
   test_ok true k r y e = (refl, e)
   test_ok false k r y e = absurd cc
 
--- a step that succeeds, with its place
-pub locate_fault_ok : {A : Type 0} (section : Section) (number : ℕ) (r : Result A TopologyFaultKind)
-    (x : A) → locate_fault section number r ≡ Ok x → r ≡ Ok x
-locate_fault_ok section number (Ok y) x e = cc
-locate_fault_ok section number (Err k) x e = absurd cc
+  -- a value that is given if it passes a test
+  pub checked_ok : (p : A → Bool) (k : E) (x y : A) → cond (p x) (Ok x) (Err k) ≡ Ok y
+      → (x ≡ y) × (p y ≡ true)
+  checked_ok p k x y e =
+      let t = if_ok (p x) k x y e in
+      (t.1, ap p (sym t.1) ∙ t.0)
+
+-- a step that succeeds, with its fault converted
+pub map_fault_ok : {A E F : Type 0} (as_ours : E → F) (r : Result A E) (x : A)
+    → map_fault as_ours r ≡ Ok x → r ≡ Ok x
+map_fault_ok as_ours (Ok y) x e = let same : y ≡ x = cc in cc
+map_fault_ok as_ours (Err fault) x e = absurd cc
+
+-- if two steps gave a value, the first with its fault converted, the first did
+pub located_ok : {A B E F : Type 0} (as_ours : E → F) (r : Result A E) (f : A → Result B F) (y : B)
+    → (map_fault as_ours r >>= f) ≡ Ok y → (x : A) × (r ≡ Ok x) × (f x ≡ Ok y)
+located_ok as_ours (Ok x) f y e = (x, refl, e)
+located_ok as_ours (Err fault) f y e = absurd cc

@@ -33,22 +33,28 @@ use Rattle.mc_topology.specs.Flows.{flow_of, flow_rows, flows_in}
 use Rattle.mc_topology.specs.Bounds.{is_bounded}
 use Rattle.mc_topology.specs.Reading.{top_keys, require_utf8, parse_toml, table_of, document_of}
 use Rattle.mc_topology.specs.Reading.{check_version, topology_in, parse_topology, parse_unbounded_topology}
-use Rattle.mc_topology.specs.Denotation.{HasNumber, EachDenotes, DenotesLan, DenotesRouter, DenotesInterface}
-use Rattle.mc_topology.specs.Denotation.{DenotesSource, DenotesFlow, DenotesLans, DenotesSection, DenotesDocument}
-use Rattle.mc_topology.specs.Denotation.{DenotesTopology, DenotesBoundedTopology}
+use Rattle.mc_topology.specs.Denotation.{HasNumber, EachDenotes, DenotesLan, DenotesRouter}
+use Rattle.mc_topology.specs.Denotation.{DenotesInterface, DenotesSource, DenotesFlow, DenotesLans}
+use Rattle.mc_topology.specs.Denotation.{DenotesSection, DenotesDocument, DenotesTopology}
+use Rattle.mc_topology.specs.Denotation.{DenotesBoundedTopology}
 use Rattle.mc_topology.specs.Topology.{TopologyValue, lan_key, router_key, interface_key}
 use Rattle.mc_topology.specs.Topology.{source_key, flow_key}
 use Rattle.mc_topology.proofs.Distinct.{AreDistinctBy-none}
-use Rattle.mc_topology.proofs.Fields.{HasNumber-from_number_at, number_at-from_HasNumber, array-from_list_at}
-use Rattle.mc_topology.proofs.Fields.{list_at-from_array, AreRows-from_optional_list_at, optional_list_at-from_AreRows}
+use Rattle.mc_topology.proofs.Fields.{HasNumber-from_number_at, number_at-from_HasNumber}
+use Rattle.mc_topology.proofs.Fields.{array-from_list_at, list_at-from_array}
+use Rattle.mc_topology.proofs.Fields.{AreRows-from_optional_list_at, optional_list_at-from_AreRows}
 use Rattle.mc_topology.proofs.Fields.{AreRows-from_rows_at, rows_at-from_AreRows}
 use Rattle.mc_topology.proofs.Keys.{same_lan, same_lan-Decides, same_router, same_router-Decides}
 use Rattle.mc_topology.proofs.Keys.{same_interface, same_interface-Decides, same_source}
 use Rattle.mc_topology.proofs.Keys.{same_source-Decides, same_flow, same_flow-Decides}
-use Rattle.mc_topology.proofs.SectionParts.{each_row-denotes, each_row-from_denotes, lan_name_of-denotes, lan_name_of-from_denotes, router_of-denotes}
-use Rattle.mc_topology.proofs.SectionParts.{router_of-from_denotes, interface_of-denotes, interface_of-from_denotes}
-use Rattle.mc_topology.proofs.SectionParts.{source_of-denotes, source_of-from_denotes, flow_of-denotes, flow_of-from_denotes}
-use Rattle.mc_topology.proofs.Steps.{bind_ok, refusal_ok, test_ok, ok_or_ok, ok_injective, locate_fault_ok}
+use Rattle.mc_topology.proofs.SectionParts.{each_row-denotes, each_row-from_denotes, lan_name_of-denotes}
+use Rattle.mc_topology.proofs.SectionParts.{lan_name_of-from_denotes, router_of-denotes}
+use Rattle.mc_topology.proofs.SectionParts.{router_of-from_denotes, interface_of-denotes}
+use Rattle.mc_topology.proofs.SectionParts.{interface_of-from_denotes, source_of-denotes}
+use Rattle.mc_topology.proofs.SectionParts.{source_of-from_denotes, flow_of-denotes}
+use Rattle.mc_topology.proofs.SectionParts.{flow_of-from_denotes}
+use Rattle.mc_topology.proofs.Steps.{bind_ok, refusal_ok, test_ok, checked_ok, ok_or_ok, ok_injective}
+use Rattle.mc_topology.proofs.Steps.{located_ok}
 
 -- ---- sections
 
@@ -61,10 +67,11 @@ module _ {X K : Type 0} (name : Section) (word : List ℕ) (most : ℕ)
       → (locate_fault name 0 (rows_at word most ms) >>= each_row name one []) ≡ Ok xs
       → DenotesSection word most Denotation key ms xs
   section-denotes takes ms xs e =
-      let a = bind_ok (locate_fault name 0 (rows_at word most ms)) (each_row name one []) xs e in
-      let rows = AreRows-from_rows_at word most ms a.0 (locate_fault_ok name 0 (rows_at word most ms) a.0 a.1) in
+      let a = located_ok _ (rows_at word most ms) (each_row name one []) xs e in
+      let rows = AreRows-from_rows_at word most ms a.0 a.1 in
       let (ys, is, denoted, distinct) =
-      each_row-denotes name one Denotation key test same takes [] a.0 xs (AreDistinctBy-none key test same) a.2 in
+      each_row-denotes name one Denotation key test same takes [] a.0 xs
+      (AreDistinctBy-none key test same) a.2 in
       record {
         rows = a.0;
         list = rows.0;
@@ -96,7 +103,8 @@ routers_in-from_denotes : (ms : Members) (rs : List RouterRow)
 unfolding routers_in
 routers_in-from_denotes ms rs s =
     section-from_denotes section.Router
-    (codes "router") 256 router_of DenotesRouter router_key same_router same_router-Decides router_of-from_denotes
+    (codes "router") 256 router_of DenotesRouter router_key same_router same_router-Decides
+    router_of-from_denotes
     ms rs s
 
 -- the interfaces, beside LANs and routers,
@@ -142,21 +150,20 @@ sources_in-from_denotes lans ms ss s =
 lans_in-denotes : (ms : Members) (lans : List (List ℕ)) → lans_in ms ≡ Ok lans → DenotesLans ms lans
 unfolding lans_in lan_rows
 lans_in-denotes ms lans e =
-    let a = bind_ok (locate_fault section.Lans 0 (lan_rows ms)) (each_row section.Lans lan_name_of []) lans e in
+    let a = located_ok _ (lan_rows ms) (each_row section.Lans lan_name_of []) lans e in
     let l = bind_ok (list_at (codes "lans") ms)
-    (λ rows. cond (nat_le (length rows) 1024) (Ok rows) (Err TooMany)) a.0
-    (locate_fault_ok section.Lans 0 (lan_rows ms) a.0 a.1) in
-    let t = test_ok (nat_le (length l.0) 1024) TooMany (Ok l.0) a.0 l.2 in
-    let same : l.0 ≡ a.0 = ok_injective l.0 a.0 t.1 in
+    (λ rows. cond (nat_le (length rows) 1024) (Ok rows) (Err TooMany)) a.0 a.1 in
+    let (same, few) = checked_ok (λ (ds : List Data). nat_le (length ds) 1024) TooMany l.0 a.0 l.2 in
     let (items, has, rows) = array-from_list_at (codes "lans") ms l.0 l.1 in
     let (ys, is, denoted, distinct) =
-    each_row-denotes section.Lans lan_name_of DenotesLan lan_key same_lan same_lan-Decides lan_name_of-denotes [] a.0 lans
+    each_row-denotes section.Lans lan_name_of DenotesLan lan_key same_lan same_lan-Decides lan_name_of-denotes
+    [] a.0 lans
     (AreDistinctBy-none lan_key same_lan same_lan-Decides) a.2 in
     let all : a.0 ≡ rows_in items = sym same ∙ rows in
     record {
       items = items;
       list = has;
-      few = subst (λ (ds : List Data). length ds ≤ 1024) rows (leb-true (length l.0) 1024 t.0);
+      few = subst (λ (ds : List Data). length ds ≤ 1024) all (leb-true (length a.0) 1024 few);
       each_row = subst (λ (ds : List Data). EachDenotes DenotesLan ds lans) all
           (subst (λ (zs : List (List ℕ)). EachDenotes DenotesLan a.0 zs) (sym is) denoted);
       distinct = distinct;
@@ -170,7 +177,8 @@ lans_in-from_denotes ms lans s =
       list_at-from_array (codes "lans") ms s.items s.list,
       le-leb (length (rows_in s.items)) 1024 s.few,
     )
-    (each_row-from_denotes section.Lans lan_name_of DenotesLan lan_key same_lan same_lan-Decides lan_name_of-from_denotes []
+    (each_row-from_denotes section.Lans lan_name_of DenotesLan lan_key same_lan same_lan-Decides
+    lan_name_of-from_denotes []
     (rows_in s.items) lans s.each_row s.distinct)
 
 -- ---- flows
@@ -189,15 +197,12 @@ flows_in-denotes : (sources : List SourceRow) (ms : Members) (fs : List Flow)
     → DenotesSection (codes "flow") 4096 (DenotesFlow sources) flow_key ms fs × (0 < length fs)
 unfolding flows_in flow_rows
 flows_in-denotes sources ms fs e =
-    let a = bind_ok (locate_fault section.Flow 0 (flow_rows ms))
-    (each_row section.Flow (flow_of sources) []) fs e in
+    let a = located_ok _ (flow_rows ms) (each_row section.Flow (flow_of sources) []) fs e in
     let l = bind_ok (optional_list_at (codes "flow") ms)
     (λ rows. cond (eqb (length rows) 0) (Err NoFlow)
-    (cond (nat_le (length rows) 4096) (Ok rows) (Err TooMany))) a.0
-    (locate_fault_ok section.Flow 0 (flow_rows ms) a.0 a.1) in
+    (cond (nat_le (length rows) 4096) (Ok rows) (Err TooMany))) a.0 a.1 in
     let some = refusal_ok (eqb (length l.0) 0) NoFlow _ a.0 l.2 in
-    let t = test_ok (nat_le (length l.0) 4096) TooMany (Ok l.0) a.0 some.1 in
-    let same : l.0 ≡ a.0 = ok_injective l.0 a.0 t.1 in
+    let (same, few) = checked_ok (λ (ds : List Data). nat_le (length ds) 4096) TooMany l.0 a.0 some.1 in
     let (ys, is, denoted, distinct) =
     each_row-denotes section.Flow (flow_of sources) (DenotesFlow sources) flow_key same_flow same_flow-Decides
     (flow_of-denotes sources) [] a.0 fs (AreDistinctBy-none flow_key same_flow same_flow-Decides) a.2 in
@@ -208,7 +213,7 @@ flows_in-denotes sources ms fs e =
       record {
         rows = a.0;
         list = AreRows-from_optional_list_at (codes "flow") ms a.0 (l.1 ∙ ap Ok same);
-        few = subst (λ (ds : List Data). length ds ≤ 4096) same (leb-true (length l.0) 4096 t.0);
+        few = leb-true (length a.0) 4096 few;
         each_row = denoted';
         distinct = distinct;
       },
@@ -227,7 +232,8 @@ flows_in-from_denotes sources ms fs s some =
       ne_eqb (length s.rows) 0 (λ e. omega (arith, e, long)),
       le-leb (length s.rows) 4096 s.few,
     )
-    (each_row-from_denotes section.Flow (flow_of sources) (DenotesFlow sources) flow_key same_flow same_flow-Decides
+    (each_row-from_denotes section.Flow (flow_of sources)
+    (DenotesFlow sources) flow_key same_flow same_flow-Decides
     (flow_of-from_denotes sources) [] s.rows fs s.each_row s.distinct)
 
 -- ---- the document
@@ -248,20 +254,21 @@ HasNumber-from_check_version ms e =
 check_version-from_HasNumber : (ms : Members) → has_only top_keys ms ≡ true → HasNumber (codes "version") ms 1
     → check_version ms ≡ Ok tt
 unfolding check_version
-check_version-from_HasNumber ms keys one = rw (keys, number_at-from_HasNumber (codes "version") ms (pos 1) one) refl
+check_version-from_HasNumber ms keys one =
+    rw (keys, number_at-from_HasNumber (codes "version") ms (pos 1) one) refl
 
 -- a table that is read denotes what is read
 pub topology_in-denotes : (ms : Members) (t : TopologyValue) → topology_in ms ≡ Ok t
     → DenotesDocument ms t
 unfolding topology_in
 topology_in-denotes ms t e =
-    let version = bind_ok (locate_fault section.Top 0 (check_version ms)) _ t e in
+    let version = located_ok _ (check_version ms) _ t e in
     let lans = bind_ok (lans_in ms) _ t version.2 in
     let routers = bind_ok (routers_in ms) _ t lans.2 in
     let interfaces = bind_ok (interfaces_in lans.0 routers.0 ms) _ t routers.2 in
     let sources = bind_ok (sources_in lans.0 ms) _ t interfaces.2 in
     let flows = bind_ok (flows_in sources.0 ms) _ t sources.2 in
-    let top = HasNumber-from_check_version ms (locate_fault_ok section.Top 0 (check_version ms) version.0 version.1) in
+    let top = HasNumber-from_check_version ms version.1 in
     let flow = flows_in-denotes sources.0 ms flows.0 flows.1 in
     let made : TopologyValue = record {
       lans = lans.0;
@@ -300,13 +307,13 @@ topology_in-from_denotes ms t is =
 -- ---- the text
 
 -- a text that is read without the bounds denotes what is read
-pub parse_unbounded_topology-denotes : (text : List ℕ) (t : TopologyValue) → parse_unbounded_topology text ≡ Ok t
+pub parse_unbounded_topology-denotes : (text : List ℕ) (t : TopologyValue)
+    → parse_unbounded_topology text ≡ Ok t
     → DenotesTopology text t
 unfolding parse_unbounded_topology table_of parse_toml require_utf8
 parse_unbounded_topology-denotes text t e =
-    let a = bind_ok (locate_fault section.Top 0 (table_of text)) topology_in t e in
-    let document = locate_fault_ok section.Top 0 (table_of text) a.0 a.1 in
-    let small = test_ok (nat_le (length text) 16777216) TooMany _ a.0 document in
+    let a = located_ok _ (table_of text) topology_in t e in
+    let small = test_ok (nat_le (length text) 16777216) TooMany _ a.0 a.1 in
     let utf8 = bind_ok (require_utf8 text) (λ x. ok_or (parse_document x) NotToml) a.0 small.1 in
     let is = test_ok (is_utf8 text) NotToml (Ok text) utf8.0 utf8.1 in
     let same : text ≡ utf8.0 = ok_injective text utf8.0 is.1 in
@@ -331,7 +338,8 @@ parse_unbounded_topology-from_denotes text t is =
     ) refl
 
 -- a text within the bounds is read as without them
-parse_topology-bounded : (text : List ℕ) → is_bounded text ≡ true → parse_topology text ≡ parse_unbounded_topology text
+parse_topology-bounded : (text : List ℕ) → is_bounded text ≡ true
+    → parse_topology text ≡ parse_unbounded_topology text
 unfolding parse_topology document_of parse_unbounded_topology table_of
 parse_topology-bounded text bounded = rw (bounded, and-true (nat_le (length text) 16777216)) refl
 
@@ -340,10 +348,9 @@ parse_topology-unbounded : (text : List ℕ) (t : TopologyValue) → is_bounded 
     → parse_topology text ≡ Ok t → ⊥
 unfolding parse_topology document_of
 parse_topology-unbounded text t beyond e =
-    let a = bind_ok (locate_fault section.Top 0 (document_of text)) topology_in t e in
-    let document = locate_fault_ok section.Top 0 (document_of text) a.0 a.1 in
+    let a = located_ok _ (document_of text) topology_in t e in
     let small = test_ok (nat_le (length text) 16777216 && is_bounded text) TooMany (parse_toml text)
-    a.0 document in
+    a.0 a.1 in
     let (few, bounded) = and_parts (nat_le (length text) 16777216) (is_bounded text) small.0 in
     false≢true (sym beyond ∙ bounded)
 
@@ -363,4 +370,5 @@ parse_topology-denotes text t e = parse_topology-denotes_by_cases (is_bounded te
 -- a text within the bounds that denotes a topology is read as that
 pub parse_topology-from_denotes : (text : List ℕ) (t : TopologyValue) → DenotesBoundedTopology text t
     → parse_topology text ≡ Ok t
-parse_topology-from_denotes text t is = parse_topology-bounded text is.bounded ∙ parse_unbounded_topology-from_denotes text t is.denotes
+parse_topology-from_denotes text t is =
+    parse_topology-bounded text is.bounded ∙ parse_unbounded_topology-from_denotes text t is.denotes

@@ -9,8 +9,8 @@ use Rattle.mc_topology.specs.Document.{rows_in}
 use Rattle.mc_topology.specs.Names.{is_name}
 use Rattle.mc_topology.specs.Sources.{lan_of_source}
 use Rattle.mc_topology.specs.Reading.{topology_in}
-use Rattle.mc_topology.specs.Denotation.{EachDenotes, DenotesLan, DenotesRouter, DenotesInterface, DenotesSource, DenotesFlow}
-use Rattle.mc_topology.specs.Denotation.{DenotesDocument, DenotesTopology}
+use Rattle.mc_topology.specs.Denotation.{EachDenotes, DenotesLan, DenotesRouter, DenotesInterface}
+use Rattle.mc_topology.specs.Denotation.{DenotesSource, DenotesFlow, DenotesDocument, DenotesTopology}
 use Rattle.mc_topology.specs.Topology.{TopologyValue, IsValidInterface, IsValidSource, IsValidFlow}
 use Rattle.mc_topology.specs.Topology.{IsValidTopology}
 use Rattle.mc_topology.proofs.NameLemmas.{index_of-below_length, router_no_of-below_length}
@@ -36,7 +36,8 @@ lan_of_source-below_length lans [] (x ∷ ss) address lan s e = absurd s
 lan_of_source-below_length lans (d ∷ ds) [] address lan s e = absurd s
 lan_of_source-below_length lans (d ∷ ds) (x ∷ ss) address lan s e =
     lan_of_source-first_below x ss address lan (length lans) (x.address == address)
-    (index_of-below_length lans x.lan s.0.lan_name s.0.lan) (λ h. lan_of_source-below_length lans ds ss address lan s.1 h) e
+    (index_of-below_length lans x.lan s.0.lan_name s.0.lan)
+    (λ h. lan_of_source-below_length lans ds ss address lan s.1 h) e
 
 -- the row that denotes the value at a place
 denoting_row : {X : Type 0} (Denotation : Data → X → Type 0) (ds : List Data) (xs : List X) (n : ℕ) (x : X)
@@ -111,7 +112,8 @@ IsValidTopology-from_document ms t is =
       distinct_flows = is.flows.distinct;
       valid_lan_names = λ n name. EachDenotes-implies DenotesLan (λ (x : List ℕ). IsTrue (is_name x))
           (λ d x lan. lan.fits) (rows_in is.lans.items) t.lans n name is.lans.each_row;
-      valid_router_names = λ n r. EachDenotes-implies DenotesRouter (λ (x : RouterRow). IsTrue (is_name x.name))
+      valid_router_names = λ n r. EachDenotes-implies DenotesRouter
+          (λ (x : RouterRow). IsTrue (is_name x.name))
           (λ d x router. router.fits) is.routers.rows t.routers n r is.routers.each_row;
       valid_interfaces = λ n i. EachDenotes-implies (DenotesInterface t.lans t.routers) (IsValidInterface t)
           (IsValidInterface-from_denotes t) is.interfaces.rows t.interfaces n i is.interfaces.each_row;
@@ -121,14 +123,17 @@ IsValidTopology-from_document ms t is =
           λ n f e.
           let row = denoting_row (DenotesFlow t.sources) is.flows.rows t.flows n f is.flows.each_row e in
           IsValidFlow-from_denotes t.lans t.sources f row.0 row.1
-          (λ address lan at. lan_of_source-below_length t.lans is.sources.rows t.sources address lan is.sources.each_row
+          (λ address lan at. lan_of_source-below_length t.lans is.sources.rows t.sources address lan
+          is.sources.each_row
           at);
     }
 
 -- and so is what a text denotes,
-pub IsValidTopology-from_denotes : (text : List ℕ) (t : TopologyValue) → DenotesTopology text t → IsValidTopology t
+pub IsValidTopology-from_denotes : (text : List ℕ) (t : TopologyValue) → DenotesTopology text t
+    → IsValidTopology t
 IsValidTopology-from_denotes text t is = IsValidTopology-from_document is.document t is.denotes
 
 -- and what is read of a table
-pub IsValidTopology-from_topology_in : (ms : Members) (t : TopologyValue) → topology_in ms ≡ Ok t → IsValidTopology t
+pub IsValidTopology-from_topology_in : (ms : Members) (t : TopologyValue) → topology_in ms ≡ Ok t
+    → IsValidTopology t
 IsValidTopology-from_topology_in ms t e = IsValidTopology-from_document ms t (topology_in-denotes ms t e)

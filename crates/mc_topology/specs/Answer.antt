@@ -1,20 +1,18 @@
 -- The results of steps that may fail, and how a call's result agrees with them.
-use Rattle.std.specs.Prelude.{◌≡◌, ℕ, ◌+◌, List, [], ◌∷◌, ◌++◌, length, Result, Ok, Err}
-use Rattle.std.specs.Prelude.{ℕ, List, codes}
+use Rattle.std.specs.Prelude.{◌≡◌, ℕ, ◌+◌, List, [], ◌∷◌, ◌++◌, length, Result, Ok, Err, codes}
 use Rattle.mc_topology.specs.declared.fault.Section.{Section}
 use Rattle.mc_topology.specs.declared.fault.Section.TheVariants.{Top, Lans, Router, Interface}
 use Rattle.mc_topology.specs.declared.fault.Section.TheVariants.{Source, Flow}
 pub use Rattle.mc_text.specs.Steps.{◌>>=◌}
-use Rattle.mc_topology.specs.declared.fault.Section.{Section}
-use Rattle.mc_topology.specs.declared.fault.Section.TheVariants.{Top}
+use Rattle.mc_text.specs.Steps.{map_fault}
 use Rattle.mc_topology.specs.declared.fault.TopologyFaultKind.{TopologyFaultKind}
 use Rattle.mc_topology.specs.declared.fault.TopologyFaultKind.TheVariants.{Memory}
 use Rattle.mc_topology.specs.declared.fault.TopologyFault.{TopologyFault}
 
 -- the result of a step, with its fault placed in the row of a section with this number
 abbrev pub locate_fault : {A : Type 0} → Section → ℕ → Result A TopologyFaultKind → Result A TopologyFault
-locate_fault section number (Ok x) = Ok x
-locate_fault section number (Err kind) = Err (record { section = section; number = number; kind = kind })
+locate_fault section number =
+    map_fault (λ kind. record { section = section; number = number; kind = kind })
 
 -- a call's result is that of the step, seen by view
 abbrev pub ResultsAgree : {X Y E : Type 0} → (X → Y) → Result X E → Result Y E → Type 0
@@ -25,13 +23,17 @@ ResultsAgree view (Err e) step = step ≡ Err e
 abbrev pub out_of_memory : TopologyFault
 out_of_memory = record { section = Top; number = 0; kind = Memory }
 
--- The values of the rows of a section, each read beside those before it, or the first fault.
-unfoldable pub each_row : {D X : Type 0} → Section → (List X → D → Result X TopologyFaultKind)
-    → List X → List D → Result (List X) TopologyFault
-each_row section one earlier [] = Ok earlier
-each_row section one earlier (d ∷ ds) =
-    locate_fault section (length earlier + 1) (one earlier d) >>= λ x.
-    each_row section one (earlier ++ x ∷ []) ds
+-- The values of rows, each read beside those before it, or the first fault.
+unfoldable pub read_rows : {D X E : Type 0} → (List X → D → Result X E) → List X → List D
+    → Result (List X) E
+read_rows one earlier [] = Ok earlier
+read_rows one earlier (d ∷ ds) = one earlier d >>= λ x. read_rows one (earlier ++ x ∷ []) ds
+
+-- the same for a section, where a fault has the number of its row, counted from 1
+abbrev pub each_row : {D X : Type 0} → Section → (List X → D → Result X TopologyFaultKind) → List X
+    → List D → Result (List X) TopologyFault
+each_row section one =
+    read_rows (λ earlier d. locate_fault section (length earlier + 1) (one earlier d))
 
 abbrev pub section_text : Section → List ℕ
 section_text Top = codes "top"

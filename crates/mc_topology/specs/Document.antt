@@ -15,9 +15,13 @@ abbrev pub keys_in : Members → List (List ℕ)
 keys_in no_members = []
 keys_in (member key d ms) = key ∷ keys_in ms
 
+-- each key is one of the known ones
+abbrev pub are_known : List (List ℕ) → List (List ℕ) → Bool
+are_known known keys = list_all (λ key. list_any (λ k. bytes_eq k key) known) keys
+
 -- the table has no other keys than the known ones
 abbrev pub has_only : List (List ℕ) → Members → Bool
-has_only known ms = list_all (λ key. list_any (λ k. bytes_eq k key) known) (keys_in ms)
+has_only known ms = are_known known (keys_in ms)
 
 -- the values of a list
 abbrev pub rows_in : Items → List Data

@@ -111,8 +111,13 @@ def told_addresses(text):
     if not text.startswith("["):
         return [(device, told_address(local, peer, int(prefix[:3])))
                 for device, local, peer, prefix in ADDRESS_LINE.findall(text)]
+    return link_addresses(json.loads(text))
+
+
+def link_addresses(links):
+    """Returns devices and addresses of the value that `ip -j address` prints."""
     return [(link["ifname"], told_address(it.get("local"), it.get("address"), it.get("prefixlen")))
-            for link in json.loads(text) for it in link.get("addr_info", []) if it.get("family") == "inet"]
+            for link in links for it in link.get("addr_info", []) if it.get("family") == "inet"]
 
 
 def told_networks(text, order):

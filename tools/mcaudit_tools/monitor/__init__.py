@@ -21,16 +21,16 @@ from mcaudit_tools.files import failing, printing, read_json, write_beside
 from mcaudit_tools.monitor import metrics, plugin
 from mcaudit_tools.monitor.judged import judged_of
 from mcaudit_tools.monitor.words import read_arguments
+from mcaudit_tools.premises import beside
 from mcaudit_tools.programs import RUNNING, run
 
 MOST_SHOWN = 20  # flows that are wrong
 MOST_TEXT = 1 << 20  # bytes of what mcaudit-collect prints, and of what is kept of what mcaudit-diff does
 MOST_CHANGES = 1 << 30  # bytes of what mcaudit-diff prints
 MOST_STATE = 1 << 20  # bytes of what is kept
-AUDITING = 300  # seconds that an audit may take
 GRACE = 5  # seconds that what it runs has to end what that began
 YOUNG = 600  # seconds in which no set is removed
-NEWEST = 2  # sets that are never removed
+NEWEST = 4  # sets that are never removed: of so many the counters say whether packets flow
 FAULT_CHANGE = re.compile(r"flow \S+ \S+: (new fault: |fault gone: |fault .*, was )")  # as mcaudit-diff tells it
 
 
@@ -66,6 +66,7 @@ class Run:
         self.state, self.folder, self.is_locked = {}, None, False
         self.judged, self.text, self.changes, self.count, self.faults = None, None, None, 0, []
         self.origins, self.origins_fault, self.known_ages, self.is_comparing = {}, None, None, True
+        self.beside = None  # what stands beside the verdict
 
     def is_answered(self):
         """Whether there is an answer: nothing failed, or the verdict is no in spite of what failed behind it."""
@@ -127,7 +128,7 @@ class Run:
         """Audits the set that the site leads to now, whatever it leads to meanwhile."""
         self.folder = os.path.realpath(self.site)
         status, self.text, said = self.command([find_tool("mcaudit"), "audit", "--json", "--unlisted", self.folder],
-                                               audits.MOST_BYTES, limit=AUDITING)
+                                               audits.MOST_BYTES, limit=audits.AUDITING)
         if os.path.lexists(self.site):
             self.check_folder()
         if status not in (0, 1):
@@ -178,7 +179,7 @@ class Run:
             return
         head = Head()
         status, _, said = self.command([find_tool("mcaudit-diff"), path, "/dev/stdin"], MOST_CHANGES, self.text,
-                                       AUDITING, head)
+                                       audits.AUDITING, head)
         if status == 2:
             self.say(said or f"mcaudit-diff refuses the audit of {last}")
             self.is_comparing = False
@@ -194,6 +195,7 @@ class Run:
         if not self.words.no_collect:
             self.collect()
         self.judge()
+        self.beside = beside.look(self.text, self.site, self.folder, self.ages())
         if not self.words.no_collect:
             self.compare()
         if not self.words.plugin:
@@ -205,7 +207,7 @@ class Run:
         numbers = ", ".join(f"{key} {judged.counts[key]}" for key in ("flows", "right", "wrong", "unwanted"))
         lines = [f"{os.path.basename(self.folder)}: verdict {'yes' if judged.is_right else 'no'}, {numbers}, "
                  f"unlisted {judged.unlisted}"]
-        lines += self.ages().sentences()
+        lines += self.ages().sentences() + self.beside.sentences()
         lines += [f"wrong: {it}" for it in judged.wrong[:MOST_SHOWN]]
         if len(judged.wrong) > MOST_SHOWN:
             lines.append(f"and {len(judged.wrong) - MOST_SHOWN} more")

@@ -9,7 +9,7 @@ from mcaudit_tools import audit as audits
 class Judged:
     """What an audit says."""
     is_right: bool
-    counts: dict  # flows, right, wrong, unwanted
+    counts: dict  # flows, right, wrong, unknown, unwanted
     wrong: list  # texts: source, group and finding
     unwanted: list  # texts: source and group
     unlisted: int
@@ -30,6 +30,7 @@ def judged_of(text):
                 found = line["finding"]
                 place = [str(found[it]) for it in ("kind", "lan", "router", "vif") if it in found]
                 wrong.append(" ".join([name, *place]))
-            elif not line["wanted"]:
+            elif "finding" not in line and not line["wanted"]:
                 unwanted.append(name)
-    return Judged(verdict == "yes", counts, wrong, unwanted, unlisted, domain["routers"], domain["lans"])
+    routers = [it["name"] for it in domain["routers"]]
+    return Judged(verdict == "yes", counts, wrong, unwanted, unlisted, routers, domain["lans"])

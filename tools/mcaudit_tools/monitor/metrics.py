@@ -24,7 +24,7 @@ def samples_of(work):
                 ("flows_unwanted", "Listed flows that are right and wanted by no LAN.", judged.counts["unwanted"]),
                 ("unlisted_pairs", "Sources and groups in the caches that are no listed flow's.", judged.unlisted)]
     metrics = [(name, about, [({}, value)]) for name, about, value in one if value is not None]
-    return metrics + age_samples(work.ages())
+    return metrics + age_samples(work.ages()) + (work.beside.samples() if judged and work.beside else [])
 
 
 def age_samples(ages):

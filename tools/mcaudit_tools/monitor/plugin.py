@@ -24,7 +24,7 @@ def warnings_of(work):
                 found.append(f"{what} {name} are of a later time than now")
             elif age_of(written, now) > most:
                 found.append(f"{what} {name} are {age_of(written, now)} s old")
-    return found
+    return found + (work.beside.warnings() if work.beside else [])
 
 
 def changes_text(count, changes):

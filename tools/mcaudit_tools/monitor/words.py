@@ -31,7 +31,8 @@ COLLECTS = [*REACH,
             ("--pause", "SECONDS", "wait so long between two readings of a router"),
             ("--timeout", "SECONDS", "give a router up when a reading takes longer"),
             ("--at-once", "N", "read at most N routers side by side"),
-            ("--facts", None, "bring the routers' addresses and routes too"),
+            ("--facts", None, "bring the routers' facts too, and warn where one of their own settings drops what its "
+             "tables forward (mcaudit-premises)"),
             ("--adopt", None, "if SITE is a plain folder, make it the first set")]
 MOST = 999_999_999  # sets that are kept, and seconds
 OPTIONS = [("--no-collect", None, "judge what SITE has: nothing is read of a router, compared or kept"),

@@ -7,6 +7,7 @@ than text in it: each text is escaped where it is put, and the page's policy let
 import os
 import sys
 
+from mcaudit_tools import audit as audits
 from mcaudit_tools.common import Parser, find_tool
 from mcaudit_tools.files import beside, failing, printing
 from mcaudit_tools.page.answer import read_audit, run_audit
@@ -76,6 +77,6 @@ def main():
     page = page_of(audit, graph if graph.lay_out() else None, folder)
     if words.audit is None:
         folder.check()
-    counts = " ".join(f"{name} {audit.summary[name]}" for name in ("flows", "right", "wrong", "unwanted"))
+    counts = " ".join(f"{name} {audit.summary[name]}" for name in audits.COUNTS)
     write_page(words.o, page, f"{counts}, verdict {audit.verdict}")
     return 0 if audit.verdict == "yes" else 1

@@ -6,7 +6,7 @@ import sys
 from mcaudit_tools import audit as audits
 from mcaudit_tools.common import Failed, Refused, find_tool, options_of
 from mcaudit_tools.page.explain import FLOW, SEEN, device_text, explanation, some
-from mcaudit_tools.page.travel import Travel, tree_of
+from mcaudit_tools.page.travel import steps_of, tree_of
 
 Port = collections.namedtuple("Port", "router device vif lan")
 
@@ -16,7 +16,7 @@ class Domain:
 
     def __init__(self, line):
         """Takes the domain of the first line."""
-        self.lans, self.routers = ([str(it) for it in line[kind]] for kind in ("lans", "routers"))
+        self.lans, self.routers = [str(it) for it in line["lans"]], [str(it["name"]) for it in line["routers"]]
         self.lan_numbers, self.router_numbers = (
             {name: number for number, name in enumerate(names)} for names in (self.lans, self.routers))
         self.sources = {it["address"]: self.lan_numbers[it["lan"]] for it in line["sources"]}
@@ -24,10 +24,6 @@ class Domain:
         for it in line["interfaces"]:
             lan = None if it["lan"] is None and it["vif"] is not None else self.lan_numbers[it["lan"]]
             self.add(Port(self.router_numbers[it["router"]], device_text(it["device"], it["vif"]), it["vif"], lan))
-        self.of_router = collections.defaultdict(list)
-        for number, port in enumerate(self.ports):
-            if port.lan is not None and port.vif is not None:
-                self.of_router[port.router].append(number)
 
     def add(self, port):
         """Adds a vif, or an interface that has none."""
@@ -41,10 +37,6 @@ class Domain:
         if key not in self.by_vif:
             self.add(Port(key[0], device_text(None, vif), vif, None))
         return self.by_vif[key]
-
-    def beside(self, port):
-        """Returns the vifs on LANs of the router of a vif."""
-        return self.of_router[self.ports[port].router]
 
     def port_of_device(self, router, device):
         """Returns the number of the router's interface of this name."""
@@ -78,38 +70,42 @@ class Audit:
         elif "without" in line:
             self.without = [str(it) for it in line["without"]]
         elif "summary" in line:
-            self.summary = {key: int(line["summary"][key]) for key in ("flows", "right", "wrong", "unwanted")}
-        else:
+            self.summary = {key: int(line["summary"][key]) for key in audits.COUNTS}
+        elif "verdict" in line:
             self.verdict = {"yes": "yes", "no": "no"}[line["verdict"]]
 
     def flow(self, line):
         """Returns a flow: by its tree, or where it is not right, with what explains it."""
+        wanted = line.get("wanted", []) if "finding" in line else line["wanted"]  # format 1 doesn't say it of a fault
         flow = {"number": int(line["flow"]), "source": str(line["source"]), "group": str(line["group"]),
-                "ttl": int(line["ttl"]), "lan": self.domain.sources[line["source"]]}
-        if line["right"] is False:
+                "ttl": int(line["ttl"]), "lan": self.domain.sources[line["source"]],
+                "state": {True: "right", False: "wrong", None: "unknown"}[line["right"]],
+                "wanted": [self.domain.lan_numbers[lan] for lan in wanted]}
+        if "finding" in line:
             return flow | self.fault(line, flow)
-        return flow | {"copies": int(line["copies"]), "tree": range(len(self.trees))[line["tree"]],
-                       "wanted": [self.domain.lan_numbers[lan] for lan in line["wanted"]]}
+        return flow | {"copies": int(line["copies"]), "tree": range(len(self.trees))[line["tree"]]}
 
     def fault(self, line, flow):
-        """Returns what is told of a flow that is not right."""
-        domain, finding = self.domain, line["finding"]
+        """Returns what is told of a flow with a finding."""
+        domain, finding, kind = self.domain, line["finding"], "doubt" if flow["state"] == "unknown" else "fault"
         told = [[text.replace(f"({flow['source']},{flow['group']})", FLOW), marks]
                 for text, marks in explanation(domain, line["why"])]
         also = [str(lan) for lan in line["also"]]
         if also:
-            marks = [[f"l{domain.lan_numbers[lan]}", "fault", "missed"] for lan in also]
+            marks = [[f"l{domain.lan_numbers[lan]}", kind, "missed"] for lan in also]
             told.append([f"also missed: {some(also)}", marks])
-        travel = Travel(domain, line.get("events", []), line["why"], finding["kind"], flow["lan"], line["found_ttl"])
         if finding["kind"] == "Stray":
             port = domain.port(finding["router"], finding["vif"])
             place, words = f"p{port}", f"{finding['router']} {finding['vif']} ({domain.ports[port].device})"
         else:
             place, words = f"l{domain.lan_numbers[finding['lan']]}", finding["lan"]
-        told.insert(0, ["", [[place, "fault", SEEN[finding["kind"]]]]])
+        if line.get("shown_from") is not None:
+            told.insert(0, [f"shown by packets sent with ttl {int(line['shown_from'])} or more", []])
+        told.insert(0, ["", [[place, kind, SEEN[finding["kind"]]]]])
+        steps = json.dumps(steps_of(domain, line.get("events", [])))
         return {"kind": finding["kind"], "place": str(words), "found_ttl": int(line["found_ttl"]),
                 "why": self.reasons.setdefault(json.dumps(told), len(self.reasons)),
-                "travel": self.travels.setdefault(json.dumps(travel.steps()), len(self.travels))}
+                "travel": self.travels.setdefault(steps, len(self.travels))}
 
 
 def audit_of(objects):

@@ -121,7 +121,7 @@ function markTree(flow) {
     if (port === null) continue;
     markPort(port, "way", true);
     mark("r" + data.ports[port][0], "way");
-    for (const it of start) markPort(it, start.length > 1 ? "maybe" : "way", false);
+    if (start !== null) markPort(start, "way", false);
   }
   for (const lan of flow.wanted) sign("l" + lan, "yes", "✓ wanted, gets it");
 }
@@ -308,13 +308,16 @@ function whyList(flow) {
 function stepText([port, ttl, outcome, copies, strays, sent]) {
   const [router, device, lan] = data.ports[port];
   const begin = `${data.routers[router]}, ${device} of ${data.lans[lan]}, ttl ${ttl}: `;
-  if (outcome !== 0) return begin + ["", "only a row for every source, which isn't followed", "no row: it ends here",
-    "its row takes from another interface: it ends here"][outcome];
-  const onto = sent.map(it => `${data.lans[data.ports[it][2]]} by ${data.ports[it][1]}`).join(", ");
-  const told = sent.length === copies ? " onto " : ", among them onto ";
+  if (outcome !== 0) return begin + ["", "only an entry for every source, which isn't followed",
+    "no entry: it ends here", "its entry takes from another interface: it ends here"][outcome];
+  const onto = [], out = [];
+  for (const [, name, on] of sent.map(it => data.ports[it]))
+    if (on === null) out.push(name); else onto.push(`${data.lans[on]} by ${name}`);
   const sends = copies ? "sends " + count(copies, "copy", "copies") : strays ? "" : "sends no copy";
-  return begin + sends + (onto && told + onto)
-    + (strays ? `${copies ? ", and " : ""}${count(strays, "copy leaves", "copies leave")} the known domain` : "");
+  const leaves = !strays ? "" : (copies ? ", and " : "") + count(strays, "copy leaves", "copies leave")
+    + " the known domain";
+  return begin + sends + (onto.length ? " onto " + onto.join(", ") : "")
+    + leaves + (out.length ? " by " + out.join(", ") : "");
 }
 
 function travelWords(flow) {
@@ -348,35 +351,33 @@ function travelWords(flow) {
 }
 
 function treeList(flow) {
-  const entries = data.trees[flow.tree], wanted = new Set(flow.wanted), below = new Map();
-  const byLan = new Map(entries.map(entry => [entry[0], entry]));
-  let root = null;
-  for (const entry of entries) {
-    const from = entry[4].map(it => data.ports[it][2]).filter(lan => byLan.has(lan))[0];
-    if (entry[3] === null || from === undefined) root = root || entry;
-    else below.set(from, [...(below.get(from) || []), entry]);
+  const wanted = new Set(flow.wanted), below = new Map();
+  for (const entry of data.trees[flow.tree]) {
+    const from = entry[4] === null ? null : data.ports[entry[4]][2];
+    below.set(from, [...(below.get(from) || []), entry]);
   }
-  function item(entry) {
-    const [lan, , need, port, start] = entry;
-    const by = port === null ? `, where ${flow.source} sends` : ` by ${data.routers[data.ports[port][0]]}, from `
-      + `${start.map(it => data.ports[it][1]).join(" or ")} to ${data.ports[port][1]}`;
+  function item([lan, , need, port, start]) {
+    const by = port === null ? `, where ${flow.source} sends` : ` by ${data.routers[data.ports[port][0]]}, `
+      + `${start === null ? "" : `from ${data.ports[start][1]} `}to ${data.ports[port][1]}`;
     const more = below.get(lan) || [];
     return make("li", {}, make("b", {}, data.lans[lan]), `${by}; reached with ttl ${need} or more`,
       ...(wanted.has(lan) ? [" ", make("span", { class: "yes" }, "✓ wanted")] : []),
       ...(more.length ? [make("ul", { class: "tree" }, ...more.map(item))] : []));
   }
-  return make("ul", { class: "tree" }, ...(root ? [item(root)] : []));
+  return make("ul", { class: "tree" }, ...(below.get(null) || []).map(item));
 }
 
 function findingWords(flow) {
   if (flow.kind) {
-    const said = `✗ not right: ${flow.kind} ${flow.place}, found with ttl ${flow.found_ttl}`;
-    return ["no", said, data.means[flow.kind]];
+    const words = `${flow.state}: ${flow.kind} ${flow.place}`;
+    return flow.state === "wrong" ? ["no", `✗ ${words}`, data.means[flow.kind]]
+      : ["unwanted", `? ${words}`, data.means.unknown];
   }
   const copies = `at most ${count(flow.copies, "LAN carries", "LANs carry")} each packet`;
   if (!flow.wanted.length)
     return ["unwanted", `○ ${data.right}, and wanted by nobody`, `No report asks for it; ${copies}.`];
-  return ["yes", `✓ ${data.right}`, `Each LAN that wants it gets it once; ${copies}.`];
+  const [kind, sign] = flow.state === "right" ? ["yes", "✓"] : ["unwanted", "?"];
+  return [kind, `${sign} ${data.right}`, `Each LAN that wants it gets it once; ${copies}.`];
 }
 
 function showFlow(number) {
@@ -400,7 +401,7 @@ function showFlow(number) {
     at("explained").append(...travelWords(flow));
     if (data.travels[flow.travel].length < 2) markTravel(flow, data.travels[flow.travel], 0);
   } else {
-    at("explained").replaceChildren(make("h3", {}, "The way of the flow"), treeList(flow));
+    at("explained").replaceChildren(make("h3", {}, "The path of the flow"), treeList(flow));
     markTree(flow);
   }
   showGraph(zoomMarked);
@@ -449,7 +450,7 @@ function moveLink(event) {
   if (rows[found[place]]) rows[found[place]].querySelector("a").focus();
 }
 
-// Shows the flow of the address, or the first that is not right.
+// Shows the flow of the address, or the first with a finding.
 function showAddressed() {
   const named = /^#flow-(\d+)$/.exec(location.hash);
   let number = named ? data.flows.findIndex(flow => flow.number === Number(named[1])) : -1;
@@ -461,7 +462,8 @@ function printFaults() {
   showRows(Infinity);
   const told = found.filter(number => number !== chosen && data.flows[number].kind).map(number => data.flows[number]);
   at("printed").replaceChildren(...told.flatMap(flow => [
-    make("h3", {}, `Flow ${flow.number}: ${flow.source} to ${flow.group}, ttl ${flow.ttl}: ${flow.kind} ${flow.place}`),
+    make("h3", {}, `Flow ${flow.number}: ${flow.source} to ${flow.group}, ttl ${flow.ttl}: `
+      + `${flow.state}: ${flow.kind} ${flow.place}`),
     make("ol", { class: "why" },
       ...data.reasons[flow.why].slice(1).map(([line]) => make("li", {}, lineText(flow, line))))]));
   if (told.length) at("printed").prepend(make("h2", {}, "What explains the other faults"));

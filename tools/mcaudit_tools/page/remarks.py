@@ -14,7 +14,7 @@ from mcaudit_tools.page.explain import some
 from mcaudit_tools.page.markup import table_of, tag
 
 SHOWN_UNLISTED = 1000
-UNSEEN = ("What the files don't show: rows for every source (*,G) and shared trees, netfilter, rp_filter, other "
+UNSEEN = ("What the files don't show: (*,G) entries and shared trees, netfilter, rp_filter, other "
           "multicast tables, links that are down, losses, and whatever changed since they were written. The guide "
           "tells of each under “What lies outside”")
 
@@ -114,7 +114,7 @@ def unjudged_section(audit, folder):
     alone = [name for lan, name in enumerate(domain.lans) if lan not in known]
     comments = comments_of(folder) if folder else []
     items = [(words, more) for is_there, words, more in (
-        (audit.without, f"Routers that were left out, whose tables are not known: {' '.join(audit.without)}", []),
+        (audit.without, f"Excluded routers, whose tables are unknown: {' '.join(audit.without)}", []),
         (audit.unlisted, f"Sources and groups that are no flow's: {len(audit.unlisted)}, told above", []),
         (lone, "Vifs on no LAN of the topology. A copy that is sent there has left the domain, which is a Stray",
          [f"{domain.routers[router]}: {' '.join(lone[router])}" for router in sorted(lone)]),

@@ -12,9 +12,9 @@ from mcaudit_tools.page.travel import OUTCOMES
 
 # Where the page's script runs, the table is laid out once, when it is whole, and not again and again
 WAIT = 'document.documentElement.dataset.ready = "no";'
-SIGNS = {"yes": "✓", "no": "✗", "unwanted": "○"}
-KEY = [("lan", "LAN"), ("router", "router, with its devices"), ("way", "the way of the flow"),
-       ("fault", "✗ fault"), ("mend", "✂ can be taken out"), ("doubt", "? waits, or not judged")]
+SIGNS = {"yes": "✓", "no": "✗", "right": "✓", "wrong": "✗", "unknown": "?", "unwanted": "○"}
+KEY = [("lan", "LAN"), ("router", "router, with its devices"), ("way", "the path of the flow"),
+       ("fault", "✗ fault"), ("mend", "✂ can be removed"), ("doubt", "? waits, or not audited")]
 
 
 def right_words(audit):
@@ -24,17 +24,17 @@ def right_words(audit):
 
 def verdict_words(audit):
     """Returns what the verdict says, in a sentence or two."""
-    flows, wrong, unwanted = (audit.summary[key] for key in ("flows", "wrong", "unwanted"))
+    flows, wrong, unknown, unwanted = (audit.summary[key] for key in ("flows", "wrong", "unknown", "unwanted"))
     if audit.verdict == "yes":
         said = ("However the routers take turns, no LAN carries a packet of a listed flow twice, no copy leaves the "
                 "listed LANs, and each LAN that wants a flow gets it, once, where no copy is lost.")
     elif wrong:
-        said = f"{wrong} of {flows} flows {'is' if wrong == 1 else 'are'} not right."
-        said = "The flow is not right." if flows == 1 else said
+        said = f"{wrong} of {flows} flows {'is' if wrong == 1 else 'are'} wrong."
+        said = "The flow is wrong." if flows == 1 else said
     else:
-        said = "No fault is known."
+        said = "No flow is known to be wrong."
     if audit.without:
-        said += f" Left out: {some(audit.without)}. A yes is said of whole domains only."
+        said += f" Unknown: {unknown}. Excluded: {some(audit.without)}. A yes requires all routers."
     if unwanted:
         flows_are = "flow is" if unwanted == 1 else "flows are"
         said += f" {unwanted} {flows_are} wanted by no LAN, as far as the reports show."
@@ -44,8 +44,8 @@ def verdict_words(audit):
 def header(audit, site):
     """Returns the verdict and what it is about."""
     summary, domain = audit.summary, audit.domain
-    facts = [("Flows", summary["flows"]), (right_words(audit).capitalize(), summary["right"]),
-             ("Not right", summary["wrong"]), ("Wanted by nobody", summary["unwanted"]), ("LANs", len(domain.lans)),
+    facts = [("Flows", summary["flows"]), *((it.capitalize(), summary[it]) for it in ("right", "wrong", "unknown")),
+             ("Wanted by nobody", summary["unwanted"]), ("LANs", len(domain.lans)),
              ("Routers", len(domain.routers)), ("Not listed", len(audit.unlisted))]
     return tag("header", tag("p", SIGNS[audit.verdict], class_="sign", aria_hidden="true"),
                tag("div", tag("h1", f"Verdict: {audit.verdict}"), tag("p", verdict_words(audit)), class_="said"),
@@ -57,13 +57,15 @@ def header(audit, site):
 def row_words(audit, flow):
     """Returns the flow's kinds, by which it can be chosen, and its sign and words."""
     if "kind" in flow:
-        return f"wrong {flow['kind']}", SIGNS["no"], f"{flow['kind']} {flow['place']}"
-    right = right_words(audit)
+        words = f"{'unknown: ' * (flow['state'] == 'unknown')}{flow['kind']} {flow['place']}"
+        return f"{flow['state']} {flow['kind']}", SIGNS[flow["state"]], words
+    words = right_words(audit)
+    kinds = "right" if flow["state"] == "right" else "right unknown"
     if not flow["wanted"]:
-        return "right unwanted", SIGNS["unwanted"], f"{right}, wanted by nobody"
+        return f"{kinds} unwanted", SIGNS["unwanted"], f"{words}, wanted by nobody"
     wanted = [audit.domain.lans[it] for it in flow["wanted"]]
     by = " ".join(wanted) if len(wanted) < 3 else f"{len(wanted)} LANs"
-    return "right", SIGNS["yes"], f"{right}, wanted by {by}"
+    return kinds, SIGNS[flow["state"]], f"{words}, wanted by {by}"
 
 
 def flow_row(audit, flow):
@@ -79,7 +81,7 @@ def choices(audit):
     """Returns the kinds of flows to choose from, with how many there are."""
     counts = collections.Counter(kind for flow in audit.flows for kind in row_words(audit, flow)[0].split())
     counts["all"] = len(audit.flows)
-    found = {"all": "all", "wrong": "not right", **dict(zip(SEEN, SEEN)), "right": right_words(audit),
+    found = {**{it: it for it in ("all", "wrong", "unknown", *SEEN)}, "right": right_words(audit),
              "unwanted": "wanted by nobody"}
     return [tag("label", tag("input", type="radio", name="kind", value=value, checked="" if value == "all" else None),
                 tag("span", f"{words} {counts[value]}")) for value, words in found.items()
@@ -118,7 +120,7 @@ def page_data(audit, graph):
     left = {it for ports in graph.left.values() for it in ports} if graph else set()
     domain = audit.domain
     return {"lans": domain.lans, "routers": domain.routers, "outcomes": OUTCOMES, "mark": FLOW,
-            "means": MEANS | ({"Missed": MISSED_PERHAPS} if audit.without else {}),
+            "means": MEANS | {"unknown": MISSED_PERHAPS},
             "ports": [[it.router, it.device, it.lan, number in left] for number, it in enumerate(domain.ports)],
             "trees": audit.trees, "reasons": [*map(json.loads, audit.reasons)],
             "travels": [*map(json.loads, audit.travels)],

@@ -2,7 +2,7 @@
 
 ghost use Rattle.std.specs.Prelude.{◌≡◌, ◌++◌, OnOk, flat_map};
 ghost use Rattle.std.specs.String.{string_bytes};
-ghost use Rattle.mc_explain.specs.ExcludedText.{verdict_reason, without_line};
+ghost use Rattle.mc_explain.specs.ExcludedText.{verdict_reason, excluded_line};
 
 use crate::shown::shown_names::ShownRouters;
 use mc_text::Memory;
@@ -13,17 +13,17 @@ use mc_topology::{RouterNo, Topology};
 /// # Errors
 ///
 /// `Memory` if an allocation fails.
-pub fn push_without_lines(
+pub fn push_excluded_lines(
     text: &mut String,
     topology: &Topology,
     routers: &[RouterNo],
 ) -> Result<(), Memory>
     ensures { OnOk result (string_bytes text.new ≡ string_bytes text.old
-        ++ flat_map (without_line topology.now) routers.now) }
+        ++ flat_map (excluded_line topology.now) routers.now) }
 {
     for router in routers {
         let name = topology.router_name_or_empty(*router);
-        writeln!(text, "without {name}")?;
+        writeln!(text, "excluded {name}")?;
     }
     Ok(())
 }
@@ -46,7 +46,7 @@ pub fn push_excluded(
         let routers = ShownRouters { routers, topology };
         writeln!(
             text,
-            "  left out:{routers}: the verdict is no, since a yes is said of whole domains only"
+            "  excluded:{routers}: the verdict is no; a yes requires all routers"
         )?;
     }
     Ok(())

@@ -8,7 +8,7 @@ ghost use Rattle.mc_explain.specs.LanProbe.{IsVisitedLans};
 ghost use Rattle.mc_explain.specs.SearchLine.{append_new, next_lan, next_lans, lines_of_lan, search_lines};
 ghost use Rattle.mc_explain.specs.SearchLine.{lans_of_search, search_of};
 ghost use Rattle.mc_explain.specs.TopologyLans.{interfaces_on_lans};
-ghost use Rattle.mc_explain.specs.SearchReach.{IsLanSearch};
+ghost use Rattle.mc_explain.specs.SearchReach.{IsLanSearch, name_excluded_router};
 
 use crate::causes::first_copies::FirstCopies;
 use crate::searches::interfaces_of_lans::InterfacesOfLans;
@@ -29,6 +29,17 @@ pub struct LanSearch {
     pub lines: Vec<SearchLine>,
     /// How far the packet came among its routers.
     pub reach: Reach,
+}
+
+impl LanSearch {
+    /// Whether one of its lines, shown or not, says that a router is excluded.
+    pub fn names_excluded_router(&self) -> bool
+        ensures { result ≡ name_excluded_router self.now.lines.items }
+    {
+        self.lines
+            .iter()
+            .any(|line| matches!(line, SearchLine::Excluded { .. }))
+    }
 }
 
 /// Adds the LANs that these lines lead to.

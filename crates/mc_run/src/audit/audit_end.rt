@@ -14,7 +14,7 @@ use crate::shown::verdict_text::push_overall_verdict;
 use mc_cli::{
     AuditOptions, FAULTS_WORD, JSON_WORD, STRICT_WORD, TRAVEL_WORD, UNLISTED_WORD, WITHOUT_WORD,
 };
-use mc_explain::{list_excluded_routers, push_excluded, push_unlisted, push_without_lines};
+use mc_explain::{list_excluded_routers, push_excluded, push_excluded_lines, push_unlisted};
 use mc_forward::Domain;
 use mc_json::{
     push_domain_line, push_summary_line, push_unlisted_lines, push_verdict_line, push_without_line,
@@ -117,16 +117,18 @@ pub(crate) fn begin_lines(
 /// Writes how many flows there are, and how many have each status.
 fn push_summary(text: &mut String, flows: u32, flow_counts: FlowCounts) -> Result<(), NoMemory>
     ensures { OnOk result (string_bytes text.new ≡ string_bytes text.old
-        ++ summary_line flows flow_counts.right flow_counts.wrong flow_counts.unwanted) }
+        ++ summary_line flows flow_counts.right flow_counts.wrong flow_counts.unknown
+        flow_counts.unwanted) }
 {
     let FlowCounts {
         right,
         wrong,
+        unknown,
         unwanted,
     } = flow_counts;
     writeln!(
         text,
-        "summary flows {flows} right {right} wrong {wrong} unwanted {unwanted}"
+        "summary flows {flows} right {right} wrong {wrong} unknown {unknown} unwanted {unwanted}"
     )
     .map_err(|_| NoMemory)
 }
@@ -161,7 +163,7 @@ fn push_end_text(
     let topology = audited.domain.topology();
     let routers = list_excluded_routers(alloc, topology, audited.excluded)?;
     push_unlisted(alloc, text, topology, audited.summary, options.unlisted)?;
-    push_without_lines(text, topology, &routers)?;
+    push_excluded_lines(text, topology, &routers)?;
     push_summary(text, topology.flows(), flow_counts)?;
     push_excluded(text, topology, &routers)?;
     push_strict(text, options.strict, all, flow_counts.unwanted)
@@ -184,12 +186,13 @@ fn push_end_objects(
     let FlowCounts {
         right,
         wrong,
+        unknown,
         unwanted,
     } = flow_counts;
     let routers = list_excluded_routers(alloc, topology, audited.excluded)?;
     push_unlisted_lines(alloc, text, topology, audited.summary, options.unlisted)?;
     push_without_line(alloc, text, topology, &routers)?;
-    push_summary_line(alloc, text, right, unwanted, wrong)
+    push_summary_line(alloc, text, right, unknown, unwanted, wrong)
 }
 
 // ---- both

@@ -12,7 +12,7 @@ ghost use Rattle.mc_run.specs.AuditRun.{is_whole};
 ghost use Rattle.mc_run.specs.MakeRun.{IsExamined};
 
 use crate::audit::audit_right::push_checked;
-use crate::audit::audit_wrong::{push_wrong, search_if_missed};
+use crate::audit::audit_wrong::{push_wrong, search_if_missed, shown_from_if_less};
 use crate::audit::audited_domain::AuditedDomain;
 use crate::audit::flow_status::FlowStatus;
 use mc_cert::DistinctTrees;
@@ -58,7 +58,7 @@ fn causes_to_print(
     Ok(without_remedies(audited.without.is_empty(), causes))
 }
 
-/// Writes what a packet with TTL 255 meets, and why. The flow's status is wrong.
+/// Writes what a packet with TTL 255 meets, and why. Returns the flow's status.
 fn push_found_at_255(
     alloc: Global,
     audited: &AuditedDomain<'_>,
@@ -80,13 +80,13 @@ fn push_found_at_255(
 {
     let causes = causes_to_print(alloc, audited, flow, flights)?;
     let found = search_if_missed(alloc, audited, flow, ended)?;
+    let shown_from = shown_from_if_less(alloc, audited, flow, ended)?;
     push_wrong(
-        alloc, audited, flow, ended, 255, options, &causes, &found, text,
-    )?;
-    Ok(FlowStatus::Wrong)
+        alloc, audited, flow, ended, 255, options, &causes, &found, shown_from, text,
+    )
 }
 
-/// Writes what a packet with the flow's TTL meets, and why. The flow's status is wrong.
+/// Writes what a packet with the flow's TTL meets, and why. Returns the flow's status.
 fn push_found_at_flow_ttl(
     alloc: Global,
     audited: &AuditedDomain<'_>,
@@ -110,9 +110,8 @@ fn push_found_at_flow_ttl(
     let ttl = view.ttl();
     let causes = causes_to_print(alloc, audited, flow, flights)?;
     push_wrong(
-        alloc, audited, flow, least, ttl, options, &causes, &None, text,
-    )?;
-    Ok(FlowStatus::Wrong)
+        alloc, audited, flow, least, ttl, options, &causes, &None, None, text,
+    )
 }
 
 /// Writes the lines of a flow that was examined, and returns the flow's status.

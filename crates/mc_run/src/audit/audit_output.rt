@@ -12,7 +12,7 @@ use crate::run_output::RunOutput;
 pub struct AuditAnswer {
     /// Whether every listed flow is right, and no router is excluded.
     pub yes: bool,
-    /// How many flows are right and wanted by no LAN.
+    /// How many flows have no finding and are wanted by no LAN.
     pub unwanted: u32,
 }
 
@@ -21,7 +21,7 @@ pub struct AuditAnswer {
 pub(crate) struct AuditOutput {
     /// The text, and whether every listed flow is right and no router is excluded.
     pub(crate) run_output: RunOutput,
-    /// How many flows are right and wanted by no LAN.
+    /// How many flows have no finding and are wanted by no LAN.
     pub(crate) unwanted: u32,
 }
 

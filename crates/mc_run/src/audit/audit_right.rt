@@ -6,13 +6,17 @@ ghost use Rattle.std.specs.String.{string_bytes};
 ghost use Rattle.mc_theory.specs.Certificates.{IsAccepted};
 ghost use Rattle.mc_theory.specs.Headline.{HeadlineHolds};
 ghost use Rattle.mc_forward.specs.Domains.{net_of};
+ghost use Rattle.mc_forward.specs.FlightsInDomain.{net_in};
+ghost use Rattle.mc_forward.specs.ListedTables.{facts};
 ghost use Rattle.mc_cert.specs.Distinct.{tree_number_of, with_tree};
 ghost use Rattle.mc_check.specs.declared.verdict.Verdict.TheVariants.{Yes as is_yes};
+ghost use Rattle.mc_json.specs.TreeKey.{tree_key};
 ghost use Rattle.mc_run.specs.AuditObjects.{tree_line};
-ghost use Rattle.mc_run.specs.AuditPieces.{audited_value, lans_wanting_flow, right_flow_lines_of};
-ghost use Rattle.mc_run.specs.AuditPieces.{right_lines_of, right_objects_of};
+ghost use Rattle.mc_run.specs.AuditPieces.{audited_value, key_of_shown_tree, lans_wanting_flow};
+ghost use Rattle.mc_run.specs.AuditPieces.{right_flow_lines_of, right_lines_of, right_objects_of};
+ghost use Rattle.mc_run.specs.AuditPieces.{status_of_right_flow};
 ghost use Rattle.mc_run.specs.AuditText.{right_line};
-ghost use Rattle.mc_run.specs.AuditFlowText.{is_hidden, status_of_right, with_shown_tree};
+ghost use Rattle.mc_run.specs.AuditFlowText.{is_hidden, with_shown_tree};
 
 use crate::audit::audited_domain::AuditedDomain;
 use crate::audit::flow_status::FlowStatus;
@@ -22,7 +26,7 @@ use mc_check::{Verdict, check_flow};
 use mc_cli::AuditOptions;
 use mc_explain::{lans_wanting, push_wanted};
 use mc_forward::FlowView;
-use mc_json::{push_right_line, push_tree_line};
+use mc_json::{push_right_line, push_tree_line, tree_key};
 use mc_text::Memory as NoMemory;
 use mc_topology::{Flow, LanNo, Topology};
 use std::alloc::Global;
@@ -73,20 +77,22 @@ fn push_right_lines(
 fn push_tree_once(
     alloc: Global,
     text: &mut String,
-    topology: &Topology,
+    view: &FlowView<'_>,
     shown_trees: &mut DistinctTrees,
     entries: &[Reached],
 ) -> Result<u32, NoMemory>
     requires room { length shown_trees.old < 4096 }
-    ensures shown_trees { OnOk result (shown_trees.new ≡ with_tree shown_trees.old entries.now) }
-    ensures number { IfOk result (λ number. number ≡ tree_number_of shown_trees.new entries.now) }
-    ensures line { OnOk result (string_bytes text.new ≡
-        string_bytes text.old ++ tree_line topology.now shown_trees.old entries.now) }
+    ensures shown_trees { OnOk result
+        (shown_trees.new ≡ with_tree shown_trees.old (tree_key (net_in view.now) entries.now)) }
+    ensures number { IfOk result (λ number.
+        number ≡ tree_number_of shown_trees.new (tree_key (net_in view.now) entries.now)) }
+    ensures line { OnOk result (string_bytes text.new ≡ string_bytes text.old
+        ++ tree_line (facts view.now.domain) shown_trees.old view.now.flow entries.now) }
 {
     let printed = shown_trees.trees().len();
-    let number = shown_trees.number_of(Vec::from_slice(alloc, entries)?)?;
+    let number = shown_trees.number_of(tree_key(alloc, view, entries)?)?;
     if shown_trees.trees().len() > printed {
-        push_tree_line(alloc, text, topology, entries, printed as u32)?;
+        push_tree_line(alloc, text, view, entries, printed as u32)?;
     }
     Ok(number)
 }
@@ -106,14 +112,16 @@ fn push_right_objects(
     requires flow { flow < length (audited_value audited.now).domain.topology.flows }
     requires copies { copies ≡ length entries.now }
     requires room { length shown_trees.old < 4096 }
-    ensures shown_trees { OnOk result (shown_trees.new ≡ with_tree shown_trees.old entries.now) }
+    ensures shown_trees { OnOk result
+        (shown_trees.new ≡ with_tree shown_trees.old (key_of_shown_tree audited.now flow entries.now)) }
     ensures lines { OnOk result (string_bytes text.new ≡ string_bytes text.old
         ++ right_objects_of audited.now shown_trees.old flow entries.now wanted.now) }
 {
     let topology = audited.domain.topology();
+    let view = FlowView::new(audited.domain, flow);
     let whole = audited.without.is_empty();
     let copies = copies as usize;
-    let number = push_tree_once(alloc, text, topology, shown_trees, entries)?;
+    let number = push_tree_once(alloc, text, &view, shown_trees, entries)?;
     push_right_line(alloc, text, topology, whole, flow, copies, number, wanted)
 }
 
@@ -133,17 +141,6 @@ fn lans_wanting_flow(
     Ok(lans)
 }
 
-/// The status of a right flow that these LANs want.
-fn status_of_right(wanted: &[LanNo]) -> FlowStatus
-    ensures { result ≡ status_of_right wanted.now }
-{
-    if wanted.is_empty() {
-        FlowStatus::Unwanted
-    } else {
-        FlowStatus::Wanted
-    }
-}
-
 /// Writes the lines of a right flow with these entries, as text or in JSON; nothing where only faults
 /// are asked for and the flow is wanted. Returns the flow's status.
 fn push_right(
@@ -160,14 +157,15 @@ fn push_right(
     requires copies { copies ≡ length entries.now }
     requires room { length shown_trees.old < 4096 }
     ensures flow_status { IfOk result (λ flow_status.
-        flow_status ≡ status_of_right (lans_wanting_flow audited.now flow)) }
+        flow_status ≡ status_of_right_flow audited.now flow) }
     ensures shown_trees { OnOk result (shown_trees.new ≡ with_shown_tree options.json
-        (is_hidden options.faults (lans_wanting_flow audited.now flow)) shown_trees.old entries.now) }
+        (is_hidden options.faults (lans_wanting_flow audited.now flow)) shown_trees.old
+        (key_of_shown_tree audited.now flow entries.now)) }
     ensures lines { OnOk result (string_bytes text.new ≡ string_bytes text.old
         ++ right_flow_lines_of audited.now options shown_trees.old flow entries.now) }
 {
     let wanted = lans_wanting_flow(alloc, audited, flow)?;
-    let flow_status = status_of_right(&wanted);
+    let flow_status = FlowStatus::of_right(audited.without.is_empty(), &wanted);
     if options.faults && !wanted.is_empty() {
         return Ok(flow_status);
     }
@@ -204,9 +202,10 @@ fn push_with_verdict(
     requires accepted { IfOk answer (λ verdict. verdict ≡ is_yes (length entries.now)) }
     ensures answered { OnOk result (IsOkAnd answer (λ verdict. verdict ≡ is_yes (length entries.now))) }
     ensures flow_status { IfOk result (λ flow_status.
-        flow_status ≡ status_of_right (lans_wanting_flow audited.now flow)) }
+        flow_status ≡ status_of_right_flow audited.now flow) }
     ensures shown_trees { OnOk result (shown_trees.new ≡ with_shown_tree options.json
-        (is_hidden options.faults (lans_wanting_flow audited.now flow)) shown_trees.old entries.now) }
+        (is_hidden options.faults (lans_wanting_flow audited.now flow)) shown_trees.old
+        (key_of_shown_tree audited.now flow entries.now)) }
     ensures lines { OnOk result (string_bytes text.new ≡ string_bytes text.old
         ++ right_flow_lines_of audited.now options shown_trees.old flow entries.now) }
 {
@@ -223,7 +222,7 @@ fn push_with_verdict(
                 text,
             )
         }
-        Ok(Verdict::No(_)) => Ok(FlowStatus::Wrong),
+        Ok(Verdict::No(_)) => Ok(FlowStatus::of_wrong(true)),
         Err(_) => Err(NoMemory),
     }
 }
@@ -245,9 +244,10 @@ pub(crate) fn push_checked(
     ensures headline { OnOk result
         (HeadlineHolds (net_of (audited_value audited.now).domain flow) (length entries.now)) }
     ensures flow_status { IfOk result (λ flow_status.
-        flow_status ≡ status_of_right (lans_wanting_flow audited.now flow)) }
+        flow_status ≡ status_of_right_flow audited.now flow) }
     ensures shown_trees { OnOk result (shown_trees.new ≡ with_shown_tree options.json
-        (is_hidden options.faults (lans_wanting_flow audited.now flow)) shown_trees.old entries.now) }
+        (is_hidden options.faults (lans_wanting_flow audited.now flow)) shown_trees.old
+        (key_of_shown_tree audited.now flow entries.now)) }
     ensures lines { OnOk result (string_bytes text.new ≡ string_bytes text.old
         ++ right_flow_lines_of audited.now options shown_trees.old flow entries.now) }
 {

@@ -1,25 +1,31 @@
-//! Writes the lines of a flow that isn't right: the finding, and why.
+//! Writes the lines of a flow with a finding: whether it is then known not to be right, and why.
 
 ghost use Rattle.std.specs.Prelude.{◌≡◌, ◌<◌, ◌++◌, IfOk, OnOk, length};
 ghost use Rattle.std.specs.String.{string_bytes};
 ghost use Rattle.mc_maker.specs.ExaminedFlights.{IsFinishedTravelOf};
+ghost use Rattle.mc_maker.specs.declared.examined_flights.ExaminedFlights.TheVariants.{FoundAtTtl255};
 ghost use Rattle.mc_run.specs.AuditPieces.{HasItsMarksAndInterfaces, audited_value, explanation_lines_of};
 ghost use Rattle.mc_run.specs.AuditPieces.{explanation_value, search_context_of, searched_lines_of};
-ghost use Rattle.mc_run.specs.AuditPieces.{wrong_flow_lines_of, wrong_lines_of, wrong_object_of};
-ghost use Rattle.mc_run.specs.AuditExplanation.{IsSearchIfMissed};
-ghost use Rattle.mc_run.specs.AuditText.{events_if_shown};
+ghost use Rattle.mc_run.specs.AuditPieces.{explained_lines_of, status_of_wrong_flow, wrong_flow_lines_of};
+ghost use Rattle.mc_run.specs.AuditPieces.{wrong_lines_of, wrong_object_of};
+ghost use Rattle.mc_run.specs.AuditExplanation.{IsSearchIfMissed, IsShownFromAt255};
+ghost use Rattle.mc_run.specs.AuditExplanation.{is_known_wrong as says_known_wrong};
+ghost use Rattle.mc_run.specs.AuditText.{events_if_shown, found_flow_line, known_word, shown_from_text};
 
 use crate::audit::audited_domain::AuditedDomain;
-use crate::shown::found_text::push_found_lines;
+use crate::audit::flow_status::FlowStatus;
 use crate::shown::travel_text::push_events;
+use crate::shown::verdict_text::FlowWords;
 use mc_cli::AuditOptions;
-use mc_explain::{Cause, Explanation, LanSearch, missed_besides, push_also_missed, search};
+use mc_explain::{
+    Cause, Certainty, Explanation, LanSearch, missed_besides, push_also_missed, search, shown_from,
+};
 use mc_forward::FlowView;
 use mc_json::push_wrong_line;
 use mc_lines::{push_causes, push_search};
 use mc_replay::{Finding, FinishedTravel, Travel};
 use mc_text::Memory as NoMemory;
-use mc_topology::Topology;
+use mc_topology::{Flow, Topology};
 use std::alloc::Global;
 
 /// Searches why a packet with TTL 255 missed a LAN, if it missed one.
@@ -50,6 +56,27 @@ pub(crate) fn search_if_missed(
         lan,
     )?;
     Ok(Some(found))
+}
+
+/// The TTL from which on packets show the finding of the travel at TTL 255. None is said where the flow's own
+/// TTL is 255.
+pub(crate) fn shown_from_if_less(
+    alloc: Global,
+    audited: &AuditedDomain<'_>,
+    flow: u32,
+    ended: &FinishedTravel<'_>,
+) -> Result<Option<u8>, NoMemory>
+    requires flow { flow < length (audited_value audited.now).domain.topology.flows }
+    requires ended { IsFinishedTravelOf (audited_value audited.now).domain flow 255 ended.now }
+    ensures shown { IfOk result (λ shown_from. IsShownFromAt255 (audited_value audited.now).domain flow
+        (FoundAtTtl255 ended.now) shown_from) }
+{
+    let view = FlowView::new(audited.domain, flow);
+    let ttl = view.ttl();
+    if ttl == 255 {
+        return Ok(None);
+    }
+    shown_from(alloc, audited.domain, flow, ended)
 }
 
 // ---- as text
@@ -88,6 +115,7 @@ fn push_explanation(
         causes,
         search,
         also,
+        ..
     } = *explanation;
     push_causes(text, audited.domain, audited.summary, flow, causes)?;
     push_search_if_any(alloc, text, audited, flow, search)?;
@@ -110,9 +138,69 @@ fn push_travel(
     Ok(())
 }
 
-/// Writes that a flow has no certificate, what a packet with this TTL meets, why, and the packet's
-/// travel, if travels are to be printed.
+/// The word for a flow with a finding: that it is wrong, if that is known.
+fn known_word(known: bool) -> &'static str
+    ensures { result.now ≡ known_word known }
+{
+    if known { "wrong" } else { "unknown" }
+}
+
+/// Writes the line of a flow with a finding.
+fn push_found_flow(
+    text: &mut String,
+    topology: &Topology,
+    flow: &Flow,
+    known: bool,
+    finding: Finding,
+) -> Result<(), NoMemory>
+    ensures { OnOk result (string_bytes text.new ≡
+        string_bytes text.old ++ found_flow_line topology.now flow.now known finding) }
+{
+    let words = FlowWords { flow };
+    let known = known_word(known);
+    let finding = finding.shown(topology);
+    writeln!(text, "{words} {known}: {finding}").map_err(|_| NoMemory)
+}
+
+/// Writes from which TTL on packets show a finding, if that is said.
+fn push_shown_from(text: &mut String, shown_from: Option<u8>) -> Result<(), NoMemory>
+    ensures { OnOk result (string_bytes text.new ≡ string_bytes text.old ++ shown_from_text shown_from) }
+{
+    if let Some(ttl) = shown_from {
+        writeln!(text, "  shown by packets sent with ttl {ttl} or more").map_err(|_| NoMemory)?;
+    }
+    Ok(())
+}
+
+/// Writes that a flow is wrong, or unknown, by what its packet meets, why, and the packet's travel, if
+/// travels are to be printed.
 fn push_wrong_lines(
+    alloc: Global,
+    text: &mut String,
+    audited: &AuditedDomain<'_>,
+    flow: u32,
+    travel: &Travel,
+    travels: bool,
+    explanation: &Explanation<'_>,
+) -> Result<(), NoMemory>
+    requires flow { flow < length (audited_value audited.now).domain.topology.flows }
+    ensures added { OnOk result (string_bytes text.new ≡ string_bytes text.old
+        ++ wrong_lines_of audited.now travels flow travel.now (explanation_value explanation.now)) }
+{
+    let view = FlowView::new(audited.domain, flow);
+    let listed = view.flow();
+    let topology = audited.domain.topology();
+    let Certainty { known, shown_from } = explanation.certainty;
+    push_found_flow(text, topology, &listed, known, travel.finding)?;
+    push_shown_from(text, shown_from)?;
+    push_explanation(alloc, text, audited, flow, explanation)?;
+    push_travel(text, topology, travels, travel)
+}
+
+// ---- in JSON
+
+/// Writes the object of a flow with a finding.
+fn push_wrong_object(
     alloc: Global,
     text: &mut String,
     audited: &AuditedDomain<'_>,
@@ -124,34 +212,7 @@ fn push_wrong_lines(
 ) -> Result<(), NoMemory>
     requires flow { flow < length (audited_value audited.now).domain.topology.flows }
     ensures added { OnOk result (string_bytes text.new ≡ string_bytes text.old
-        ++ wrong_lines_of audited.now travels flow ttl travel.now (explanation_value explanation.now)) }
-{
-    let view = FlowView::new(audited.domain, flow);
-    let listed = view.flow();
-    let topology = audited.domain.topology();
-    push_found_lines(text, topology, &listed, ttl, travel.finding)?;
-    push_explanation(alloc, text, audited, flow, explanation)?;
-    push_travel(text, topology, travels, travel)
-}
-
-// ---- in JSON
-
-/// Writes the object of a flow that isn't right.
-fn push_wrong_object(
-    alloc: Global,
-    text: &mut String,
-    audited: &AuditedDomain<'_>,
-    flow: u32,
-    ended: &FinishedTravel<'_>,
-    ttl: u8,
-    travels: bool,
-    explanation: &Explanation<'_>,
-) -> Result<(), NoMemory>
-    requires flow { flow < length (audited_value audited.now).domain.topology.flows }
-    requires domain { ended.now.flight.domain ≡ (audited_value audited.now).domain }
-    ensures added { OnOk result (string_bytes text.new ≡ string_bytes text.old
-        ++ wrong_object_of audited.now travels flow ttl ended.now.travel
-        (explanation_value explanation.now)) }
+        ++ wrong_object_of audited.now travels flow ttl travel.now (explanation_value explanation.now)) }
 {
     let AuditedDomain {
         domain,
@@ -164,7 +225,7 @@ fn push_wrong_object(
         domain,
         summary,
         flow,
-        ended,
+        travel,
         ttl,
         travels,
         explanation,
@@ -173,7 +234,51 @@ fn push_wrong_object(
 
 // ---- both
 
-/// Writes the lines of a flow that isn't right, as text or in JSON.
+/// Writes the lines of a flow with a finding, as text or in JSON.
+fn push_explained(
+    alloc: Global,
+    audited: &AuditedDomain<'_>,
+    flow: u32,
+    ended: &FinishedTravel<'_>,
+    ttl: u8,
+    options: AuditOptions,
+    explanation: &Explanation<'_>,
+    text: &mut String,
+) -> Result<(), NoMemory>
+    requires flow { flow < length (audited_value audited.now).domain.topology.flows }
+    ensures added { OnOk result (string_bytes text.new ≡ string_bytes text.old
+        ++ explained_lines_of audited.now options flow ttl ended.now (explanation_value explanation.now)) }
+{
+    let travels = options.travels;
+    let travel = &ended.travel;
+    if options.json {
+        push_wrong_object(
+            alloc,
+            text,
+            audited,
+            flow,
+            travel,
+            ttl,
+            travels,
+            explanation,
+        )
+    } else {
+        push_wrong_lines(alloc, text, audited, flow, travel, travels, explanation)
+    }
+}
+
+/// Whether it is known that a flow with a finding isn't right, by the search for the LAN that its packet
+/// missed, if there was one.
+fn is_known_wrong(whole: bool, found: &Option<LanSearch>) -> bool
+    ensures { result ≡ says_known_wrong whole found.now }
+{
+    match found {
+        Some(found) => whole || !found.names_excluded_router(),
+        None => true,
+    }
+}
+
+/// Writes the lines of a flow with a finding, and returns the flow's status.
 pub(crate) fn push_wrong(
     alloc: Global,
     audited: &AuditedDomain<'_>,
@@ -183,42 +288,34 @@ pub(crate) fn push_wrong(
     options: AuditOptions,
     causes: &[Cause],
     found: &Option<LanSearch>,
+    shown_from: Option<u8>,
     text: &mut String,
-) -> Result<(), NoMemory>
+) -> Result<FlowStatus, NoMemory>
     requires flow { flow < length (audited_value audited.now).domain.topology.flows }
-    requires domain { ended.now.flight.domain ≡ (audited_value audited.now).domain }
+    ensures flow_status { IfOk result (λ flow_status.
+        flow_status ≡ status_of_wrong_flow audited.now found.now) }
     ensures added { OnOk result (string_bytes text.new ≡ string_bytes text.old
-        ++ wrong_flow_lines_of audited.now options flow ttl ended.now causes.now found.now) }
+        ++ wrong_flow_lines_of audited.now options flow ttl ended.now causes.now found.now
+        shown_from) }
 {
     let also = missed_besides(alloc, &ended.flight, ended.travel.finding)?;
+    let whole = audited.without.is_empty();
+    let known = is_known_wrong(whole, found);
     let explanation = Explanation {
         causes,
         search: found,
         also: &also,
+        certainty: Certainty { known, shown_from },
     };
-    let travels = options.travels;
-    if options.json {
-        push_wrong_object(
-            alloc,
-            text,
-            audited,
-            flow,
-            ended,
-            ttl,
-            travels,
-            &explanation,
-        )
-    } else {
-        let travel = &ended.travel;
-        push_wrong_lines(
-            alloc,
-            text,
-            audited,
-            flow,
-            travel,
-            ttl,
-            travels,
-            &explanation,
-        )
-    }
+    push_explained(
+        alloc,
+        audited,
+        flow,
+        ended,
+        ttl,
+        options,
+        &explanation,
+        text,
+    )?;
+    Ok(FlowStatus::of_wrong(known))
 }

@@ -1,6 +1,6 @@
 //! Reads the rows of a cache line by line, and keeps those of listed sources and groups.
 
-ghost use Rattle.std.specs.Prelude.{◌≡◌, ◌≢◌, [], ◌+◌, ◌<◌, ◌≤◌, length, OnOk, OnErr, IfErr, IfOk, Ok};
+ghost use Rattle.std.specs.Prelude.{◌≡◌, ◌≢◌, Some, ◌+◌, ◌<◌, ◌≤◌, length, OnOk, OnErr, IfErr, IfOk, Ok};
 ghost use Rattle.std.specs.Prelude.{Err};
 ghost use Rattle.mc_text.specs.LineView.{line_text};
 ghost use Rattle.mc_tables.specs.declared.fault.TableFaultKind.TheVariants.{Memory};
@@ -8,7 +8,7 @@ ghost use Rattle.mc_tables.specs.CacheTable.{IsValidCache};
 ghost use Rattle.mc_tables.specs.UnlistedRows.{without_repeat};
 ghost use Rattle.mc_tables.specs.CacheSteps.{row_with_room};
 ghost use Rattle.mc_tables.specs.FlatRows.{row_with_oifs};
-ghost use Rattle.mc_tables.specs.ListedRows.{is_kept_by_set};
+ghost use Rattle.mc_tables.specs.ListedRows.{listed_set, is_kept_by_set};
 ghost use Rattle.mc_tables.specs.RowsSoFar.{rows_start, rows_of_parts, any_row_added, line_added};
 ghost use Rattle.mc_tables.specs.RowsSoFar.{refusal_at};
 ghost use Rattle.mc_tables.specs.SummarySoFar.{summary_with_line};
@@ -17,11 +17,12 @@ ghost use Rattle.mc_tables.specs.Steps.{out_of_memory};
 use crate::cache::cache_line::read_row;
 use crate::cache::cache_row::CacheRow;
 use crate::cache::cache_rows::CacheRows;
+use crate::cache::cache_table::CacheTable;
 use crate::cache::entry::Oif;
 use crate::fault::{TableFault, TableFaultKind};
 use crate::lines::header::check_header;
 use crate::lines::rows::TableRows;
-use crate::listed::entry_numbers::EntryNumbers;
+use crate::listed::listed_pairs::ListedPairs;
 use crate::summary::summary_so_far::SummarySoFar;
 use crate::summary::unlisted_rows::UnlistedRows;
 use mc_text::{Addr, Line, Order};
@@ -65,10 +66,9 @@ impl Model for CacheRowReader {
 }
 
 impl CacheRowReader {
-    /// No rows.
-    pub fn new(alloc: Global, order: Order, numbers: EntryNumbers) -> CacheRowReader
-        requires empty { numbers.numbers ≡ [] }
-        ensures value { result ≡ rows_start order numbers.listed }
+    /// No rows. Those of these sources and groups will be kept.
+    pub fn new(alloc: Global, order: Order, listed: ListedPairs) -> CacheRowReader
+        ensures { result ≡ rows_start order (listed_set (Some listed)) }
     {
         // Overwritten by the first row.
         let none = Addr::from_octets([0, 0, 0, 0]);
@@ -81,7 +81,7 @@ impl CacheRowReader {
             order,
             row,
             oifs: Vec::new(alloc),
-            kept: CacheRows::new(alloc, numbers),
+            kept: CacheRows::new(alloc, listed),
             others: UnlistedRows::new(alloc),
             count: 0,
         }
@@ -140,7 +140,7 @@ impl CacheRowReader {
     /// reported first.
     pub fn earliest_fault(&mut self, line: u32, kind: TableFaultKind) -> TableFault
         ensures memory { kind ≡ Memory → result ≡ out_of_memory }
-        ensures first { kind ≢ Memory → result ≢ out_of_memory →
+        ensures first { kind ≢ Memory →
             refusal_at self.old.rows.others line kind ≡ result }
         ensures listed { self.new.listed ≡ self.old.listed }
         ensures count { self.new.rows.count ≡ self.old.rows.count }
@@ -225,10 +225,10 @@ fn read_row_with_room(
 
 impl TableRows for CacheRowReader {
     ghost use Rattle.std.specs.Prelude.{codes};
-    ghost use Rattle.mc_tables.specs.CacheTable.{CacheValue, IsValidCache};
+    ghost use Rattle.mc_tables.specs.CacheTable.{IsValidCache};
     ghost use Rattle.mc_tables.specs.RowsSoFar.{row_step, table_from};
 
-    ghost Table = { CacheValue };
+    type Table = CacheTable;
 
     ghost header = { codes "Group" };
 
@@ -247,5 +247,14 @@ impl TableRows for CacheRowReader {
             Ok(()) => Ok(()),
             Err(kind) => Err(self.earliest_fault(line.number, kind)),
         }
+    }
+
+    fn unended_fault(&mut self, number: u32) -> TableFault {
+        self.earliest_fault(number, TableFaultKind::Unended)
+    }
+
+    fn into_table(mut self) -> Result<CacheTable, TableFault> {
+        self.check_repeats()?;
+        Ok(CacheTable::from_rows(self.into_kept()))
     }
 }

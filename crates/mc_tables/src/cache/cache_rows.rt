@@ -11,7 +11,7 @@ ghost use Rattle.mc_tables.specs.declared.fault.TableFaultKind.TheVariants.{Memo
 ghost use Rattle.mc_tables.specs.CacheTable.{table_of};
 ghost use Rattle.mc_tables.specs.CacheSteps.{row_added, entry_added, group_added};
 ghost use Rattle.mc_tables.specs.FlatRows.{row_with_oifs};
-ghost use Rattle.mc_tables.specs.ListedRows.{set_has_key, is_kept_by_set};
+ghost use Rattle.mc_tables.specs.ListedRows.{listed_set, set_has_key, is_kept_by_set};
 ghost use Rattle.mc_tables.specs.SummarySoFar.{IsEntryInserted, with_entry_if_new};
 
 use crate::cache::cache_row::CacheRow;
@@ -19,20 +19,20 @@ use crate::cache::entry::{Entry, Oif};
 use crate::cache::flat_oifs::FlatOifs;
 use crate::fault::TableFaultKind;
 use crate::listed::digit_sort::sort_by_digits;
-use crate::listed::entry_numbers::EntryNumbers;
-use crate::listed::listed_entry_numbers::Inserted;
+use crate::listed::listed_entry_numbers::{Inserted, ListedEntryNumbers};
+use crate::listed::listed_pairs::ListedPairs;
 use mc_text::Addr;
 use std::alloc::Global;
 use std::marker::Model;
 
 /// The entries of resolved rows in the order of their lines, the number of each source and group,
-/// and the groups of the rows for every source. Rows of sources and groups that can have no number
-/// aren't kept.
+/// and the groups of the rows for every source. Rows of sources and groups that aren't listed aren't
+/// kept.
 #[derive(Debug)]
 pub struct CacheRows {
     // the head of each list is the incoming vif
     entries: FlatOifs<u8>,
-    numbers: EntryNumbers,
+    numbers: ListedEntryNumbers,
     // in the order of their lines, until they are sorted
     groups: Vec<Addr>,
 }
@@ -76,14 +76,14 @@ impl Model for CacheRows {
 }
 
 impl CacheRows {
-    /// No rows. Rows will be kept of the sources and groups that can have one of these numbers.
-    pub fn new(alloc: Global, numbers: EntryNumbers) -> CacheRows
-        requires empty { numbers.numbers ≡ [] }
-        ensures value { result ≡ record { table = table_of []; listed = numbers.listed; groups = [] } }
+    /// No rows. Those of these sources and groups will be kept.
+    pub fn new(alloc: Global, listed: ListedPairs) -> CacheRows
+        ensures { result ≡
+            record { table = table_of []; listed = listed_set (Some listed); groups = [] } }
     {
         CacheRows {
             entries: FlatOifs::new(alloc),
-            numbers,
+            numbers: ListedEntryNumbers::of(alloc, listed),
             groups: Vec::new(alloc),
         }
     }

@@ -1,19 +1,18 @@
 //! The forwarding cache, `/proc/net/ip_mr_cache`.
 
-ghost use Rattle.std.specs.Prelude.{◌≡◌, ◌≢◌, ◌<◌, ◌||◌, [], IfOk, IfSome, Ok, Err, None, Some};
+ghost use Rattle.std.specs.Prelude.{◌≡◌, ◌≢◌, ◌<◌, ◌||◌, IfOk, IfSome, Ok, Err, None, Some};
 ghost use Rattle.std.specs.Prelude.{length, slice_get, option_and_then};
 ghost use Rattle.std.specs.FinMap as map;
 ghost use Rattle.std.specs.FinSet as set;
 ghost use Rattle.mc_tables.specs.Steps.{out_of_memory};
 ghost use Rattle.mc_tables.specs.CacheTable.{CacheValue, IsValidEntry, IsValidCache, DenotesCache};
-ghost use Rattle.mc_tables.specs.CacheTable.{table_of};
 ghost use Rattle.mc_tables.specs.CacheReading.{cache_in};
 
 use crate::cache::cache_reader::CacheReader;
 use crate::cache::cache_rows::CacheRows;
 use crate::cache::entry::Entry;
+use crate::cache::text_pairs::pairs_of_text;
 use crate::fault::TableFault;
-use crate::listed::entry_numbers::EntryNumbers;
 use mc_text::{Addr, Order};
 use std::alloc::Global;
 use std::marker::Model;
@@ -63,16 +62,8 @@ impl CacheTable {
     fn from_text(alloc: Global, text: &[u8], order: Order) -> Result<CacheTable, TableFault>
         ensures { result ≢ Err out_of_memory → result ≡ cache_in order text.now }
     {
-        let mut reader = CacheReader::for_all_pairs(alloc, order);
-        reader.feed(text)?;
-        reader.finish()
-    }
-
-    /// The table without a row.
-    pub fn empty(alloc: Global) -> CacheTable
-        ensures { result ≡ table_of [] }
-    {
-        CacheTable::from_rows(CacheRows::new(alloc, EntryNumbers::for_all_pairs(alloc)))
+        let pairs = pairs_of_text(alloc, text, order)?;
+        CacheReader::new(alloc, order, pairs).read_whole(text)
     }
 
     /// The table of rows that were read.

@@ -1,7 +1,7 @@
 //! Reads the rows of a table from pieces of its text.
 
-ghost use Rattle.std.specs.Prelude.{◌≡◌, ◌≢◌, ◌+◌, ◌<◌, ◌≤◌, ◌==◌, ℕ, List, [], ◌++◌, length, drop};
-ghost use Rattle.std.specs.Prelude.{position, Some, Result, Ok, Err, OnOk, IfOk, IfErr};
+ghost use Rattle.std.specs.Prelude.{◌≡◌, ◌≢◌, ◌+◌, ◌<◌, ◌≤◌, ◌==◌, ℕ, List, [], ◌∷◌, ◌++◌, length, drop};
+ghost use Rattle.std.specs.Prelude.{position, false, Some, Result, Ok, Err, OnOk, IfOk, IfErr};
 ghost use Rattle.mc_text.specs.LineView.{line_text};
 ghost use Rattle.mc_text.specs.Lines.{LineText, max_text};
 ghost use Rattle.mc_tables.specs.declared.fault.TableFault.{TableFault};
@@ -14,9 +14,9 @@ use crate::lines::line_buffer::LineBuffer;
 use mc_text::Line;
 
 /// The rows of a table, to which those of further lines are added.
-pub trait TableRows {
-    // the table of the rows
-    ghost Table: { Type 0 };
+pub trait TableRows: Drop {
+    /// The table of the rows.
+    type Table;
 
     // the first word of its header
     ghost header: { List ℕ };
@@ -25,7 +25,7 @@ pub trait TableRows {
     ghost step: { Self → LineText → Result Self TableFault };
 
     // the table of these rows and those of the lines after them
-    ghost table: { Self → List LineText → Result Table TableFault };
+    ghost table: { Self → List LineText → Result Self.Table TableFault };
 
     // the rules that the rows keep
     ghost is_valid: { Self → Type 0 };
@@ -38,6 +38,17 @@ pub trait TableRows {
         ensures fault { IfErr result (λ fault. fault ≢ out_of_memory →
             line_after header (step self.old) self.old ended (line_text line.now) ≡ Err fault) }
         ensures is_valid { OnOk result (is_valid self.old → is_valid self.new) };
+
+    /// The fault of a text that ends in the line with this number, which has no line feed. It may be
+    /// that of an earlier row. After it the rows are of no use.
+    fn unended_fault(&mut self, number: u32) -> TableFault
+        ensures { (bytes : List ℕ) →
+            table self.old (record { number = number; bytes = bytes; ended = false } ∷ []) ≡ Err result };
+
+    /// The table of a text that ends after these rows.
+    fn into_table(self) -> Result<Self::Table, TableFault>
+        requires valid { is_valid self }
+        ensures table { result ≡ table self [] };
 }
 
 /// Reads the lines that end in a piece, and buffers the start of the next one.

@@ -1,19 +1,17 @@
 //! The summary of a forwarding cache: what is kept of its rows besides the table.
 
-ghost use Rattle.std.specs.Prelude.{◌≡◌, [], IfSome};
+ghost use Rattle.std.specs.Prelude.{◌≡◌, IfSome};
 ghost use Rattle.std.specs.FinMap as map;
 ghost use Rattle.std.specs.FinSet as set;
 ghost use Rattle.mc_tables.specs.CacheTable.{IsValidEntry};
-ghost use Rattle.mc_tables.specs.Summary.{HasValidEntries, every_source_row, summary_of};
+ghost use Rattle.mc_tables.specs.Summary.{HasValidEntries, every_source_row};
 ghost use Rattle.mc_tables.specs.SummarySoFar.{finished_summary};
 
 use crate::cache::cache_rows::CacheRows;
 use crate::cache::entry::Entry;
 use crate::listed::listed_entry_numbers::ListedEntryNumbers;
-use crate::summary::summary_pairs::SummaryPairs;
 use crate::summary::summary_so_far::SummarySoFar;
 use mc_text::Addr;
-use std::alloc::Global;
 use std::marker::Model;
 
 /// Which listed sources and groups have an unresolved row, the first row for every source of each
@@ -45,14 +43,6 @@ impl Model for CacheSummary {
 }
 
 impl CacheSummary {
-    /// The summary of a cache without a row, for these sources and groups.
-    pub fn empty(alloc: Global, listed: SummaryPairs, all: bool) -> CacheSummary
-        ensures { result ≡ summary_of all listed [] }
-    {
-        let (pairs, _, for_every_source) = listed.into_lists();
-        CacheSummary::of(SummarySoFar::new(alloc, pairs, for_every_source, all))
-    }
-
     /// The summary when all rows have been read.
     pub(crate) fn of(summary: SummarySoFar) -> CacheSummary
         requires valid { HasValidEntries (finished_summary summary) }

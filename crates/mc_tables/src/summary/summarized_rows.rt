@@ -1,22 +1,12 @@
 //! Reads the rows of a cache line by line, keeps the listed ones, and summarizes all.
 
-ghost use Rattle.std.specs.Prelude.{◌≡◌, ◌≢◌, OnOk, IfErr, Ok, Err};
-ghost use Rattle.mc_text.specs.LineView.{line_text};
-ghost use Rattle.mc_tables.specs.CacheTable.{IsValidCache};
-ghost use Rattle.mc_tables.specs.LinesSoFar.{IsValidLinesSoFar};
-ghost use Rattle.mc_tables.specs.RowsSoFar.{rows_end};
-ghost use Rattle.mc_tables.specs.Summary.{HasValidEntries};
-ghost use Rattle.mc_tables.specs.SummarySoFar.{finished_summary};
+ghost use Rattle.std.specs.Prelude.{◌≡◌};
 ghost use Rattle.mc_tables.specs.SummaryReading.{summary_rows_start};
 
-use crate::cache::cache_reader::check_end;
 use crate::cache::cache_row_reader::CacheRowReader;
-use crate::cache::cache_table::CacheTable;
-use crate::fault::TableFault;
+use crate::fault::{TableFault, TableFaultKind};
 use crate::lines::header::check_header;
-use crate::lines::line_buffer::LineBuffer;
 use crate::lines::rows::TableRows;
-use crate::listed::entry_numbers::EntryNumbers;
 use crate::summary::cache_summary::CacheSummary;
 use crate::summary::summarized_cache::SummarizedCache;
 use crate::summary::summary_pairs::SummaryPairs;
@@ -59,35 +49,10 @@ impl SummarizedRows {
     pub fn new(alloc: Global, order: Order, listed: SummaryPairs, all: bool) -> SummarizedRows
         ensures { result ≡ summary_rows_start all order listed }
     {
-        let (pairs, pairs_copy, for_every_source) = listed.into_lists();
+        let (summary, pairs) = SummarySoFar::begin(alloc, listed, all);
         SummarizedRows {
-            rows: CacheRowReader::new(alloc, order, EntryNumbers::for_listed_pairs(alloc, pairs)),
-            summary: SummarySoFar::new(alloc, pairs_copy, for_every_source, all),
-        }
-    }
-
-    /// Refuses a text that ends here if a row repeats an earlier one, or else if its last line hasn't
-    /// ended.
-    pub fn check_end(&mut self, lines: &LineBuffer) -> Result<(), TableFault>
-        ensures end { result ≡ rows_end lines.now self.old.rows }
-        ensures table { self.new.rows.rows.table ≡ self.old.rows.rows.table }
-        ensures summary { self.new.summary ≡ self.old.summary }
-        ensures rules { IsValidLinesSoFar lines.now }
-    {
-        check_end(lines, &mut self.rows)
-    }
-
-    /// The table of the rows that are kept, and the summary.
-    pub fn into_summarized(self) -> SummarizedCache
-        requires table { IsValidCache self.rows.rows.table }
-        requires summary { HasValidEntries (finished_summary self.summary) }
-        ensures table { result.table ≡ self.rows.rows.table }
-        ensures summary { result.summary ≡ finished_summary self.summary }
-    {
-        let SummarizedRows { rows, summary } = self;
-        SummarizedCache {
-            table: CacheTable::from_rows(rows.into_kept()),
-            summary: CacheSummary::of(summary),
+            rows: CacheRowReader::new(alloc, order, pairs),
+            summary,
         }
     }
 }
@@ -95,12 +60,11 @@ impl SummarizedRows {
 impl TableRows for SummarizedRows {
     ghost use Rattle.std.specs.Prelude.{codes};
     ghost use Rattle.mc_tables.specs.CacheTable.{IsValidCache};
-    ghost use Rattle.mc_tables.specs.declared.summary.summarized_cache.SummarizedCache.{SummarizedCache};
     ghost use Rattle.mc_tables.specs.Summary.{HasValidEntries};
     ghost use Rattle.mc_tables.specs.SummarySoFar.{finished_summary};
     ghost use Rattle.mc_tables.specs.SummaryReading.{summary_step, summary_from};
 
-    ghost Table = { SummarizedCache };
+    type Table = SummarizedCache;
 
     ghost header = { codes "Group" };
 
@@ -119,5 +83,17 @@ impl TableRows for SummarizedRows {
             Ok(()) => Ok(()),
             Err(kind) => Err(self.rows.earliest_fault(line.number, kind)),
         }
+    }
+
+    fn unended_fault(&mut self, number: u32) -> TableFault {
+        self.rows.earliest_fault(number, TableFaultKind::Unended)
+    }
+
+    fn into_table(self) -> Result<SummarizedCache, TableFault> {
+        let SummarizedRows { rows, summary } = self;
+        Ok(SummarizedCache {
+            table: rows.into_table()?,
+            summary: CacheSummary::of(summary),
+        })
     }
 }

@@ -4,10 +4,8 @@ ghost use Rattle.std.specs.Prelude.{◌≡◌, ◌<◌, ◌≤◌, ◌+◌, [], 
 ghost use Rattle.std.specs.Prelude.{if◌then◌else◌, is_some, map, slice_get};
 ghost use Rattle.std.specs.FinSet as set;
 ghost use Rattle.mc_tables.specs.declared.fault.TableFaultKind.TheVariants.{Memory};
-ghost use Rattle.mc_tables.specs.CacheTable.{key_cmp, table_of};
 ghost use Rattle.mc_tables.specs.FlatRows.{row_with_oifs};
 ghost use Rattle.mc_tables.specs.ListedRows.{set_has_key, is_kept_by_set};
-ghost use Rattle.mc_tables.specs.Summary.{keys_for_every_source};
 ghost use Rattle.mc_tables.specs.SummarySoFar.{empty_summary, summary_with_row};
 ghost use Rattle.mc_tables.specs.SummarySoFar.{summary_with_unresolved, summary_with_every_source};
 ghost use Rattle.mc_tables.specs.SummarySoFar.{summary_with_unlisted};
@@ -16,10 +14,10 @@ use crate::cache::cache_row::CacheRow;
 use crate::cache::cache_rows::CacheRows;
 use crate::cache::entry::{Entry, Oif};
 use crate::fault::TableFaultKind;
-use crate::listed::entry_numbers::EntryNumbers;
 use crate::listed::listed_entry_numbers::ListedEntryNumbers;
 use crate::listed::listed_pairs::ListedPairs;
 use crate::summary::shown_pairs::ShownPairs;
+use crate::summary::summary_pairs::SummaryPairs;
 use mc_text::Addr;
 use std::alloc::Global;
 use std::marker::Model;
@@ -57,27 +55,21 @@ impl Model for SummarySoFar {
 }
 
 impl SummarySoFar {
-    /// The summary of no rows. It will have the unresolved rows of the first list, the rows for every
-    /// source of the second one, and all other sources and groups if `all`, or else the lowest.
-    pub fn new(
-        alloc: Global,
-        listed: ListedPairs,
-        for_every_source: ListedPairs,
-        all: bool,
-    ) -> SummarySoFar
-        ensures { set.from_list for_every_source
-            ≡ set.from_list {R = key_cmp} (keys_for_every_source listed) →
-            result ≡ empty_summary all listed }
+    /// The summary of no rows, with the listed sources and groups. It will have their unresolved rows,
+    /// the rows for every source that concern them, and all other sources and groups if `all`, or else
+    /// the lowest.
+    pub fn begin(alloc: Global, listed: SummaryPairs, all: bool) -> (SummarySoFar, ListedPairs)
+        ensures summary { result.0 ≡ empty_summary all listed }
+        ensures pairs { result.1 ≡ listed }
     {
-        SummarySoFar {
-            unresolved: ListedEntryNumbers::of(alloc, listed),
-            first: CacheRows::new(
-                alloc,
-                EntryNumbers::for_listed_pairs(alloc, for_every_source),
-            ),
+        let (pairs, pairs_copy, for_every_source) = listed.into_lists();
+        let summary = SummarySoFar {
+            unresolved: ListedEntryNumbers::of(alloc, pairs),
+            first: CacheRows::new(alloc, for_every_source),
             unlisted: 0,
             lowest: ShownPairs::new(alloc, all),
-        }
+        };
+        (summary, pairs_copy)
     }
 
     /// Adds a row with its outgoing vifs. `kept` is whether the table keeps the row.

@@ -10,7 +10,7 @@ use crate::fault::{TableFault, TableFaultKind};
 use crate::lines::header::check_header;
 use crate::lines::rows::TableRows;
 use crate::vifs::vif_row::VifRow;
-use crate::vifs::vif_table::read_new_vif;
+use crate::vifs::vif_table::{VifTable, read_new_vif};
 use mc_text::Line;
 use std::alloc::Global;
 use std::marker::Model;
@@ -63,12 +63,10 @@ impl VifRows {
 
 impl TableRows for VifRows {
     ghost use Rattle.std.specs.Prelude.{codes};
-    ghost use Rattle.std.specs.Ordering.{nat_cmp};
-    ghost use Rattle.std.specs.FinMap.{FinMap};
-    ghost use Rattle.mc_tables.specs.VifTable.{VifValue, AreValidVifRows};
+    ghost use Rattle.mc_tables.specs.VifTable.{AreValidVifRows};
     ghost use Rattle.mc_tables.specs.VifsSoFar.{vif_step, vifs_from_lines};
 
-    ghost Table = { FinMap nat_cmp VifValue };
+    type Table = VifTable;
 
     ghost header = { codes "Interface" };
 
@@ -86,5 +84,13 @@ impl TableRows for VifRows {
             Ok(()) => Ok(()),
             Err(kind) => Err(kind.at(line.number)),
         }
+    }
+
+    fn unended_fault(&mut self, number: u32) -> TableFault {
+        TableFaultKind::Unended.at(number)
+    }
+
+    fn into_table(self) -> Result<VifTable, TableFault> {
+        Ok(VifTable::from_rows(self))
     }
 }

@@ -71,9 +71,7 @@ impl VifTable {
     fn from_text(alloc: Global, text: &[u8]) -> Result<VifTable, TableFault>
         ensures { result ≢ Err out_of_memory → result ≡ vifs_in text.now }
     {
-        let mut reader = VifReader::new(alloc);
-        reader.feed(text)?;
-        reader.finish()
+        VifReader::new(alloc).read_whole(text)
     }
 
     /// The table without a vif.

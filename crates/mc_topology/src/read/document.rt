@@ -14,20 +14,13 @@ ghost use Rattle.mc_topology.specs.Document.{optional_list_at, rows_at};
 use crate::fault::TopologyFaultKind;
 use toml::{Table, Value};
 
-/// Whether the key is one of the known ones.
-fn is_known(known: &[&str], key: &str) -> bool
-    ensures { result ≡ list_any (λ k. bytes_eq k.now key.now) known.now }
-{
-    known.iter().any(|k| *k == key)
-}
-
 /// Whether each key of the table is one of the known ones.
 fn has_known_keys(table: &Table, known: &[&str]) -> bool
     ensures { result ≡
         list_all (λ key. list_any (λ k. bytes_eq k.now (string_bytes key)) known.now)
         (keys table.now) }
 {
-    table.keys().all(|key| is_known(known, key.as_str()))
+    table.keys().all(|key| known.contains(&key.as_str()))
 }
 
 /// Whether the table has no other keys than the known ones.

@@ -24,7 +24,8 @@ returns c =
     (c.if-not-are_below.ensures refl)) in
     subst (λ (flows : List Tree). DenotesCertificate c.args.topology.now c.args.text.now flows)
     (sym c.from_trees.ensures.flows)
-    (version_two_text-denotes c.args.topology.now tree_numbers trees c.args.text.now c.in-Some-after_prefix-2.rest.now
+    (version_two_text-denotes c.args.topology.now tree_numbers trees c.args.text.now
+    c.in-Some-after_prefix-2.rest.now
     c.flows-rules.ensures.rules (omega (arith, c.in-Ok.ensures.count))
     (AllByRecursion-from_All (λ n. n < length trees) tree_numbers named)
     (omega (arith, many, c.in-Ok-read_trees.ensures.few)) c.in-Ok-read_trees.ensures.writable

@@ -4,5 +4,6 @@ use Rattle.mc_cert.proofs.compact.read_router.Goals as goal
 
 pub returns-clause-text : goal.returns-clause-text
 returns-clause-text c =
-    router_name-from_router_no_of c.args.topology.now c.in_ok-router.router c.args.text.now c.in_ok-name.name.now
+    router_name-from_router_no_of c.args.topology.now c.in_ok-router.router c.args.text.now
+    c.in_ok-name.name.now
     c.in_ok-name.rest.now c.in_ok-name.ensures (sym c.in_ok-router.ensures.number)

@@ -9,4 +9,5 @@ not_IsSome (Some x) not some = not x refl
 
 pub returns-in_default-clause-only : goal.returns-in_default-clause-only
 returns-in_default-clause-only c = λ audit are.
-    absurd (not_IsSome c.in_ok-audit.field-0 c.in_default.not-Some (c.in_ok-audit.ensures.only audit are.whole))
+    absurd (not_IsSome c.in_ok-audit.field-0 c.in_default.not-Some
+    (c.in_ok-audit.ensures.only audit are.whole))

@@ -7,7 +7,9 @@ use Rattle.mc_cli.proofs.command.pack_command.Goals as goal
 pub returns : goal.returns
 returns c =
     let none : App = record { top = command_shape (codes "pack") []; subs = [] } in
-    c.with_argument.ensures (with_rule none (required_rule (codes "folder"))) (flag_rule (codes "certificate"))
+    c.with_argument.ensures (with_rule none (required_rule (codes "folder")))
+    (flag_rule (codes "certificate"))
     c.flag.ensures.rule c.flag.ensures.local
-    (IsCommand-with_first_rule c.bare_command-command.result c.required.result none (required_rule (codes "folder")) c.arg.result
+    (IsCommand-with_first_rule c.bare_command-command.result c.required.result none
+    (required_rule (codes "folder")) c.arg.result
     c.required.ensures.rule c.required.ensures.local c.bare_command-command.ensures c.arg.ensures)

@@ -13,5 +13,6 @@ returns c =
     c.option.ensures.rule c.option.ensures.local
     (c.with_argument-command.ensures flow (required_rule (codes "ttl"))
     c.required-2.ensures.rule c.required-2.ensures.local
-    (IsCommand-with_first_rule c.bare_command-command.result c.required.result none (required_rule (codes "flow")) c.arg-command.result
+    (IsCommand-with_first_rule c.bare_command-command.result c.required.result none
+    (required_rule (codes "flow")) c.arg-command.result
     c.required.ensures.rule c.required.ensures.local c.bare_command-command.ensures c.arg-command.ensures))

@@ -10,5 +10,6 @@ returns c =
     let group = c.required-group in
     c.with_argument.ensures (with_rule none (required_rule (codes "group"))) (required_rule (codes "source"))
     c.required.ensures.rule c.required.ensures.local
-    (IsCommand-with_first_rule c.bare_command-command.result group.result none (required_rule (codes "group")) c.arg.result
+    (IsCommand-with_first_rule c.bare_command-command.result group.result none
+    (required_rule (codes "group")) c.arg.result
     group.ensures.rule group.ensures.local c.bare_command-command.ensures c.arg.ensures)

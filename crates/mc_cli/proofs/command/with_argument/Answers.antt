@@ -1,9 +1,10 @@
-use Rattle.std.proofs.lemmas.Result.{IfOk-weaker}
-use Rattle.mc_cli.proofs.CommandLemmas.{IsCommand-with_rule, value-from_IfOk}
+use Rattle.std.proofs.lemmas.Result.{IfOk-at_ok, IfOk-weaker}
+use Rattle.mc_cli.proofs.CommandLemmas.{IsCommand-with_rule}
 use Rattle.mc_cli.proofs.command.with_argument.Goals as goal
 
 pub returns : goal.returns
 returns c = λ app rule same local is.
-    let old = value-from_IfOk c.args.command c.in_ok-command.command _ c.in_ok-command.was is in
+    let old = IfOk-at_ok _ c.in_ok-command.was is in
     IfOk-weaker c.arg.result _ _
-    (λ new adds. IsCommand-with_rule c.in_ok-command.command c.args.argument new app rule same local old adds) c.arg.ensures
+    (λ new adds. IsCommand-with_rule c.in_ok-command.command c.args.argument new app rule same local old adds)
+    c.arg.ensures

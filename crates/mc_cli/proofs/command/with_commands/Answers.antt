@@ -1,6 +1,7 @@
 use Rattle.std.proofs.Common.{[]}
 use Rattle.clap.specs.Simple.{App, with_subcommand}
-use Rattle.mc_cli.specs.Commands.{check_shape, make_shape, pack_shape, program_shape, replay_shape, wants_shape}
+use Rattle.mc_cli.specs.Commands.{check_shape, make_shape, pack_shape, program_shape, replay_shape}
+use Rattle.mc_cli.specs.Commands.{wants_shape}
 use Rattle.mc_cli.proofs.command.with_commands.Goals as goal
 
 pub returns : goal.returns

@@ -1,12 +1,14 @@
 use Rattle.std.proofs.Common.{None, Some, sym, ◌∙◌}
 use Rattle.mc_cli.specs.AuditWords.{given_of}
-use Rattle.mc_cli.proofs.DraftLemmas.{Some-from_IsNextGiven, None-from_IsNextGiven, with_words-all, with_words-more, with_words-None}
+use Rattle.mc_cli.proofs.DraftLemmas.{Some-from_IsNextGiven, None-from_IsNextGiven, with_words-all}
+use Rattle.mc_cli.proofs.DraftLemmas.{with_words-more, with_words-None}
 use Rattle.mc_cli.proofs.draft.draft_of.Goals as goal
 
 pub returns-then-not-branch : goal.returns-then-not-branch
 returns-then-not-branch c =
     sym (with_words-None _)
-    ∙ sym (with_words-more (λ word. word.now) c.args.words.now c.loop-word.word-index _ (given_of c.loop-word.draft)
+    ∙ sym (with_words-more (λ word. word.now) c.args.words.now c.loop-word.word-index _
+    (given_of c.loop-word.draft)
     None c.loop-word-test.true
     (None-from_IsNextGiven c.in_ok-add_word.field-0 _ (given_of c.add_word.new.self) c.if-not-branch.true
     c.in_ok-add_word.ensures))
@@ -14,7 +16,8 @@ returns-then-not-branch c =
 
 pub loop-word-preserved : goal.loop-word-preserved
 loop-word-preserved c =
-    sym (with_words-more (λ word. word.now) c.args.words.now c.loop-word.word-index _ (given_of c.loop-word.draft)
+    sym (with_words-more (λ word. word.now) c.args.words.now c.loop-word.word-index _
+    (given_of c.loop-word.draft)
     (Some (given_of c.add_word.new.self)) c.loop-word-test.true
     (Some-from_IsNextGiven c.in_ok-add_word.field-0 _ (given_of c.add_word.new.self) c.if-not-branch.false
     c.in_ok-add_word.ensures))
@@ -22,6 +25,7 @@ loop-word-preserved c =
 
 pub returns : goal.returns
 returns c =
-    sym (with_words-all (λ word. word.now) c.args.words.now c.loop-word.word-index (given_of c.loop-word.draft)
+    sym (with_words-all (λ word. word.now) c.args.words.now c.loop-word.word-index
+    (given_of c.loop-word.draft)
     c.loop-word-test.false)
     ∙ c.loop-word.invariant

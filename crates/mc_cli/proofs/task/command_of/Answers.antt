@@ -2,7 +2,8 @@ use Rattle.std.proofs.Common.{List, ℕ, map, sym, ◌∙◌}
 use Rattle.std.proofs.lemmas.Bool.{false≢true}
 use Rattle.std.proofs.lemmas.Result.{IfOk-weaker}
 use Rattle.mc_cli.specs.Task.{AskForVersion}
-use Rattle.mc_cli.proofs.FirstWordLemmas.{IsAuditFor-from_IsAskedFor, is_topic-from_IsAskedFor, IsAskedFor-help, not_Version-from_IfOk}
+use Rattle.mc_cli.proofs.FirstWordLemmas.{IsAuditFor-from_IsAskedFor, is_topic-from_IsAskedFor}
+use Rattle.mc_cli.proofs.FirstWordLemmas.{IsAskedFor-help, not_Version-from_IfOk}
 use Rattle.mc_cli.proofs.task.command_of.Goals as goal
 
 pub returns-then-is_first_word : goal.returns-then-is_first_word
@@ -19,7 +20,8 @@ returns-then-is_first_word c =
         λ asked. absurd (other asked),
       );
       found = IfOk-weaker c.help_task.result _ _ (IsAskedFor-help words first) found;
-      only = λ task allowed asked. c.help_task.ensures.only (is_topic-from_IsAskedFor words first other task asked);
+      only = λ task allowed asked. c.help_task.ensures.only
+          (is_topic-from_IsAskedFor words first other task asked);
     }
 
 pub returns-then-is_first_word-2-clause-only : goal.returns-then-is_first_word-2-clause-only
@@ -28,4 +30,5 @@ returns-then-is_first_word-2-clause-only c =
     let first = c.is_first_word-2.ensures.0 c.if-is_first_word-2.true in
     let other : AskForVersion words → ⊥ =
     λ asked. false≢true (sym c.if-ask_for_version.false ∙ c.ask_for_version.ensures.1 asked) in
-    λ task allowed asked. c.audit_task.ensures.only task (IsAuditFor-from_IsAskedFor words first other task asked)
+    λ task allowed asked. c.audit_task.ensures.only task
+    (IsAuditFor-from_IsAskedFor words first other task asked)

@@ -10,5 +10,6 @@ returns c = λ certified t parts.
     let names : List (List ℕ) = map part_name (slots certified t) in
     let others : List (List ℕ) = map (λ (part : PartText). part.name) parts in (
       λ none. same_names-from_first_mismatch names others none,
-      λ same. subst (λ (xs : List (List ℕ)). first_mismatch names xs ≡ None) same (first_mismatch-same_names names),
+      λ same. subst (λ (xs : List (List ℕ)). first_mismatch names xs ≡ None) same
+          (first_mismatch-same_names names),
     )

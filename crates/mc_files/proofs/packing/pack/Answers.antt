@@ -2,8 +2,9 @@ use Rattle.std.proofs.Common.{ap, ◌∙◌, Err, List}
 use Rattle.std.proofs.lemmas.Result.{err_from_is_err_and}
 use Rattle.mc_text.specs.Bundle.{PartText}
 use Rattle.mc_text.specs.BundleView.{part_texts}
-use Rattle.mc_files.proofs.RunLemmas.{IsPackAnswer-from_error, IsIoOrMemory-from_IsPacked, IsPackAnswer-written, IsIoOrMemory-written}
-use Rattle.mc_files.proofs.RunLemmas.{WritesPackedPrefix-cut, WritesPackedBundle-written}
+use Rattle.mc_files.proofs.RunLemmas.{IsPackAnswer-from_error, IsIoOrMemory-from_IsPacked}
+use Rattle.mc_files.proofs.RunLemmas.{IsPackAnswer-written, IsIoOrMemory-written, WritesPackedPrefix-cut}
+use Rattle.mc_files.proofs.RunLemmas.{WritesPackedBundle-written}
 use Rattle.mc_files.proofs.packing.pack.Goals as goal
 
 pub returns-in_err-files-clause-answer : goal.returns-in_err-files-clause-answer

@@ -7,4 +7,5 @@ returns-then-certified-clause-count c =
     rw (c.if-certified.true) (omega (arith, length-slots_after_topology true c.args.topology.now))
 
 pub returns-clause-count : goal.returns-clause-count
-returns-clause-count c = rw (c.if-certified.false) (omega (arith, length-slots_after_topology false c.args.topology.now))
+returns-clause-count c =
+    rw (c.if-certified.false) (omega (arith, length-slots_after_topology false c.args.topology.now))

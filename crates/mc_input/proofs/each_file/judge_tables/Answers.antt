@@ -1,38 +1,73 @@
-use Rattle.std.proofs.Common.{List, ℕ, map, sym, ◌∙◌}
+use Rattle.std.proofs.Common.{ℕ, ◌+◌, ◌*◌, ◌∙◌, [], ◌∷◌, List, ap, arith, false, map, refl, sym}
+use Rattle.std.specs.List.{list_any}
+use Rattle.std.specs.Prelude.{option_map}
+use Rattle.std.specs.Str.{bytes_eq}
 use denote.Ref.{Bor}
-use Rattle.mc_topology.specs.SectionRows.{RouterRow}
+use Rattle.mc_text.specs.Steps.{map_fault}
+use Rattle.mc_text.specs.declared.text.addr.Order.{Order}
 use Rattle.mc_files.specs.Layout.{cache_slot, vif_slot}
+use Rattle.mc_files.proofs.SlotLemmas.{router_slot, slice_get-cache_slot, slice_get-vif_slot}
 use Rattle.mc_input.specs.PartsReading.{cache_of, vifs_of}
-use Rattle.mc_input.specs.RefusedFiles.{as_judged_file}
-use Rattle.mc_input.proofs.RefusedLemmas.{OnOk-both, JudgesFiles-one_of_slot, JudgesFiles-router}
-use Rattle.mc_input.proofs.RefusedLemmas.{JudgesFiles-excluded_router}
+use Rattle.mc_input.specs.RefusedFiles.{JudgedFile, as_judged_file, judged_file}
+use Rattle.mc_input.specs.declared.fault.InputFault.TheVariants.{Cache, Vif}
+use Rattle.mc_input.proofs.CacheLemmas.{listed_part}
+use Rattle.mc_input.proofs.FinishLemmas.{router_slots-within_count}
+use Rattle.mc_input.proofs.RefusedLemmas.{JudgesFiles-excluded_router, JudgesFiles-router, JudgesFiles-same_files}
+use Rattle.mc_input.proofs.RefusedLemmas.{JudgesFiles-same_source, judged_file-listed_part}
+use Rattle.mc_input.proofs.WalkLemmas.{name-at, order-at}
+use Rattle.mc_text.proofs.StepLemmas.{on_ok_map}
 use Rattle.mc_input.proofs.each_file.judge_tables.Goals as goal
 
+pub judge_slot-requires-clause-within : goal.judge_slot-requires-clause-within
+judge_slot-requires-clause-within g c =
+    omega (arith, router_slots-within_count false c.args.topology.now c.args.router c.requires.router)
+
+pub judge_slot-requires-2-clause-within : goal.judge_slot-requires-2-clause-within
+judge_slot-requires-2-clause-within g c =
+    omega (arith, router_slots-within_count false c.args.topology.now c.args.router c.requires.router)
+
 pub returns-then-is_excluded-clause-judged : goal.returns-then-is_excluded-clause-judged
-returns-then-is_excluded-clause-judged g c = λ flows listed.
-    let row : RouterRow = record { name = c.args.router.now; order = c.args.order } in
-    JudgesFiles-excluded_router (g.F.FileSource.contents c.args.files.now)
-    (map (λ (n : Bor (List ℕ)). n.now) c.args.without.now) row
-    (sym c.is_excluded.ensures ∙ c.if-is_excluded.true) (map as_judged_file c.args.refused.now.items)
+returns-then-is_excluded-clause-judged g c = λ r at.
+    let names = map (λ (n : Bor (List ℕ)). n.now) c.args.without.now in
+    let name = name-at _ r c.router_name.result.now c.router_name.ensures.name at in
+    JudgesFiles-excluded_router (g.F.FileSource.contents c.args.files.now) names r
+    (ap (λ (own : List ℕ). list_any (λ n. bytes_eq n own) names) (sym name)
+    ∙ sym c.is_excluded.ensures ∙ c.if-is_excluded.true) (map as_judged_file c.args.refused.now.items)
     (g.F.FileSource.failed c.args.files.now)
 
 pub returns-clause-judged : goal.returns-clause-judged
-returns-clause-judged g c = λ flows listed.
+returns-clause-judged g c = λ r at.
+    let t = c.args.topology.now in
+    let k = c.args.router in
     let contents = g.F.FileSource.contents c.args.files.now in
-    let row : RouterRow = record { name = c.args.router.now; order = c.args.order } in
+    let between_contents = g.F.FileSource.contents c.judge_slot.new.files in
+    let names = map (λ (n : Bor (List ℕ)). n.now) c.args.without.now in
+    let name = name-at _ r c.router_name.result.now c.router_name.ensures.name at in
+    let order = order-at _ r c.order-order.result c.order-order.ensures.item at in
+    let own = ap (λ (own : List ℕ). list_any (λ n. bytes_eq n own) names) (sym name)
+    ∙ sym c.is_excluded.ensures ∙ c.if-is_excluded.false in
+    let named = ap (option_map (λ r. r.name)) at in
+    let vif_at = router_slot false t (1 + 2 * k) (2 * k) (vif_slot r.name) (omega arith)
+    (λ more. slice_get-vif_slot more t.routers k (2 * k) r.name refl named) in
+    let cache_at = router_slot false t (1 + 2 * k + 1) (2 * k + 1) (cache_slot r.name) (omega arith)
+    (λ more. slice_get-cache_slot more t.routers k (2 * k + 1) r.name refl named) in
     let before = g.F.FileSource.failed c.args.files.now in
-    let middle = g.F.FileSource.failed c.vifs_fault-vifs.new.files in
-    let after = g.F.FileSource.failed c.cache_fault-cache.new.files in
+    let middle = g.F.FileSource.failed c.judge_slot.new.files in
+    let after = g.F.FileSource.failed c.judge_slot-2.new.files in
     let old = map as_judged_file c.args.refused.now.items in
-    let between = map as_judged_file c.push_if_fault.new.refused.items in
-    let new = map as_judged_file c.push_if_fault-2.new.refused.items in
-    OnOk-both c.push_if_fault-2.result c.push_if_fault-2.ensures.listed c.push_if_fault-2.ensures.not_out_of_memory (λ pushed enough.
-    JudgesFiles-router contents (map (λ (n : Bor (List ℕ)). n.now) c.args.without.now) row
-    (sym c.is_excluded.ensures ∙ c.if-is_excluded.false) old between new before middle after
-    (JudgesFiles-one_of_slot contents (vif_slot row.name) vifs_of c.vifs_fault-vifs.result old between before middle
-    c.vifs.result c.vifs.ensures.value c.in_ok-push_if_fault.ensures.listed c.in_ok-push_if_fault.ensures.not_out_of_memory
-    c.vifs_fault-vifs.ensures.failures c.vifs_fault-vifs.ensures.fault)
-    (JudgesFiles-one_of_slot contents (cache_slot row.name) (cache_of row.order) c.cache_fault-cache.result between new
-    middle after c.cache.result c.cache.ensures.value pushed enough c.cache_fault-cache.ensures.failures
-    (λ known is. c.cache_fault-cache.ensures.fault flows known listed
-    (c.vifs_fault-vifs.ensures.kept ∙ is))))
+    let between = map as_judged_file c.judge_slot.new.refused.items in
+    let new = map as_judged_file c.judge_slot-2.new.refused.items in
+    let read = listed_part c.order-order.result c.in_ok-clone.field-0 in
+    on_ok_map c.judge_slot-2.result (c.judge_slot-2.ensures.judged read (cache_slot r.name)
+    (λ part small. ap (map_fault (Cache part.name)) (c.new-cache.ensures.reads part.bytes small)) cache_at)
+    (λ judged. JudgesFiles-router contents names r own old between new before middle after
+    (c.in_ok-judge_slot.ensures.judged vifs_of (vif_slot r.name)
+    (λ part small. ap (map_fault (Vif part.name)) (c.new-vifs.ensures.reads part.bytes small)) vif_at)
+    (JudgesFiles-same_source contents between_contents
+    (λ known. judged_file known (cache_slot r.name) (cache_of r.order) ∷ []) between new middle after
+    c.judge_slot.ensures.kept
+    (JudgesFiles-same_files between_contents (λ known. judged_file known (cache_slot r.name) read ∷ [])
+    (λ known. judged_file known (cache_slot r.name) (cache_of r.order) ∷ []) between new middle after
+    (λ known. ap (λ (file : JudgedFile). file ∷ [])
+    (judged_file-listed_part known (cache_slot r.name) c.order-order.result c.in_ok-clone.field-0
+    ∙ ap (λ (o : Order). judged_file known (cache_slot r.name) (cache_of o)) order)) judged)))

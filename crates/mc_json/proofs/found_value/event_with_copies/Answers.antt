@@ -1,6 +1,7 @@
 use Rattle.mc_json.proofs.found_value.event_with_copies.Goals as goal
 
 pub returns : goal.returns
-returns c = rw (← c.event.view_is) (c.object.ensures _ (c.count-4.ensures _ (c.count-3.ensures _
-    (c.count-2.ensures _ (c.router.ensures _ (c.text.ensures _ (c.count.ensures _
-    c.new.ensures)))))))
+returns c = rw (← c.event.view_is) (rw c.topology.ensures.topology at (c.object.ensures _
+    (c.count-4.ensures _ (c.count-3.ensures _ (c.count-2.ensures _ (c.router.ensures _ (c.text.ensures _
+    (c.list.ensures _ _ (c.count.ensures _ c.new.ensures)
+    (rw (← c.event.view_is) at c.sent_vif_values.ensures)))))))))

@@ -9,7 +9,7 @@ pub returns-clause-domain : goal.returns-clause-domain
 returns-clause-domain c = λ d words. are_object_lines-domain d words
 
 pub returns-clause-tree : goal.returns-clause-tree
-returns-clause-tree c = λ t es tree. are_object_lines-tree t es tree
+returns-clause-tree c = λ t n es tree. are_object_lines-tree t n es tree
 
 pub returns-clause-right : goal.returns-clause-right
 returns-clause-right c = λ number f copies tree wanted. are_object_lines-right number f copies tree wanted

@@ -1,13 +1,65 @@
-use Rattle.std.proofs.Common.{sym, subst}
+use Rattle.std.proofs.Common.{◌≡◌, ◌++◌, ℕ, Bool, List, Option, ap, map, sym, subst, ◌∙◌}
+use Rattle.serde_json.specs.View.{view as data_of}
+use Rattle.serde_json.specs.Written.{has_float}
+use Rattle.serde_json.specs.Data.{Data}
+use Rattle.mc_tables.specs.Summary.{SummaryValue}
+use Rattle.mc_topology.specs.Topology.{flow_at}
+use Rattle.mc_forward.specs.Domains.{DomainValue}
+use Rattle.mc_forward.specs.FlightsInDomain.{FlowOfDomain}
 use Rattle.mc_forward.specs.ListedTables.{facts}
-use Rattle.mc_json.proofs.NoFloatLemmas.{HaveNoFloat}
+use Rattle.mc_replay.specs.declared.travel.Travel.{Travel}
+use Rattle.mc_explain.specs.declared.causes.Cause.{Cause}
+use Rattle.mc_explain.specs.declared.causes.explanation.Certainty.{Certainty}
+use Rattle.mc_explain.specs.declared.searches.searching.LanSearch.{LanSearch}
+use Rattle.mc_json.specs.FlowData.{wrong_data, wrong_flow_of, wrong_line}
+use Rattle.mc_json.specs.RowData.{line_of}
+use Rattle.mc_json.specs.WhyData.{why_data}
+use Rattle.mc_json.proofs.NoFloatLemmas.{HaveNoFloat, no_float-wrong_flow_of}
 use Rattle.mc_json.proofs.LineNoFloatLemmas.{no_float-why_data}
 use Rattle.mc_json.proofs.wrong_line.push_wrong_line.Goals as goal
 
-pub push_wrong_flow-requires : goal.push_wrong_flow-requires
-push_wrong_flow-requires c = record {
+-- the object of a flow by its view, and its explanation there
+abbrev value_in : (summary : List SummaryValue) (flow found_ttl : ℕ) (travel : Travel) (certainty : Certainty)
+    (also : List ℕ) (why : List Data) (asked : Bool) → DomainValue → Data
+value_in summary flow found_ttl travel certainty also why asked d = wrong_data flow (flow_at d.topology flow)
+    (wrong_flow_of (facts d) flow certainty found_ttl travel.finding travel.events.items also why asked)
+
+-- the line by the view of a flow is that of the domain's flow
+wrong_line-of_view : (d : DomainValue) (summary : List SummaryValue) (flow found_ttl : ℕ) (view : FlowOfDomain)
+    (travel : Travel) (certainty : Certainty) (also : List ℕ) (causes : List Cause) (search : Option LanSearch)
+    (why : List Data) (asked : Bool) (value : Data) (old new : List ℕ)
+    → view ≡ record { domain = d; flow = flow }
+    → why ≡ why_data (facts view.domain) summary view.flow causes search
+    → value ≡ value_in summary flow found_ttl travel certainty also why asked view.domain
+    → new ≡ old ++ line_of value
+    → new ≡ old ++ wrong_line (facts d) flow (flow_at d.topology flow) certainty found_ttl travel.finding
+    travel.events.items also (why_data (facts d) summary flow causes search) asked
+wrong_line-of_view d summary flow found_ttl view travel certainty also causes search why asked value old new
+    same because is puts =
+    puts ∙ ap (λ (x : Data). old ++ line_of x) is
+    ∙ ap (λ (lines : List Data). old ++ line_of (value_in summary flow found_ttl travel certainty also lines
+    asked view.domain)) because
+    ∙ ap (λ (v : FlowOfDomain). old ++ line_of (value_in summary flow found_ttl travel certainty also
+    (why_data (facts v.domain) summary v.flow causes search) asked v.domain)) same
+
+pub push_line-requires : goal.push_line-requires
+push_line-requires c = record {
   no_float = (
       let view = c.new-view.result in
-      subst HaveNoFloat (sym c.in_ok-why.ensures) (no_float-why_data (facts view.domain) c.args.summary.now
-      view.flow c.args.explanation.now.causes.now c.args.explanation.now.search.now));
+      let d = view.domain in
+      let travel = c.args.travel.now in
+      ap has_float c.in_ok-value.ensures.value
+      ∙ no_float-wrong_flow_of (facts d) c.args.flow (flow_at d.topology c.args.flow)
+      c.args.explanation.now.certainty c.args.found_ttl
+      travel.finding travel.events.items c.args.explanation.now.also.now (map data_of c.in_ok-why.why.items)
+      c.args.events_asked (subst HaveNoFloat (sym c.in_ok-why.ensures) (no_float-why_data (facts d)
+      c.args.summary.now view.flow c.args.explanation.now.causes.now c.args.explanation.now.search.now)));
+}
+
+pub returns : goal.returns
+returns c = record {
+  line = wrong_line-of_view c.args.domain.now c.args.summary.now c.args.flow c.args.found_ttl c.new-view.result
+      c.args.travel.now c.args.explanation.now.certainty c.args.explanation.now.also.now
+      c.args.explanation.now.causes.now c.args.explanation.now.search.now _ c.args.events_asked _ _ _
+      c.new-view.ensures.flow c.in_ok-why.ensures c.in_ok-value.ensures.value c.in_ok-push_line.ensures.added;
 }

@@ -1,14 +1,27 @@
 use Rattle.mc_json.proofs.wrong_line.wrong_value.Goals as goal
 
 pub returns-then-not-events_asked : goal.returns-then-not-events_asked
-returns-then-not-events_asked c = rw c.if-not-events_asked.true
-    (rw (c.topology-topology.ensures.topology, c.flow_view.ensures) at (c.object.ensures _
-    (c.value-fields.ensures _ _ (c.list.ensures _ _ c.wrong_fields.ensures c.lan_names.ensures)
-    c.finding_value.ensures)))
+returns-then-not-events_asked c = record {
+  value = rw c.if-not-events_asked.true
+      (rw (
+        c.topology-topology.ensures.topology,
+        c.flow.ensures,
+        c.in_ok-wanted.ensures,
+        ← c.requires.number,
+      ) at (c.object.ensures _ (c.value-fields.ensures _ _ (c.list.ensures _ _
+      c.wrong_fields.ensures c.lan_names.ensures) c.finding_value.ensures)));
+}
 
 pub returns : goal.returns
-returns c = rw c.if-not-events_asked.false
-    (rw (c.topology-topology.ensures.topology, c.flow_view.ensures, c.deref.ensures.value) at
-    (c.object-2.ensures _
-    (c.list-2.ensures _ _ (c.value-fields.ensures _ _ (c.list.ensures _ _ c.wrong_fields.ensures
-    c.lan_names.ensures) c.finding_value.ensures) c.event_values-events.ensures)))
+returns c = record {
+  value = rw c.if-not-events_asked.false
+      (rw (
+        c.topology-topology.ensures.topology,
+        c.flow.ensures,
+        c.in_ok-wanted.ensures,
+        c.deref.ensures.value,
+        ← c.requires.number,
+      ) at (c.object-2.ensures _
+      (c.list-2.ensures _ _ (c.value-fields.ensures _ _ (c.list.ensures _ _ c.wrong_fields.ensures
+      c.lan_names.ensures) c.finding_value.ensures) c.event_values-events.ensures)));
+}

@@ -1,41 +1,33 @@
-use Rattle.std.proofs.Common.{arith}
 use Rattle.mc_run.specs.AuditPieces.{audited_value}
 use Rattle.mc_run.proofs.AuditFlows.{are_flows_pushed-more, count_right-below_limit}
-use Rattle.mc_run.proofs.AuditFlows.{count_unwanted-below_limit, trees_shown-at_most_flows}
-use Rattle.mc_run.proofs.AuditFlows.{count_wrong-below_limit}
+use Rattle.mc_run.proofs.AuditFlows.{count_unwanted-below_limit, counted-few, trees_shown-at_most_flows}
+use Rattle.mc_run.proofs.AuditFlows.{count_unknown-below_limit, count_wrong-below_limit}
 use Rattle.mc_run.proofs.audit.push_flows.Goals as goal
 
 pub with-flow_counts-requires-clause-right : goal.with-flow_counts-requires-clause-right
 with-flow_counts-requires-clause-right c =
-    let le = count_right-below_limit _ _ _ _ _ _ _ c.loop-flow.invariant in
-    let lt = c.loop-flow-test.true in
-    let count = c.flows-flow-end.ensures.count in
-    let few = c.flows-flow-end.ensures.rules.few_flows in
-    omega (arith, le, lt, count, few)
+    counted-few _ _ _ _ (count_right-below_limit _ _ _ _ _ _ _ c.loop-flow.invariant) c.loop-flow-test.true
+    c.flows-flow-end.ensures.count c.flows-flow-end.ensures.rules.few_flows
 
 pub with-flow_counts-requires-clause-wrong : goal.with-flow_counts-requires-clause-wrong
 with-flow_counts-requires-clause-wrong c =
-    let le = count_wrong-below_limit _ _ _ _ _ _ _ c.loop-flow.invariant in
-    let lt = c.loop-flow-test.true in
-    let count = c.flows-flow-end.ensures.count in
-    let few = c.flows-flow-end.ensures.rules.few_flows in
-    omega (arith, le, lt, count, few)
+    counted-few _ _ _ _ (count_wrong-below_limit _ _ _ _ _ _ _ c.loop-flow.invariant) c.loop-flow-test.true
+    c.flows-flow-end.ensures.count c.flows-flow-end.ensures.rules.few_flows
+
+pub with-flow_counts-requires-clause-unknown : goal.with-flow_counts-requires-clause-unknown
+with-flow_counts-requires-clause-unknown c =
+    counted-few _ _ _ _ (count_unknown-below_limit _ _ _ _ _ _ _ c.loop-flow.invariant) c.loop-flow-test.true
+    c.flows-flow-end.ensures.count c.flows-flow-end.ensures.rules.few_flows
 
 pub with-flow_counts-requires-clause-unwanted : goal.with-flow_counts-requires-clause-unwanted
 with-flow_counts-requires-clause-unwanted c =
-    let le = count_unwanted-below_limit _ _ _ _ _ _ _ c.loop-flow.invariant in
-    let lt = c.loop-flow-test.true in
-    let count = c.flows-flow-end.ensures.count in
-    let few = c.flows-flow-end.ensures.rules.few_flows in
-    omega (arith, le, lt, count, few)
+    counted-few _ _ _ _ (count_unwanted-below_limit _ _ _ _ _ _ _ c.loop-flow.invariant) c.loop-flow-test.true
+    c.flows-flow-end.ensures.count c.flows-flow-end.ensures.rules.few_flows
 
 pub push_flow-requires-clause-room : goal.push_flow-requires-clause-room
 push_flow-requires-clause-room c =
-    let le = trees_shown-at_most_flows _ _ _ _ _ _ _ c.loop-flow.invariant in
-    let lt = c.loop-flow-test.true in
-    let count = c.flows-flow-end.ensures.count in
-    let few = c.flows-flow-end.ensures.rules.few_flows in
-    omega (arith, le, lt, count, few)
+    counted-few _ _ _ _ (trees_shown-at_most_flows _ _ _ _ _ _ _ c.loop-flow.invariant) c.loop-flow-test.true
+    c.flows-flow-end.ensures.count c.flows-flow-end.ensures.rules.few_flows
 
 pub loop-flow-preserved : goal.loop-flow-preserved
 loop-flow-preserved c =

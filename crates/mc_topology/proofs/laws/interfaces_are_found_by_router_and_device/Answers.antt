@@ -1,4 +1,5 @@
-use Rattle.mc_topology.proofs.InterfaceLemmas.{IsIn-from_lan_of_interface, lan_of_interface-listed_row, interface_row_of}
+use Rattle.mc_topology.proofs.InterfaceLemmas.{IsIn-from_lan_of_interface, lan_of_interface-listed_row}
+use Rattle.mc_topology.proofs.InterfaceLemmas.{interface_row_of}
 use Rattle.mc_topology.proofs.laws.interfaces_are_found_by_router_and_device.Goals as goal
 
 pub returns : goal.returns

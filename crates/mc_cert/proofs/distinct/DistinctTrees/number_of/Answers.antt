@@ -19,7 +19,8 @@ returns-in-Some-clause-trees c =
 
 pub invariant_of-self-2 : goal.invariant_of-self-2
 invariant_of-self-2 c =
-    (IsTreeNumberMap-insert (λ t. t.value.items) c.self.inside.numbers c.insert.new.self c.self.inside.trees.items
+    (IsTreeNumberMap-insert (λ t. t.value.items) c.self.inside.numbers c.insert.new.self
+    c.self.inside.trees.items
     c.push.new.self.items c.in_ok-tree.tree c.in_ok-key.key c.len-number.result c.self.invariant
     (sym c.get.ensures.value ∙ sym c.copied.ensures ∙ c.in_default.is)
     (c.in_ok-push.ensures.items
@@ -31,7 +32,8 @@ pub returns-clause-number : goal.returns-clause-number
 returns-clause-number c =
     ap (λ t. find_tree (map (λ t. t.value.items) c.push.new.self.items) t.items)
     (sym c.in_ok-tree.ensures.ok)
-    ∙ (IsTreeNumberMap-insert (λ t. t.value.items) c.self.inside.numbers c.insert.new.self c.self.inside.trees.items
+    ∙ (IsTreeNumberMap-insert
+    (λ t. t.value.items) c.self.inside.numbers c.insert.new.self c.self.inside.trees.items
     c.push.new.self.items c.in_ok-tree.tree c.in_ok-key.key c.len-number.result c.self.invariant
     (sym c.get.ensures.value ∙ sym c.copied.ensures ∙ c.in_default.is)
     (c.in_ok-push.ensures.items

@@ -18,7 +18,8 @@ push_trees-requires c = record {
 pub returns-clause-text : goal.returns-clause-text
 returns-clause-text c =
     let is : string_bytes c.push_str-2.new.self
-    ≡ version_two_text c.args.topology.now c.deref.result.now (map (λ t. t.value.items) c.trees-trees.result.now)
+    ≡ version_two_text c.args.topology.now c.deref.result.now
+    (map (λ t. t.value.items) c.trees-trees.result.now)
     = search rules in
     is ∙ ap₂ (version_two_text c.args.topology.now) c.deref.ensures.value c.trees-trees.ensures
     ∙ version_two_text-AreSharedTrees c.args.topology.now c.self.inside.distinct c.self.inside.numbers.items

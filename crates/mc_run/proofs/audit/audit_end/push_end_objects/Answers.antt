@@ -7,7 +7,7 @@ pub returns : goal.returns
 returns c =
     end_objects-parts c.args.options c.topology-topology.result.now
     (audited_value c.args.audited.now).domain.topology (audited_value c.args.audited.now).summary
-    c.args.audited.now.excluded.now c.deref.result.now _ _ _ c.push_summary_line.result _ _ _ _
+    c.args.audited.now.excluded.now c.deref.result.now _ _ _ _ c.push_summary_line.result _ _ _ _
     c.topology-topology.ensures.topology (c.deref.ensures.value ∙ c.in_ok-routers.ensures)
     c.in_ok-push_unlisted_lines.ensures.lines
     c.in_ok-push_without_line.ensures c.push_summary_line.ensures.line

@@ -7,9 +7,9 @@ pub returns : goal.returns
 returns c =
     end_text-parts c.args.options c.topology-topology.result.now
     (audited_value c.args.audited.now).domain.topology (audited_value c.args.audited.now).summary
-    c.args.audited.now.excluded.now c.deref.result.now c.deref-2.result.now c.args.all _ _ _ _
+    c.args.audited.now.excluded.now c.deref.result.now c.deref-2.result.now c.args.all _ _ _ _ _
     c.push_strict.result _ _ _ _ _ _
     c.topology-topology.ensures.topology c.flows.ensures.count
     (c.deref.ensures.value ∙ c.in_ok-routers.ensures) (c.deref-2.ensures.value ∙ c.in_ok-routers.ensures)
-    c.in_ok-push_unlisted.ensures.lines c.in_ok-push_without_lines.ensures c.in_ok-push_summary.ensures
+    c.in_ok-push_unlisted.ensures.lines c.in_ok-push_excluded_lines.ensures c.in_ok-push_summary.ensures
     c.in_ok-push_excluded.ensures c.push_strict.ensures

@@ -1,7 +1,9 @@
 use Rattle.std.proofs.Common.{ap}
 use Rattle.mc_maker.specs.ExaminedFlights.{without_flights}
-use Rattle.mc_run.specs.AuditPieces.{explanation_in, audited_value}
-use Rattle.mc_run.proofs.AuditFlows.{is_flow_pushed-wrong, wrong_flow_lines-same_causes}
+use Rattle.mc_run.specs.AuditPieces.{audited_value, explanation_in, status_of_wrong_flow, wrong_flow_lines_of}
+use Rattle.mc_run.specs.AuditRun.{is_whole}
+use Rattle.mc_run.proofs.AuditFlows.{is_flow_pushed-added, is_flow_pushed-status, is_flow_pushed-wrong}
+use Rattle.mc_run.proofs.AuditFlows.{wrong_flow_lines-same_causes}
 use Rattle.mc_run.proofs.ExplanationLemmas.{is_finished_travel-at_255, is_explanation-at_255}
 use Rattle.mc_run.proofs.audit.audit_flow.push_found_at_255.Goals as goal
 
@@ -11,24 +13,33 @@ search_if_missed-requires-clause-ended c =
     c.args.flights.now c.args.ended.now
     c.requires.is c.requires.flights
 
-pub push_wrong-requires-clause-domain : goal.push_wrong-requires-clause-domain
-push_wrong-requires-clause-domain c =
-    (is_finished_travel-at_255 (audited_value c.args.audited.now).domain c.args.flow
+pub shown_from_if_less-requires-clause-ended : goal.shown_from_if_less-requires-clause-ended
+shown_from_if_less-requires-clause-ended c =
+    is_finished_travel-at_255 (audited_value c.args.audited.now).domain c.args.flow
     c.args.flights.now c.args.ended.now
-    c.requires.is c.requires.flights).domain
+    c.requires.is c.requires.flights
 
 pub returns : goal.returns
 returns c = record {
   ok = (
-      let v = audited_value c.args.audited.now in
+      let a = c.args.audited.now in
+      let v = audited_value a in
+      let o = c.args.options in
       let ended = c.args.ended.now in
       let causes = c.in_ok-causes.causes.items in
       let found = c.in_ok-found.found in
-      is_flow_pushed-wrong v c.args.options c.args.flow c.args.flights.now 255 ended.travel
-      (explanation_in ended causes found) _ _ c.requires.flow c.requires.flights
+      let shown = c.in_ok-shown_from.shown_from in
+      is_flow_pushed-status v o c.args.flow c.push_wrong.result (status_of_wrong_flow a found) _ _
+      c.push_wrong.ensures.flow_status
+      (is_flow_pushed-added v o c.args.flow c.push_wrong.result (status_of_wrong_flow a found) _ _
+      (wrong_flow_lines_of a o c.args.flow 255 ended c.deref.result.now found shown)
+      (λ written puts. is_flow_pushed-wrong v o c.args.flow c.args.flights.now 255 ended.travel
+      (explanation_in (is_whole v) ended causes found shown) _ written c.requires.flow c.requires.flights
       c.requires.examined (ap (without_flights v.domain c.args.flow) c.requires.is)
-      (is_explanation-at_255 v c.args.flow c.args.flights.now ended causes found
-      c.requires.is c.requires.flights c.in_ok-causes.ensures.causes c.in_ok-found.ensures.search)
-      (wrong_flow_lines-same_causes v c.args.options c.args.flow 255 ended c.deref.result.now causes found _ _
-      c.deref.ensures.value c.in_ok-push_wrong.ensures.added));
+      (is_explanation-at_255 v c.args.flow c.args.flights.now ended causes found shown
+      c.requires.is c.requires.flights c.in_ok-causes.ensures.causes c.in_ok-found.ensures.search
+      c.in_ok-shown_from.ensures.shown)
+      (wrong_flow_lines-same_causes v o c.args.flow 255 ended c.deref.result.now causes found shown _ written
+      c.deref.ensures.value puts))
+      c.push_wrong.ensures.added));
 }

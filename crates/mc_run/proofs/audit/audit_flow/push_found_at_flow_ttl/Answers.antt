@@ -1,30 +1,34 @@
 use Rattle.std.proofs.Common.{None, ap, ◌∙◌}
 use Rattle.mc_maker.specs.ExaminedFlights.{without_flights}
-use Rattle.mc_run.specs.AuditPieces.{explanation_in, audited_value}
-use Rattle.mc_run.proofs.AuditFlows.{is_flow_pushed-wrong, wrong_flow_lines-same_causes, found-ttl_of_view}
-use Rattle.mc_run.proofs.ExplanationLemmas.{is_finished_travel-at_flow_ttl, is_explanation-at_flow_ttl}
+use Rattle.mc_run.specs.AuditPieces.{audited_value, explanation_in, status_of_wrong_flow, wrong_flow_lines_of}
+use Rattle.mc_run.specs.AuditRun.{is_whole}
+use Rattle.mc_run.proofs.AuditFlows.{is_flow_pushed-added, is_flow_pushed-status, is_flow_pushed-wrong}
+use Rattle.mc_run.proofs.AuditFlows.{wrong_flow_lines-same_causes, found-ttl_of_view}
+use Rattle.mc_run.proofs.ExplanationLemmas.{is_explanation-at_flow_ttl}
 use Rattle.mc_run.proofs.audit.audit_flow.push_found_at_flow_ttl.Goals as goal
-
-pub push_wrong-requires-clause-domain : goal.push_wrong-requires-clause-domain
-push_wrong-requires-clause-domain c =
-    (is_finished_travel-at_flow_ttl (audited_value c.args.audited.now).domain c.args.flow
-    c.args.flights.now c.args.greatest.now
-    c.args.least.now c.requires.is c.requires.flights).domain
 
 pub returns : goal.returns
 returns c = record {
   ok = (
-      let v = audited_value c.args.audited.now in
+      let a = c.args.audited.now in
+      let v = audited_value a in
+      let o = c.args.options in
       let least = c.args.least.now in
       let causes = c.in_ok-causes.causes.items in
       let ttl = c.ttl-ttl.result in
-      is_flow_pushed-wrong v c.args.options c.args.flow c.args.flights.now ttl least.travel
-      (explanation_in least causes None) _ _ c.requires.flow c.requires.flights c.requires.examined
+      is_flow_pushed-status v o c.args.flow c.push_wrong.result (status_of_wrong_flow a None) _ _
+      c.push_wrong.ensures.flow_status
+      (is_flow_pushed-added v o c.args.flow c.push_wrong.result (status_of_wrong_flow a None) _ _
+      (wrong_flow_lines_of a o c.args.flow ttl least c.deref.result.now None None)
+      (λ written puts. is_flow_pushed-wrong v o c.args.flow c.args.flights.now ttl least.travel
+      (explanation_in (is_whole v) least causes None None) _ written c.requires.flow c.requires.flights
+      c.requires.examined
       (ap (without_flights v.domain c.args.flow) c.requires.is
       ∙ found-ttl_of_view v.domain c.args.flow ttl c.new-view.result least.travel c.new-view.ensures.flow
       c.ttl-ttl.ensures)
       (is_explanation-at_flow_ttl v c.args.flow c.args.flights.now c.args.greatest.now least causes
       c.requires.is c.requires.flights c.in_ok-causes.ensures.causes)
-      (wrong_flow_lines-same_causes v c.args.options c.args.flow ttl least c.deref.result.now causes None _ _
-      c.deref.ensures.value c.in_ok-push_wrong.ensures.added));
+      (wrong_flow_lines-same_causes v o c.args.flow ttl least c.deref.result.now causes None None _ written
+      c.deref.ensures.value puts))
+      c.push_wrong.ensures.added));
 }

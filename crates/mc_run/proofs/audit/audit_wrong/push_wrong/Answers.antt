@@ -1,22 +1,17 @@
-use Rattle.std.proofs.Common.{◌∙◌, true, false}
+use Rattle.std.proofs.Common.{◌≡◌, ℕ, ap, sym, ◌∙◌}
+use Rattle.std.specs.Prelude.{◌==◌}
+use Rattle.std.proofs.lemmas.List.{length-map}
 use Rattle.mc_run.specs.AuditPieces.{audited_value}
-use Rattle.mc_run.proofs.ExplanationLemmas.{wrong_lines_or_object-same_also}
+use Rattle.mc_run.specs.AuditRun.{is_whole}
+use Rattle.mc_run.proofs.ExplanationLemmas.{wrong_flow_lines-same_parts}
 use Rattle.mc_run.proofs.audit.audit_wrong.push_wrong.Goals as goal
 
-pub returns-then-options : goal.returns-then-options
-returns-then-options c = record {
-  added = rw c.if-options.true (
-      wrong_lines_or_object-same_also (audited_value c.args.audited.now) true c.args.options.travels
-      c.args.flow c.args.ttl c.args.ended.now c.args.causes.now c.args.found.now c.deref.result.now
-      c.push_wrong_object.result _ _ (c.deref.ensures.value ∙ c.in_ok-also.ensures)
-      c.push_wrong_object.ensures.added);
-}
-
-pub returns : goal.returns
-returns c = record {
-  added = rw c.if-options.false (
-      wrong_lines_or_object-same_also (audited_value c.args.audited.now) false c.args.options.travels
-      c.args.flow c.args.ttl c.args.ended.now c.args.causes.now c.args.found.now c.deref.result.now
-      c.push_wrong_lines.result _ _ (c.deref.ensures.value ∙ c.in_ok-also.ensures)
-      c.push_wrong_lines.ensures.added);
-}
+pub returns-clause-added : goal.returns-clause-added
+returns-clause-added c =
+    let v = audited_value c.args.audited.now in
+    let whole : c.is_empty-whole.result ≡ is_whole v = c.is_empty-whole.ensures
+    ∙ ap (λ (k : ℕ). k == 0) (sym (length-map c.args.audited.now.without.now (λ name. name.now))) in
+    wrong_flow_lines-same_parts v c.args.options c.args.flow c.args.ttl c.args.ended.now c.args.causes.now
+    c.args.found.now c.args.shown_from c.deref.result.now c.is_empty-whole.result
+    c.is_known_wrong-known.result _ _ (c.deref.ensures.value ∙ c.in_ok-also.ensures) whole
+    c.is_known_wrong-known.ensures c.in_ok-push_explained.ensures.added

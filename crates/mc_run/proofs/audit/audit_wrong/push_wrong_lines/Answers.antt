@@ -8,11 +8,11 @@ use Rattle.mc_run.proofs.audit.audit_wrong.push_wrong_lines.Goals as goal
 pub returns : goal.returns
 returns c = record {
   added = (
-      wrong_lines-pushed (audited_value c.args.audited.now) c.args.flow c.args.ttl c.args.travels
+      wrong_lines-pushed (audited_value c.args.audited.now) c.args.flow c.args.travels
       c.args.travel.now (explanation_value c.args.explanation.now)
-      c.topology-topology.result.now c.flow-listed.result c.push_travel.result _ _ _ _
+      c.topology-topology.result.now c.flow-listed.result c.push_travel.result _ _ _ _ _
       c.topology-topology.ensures.topology
       (c.flow-listed.ensures
       ∙ ap (λ (w : FlowOfDomain). flow_at w.domain.topology w.flow) c.new-view.ensures.flow)
-      c.in_ok-push_found_lines.ensures c.in_ok-push_explanation.ensures.added c.push_travel.ensures);
+      c.in_ok-push_found_flow.ensures c.in_ok-push_shown_from.ensures c.in_ok-push_explanation.ensures.added c.push_travel.ensures);
 }

@@ -8,6 +8,7 @@ pub returns : goal.returns
 returns c =
     let key = c.args.key.now in
     let any =
-    is_some_lookup-any_row interface_row _ (is_interface_of key.router key.device.items) (is_interface_of-interface_row key)
+    is_some_lookup-any_row interface_row _ (is_interface_of key.router key.device.items)
+    (is_interface_of-interface_row key)
     c.self.inside.lans.entries in
     rw (← c.self.view_is) (c.contains_key.ensures ∙ any)

@@ -17,7 +17,8 @@ returns-in_err-lan c =
     let key = c.in_ok-key.key in
     let (router, device, short) = c.in_ok-key.ensures in
     let value =
-    lookup-find_row interface_row _ (is_interface_of key.router key.device.items) (is_interface_of-interface_row key)
+    lookup-find_row interface_row _ (is_interface_of key.router key.device.items)
+    (is_interface_of-interface_row key)
     (λ i. i.lan) (λ e. refl) c.self.inside.lans.entries in
     rw (← c.self.view_is, ← router, ← device)
     (c.from_residual-in_err-lan.ensures ∙ (c.in_err-lan.ensures.value ∙ value))
@@ -27,6 +28,7 @@ returns c =
     let key = c.in_ok-key.key in
     let (router, device, short) = c.in_ok-key.ensures in
     let value =
-    lookup-find_row interface_row _ (is_interface_of key.router key.device.items) (is_interface_of-interface_row key)
+    lookup-find_row interface_row _ (is_interface_of key.router key.device.items)
+    (is_interface_of-interface_row key)
     (λ i. i.lan) (λ e. refl) c.self.inside.lans.entries in
     rw (← c.self.view_is, ← router, ← device) (c.in_ok-lan.ensures.value ∙ value)

@@ -5,7 +5,8 @@ use Rattle.mc_topology.proofs.read.bounds.is_bounded.Goals as goal
 
 pub loop-byte-preserved : goal.loop-byte-preserved
 loop-byte-preserved c =
-    rw c.with_byte-scan.ensures.value (IsScannedTo-more c.args.text.now c.loop-byte.scan c.loop-byte.byte-index
+    rw c.with_byte-scan.ensures.value
+    (IsScannedTo-more c.args.text.now c.loop-byte.scan c.loop-byte.byte-index
     c.loop-byte.invariant c.loop-byte-test.true c.requires.bounded)
 
 pub returns-then-scan-le-MAX_MARKS : goal.returns-then-scan-le-MAX_MARKS

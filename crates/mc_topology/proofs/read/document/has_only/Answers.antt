@@ -1,6 +1,10 @@
-use Rattle.std.proofs.Common.{◌∙◌}
-use Rattle.mc_topology.proofs.Tables.{has_only-now}
+use Rattle.std.proofs.Common.{ap, map, ◌∙◌}
+use Rattle.std.specs.Map.{keys_of}
+use Rattle.mc_topology.specs.Document.{are_known}
+use Rattle.mc_topology.proofs.Tables.{are_known-now, keys_in-view}
 use Rattle.mc_topology.proofs.read.document.has_only.Goals as goal
 
 pub returns : goal.returns
-returns c = c.has_known_keys.ensures ∙ has_only-now c.args.known.now c.args.table.now.entries
+returns c =
+    c.has_known_keys.ensures ∙ are_known-now c.args.known.now (keys_of c.args.table.now.entries)
+    ∙ ap (are_known (map (λ k. k.now) c.args.known.now)) (keys_in-view c.args.table.now.entries)

@@ -5,7 +5,8 @@ use Rattle.mc_topology.proofs.read.rows.each_row.Given as goal
 
 abbrev pub invariant-loop-index : goal.invariant-loop-index
 invariant-loop-index g l = record {
-  rows : each_row g.S.SectionRows.section (g.S.SectionRows.row_value l.before) (g.S.SectionRows.rows l.section)
+  rows : each_row g.S.SectionRows.section (g.S.SectionRows.row_value l.before)
+      (g.S.SectionRows.rows l.section)
       (map view (drop l.index l.rows))
       ≡ each_row g.S.SectionRows.section (g.S.SectionRows.row_value l.before) [] (map view l.rows);
   count : length (g.S.SectionRows.rows l.section) ≡ l.index;

@@ -2,7 +2,9 @@ use Rattle.mc_topology.proofs.ReadLemmas.{denotes-unless_out_of_memory, Ok-unles
 use Rattle.mc_topology.proofs.topology.Topology.read.Goals as goal
 
 pub returns-clause-found : goal.returns-clause-found
-returns-clause-found c = denotes-unless_out_of_memory c.args.text.now c.parse_topology.result c.parse_topology.ensures
+returns-clause-found c =
+    denotes-unless_out_of_memory c.args.text.now c.parse_topology.result c.parse_topology.ensures
 
 pub returns-clause-only : goal.returns-clause-only
-returns-clause-only c = Ok-unless_out_of_memory c.args.text.now c.parse_topology.result c.parse_topology.ensures
+returns-clause-only c = Ok-unless_out_of_memory c.args.text.now c.parse_topology.result
+    c.parse_topology.ensures

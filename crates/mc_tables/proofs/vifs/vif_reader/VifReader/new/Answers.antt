@@ -1,5 +1,5 @@
-use Rattle.mc_tables.proofs.VifPieceLemmas.{vif_rows-valid_none}
+use Rattle.mc_tables.proofs.VifPieceLemmas.{vif_rows-valid_none, vifs_read_in_steps}
 use Rattle.mc_tables.proofs.vifs.vif_reader.VifReader.new.Goals as goal
 
-pub invariant_of-result : goal.invariant_of-result
-invariant_of-result c = λ _. rw c.new-2.ensures vif_rows-valid_none
+pub with_rows-requires : goal.with_rows-requires
+with_rows-requires c = record { steps = vifs_read_in_steps; valid = rw c.new.ensures vif_rows-valid_none }

@@ -1,0 +1,55 @@
+-- From which TTL on packets show the finding of a travel, worked out from the copies that its flight carried.
+use Rattle.std.specs.Prelude.{◌≡◌, ℕ, ◌+◌, max, List, [], length, Option, Some, None}
+use Rattle.mc_theory.specs.Nets.{Net, Row}
+use Rattle.mc_theory.specs.Nets.Row.{Exact, Open, NoRow}
+use Rattle.mc_theory.specs.Flights.{Copy}
+use Rattle.mc_theory.specs.CertificateOfCopies.{threshold_of}
+use Rattle.mc_theory.specs.ExcludedRouters.{IsSecondCopyOrStray}
+use Rattle.mc_theory.specs.Findings.{Finding, first_copy_on, first_double}
+use Rattle.mc_theory.specs.Findings.Finding.{Clean, Duplicate, Loop, Stray, Missed}
+use Rattle.mc_theory.specs.Paths.{Hop, need}
+use Rattle.mc_theory.specs.Hops.{hops_of_copy}
+use Rattle.mc_theory.specs.ShownFrom.{IsShownFrom}
+
+-- the TTL from which on packets show the finding; none for a clean travel, and for a missed LAN
+abbrev pub IsShownFromIfAny : Net → List Copy → Finding → Option ℕ → Type 0
+IsShownFromIfAny n cs x None = IsSecondCopyOrStray x → ⊥
+IsShownFromIfAny n cs x (Some k) = IsShownFrom n cs x k
+
+-- ---- step by step
+
+-- the hops by which a copy came, if there is one, and by which the first copy on a LAN came
+abbrev pub hops_of_copy_if_any : Net → List Copy → Option Copy → List Hop
+hops_of_copy_if_any n cs None = []
+hops_of_copy_if_any n cs (Some c) = hops_of_copy n cs c
+
+abbrev pub hops_to_lan : Net → List Copy → (lan : ℕ) → List Hop
+hops_to_lan n cs lan = hops_of_copy_if_any n cs (first_copy_on cs lan)
+
+abbrev pub hops_from_lan_if_any : Net → List Copy → Option ℕ → List Hop
+hops_from_lan_if_any n cs None = []
+hops_from_lan_if_any n cs (Some lan) = hops_to_lan n cs lan
+
+-- the greater need of the LAN's first copy and of the first duplicate
+abbrev pub need_of_two_copies : Net → List Copy → (lan : ℕ) → ℕ
+need_of_two_copies n cs lan =
+    max (need (hops_to_lan n cs lan)) (need (hops_of_copy_if_any n cs (first_double [] cs)))
+
+-- the need of hops and of a threshold behind them
+abbrev pub need_behind : List Hop → (threshold : ℕ) → ℕ
+need_behind hs threshold = max (need hs) (length hs + threshold + 1)
+
+-- of the copy that the row sent by the vif, or that came in by it and found a row that isn't followed
+abbrev pub need_of_stray : Net → List Copy → Row → (router vif : ℕ) → ℕ
+need_of_stray n cs (Exact incoming pairs) router vif =
+    need_behind (hops_from_lan_if_any n cs (n.placed router incoming)) (threshold_of vif pairs)
+need_of_stray n cs Open router vif = need (hops_from_lan_if_any n cs (n.placed router vif))
+need_of_stray n cs NoRow router vif = 1
+
+-- of a finding that rests on a second copy or a stray
+abbrev pub need_of_finding : Net → List Copy → Finding → Option ℕ
+need_of_finding n cs (Duplicate lan) = Some (need_of_two_copies n cs lan)
+need_of_finding n cs (Loop lan) = Some (need_of_two_copies n cs lan)
+need_of_finding n cs (Stray router vif) = Some (need_of_stray n cs (n.row router) router vif)
+need_of_finding n cs Clean = None
+need_of_finding n cs (Missed lan) = None

@@ -1,0 +1,54 @@
+use Rattle.std.proofs.Common.{◌∙◌, ℕ, Bool, List, ap, option_map, subst, sym}
+use Rattle.std.proofs.lemmas.Result.{err_from_is_err_and}
+use Rattle.mc_topology.specs.Topology.{TopologyValue}
+use Rattle.mc_files.specs.Files.{FileText}
+use Rattle.mc_forward.specs.Domains.{DomainValue}
+use Rattle.mc_forward.specs.ListedTables.{Pairwise, flow_pairs}
+use Rattle.mc_input.specs.ExcludedRouters.{files_without}
+use Rattle.mc_input.specs.Kept.{IsDomainOf}
+use Rattle.mc_input.specs.PartsOneByOne.{certificate_number}
+use Rattle.mc_input.specs.Stream.{files_give, input_of_contents, value_and_rest}
+use Rattle.mc_input.specs.SummariesOfFiles.{AreSummariesOf, IsSummaryOfRead}
+use Rattle.mc_input.proofs.FolderLemmas.{AreSummariesOf-from_contents, files_give-Ok}
+use Rattle.mc_input.proofs.FolderLemmas.{read_tables_and_reports-contents_Err}
+use Rattle.mc_input.proofs.FolderLemmas.{read_tables_and_reports-from_contents}
+use Rattle.mc_input.proofs.domain.read_rest_of_slots.Goals as goal
+
+pub returns-in_err-kept-clause-domain : goal.returns-in_err-kept-clause-domain
+returns-in_err-kept-clause-domain g c = λ contents is.
+    let p = err_from_is_err_and c.from_residual-in_err-kept.result c.from_residual-in_err-kept.ensures.1 in
+    let t = c.args.topology in
+    let seen = files_without c.args.slots.now.without.now in
+    rw (p.1, p.2) (λ loud.
+    read_tables_and_reports-contents_Err (seen contents) t c.in_err-kept.field-0.0
+    (c.in_err-kept.ensures.fault (files_give t 1 (seen contents))
+    (ap (option_map (λ (files : List FileText). files_give t 1 (seen files))) is) loud))
+
+pub returns-clause-domain : goal.returns-clause-domain
+returns-clause-domain g c = λ contents is.
+    let t = c.args.topology in
+    let seen = files_without c.args.slots.now.without.now in
+    let x = c.in_ok-kept.ensures.read (files_give t 1 (seen contents))
+    (ap (option_map (λ (files : List FileText). files_give t 1 (seen files))) is) in
+    let rest = files_give-Ok t (certificate_number t) (files_without c.read_contents.new.slots.without.now) contents
+    (g.F.FileSource.contents c.read_contents.new.slots.files) x.0 (c.in_ok-kept.ensures.advances.1 ∙ is) x.2 in (
+      input_of_contents t x.1,
+      read_tables_and_reports-from_contents (seen contents) t x.1 rest.0
+          (x.5 ∙ ap (value_and_rest x.1) rest.1),
+      subst (λ (d : DomainValue). IsDomainOf d (input_of_contents t x.1)) (sym c.in_ok-domain.ensures.domain) x.3,
+    )
+
+pub returns-clause-summary : goal.returns-clause-summary
+returns-clause-summary g c = λ contents is.
+    let t = c.args.topology in
+    let seen = files_without c.args.slots.now.without.now in
+    let x = c.in_ok-kept.ensures.read (files_give t 1 (seen contents))
+    (ap (option_map (λ (files : List FileText). files_give t 1 (seen files))) is) in
+    let rest = files_give-Ok t (certificate_number t) (files_without c.read_contents.new.slots.without.now) contents
+    (g.F.FileSource.contents c.read_contents.new.slots.files) x.0 (c.in_ok-kept.ensures.advances.1 ∙ is) x.2 in
+    subst (λ (own : TopologyValue). AreSummariesOf c.args.all (seen contents) own c.read_contents.new.keeper.summary.items)
+    (sym (ap (λ (d : DomainValue). d.topology) c.in_ok-domain.ensures.domain))
+    (AreSummariesOf-from_contents (seen contents) c.args.all t x.1 rest.0 c.read_contents.new.keeper.summary.items
+    (x.5 ∙ ap (value_and_rest x.1) rest.1)
+    (subst (λ (all : Bool). Pairwise (IsSummaryOfRead all (flow_pairs t.flows)) x.1.0
+    c.read_contents.new.keeper.summary.items) (ap (λ (p : List (ℕ × ℕ) × Bool). p.1) c.in_ok-kept.ensures.settings) x.4))

@@ -1,0 +1,17 @@
+use Rattle.std.proofs.Common.{◌≡◌, List, Option, ap, option_map, subst, sym}
+use Rattle.mc_files.specs.Files.{FileText}
+use Rattle.mc_input.specs.RefusedFiles.{IsOwnFaultUnlessMemory, file_fault}
+use Rattle.mc_input.specs.Stream.{files_give}
+use Rattle.mc_input.specs.declared.source_fault.SourceFault.{SourceFault}
+use Rattle.mc_input.proofs.RefusedLemmas.{IsOwnFaultUnlessMemory-of_slot}
+use Rattle.mc_input.proofs.each_file.slot_fault.Goals as goal
+
+pub returns-clause-fault : goal.returns-clause-fault
+returns-clause-fault g c = λ read slot contents same at is.
+    let t = c.args.topology.now in
+    let n = c.args.number in
+    subst (λ (f : Option SourceFault). IsOwnFaultUnlessMemory f (file_fault contents slot read))
+    (sym c.err-fault.ensures.value)
+    (IsOwnFaultUnlessMemory-of_slot contents t n slot read _ _ (λ kept value. kept ≡ value) c.read_slot.result at
+    (ap (option_map (λ (files : List FileText). files_give t n files)) is)
+    (c.read_slot.ensures.value read same) (c.read_slot.ensures.fault read same))

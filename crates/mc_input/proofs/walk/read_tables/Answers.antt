@@ -1,0 +1,205 @@
+use Rattle.std.proofs.Common.{◌≡◌, ℕ, ◌+◌, ◌*◌, ◌∙◌, ◌∷◌, ◌++◌, [], Bool, Err, List, Ok, Result, Some, ap, arith, drop, false, length, map}
+use Rattle.std.proofs.Common.{refl, rules, subst, sym}
+use Rattle.std.proofs.lemmas.List.{drop_all, length-append}
+use Rattle.std.proofs.lemmas.Result.{err_from_is_err_and}
+use Rattle.mc_text.specs.Steps.{map_fault}
+use Rattle.mc_text.specs.declared.text.addr.Order.{Order}
+use Rattle.mc_topology.specs.SectionRows.{RouterRow}
+use Rattle.mc_forward.specs.Domains.{TablesValue}
+use Rattle.mc_forward.specs.RouterTables.{RouterTablesValue, kept_of_tables}
+use Rattle.mc_forward.proofs.IndexLemmas.{slice_get-exists}
+use Rattle.mc_forward.proofs.ListedTableLemmas.{with_router-of_listed_part}
+use Rattle.mc_input.specs.Kept.{AreFlowPairs}
+use Rattle.mc_input.specs.PartsReading.{first_lan_number, vifs_of}
+use Rattle.mc_input.specs.Stream.{NextParts, RouterRead, cache_and_text, part_then, read_each_after, read_first}
+use Rattle.mc_input.specs.Stream.{read_router, read_stream, router_read}
+use Rattle.mc_input.specs.declared.fault.InputFault.TheVariants.{Vif}
+use Rattle.mc_input.specs.declared.source_fault.SourceFault.{SourceFault}
+use Rattle.mc_input.proofs.ReadingLemmas.{drop-slice_get}
+use Rattle.mc_input.proofs.WalkLemmas.{map-tables_push, read_each-Err, read_each-end, read_each-more}
+use Rattle.mc_input.proofs.WalkLemmas.{order-at, read_each-start, read_router-Ok, read_router-cache_Err}
+use Rattle.mc_input.proofs.WalkLemmas.{read_router-vifs_Err, read_stream-Err_implied}
+use Rattle.mc_input.proofs.FinishLemmas.{router_slots-within_count}
+use Rattle.mc_input.proofs.walk.read_tables.Goals as goal
+
+abbrev read : RouterRow → NextParts → Result (RouterRead × NextParts) SourceFault
+read r = read_router r.order
+
+pub loop-router-init : goal.loop-router-init
+loop-router-init g c = record {
+  advances = g.met.S.Slots.stays c.args.slots.now;
+  failures = refl;
+  room = c.requires.room;
+  end = c.routers-router-end.ensures.count;
+  settings = refl;
+  count = ap (λ (k : RouterTablesValue). length k.vifs) c.in_ok-tables.ensures;
+  flows = ap (λ (k : RouterTablesValue). k.flows) c.in_ok-tables.ensures;
+  taken = λ stream known. (
+    stream,
+    [],
+    known,
+    c.in_ok-tables.ensures,
+    c.requires.none_kept,
+    read_each-start read c.args.topology.now.routers stream,
+  );
+}
+
+pub read_slot-requires-clause-within : goal.read_slot-requires-clause-within
+read_slot-requires-clause-within g c =
+    omega (
+      arith,
+      c.loop-router-test.true,
+      c.loop-router.invariant.end,
+      router_slots-within_count false c.args.topology.now c.loop-router.router
+          (omega (arith, c.loop-router-test.true, c.loop-router.invariant.end)),
+    )
+
+pub read_cache-requires-clause-within : goal.read_cache-requires-clause-within
+read_cache-requires-clause-within g c =
+    omega (
+      arith,
+      c.loop-router-test.true,
+      c.loop-router.invariant.end,
+      router_slots-within_count false c.args.topology.now c.loop-router.router
+          (omega (arith, c.loop-router-test.true, c.loop-router.invariant.end)),
+    )
+
+pub read_cache-requires-clause-listed : goal.read_cache-requires-clause-listed
+read_cache-requires-clause-listed g c =
+    subst (λ (p : List (ℕ × ℕ) × Bool). AreFlowPairs c.args.topology.now.flows p.0)
+    (sym c.loop-router.invariant.settings) c.requires.listed
+
+pub returns-in_err-vifs-clause-fault : goal.returns-in_err-vifs-clause-fault
+returns-in_err-vifs-clause-fault g c =
+    let p = err_from_is_err_and c.from_residual-in_err-vifs.result c.from_residual-in_err-vifs.ensures.1 in
+    let rs = c.args.topology.now.routers in
+    let k = c.loop-router.router in
+    let own = c.in_err-vifs.field-0.0 in
+    let r = slice_get-exists rs k (omega (arith, c.loop-router-test.true, c.loop-router.invariant.end)) in
+    rw (p.1, p.2) (λ stream known loud.
+    let x = c.loop-router.invariant.taken stream known in
+    x.5 ∙ ap (λ (more : List RouterRow). read_stream (read_each_after read x.1 more) x.0)
+    (drop-slice_get rs k r.0 r.1)
+    ∙ read_stream-Err_implied (read r.0) (read_each_after read x.1 (r.0 ∷ drop (k + 1) rs))
+    (read_each-Err read x.1 r.0 (drop (k + 1) rs)) x.0 own
+    (read_stream-Err_implied (read_first vifs_of) (read r.0) (read_router-vifs_Err r.0.order) x.0 own
+    (c.in_err-vifs.ensures.fault vifs_of
+    (λ part small. ap (map_fault (Vif part.name)) (c.new-reader.ensures.reads part.bytes small)) x.0 x.2 loud)))
+
+pub returns-in_err-cache-clause-fault : goal.returns-in_err-cache-clause-fault
+returns-in_err-cache-clause-fault g c =
+    let p = err_from_is_err_and c.from_residual-in_err-cache.result c.from_residual-in_err-cache.ensures.1 in
+    let rs = c.args.topology.now.routers in
+    let k = c.loop-router.router in
+    let own = c.in_err-cache.field-0.0 in
+    let r = slice_get-exists rs k (omega (arith, c.loop-router-test.true, c.loop-router.invariant.end)) in
+    let order = order-at _ r.0 c.order-order.result c.order-order.ensures.item r.1 in
+    rw (p.1, p.2) (λ stream known loud.
+    let x = c.loop-router.invariant.taken stream known in
+    let v = c.in_ok-vifs.ensures.value vifs_of
+    (λ part small. ap (map_fault (Vif part.name)) (c.new-reader.ensures.reads part.bytes small)) x.0 x.2 in
+    x.5 ∙ ap (λ (more : List RouterRow). read_stream (read_each_after read x.1 more) x.0)
+    (drop-slice_get rs k r.0 r.1)
+    ∙ read_stream-Err_implied (read r.0) (read_each_after read x.1 (r.0 ∷ drop (k + 1) rs))
+    (read_each-Err read x.1 r.0 (drop (k + 1) rs)) x.0 own
+    (ap (read_stream (read r.0)) v.3 ∙ read_router-cache_Err r.0.order v.0 v.1 v.4.0 own v.4.1
+    (subst (λ (o : Order). read_stream (read_first (cache_and_text o)) v.0 ≡ Err own) order
+    (c.in_err-cache.ensures.fault v.0 v.2 loud))))
+
+pub returns-in_err-cache-clause-advances : goal.returns-in_err-cache-clause-advances
+returns-in_err-cache-clause-advances g c =
+    g.met.S.Slots.advances_twice c.args.slots.now c.read_slot.new.slots c.read_cache.new.slots
+    (g.met.S.Slots.advances_twice c.args.slots.now c.loop-router.slots c.read_slot.new.slots
+    c.loop-router.invariant.advances c.in_ok-vifs.ensures.advances) c.in_err-cache.ensures.advances
+
+pub returns-in_err-add-clause-advances : goal.returns-in_err-add-clause-advances
+returns-in_err-add-clause-advances g c =
+    g.met.S.Slots.advances_twice c.args.slots.now c.read_slot.new.slots c.read_cache.new.slots
+    (g.met.S.Slots.advances_twice c.args.slots.now c.loop-router.slots c.read_slot.new.slots
+    c.loop-router.invariant.advances c.in_ok-vifs.ensures.advances) c.in_ok-cache.ensures.advances
+
+pub loop-router-preserved : goal.loop-router-preserved
+loop-router-preserved g c =
+    let t = c.args.topology.now in
+    let rs = t.routers in
+    let k = c.loop-router.router in
+    let r = slice_get-exists rs k (omega (arith, c.loop-router-test.true, c.loop-router.invariant.end)) in
+    let order = order-at _ r.0 c.order-order.result c.order-order.ensures.item r.1 in
+    let vifs = c.in_ok-vifs.vifs in
+    let own : TablesValue = record { vifs = vifs; cache = c.in_ok-cache.cache } in
+    let kept = g.K.CacheKeeper.has_kept in
+    let added = c.in_ok-add.ensures.added in
+    let next : 1 + 2 * k + 1 + 1 ≡ 1 + 2 * (k + 1) = omega arith in
+    record {
+      advances = g.met.S.Slots.advances_twice c.args.slots.now c.read_slot.new.slots c.read_cache.new.slots
+          (g.met.S.Slots.advances_twice c.args.slots.now c.loop-router.slots c.read_slot.new.slots
+          c.loop-router.invariant.advances c.in_ok-vifs.ensures.advances) c.in_ok-cache.ensures.advances;
+      failures = c.in_ok-cache.ensures.failures ∙ c.in_ok-vifs.ensures.failures ∙ c.loop-router.invariant.failures;
+      room = search rules;
+      end = c.loop-router.invariant.end;
+      settings = c.in_ok-cache.ensures.settings ∙ c.loop-router.invariant.settings;
+      count = ap (λ (k : RouterTablesValue). length k.vifs) added ∙ omega (
+        arith,
+        length-append c.loop-router.tables.vifs (vifs ∷ []),
+        c.loop-router.invariant.count,
+      );
+      flows = ap (λ (k : RouterTablesValue). k.flows) added ∙ c.loop-router.invariant.flows;
+      taken = λ stream known.
+          let x = c.loop-router.invariant.taken stream known in
+          let v = c.in_ok-vifs.ensures.value vifs_of
+          (λ part small. ap (map_fault (Vif part.name)) (c.new-reader.ensures.reads part.bytes small)) x.0 x.2 in
+          let y = c.in_ok-cache.ensures.cache v.0 v.2 in
+          let read_own = router_read v.4.0 y.4.0.0 r.0.order y.4.0.1 in
+          let before = map (λ (read : RouterRead). read.tables) x.1 in (
+            y.0,
+            x.1 ++ read_own ∷ [],
+            subst (λ (n : ℕ). g.S.Slots.gives c.read_cache.new.slots t n ≡ Some y.0) next y.2,
+            added ∙ with_router-of_listed_part t.flows c.loop-router.tables before own read_own.tables x.3
+                (record { vifs = v.4.2; cache = y.4.2.0 })
+                ∙ ap (kept_of_tables t.flows) (sym (map-tables_push x.1 read_own)),
+            subst (λ (o : Order). kept c.read_cache.new.self t.flows (x.1 ++ router_read v.4.0 y.4.0.0 o y.4.0.1 ∷ []))
+                order (y.4.2.1 x.1 v.4.0 y.4.0.0 x.4),
+            x.5 ∙ ap (λ (more : List RouterRow). read_stream (read_each_after read x.1 more) x.0)
+                (drop-slice_get rs k r.0 r.1)
+                ∙ read_each-more read x.1 r.0 (drop (k + 1) rs) x.0 y.0 read_own
+                (ap (read_stream (read r.0)) (v.3 ∙ ap (part_then v.1) y.3)
+                ∙ read_router-Ok r.0.order y.0 v.1 y.1 v.4.0 y.4.0 v.4.1
+                (subst (λ (o : Order). cache_and_text o y.1 ≡ Ok y.4.0) order y.4.1)),
+          );
+    }
+
+pub returns-clause-tables : goal.returns-clause-tables
+returns-clause-tables g c = λ stream known.
+    let t = c.args.topology.now in
+    let rs = t.routers in
+    let k = c.loop-router.router in
+    let x = c.loop-router.invariant.taken stream known in
+    let all : k ≡ length rs = omega (
+      arith,
+      c.loop-router-test.false,
+      c.loop-router.invariant.end,
+      c.loop-router.invariant.count,
+      c.loop-router.auto.router-end,
+    ) in
+    let none : drop k rs ≡ [] = drop_all k rs (omega (arith, all)) in
+    let number : 1 + 2 * k ≡ first_lan_number t = omega (arith, all) in (
+      x.0,
+      x.1,
+      subst (λ (n : ℕ). g.S.Slots.gives c.loop-router.slots t n ≡ Some x.0) number x.2,
+      x.3,
+      x.4,
+      x.5 ∙ ap (λ (more : List RouterRow). read_stream (read_each_after read x.1 more) x.0) none
+          ∙ read_each-end read x.1 x.0,
+    )
+
+pub returns-clause-counts : goal.returns-clause-counts
+returns-clause-counts g c = record {
+  routers = omega (
+    arith,
+    c.loop-router.invariant.count,
+    c.loop-router.invariant.end,
+    c.loop-router-test.false,
+    c.loop-router.auto.router-end,
+  );
+  flows = c.loop-router.invariant.flows;
+}

@@ -1,0 +1,156 @@
+use Rattle.std.proofs.Common.{◌≡◌, ℕ, ◌+◌, ◌*◌, ◌∙◌, Bool, List, [], ◌∷◌, ◌++◌, Result, Some, ap, arith, drop}
+use Rattle.std.proofs.Common.{false, length, refl, rules, slice_get, subst, sym}
+use Rattle.std.proofs.lemmas.List.{drop_all, length-append}
+use Rattle.std.proofs.lemmas.Result.{err_from_is_err_and}
+use Rattle.mc_text.specs.Steps.{map_fault}
+use Rattle.mc_igmp.specs.declared.record.Record.{Record}
+use Rattle.mc_forward.specs.Assembling.{AreChannelsWanted, AreWanted}
+use Rattle.mc_forward.proofs.IndexLemmas.{slice_get-exists}
+use Rattle.mc_forward.proofs.ListedTableLemmas.{pairwise-more}
+use Rattle.mc_forward.proofs.WantsLemmas.{are_wanted-from_channels, length-flow_pairs}
+use Rattle.mc_input.specs.Kept.{AreWantedBy}
+use Rattle.mc_input.specs.PartsOneByOne.{certificate_number}
+use Rattle.mc_input.specs.PartsReading.{first_lan_number, reports_of}
+use Rattle.mc_input.specs.Stream.{IsFaultOfStream, NextParts, read_each_after, read_first, read_lan}
+use Rattle.mc_input.specs.Stream.{read_stream}
+use Rattle.mc_input.specs.declared.fault.InputFault.TheVariants.{Memory, Reports}
+use Rattle.mc_input.specs.declared.source_fault.SourceFault.{SourceFault}
+use Rattle.mc_input.specs.declared.source_fault.SourceFault.TheVariants.{Input}
+use Rattle.mc_input.proofs.FinishLemmas.{lan_slot-within_count, length-answers_push}
+use Rattle.mc_input.proofs.ReadingLemmas.{drop-slice_get}
+use Rattle.mc_input.proofs.WalkLemmas.{read_each-Err, read_each-end, read_each-more, read_each-start, read_lan-Err}
+use Rattle.mc_input.proofs.WalkLemmas.{read_lan-Ok, read_stream-Err_implied}
+use Rattle.mc_input.proofs.walk.read_wants.Goals as goal
+
+abbrev read : List ℕ → NextParts → Result (List Record × NextParts) SourceFault
+read lan = read_lan
+
+pub loop-lan-init : goal.loop-lan-init
+loop-lan-init g c =
+    let t = c.args.topology.now in
+    let items : c.new-wants.result.items ≡ [] = c.new-wants.ensures.items in
+    let first : first_lan_number t ≡ first_lan_number t + 0 = omega arith in
+    record {
+      advances = g.met.S.Slots.stays c.args.slots.now;
+      failures = refl;
+      room = c.requires.room;
+      end = c.lans-lan-end.ensures.count;
+      count = ap length items;
+      flows = λ lan wanted at. absurd (none_there lan items at);
+      taken = λ stream known. (
+        stream,
+        [],
+        subst (λ (n : ℕ). g.S.Slots.gives c.args.slots.now t n ≡ Some stream) first known,
+        subst (λ (ws : List (List Bool)). AreWantedBy t [] ws) (sym items) tt,
+        read_each-start read t.lans stream,
+      );
+    }
+  where
+    none_there : {A : Type 0} {xs : List A} {x : A} (k : ℕ) → xs ≡ [] → slice_get xs k ≡ Some x → ⊥
+    none_there k empty at = cc
+
+pub read_slot-requires-clause-within : goal.read_slot-requires-clause-within
+read_slot-requires-clause-within g c =
+    omega (
+      arith,
+      c.loop-lan-test.true,
+      c.loop-lan.invariant.end,
+      c.routers.ensures.count,
+      lan_slot-within_count false c.args.topology.now c.loop-lan.lan
+          (omega (arith, c.loop-lan-test.true, c.loop-lan.invariant.end)),
+    )
+
+pub returns-in_err-reports-clause-fault : goal.returns-in_err-reports-clause-fault
+returns-in_err-reports-clause-fault g c =
+    let p = err_from_is_err_and c.from_residual-in_err-reports.result
+    c.from_residual-in_err-reports.ensures.1 in
+    let t = c.args.topology.now in
+    let k = c.loop-lan.lan in
+    let own = c.in_err-reports.field-0.0 in
+    let lan = slice_get-exists t.lans k (omega (arith, c.loop-lan-test.true, c.loop-lan.invariant.end)) in
+    let number : 1 + 2 * c.routers.result + k ≡ first_lan_number t + k =
+    omega (arith, c.routers.ensures.count) in
+    let refused = subst (λ (n : ℕ). IsFaultOfStream (g.S.Slots.gives c.loop-lan.slots t n) (read_first reports_of) own)
+    number (c.in_err-reports.ensures.fault reports_of
+    (λ part small. ap (map_fault (Reports part.name)) (c.new-reader.ensures.reads part.bytes))) in
+    rw (p.1, p.2) (λ stream known loud.
+    let x = c.loop-lan.invariant.taken stream known in
+    x.4 ∙ ap (λ (more : List (List ℕ)). read_stream (read_each_after read x.1 more) x.0)
+    (drop-slice_get t.lans k lan.0 lan.1)
+    ∙ read_stream-Err_implied (read lan.0) (read_each_after read x.1 (lan.0 ∷ drop (k + 1) t.lans))
+    (read_each-Err read x.1 lan.0 (drop (k + 1) t.lans)) x.0 own
+    (read_stream-Err_implied (read_first reports_of) read_lan read_lan-Err x.0 own (refused x.0 x.2 loud)))
+
+pub returns-in_err-wanted-clause-faults : goal.returns-in_err-wanted-clause-faults
+returns-in_err-wanted-clause-faults g c =
+    let p = err_from_is_err_and c.from_residual-in_err-wanted.result
+    c.from_residual-in_err-wanted.ensures.1 in
+    rw (p.1, p.2) (g.met.S.Slots.possible (Input Memory) refl)
+
+pub loop-lan-preserved : goal.loop-lan-preserved
+loop-lan-preserved g c =
+    let t = c.args.topology.now in
+    let k = c.loop-lan.lan in
+    let own = c.in_ok-wanted.field-0 in
+    let items = c.in_ok-push.ensures.items in
+    let are = c.in_ok-channels.ensures in
+    let lan = slice_get-exists t.lans k (omega (arith, c.loop-lan-test.true, c.loop-lan.invariant.end)) in
+    let number : 1 + 2 * c.routers.result + k ≡ first_lan_number t + k =
+    omega (arith, c.routers.ensures.count) in
+    let next : 1 + 2 * c.routers.result + k + 1 ≡ first_lan_number t + (k + 1) =
+    omega (arith, c.routers.ensures.count) in
+    record {
+      advances = g.met.S.Slots.advances_twice c.args.slots.now c.loop-lan.slots c.read_slot.new.slots
+          c.loop-lan.invariant.advances c.in_ok-reports.ensures.advances;
+      failures = c.in_ok-reports.ensures.failures ∙ c.loop-lan.invariant.failures;
+      room = search rules;
+      end = c.loop-lan.invariant.end;
+      count = ap length items ∙ omega (
+        arith,
+        length-append c.loop-lan.wants.items (own ∷ []),
+        c.loop-lan.invariant.count,
+      );
+      flows = rw items (length-answers_push (length t.flows) c.loop-lan.wants.items own
+          c.loop-lan.invariant.flows
+          (c.in_ok-wanted.ensures.count ∙ length-flow_pairs t.flows c.in_ok-channels.channels are));
+      taken = λ stream known.
+          let x = c.loop-lan.invariant.taken stream known in
+          let y = c.in_ok-reports.ensures.value reports_of
+          (λ part small. ap (map_fault (Reports part.name)) (c.new-reader.ensures.reads part.bytes)) x.0
+          (subst (λ (n : ℕ). g.S.Slots.gives c.loop-lan.slots t n ≡ Some x.0) (sym number) x.2) in (
+            y.0,
+            x.1 ++ y.4.0 ∷ [],
+            subst (λ (n : ℕ). g.S.Slots.gives c.read_slot.new.slots t n ≡ Some y.0) next y.2,
+            subst (λ (ws : List (List Bool)). AreWantedBy t (x.1 ++ y.4.0 ∷ []) ws) (sym items)
+                (pairwise-more (AreWanted t.flows) x.1 c.loop-lan.wants.items y.4.0 own
+                x.3 (are_wanted-from_channels t.flows y.4.0 c.in_ok-channels.channels own are
+                (subst (λ (records : List Record). AreChannelsWanted c.in_ok-channels.channels records own) y.4.2
+                c.in_ok-wanted.ensures))),
+            x.4 ∙ ap (λ (more : List (List ℕ)). read_stream (read_each_after read x.1 more) x.0)
+                (drop-slice_get t.lans k lan.0 lan.1)
+                ∙ read_each-more read x.1 lan.0 (drop (k + 1) t.lans) x.0 y.0 y.4.0
+                (ap (read_stream read_lan) y.3 ∙ read_lan-Ok y.0 y.1 y.4.0 y.4.1),
+          );
+    }
+
+pub returns-clause-wants : goal.returns-clause-wants
+returns-clause-wants g c = λ stream known.
+    let t = c.args.topology.now in
+    let k = c.loop-lan.lan in
+    let x = c.loop-lan.invariant.taken stream known in
+    let all : k ≡ length t.lans = omega (
+      arith,
+      c.loop-lan-test.false,
+      c.loop-lan.invariant.end,
+      c.loop-lan.invariant.count,
+      c.loop-lan.auto.lan-end,
+    ) in
+    let none : drop k t.lans ≡ [] = drop_all k t.lans (omega (arith, all)) in
+    let number : first_lan_number t + k ≡ certificate_number t = omega (arith, all) in (
+      x.0,
+      x.1,
+      subst (λ (n : ℕ). g.S.Slots.gives c.loop-lan.slots t n ≡ Some x.0) number x.2,
+      x.3,
+      x.4 ∙ ap (λ (more : List (List ℕ)). read_stream (read_each_after read x.1 more) x.0) none
+          ∙ read_each-end read x.1 x.0,
+    )

@@ -1,0 +1,23 @@
+use Rattle.std.proofs.Common.{◌≡◌, ◌<◌, ℕ, ◌+◌, Bool, List, Some, drop, length, slice_get}
+use Rattle.mc_igmp.specs.declared.record.Record.{Record}
+use Rattle.mc_input.specs.Kept.{AreWantedBy}
+use Rattle.mc_input.specs.PartsReading.{first_lan_number}
+use Rattle.mc_input.specs.Stream.{Stream, read_each_after, read_lan, read_lans, read_stream}
+use Rattle.mc_input.proofs.walk.read_wants.Given as goal
+
+abbrev pub invariant-loop-lan : goal.invariant-loop-lan
+invariant-loop-lan g l = record {
+  advances : g.S.Slots.advances l.fn.slots l.slots;
+  failures : g.S.Slots.failed l.slots ≡ g.S.Slots.failed l.fn.slots;
+  room : 0 < length l.buffer;
+  end : l.lan-end ≡ length l.fn.topology.lans;
+  count : length l.wants.items ≡ l.lan;
+  flows : (lan : ℕ) (wanted : List Bool) → slice_get l.wants.items lan ≡ Some wanted
+      → length wanted ≡ length l.fn.topology.flows;
+  taken : (stream : Stream) → g.S.Slots.gives l.fn.slots l.fn.topology (first_lan_number l.fn.topology) ≡ Some stream →
+      (later : Stream) × (reports : List (List Record))
+      × (g.S.Slots.gives l.slots l.fn.topology (first_lan_number l.fn.topology + l.lan) ≡ Some later)
+      × AreWantedBy l.fn.topology reports l.wants.items
+      × (read_stream (read_lans l.fn.topology.lans) stream
+      ≡ read_stream (read_each_after (λ lan. read_lan) reports (drop l.lan l.fn.topology.lans)) later);
+}

@@ -1,0 +1,131 @@
+//! The files of a folder as the parts of a domain's slots. Each is judged as its turn comes.
+
+ghost use Rattle.std.specs.Prelude.{◌≡◌, ◌<◌, ◌≤◌, ℕ, List, Some, IfErr, IfSome, false, length, slice_get, true};
+ghost use Rattle.mc_text.specs.Device.{failures_after};
+ghost use Rattle.mc_files.specs.Files.{FileText};
+ghost use Rattle.mc_files.specs.Layout.{Slot as SlotText, slots, topology_slot};
+ghost use Rattle.mc_input.specs.ExcludedRouters.{files_without};
+ghost use Rattle.mc_input.specs.Feeding.{SeesHeaderOrFile};
+ghost use Rattle.mc_input.specs.SourceFault.{GivesFromContents, is_possible_for_files, is_read};
+ghost use Rattle.mc_input.specs.FilesReading.{read_file};
+ghost use Rattle.mc_input.specs.PartsReading.{topology_of as topology_reading};
+
+use crate::excluded::header_of_excluded;
+use crate::fault::InputFault;
+use crate::fed_file::feed_header_or_file;
+use crate::part_result::topology_of;
+use crate::piece_reader::PieceReader;
+use crate::slots::Slots;
+use crate::source_fault::SourceFault;
+use mc_files::{FileSource, PieceSource, Slot, part_of_file, slot_at};
+use mc_text::PartName;
+use mc_topology::{RouterNo, Topology};
+use std::alloc::Global;
+
+/// The files of a folder, of which those of routers with these names are excluded.
+pub(crate) struct FileSlots<'a, F: PieceSource> {
+    /// The files.
+    pub(crate) files: F,
+    /// The names of the excluded routers.
+    pub(crate) without: &'a [&'a str],
+}
+
+impl<'a, F: PieceSource> FileSlots<'a, F> {
+    /// Gives the files back.
+    pub(crate) fn into_files(self) -> F
+        ensures contents { F.contents result ≡ F.contents self.entry.files }
+        ensures failures { F.failed result ≡ F.failed self.entry.files }
+        ensures same { F.borrows result ≡ F.borrows self.entry.files }
+    {
+        let FileSlots {
+            files,
+            without: _without,
+        } = self;
+        files
+    }
+}
+
+/// The header that is read in place of the file of the slot with a number, if its router is excluded.
+fn header_of_slot(topology: &Topology, without: &[&str], number: u32) -> Option<&'static [u8]>
+    requires within { number < length (slots false topology.now) }
+    ensures header { (files : List FileText) (slot : SlotText) →
+        slice_get (slots false topology.now) number ≡ Some slot →
+        SeesHeaderOrFile files (files_without without.now files) slot result }
+    ensures small { IfSome result (λ header. length header.now ≤ 100) }
+{
+    if number == 0 {
+        return None;
+    }
+    let table = number - 1;
+    if table >= 2 * topology.routers() {
+        return None;
+    }
+    let router = topology.router_name(RouterNo(table / 2));
+    if table % 2 == 0 {
+        return header_of_excluded(without, router, true);
+    }
+    header_of_excluded(without, router, false)
+}
+
+impl<'a, F: PieceSource> Slots for FileSlots<'a, F> {
+    ghost use Rattle.std.specs.Prelude.{option_map, refl};
+    ghost use Rattle.std.proofs.Common.{◌∙◌};
+    ghost use Rattle.mc_input.specs.ExcludedRouters.{files_without};
+    ghost use Rattle.mc_input.specs.SourceFault.{is_possible_for_files};
+    ghost use Rattle.mc_input.specs.Stream.{files_give};
+
+    ghost gives = { λ s t n.
+        option_map (λ files. files_give t n (files_without s.without.now files)) (F.contents s.files) };
+
+    ghost failed = { λ s. F.failed s.files };
+
+    ghost advances = { λ a b. (F.borrows b.files ≡ F.borrows a.files)
+        × (F.contents b.files ≡ F.contents a.files) × (b.without ≡ a.without) };
+
+    ghost is_possible = { is_possible_for_files };
+
+    ghost advances_twice = { λ a b c first second.
+        (second.0 ∙ first.0, second.1 ∙ first.1, second.2 ∙ first.2) };
+
+    ghost stays = { λ a. (refl, refl, refl) };
+
+    ghost possible = { λ _ possible. possible };
+
+    fn feed<P: PieceReader>(
+        &mut self,
+        alloc: Global,
+        topology: &Topology,
+        number: u32,
+        buffer: &mut [u8],
+        reader: &mut P,
+    ) -> Result<PartName, SourceFault> {
+        let Some(slot) = slot_at(topology, false, number) else {
+            unreachable!()
+        };
+        let header = header_of_slot(topology, self.without, number);
+        let name = slot.part_name(alloc)?;
+        feed_header_or_file(alloc, &mut self.files, &slot, header, buffer, reader)?;
+        Ok(name)
+    }
+
+    fn refuse(&mut self, _topology: &Topology, _number: u32, fault: InputFault) -> SourceFault {
+        SourceFault::Input(fault)
+    }
+}
+
+/// Reads the topology from the file `topology`.
+pub(crate) fn topology_in<F: FileSource>(
+    alloc: Global,
+    files: &mut F,
+) -> Result<Topology, SourceFault>
+    requires reads { F.failed files.old < u64.MAX }
+    ensures same { F.borrows files.new ≡ F.borrows files.old }
+    ensures kept { F.contents files.new ≡ F.contents files.old }
+    ensures topology { (n : ℕ) → GivesFromContents (F.contents files.old) (λ topology. topology) result
+        (read_file n topology_slot topology_reading) }
+    ensures faults { IfErr result (λ fault. is_possible_for_files fault ≡ true) }
+    ensures failures { F.failed files.new ≡ failures_after is_read result (F.failed files.old) }
+{
+    let part = part_of_file(alloc, files, &Slot::topology())?;
+    Ok(topology_of(alloc, &part.as_part())?)
+}

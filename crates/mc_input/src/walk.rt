@@ -1,0 +1,200 @@
+//! One walk over the slots of a domain, whatever gives their parts.
+
+ghost use Rattle.std.specs.Prelude.{◌≡◌, ◌<◌, ◌≤◌, ◌+◌, ◌*◌, [], List, Some, Ok, Err, IfOk};
+ghost use Rattle.std.specs.Prelude.{IfErr, false, true, length, map, Result};
+ghost use Rattle.mc_text.specs.Bundle.{PartText};
+ghost use Rattle.mc_text.specs.Device.{failures_after};
+ghost use Rattle.mc_igmp.specs.declared.record.Record.{Record};
+ghost use Rattle.mc_files.specs.Layout.{slots as all_slots};
+ghost use Rattle.mc_forward.specs.Assembling.{AreAnswers};
+ghost use Rattle.mc_forward.specs.RouterTables.{AreTablesFor, kept_of_tables};
+ghost use Rattle.mc_input.specs.Kept.{AreContentsOf, AreFlowPairs, AreWantedBy};
+ghost use Rattle.mc_input.specs.PartsOneByOne.{certificate_number};
+ghost use Rattle.mc_input.specs.PartsReading.{first_lan_number};
+ghost use Rattle.mc_input.specs.SourceFault.{IsReadOrMemory, is_possible_for_files, is_read};
+ghost use Rattle.mc_input.specs.Stream.{ContentsRead, IsFaultBeforeOrOwn, IsFaultOfStream, IsReaderOf};
+ghost use Rattle.mc_input.specs.Stream.{KeepsOfFirst, RouterRead, Stream, input_of_contents};
+ghost use Rattle.mc_input.specs.Stream.{read_contents, read_first, read_lans, read_routers};
+ghost use Rattle.mc_input.specs.Stream.{read_stream, value_and_rest};
+ghost use Rattle.mc_input.specs.declared.fault.InputFault.{InputFault as Fault};
+ghost use Rattle.mc_input.specs.declared.source_fault.SourceFault.TheVariants.{Input};
+
+use crate::cache_keeper::CacheKeeper;
+use crate::fault::InputFault;
+use crate::part_reader::PartReader;
+use crate::slots::Slots;
+use crate::source_fault::SourceFault;
+use mc_forward::{FlowChannels, Items, RouterTables, Tables};
+use mc_igmp::ListReader;
+use mc_tables::VifReader;
+use mc_topology::{RouterNo, Topology};
+use std::alloc::Global;
+
+/// The value of a part, or what is answered for its fault. The next part is that of the slot with a
+/// number.
+fn value_or_refusal<S: Slots, K: Drop>(
+    slots: &mut S,
+    topology: &Topology,
+    number: u32,
+    part_result: Result<K, InputFault>,
+) -> Result<K, SourceFault>
+    requires within { number ≤ length (all_slots false topology.now) }
+    requires possible { IfErr part_result (λ fault. is_possible_for_files (Input fault) ≡ true) }
+    requires failures { S.failed slots.old < u64.MAX }
+    ensures kept { IfOk result (λ kept. (part_result ≡ Ok kept) × (slots.new ≡ slots.old)) }
+    ensures fault { (stream : Stream) → S.gives slots.old topology.now number ≡ Some stream →
+        IfErr result (λ fault. ¬ IsReadOrMemory fault →
+        (own : Fault) × (part_result ≡ Err own) × IsFaultBeforeOrOwn stream own fault) }
+    ensures faults { IfErr result (λ fault. S.is_possible fault ≡ true) }
+    ensures advances { S.advances slots.old slots.new }
+    ensures failures { S.failed slots.new ≡ failures_after is_read result (S.failed slots.old) }
+{
+    match part_result {
+        Ok(kept) => Ok(kept),
+        Err(InputFault::Memory) => Err(SourceFault::Input(InputFault::Memory)),
+        Err(fault) => Err(slots.refuse(topology, number, fault)),
+    }
+}
+
+/// What a reader reads of the part of the slot with a number.
+pub(crate) fn read_slot<S: Slots, R: PartReader + Drop>(
+    alloc: Global,
+    slots: &mut S,
+    buffer: &mut [u8],
+    topology: &Topology,
+    number: u32,
+    reader: R,
+) -> Result<R::Out, SourceFault>
+    requires within { number < length (all_slots false topology.now) }
+    requires below_max { number < u32.MAX }
+    requires room { 0 < length buffer.old }
+    requires start { R.size reader ≡ 0 }
+    requires failures { S.failed slots.old < u64.MAX }
+    ensures value { (read : PartText → Result R.Out Fault) → IsReaderOf (R.part_result reader) read →
+        IfOk result (λ kept. KeepsOfFirst (S.gives slots.old topology.now number)
+        (S.gives slots.new topology.now (number + 1)) read (λ value. kept ≡ value)) }
+    ensures fault { (read : PartText → Result R.Out Fault) → IsReaderOf (R.part_result reader) read →
+        IfErr result (IsFaultOfStream (S.gives slots.old topology.now number) (read_first read)) }
+    ensures faults { IfErr result (λ fault. S.is_possible fault ≡ true) }
+    ensures advances { S.advances slots.old slots.new }
+    ensures failures { S.failed slots.new ≡ failures_after is_read result (S.failed slots.old) }
+{
+    let mut reader = reader;
+    let name = slots.feed(alloc, topology, number, buffer, &mut reader)?;
+    value_or_refusal(slots, topology, number + 1, reader.finished(name))
+}
+
+/// Reads the tables of each router, of which what the flows need is kept.
+fn read_tables<S: Slots, K: CacheKeeper>(
+    alloc: Global,
+    slots: &mut S,
+    buffer: &mut [u8],
+    topology: &Topology,
+    keeper: &mut K,
+) -> Result<RouterTables, SourceFault>
+    requires listed { AreFlowPairs topology.now.flows (K.settings keeper.old).0 }
+    requires none_kept { K.has_kept keeper.old topology.now.flows [] }
+    requires room { 0 < length buffer.old }
+    requires failures { S.failed slots.old < u64.MAX }
+    ensures tables { IfOk result (λ tables. (stream : Stream) →
+        S.gives slots.old topology.now 1 ≡ Some stream →
+        (later : Stream) × (reads : List RouterRead)
+        × (S.gives slots.new topology.now (first_lan_number topology.now) ≡ Some later)
+        × (tables ≡ kept_of_tables topology.now.flows (map (λ read. read.tables) reads))
+        × K.has_kept keeper.new topology.now.flows reads
+        × (read_stream (read_routers topology.now.routers) stream ≡ value_and_rest reads later)) }
+    ensures counts { IfOk result (AreTablesFor topology.now) }
+    ensures settings { K.settings keeper.new ≡ K.settings keeper.old }
+    ensures fault { IfErr result (IsFaultOfStream (S.gives slots.old topology.now 1)
+        (read_routers topology.now.routers)) }
+    ensures faults { IfErr result (λ fault. S.is_possible fault ≡ true) }
+    ensures advances { S.advances slots.old slots.new }
+    ensures failures { S.failed slots.new ≡ failures_after is_read result (S.failed slots.old) }
+{
+    let mut tables = RouterTables::new(alloc, topology)?;
+    for router in 0..topology.routers() {
+        let number = 1 + 2 * router;
+        let order = topology.order(RouterNo(router));
+        let reader = VifReader::new(alloc);
+        let vifs = read_slot(alloc, slots, buffer, topology, number, reader)?;
+        let cache = keeper.read_cache(alloc, slots, buffer, topology, order, number + 1)?;
+        tables.add(alloc, topology, Tables { vifs, cache })?;
+    }
+    Ok(tables)
+}
+
+/// Reads which flows each LAN wants.
+fn read_wants<S: Slots>(
+    alloc: Global,
+    slots: &mut S,
+    buffer: &mut [u8],
+    topology: &Topology,
+) -> Result<Vec<Items<bool>>, SourceFault>
+    requires room { 0 < length buffer.old }
+    requires failures { S.failed slots.old < u64.MAX }
+    ensures wants { IfOk result (λ wants. (stream : Stream) →
+        S.gives slots.old topology.now (first_lan_number topology.now) ≡ Some stream →
+        (later : Stream) × (reports : List (List Record))
+        × (S.gives slots.new topology.now (certificate_number topology.now) ≡ Some later)
+        × AreWantedBy topology.now reports wants.items
+        × (read_stream (read_lans topology.now.lans) stream ≡ value_and_rest reports later)) }
+    ensures answers { IfOk result (λ wants. AreAnswers topology.now wants.items) }
+    ensures fault { IfErr result
+        (IsFaultOfStream (S.gives slots.old topology.now (first_lan_number topology.now))
+        (read_lans topology.now.lans)) }
+    ensures faults { IfErr result (λ fault. S.is_possible fault ≡ true) }
+    ensures advances { S.advances slots.old slots.new }
+    ensures failures { S.failed slots.new ≡ failures_after is_read result (S.failed slots.old) }
+{
+    let channels = FlowChannels::of(alloc, topology)?;
+    let first = 1 + 2 * topology.routers();
+    let mut wants = Vec::new(alloc);
+    for lan in 0..topology.lans() {
+        let reader = ListReader::new(alloc);
+        let reports = read_slot(alloc, slots, buffer, topology, first + lan, reader)?;
+        wants.push(channels.wanted(alloc, &reports)?)?;
+    }
+    Ok(wants)
+}
+
+/// What is kept of the contents of a domain's parts.
+#[derive(Drop)]
+pub(crate) struct Contents {
+    /// Each router's vifs, and its rows for the flows.
+    pub(crate) tables: RouterTables,
+    /// For each LAN, which flows it wants.
+    pub(crate) wants: Vec<Items<bool>>,
+}
+
+/// Reads the tables of the routers and the reports of the LANs.
+pub(crate) fn read_contents<S: Slots, K: CacheKeeper>(
+    alloc: Global,
+    slots: &mut S,
+    buffer: &mut [u8],
+    topology: &Topology,
+    keeper: &mut K,
+) -> Result<Contents, SourceFault>
+    requires listed { AreFlowPairs topology.now.flows (K.settings keeper.old).0 }
+    requires none_kept { K.has_kept keeper.old topology.now.flows [] }
+    requires room { 0 < length buffer.old }
+    requires failures { S.failed slots.old < u64.MAX }
+    ensures read { IfOk result (λ kept. (stream : Stream) →
+        S.gives slots.old topology.now 1 ≡ Some stream →
+        (later : Stream) × (read : ContentsRead)
+        × (S.gives slots.new topology.now (certificate_number topology.now) ≡ Some later)
+        × AreContentsOf topology.now kept.tables kept.wants.items (input_of_contents topology.now read)
+        × K.has_kept keeper.new topology.now.flows read.0
+        × (read_stream (read_contents topology.now) stream ≡ value_and_rest read later)) }
+    ensures counts { IfOk result (λ kept. AreTablesFor topology.now kept.tables) }
+    ensures answers { IfOk result (λ kept. AreAnswers topology.now kept.wants.items) }
+    ensures settings { K.settings keeper.new ≡ K.settings keeper.old }
+    ensures fault { IfErr result (IsFaultOfStream (S.gives slots.old topology.now 1)
+        (read_contents topology.now)) }
+    ensures faults { IfErr result (λ fault. S.is_possible fault ≡ true) }
+    ensures advances { S.advances slots.old slots.new }
+    ensures failures { S.failed slots.new ≡ failures_after is_read result (S.failed slots.old) }
+{
+    let tables = read_tables(alloc, slots, buffer, topology, keeper)?;
+    let wants = read_wants(alloc, slots, buffer, topology)?;
+    Ok(Contents { tables, wants })
+}

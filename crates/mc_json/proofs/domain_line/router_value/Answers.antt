@@ -1,0 +1,14 @@
+use Rattle.std.proofs.Common.{Option, Some, ap}
+use Rattle.std.specs.Prelude.{unwrap_or}
+use Rattle.mc_text.specs.declared.text.addr.Order.{Order}
+use Rattle.mc_text.specs.declared.text.addr.Order.TheVariants.{Little}
+use Rattle.mc_json.specs.DomainData.{order_word, router_order}
+use Rattle.mc_json.proofs.domain_line.router_value.Goals as goal
+
+pub returns : goal.returns
+returns c = record {
+  value = (
+      let order = ap (λ (o : Option Order). unwrap_or o Little) c.order.ensures.item in
+      rw (order, ← c.order_word-order.ensures)
+      (c.object.ensures _ (c.text.ensures _ (c.router.ensures _ c.new.ensures))));
+}

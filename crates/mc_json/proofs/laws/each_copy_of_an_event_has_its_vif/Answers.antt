@@ -1,0 +1,5 @@
+use Rattle.mc_json.proofs.SentVifLemmas.{length-sent_vifs}
+use Rattle.mc_json.proofs.laws.each_copy_of_an_event_has_its_vif.Goals as goal
+
+pub returns : goal.returns
+returns c = length-sent_vifs

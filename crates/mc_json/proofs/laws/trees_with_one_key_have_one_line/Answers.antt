@@ -1,0 +1,5 @@
+use Rattle.mc_json.proofs.TreeKeyLemmas.{tree_data-same_key}
+use Rattle.mc_json.proofs.laws.trees_with_one_key_have_one_line.Goals as goal
+
+pub returns : goal.returns
+returns c = tree_data-same_key

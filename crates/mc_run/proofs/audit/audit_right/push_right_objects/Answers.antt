@@ -1,0 +1,21 @@
+use Rattle.std.proofs.Common.{◌∙◌}
+use Rattle.mc_run.specs.AuditPieces.{audited_value}
+use Rattle.mc_run.specs.AuditRun.{is_whole}
+use Rattle.mc_run.proofs.ShownTrees.{is_whole-no_names, right_objects-pushed, shown_trees-pushed}
+use Rattle.mc_run.proofs.audit.audit_right.push_right_objects.Goals as goal
+
+pub returns-clause-shown_trees : goal.returns-clause-shown_trees
+returns-clause-shown_trees c =
+    shown_trees-pushed c.args.audited.now.domain.now c.args.flow c.new-view.result c.args.entries.now
+    c.args.shown_trees.now c.push_tree_once.new.shown_trees c.push_right_line.result
+    c.new-view.ensures.flow c.in_ok-number.ensures.shown_trees
+
+pub returns-clause-lines : goal.returns-clause-lines
+returns-clause-lines c =
+    let a = c.args.audited.now in
+    right_objects-pushed a.domain.now (is_whole (audited_value a)) c.is_empty-whole.result c.args.flow _
+    c.in_ok-number.number c.new-view.result c.topology-topology.result.now c.args.entries.now
+    c.args.wanted.now c.args.shown_trees.now c.push_tree_once.new.shown_trees c.push_right_line.result _ _ _
+    c.new-view.ensures.flow c.topology-topology.ensures.topology
+    (c.is_empty-whole.ensures ∙ is_whole-no_names a) c.requires.copies c.in_ok-number.ensures.shown_trees
+    c.in_ok-number.ensures.number c.in_ok-number.ensures.line c.push_right_line.ensures.line

@@ -1,0 +1,7 @@
+use Rattle.mc_run.proofs.audit.audit_wrong.push_explained.Goals as goal
+
+pub returns-then-options : goal.returns-then-options
+returns-then-options c = record { added = rw c.if-options.true c.push_wrong_object.ensures.added }
+
+pub returns-else-options : goal.returns-else-options
+returns-else-options c = record { added = rw c.if-options.false c.push_wrong_lines.ensures.added }

@@ -1,0 +1,75 @@
+#!/usr/bin/env python3
+"""Compares audits of random domains with what format 1 said of the same domains, as mcaudit-diff does, and as
+mcaudit-monitor reads them: nothing has changed, and no flow is wrong in one and unknown in the other.
+
+  python3 tests/tools/formats.py
+
+What audits the domains is tests/audited/answers.py. The last line counts: `N passed, M failed`. The status is 0 if none
+failed.
+"""
+import io
+import json
+import os
+import sys
+import tempfile
+
+sys.dont_write_bytecode = True
+TOP = os.path.join(os.path.dirname(os.path.abspath(__file__)), "..", "..")
+sys.path += [os.path.join(TOP, "tests", "audited"), os.path.join(TOP, "tools")]
+import answers  # noqa: E402 pylint: disable=wrong-import-position
+import random_domains  # noqa: E402 pylint: disable=wrong-import-position
+from mcaudit_tools import audit, diff  # noqa: E402 pylint: disable=wrong-import-position
+from mcaudit_tools.monitor.judged import judged_of  # noqa: E402 pylint: disable=wrong-import-position
+
+DOMAINS = 400
+
+
+def as_format_1(text):
+    """Returns what format 1 said in place of this answer."""
+    found, lines = 0, []
+    for line in map(json.loads, text.splitlines()):
+        if "domain" in line:
+            line["format"] = 1
+            line["domain"]["routers"] = [it["name"] for it in line["domain"]["routers"]]
+        elif "finding" in line:
+            found += 1
+            line["right"] = False
+            del line["wanted"], line["shown_from"]
+        elif "summary" in line:
+            counts = line["summary"]
+            del counts["unknown"]
+            counts.update(right=counts["flows"] - found, wrong=found)
+        for one in line.get("entries", []):
+            del one["from_vif"]
+        for one in line.get("why", []):
+            del one["text"]
+        lines.append(json.dumps(line) + "\n")
+    return "".join(lines)
+
+
+def changes_of(folder, words):
+    """Returns what has changed from one format to the other, and back. What a monitor reads counts as a change."""
+    now = answers.audit([folder, "--json", "--unlisted", *words]).output()
+    texts = [it.encode() for it in (now, as_format_1(now))]
+    new, old = (diff.audit_of(audit.lines_of(io.BytesIO(it))) for it in texts)
+    read = [judged_of(it) for it in texts]
+    return [*diff.all_changes(old, new), *diff.all_changes(new, old), *(read if read[0] != read[1] else [])]
+
+
+def main():
+    """Compares all. Returns the status."""
+    failed = 0
+    for number in range(DOMAINS):
+        made = random_domains.Made(number)
+        with tempfile.TemporaryDirectory(prefix="mcaudit-formats-") as folder:
+            made.write(folder)
+            changes = changes_of(folder, []) + changes_of(folder, ["--without", made.routers[0]])
+        if changes:
+            failed += 1
+            print(f"domain {number}: {changes}")
+    print(f"{DOMAINS - failed} passed, {failed} failed")
+    return 1 if failed else 0
+
+
+if __name__ == "__main__":
+    sys.exit(main())

@@ -1,0 +1,44 @@
+"""What is found: how sure it is, where, of which flows, and the line that ends it."""
+import typing
+
+DROPS, MAY_DROP, BESIDE, NOT_KNOWN = "drops", "may drop", "beside", "not known"
+NONE_COMES, LOST, MORE, STRANGERS = "none comes", "lost", "more come", "by another vif"
+BAD = DROPS, NONE_COMES, LOST  # what contradicts a yes
+WORDS = (DROPS, NONE_COMES, LOST, MAY_DROP, MORE, STRANGERS, BESIDE, NOT_KNOWN)  # in the order in which they are told
+MOST_NAMES = 8  # that are told of many
+
+
+class Finding(typing.NamedTuple):
+    """One thing that was found of a router, and of a flow where it is about one."""
+
+    word: str
+    kind: str  # what was looked at: rp_filter, netfilter, links ..
+    router: str
+    text: str
+    remedy: str = ""
+    flow: "tuple[str, str] | None" = None  # source and group
+
+
+def some(names):
+    """Returns the first of the names, as they are told."""
+    return " ".join(names[:MOST_NAMES]) + (" .." if len(names) > MOST_NAMES else "")
+
+
+def grouped(findings):
+    """Yields each different thing that was found, in the order of the words, with all the flows that it was found
+    of."""
+    found = {}
+    for it in findings:
+        _, flows = found.setdefault((it.word, it.kind, it.router, it.text, it.remedy), (it, {}))
+        if it.flow is not None:
+            flows[it.flow] = None
+    for it, flows in sorted(found.values(), key=lambda group: WORDS.index(group[0].word)):
+        yield it, list(flows)
+
+
+def counts_of(findings):
+    """Returns how many different things were found, by word."""
+    counts = dict.fromkeys(WORDS, 0)
+    for it, _ in grouped(findings):
+        counts[it.word] += 1
+    return counts

@@ -1,0 +1,192 @@
+"""The facts of one router, as a set has them in facts-NAME: its own words, believed of it alone and in bounds."""
+import functools
+import ipaddress
+import json
+import os
+import re
+
+from mcaudit_tools.common import Failed, clean
+from mcaudit_tools.draft.told import link_addresses
+from mcaudit_tools.facts import END, MOST_FILE
+from mcaudit_tools.files import read_regular, whole
+from mcaudit_tools.premises.routes import MainTable, Route, routes_of
+
+MOST_LINES = 1_000_000  # of a router's facts
+MOST_DEPTH = 32  # of JSON that a router answers
+NESTING = re.compile(r'"(?:[^"\\]|\\.)*"|[\[\]{}]')
+UNREADABLE = ValueError, KeyError, TypeError, AttributeError, IndexError, RecursionError
+ADDRESS_LINE = re.compile(r"\s+inet ([0-9.]+)")
+DEVICE_LINE = re.compile(r"\d+: ([^:@ ]+)")
+ABOUT = re.compile(r"order (little|big) uid (\d{1,10}) ")
+BOOT = re.compile(r".* boot ([0-9a-f-]{36})")
+ODD_RULE = re.compile(r"\bfrom (?!all\b)|\b(?:tos|dsfield|dscp|ipproto|sport|dport|uidrange|tun_id)\b")
+NUMBERS = {10: re.compile(r"[0-9]{1,10}"), 16: re.compile(r"0x[0-9a-fA-F]{1,8}")}
+
+
+def json_of(text):
+    """Returns the value of JSON of a bounded depth; None where it is none."""
+    depth = deepest = 0
+    for found in NESTING.finditer(text):
+        depth += {"[": 1, "{": 1, "]": -1, "}": -1}.get(found[0], 0)
+        deepest = max(deepest, depth)
+    try:
+        return json.loads(text, parse_int=whole) if deepest <= MOST_DEPTH else None
+    except (ValueError, RecursionError):
+        return None
+
+
+def json_lists(text):
+    """Returns the values of a line in which lists of JSON follow each other."""
+    value = json_of("[" + text.replace("][", "],[") + "]")
+    return value if isinstance(value, list) else []
+
+
+class Facts:
+    """What a router says of itself."""
+
+    def __init__(self, text):
+        """Takes the text of its facts."""
+        self.sections, name = {}, None
+        for line in text.split(b"\n")[:-1]:  # what has no end is cut
+            if line.startswith(b"@"):
+                name = line[1:].decode("ascii", "replace")
+                self.sections.setdefault(name, [])
+            elif line.startswith(b" ") and name is not None:
+                self.sections[name].append(line[1:])
+        self.is_whole = name == END
+        if name is not None and not self.is_whole:
+            self.sections[name].append(b"!cut short")
+        about = ABOUT.match(self.text("about"))
+        self.order, self.is_root = about[1] if about else None, bool(about) and about[2] == "0"
+        self.values = {}  # by path, all that there are
+        for line in self.lines("settings") + self.lines("links"):
+            path, _, value = line.partition(" ")
+            self.values.setdefault(path, []).append(value)
+        self.addresses = self.read_addresses()
+
+    @property
+    def boot(self):
+        """The identity of the router's boot, or None."""
+        found = BOOT.match(self.text("about"))
+        return found[1] if found else None
+
+    def bytes(self, name):
+        """Returns a section as bytes."""
+        return b"\n".join(self.sections.get(name, ()))
+
+    def text(self, name):
+        """Returns a section as text."""
+        return self.bytes(name).decode("ascii", "replace")
+
+    def lines(self, name):
+        """Returns the lines of a section, but for those that say why there are no more."""
+        return [it for it in self.text(name).split("\n") if it and not it.startswith("!")]
+
+    def fault(self, name):
+        """Returns why a section isn't there, or not whole: None where it is."""
+        if name not in self.sections:
+            return "there is nothing that says it"
+        for line in self.sections[name]:
+            if line.startswith(b"!"):
+                reason = clean(line[1:].decode("ascii", "replace"))[:80]
+                return f"it ended with status {reason}" if reason.isdigit() else reason
+        return None
+
+    def failed(self):
+        """Returns why the facts aren't all, or None."""
+        if "failed" in self.sections:
+            return clean(self.text("failed"))[:200]
+        return None if self.is_whole else "the file is cut short"
+
+    def json(self, name):
+        """Returns the value of a section of JSON, or None."""
+        return json_of(self.text(name)) if self.fault(name) is None else None
+
+    def is_asked(self, name):
+        """Whether a daemon that runs was asked for a section."""
+        return name in self.sections and not any(b"is not running" in it for it in self.sections[name])
+
+    def setting(self, device, name):
+        """Returns a number of /proc/sys of a device, or None."""
+        return self.number(f"/proc/sys/net/ipv4/conf/{device}/{name}")
+
+    def link(self, device, name):
+        """Returns what /sys has of a device, or None."""
+        return self.values.get(f"/sys/class/net/{device}/{name}", [None])[0]
+
+    def ports(self, device):
+        """Returns the ports of a bridge."""
+        return self.values.get(f"/sys/class/net/{device}/port", [])
+
+    def number(self, path, base=10):
+        """Returns the number that a file has, or None."""
+        text = self.values.get(path, [""])[0]
+        return int(text, base) if NUMBERS[base].fullmatch(text) else None
+
+    def read_addresses(self):
+        """Returns the addresses of each device; None where they aren't known."""
+        if self.fault("address") is not None:
+            return None
+        found, text = {}, self.text("address")
+        if text.startswith("["):
+            try:
+                links = json_of(text)
+                for link in links:
+                    found.setdefault(link["ifname"], [])
+                for device, it in link_addresses(links):
+                    found[device] += [str(it.local)] if it is not None and it.local is not None else []
+            except UNREADABLE:
+                return None
+            return found
+        device = None
+        for line in self.lines("address"):
+            head, address = DEVICE_LINE.match(line), ADDRESS_LINE.match(line)
+            if head:
+                device = head[1]
+                found.setdefault(device, [])
+            elif address and device is not None:
+                found[device].append(address[1])
+        return found or None
+
+    @functools.cached_property
+    def own_addresses(self):
+        """All addresses that are the router's own."""
+        return {it for found in (self.addresses or {}).values() for it in found}
+
+    @functools.cached_property
+    def routes(self):
+        """The route back to each source that was asked for."""
+        return routes_of(self.lines("routes"), json_lists)
+
+    @functools.cached_property
+    def main_table(self):
+        """The routes of the main table."""
+        return MainTable(self.lines("route"), self.order or "little")
+
+    @functools.cached_property
+    def odd_rule(self):
+        """The first rule that asks for more than what a route is asked by, or nothing."""
+        odd = next(filter(ODD_RULE.search, self.lines("rule")), "")
+        return " ".join(odd.split())[:80]
+
+    def route_back(self, source):
+        """Returns the route back to the source, or None where it isn't known."""
+        if source in self.routes:
+            return self.routes[source]
+        if source in self.own_addresses:
+            return Route("local", ["lo"])
+        return self.main_table.route_back(int(ipaddress.IPv4Address(source)))
+
+
+def read_facts(folder, name):
+    """Returns the facts of a file in the folder, and why there are none."""
+    path = os.path.join(folder, name)
+    if not os.path.lexists(path):
+        return None, "not asked"
+    try:
+        text = read_regular(path, MOST_FILE)
+        return (Facts(text), None) if text.count(b"\n") <= MOST_LINES else (None, f"they have over {MOST_LINES} lines")
+    except Failed as fault:
+        return None, str(fault)
+    except UNREADABLE as fault:
+        return None, f"they can't be read ({type(fault).__name__})"

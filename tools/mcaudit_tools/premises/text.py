@@ -1,0 +1,78 @@
+"""How what was found is printed: a line each for people, or an object a line."""
+import json
+
+from mcaudit_tools.common import clean
+from mcaudit_tools.premises.findings import BAD, MAY_DROP, counts_of, grouped, some
+from mcaudit_tools.premises.judge import ROUTER, looked_at, looked_at_sentence
+
+MOST_LINES = 200  # for people; --json has all
+
+
+def together(findings):
+    """Returns what was found, each with its flows and routers: what is so of the facts of several routers at once."""
+    found = {}
+    for number, (it, flows) in enumerate(grouped(findings)):
+        key = it.text if it.kind == ROUTER and not flows else number
+        found.setdefault(key, (it, flows, []))[2].append(it.router)
+    return list(found.values())
+
+
+def place_of(it, flows, routers):
+    """Returns where something was found: of which flows, and on which router."""
+    if not flows:
+        return some(routers)
+    more = f" and {len(flows) - 1} more" if len(flows) > 1 else ""
+    return f"flow {flows[0][0]} {flows[0][1]}{more}: {it.router}"
+
+
+def lines_of(findings):
+    """Yields the lines of what was found."""
+    groups = together(findings)
+    for it, flows, routers in groups[:MOST_LINES]:
+        yield f"{it.word}: {place_of(it, flows, routers)}: {it.text}"
+        if it.remedy:
+            yield f"  {'if so' if it.word == MAY_DROP else 'to end it'}, on {it.router}: {it.remedy}"
+    if len(groups) > MOST_LINES:
+        yield f"and {len(groups) - MOST_LINES} more, which --json prints"
+
+
+def result_of(counts, is_looked_at):
+    """Returns whether anything contradicts the tables, as a sentence."""
+    found = ", ".join(f"{word} {count}" for word, count in counts.items() if count)
+    result = "nothing that was found contradicts the tables" if is_looked_at else "not looked at"
+    if any(counts[it] for it in BAD):
+        result = "contradicted"
+    return f"premises: {result}" + (f" ({found})" if found else "")
+
+
+def object_of(it, flows):
+    """Returns what was found as JSON has it."""
+    found = {"finding": it.word, "kind": it.kind, "router": it.router, "text": it.text,
+             "flows": [{"source": source, "group": group} for source, group in flows]}
+    return {**found, "remedy": it.remedy} if it.remedy else found
+
+
+def objects_of(answer, name, findings, counters, ages):
+    """Yields the objects of all lines."""
+    yield {"format": 1, "set": name, "verdict": "yes" if answer.is_right else "no", "routers": answer.routers,
+           "ages": ages}
+    for it, flows in grouped(findings):
+        yield object_of(it, flows)
+    for flow, router, reason in counters.unjudged:
+        yield {"unjudged": {"source": flow[0], "group": flow[1]}, "router": router, "text": reason}
+    yield {"packets": counters.as_json(), "looked_at": looked_at(answer, findings)}
+    yield {"summary": counts_of(findings)}
+
+
+def show(words, answer, name, findings, counters, ages):
+    """Prints what was found."""
+    if words.json:
+        for it in objects_of(answer, name, findings, counters, ages):
+            print(json.dumps(it, sort_keys=True, separators=(",", ":")))
+    else:
+        unknown = {it.router for it in findings if it.kind == ROUTER}
+        result = result_of(counts_of(findings), not counters.reason or len(unknown) < len(answer.routers))
+        lines = [*lines_of(findings), f"verdict {'yes' if answer.is_right else 'no'} of {name}: {', '.join(ages)}",
+                 counters.sentence(), looked_at_sentence(answer, findings), result]
+        print("\n".join(map(clean, lines)))
+    print(end="", flush=True)

@@ -13,5 +13,7 @@ mod vifs;
 pub use cache::{CacheReader, CacheTable, Entry, FlatOifs, Oif};
 pub use fault::{TableFault, TableFaultKind};
 pub use listed::ListedPairs;
-pub use summary::{CacheSummary, SummarizedCache, SummaryPairs, SummaryReader};
+pub use summary::{
+    CacheSummary, SummarizedCache, SummaryPairs, SummaryReader, sorted_without_repeats,
+};
 pub use vifs::{Vif, VifReader, VifTable};

@@ -1,6 +1,6 @@
 -- Ranges of multicast groups, as an operator writes them: an address, a slash, and how many of its
 -- leading bits all groups of the range have in common (RFC 4632, section 3.1).
-use Rattle.std.specs.Prelude.{◌≡◌, ℕ, ◌+◌, ◌-◌, ◌*◌, ◌%◌, ◌^◌, ◌<◌, ◌≤◌, ◌==◌, ◌&&◌, nat_lt, nat_le}
+use Rattle.std.specs.Prelude.{◌≡◌, ℕ, ◌-◌, ◌*◌, ◌%◌, ◌^◌, ◌<◌, ◌≤◌, ◌&&◌, nat_lt, nat_le}
 use Rattle.std.specs.Prelude.{Bool, List, ◌++◌, codes, decimal}
 use Rattle.mc_text.specs.Addr.{dotted}
 
@@ -17,16 +17,10 @@ pub record IsGroupRange (range : ℕ × ℕ) : Type 0 where
   pub longest : range.1 ≤ 32
   pub host_bits : range.0 % range_size range.1 ≡ 0
 
--- the same as a computable test
-abbrev pub is_group_range : ℕ × ℕ → Bool
-is_group_range range =
-    nat_le (224 * 2 ^ 24) range.0 && nat_lt range.0 (240 * 2 ^ 24)
-    && nat_le 4 range.1 && nat_le range.1 32 && (range.0 % range_size range.1 == 0)
-
 -- how a range is written: `239.0.0.0/8`
 abbrev pub range_text : ℕ × ℕ → List ℕ
 range_text range = dotted range.0 ++ (codes "/" ++ decimal range.1)
 
 -- the range has the group
 abbrev pub has_group : ℕ × ℕ → ℕ → Bool
-has_group range group = nat_le range.0 group && nat_lt group (range.0 + range_size range.1)
+has_group range group = nat_le range.0 group && nat_lt (group - range.0) (range_size range.1)

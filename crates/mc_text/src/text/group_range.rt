@@ -1,8 +1,7 @@
 //! Ranges of multicast groups, as an operator writes them.
 
-ghost use Rattle.std.specs.Prelude.{◌≡◌, ℕ, ◌<◌, ◌≤◌, ◌-◌, ◌^◌, IfSome, Some};
-ghost use Rattle.mc_text.specs.GroupRange.{IsGroupRange, has_group, is_group_range, range_size};
-ghost use Rattle.mc_text.specs.GroupRange.{range_text};
+ghost use Rattle.std.specs.Prelude.{◌≡◌, ℕ, IfSome, Some};
+ghost use Rattle.mc_text.specs.GroupRange.{IsGroupRange, has_group, range_size, range_text};
 
 use crate::text::addr::Addr;
 use crate::text::byte_search::find_byte;
@@ -33,11 +32,9 @@ impl Model for GroupRange {
 
 /// How many groups a range of this length has.
 fn range_size(length: u8) -> u64
-    requires longest { length ≤ 32 }
-    ensures value { result ≡ range_size length }
-    ensures within { result < 2 ^ 33 }
+    ensures { result ≡ range_size length }
 {
-    1u64 << (MAX_LENGTH - length)
+    1u64 << MAX_LENGTH.saturating_sub(length)
 }
 
 impl GroupRange {
@@ -63,7 +60,6 @@ impl GroupRange {
 
     /// The range, if it keeps the rules.
     fn if_valid(self) -> Option<GroupRange>
-        requires longest { self.1 ≤ 32 }
         ensures valid { IfSome result IsGroupRange }
         ensures same { IfSome result (λ range. range ≡ self) }
         ensures only { IsGroupRange self → result ≡ Some self }
@@ -71,17 +67,16 @@ impl GroupRange {
         let first = self.first.to_bits();
         let is_multicast = (0xE000_0000..=0xEFFF_FFFF).contains(&first);
         let has_host_bits = u64::from(first) % range_size(self.length) != 0;
-        (is_multicast && self.length >= 4 && !has_host_bits).then_some(self)
+        (is_multicast && (4..=MAX_LENGTH).contains(&self.length) && !has_host_bits).then_some(self)
     }
 
     /// Whether the range has the group.
     pub fn contains(self, group: Addr) -> bool
-        requires valid { IsGroupRange self }
         ensures { result ≡ has_group self group }
     {
-        let first = u64::from(self.first.to_bits());
-        let group = u64::from(group.to_bits());
-        first <= group && group < first + range_size(self.length)
+        let first = self.first.to_bits();
+        let group = group.to_bits();
+        first <= group && u64::from(group - first) < range_size(self.length)
     }
 }
 

@@ -1,20 +1,26 @@
 -- Which values a task may have, and which words ask for it.
 use Rattle.std.specs.Prelude.{◌≡◌, ◌≤◌, ◌⊎◌, ℕ, Bool, true, false, List, map, codes, Some, ⊤}
 use Rattle.std.specs.Prelude.{IsSomeAnd, Option, [], ◌∷◌, drop, slice_get}
+use Rattle.std.specs.List.{All}
+use Rattle.std.specs.List.Sorted.{IsStrictlySortedBy}
 use Rattle.clap.specs.Walk.{Row}
 use Rattle.mc_text.specs.Addr.{IsForwardedGroup, IsSource, dotted}
+use Rattle.mc_text.specs.GroupRange.{IsGroupRange}
 use Rattle.mc_text.specs.Number.{IsDecimal}
-use Rattle.mc_cli.specs.AuditWords.{AreAuditWords, are_distinct_router_names, is_option}
+use Rattle.mc_cli.specs.AuditWords.{AreAuditWords, are_distinct_router_names, is_option, key_cmp}
 use Rattle.mc_cli.specs.Commands.{AreAcceptedByClap, IsFlagValue, subcommand_in, is_command, word_of}
 use Rattle.mc_cli.specs.declared.audit_words.AuditWords.{AuditWords}
 use Rattle.mc_cli.specs.declared.task.Task.{Task}
 use Rattle.mc_cli.specs.declared.task.Task.TheVariants.{Wants, Check, Make, Replay, Pack, Audit}
 use Rattle.mc_cli.specs.declared.task.Task.TheVariants.{Help, Version}
 
--- the folder doesn't begin with `-`, and the excluded routers have valid names, each once
+-- the folder doesn't begin with `-`, the excluded routers have valid names, each once, and the ranges that are
+-- left aside are valid and ascend
 pub record IsAllowedAudit (words : AuditWords) : Type 0 where
   pub folder : is_option words.folder.now ≡ false
   pub without : are_distinct_router_names (map (λ word. word.now) words.without.items) ≡ true
+  pub valid : All IsGroupRange words.ignored.items
+  pub ascending : IsStrictlySortedBy key_cmp words.ignored.items
 
 abbrev pub IsAllowed : Task → Type 0
 IsAllowed (Wants group source) = IsForwardedGroup group × IsSource source

@@ -1,4 +1,4 @@
--- The lowest pairs of all routers, summary by summary.
+-- The lowest of many pairs, part by part.
 use Rattle.std.proofs.Common.{ℕ, List, [], ◌∷◌, ◌++◌, take, sym, subst, append-nil, append_assoc}
 use Rattle.std.specs.List.Sorted.{IsStrictlySortedBy}
 use Rattle.mc_tables.specs.CacheTable.{key_cmp}

@@ -17,7 +17,7 @@ use Rattle.mc_tables.specs.SummarySoFar.{put_at, put_pair}
 use Rattle.mc_tables.proofs.CacheLemmas.{key_cmp-total}
 use Rattle.mc_tables.proofs.CacheMapLemmas.{key_cmp-antisymmetric}
 use Rattle.mc_tables.proofs.LowestLemmas.{as_keys, find-in_order, take_in_order-push}
-use Rattle.mc_explain.proofs.UnlistedLemmas.{lowest, is_strictly_sorted_by-lowest}
+use Rattle.mc_asked.proofs.LowestOfParts.{lowest, is_strictly_sorted_by-lowest}
 
 -- ---- merging two ascending lists
 

@@ -1,6 +1,6 @@
 -- The rules of a cache's summary while its rows are read.
-use Rattle.std.proofs.Common.{◌≡◌, ℕ, Bool, true, false, cond, eqb, List, [], Option, Some, None, Result, Ok}
-use Rattle.std.proofs.Common.{Err, refl, ap, sym, subst}
+use Rattle.std.proofs.Common.{◌≡◌, ℕ, Bool, true, false, cond, eqb, List, Option, Some, None, Result, Ok}
+use Rattle.std.proofs.Common.{Err, refl, sym, subst}
 use Rattle.std.specs.Prelude.{◌&&◌, IfSome, is_some, not}
 use Rattle.std.specs.FinMap as map
 use Rattle.std.specs.Option.{option_map}
@@ -13,7 +13,7 @@ use Rattle.mc_tables.specs.CacheNumbers.{KeptRowsValue}
 use Rattle.mc_tables.specs.CacheReading.{row_in_words}
 use Rattle.mc_tables.specs.ListedRows.{set_has_key}
 use Rattle.mc_tables.specs.RowsSoFar.{ListedRowsSoFar, line_added}
-use Rattle.mc_tables.specs.Summary.{HasValidEntries, SummaryValue, every_source_entry, summary_of}
+use Rattle.mc_tables.specs.Summary.{HasValidEntries, every_source_entry}
 use Rattle.mc_tables.specs.Summary.{unresolved_key}
 use Rattle.mc_tables.specs.SummarySoFar.{SummarySoFar, summary_with_every_source, summary_with_exact}
 use Rattle.mc_tables.specs.SummarySoFar.{with_entry_if_new}
@@ -22,7 +22,6 @@ use Rattle.mc_tables.specs.SummarySoFar.{summary_with_row, finished_summary}
 use Rattle.mc_tables.specs.SummarySoFar.{summary_with_unlisted, summary_with_unresolved, with_first_entry}
 use Rattle.mc_tables.proofs.CacheLemmas.{key_cmp-total, row_in_words-denotes}
 use Rattle.mc_tables.proofs.EntryLemmas.{row_entry-is_valid}
-use Rattle.mc_tables.proofs.LowestLemmas.{shown_pairs-none}
 use Rattle.mc_tables.proofs.RowRuleLemmas.{line_added_keeps_valid_cache}
 
 -- the first entries are valid
@@ -110,15 +109,3 @@ pub empty_summary-is_valid : (all : Bool) (listed : List (ℕ × ℕ))
     → HasValidEntries (finished_summary (empty_summary all listed))
 empty_summary-is_valid all listed = λ key.
     subst (λ (o : Option EntryValue). IfSome o IsValidEntry) (sym (map.get-empty key_cmp key)) tt
-
--- the summary of no rows, when all rows have been read
-pub finished_summary-of_none : (all : Bool) (listed : List (ℕ × ℕ))
-    → finished_summary (empty_summary all listed) ≡ summary_of all listed []
-finished_summary-of_none all listed =
-    let with_lowest : List (ℕ × ℕ) → SummaryValue = λ pairs. record {
-      unresolved = (summary_of all listed []).unresolved;
-      for_every_source = (summary_of all listed []).for_every_source;
-      unlisted = 0;
-      lowest = pairs;
-    } in
-    ap with_lowest (shown_pairs-none all)

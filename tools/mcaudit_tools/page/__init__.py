@@ -50,8 +50,9 @@ def read_arguments():
     return found
 
 
-def write_page(path, page, sentence):
-    """Writes the page into the file, whole or not at all, and says what it is; or to standard output or a device."""
+def write_page(path, page, sentence=None):
+    """Writes the page into the file, whole or not at all, and says what it is, where there is something to say; or to
+    standard output or a device."""
     data = page.encode("utf-8", "replace")
     if path is None:
         with printing():
@@ -64,7 +65,7 @@ def write_page(path, page, sentence):
         with beside(path) as file:
             file.write(data)
             with printing():
-                print(f"{path}: {sentence}", flush=True)
+                print(*([f"{path}: {sentence}"] if sentence else []), sep="", end="\n" * bool(sentence), flush=True)
 
 
 def main():

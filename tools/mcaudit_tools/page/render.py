@@ -41,17 +41,38 @@ def verdict_words(audit):
     return said
 
 
-def header(audit, site):
+def tried_section(tried):
+    """Returns what was tried, of which nothing was found in the routers: nothing, where nothing was."""
+    if tried is None:
+        return []
+    items = [tag("li", tag("code", it)) for it in tried.changes]
+    doubts = [tag("li", f"Not audited: {it}") for it in tried.unaudited] + [tag("li", it) for it in tried.assumed]
+    return [tag("section", tag("h2", "Tried, not found"),
+                tag("p", f"This is no page of what was found in {tried.site}. It shows what mcaudit answers of a copy "
+                         "of it after these changes, which no router has made by that:"),
+                tag("ul", *items), *([tag("p", "What that rests on:"), tag("ul", *doubts)] * bool(doubts)), id="tried")]
+
+
+def verdict_heading(audit, tried):
+    """Returns what stands above all, for people, and the sign beside it: of what was not audited whole no verdict."""
+    if tried is not None and tried.unaudited:
+        return "Not audited whole", "?", "no"
+    return f"Verdict{' after what was tried' if tried else ''}: {audit.verdict}", SIGNS[audit.verdict], audit.verdict
+
+
+def header(audit, site, tried):
     """Returns the verdict and what it is about."""
+    heading, sign, kind = verdict_heading(audit, tried)
     summary, domain = audit.summary, audit.domain
     facts = [("Flows", summary["flows"]), *((it.capitalize(), summary[it]) for it in ("right", "wrong", "unknown")),
              ("Wanted by nobody", summary["unwanted"]), ("LANs", len(domain.lans)),
              ("Routers", len(domain.routers)), ("Not listed", len(audit.unlisted))]
-    return tag("header", tag("p", SIGNS[audit.verdict], class_="sign", aria_hidden="true"),
-               tag("div", tag("h1", f"Verdict: {audit.verdict}"), tag("p", verdict_words(audit)), class_="said"),
+    said = verdict_words(audit) if kind == audit.verdict else "A file was not audited whole, so there is no verdict."
+    return tag("header", tag("p", sign, class_="sign", aria_hidden="true"),
+               tag("div", tag("h1", heading), tag("p", said), class_="said"),
                tag("dl", *(tag("div", tag("dt", name), tag("dd", value)) for name, value in facts)),
                tag("p", "Multicast audit of ", tag("strong", site), class_="site") if site else "",
-               class_=f"verdict {audit.verdict}")
+               class_=f"verdict {kind}")
 
 
 def row_words(audit, flow):
@@ -127,23 +148,26 @@ def page_data(audit, graph):
             "right": right_words(audit), "flows": audit.flows}
 
 
-def page_of(audit, graph, folder):
-    """Returns the page."""
+def page_of(audit, graph, folder, tried=None):
+    """Returns the page, of what was found or of what was tried."""
     style, script = (pathlib.Path(__file__).with_name(it).read_text("utf-8") for it in ("page.css", "page.js"))
     policy = (f"default-src 'none'; base-uri 'none'; form-action 'none'; style-src {digest(style)}; "
               f"script-src {digest(WAIT)} {digest(script)}")
     site = folder.named if folder else None
     named = f" of {site}" if site else ""
+    title = "not audited whole" if tried is not None and tried.unaudited else f"Verdict {audit.verdict}"
+    title = "Tried: " * (tried is not None) + title
     sections = [("Flows that are not listed", unlisted_section(audit)),
                 ("What was collected, and when", collected_section(audit.domain, folder)),
                 ("What is not judged", unjudged_section(audit, folder))]
     head = [tag("meta", charset="utf-8"), tag("meta", http_equiv="Content-Security-Policy", content=policy),
             tag("meta", name="viewport", content="width=device-width, initial-scale=1"),
-            tag("title", f"Verdict {audit.verdict}: multicast audit{named}"), tag("style", Markup(style))]
-    body = [tag("script", Markup(WAIT)), header(audit, site), tag("main", flows_section(audit), flow_section(graph)),
+            tag("title", f"{title}: multicast audit{named}"), tag("style", Markup(style))]
+    body = [tag("script", Markup(WAIT)), header(audit, site, tried), *tried_section(tried),
+            tag("main", flows_section(audit), flow_section(graph)),
             *(tag("section", tag("h2", title), *inner) for title, inner in sections),
             tag("section", id="printed"),
-            tag("footer", f"Made by mcaudit-page {PROGRAM.version} of what mcaudit audit answered."),
+            tag("footer", f"Made by {PROGRAM.name} {PROGRAM.version} of what mcaudit audit answered."),
             tag("script", json_markup(page_data(audit, graph)), type="application/json", id="data"),
             tag("script", Markup(script))]
     return "<!DOCTYPE html>\n" + tag("html", tag("head", *head), "\n", tag("body", *body), lang="en") + "\n"

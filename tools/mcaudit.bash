@@ -41,13 +41,13 @@ _mcaudit_tool() {
     shift 3
     COMPREPLY=()
     case $before in
-        -o | --routers | --capture | --audit | --program | --prometheus) kind='file' ;;
-        --all) kind=directory ;;
+        -o | -f | --routers | --capture | --audit | --program | --prometheus | --page) kind='file' ;;
+        --all | --conf-root) kind=directory ;;
         --readings | --pause | --timeout | --at-once | --ssh | --wait | --slack \
         | --queries | --network | --querier | --interface) return ;;
         --tries | --static | --empty-lan | --by | --shell | --ttl | --measure | --count | --tenths \
         | --without) return ;;
-        --watch | --keep | --warn-age | --warn-reports | --label) return ;;
+        --watch | --keep | --warn-age | --warn-reports | --label | --conf) return ;;
     esac
     case $word in
         -*) mapfile -t COMPREPLY < <(compgen -W "$*" -- "$word") ;;
@@ -104,6 +104,11 @@ _mcaudit_site() {
     fi
 }
 
+_mcaudit_try() {
+    _mcaudit_tool "${COMP_WORDS[COMP_CWORD]}" "${COMP_WORDS[COMP_CWORD - 1]}" directory \
+        -f --conf --conf-root --why --json --keep --page --version --help
+}
+
 _mcaudit_reports() {
     _mcaudit_tool "${COMP_WORDS[COMP_CWORD]}" "${COMP_WORDS[COMP_CWORD - 1]}" file \
         -o --by --capture --text --static --all --empty --empty-lan --ask --ask-routers --tries --queries --wait \
@@ -120,3 +125,4 @@ complete -F _mcaudit_premises mcaudit-premises
 complete -F _mcaudit_query mcaudit-query
 complete -F _mcaudit_reports mcaudit-reports
 complete -F _mcaudit_site mcaudit-site
+complete -F _mcaudit_try mcaudit-try

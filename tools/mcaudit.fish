@@ -93,11 +93,11 @@ __mcaudit_folders mcaudit '__mcaudit_command_is pack'
 __mcaudit_options mcaudit '__mcaudit_command_is replay' '--order:first last:which waiting copy is handled next'
 
 set -l tool
-for tool in mcaudit-collect mcaudit-draft mcaudit-monitor mcaudit-page mcaudit-premises
+for tool in mcaudit-collect mcaudit-draft mcaudit-monitor mcaudit-page mcaudit-premises mcaudit-try
     __mcaudit_folders $tool true
 end
 for tool in mcaudit-collect mcaudit-diff mcaudit-draft mcaudit-monitor mcaudit-page mcaudit-premises mcaudit-query \
-    mcaudit-reports
+    mcaudit-reports mcaudit-try
     __mcaudit_options $tool true $about
 end
 __mcaudit_options mcaudit-collect true $routers $timeout $readings '--shell:value:run a shell on a router by its way'
@@ -146,3 +146,11 @@ __mcaudit_options mcaudit-site 'not __fish_use_subcommand' $help
 __mcaudit_options mcaudit-site '__fish_seen_subcommand_from init' $routers $asking \
     '--ttl:value:the time to live of all flows'
 __mcaudit_folders mcaudit-site 'not __fish_use_subcommand'
+__mcaudit_options mcaudit-try true \
+    '-f:file:take the changes of a file too' \
+    '--conf:value:take what smcrouted makes of a file for a router' \
+    '--conf-root:folder:where the files lie that those of --conf include' \
+    '--why::tell what explains the faults' \
+    '--json::print an object a line' \
+    '--keep:value:keep the changed copy' \
+    '--page:file:write a page of the changed domain'

@@ -1,4 +1,4 @@
-#compdef mcaudit mcaudit-collect mcaudit-diff mcaudit-draft mcaudit-monitor mcaudit-page mcaudit-premises mcaudit-query mcaudit-reports mcaudit-site
+#compdef mcaudit mcaudit-collect mcaudit-diff mcaudit-draft mcaudit-monitor mcaudit-page mcaudit-premises mcaudit-query mcaudit-reports mcaudit-site mcaudit-try
 # mcaudit.zsh: completes the words of mcaudit and of its tools in zsh, which looks for it under the name _mcaudit.
 
 # what several tools have
@@ -100,6 +100,15 @@ mcaudit-reports)
         '*--network[the network of the LAN]:prefix: ' \
         '*--querier[a query of this address counts too]:address: ' \
         '--interface[the interface of a capture file that has several]:number: ' ;;
+mcaudit-try)
+    _arguments $about $site '*:change: ' \
+        '*-f[take the changes of a file too]:file:_files' \
+        '*--conf[take what smcrouted makes of a file for a router]:router=file: ' \
+        '--conf-root[where the files lie that those of --conf include]:folder:_files -/' \
+        '--why[tell what explains the faults]' \
+        '--json[print an object a line]' \
+        '--keep[keep the changed copy]:folder: ' \
+        '--page[write a page of the changed domain]:file:_files' ;;
 mcaudit-site)
     case $CURRENT:$words[2] in
     2:*)

@@ -10,6 +10,7 @@ import ipaddress
 import os
 import re
 
+from mcaudit_tools.changes import words_of
 from mcaudit_tools.common import Failed, Refused, Wrong, is_name
 from mcaudit_tools.files import read_regular
 from mcaudit_tools.rewrite import CLOSED, EVERY, Entry, ReportList
@@ -81,9 +82,11 @@ class Daemon:
         self.entries, self.ranges, self.joins, self.unaudited = {}, [], [], []
 
     def take(self, line, words):
-        """Takes the words of a line, which is called so."""
+        """Takes the words of a line, which is called so, or why it isn't audited."""
         readers = {"phyint": self.phyint, "mroute": self.mroute, "mgroup": self.join, "ssmgroup": self.join}
-        if words and not words[0].startswith("#"):
+        if isinstance(words, str):
+            self.skip(line, words)
+        elif words and not words[0].startswith("#"):
             try:
                 if words[0] not in readers:
                     raise Skipped(f"`{words[0]}` is not known")
@@ -208,25 +211,25 @@ def without_comment(words):
     return words[:at]
 
 
-def lines_of(path):
-    """Yields the name and the words of each line of a file."""
-    data = read_regular(path, MOST_BYTES).decode("utf-8", "surrogateescape")
+def lines_of(path, named):
+    """Yields the name and the words of each line of a file, which is called so; in place of the words of a line that is
+    too long, why it isn't audited."""
+    data = read_regular(path, MOST_BYTES, named).decode("utf-8", "surrogateescape")
     for number, line in enumerate(data.split("\n"), 1):
         line = line.rstrip("\r")
-        words = re.findall(r"[^ \t]+", line)
-        yield f"{path} line {number}", words if len(line) <= MOST_LINE else [f"a line of more than {MOST_LINE} bytes"]
+        is_long = len(line) > MOST_LINE
+        yield f"{named} line {number}", f"it has more than {MOST_LINE} bytes" if is_long else words_of(line)
 
 
-def all_lines(path, root, is_included=False):
-    """Yields the name and the words of each line of a file and of what it includes; for the line of an include that
-    isn't read the words say why."""
-    for line, words in lines_of(path):
+def all_lines(path, named, root, is_included=False):
+    """Yields the same of the lines of a file and of what it includes, or why that isn't read."""
+    for line, words in lines_of(path, named):
         if words[:1] != ["include"]:
             yield line, words
-        elif root is None or is_included or len(without_comment(words)) != 2:
-            why = ("--conf-root doesn't say where that lies" if root is None else
-                   "in an included file" if is_included else "not understood")
-            yield line, [f"include: {why}"]
+        elif root is None:
+            yield line, "--conf-root doesn't say where that lies"
+        elif is_included or len(without_comment(words)) != 2:
+            yield line, "an include in an included file" if is_included else "it is not understood"
         else:
             yield from included_lines(line, words[1], root)
 
@@ -236,18 +239,18 @@ def included_lines(line, pattern, root):
     own = os.path.realpath(root)
     paths = sorted(glob.glob(os.path.join(glob.escape(own), pattern.lstrip("/"))))
     if not paths and not glob.has_magic(pattern):
-        yield line, [f"include: there is no {pattern} in {root}"]
+        yield line, f"there is no {pattern} in {root}"
     for path in paths:
         if os.path.commonpath([own, os.path.realpath(path)]) != own:
             raise Failed(f"{line}: {pattern} leads out of {root}")
-        yield from all_lines(path, root, True)
+        yield from all_lines(path, os.path.join(root, os.path.relpath(path, own)), root, True)
 
 
 def daemon_of(copy, given, root, before):
     """Returns the daemon that has read the file, of a router that had these vifs, and the LAN of each device of it."""
     lans = {it["device"]: it["lan"] for it in copy.first.line["interfaces"]
             if it["router"] == given.router and (it["vif"] is None or it["vif"] in before)}
-    lines = list(all_lines(given.path, root))
+    lines = list(all_lines(given.path, given.path, root))
     has_own = any(words[:1] == ["phyint"] and "enable" in words for _, words in lines)
     daemon = Daemon({it for it in lans if DEVICE.fullmatch(it)},
                     {} if has_own else {vif: os.fsdecode(it.device) for vif, it in before.items()})

@@ -54,20 +54,21 @@ def tried_section(tried):
 
 
 def verdict_heading(audit, tried):
-    """Returns what stands above all, for people, and the sign beside it: of what was not audited whole no verdict."""
+    """Returns the sign, the heading and the sentences above all, and their kind: of what was not audited whole there
+    is no verdict."""
     if tried is not None and tried.unaudited:
-        return "Not audited whole", "?", "no"
-    return f"Verdict{' after what was tried' if tried else ''}: {audit.verdict}", SIGNS[audit.verdict], audit.verdict
+        return "?", "Not audited whole", "A file was not audited whole, so there is no verdict.", "no"
+    tail = " after what was tried" if tried is not None else ""
+    return SIGNS[audit.verdict], f"Verdict{tail}: {audit.verdict}", verdict_words(audit), audit.verdict
 
 
 def header(audit, site, tried):
     """Returns the verdict and what it is about."""
-    heading, sign, kind = verdict_heading(audit, tried)
+    sign, heading, said, kind = verdict_heading(audit, tried)
     summary, domain = audit.summary, audit.domain
     facts = [("Flows", summary["flows"]), *((it.capitalize(), summary[it]) for it in ("right", "wrong", "unknown")),
              ("Wanted by nobody", summary["unwanted"]), ("LANs", len(domain.lans)),
              ("Routers", len(domain.routers)), ("Not listed", len(audit.unlisted))]
-    said = verdict_words(audit) if kind == audit.verdict else "A file was not audited whole, so there is no verdict."
     return tag("header", tag("p", sign, class_="sign", aria_hidden="true"),
                tag("div", tag("h1", heading), tag("p", said), class_="said"),
                tag("dl", *(tag("div", tag("dt", name), tag("dd", value)) for name, value in facts)),

@@ -1,5 +1,5 @@
-"""Tries mcaudit-try: what is judged is one moment of the site and the changes that were given, and nothing else is read,
-written or waited for."""
+"""Tries mcaudit-try: what is judged is one moment of the site and the changes that were given, and nothing else is
+read, written or waited for."""
 import glob
 import json
 import os
@@ -60,7 +60,8 @@ def plain_site_written_while_it_is_copied(place):
 def file_that_comes_while_it_is_copied(place):
     """There is no answer, as where one goes."""
     faulty(place)
-    assert while_copied(place, lambda: place.write("site/igmp-attic", "")) == 3 and "try again" in place.said, place.said
+    assert while_copied(place, lambda: place.write("site/igmp-attic", "")) == 3, place.said
+    assert "try again" in place.said, place.said
     assert while_copied(place, lambda: os.unlink(place.at("site/igmp-attic"))) == 3, place.said
 
 
@@ -127,7 +128,7 @@ def changes_that_are_no_file(place):
     assert place.run("try", "site", "--conf", "r2=pipe") == 3 and "no regular file" in place.said, place.said
     place.write("long", "#" * (1 << 20) + "\n")
     assert place.run("try", "site", "-f", "long") == 3 and "1048576" in place.said, place.said
-    assert place.run("try", "site", "-f", "-", text=b"#" * (1 << 20) + b"\n") == 3 and "1048576" in place.said, place.said
+    assert place.run("try", "site", "-f", "-", text=b"#" * ((1 << 20) + 1)) == 3 and "1048576" in place.said, place.said
     place.write("many", "r2: down\n" * 65537)
     assert place.run("try", "site", "-f", "many") == 5 and "65536" in place.said, place.said
 
@@ -190,7 +191,8 @@ def answers_that_are_forged_or_cut(place):
     domain = {"interfaces": [], "lans": ["studio"], "routers": [{"name": "r2", "order": "little"}], "sources": []}
     whole = [{"domain": domain, "format": 2, "words": []}, {"entries": [], "tree": 0}, flow,
              {"summary": {"flows": 1, "right": 1, "unknown": 0, "unwanted": 0, "wrong": 0}}, {"verdict": "yes"}]
-    for lines, status in ((whole, 1), (whole[:-1], 0), (whole[1:], 0), ([*whole, whole[-1]], 0), (whole, 7), (whole, 2)):
+    for lines, status in ((whole, 1), (whole[:-1], 0), (whole[1:], 0), ([*whole, whole[-1]], 0), (whole, 7),
+                          (whole, 2)):
         place.write("answer", "".join(json.dumps(it) + "\n" for it in lines))
         place.script("mcaudit", f"cat answer; exit {status}")
         found = place.run("try", "site", "r2: threshold eth1 3")
@@ -220,7 +222,8 @@ def devices_of_any_bytes(place):
 def many_vifs(place):
     """The last of 32 is one as the first; a 33rd that a file asks for isn't made."""
     faulty(place)
-    lines = "".join(f"{number:2} x{number:<9} {0:8} {0:7}  {0:8} {0:7} 00008 00000000 00000000\n" for number in range(2, 31))
+    lines = "".join(f"{number:2} x{number:<9} {0:8} {0:7}  {0:8} {0:7} 00008 00000000 00000000\n"
+                    for number in range(2, 31))
     vifs = texts(FAULTY)["vif-r2"].decode()
     place.write("site/vif-r2", vifs.replace(" 1 eth1", "31 eth1") + lines)
     place.write("site/cache-r2", texts(FAULTY)["cache-r2"].replace(b" 1:1", b"31:1"))
@@ -230,9 +233,8 @@ def many_vifs(place):
     assert texts(place.at("again")) == texts(place.at("site"))
     place.write("r2.conf", "".join(f"phyint x{number} enable\n" for number in range(2, 31)) +
                 "phyint eth0 enable\nphyint eth1 enable\nphyint eth9 enable\n")
-    topology = place.read("site/topology").replace("interface = [", 'interface = [\n{router = "r2", device = "eth9", lan = '
-                                                   '"core"}, {router = "r2", device = "eth8", lan = "core"},')
-    place.write("site/topology", topology)
+    more = "".join(f'{{router = "r2", device = "{it}", lan = "core"}}, ' for it in ("eth8", "eth9"))
+    place.write("site/topology", place.read("site/topology").replace("interface = [", f"interface = [\n{more}"))
     assert place.run("try", "site", "--conf", "r2=r2.conf", "--keep", "conf") == 0, place.said
     assert place.read("conf/vif-r2").count("\n") == 33
     place.write("r2.conf", place.read("r2.conf") + "phyint eth8 enable\n")

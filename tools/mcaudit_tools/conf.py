@@ -189,19 +189,18 @@ class Daemon:
         self.joins.append((device, sources, groups))
 
     def entries_of(self, flows):
-        """Returns all entries that there are, or come on demand of the flows: by source and group. Of which lines they
-        come on demand is yielded first; the exact ones stand before them."""
+        """Returns all entries that there are, or come on demand of the flows, by source and group; and of which lines
+        they come on demand."""
         found, on_demand = dict(self.entries), {}
         for source, group, _ in flows:
             ends = ipaddress.IPv4Address(source), ipaddress.IPv4Address(group)
             ranges = [it for it in self.ranges if ends[0] in it.sources and ends[1] in it.groups]
-            if (source, group) in found or not ranges:
-                continue
             for it in ranges:
-                if it.vif != ranges[0].vif:
-                    self.skip(it.line, f"{source} {group} fits an earlier line too, which comes in elsewhere")
-            found[source, group] = Entry(ranges[0].vif, ranges[0].outgoing)
-            on_demand[ranges[0].line] = None
+                if (source, group) in self.entries or it.vif != ranges[0].vif:
+                    self.skip(it.line, f"{source} {group} fits another line too, and packets decide which is taken")
+            if ranges and (source, group) not in found:
+                found[source, group] = Entry(ranges[0].vif, ranges[0].outgoing)
+                on_demand[ranges[0].line] = None
         return found, list(on_demand)
 
 
@@ -212,13 +211,16 @@ def without_comment(words):
 
 
 def lines_of(path, named):
-    """Yields the name and the words of each line of a file, which is called so; in place of the words of a line that is
-    too long, why it isn't audited."""
-    data = read_regular(path, MOST_BYTES, named).decode("utf-8", "surrogateescape")
-    for number, line in enumerate(data.split("\n"), 1):
+    """Yields the name and the words of each line of a file, which is called so; in place of the words, why the line
+    isn't audited: one that is too long, or that no line feed ends, may be read otherwise than it is written."""
+    *lines, last = read_regular(path, MOST_BYTES, named).decode("utf-8", "surrogateescape").split("\n")
+    for number, line in enumerate(lines, 1):
         line = line.rstrip("\r")
         is_long = len(line) > MOST_LINE
         yield f"{named} line {number}", f"it has more than {MOST_LINE} bytes" if is_long else words_of(line)
+    if last:
+        why = "no line feed ends it, so that smcrouted 2.5 takes what an earlier line had for its end"
+        yield f"{named} line {len(lines) + 1}", why
 
 
 def all_lines(path, named, root, is_included=False):

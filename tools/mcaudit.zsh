@@ -101,7 +101,7 @@ mcaudit-reports)
         '*--querier[a query of this address counts too]:address: ' \
         '--interface[the interface of a capture file that has several]:number: ' ;;
 mcaudit-try)
-    _arguments $about $site '*:change: ' \
+    _arguments $about '1:folder:_files -/' '*:change: ' \
         '*-f[take the changes of a file too]:file:_files' \
         '*--conf[take what smcrouted makes of a file for a router]:router=file: ' \
         '--conf-root[where the files lie that those of --conf include]:folder:_files -/' \

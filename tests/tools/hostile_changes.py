@@ -164,6 +164,21 @@ def kept_folder_that_leads_into_the_site(place):
 
 
 @case
+def kept_folder_has_the_times(place):
+    """Where its files come from is told of those that no change has written; a written one counts as the operator's."""
+    faulty(place)
+    names = [it for it in os.listdir(FAULTY) if it != "topology"]
+    files = {it: {"by": "collect", "of": "r1", "time": 1700000000} for it in names}
+    place.write("site/collected.json", json.dumps({"files": files, "version": 2}) + "\n")
+    for name in names:
+        os.utime(place.at("site", name), (1700000000, 1700000000))
+    assert place.run("try", "site", MEND, "--keep", "kept") == 0, place.said
+    assert place.read("kept/collected.json") == place.read("site/collected.json")
+    written = {it for it in names if os.stat(place.at("kept", it)).st_mtime != 1700000000}
+    assert written == {"cache-r2"}, written
+
+
+@case
 def ended_while_it_audits(place):
     """Nothing is left of the copy, and nothing is kept."""
     faulty(place)

@@ -268,7 +268,7 @@ def asks(record, source):
 def without(record, source):
     """Returns the record of a host that doesn't want its group any more, or this source of it; None where it wants
     nothing then."""
-    if record.kind not in igmp.CURRENT or not asks(record, source):
+    if not asks(record, source):
         return record
     if source is None:
         return None

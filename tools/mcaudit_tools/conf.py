@@ -215,7 +215,7 @@ def lines_of(path, named):
     isn't audited: one that is too long, or that no line feed ends, may be read otherwise than it is written."""
     *lines, last = read_regular(path, MOST_BYTES, named).decode("utf-8", "surrogateescape").split("\n")
     for number, line in enumerate(lines, 1):
-        line = line.rstrip("\r")
+        line = line.removesuffix("\r")
         is_long = len(line) > MOST_LINE
         yield f"{named} line {number}", f"it has more than {MOST_LINE} bytes" if is_long else words_of(line)
     if last:

@@ -33,7 +33,7 @@ GROUPS = ["239.1.2.3", "239.1.2.4", "239.1.9.9", "239.7.7.7"]
 THRESHOLDS = ["", "", " ttl-threshold 1", " ttl-threshold 3", " ttl-threshold 64", " ttl-threshold 255"]
 ODD = ["mroute from eth0 group 239.1.2.3 to eth1", "include /etc/more.conf", "mroutes from eth0",
        "phyint eth1 ttl-threshold 3", "mroute from eth9 source 10.77.0.5 group 239.1.2.3 to eth1"]
-LEAST = 0.3  # of the files the part that is taken whole
+LEAST = 0.4  # of the files the part that is taken whole
 
 
 def inside(*words, **how):
@@ -57,18 +57,19 @@ def made(pick):
     order = [DEVICES[0], *pick.sample(DEVICES[1:], pick.randint(2, 4))]
     pick.shuffle(order)
     lines = [f"phyint {it} enable{pick.choice(THRESHOLDS)}" for it in order]
-    lines += [f"phyint {pick.choice(DEVICES[1:])} disable"] * (pick.random() < 0.2)
+    lines += [f"phyint {pick.choice(DEVICES[1:])} disable"] * (pick.random() < 0.1)
     for _ in range(pick.randint(1, 7)):
-        source = pick.choice(SOURCES) + pick.choice([*[""] * 8, "/32", "/32", "/24"])
-        group = pick.choice(GROUPS) + pick.choice([*[""] * 8, "/32", "/32", "/24", "/16"])
+        source = pick.choice(SOURCES) + pick.choice([*[""] * 14, "/32", "/32", "/24"])
+        group = pick.choice(GROUPS) + pick.choice([*[""] * 14, "/32", "/32", "/24", "/16"])
         ends = pick.sample([f"source {source}", f"group {group}"], 2)
         outgoing = pick.sample(order, pick.randint(0, 3))
         behind = f" to {pick.choice(['', '  '])}{' '.join(outgoing)}" if outgoing else pick.choice(["", " # to eth1"])
-        lines.append(pick.choice(["", " ", "\t"]) + f"mroute from {pick.choice([DEVICES[0], order[0]])} {' '.join(ends)}{behind}")
+        start = pick.choice([DEVICES[0], order[0]])
+        lines.append(pick.choice(["", " ", "\t"]) + f"mroute from {start} {' '.join(ends)}{behind}")
     lines.insert(pick.randint(len(order), len(lines)), f"phyint {order[-1]} enable{pick.choice(THRESHOLDS)}")
     lines.insert(0, "# made at random")
-    lines += [pick.choice(ODD)] * (pick.random() < 0.2)
-    return pick.choice(["\n", "\n", "\r\n"]).join(lines) + pick.choice(["\n", "\n", "\n", ""])
+    lines += [pick.choice(ODD)] * (pick.random() < 0.1)
+    return pick.choice(["\n", "\n", "\r\n"]).join(lines) + pick.choice([*["\n"] * 9, ""])
 
 
 def packet(source, group):

@@ -8,8 +8,8 @@ The domains are those of random_domains.py with the numbers from FIRST (0) on, C
 are written in the forms of forms.py. Some changes are made of each, one behind the other. What each makes of tables,
 reports and flows is worked out here from what it says, on what answers.py has read; a change that has no meaning there
 has to be refused, and each other one has to be made. Files and lines that no change concerns have to keep their bytes.
-Then interfaces are added and removed again, and entries, and threshold set and set back: the folder has the same bytes
-as before. Each kind of change has to be made, and each but `down` and `join` refused. The last line counts the domains: `N passed,
+Interfaces and entries are added and removed again, and LANs join and leave: the folder has the same bytes as before.
+Each kind of change has to be made, and each but `down` and `join` refused. The last line counts the domains: `N passed,
 M failed`. The status is 0 if none failed and one was tried.
 """
 import collections
@@ -70,7 +70,7 @@ class Meaning:
         self.flows = [tuple(it[:3]) for it in found.flows]
         self.sources = [address for address, _ in found.sources]
 
-    def said(self):
+    def values(self):
         """What is compared."""
         return (self.vifs, self.rows, {name: sorted(map(str, it)) for name, it in self.others.items()},
                 {name: +it for name, it in self.unresolved.items()}, self.wanted, self.flows)
@@ -244,8 +244,8 @@ def make(copy, meaning, text, kinds):
         found = Meaning(copy.folder)
     except (KeyError, ValueError) as fault:
         return f"{text}: the files can't be read any more: {fault}"
-    if found.said() != expected.said():
-        return f"{text}:\nexpected {expected.said()}\nfound    {found.said()}"
+    if found.values() != expected.values():
+        return f"{text}:\nexpected {expected.values()}\nfound    {found.values()}"
     most = {"down": None, "threshold": None, "add": None, "leave": None, "new": 2}.get(change.verb, 1)
     if most is not None and not lines_kept(before, files_of(copy.folder), most):
         return f"{text}: other lines were written too"

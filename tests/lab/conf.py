@@ -4,7 +4,7 @@
   python3 tests/lab/conf.py PROGRAM [COUNT [FIRST]]
 
 In a network namespace of its own a smcrouted reads COUNT (40) files that are made at random from FIRST (0) on, each
-with `-N`: with vifs in any order and thresholds, entries that stand on several lines and are turned around, ranges,
+with `-N`: with vifs in any order and thresholds, entries of several lines and of several incoming devices, ranges,
 line ends of both kinds and comments. A packet of each listed flow comes, so that what is made on demand is there. Then
 each vif and each entry of /proc/net has to be the one that the tool gives the router, where it takes the whole file;
 and of files that it doesn't take whole at least one has to come, and of the others most. The last line counts the
@@ -92,9 +92,9 @@ for line in sys.stdin:
 def by_kernel(path, folder):
     """What /proc/net has once smcrouted has read the file, and a packet of each flow has come in by eth0."""
     ready = os.path.join(folder, "pid")
-    with open(os.path.join(folder, "said"), "wb") as said, subprocess.Popen(
+    with open(os.path.join(folder, "log"), "wb") as log, subprocess.Popen(
             ["ip", "netns", "exec", SPACE, "smcrouted", "-n", "-N", "-f", path, "-P", ready, "-u",
-             os.path.join(folder, "socket"), "-l", "debug"], stdout=said, stderr=said) as daemon:
+             os.path.join(folder, "socket"), "-l", "debug"], stdout=log, stderr=log) as daemon:
         until = time.monotonic() + 20
         while not os.path.exists(ready) and daemon.poll() is None and time.monotonic() < until:
             time.sleep(0.05)

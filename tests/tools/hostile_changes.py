@@ -165,7 +165,7 @@ def kept_folder_that_leads_into_the_site(place):
 
 @case
 def kept_folder_has_the_times(place):
-    """Where its files come from is told of those that no change has written; a written one counts as the operator's."""
+    """Files that no change has written keep their times and where they come from; a written one has a new time."""
     faulty(place)
     names = [it for it in os.listdir(FAULTY) if it != "topology"]
     files = {it: {"by": "collect", "of": "r1", "time": 1700000000} for it in names}

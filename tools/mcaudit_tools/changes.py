@@ -1,5 +1,5 @@
-"""Changes of a domain as an operator writes them: one change is a sentence, WHO: WHAT, which stands in one argument or
-on one line of a file. Here a sentence is taken apart; whether a domain has what it names, tried.py sees.
+"""Changes of a domain as an operator writes them: one change is a sentence, WHO: WHAT, as one argument or on one
+line of a file. Here a sentence is taken apart; whether a domain has what it names, tried.py sees.
 """
 import dataclasses
 import re
@@ -49,7 +49,7 @@ class Change:
     text: str  # as it was written, for people
     verb: str  # add, remove, delete, threshold, down, join, leave, ttl or new
     who: "str | None" = None  # the router or the LAN; of ttl and new None
-    kind: "str | None" = None  # router or lan, where that is said or follows from what is done
+    kind: "str | None" = None  # router or lan, where that is given or follows from what is done
     device: "str | None" = None  # by which the entry comes in; of threshold the outgoing one; of down the one that is
     source: "str | None" = None
     group: "str | None" = None

@@ -2,7 +2,7 @@
 
 As `smcrouted -N` 2.5 has it, line by line: a vif for each `phyint DEVICE enable`, in their order, or where the file has
 none the vifs that the router has. A line that is not understood here, or whose entries come on demand from sources
-that no line names, is told as not audited: the verdict is then none of the file.
+that no line names, is named as not audited; there is no verdict of the file then.
 """
 import dataclasses
 import glob

@@ -1,4 +1,4 @@
-"""The flows of a topology, where they stand in its text: a time to live is written anew there, and a flow is added.
+"""The flows of a topology, at their places in its text: a time to live is written anew there, and a flow is added.
 
 The text is never read as TOML here: that is the program's. It is looked for the tables of `flow`, one behind the other,
 and whether a changed text has the flows that were meant is seen in an audit of it. Where that isn't so, or they aren't
@@ -34,7 +34,7 @@ class FlowText:
     def plain(self):
         """Returns a text of the same length that has no comments, and in strings no marks of TOML."""
         def blank(found):
-            """Returns what stands for a string or a comment."""
+            """Returns what replaces a string or a comment."""
             text = found[0]
             return " " * len(text) if text[0] == "#" else text[0] + re.sub(r"\W", "_", text[1:-1]) + text[-1]
         return PART.sub(blank, self.characters)
@@ -70,7 +70,7 @@ class FlowText:
         end = plain.find("]", first.end()) if first else -1
         if end < 0:
             raise Refused(ODD)
-        last = len(plain[:end].rstrip())  # behind it stand comments and blanks alone
+        last = len(plain[:end].rstrip())  # behind it are comments and blanks alone
         comma = "" if plain[last - 1] in ",[" else ","
         lead = "" if self.characters[:end].endswith(("\n", "[")) else feed
         table = f"{lead}{{{', '.join(pairs)}}},{feed}"

@@ -12,11 +12,11 @@ from mcaudit_tools import igmp
 from mcaudit_tools.common import Refused, from_hex
 from mcaudit_tools.premises.rows import REGISTER, TUNNEL, USES_INDEX, word_of
 
-NO_DEVICE = b"none"  # stands where a vif has lost its device
+NO_DEVICE = b"none"  # in the place of a device that a vif has lost
 UNRESOLVED = b"-1"  # in the place of the incoming vif
 EVERY = b"00000000"  # in the place of a source, or of source and group: an entry for each of them
 CLOSED = 255  # the threshold by which nothing is forwarded, which the kernel doesn't print
-DEFAULT_THRESHOLD = 1  # that daemons give a vif of which nothing else is said
+DEFAULT_THRESHOLD = 1  # that daemons give a vif unless they are configured otherwise
 
 
 class Entry(typing.NamedTuple):
@@ -213,7 +213,7 @@ class CacheTable:
         self.shared.clear()
 
     def text(self):
-        """Returns the text. New lines stand behind the resolved ones: a kernel prints the unresolved ones last."""
+        """Returns the text. New lines come behind the resolved ones: a kernel prints the unresolved ones last."""
         lines = [it for it in self.lines if it is not None]
         end = len(lines)
         while end > 1 and key_of(lines[end - 1])[1] == UNRESOLVED:

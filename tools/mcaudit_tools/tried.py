@@ -159,7 +159,7 @@ class Copy:
         self.check()
 
     def take_line(self, line):
-        """Takes what is said of the domain and the verdict."""
+        """Takes what an object has of the domain and the verdict."""
         try:
             if "domain" in line:
                 self.domain = Domain(line["domain"])

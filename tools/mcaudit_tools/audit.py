@@ -28,8 +28,9 @@ def refuse(text):
 class Lines:
     """What the lines of an audit have had so far."""
 
-    def __init__(self):
-        """Begins before the first one."""
+    def __init__(self, is_whole=True):
+        """Begins before the first one. They tell all flows, or else only those that --faults doesn't leave out."""
+        self.is_whole = is_whole
         self.format, self.summary, self.verdict = None, None, None
         self.flows = collections.Counter()  # by whether they are right, or None, where that isn't known
         self.missed = 0  # flows of format 1 that are counted as wrong, of which it isn't known
@@ -60,7 +61,8 @@ class Lines:
         """Sees that the summary counts the flows that were told."""
         if not all(type(self.summary[it]) is int for it in COUNTS):  # pylint: disable=unidiomatic-typecheck
             raise TypeError
-        if self.summary["flows"] != sum(self.flows.values()):
+        left_out = self.summary["flows"] - sum(self.flows.values())
+        if left_out < 0 or self.is_whole and left_out:
             raise NoAudit("it doesn't tell all flows: it was made with --faults, or lines are missing")
         if [self.summary["wrong"], self.summary["unknown"]] != [self.flows[False], self.flows[None]]:
             raise NoAudit("it counts other flows as wrong than it tells")
@@ -81,9 +83,9 @@ class Lines:
         return value
 
 
-def lines_of(file):
-    """Yields the objects of an open file's lines, which are those of a whole audit."""
-    lines, taken = Lines(), 0
+def lines_of(file, is_whole=True):
+    """Yields the objects of an open file's lines, which are those of a whole audit, or of one with --faults."""
+    lines, taken = Lines(is_whole), 0
     for count, line in enumerate(iter(lambda: file.readline(MOST_LINE + 1), b""), 1):
         taken += len(line)
         try:

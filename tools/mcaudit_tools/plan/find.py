@@ -1,0 +1,88 @@
+"""The entries of a plan: grown in several orders, and then looked for with fewer changes."""
+import random
+import typing
+
+from mcaudit_tools.plan.differences import changes
+from mcaudit_tools.plan.flight import Flight, Reach, is_right
+from mcaudit_tools.plan.grow import Growing, pruned
+from mcaudit_tools.plan.paths import Search
+from mcaudit_tools.plan.search import search
+from mcaudit_tools.plan.task import NoPlan
+
+UNGROWN = 5  # changes below which is looked, where nothing could be grown
+TRIES, FEW_TRIES = 12, 3  # orders in which entries are grown, of few flows and of many
+MANY = 64  # flows
+SETS = 20000  # of changes that are tried for all flows together, where these are many
+LEAST_SETS = 20  # for each of them
+
+
+class Found(typing.NamedTuple):
+    """Entries by which a flow is right."""
+
+    entries: dict
+    count: int  # of changes
+    least: int  # changes that every plan has
+
+
+class Effort(typing.NamedTuple):
+    """How long is looked for."""
+
+    tries: int
+    sets: int
+
+    @classmethod
+    def of(cls, flows, sets):
+        """Returns it for so many flows, where so many sets of changes may be tried for one."""
+        return cls(FEW_TRIES if flows > MANY else TRIES, min(sets, max(LEAST_SETS, SETS // max(flows, 1))))
+
+
+def least_changes(task):
+    """Returns a number of changes that every plan has. There is none where some LAN has no path, whatever is changed."""
+    if task.lan in task.banned:
+        router = next(it for it, _ in task.domain.on[task.lan] if it in task.open - task.use)
+        raise NoPlan("open", task.lan, router)
+    alone = Flight({task.lan: Reach(0, 1, None, None, None)}, [], [], [])
+    left, least = set(task.wanted) - {task.lan}, 1
+    if left:
+        for cost, lan, _ in Search(task, task.entries, alone, set(), task.ttl).ways():
+            if lan in left:
+                left.discard(lan)
+                least = max(least, cost)
+                if not left:
+                    break
+    if left:
+        raise NoPlan("no path", next(it for it in task.wanted if it in left))
+    return least
+
+
+def grown(task, tries, least):
+    """Returns the entries with the fewest changes of several that are grown, or None and why there are none."""
+    best, count, fault = None, 0, None
+    for number in range(tries):
+        pick = random.Random(number) if number > 1 else None
+        try:
+            entries = pruned(task, Growing(task, pick, is_far=number == 1).grow())
+        except NoPlan as why:
+            fault = fault or why
+            continue
+        made = len(changes(task.entries, entries))
+        if is_right(task, entries) and (best is None or made < count):
+            best, count = entries, made
+        if best is not None and count <= least:
+            break
+    return best, count, fault
+
+
+def find(task, effort):
+    """Returns entries by which the flow is right, with few changes; or tells by NoPlan why there are none."""
+    least = least_changes(task)
+    best, count, fault = grown(task, effort.tries, least)
+    if best is not None and count <= least:
+        return Found(best, count, count)
+    fewer, shown = search(task, count if best is not None else UNGROWN, effort.sets)
+    if fewer is not None:
+        return Found(fewer, shown, shown)
+    if best is None:
+        raise fault or NoPlan("not found", task.lan)
+    return Found(best, count, max(least, shown))
+

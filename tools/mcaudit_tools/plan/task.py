@@ -1,0 +1,48 @@
+"""What is to be planned: one flow, the entries that routers have of it, and what may be changed."""
+import dataclasses
+
+from mcaudit_tools.plan.flight import GREATEST
+
+
+@dataclasses.dataclass
+class Task:
+    """A flow to plan. An entry is its incoming vif, and its outgoing ones with their thresholds; a router without one
+    has none."""
+
+    domain: object
+    ttl: int
+    lan: str  # of the source
+    wanted: tuple
+    entries: dict  # by router
+    every_source: set  # routers with an entry for every source
+    unresolved: set  # routers with an unresolved row alone
+    use: frozenset  # routers that may be given an entry in front of one for every source, or of an unresolved row
+    threshold_of: object  # of a router and a vif: that of an entry made now, and whether rows tell it
+
+    def __post_init__(self):
+        """Works out which routers and LANs no plan may use."""
+        self.open = {it for it in self.every_source if it not in self.entries}
+        self.shut = {it for it in self.open | self.unresolved if it not in self.entries and it not in self.use}
+        self.banned = {lan for it in self.open - self.use for lan in self.domain.placed[it].values()}
+
+    def threshold(self, router, vif):
+        """Returns the threshold that an entry made now gets at a vif."""
+        return self.threshold_of(router, vif)[0]
+
+    def passes(self, rank, threshold, ttl=GREATEST):
+        """Whether a packet sent with this time to live passes a threshold behind so many routers."""
+        return ttl - rank > threshold
+
+
+class NoPlan(Exception):
+    """Why there is no plan: what kind of reason, at which LAN, and of which router."""
+
+    def __init__(self, kind, lan, router=None):
+        """Takes the reason."""
+        super().__init__(kind)
+        self.kind, self.lan, self.router = kind, lan, router
+
+
+def without(entry, vif):
+    """Returns an entry without one of its outgoing vifs."""
+    return entry[0], {number: threshold for number, threshold in entry[1].items() if number != vif}

@@ -1,0 +1,79 @@
+"""The words of a plan: what smcroutectl is told, lines of smcroute.conf, and what is left to a person."""
+import re
+
+from mcaudit_tools.plan.steps import ADD
+
+WORD = re.compile(r"[A-Za-z0-9_.@:/][A-Za-z0-9_.@:/-]*")  # what a printed command may hold
+PIM = "PIM"
+NO_NAME = "a device has no name that smcroute takes"
+
+
+def is_named(domain, router, vif):
+    """Whether the device of a vif may stand in a command. A + at the end would be a pattern there."""
+    device = domain.devices.get((router, vif))
+    return device not in (None, "none") and WORD.fullmatch(device) is not None
+
+
+class Words:
+    """The words of one flow's plan."""
+
+    def __init__(self, domain, flow, pim):
+        """Takes the flow, and the routers whose entries are a PIM daemon's."""
+        self.domain, self.flow, self.pim = domain, flow, pim
+
+    def names(self, router, vifs):
+        """Returns vifs by their devices."""
+        return [self.domain.interface(router, it) for it in vifs]
+
+    def by_hand(self, step):
+        """Returns why a person has to do a step, or None."""
+        if step.router in self.pim:
+            return PIM
+        return None if all(is_named(self.domain, step.router, it) for it in (step.vif, *step.outgoing)) else NO_NAME
+
+    def command(self, step):
+        """Returns the command of a step."""
+        devices = self.names(step.router, (step.vif, *step.outgoing))
+        return " ".join(["smcroutectl", step.verb, devices[0], self.flow.source, self.flow.group, *devices[1:]])
+
+    def sentence(self, step):
+        """Returns what is to be done by hand."""
+        start, *devices = self.names(step.router, (step.vif, *step.outgoing))
+        entry = f"entry ({self.flow.source},{self.flow.group}) from {start}"
+        if step.is_whole:
+            return f"remove the {entry}"
+        if step.verb == ADD and step.is_new:
+            return f"make an {entry} to {' '.join(devices) or 'none'}"
+        return f"{'add' if step.verb == ADD else 'remove'} {' '.join(devices)} {'to' if step.verb == ADD else 'from'} the {entry}"
+
+    def line(self, router, entry):
+        """Returns the line of smcroute.conf for an entry. Where a device has no name, what it says of it isn't known."""
+        devices = [self.domain.interface(router, it) if is_named(self.domain, router, it) else "..." for it in sorted(entry[1])]
+        start = self.domain.interface(router, entry[0])
+        return f"mroute from {start} source {self.flow.source} group {self.flow.group} to {' '.join(devices)}"
+
+    def conf(self, old, new):
+        """Returns what changes in smcroute.conf, by router: lines that go, behind a -, and that come, behind a +."""
+        found = {}
+        for router in sorted({*old, *new}):
+            was, now = old.get(router), new.get(router)
+            vifs = {*(was[1] if was else ()), *now[1], now[0]}
+            if was == now or router in self.pim or not all(is_named(self.domain, router, it) for it in {*now[1], now[0]}):
+                continue
+            gone = [f"- {self.line(router, was)}"] if was and was[1] and is_named(self.domain, router, was[0]) else []
+            come = [f"+ {self.line(router, now)}"] if now[1] else []
+            if vifs and gone[:1] != [f"-{it[1:]}" for it in come]:
+                found[router] = gone + come
+        return found
+
+
+def assumed(domain, task, new):
+    """Yields the thresholds of outgoing vifs that come, where other entries don't tell that they are 1."""
+    for router, entry in sorted(new.items()):
+        for vif in sorted(entry[1].keys() - task.entries.get(router, (0, {}))[1].keys()):
+            threshold, is_told = task.threshold_of(router, vif)
+            if is_told and threshold == 1:
+                continue
+            why = ("as its other entries have it" if is_told else "since no other entry tells it" if threshold == 1
+                   else "as most of its other entries have it")
+            yield f"{router} {domain.interface(router, vif)}: threshold {threshold}, {why}"

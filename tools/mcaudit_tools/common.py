@@ -62,6 +62,11 @@ def clean_lines(data):
     return [clean(it) for it in data.decode("ascii", "replace").replace("\r", "").split("\n") if it]
 
 
+def from_hex(digits):
+    """Returns the bytes of hexadecimal digits; that there are none of them is a ValueError."""
+    return bytes.fromhex(digits.decode())
+
+
 def cut(text, most):
     """Returns the text, or so many characters of it."""
     return text if len(text) <= most else text[:most] + CUT

@@ -1,6 +1,7 @@
 """IGMP messages (RFC 1112, 2236, 3376) and the IPv4 packets that carry them."""
 import dataclasses
 import ipaddress
+import re
 import struct
 import typing
 
@@ -10,15 +11,35 @@ REPORTS = REPORT_1, REPORT_2, REPORT_3
 IGMP = 2  # the protocol in IPv4
 ALL_HOSTS = bytes([224, 0, 0, 1])
 FIRST_FORWARDED = bytes([224, 0, 1, 0])  # groups below are never forwarded (RFC 5771, section 4)
+AFTER_GROUPS = bytes([240, 0, 0, 0])
 SSM = 232  # the first number of the source-specific groups (RFC 4607)
-EXCLUDE = 2  # the record type MODE_IS_EXCLUDE
-CURRENT, CHANGES = (1, 2), (3, 4, 5, 6)  # record types (RFC 3376, section 4.2.12)
+INCLUDE, EXCLUDE = 1, 2  # the record types MODE_IS_INCLUDE and MODE_IS_EXCLUDE
+CURRENT, CHANGES = (INCLUDE, EXCLUDE), (3, 4, 5, 6)  # record types (RFC 3376, section 4.2.12)
 LEAST_MESSAGE = 8
+ADDRESS = re.compile(r"(?:0|[1-9][0-9]{0,2})(?:\.(?:0|[1-9][0-9]{0,2})){3}")
 
 
 def dotted(address):
     """Returns an address of four bytes as text."""
     return str(ipaddress.IPv4Address(address))
+
+
+def address_of(text):
+    """Returns the four bytes of a dotted address without leading zeros; None where the text is none."""
+    numbers = [int(it) for it in text.split(".")] if ADDRESS.fullmatch(text) else [256]
+    return bytes(numbers) if max(numbers) < 256 else None
+
+
+def group_of(text):
+    """Returns the bytes of a group that routers forward; None where the text is none."""
+    group = address_of(text)
+    return group if group and FIRST_FORWARDED <= group < AFTER_GROUPS else None
+
+
+def source_of(text):
+    """Returns the bytes of an address that a source may have; None where the text is none."""
+    source = address_of(text)
+    return source if source and 0 < source[0] < 224 and source[0] != 127 else None
 
 
 def sum_of(data):
@@ -110,6 +131,11 @@ class Record(typing.NamedTuple):
 
     kind: int
     group: bytes
+    sources: bytes = b""  # one behind the other
+
+    def source_list(self):
+        """Returns the sources, four bytes each."""
+        return [self.sources[at:at + 4] for at in range(0, len(self.sources), 4)]
 
 
 def records_of(report):
@@ -118,21 +144,27 @@ def records_of(report):
     for number in range(1, int.from_bytes(report[6:8], "big") + 1):
         if at + 8 > len(report):
             return found, number
-        end = at + 8 + 4 * int.from_bytes(report[at + 2:at + 4], "big") + 4 * report[at + 1]
+        sources_end = at + 8 + 4 * int.from_bytes(report[at + 2:at + 4], "big")
+        end = sources_end + 4 * report[at + 1]
         if end > len(report):
             return found, number
-        found.append(Record(report[at], report[at + 4:at + 8]))
+        found.append(Record(report[at], report[at + 4:at + 8], report[at + 8:sources_end]))
         at = end
     return found, None
 
 
+def all_records(message):
+    """Returns the records of a message of any version, of which a report of version 1 or 2 has one (RFC 3376, section
+    7.3.2); none, where it is no report."""
+    if message[0] in (REPORT_1, REPORT_2):
+        return [Record(EXCLUDE, message[4:8])]
+    return records_of(message)[0] if message[0] == REPORT_3 else []
+
+
 def groups_of(report):
     """Yields each group of a report, and whether all its sources are asked for."""
-    if report[0] == REPORT_3:
-        for record in records_of(report)[0]:
-            yield record.group, record.kind == EXCLUDE
-    else:
-        yield report[4:8], True
+    for record in all_records(report):
+        yield record.group, record.kind == EXCLUDE
 
 
 def is_of_current_state(report):
@@ -142,6 +174,12 @@ def is_of_current_state(report):
 
 def report_of(group, source=None):
     """Returns the report of a host of version 3 that wants a group, of all sources or of one."""
-    record = bytes([EXCLUDE, 0, 0, 0]) + group if source is None else bytes([1, 0, 0, 1]) + group + source
-    head = bytes([REPORT_3, 0]), bytes([0, 0, 0, 1])
-    return head[0] + sum_of(head[0] + bytes(2) + head[1] + record).to_bytes(2, "big") + head[1] + record
+    return message_of([Record(EXCLUDE, group) if source is None else Record(INCLUDE, group, source)])
+
+
+def message_of(records):
+    """Returns the report of version 3 that has these records."""
+    body = b"".join(bytes([it.kind, 0]) + (len(it.sources) // 4).to_bytes(2, "big") + it.group + it.sources
+                    for it in records)
+    head = bytes([REPORT_3, 0]), bytes(2) + len(records).to_bytes(2, "big")
+    return head[0] + sum_of(head[0] + bytes(2) + head[1] + body).to_bytes(2, "big") + head[1] + body

@@ -2,7 +2,7 @@
 import re
 
 from mcaudit_tools.capture import ALL_HOSTS_MAC, MOST_BYTES, SECOND, Frame
-from mcaudit_tools.common import Failed
+from mcaudit_tools.common import Failed, from_hex
 
 MOST_LINE = 65536
 MOST_PACKET = 65535  # bytes of an IPv4 packet
@@ -96,7 +96,7 @@ def bytes_of(text):
     """Returns the bytes of a line's digits: eight words of four at most, before what -X prints."""
     digits = text[:39].replace(b" ", b"").strip()
     try:
-        return bytes.fromhex(digits[:len(digits) // 2 * 2].decode())
+        return from_hex(digits[:len(digits) // 2 * 2])
     except ValueError as fault:
         raise Failed("the text has a line of digits that are none") from fault
 

@@ -8,7 +8,6 @@ before all of it was written, and an empty one only where it was asked for.
 """
 import ipaddress
 import os
-import re
 import sys
 import time
 
@@ -175,18 +174,9 @@ def take_statics(parser, found):
 
 def static_report(word):
     """Returns the report of a host of version 3 that wants GROUP[,SOURCE]; None where the word is none."""
-    parts = word.split(",")
-    if len(parts) > 2 or not all(re.fullmatch(r"[0-9]{1,3}(\.[0-9]{1,3}){3}", it) for it in parts):
-        return None
-    try:
-        group, *sources = (ipaddress.IPv4Address(it).packed for it in parts)
-    except ValueError:
-        return None
-    if not igmp.FIRST_FORWARDED <= group < bytes([240, 0, 0, 0]):
-        return None
-    if sources and (not 0 < sources[0][0] < 224 or sources[0][0] == 127):
-        return None
-    return igmp.report_of(group, *sources)
+    group, is_one, source = word.partition(",")
+    found = [igmp.group_of(group), *([igmp.source_of(source)] if is_one else [])]
+    return None if None in found else igmp.report_of(*found)
 
 
 # A list

@@ -1,8 +1,9 @@
-"""mcaudit-plan: the changes of entries by which flows that aren't right become right, each confirmed by the proved program.
+"""mcaudit-plan: the changes of entries by which flows that aren't right become right, each plan confirmed by mcaudit.
 
-A plan is found here and needs no trust: its steps are carried out on a copy of the set, the program audits the copy after
-each of them, and a plan is printed only where it finds the flow right in the end, and no step makes a loop, a duplicate or
-a stray. That a plan has the fewest changes, and that there is none, are the planner's words and not the program's.
+A plan is found here and needs no trust: its steps are carried out on a copy of the set, the program audits the copy
+after each of them, and a plan is printed only where it finds the flow right in the end, and no step makes a loop, a
+duplicate or a stray. That a plan has the fewest changes, and that there is none, are the planner's words and not the
+program's.
 """
 import contextlib
 import os
@@ -21,17 +22,17 @@ from mcaudit_tools.plan.make import Maker
 from mcaudit_tools.plan.text import Printer, show
 from mcaudit_tools.tried import Copy
 
-ABOUT = """Finds for each flow of SITE that isn't right the fewest changes of (S,G) entries that make it right: commands of
-smcroutectl, router by router, in an order in which no step makes a loop, a duplicate or a stray, and as few LANs as
-possible lose the stream; lines of smcroute.conf; what was assumed. Each step and the end are audited by mcaudit on a copy:
-a flow that it doesn't find right has no plan. Where there is none, the reason is told. SITE is never changed, nor is a
-router.
+ABOUT = """Finds for each flow of SITE that isn't right the fewest changes of (S,G) entries that make it right: commands
+of smcroutectl, router by router, in an order in which no step makes a loop, a duplicate or a stray, and as few LANs
+as possible lose the stream; lines of smcroute.conf; what was assumed. Each step and the end are audited by mcaudit
+on a copy: a flow that it doesn't find right has no plan. Where there is none, the reason is told. SITE is never
+changed, nor is a router.
 
 A CHANGE is made first: `r2: down`, and what then? Then it also says what is found once what is down is back."""
 MORE = """{grammar}
 
-Where a router has PIM's register vif, or its facts name a PIM daemon, its entries are the daemon's: its steps are `by hand
-(PIM)`, unless --smcroute names it.
+Where a router has PIM's register vif, or its facts name a PIM daemon, its entries are the daemon's: its steps are `by
+hand (PIM)`, unless --smcroute names it.
 
 Statuses: 0 each flow is right or has a plan of commands, 1 one has none, or a step has to be done by hand; 2 SITE or a
 CHANGE is refused, 3 a read or a write failed, 4 no memory, 5 wrong words.
@@ -59,8 +60,8 @@ def read_arguments():
     parser.add_argument("-f", "--file", metavar="FILE", action="append", default=[],
                         help="a file of changes, one a line; - is standard input")
     parser.add_options(OPTIONS, repeated=("--use", "--smcroute"))
-    parser.add_options([("--search", "N", f"how many sets of changes to try for fewer changes ({SEARCH})", 0, MOST_SEARCH,
-                         SEARCH)])
+    parser.add_options([("--search", "N", f"how many sets of changes to try, for a plan with fewer ({SEARCH})", 0,
+                         MOST_SEARCH, SEARCH)])
     parser.add_version()
     found = parser.parse_intermixed_args()
     if not found.site:
@@ -101,8 +102,8 @@ def lans_without_source(copy):
         source, group, lans = igmp.address_of(flow.source), igmp.address_of(flow.group), []
         for lan in flow.wanted:
             lines = read_regular(os.path.join(copy.folder, f"igmp-{lan}"), MOST_TABLE).split(b"\n")[:-1]
-            records = [record for line in lines for record in igmp.all_records(from_hex(line)) if record.group == group]
-            if not any(it.kind == igmp.INCLUDE and source in it.source_list() for it in records):
+            records = [record for line in lines for record in igmp.all_records(from_hex(line))]
+            if not any(it.kind == igmp.INCLUDE and it.group == group and source in it.source_list() for it in records):
                 lans.append(lan)
         return lans
     return found
@@ -113,8 +114,8 @@ def make_plans(words, copy, answer):
     flows = [it for it in answer.wrong.values() if words.flow in (None, it.number)]
     entries = Entries(copy.folder, answer.domain, flows)
     for router, cache in entries.caches.items():
-        if f"cache-{router}" in copy.files:
-            cache.set_thresholds = {vif: (it, True) for vif, it in copy.cache(router).thresholds.items()}
+        if f"cache-{router}" in copy.files:  # with what it had before it was changed
+            cache.threshold = copy.cache(router).threshold
     maker = Maker(answer.domain, entries, Effort.of(len(flows), words.search), words.use or (), words.new)
     return [maker.plan(it) for it in flows]
 

@@ -1,5 +1,5 @@
-"""What the proved program says of plans: of each step, of the end, and of the time when what is down is up again. A plan
-that it doesn't find right, or of which a step makes a loop, a duplicate or a stray, is none.
+"""What the proved program says of plans: of each step, of the end, and of the time when what is down is up again. A
+plan that it doesn't find right, or of which a step makes a loop, a duplicate or a stray, is none.
 
 Plans of different flows are of different entries. So the first steps of all plans are audited at once, then the second
 ones, and so on: as many audits as the longest plan has steps."""
@@ -81,7 +81,7 @@ class Confirming:
         """Ends a plan of which a step makes a loop, a duplicate or a stray where there was none, or one more."""
         step = plan.steps[len(plan.found) - 1]
         if found is not None and found.is_worse and (was is None or not was.is_worse or step.is_worse):
-            plan.end(f"no plan found: step {len(plan.found)} of each order that was tried makes {found.text}")
+            plan.end(f"in each order of its commands that was tried one makes {found.text}")
 
     def undo(self, plans):
         """Gives back the entries that were there before these plans."""
@@ -99,7 +99,7 @@ class Confirming:
         return after
 
     def come_back(self, plans):
-        """Takes plans that were made while something was down, and says of each what the program finds once it is up
+        """Takes plans that were made while something was down, and notes of each what the program finds once it is up
         again with the entries that it had. The copy is one of that time."""
         for plan in plans:
             for router in plan.routers():
@@ -111,8 +111,8 @@ class Confirming:
 
 
 def joined(was, now, own):
-    """Returns the entry that a router has once it is up again: what the plan made of it, and the outgoing vifs that were
-    down before the plan."""
+    """Returns the entry that a router has once it is up again: what the plan made of it, and the outgoing vifs that
+    were down before the plan."""
     if own is None or own.vif != now[0]:
         return now
     down = {vif: threshold for vif, threshold in own.outgoing.items() if was is None or vif not in was[1]}

@@ -126,7 +126,7 @@ def judge(mcaudit, folder, path):
         came = run([mcaudit, "audit", "--json", "--faults", folder], seconds=audits.AUDITING, most=audits.MOST_BYTES,
                    into=file, keeps_words=False)
     if came.is_late or came.is_long:
-        raise Failed(f"mcaudit audit took more than {audits.AUDITING} s, or printed more than {audits.MOST_BYTES} bytes")
+        raise Failed(f"mcaudit audit took more than {audits.AUDITING} s, or printed more than {audits.MOST_BYTES} B")
     if came.status not in (0, 1):
         raise Failed(f"mcaudit audit ended with status {came.status}", came.status if came.status in (2, 4) else 3)
     try:
@@ -144,4 +144,3 @@ def read_answer(path):
         for line in audits.lines_of(file, is_whole=False):
             answer.take(line)
     return answer
-

@@ -9,8 +9,8 @@ from mcaudit_tools.files import read_regular
 from mcaudit_tools.premises.rows import OUTGOING, word_of
 
 MOST_TABLE = 16 << 20  # bytes of a cache
-ROW = re.compile(rb"^ *([0-9A-Fa-f]{8}) +([0-9A-Fa-f]{8}) +(-1|[0-9]+) +-?[0-9]+ +-?[0-9]+ +-?[0-9]+((?: +[0-9]+:[0-9]+)*)"
-                 rb" *$", re.MULTILINE)
+ROW = re.compile(rb"^ *([0-9A-Fa-f]{8}) +([0-9A-Fa-f]{8}) +(-1|[0-9]+) +-?[0-9]+ +-?[0-9]+ +-?[0-9]+"
+                 rb"((?: +[0-9]+:[0-9]+)*) *$", re.MULTILINE)
 ANY = b"00000000"  # the source of an entry for every source, and the group of one for every group
 NOTHING, UNRESOLVED = -1, -2  # in the place of an incoming vif
 
@@ -25,7 +25,7 @@ class Cache:
         self.every = set()  # the groups of entries for every source, as the cache has them
         self.tails = collections.Counter()  # how often rows end so
         self.odd = False  # a row has a group that is none
-        self.set_thresholds = {}  # by vif, what a change gave all its rows
+        self.threshold = self.usual_threshold  # what says the threshold that an entry made now gets at a vif
         self.known = None
 
     def read(self, body, numbers, tail_number):
@@ -45,17 +45,17 @@ class Cache:
             elif self.vifs[number] == NOTHING:
                 self.vifs[number] = UNRESOLVED
 
-    def threshold(self, vif):
-        """Returns the threshold that an entry made now gets at a vif, and whether the rows agree in it. Where they don't
-        tell it, it is 1."""
+    def usual_threshold(self, vif):
+        """Returns the threshold that most rows have at a vif, and whether they agree in it. Where they don't tell it,
+        it is 1."""
         if self.known is None:
             seen = collections.defaultdict(collections.Counter)
             for tail, count in self.tails.items():
                 for number, threshold in OUTGOING.findall(tail):
                     seen[int(number)][int(threshold)] += count
-            self.known = {number: (max(of, key=lambda it: (of[it], it)), len(of) == 1)  # noqa: B023
+            self.known = {number: (max(of, key=lambda it, of=of: (of[it], it)), len(of) == 1)
                           for number, of in seen.items()}
-        return self.set_thresholds.get(vif) or self.known.get(vif, (1, False))
+        return self.known.get(vif, (1, False))
 
 
 class Entries:
@@ -70,8 +70,8 @@ class Entries:
         self.caches = {}
         for router, order in domain.orders.items():
             cache = self.caches[router] = Cache(order, len(self.numbers))
-            cache.read(read_regular(os.path.join(folder, f"cache-{router}"), MOST_TABLE, f"cache-{router}"), words[order],
-                       self.tail_number)
+            body = read_regular(os.path.join(folder, f"cache-{router}"), MOST_TABLE, f"cache-{router}")
+            cache.read(body, words[order], self.tail_number)
 
     def tail_number(self, tail):
         """Returns the number of the end of a row, which names the outgoing vifs."""

@@ -20,7 +20,7 @@ class Found(typing.NamedTuple):
     """Entries by which a flow is right."""
 
     entries: dict
-    count: int  # of changes
+    number: int  # of changes
     least: int  # changes that every plan has
 
 
@@ -37,7 +37,7 @@ class Effort(typing.NamedTuple):
 
 
 def least_changes(task):
-    """Returns a number of changes that every plan has. There is none where some LAN has no path, whatever is changed."""
+    """Returns a number of changes that every plan has. There is none where some LAN has no path, whatever changes."""
     if task.lan in task.banned:
         router = next(it for it, _ in task.domain.on[task.lan] if it in task.open - task.use)
         raise NoPlan("open", task.lan, router)
@@ -85,4 +85,3 @@ def find(task, effort):
     if best is None:
         raise fault or NoPlan("not found", task.lan)
     return Found(best, count, max(least, shown))
-

@@ -1,5 +1,5 @@
-"""How copies of a packet go by entries: a flight, copy by copy, and whether a flow is right by it. What is printed rests
-on what the proved program finds: a flight here only chooses what is proposed to it."""
+"""How copies of a packet go by entries: a flight, copy by copy, and whether a flow is right by it. What is printed
+rests on what the proved program finds: a flight here only chooses what is proposed to it."""
 import collections
 import typing
 
@@ -31,8 +31,8 @@ class Flight(typing.NamedTuple):
 
 
 def fly(task, entries):
-    """Returns what comes of a packet with the greatest time to live, first come, first served; further copies onto a LAN
-    go no further."""
+    """Returns what comes of a packet with the greatest time to live, first come, first served; further copies onto a
+    LAN go no further."""
     placed, on = task.domain.placed, task.domain.on
     reach = {task.lan: Reach(0, 1, None, None, None)}
     found, waiting = Flight(reach, [], [], []), collections.deque([task.lan])

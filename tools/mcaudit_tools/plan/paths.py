@@ -1,5 +1,5 @@
-"""The paths with the fewest changes from a flow's source to LANs, by Dijkstra's algorithm over LANs and ranks: what is in
-the entries costs nothing."""
+"""The paths with the fewest changes from a flow's source to LANs, by Dijkstra's algorithm over LANs and ranks: what is
+in the entries costs nothing."""
 import heapq
 import itertools
 
@@ -28,7 +28,7 @@ class Search:
             best[lan] = rank
             if path:
                 yield cost, lan, path
-            sender = path and (path[1][0], path[1][2])
+            sender = sender_of(path)
             for router, vif in on[lan]:
                 if router in self.task.shut or (router, vif) == sender or (router, vif, lan) in self.forbidden:
                     continue
@@ -70,6 +70,14 @@ class Search:
             yield cost, to_vif, to_lan
 
 
+def sender_of(path):
+    """Returns the router and the vif by which the last hop of a path forwards; None where there is no hop."""
+    if path is None:
+        return None
+    _, (router, _, vif) = path
+    return router, vif
+
+
 def hops_of(path):
     """Returns the hops of a path, the first one first."""
     hops = []
@@ -80,8 +88,8 @@ def hops_of(path):
 
 
 def path_to(task, entries, flight, pins, targets, ttl, is_far=False):
-    """Returns the hops of the path with the fewest changes to the nearest of the targets, or to the farthest, on which no
-    router takes the flow by two vifs; or None."""
+    """Returns the hops of the path with the fewest changes to the nearest of the targets, or to the farthest, on which
+    no router takes the flow by two vifs; or None."""
     forbidden = set()
     for _ in range(ATTEMPTS):
         found, left = None, set(targets)

@@ -1,5 +1,5 @@
-"""Why a flow has no plan: which LAN has no path, around which routers that lies, and which threshold, time to live, vif or
-router would help."""
+"""Why a flow has no plan: which LAN has no path, around which routers that lies, and which threshold, time to live, vif
+or router would help."""
 from mcaudit_tools.plan.flight import GREATEST, missed
 from mcaudit_tools.plan.grow import Growing
 from mcaudit_tools.plan.paths import path_to
@@ -71,15 +71,16 @@ class Reasons:
             if threshold > most:
                 if most < 1:
                     return []
-                found.append(f"the threshold of {router} {self.domain.interface(router, vif)} from {threshold} to {most} "
-                             "or less")
+                device = self.domain.interface(router, vif)
+                found.append(f"the threshold of {router} {device} from {threshold} to {most} or less")
         return found
 
     def around(self, lan):
         """Returns which routers are on a LAN."""
         routers = list(dict.fromkeys(router for router, _ in self.domain.on[lan]))
-        return f"{lan} can't be reached: " + (f"on it {'are' if len(routers) > 1 else 'is'} {' '.join(routers)}"
-                                             if routers else "no router has a vif on it")
+        verb = "are" if len(routers) > 1 else "is"
+        return f"{lan} can't be reached: " + (f"on it {verb} {' '.join(routers)}" if routers else
+                                              "no router has a vif on it")
 
     def absent(self, lan):
         """Returns by which interfaces on a LAN nothing can be sent."""
@@ -96,4 +97,4 @@ class Reasons:
         if not routers:
             return []
         which = "their entries are" if len(routers) > 1 else "its entry is"
-        return [f"  not used, since {which} unresolved or for every source: {' '.join(routers)} (--use ROUTER allows it)"]
+        return [f"  not used, since {which} unresolved, or for every source: {' '.join(routers)}; --use ROUTER does"]

@@ -1,5 +1,5 @@
-"""A search for entries with fewer changes, breadth first. At each fault it branches over changes of which every right set
-of entries has one at least, so it misses none, and also shows below which number of changes there are none."""
+"""A search for entries with fewer changes, breadth first. At each fault it branches over changes of which every right
+set of entries has one at least, so it misses none, and also shows below which number of changes there are none."""
 from mcaudit_tools.plan.differences import Change, turned
 from mcaudit_tools.plan.flight import fly, is_right
 
@@ -24,8 +24,8 @@ class Branches:
         self.task, self.entries, self.flight = task, entries, fly(task, entries)
 
     def ends(self, senders):
-        """Returns the changes that end a path: one of its outgoing vifs goes, or a router on it takes the flow by another
-        vif."""
+        """Returns the changes that end a path: one of its outgoing vifs goes, or a router on it takes the flow by
+        another vif."""
         found = []
         for router, vif in dict.fromkeys(senders):
             found.append(Change(router, "out", vif))
@@ -97,8 +97,8 @@ class Branches:
 
 
 def search(task, most, limit):
-    """Looks for entries by which the flow is right with less than `most` changes, among so many sets of changes. Returns
-    them or None, and the number of changes below which there are none."""
+    """Looks for entries by which the flow is right with less than `most` changes, among so many sets of changes.
+    Returns them or None, and the number of changes below which there are none."""
     level, seen, tried = {frozenset(): task.entries}, set(), 0
     for depth in range(most):
         following = {}

@@ -1,5 +1,5 @@
-"""The steps of a plan: commands one after the other, in an order in which none makes a loop, a duplicate or a stray, and
-as few LANs as possible lose the stream for as few steps as a greedy choice finds."""
+"""The steps of a plan: commands one after the other, in an order in which none makes a loop, a duplicate or a stray,
+and as few LANs as possible lose the stream for as few steps as a greedy choice finds."""
 import dataclasses
 
 from mcaudit_tools.plan.flight import fly, missed
@@ -29,22 +29,24 @@ class Step:
         return self.verb == REMOVE and not self.outgoing
 
 
-def steps_between(task, new, is_named):
-    """Returns the steps that lead to new entries, in no order yet: interfaces one by one, or all of an entry where its
-    incoming interface changes, or one of its interfaces has no name that can be given."""
+def steps_between(old, new, has_device):
+    """Returns the steps that lead from entries to new ones, in no order yet: interfaces one by one, or all of an entry
+    where its incoming interface changes, or one that goes has no device any more."""
     steps = []
-    for router in sorted({*task.entries, *new}):
-        was, now = task.entries.get(router), new.get(router)
+    for router in sorted({*old, *new}):
+        was, now = old.get(router), new.get(router)
         if was == now:
             continue
         is_kept = was is not None and was[0] == now[0]
-        if is_kept and is_named(router, was[0]) and all(is_named(router, it) for it in was[1].keys() - now[1].keys()):
+        if is_kept and all(has_device(router, it) for it in was[1].keys() - now[1].keys()):
             steps += [Step(router, REMOVE, was[0], (it,)) for it in sorted(was[1].keys() - now[1].keys())]
             steps += [Step(router, ADD, now[0], (it,)) for it in sorted(now[1].keys() - was[1].keys())]
             continue
+        before = None
         if was is not None:
+            before = len(steps)
             steps.append(Step(router, REMOVE, was[0], ()))
-        steps.append(Step(router, ADD, now[0], tuple(sorted(now[1])), after=len(steps) - 1 if was is not None else None))
+        steps.append(Step(router, ADD, now[0], tuple(sorted(now[1])), after=before))
     return steps
 
 
@@ -63,55 +65,68 @@ def entries_after(entries, step, new):
 
 
 class Order:
-    """Steps as they are put in order."""
+    """The orders of the steps that lead to new entries."""
 
-    def __init__(self, task, new, steps):
+    def __init__(self, task, new):
         """Takes the entries to which the steps lead."""
-        self.task, self.new, self.steps = task, new, steps
-        self.entries, self.left = task.entries, list(range(len(steps)))
-        reach = fly(task, new).reach
-        self.depths = [reach[lan].rank if lan in reach else 0
-                       for lan in (task.domain.placed[it.router].get(it.vif) for it in steps)]
-        self.faults, self.reached = self.state(task.entries)
+        self.task, self.new = task, new
+        self.reach = fly(task, new).reach
+
+    def depth(self, step):
+        """Returns how many routers are before the one of a step, once the plan is carried out."""
+        lan = self.task.domain.placed[step.router].get(step.vif)
+        return self.reach[lan].rank if lan in self.reach else 0
 
     def state(self, entries):
         """Returns how many copies are too many or gone, and which wanting LANs are reached."""
         flight = fly(self.task, entries)
         return flight.faults, frozenset(self.task.wanted) - frozenset(missed(self.task, flight))
 
-    def next_step(self):
-        """Returns the number of the best next step: with no further fault, then with the fewest LANs lost and the most
-        reached; of equal ones those that take out come first, and of those that put in the last routers."""
-        best = None
-        for number in self.left:
-            step = self.steps[number]
-            if step.after is not None and step.after in self.left:
-                continue
-            after = entries_after(self.entries, step, self.new)
-            faults, reached = self.state(after)
-            key = (faults > self.faults, len(self.reached - reached), faults, -len(reached), step.verb == ADD,
-                   -self.depths[number], number)
-            if best is None or key < best[0]:
-                best = key, number, after, faults, reached
-        _, number, self.entries, self.faults, self.reached = best
-        return number
-
-    def in_order(self):
-        """Returns the steps in order."""
-        found = []
-        while self.left:
-            number = self.next_step()
-            self.left.remove(number)
-            found.append(self.steps[number])
+    def greedy(self, steps):
+        """Returns the steps in an order in which each is the best: with no further fault, then with the fewest LANs lost
+        and the most reached; of equal ones those that take out come first, and of those that put in the last routers."""
+        entries, left, found = self.task.entries, list(range(len(steps))), []
+        faults, reached = self.state(entries)
+        while left:
+            choices = []
+            for number in left:
+                step = steps[number]
+                if step.after is None or step.after not in left:
+                    after = entries_after(entries, step, self.new)
+                    state = self.state(after)
+                    key = (state[0] > faults, len(reached - state[1]), state[0], -len(state[1]), step.verb == ADD,
+                           -self.depth(step), number)
+                    choices.append((key, after, state))
+            key, entries, (faults, reached) = min(choices, key=lambda it: it[0])
+            left.remove(key[-1])
+            found.append(steps[key[-1]])
         return found
 
-    def plain_order(self):
-        """Returns the steps in the order that makes no second copy where any does: what is taken out first, at the first
-        routers first, and then what is put in, at the last routers first."""
-        outs = [it for it in range(len(self.steps)) if self.steps[it].verb == REMOVE]
-        ins = [it for it in range(len(self.steps)) if self.steps[it].verb == ADD]
-        return [self.steps[it] for it in (*sorted(outs, key=lambda it: self.depths[it]),
-                                          *sorted(ins, key=lambda it: -self.depths[it]))]
+    def plain(self, steps):
+        """Returns the steps in an order that makes no second copy: what is taken out first, at the first routers first,
+        and then what is put in, at the last routers first."""
+        outs, ins = ([it for it in steps if it.verb == verb] for verb in (REMOVE, ADD))
+        return sorted(outs, key=self.depth) + sorted(ins, key=lambda it: -self.depth(it))
+
+    def stopped(self, has_device):
+        """Returns steps that stop the flow at the source's LAN first, and let it go on at the end: so it comes to no
+        router whose entry is turned meanwhile."""
+        old, new = dict(self.task.entries), dict(self.new)
+        stops, starts = [], []
+        for router, vif in self.task.domain.on[self.task.lan]:
+            for entries, steps, verb in ((old, stops, REMOVE), (new, starts, ADD)):
+                if router in entries and entries[router][0] == vif and entries[router][1]:
+                    steps.append(Step(router, verb, vif, tuple(sorted(entries[router][1]))))
+                    entries[router] = (vif, {})
+        return stops + self.plain(steps_between(old, new, has_device)) + starts
+
+    def orders(self, has_device):
+        """Yields the steps in one order after the other."""
+        steps = steps_between(self.task.entries, self.new, has_device)
+        yield self.greedy(steps)
+        yield self.plain(steps)
+        yield self.stopped(has_device)
+        yield self.greedy(steps_between(self.task.entries, self.new, lambda *_: True))
 
     def checked(self, steps):
         """Returns the steps, merged, each with its router's entry then, with the LANs that lost the stream, and with
@@ -141,11 +156,13 @@ def merged(steps):
     return found
 
 
-def steps_to(task, new, is_named):
-    """Returns the steps that lead to new entries, in order."""
-    order = Order(task, new, steps_between(task, new, is_named))
-    steps = order.checked(order.in_order())
-    if any(it.is_worse for it in steps):
-        others = order.checked(order.plain_order())
-        return steps if any(it.is_worse for it in others) else others
-    return steps
+def steps_to(task, new, has_device):
+    """Returns the steps that lead to new entries, in the first order in which none makes a loop, a duplicate or a stray;
+    in the first one, where all do."""
+    order, first = Order(task, new), None
+    for steps in order.orders(has_device):
+        found = order.checked(steps)
+        if not any(it.is_worse for it in found):
+            return found
+        first = first or found
+    return first

@@ -1,5 +1,6 @@
 """What is to be planned: one flow, the entries that routers have of it, and what may be changed."""
 import dataclasses
+import typing  # noqa: F401
 
 from mcaudit_tools.plan.flight import GREATEST
 
@@ -9,7 +10,7 @@ class Task:
     """A flow to plan. An entry is its incoming vif, and its outgoing ones with their thresholds; a router without one
     has none."""
 
-    domain: object
+    domain: "typing.Any"
     ttl: int
     lan: str  # of the source
     wanted: tuple
@@ -17,7 +18,7 @@ class Task:
     every_source: set  # routers with an entry for every source
     unresolved: set  # routers with an unresolved row alone
     use: frozenset  # routers that may be given an entry in front of one for every source, or of an unresolved row
-    threshold_of: object  # of a router and a vif: that of an entry made now, and whether rows tell it
+    threshold_of: "typing.Callable"  # of a router and a vif: that of an entry made now, and whether rows tell it
 
     def __post_init__(self):
         """Works out which routers and LANs no plan may use."""

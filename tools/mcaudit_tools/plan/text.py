@@ -6,16 +6,17 @@ from mcaudit_tools.common import clean
 from mcaudit_tools.plan.words import PIM, Words, assumed
 
 COUNTS = "flows", "right", "wrong", "unknown", "unwanted"
-WITH_SMCROUTE = """With smcroute: one step after the other, then the lines of smcroute.conf, since a restart drops every entry that
-it does not have; then collect and audit again. The plan is of the tables in SITE."""
-WITH_PIM = """By hand (PIM): the daemon makes these entries, and would take the changes away again. What is printed says where its
-tree is wrong; --smcroute ROUTER plans the router's commands all the same."""
+WITH_SMCROUTE = """With smcroute: one step after the other, then the lines of smcroute.conf, since a restart drops
+every entry that it does not have; then collect and audit again. The plan is of the tables in SITE."""
+WITH_PIM = """By hand (PIM): the daemon makes these entries, and would take the changes away again. What is printed says
+where its tree is wrong; --smcroute ROUTER plans the router's commands all the same."""
 
 
 def entry_object(entry):
     """Returns an entry as JSON has it."""
-    return None if entry is None else {"from": entry[0], "to": [{"threshold": entry[1][it], "vif": it}
-                                                              for it in sorted(entry[1])]}
+    if entry is None:
+        return None
+    return {"from": entry[0], "to": [{"threshold": entry[1][it], "vif": it} for it in sorted(entry[1])]}
 
 
 class Printer:
@@ -40,8 +41,12 @@ class Printer:
         flow, notes = plan.flow, []
         lans = self.without_source(flow) if igmp.address_of(flow.group)[0] == igmp.SSM else []
         if lans:
-            notes.append(f"{flow.group} is a group of SSM, and {' '.join(lans)} asks for it without naming a source, which "
-                         "routers of IGMP ignore: mend the hosts or the querier first")
+            notes.append(f"{flow.group} is a group of SSM, and {' '.join(lans)} asks for it without naming a source, "
+                         "which routers ignore: mend the hosts or the querier first")
+        for router in plan.routers():
+            if router in plan.task.every_source and not plan.entries[router][1]:
+                notes.append(f"{router} has an entry for every source too, which forwards the flow once this entry to none "
+                             "is gone, as after a restart")
         if plan.back is not None:
             notes.append(f"when what is down is back: {plan.back.text}; take these changes back before")
         return notes
@@ -77,7 +82,7 @@ class Printer:
         for plan in made:
             for router, lines in self.words(plan).conf(plan.task.entries, plan.entries).items():
                 conf.setdefault(router, []).extend(lines)
-            known.update(dict.fromkeys(assumed(self.domain, plan.task, plan.entries)))
+            known.update(dict.fromkeys(assumed(self.domain, plan)))
         for router, lines in conf.items():
             yield f"smcroute.conf of {router}"
             yield from (f"  {it}" for it in lines)
@@ -121,7 +126,7 @@ class Printer:
         back = None if not plan.has_back else plan.back.text if plan.back else "right"
         return {"plan": steps, "changes": plan.count, "least": plan.least, "entries": entries,
                 "conf": words.conf(plan.task.entries, plan.entries), "when_back": back, "notes": self.notes(plan),
-                "assumed": list(assumed(self.domain, plan.task, plan.entries))}
+                "assumed": list(assumed(self.domain, plan))}
 
     def json(self, plans, after):
         """Yields all lines of JSON."""

@@ -8,10 +8,14 @@ PIM = "PIM"
 NO_NAME = "a device has no name that smcroute takes"
 
 
+def has_device(domain, router, vif):
+    """Whether a vif has a device, which smcroute may name."""
+    return domain.devices.get((router, vif), "none") != "none"
+
+
 def is_named(domain, router, vif):
     """Whether the device of a vif may stand in a command. A + at the end would be a pattern there."""
-    device = domain.devices.get((router, vif))
-    return device not in (None, "none") and WORD.fullmatch(device) is not None
+    return has_device(domain, router, vif) and WORD.fullmatch(domain.devices[router, vif]) is not None
 
 
 class Words:
@@ -29,7 +33,8 @@ class Words:
         """Returns why a person has to do a step, or None."""
         if step.router in self.pim:
             return PIM
-        return None if all(is_named(self.domain, step.router, it) for it in (step.vif, *step.outgoing)) else NO_NAME
+        is_whole = all(is_named(self.domain, step.router, it) for it in (step.vif, *step.outgoing))
+        return None if is_whole else NO_NAME
 
     def command(self, step):
         """Returns the command of a step."""
@@ -44,11 +49,13 @@ class Words:
             return f"remove the {entry}"
         if step.verb == ADD and step.is_new:
             return f"make an {entry} to {' '.join(devices) or 'none'}"
-        return f"{'add' if step.verb == ADD else 'remove'} {' '.join(devices)} {'to' if step.verb == ADD else 'from'} the {entry}"
+        verb, to = ("add", "to") if step.verb == ADD else ("remove", "from")
+        return f"{verb} {' '.join(devices)} {to} the {entry}"
 
     def line(self, router, entry):
-        """Returns the line of smcroute.conf for an entry. Where a device has no name, what it says of it isn't known."""
-        devices = [self.domain.interface(router, it) if is_named(self.domain, router, it) else "..." for it in sorted(entry[1])]
+        """Returns the line of smcroute.conf for an entry. Of a device without a name it isn't known what it says."""
+        devices = [self.domain.interface(router, it) if is_named(self.domain, router, it) else "..."
+                   for it in sorted(entry[1])]
         start = self.domain.interface(router, entry[0])
         return f"mroute from {start} source {self.flow.source} group {self.flow.group} to {' '.join(devices)}"
 
@@ -57,23 +64,26 @@ class Words:
         found = {}
         for router in sorted({*old, *new}):
             was, now = old.get(router), new.get(router)
-            vifs = {*(was[1] if was else ()), *now[1], now[0]}
-            if was == now or router in self.pim or not all(is_named(self.domain, router, it) for it in {*now[1], now[0]}):
+            is_whole = all(is_named(self.domain, router, it) for it in {*now[1], now[0]})
+            if was == now or router in self.pim or not is_whole:
                 continue
             gone = [f"- {self.line(router, was)}"] if was and was[1] and is_named(self.domain, router, was[0]) else []
             come = [f"+ {self.line(router, now)}"] if now[1] else []
-            if vifs and gone[:1] != [f"-{it[1:]}" for it in come]:
+            if gone != [f"-{it[1:]}" for it in come]:
                 found[router] = gone + come
         return found
 
 
-def assumed(domain, task, new):
-    """Yields the thresholds of outgoing vifs that come, where other entries don't tell that they are 1."""
-    for router, entry in sorted(new.items()):
-        for vif in sorted(entry[1].keys() - task.entries.get(router, (0, {}))[1].keys()):
-            threshold, is_told = task.threshold_of(router, vif)
-            if is_told and threshold == 1:
+def assumed(domain, plan):
+    """Yields the thresholds of outgoing vifs that come, or come again, where other entries don't tell that they are 1."""
+    remade = {it.router for it in plan.steps if it.is_whole}
+    for router, entry in sorted(plan.entries.items()):
+        was = plan.task.entries.get(router, (0, {}))[1]
+        for vif in sorted(entry[1].keys() if router in remade else entry[1].keys() - was.keys()):
+            usual, is_told = plan.task.threshold_of(router, vif)
+            threshold = entry[1][vif]
+            if is_told and threshold == usual == 1:
                 continue
-            why = ("as its other entries have it" if is_told else "since no other entry tells it" if threshold == 1
-                   else "as most of its other entries have it")
+            why = ("as the entry has it now" if vif in was else "as its other entries have it" if is_told else
+                   "since no other entry tells it" if threshold == 1 else "as most of its other entries have it")
             yield f"{router} {domain.interface(router, vif)}: threshold {threshold}, {why}"

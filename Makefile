@@ -21,8 +21,8 @@
 PREFIX ?= /usr/local
 VERSION = $(shell cat VERSION)
 PROGRAM = crates/mcaudit/out/mcaudit
-TOOLS = mcaudit-collect mcaudit-diff mcaudit-draft mcaudit-monitor mcaudit-page mcaudit-premises mcaudit-query \
-	mcaudit-reports mcaudit-site
+TOOLS = mcaudit-collect mcaudit-diff mcaudit-draft mcaudit-monitor mcaudit-page mcaudit-plan mcaudit-premises \
+	mcaudit-query mcaudit-reports mcaudit-site
 # each of them is quoted where it is used: a path may have spaces and signs of the shell
 UNITS = $(DESTDIR)$(PREFIX)/lib/systemd/system
 BASH_COMPLETIONS = $(DESTDIR)$(PREFIX)/share/bash-completion/completions

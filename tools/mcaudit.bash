@@ -41,12 +41,12 @@ _mcaudit_tool() {
     shift 3
     COMPREPLY=()
     case $before in
-        -o | --routers | --capture | --audit | --program | --prometheus) kind='file' ;;
+        -o | -f | --routers | --capture | --audit | --program | --prometheus) kind='file' ;;
         --all) kind=directory ;;
         --readings | --pause | --timeout | --at-once | --ssh | --wait | --slack \
         | --queries | --network | --querier | --interface) return ;;
         --tries | --static | --empty-lan | --by | --shell | --ttl | --measure | --count | --tenths \
-        | --without) return ;;
+        | --without | --flow | --use | --smcroute | --search) return ;;
         --watch | --keep | --warn-age | --warn-reports | --label) return ;;
     esac
     case $word in
@@ -80,6 +80,11 @@ _mcaudit_draft() {
 _mcaudit_page() {
     _mcaudit_tool "${COMP_WORDS[COMP_CWORD]}" "${COMP_WORDS[COMP_CWORD - 1]}" directory \
         -o --audit --program --without --version --help
+}
+
+_mcaudit_plan() {
+    _mcaudit_tool "${COMP_WORDS[COMP_CWORD]}" "${COMP_WORDS[COMP_CWORD - 1]}" directory \
+        -f --flow --new --use --smcroute --keep --json --search --version --help
 }
 
 _mcaudit_premises() {
@@ -116,6 +121,7 @@ complete -F _mcaudit_diff mcaudit-diff
 complete -F _mcaudit_draft mcaudit-draft
 complete -F _mcaudit_monitor mcaudit-monitor
 complete -F _mcaudit_page mcaudit-page
+complete -F _mcaudit_plan mcaudit-plan
 complete -F _mcaudit_premises mcaudit-premises
 complete -F _mcaudit_query mcaudit-query
 complete -F _mcaudit_reports mcaudit-reports

@@ -93,11 +93,11 @@ __mcaudit_folders mcaudit '__mcaudit_command_is pack'
 __mcaudit_options mcaudit '__mcaudit_command_is replay' '--order:first last:which waiting copy is handled next'
 
 set -l tool
-for tool in mcaudit-collect mcaudit-draft mcaudit-monitor mcaudit-page mcaudit-premises
+for tool in mcaudit-collect mcaudit-draft mcaudit-monitor mcaudit-page mcaudit-plan mcaudit-premises
     __mcaudit_folders $tool true
 end
-for tool in mcaudit-collect mcaudit-diff mcaudit-draft mcaudit-monitor mcaudit-page mcaudit-premises mcaudit-query \
-    mcaudit-reports
+for tool in mcaudit-collect mcaudit-diff mcaudit-draft mcaudit-monitor mcaudit-page mcaudit-plan mcaudit-premises \
+    mcaudit-query mcaudit-reports
     __mcaudit_options $tool true $about
 end
 __mcaudit_options mcaudit-collect true $routers $timeout $readings '--shell:value:run a shell on a router by its way'
@@ -119,6 +119,15 @@ __mcaudit_options mcaudit-page true \
     '--audit:file:take what an audit answered' \
     '--program:file:run this program for mcaudit' \
     '--without:value:audit without the tables of a router'
+__mcaudit_options mcaudit-plan true \
+    '-f:file:take the changes of a file, one a line' \
+    '--flow:value:plan this flow alone' \
+    '--new::plan flows of which no router has an entry, too' \
+    '--use:value:give this router an entry in front of another' \
+    '--smcroute:value:print commands for this router though it has PIM' \
+    '--keep:value:keep the copy with all plans carried out' \
+    '--json::print an object a line' \
+    '--search:value:try so many sets of changes'
 __mcaudit_options mcaudit-premises true $routers $timeout \
     '--watch:value:read the counters four times, with these pauses' \
     '--json::print an object a line' \

@@ -1,4 +1,4 @@
-#compdef mcaudit mcaudit-collect mcaudit-diff mcaudit-draft mcaudit-monitor mcaudit-page mcaudit-premises mcaudit-query mcaudit-reports mcaudit-site
+#compdef mcaudit mcaudit-collect mcaudit-diff mcaudit-draft mcaudit-monitor mcaudit-page mcaudit-plan mcaudit-premises mcaudit-query mcaudit-reports mcaudit-site
 # mcaudit.zsh: completes the words of mcaudit and of its tools in zsh, which looks for it under the name _mcaudit.
 
 # what several tools have
@@ -77,6 +77,16 @@ mcaudit-page)
         '--audit[take what an audit answered]:file:_files' \
         '--program[run this program for mcaudit]:program:_files' \
         '*--without[audit without the tables of a router]:router: ' ;;
+mcaudit-plan)
+    _arguments $about $site \
+        '*-f[take the changes of a file, one a line]:file:_files' \
+        '--flow[plan this flow alone]:number: ' \
+        '--new[plan flows of which no router has an entry, too]' \
+        '*--use[give this router an entry in front of another]:router: ' \
+        '*--smcroute[print commands for this router though it has PIM]:router: ' \
+        '--keep[keep the copy with all plans carried out]:folder: ' \
+        '--json[print an object a line]' \
+        '--search[try so many sets of changes]:number: ' ;;
 mcaudit-premises)
     _arguments $routers $timeout $about $site \
         '--watch[read the counters four times, with these pauses]:seconds: ' \

@@ -167,16 +167,16 @@ class Plans:
             self.wrong.append(f"status {run.returncode}: {run.stderr.decode()}")
             return
         before = self.found()
-        lines = [json.loads(line) for line in run.stdout.splitlines()]
-        if [line["flow"] for line in lines[:-1]] != [flow for flow, found in before.items() if found != "right"]:
+        lines = [json.loads(line) for line in run.stdout.splitlines()][1:-1]
+        if [line["flow"] for line in lines] != [flow for flow, found in before.items() if found != "right"]:
             self.wrong.append("other flows are planned than those that aren't right")
-        for line in lines[:-1]:
+        for line in lines:
             if line["plan"] is None:
                 self.judge_none(line)
             else:
                 self.judge_plan(line, before[line["flow"]])
-        hands = any(step["by_hand"] for line in lines[:-1] for step in line["plan"] or ())
-        if run.returncode != int(hands or any(line["plan"] is None for line in lines[:-1])):
+        hands = any(step["by_hand"] for line in lines for step in line["plan"] or ())
+        if run.returncode != int(hands or any(line["plan"] is None for line in lines)):
             self.wrong.append(f"status {run.returncode}")
 
     def found(self):

@@ -4,7 +4,7 @@ import os
 from mcaudit_tools import igmp
 from mcaudit_tools.common import Refused
 from mcaudit_tools.flows import FlowText
-from mcaudit_tools.rewrite import Entry, ReportList
+from mcaudit_tools.rewrite import CLOSED, Entry, ReportList
 
 
 def router_of(copy, change):
@@ -76,6 +76,9 @@ def add(copy, change):
             raise Refused(f"the entry of {router} is there, and has {there} already" if there else
                           f"the entry of {router} is there already: {copy.vifs(router).words_of(entry)}")
     added = {it: change.number or copy.threshold(router, it) for it in vifs}
+    closed = " ".join(name for vif, name in vifs.items() if added[vif] >= CLOSED)
+    if closed:
+        raise Refused(f"{closed} has the threshold {CLOSED}, by which nothing is forwarded")
     copy.put(router, change.source, change.group, Entry(start, {**(entry.outgoing if entry else {}), **added}))
 
 

@@ -37,6 +37,7 @@ KINDS = "router", "lan"
 STANDARD = "-"  # the name of standard input
 OF_ROUTERS = "add", "remove", "delete", "threshold"
 OF_LANS = "join", "leave"
+OF_FLOWS = "ttl", "new"
 
 
 @dataclasses.dataclass(frozen=True)
@@ -89,7 +90,7 @@ def change_of(text, who, words):
 
 def flow_change(text, flow, words):
     """Returns a change of a flow in the topology."""
-    if words[0] not in ("ttl", "new") or len(words) != (2 if words[0] == "ttl" else 3) or words[-2] != "ttl":
+    if words[0] not in OF_FLOWS or len(words) != (2 if words[0] == "ttl" else 3) or words[-2] != "ttl":
         raise Wrong("of a flow there are `ttl N` and `new ttl N`")
     return Change(text, words[0], source=source_of(flow[0]), group=group_of(flow[1]),
                   number=number_of(words[-1], MOST_TTL, "a time to live"))
@@ -169,7 +170,7 @@ def number_of(word, most, what):
 
 
 def read_changes(words, files):
-    """Returns the changes of these arguments and then those of these files, in their order; there is one at least."""
+    """Returns the changes of these arguments and then those of these files, in their order."""
     found = [parse(it) for it in words]
     for path in files:
         for number, line in enumerate(lines_of(path), 1):
@@ -181,8 +182,6 @@ def read_changes(words, files):
                     raise Wrong(f"{path} line {number}: {fault}") from fault
             if len(found) > MOST_CHANGES:
                 raise Wrong(f"{path} line {number}: these are more than {MOST_CHANGES} changes")
-    if not found:
-        raise Wrong("no change is given")
     return found
 
 

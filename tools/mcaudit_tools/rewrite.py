@@ -10,11 +10,12 @@ import typing
 
 from mcaudit_tools import igmp
 from mcaudit_tools.common import Refused, from_hex
-from mcaudit_tools.premises.rows import REGISTER, TUNNEL, word_of
+from mcaudit_tools.premises.rows import REGISTER, TUNNEL, USES_INDEX, word_of
 
 NO_DEVICE = b"none"  # stands where a vif has lost its device
 UNRESOLVED = b"-1"  # in the place of the incoming vif
 EVERY = b"00000000"  # in the place of a source, or of source and group: an entry for each of them
+CLOSED = 255  # the threshold by which nothing is forwarded, which the kernel doesn't print
 DEFAULT_THRESHOLD = 1  # that daemons give a vif of which nothing else is said
 
 
@@ -81,6 +82,12 @@ class VifTable:
         outgoing = [self.name_of(it) + (f":{threshold}" if threshold > 1 else "")
                     for it, threshold in sorted(entry.outgoing.items())]
         return f"from {self.name_of(entry.vif)} to {' '.join(outgoing) or 'none'}"
+
+    def add(self, number, device, local):
+        """Adds the line of a vif that an interface index makes, which is the word given for it."""
+        self.vifs[number] = Vif(device, USES_INDEX, len(self.lines))
+        counters = b"%8d %7d  %8d %7d" % (0, 0, 0, 0)
+        self.lines.append(b"%2d %-10b %b %05X %b %b" % (number, device, counters, USES_INDEX, local, EVERY))
 
     def drop(self, vif):
         """Takes the line of a vif out."""

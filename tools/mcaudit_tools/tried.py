@@ -6,8 +6,8 @@ mcaudit judges the copy. Where the set lies nothing is written.
         copy.apply(changes.parse("r2: down"))
         after = list(copy.audit("--unlisted"))
 
-`audit` yields the objects of an audit's JSON; `status` and `domain` are then those of the last one. The first comes
-before any change: what it refuses nothing is changed of.
+`audit` yields the objects of an audit's JSON; `status`, `domain`, `summary` and `verdict` are then those of the last
+one. The first comes before any change: what it refuses nothing is changed of.
 """
 import contextlib
 import os
@@ -61,7 +61,8 @@ class Copy:
         self.named, self.keep = site.rstrip("/") or site, keep
         self.folder = ""  # of the copy, once it is there
         self.first = None  # the domain as it was found
-        self.domain = self.status = self.flows = None
+        self.domain = self.status = self.summary = self.verdict = None  # of the last audit
+        self.flows = []  # those that the topology has to have
         self.files, self.changed, self.assumed = {}, set(), {}
 
     # The folder
@@ -149,7 +150,7 @@ class Copy:
         command = [find_tool("mcaudit"), "audit", "--json", *options, self.folder]
         self.status, objects = audits.run_audit(command, f"{self.named}: mcaudit")
         if self.status == 2:
-            raise Refused(f"refused: {self.named}{' with these changes' if self.first else ''}: mcaudit refuses it")
+            raise Refused(f"mcaudit refuses it{' with these changes' * (self.first is not None)}")
         if self.status not in (0, 1):
             raise Failed(f"{self.named}: mcaudit ended with status {self.status}", 4 if self.status == 4 else 3)
         for line in objects:
@@ -164,8 +165,8 @@ class Copy:
                 self.domain = Domain(line["domain"])
             elif "flow" in line:
                 self.domain.flows.append((line["source"], line["group"], line["ttl"]))
-            elif "verdict" in line and (line["verdict"] == "yes") != (self.status == 0):
-                raise Failed(f"{self.named}: mcaudit prints another verdict than that of its status {self.status}")
+            self.summary = line.get("summary", self.summary)
+            self.verdict = line.get("verdict", self.verdict)
         except (KeyError, TypeError, AttributeError) as fault:
             raise Failed(f"what mcaudit says of {self.named} can't be read") from fault
 
@@ -173,8 +174,10 @@ class Copy:
         """Fails unless the topology is the one that was meant."""
         if self.first is None:
             self.first, self.flows = self.domain, list(self.domain.flows)
+        if (self.verdict == "yes") != (self.status == 0):
+            raise Failed(f"{self.named}: mcaudit prints another verdict than that of its status {self.status}")
         if (self.flows, self.first.listed()) != (self.domain.flows, self.domain.listed()):
-            raise Refused(f"refused: {ODD}")
+            raise Refused(ODD)
 
     def write(self):
         """Writes the files that were changed."""
@@ -222,4 +225,4 @@ class Copy:
         try:
             APPLIERS[change.verb](self, change)
         except Refused as fault:
-            raise Refused(f"refused: `{change.text}`: {fault}") from fault
+            raise Refused(f"`{change.text}`: {fault}") from fault

@@ -57,8 +57,8 @@ def read_arguments():
     parser = Parser(description=ABOUT, epilog=MORE.format(grammar=GRAMMAR))
     parser.add_argument("site", metavar="SITE", help="the folder, as mcaudit-collect makes it")
     parser.add_argument("change", metavar="CHANGE", nargs="*", help="a change that is made before the plan")
-    parser.add_argument("-f", "--file", metavar="FILE", action="append", default=[],
-                        help="a file of changes, one a line; - is standard input")
+    parser.add_argument("-f", metavar="FILE", action="append", default=[],
+                        help="take the changes of FILE too, one on each line; - is standard input")
     parser.add_options(OPTIONS, repeated=("--use", "--smcroute"))
     parser.add_options([("--search", "N", f"how many sets of changes to try, for a plan with fewer ({SEARCH})", 0,
                          MOST_SEARCH, SEARCH)])
@@ -140,13 +140,13 @@ def run(words, given, copy, stack):
     after = Confirming(mcaudit, copy, before).carry_out(plans)
     if back is not None:
         Confirming(mcaudit, back, before).come_back([it for it in plans if it.is_made])
-    return plans, Printer(before.domain, routers, lans_without_source(copy)), after
+    return plans, Printer(before.domain, routers, lans_without_source(copy), copy.named, [it.text for it in given]), after
 
 
 def main():
     """Plans. Returns the status."""
     words = read_arguments()
-    given = read_changes(words.change, words.file) if words.change or words.file else []
+    given = read_changes(words.change, words.f) if words.change or words.f else []
     with contextlib.ExitStack() as stack:
         copy = stack.enter_context(Copy(words.site, words.keep))
         plans, printer, after = run(words, given, copy, stack)

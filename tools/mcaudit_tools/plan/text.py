@@ -2,10 +2,10 @@
 import json
 
 from mcaudit_tools import igmp
+from mcaudit_tools.audit import COUNTS
 from mcaudit_tools.common import clean
 from mcaudit_tools.plan.words import PIM, Words, assumed
 
-COUNTS = "flows", "right", "wrong", "unknown", "unwanted"
 WITH_SMCROUTE = """With smcroute: one step after the other, then the lines of smcroute.conf, since a restart drops
 every entry that it does not have; then collect and audit again. The plan is of the tables in SITE."""
 WITH_PIM = """By hand (PIM): the daemon makes these entries, and would take the changes away again. What is printed says
@@ -22,10 +22,10 @@ def entry_object(entry):
 class Printer:
     """What is printed of plans."""
 
-    def __init__(self, domain, pim, without_source):
-        """Takes the domain, the routers of a PIM daemon, and what says which LANs ask for a flow without naming its
-        source."""
-        self.domain, self.pim, self.without_source = domain, pim, without_source
+    def __init__(self, domain, pim, without_source, site, tried):
+        """Takes the domain, the routers of a PIM daemon, what says which LANs ask for a flow without naming its source,
+        and the name of the site and the changes that were made of it first."""
+        self.domain, self.pim, self.without_source, self.site, self.tried = domain, pim, without_source, site, tried
 
     def words(self, plan):
         """Returns what has the words of a plan."""
@@ -101,7 +101,8 @@ class Printer:
         if not plans:
             yield "no flow to plan"
         yield from self.common_lines(plans)
-        yield "after the plan: summary " + " ".join(f"{it} {after.summary[it]}" for it in COUNTS)
+        counts = [it for it in (*COUNTS, "asked") if it in after.summary]
+        yield " ".join(["after the plan: summary", *(f"{it} {after.summary[it]}" for it in counts)])
         yield f"verdict {after.verdict}"
 
     # JSON
@@ -130,7 +131,8 @@ class Printer:
 
     def json(self, plans, after):
         """Yields all lines of JSON."""
-        for it in (*map(self.object, plans), {"after": after.summary, "verdict": after.verdict}):
+        first = {"format": 1, "site": self.site, "tried": self.tried}
+        for it in (first, *map(self.object, plans), {"summary": after.summary, "verdict": after.verdict}):
             yield json.dumps(it, sort_keys=True, separators=(",", ":"))
 
 

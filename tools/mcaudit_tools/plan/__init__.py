@@ -9,6 +9,7 @@ import contextlib
 import os
 import sys
 
+from mcaudit_tools import audit as audits
 from mcaudit_tools import igmp
 from mcaudit_tools.changes import GRAMMAR, read_changes
 from mcaudit_tools.common import Failed, Parser, Refused, find_tool, from_hex, whole_number
@@ -149,7 +150,8 @@ def main():
     given = read_changes(words.change, words.f) if words.change or words.f else []
     with contextlib.ExitStack() as stack:
         copy = stack.enter_context(Copy(words.site, words.keep))
-        plans, printer, after = run(words, given, copy, stack)
+        with audits.telling(copy.named):
+            plans, printer, after = run(words, given, copy, stack)
         if words.keep is not None:
             copy.keep_folder()
         with printing():

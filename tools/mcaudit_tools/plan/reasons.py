@@ -96,5 +96,4 @@ class Reasons:
         routers = sorted(shut & {router for it in near for router, _ in self.domain.on[it]} or shut)
         if not routers:
             return []
-        which = "their entries are" if len(routers) > 1 else "its entry is"
-        return [f"  not used, since {which} unresolved, or for every source: {' '.join(routers)}; --use ROUTER does"]
+        return [f"  not used, with only an unresolved entry or one for every source: {' '.join(routers)} (see --use)"]

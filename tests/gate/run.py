@@ -236,6 +236,7 @@ def try_program(gate):
     gate.step("what README and the tour show", sys.executable, "tests/docs/run_blocks.py", program)
     gate.step("audits worked out anew", sys.executable, "tests/audited/run.py", program)
     gate.step("topologies in every form", sys.executable, "tests/audited/forms.py", program)
+    gate.step("plans carried out", sys.executable, "tests/audited/plans.py", program)
     gate.step("the schema of audits", "/usr/bin/python3", "tests/audited/schema.py")
     gate.step("a set that is swapped while it is read", sys.executable, "tests/swapped_set.py", program)
     gate.step("refusals of memory, reads and writes", sys.executable, "tests/refusals/run.py", program, *TESTS)

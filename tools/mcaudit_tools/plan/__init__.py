@@ -141,7 +141,8 @@ def run(words, given, copy, stack):
     after = Confirming(mcaudit, copy, before).carry_out(plans)
     if back is not None:
         Confirming(mcaudit, back, before).come_back([it for it in plans if it.is_made])
-    return plans, Printer(before.domain, routers, lans_without_source(copy), copy.named, [it.text for it in given]), after
+    tried = [it.text for it in given]
+    return plans, Printer(before.domain, routers, lans_without_source(copy), copy.named, tried), after
 
 
 def main():

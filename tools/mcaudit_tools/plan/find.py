@@ -3,7 +3,7 @@ import random
 import typing
 
 from mcaudit_tools.plan.differences import changes
-from mcaudit_tools.plan.flight import Flight, Reach, is_right
+from mcaudit_tools.plan.flight import Flight, Reach, fly, is_right
 from mcaudit_tools.plan.grow import Growing, pruned
 from mcaudit_tools.plan.paths import Search
 from mcaudit_tools.plan.search import search
@@ -12,8 +12,7 @@ from mcaudit_tools.plan.task import NoPlan
 UNGROWN = 5  # changes below which is looked, where nothing could be grown
 TRIES, FEW_TRIES = 12, 3  # orders in which entries are grown, of few flows and of many
 MANY = 64  # flows
-SETS = 20000  # of changes that are tried for all flows together, where these are many
-LEAST_SETS = 20  # for each of them
+SETS = 20000  # of changes that are tried for all flows together
 
 
 class Found(typing.NamedTuple):
@@ -33,7 +32,7 @@ class Effort(typing.NamedTuple):
     @classmethod
     def of(cls, flows, sets):
         """Returns it for so many flows, where so many sets of changes may be tried for one."""
-        return cls(FEW_TRIES if flows > MANY else TRIES, min(sets, max(LEAST_SETS, SETS // max(flows, 1))))
+        return cls(FEW_TRIES if flows > MANY else TRIES, min(sets, SETS // max(flows, 1)))
 
 
 def least_changes(task):
@@ -66,7 +65,7 @@ def grown(task, tries, least):
             fault = fault or why
             continue
         made = len(changes(task.entries, entries))
-        if is_right(task, entries) and (best is None or made < count):
+        if is_right(task, fly(task, entries)) and (best is None or made < count):
             best, count = entries, made
         if best is not None and count <= least:
             break

@@ -67,7 +67,6 @@ def missed(task, flight):
     return [it for it in task.wanted if it not in reach or reach[it].need > task.ttl]
 
 
-def is_right(task, entries):
-    """Whether the flow is right by these entries."""
-    flight = fly(task, entries)
+def is_right(task, flight):
+    """Whether the flow is right by what comes of a packet."""
     return not flight.faults and not missed(task, flight)

@@ -98,7 +98,7 @@ def pruned(task, entries):
         for change in changes(task.entries, entries):
             less = taken_back(task, entries, change)
             less_count = len(changes(task.entries, less))
-            if less_count < count and is_right(task, less):
+            if less_count < count and is_right(task, fly(task, less)):
                 entries, count, is_shorter = less, less_count, True
                 break
     return entries

@@ -1,4 +1,5 @@
 """Plans of flows, or why there are none, before the program has judged them."""
+import dataclasses
 import functools
 
 from mcaudit_tools.plan.confirm import Plan
@@ -21,33 +22,35 @@ class Maker:
         of which no router has an entry are planned."""
         self.domain, self.entries, self.effort, self.use = domain, entries, effort, frozenset(use)
         self.has_new, self.odd, self.known = has_new, entries.odd(), {}
+        self.usual = {router: {vif: entries.threshold(router, vif) for vif in vifs}
+                      for router, vifs in domain.placed.items()}
 
     def task_of(self, flow):
         """Returns what is to be planned of a flow."""
         entries = self.entries
         return Task(self.domain, flow.ttl, flow.lan, flow.wanted, entries.of(flow), entries.every_source(flow),
-                    entries.unresolved(flow), self.use, entries.threshold)
+                    entries.unresolved(flow), self.use, self.usual)
 
     def plan(self, flow):
         """Returns the plan of a flow. Of flows whose entries are alike all have the same."""
         if self.odd:
             return Plan(flow, reasons=[f"{' '.join(self.odd)}: {ODD}"])
-        task = self.task_of(flow)
+        key = (flow.ttl, flow.lan, flow.wanted, self.entries.key(flow), frozenset(self.entries.every_source(flow)))
+        if key not in self.known:
+            self.known[key] = self.found(self.task_of(flow))
+        task, found, steps = self.known[key]
         if not task.entries and not self.has_new:
             return Plan(flow, reasons=[NO_ENTRY])
-        key = (flow.ttl, flow.lan, flow.wanted, self.entries.key(flow), frozenset(task.every_source))
-        if key not in self.known:
-            try:
-                self.known[key] = self.found(task)
-            except NoPlan as fault:
-                self.known[key] = fault
-        found = self.known[key]
         if isinstance(found, NoPlan):
             return Plan(flow, reasons=Reasons(task, flow).of(found))
-        result, steps = found
-        return Plan(flow, task, result.entries, steps, result.number, result.least)
+        return Plan(flow, task, found.entries, [dataclasses.replace(it) for it in steps], found.number, found.least)
 
     def found(self, task):
-        """Returns the entries of a plan, and its steps."""
-        result = find(task, self.effort)
-        return result, steps_to(task, result.entries, functools.partial(has_device, self.domain))
+        """Returns a task, what is found of it, or why there is no plan, and the steps."""
+        if not task.entries and not self.has_new:
+            return task, None, []
+        try:
+            found = find(task, self.effort)
+        except NoPlan as fault:
+            return task, fault, []
+        return task, found, steps_to(task, found.entries, functools.partial(has_device, self.domain))

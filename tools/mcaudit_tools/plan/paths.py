@@ -3,7 +3,10 @@ in the entries costs nothing."""
 import heapq
 import itertools
 
+from mcaudit_tools.plan.flight import GREATEST
+
 UNREACHED = 999  # a rank that no LAN has
+NO_ENTRY = (None, {})
 ATTEMPTS = 8  # at a path that meets no router twice
 
 
@@ -51,18 +54,19 @@ class Search:
             return 1
         placed, task = self.task.domain.placed[router], self.task  # what it sends already may be second copies here
         return 1 + sum(1 for to, threshold in entry[1].items()
-                       if placed.get(to) in (None, task.lan, lan) and task.passes(rank, threshold))
+                       if placed.get(to) in (None, task.lan, lan) and GREATEST - rank > threshold)
 
     def hops(self, router, vif, lan, rank):
         """Yields what it costs that a router forwards by a vif, that vif, and its LAN."""
-        task, entry = self.task, self.entries.get(router)
+        task, has, usual = self.task, self.entries.get(router, NO_ENTRY)[1], self.task.usual[router]
+        source, banned, reach, most = task.lan, task.banned, self.flight.reach, self.ttl - rank
         for to_vif, to_lan in task.domain.placed[router].items():
-            if to_vif == vif or to_lan in (lan, task.lan) or to_lan in task.banned:
+            if to_vif == vif or to_lan == lan or to_lan == source or to_lan in banned:
                 continue
-            has = entry is not None and to_vif in entry[1]
-            if not task.passes(rank, entry[1][to_vif] if has else task.threshold(router, to_vif), self.ttl):
+            cost = int(to_vif not in has)
+            if most <= (usual[to_vif][0] if cost else has[to_vif]):
                 continue
-            cost, reached = int(not has), self.flight.reach.get(to_lan)
+            reached = reach.get(to_lan)
             if reached is not None and (reached.router, reached.vif) != (router, to_vif):
                 if (reached.router, reached.vif) in self.pins:
                     continue

@@ -19,9 +19,9 @@ def senders_to(flight, lan):
 class Branches:
     """The changes over which the search branches at some entries that aren't right."""
 
-    def __init__(self, task, entries):
-        """Takes the entries."""
-        self.task, self.entries, self.flight = task, entries, fly(task, entries)
+    def __init__(self, task, entries, flight):
+        """Takes the entries and their flight."""
+        self.task, self.entries, self.flight = task, entries, flight
 
     def ends(self, senders):
         """Returns the changes that end a path: one of its outgoing vifs goes, or a router on it takes the flow by
@@ -99,23 +99,23 @@ class Branches:
 def search(task, most, limit):
     """Looks for entries by which the flow is right with less than `most` changes, among so many sets of changes.
     Returns them or None, and the number of changes below which there are none."""
-    level, seen, tried = {frozenset(): task.entries}, set(), 0
+    level, seen, tried = [(frozenset(), task.entries, None)], set(), 0
     for depth in range(most):
-        following = {}
-        for changed, entries in level.items():
+        following = []
+        for changed, before, last in level:
             tried += 1
             if tried > limit:
                 return None, depth
-            if is_right(task, entries):
+            entries = turned(task, before, last) if last else before
+            flight = fly(task, entries)
+            if is_right(task, flight):
                 return entries, depth
             if depth + 1 >= most:
                 continue
-            for change in Branches(task, entries).fewest(changed):
-                if change.kind == "out" and change.router not in entries:
-                    continue
+            for change in Branches(task, entries, flight).fewest(changed):
                 made = changed | {change}
-                if made not in seen:
+                if made not in seen and (change.kind == "in" or change.router in entries):
                     seen.add(made)
-                    following[made] = turned(task, entries, change)
+                    following.append((made, entries, change))
         level = following
     return None, most

@@ -83,8 +83,9 @@ class Order:
         return flight.faults, frozenset(self.task.wanted) - frozenset(missed(self.task, flight))
 
     def greedy(self, steps):
-        """Returns the steps in an order in which each is the best: with no further fault, then with the fewest LANs lost
-        and the most reached; of equal ones those that take out come first, and of those that put in the last routers."""
+        """Returns the steps in an order in which each is the best: with no further fault, then with the fewest LANs
+        lost and the most reached; of equal ones those that take out come first, and of those that put in the last
+        routers."""
         entries, left, found = self.task.entries, list(range(len(steps))), []
         faults, reached = self.state(entries)
         while left:
@@ -157,8 +158,8 @@ def merged(steps):
 
 
 def steps_to(task, new, has_device):
-    """Returns the steps that lead to new entries, in the first order in which none makes a loop, a duplicate or a stray;
-    in the first one, where all do."""
+    """Returns the steps that lead to new entries, in the first order in which none makes a loop, a duplicate or a
+    stray; in the first one, where all do."""
     order, first = Order(task, new), None
     for steps in order.orders(has_device):
         found = order.checked(steps)

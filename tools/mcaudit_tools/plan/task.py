@@ -2,8 +2,6 @@
 import dataclasses
 import typing  # noqa: F401
 
-from mcaudit_tools.plan.flight import GREATEST
-
 
 @dataclasses.dataclass
 class Task:
@@ -18,7 +16,7 @@ class Task:
     every_source: set  # routers with an entry for every source
     unresolved: set  # routers with an unresolved row alone
     use: frozenset  # routers that may be given an entry in front of one for every source, or of an unresolved row
-    threshold_of: "typing.Callable"  # of a router and a vif: that of an entry made now, and whether rows tell it
+    usual: dict  # by router and vif, the threshold that an entry made now gets, and whether other rows tell it
 
     def __post_init__(self):
         """Works out which routers and LANs no plan may use."""
@@ -28,11 +26,7 @@ class Task:
 
     def threshold(self, router, vif):
         """Returns the threshold that an entry made now gets at a vif."""
-        return self.threshold_of(router, vif)[0]
-
-    def passes(self, rank, threshold, ttl=GREATEST):
-        """Whether a packet sent with this time to live passes a threshold behind so many routers."""
-        return ttl - rank > threshold
+        return self.usual[router][vif][0]
 
 
 class NoPlan(Exception):

@@ -45,8 +45,8 @@ class Printer:
                          "which routers ignore: mend the hosts or the querier first")
         for router in plan.routers():
             if router in plan.task.every_source and not plan.entries[router][1]:
-                notes.append(f"{router} has an entry for every source too, which forwards the flow once this entry to none "
-                             "is gone, as after a restart")
+                notes.append(f"{router} has an entry for every source too, which forwards the flow once this entry to "
+                             "none is gone, as after a restart")
         if plan.back is not None:
             notes.append(f"when what is down is back: {plan.back.text}; take these changes back before")
         return notes

@@ -75,12 +75,12 @@ class Words:
 
 
 def assumed(domain, plan):
-    """Yields the thresholds of outgoing vifs that come, or come again, where other entries don't tell that they are 1."""
+    """Yields the thresholds of outgoing vifs that come, or come again, where entries don't tell that they are 1."""
     remade = {it.router for it in plan.steps if it.is_whole}
     for router, entry in sorted(plan.entries.items()):
         was = plan.task.entries.get(router, (0, {}))[1]
         for vif in sorted(entry[1].keys() if router in remade else entry[1].keys() - was.keys()):
-            usual, is_told = plan.task.threshold_of(router, vif)
+            usual, is_told = plan.task.usual[router].get(vif, (1, False))
             threshold = entry[1][vif]
             if is_told and threshold == usual == 1:
                 continue

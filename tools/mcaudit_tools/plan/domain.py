@@ -62,9 +62,11 @@ class Domain:
             self.devices[router, int(vif)] = str(it["device"])
             if lan is not None:
                 self.placed[router][int(vif)] = str(lan)
+        self.onward = {it: [] for it in self.lans}  # router, incoming vif, and the outgoing vifs with their LANs
         for router, vifs in self.placed.items():
             for vif, lan in vifs.items():
                 self.on[lan].append((router, vif))
+                self.onward[lan].append((router, vif, [(to, of) for to, of in vifs.items() if to != vif and of != lan]))
 
     @property
     def routers(self):

@@ -2,16 +2,16 @@
 import random
 import typing
 
+from mcaudit_tools.plan.back import least_changes
 from mcaudit_tools.plan.differences import changes
-from mcaudit_tools.plan.flight import Flight, Reach, fly, is_right
+from mcaudit_tools.plan.flight import fly, is_right
 from mcaudit_tools.plan.grow import Growing, pruned
 from mcaudit_tools.plan.paths import Search
 from mcaudit_tools.plan.search import search
 from mcaudit_tools.plan.task import NoPlan
 
 UNGROWN = 5  # changes below which is looked, where nothing could be grown
-TRIES, FEW_TRIES = 12, 3  # orders in which entries are grown, of few flows and of many
-MANY = 64  # flows
+TRIES = (64, 12), (512, 3)  # up to so many flows, the orders in which entries are grown; of more it is one
 SETS = 20000  # of changes that are tried for all flows together
 
 
@@ -32,26 +32,25 @@ class Effort(typing.NamedTuple):
     @classmethod
     def of(cls, flows, sets):
         """Returns it for so many flows, where so many sets of changes may be tried for one."""
-        return cls(FEW_TRIES if flows > MANY else TRIES, min(sets, SETS // max(flows, 1)))
+        return cls(next((tries for most, tries in TRIES if flows <= most), 1), min(sets, SETS // max(flows, 1)))
 
 
-def least_changes(task):
-    """Returns a number of changes that every plan has. There is none where some LAN has no path, whatever changes."""
+def check_source(task):
+    """Tells by NoPlan that a packet comes to a router that has an entry for every source alone, whatever changes."""
     if task.lan in task.banned:
         router = next(it for it, _ in task.domain.on[task.lan] if it in task.open - task.use)
         raise NoPlan("open", task.lan, router)
-    alone = Flight({task.lan: Reach(0, 1, None, None, None)}, [], [], [])
-    left, least = set(task.wanted) - {task.lan}, 1
-    if left:
-        for cost, lan, _ in Search(task, task.entries, alone, set(), task.ttl).ways():
-            if lan in left:
-                left.discard(lan)
-                least = max(least, cost)
-                if not left:
-                    break
+
+
+def check_paths(task):
+    """Tells by NoPlan that some LAN has no path, whatever changes."""
+    left = set(task.wanted) - {task.lan}
+    for _, lan, _ in Search(task, task.entries, {}).ways(task.ttl):
+        left.discard(lan)
+        if not left:
+            return
     if left:
         raise NoPlan("no path", next(it for it in task.wanted if it in left))
-    return least
 
 
 def grown(task, tries, least):
@@ -62,6 +61,8 @@ def grown(task, tries, least):
         try:
             entries = pruned(task, Growing(task, pick, is_far=number == 1).grow())
         except NoPlan as why:
+            if fault is None:
+                check_paths(task)
             fault = fault or why
             continue
         made = len(changes(task.entries, entries))
@@ -74,7 +75,8 @@ def grown(task, tries, least):
 
 def find(task, effort):
     """Returns entries by which the flow is right, with few changes; or tells by NoPlan why there are none."""
-    least = least_changes(task)
+    check_source(task)
+    least = least_changes(task, fly(task, task.entries).reach)
     best, count, fault = grown(task, effort.tries, least)
     if best is not None and count <= least:
         return Found(best, count, count)

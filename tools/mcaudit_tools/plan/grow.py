@@ -1,5 +1,6 @@
 """Entries by which a flow is right, grown from those that are there: what makes second copies and strays goes, then one
 path after the other comes, and at last each change goes that isn't needed."""
+from mcaudit_tools.plan.back import back_to
 from mcaudit_tools.plan.differences import changes, taken_back
 from mcaudit_tools.plan.flight import fly, is_right, missed
 from mcaudit_tools.plan.paths import path_to
@@ -63,6 +64,13 @@ class Growing:
             raise NoPlan("open", lan, router)
         self.cut(first.router, first.vif)
 
+    def path(self, reach, targets):
+        """Returns the hops of a path to one of the targets, or None."""
+        hops = None
+        if not self.is_far and not any(it in reach for it in targets):
+            hops = back_to(self.task, self.entries, reach, self.pins, targets)
+        return hops or path_to(self.task, self.entries, reach, self.pins, targets, self.task.ttl, self.is_far)
+
     def take(self, hops):
         """Makes the entries that a path needs."""
         for router, vif, to_vif in hops:
@@ -83,7 +91,7 @@ class Growing:
                 return self.entries
             if self.pick and self.pick.random() < ONE_TARGET:
                 targets = [self.pick.choice(targets)]
-            hops = path_to(self.task, self.entries, flight, self.pins, targets, self.task.ttl, self.is_far)
+            hops = self.path(flight.reach, targets)
             if not hops:
                 raise NoPlan("no path", targets[0])
             self.take(hops)

@@ -2,10 +2,8 @@
 or router would help."""
 from mcaudit_tools.plan.flight import GREATEST, missed
 from mcaudit_tools.plan.grow import Growing
-from mcaudit_tools.plan.paths import path_to
+from mcaudit_tools.plan.paths import NO_LIMIT, path_to
 from mcaudit_tools.plan.task import NoPlan
-
-NO_LIMIT = 10 ** 6  # a time to live that passes each threshold
 
 
 class Reasons:
@@ -38,7 +36,7 @@ class Reasons:
 
     def path(self, lan, ttl):
         """Returns the path to a LAN for packets sent with this time to live, or None."""
-        return path_to(self.task, self.growing.entries, self.flight, set(), [lan], ttl)
+        return path_to(self.task, self.growing.entries, self.flight.reach, set(), [lan], ttl)
 
     def unreached(self, lan):
         """Returns why a LAN can't be reached."""

@@ -139,6 +139,7 @@ class Made(random_domains.Made):
 
     def set_entry(self, router, source, group, entry):
         """Gives a router an entry, as a person does."""
+        self.first(router, source, group)
         rows = [it for it in self.rows[router] if it[:2] != [group, source]]
         made = [[group, source, str(entry["from"]), {it["vif"]: it["threshold"] for it in entry["to"]}]] if entry else []
         self.rows[router] = rows + made
@@ -244,10 +245,22 @@ class Plans:
         """Looks at the reasons why there is no plan."""
         reasons = " ".join(line["why"])
         self.shown |= {it for it in SHOWN if it in reasons}
+        strayed = re.search(r"one makes Stray (\S+) ", reasons)
+        if strayed:
+            self.judge_stray(line, strayed[1])
+            return
         if not reasons or "no plan found" in reasons or "none was found" in reasons:
             self.wrong.append(f"flow {line['flow']}: {reasons}")
         if "groups that are none" not in reasons and "no router has an entry" not in reasons:
             self.judge_fewer(line, TRIED)
+
+    def judge_stray(self, line, router):
+        """Sees that copies come to a router whatever is changed, and that it has an entry for every source too: then its
+        entry can't be turned by commands without a stray in between."""
+        flow, number = self.domain.flows[line["flow"] - 1], self.domain.routers.index(router)
+        is_near = number in (router for router, _ in self.domain.on_lan[flow[3]])
+        if not is_near or self.domain.tables[number].row_for_every_source(flow[1]) is None:
+            self.wrong.append(f"flow {line['flow']}: {line['why']}")
 
     # ---- all sets of a few changes
 

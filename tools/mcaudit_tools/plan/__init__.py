@@ -12,11 +12,11 @@ import sys
 from mcaudit_tools import audit as audits
 from mcaudit_tools import igmp
 from mcaudit_tools.changes import GRAMMAR, read_changes
-from mcaudit_tools.common import Failed, Parser, Refused, find_tool, from_hex, whole_number
+from mcaudit_tools.common import Parser, Refused, find_tool, from_hex, whole_number
 from mcaudit_tools.files import printing, read_regular
 from mcaudit_tools.plan import pim
 from mcaudit_tools.plan.confirm import Confirming
-from mcaudit_tools.plan.domain import UNREADABLE, Answer
+from mcaudit_tools.plan.domain import judge
 from mcaudit_tools.plan.entries import MOST_TABLE, Entries
 from mcaudit_tools.plan.find import Effort
 from mcaudit_tools.plan.make import Maker
@@ -75,15 +75,16 @@ def read_arguments():
     return found
 
 
-def answer_of(objects):
-    """Returns what the objects of an audit's lines say."""
-    answer = Answer()
-    try:
-        for line in objects:
-            answer.take(line)
-    except UNREADABLE as fault:
-        raise Failed(f"what mcaudit answers can't be read: {fault}") from fault
-    return answer
+def judge_whole(mcaudit, copy):
+    """Returns what the program says of the copy, which learns of it which routers and flows it has."""
+    def see(value):
+        """Lets the copy see what it has to know."""
+        if "domain" in value or "flow" in value:
+            copy.take_line(value)
+    copy.write()
+    found = judge(mcaudit, copy.folder, see)
+    copy.check()
+    return found
 
 
 def check_words(words, answer):
@@ -124,17 +125,17 @@ def make_plans(words, copy, answer):
 def run(words, given, copy, stack):
     """Plans on the copy. Returns the plans, what prints them, and what the program says in the end."""
     mcaudit, site = find_tool("mcaudit"), os.path.realpath(words.site)
-    before = answer_of(copy.audit())
+    before = judge_whole(mcaudit, copy)
     back = None
     if any(it.verb == "down" for it in given):
         back = stack.enter_context(Copy(copy.folder))
-        answer_of(back.audit())
+        judge_whole(mcaudit, back)
         for change in given:
             if change.verb != "down":
                 back.apply(change)
     for change in given:
         copy.apply(change)
-    before = answer_of(copy.audit()) if given else before
+    before = judge_whole(mcaudit, copy) if given else before
     check_words(words, before)
     routers = pim.routers_of(copy.folder, site, before.domain.routers) - set(words.smcroute or ())
     plans = make_plans(words, copy, before)

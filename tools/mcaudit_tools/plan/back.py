@@ -1,5 +1,5 @@
 """Paths from a LAN that isn't reached back to the LANs that are, with the fewest changes: a search that looks at few
-LANs, since it ends where the flow is already. It knows no time to live, so a path is looked at again from the source."""
+LANs, since it ends where the flow is already. It knows no time to live, so a path is looked at anew from the source."""
 import heapq
 import itertools
 
@@ -58,8 +58,8 @@ class Back:
 
 
 def back_to(task, entries, reach, pins, targets):
-    """Returns the hops of a path from the source to the nearest of the targets, none of which is reached; or None, where
-    that isn't passed by packets of the flow, or a router would take them by two vifs."""
+    """Returns the hops of a path from the source to the nearest of the targets, none of which is reached; or None,
+    where that isn't passed by packets of the flow, or a router would take them by two vifs."""
     found = Back(task, entries, reach, pins).nearest(targets)
     if found is None:
         return None

@@ -4,13 +4,10 @@ plan that it doesn't find right, or of which a step makes a loop, a duplicate or
 Plans of different flows are of different entries. So the first steps of all plans are audited at once, then the second
 ones, and so on: as many audits as the longest plan has steps."""
 import dataclasses
-import os
 
 from mcaudit_tools.common import Failed
 from mcaudit_tools.plan.domain import judge
 from mcaudit_tools.rewrite import Entry
-
-OUTPUT = ".audit"  # the file in the copy that an audit's answer lies in
 
 
 @dataclasses.dataclass
@@ -52,7 +49,7 @@ class Confirming:
     def judge(self):
         """Returns what the program says of the copy now."""
         self.copy.write()
-        return judge(self.mcaudit, self.copy.folder, os.path.join(self.copy.folder, OUTPUT))
+        return judge(self.mcaudit, self.copy.folder)
 
     def put(self, router, flow, entry):
         """Gives a router an entry of a flow, or takes it away."""

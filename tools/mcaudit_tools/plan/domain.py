@@ -1,12 +1,12 @@
 """What an audit answers, as far as plans are made of it: which vif is on which LAN, and each flow that isn't right."""
 import dataclasses
-import os
+import sys
 
 from mcaudit_tools import audit as audits
 from mcaudit_tools.common import Failed, Refused
-from mcaudit_tools.files import failing
 from mcaudit_tools.programs import run
 
+MOST_BYTES = 1 << 30  # of what an audit prints
 UNREADABLE = KeyError, TypeError, AttributeError, ValueError, IndexError
 ABSENT = "no_vif", "not_multicast"  # causes that tell of an interface by which nothing can be sent
 
@@ -17,7 +17,6 @@ class Finding:
 
     kind: str
     text: str  # as the audit's own line has it
-    missed: "frozenset | None"  # the wanting LANs that it doesn't reach, where nothing worse is found
 
     @property
     def is_worse(self):
@@ -110,39 +109,55 @@ def finding_of(line):
     value = line["finding"]
     kind = str(value["kind"])
     if kind == "Stray":
-        return Finding(kind, f"{kind} {value['router']} {value['vif']}", None)
-    missed = frozenset([value["lan"], *line["also"]]) if kind == "Missed" else None
-    return Finding(kind, f"{kind} {value['lan']}", missed)
+        return Finding(kind, f"{kind} {value['router']} {value['vif']}")
+    return Finding(kind, f"{kind} {value['lan']}")
 
 
 def flow_of(line, domain):
     """Returns the flow of an object with a finding."""
     absent = [(str(it["lan"]), str(it["router"]), str(it["device"])) for it in line["why"] if it["kind"] in ABSENT]
     return Flow(int(line["flow"]), str(line["source"]), str(line["group"]), int(line["ttl"]),
-                domain.sources[line["source"]], tuple(str(it) for it in line["wanted"]), finding_of(line), absent)
+                domain.sources[line["source"]], tuple(sys.intern(it) for it in line["wanted"]), finding_of(line), absent)
 
 
-def judge(mcaudit, folder, path):
-    """Has the program judge a folder, and returns what it answers. That lies in the file of the path meanwhile."""
-    with failing(f"{path} can't be written"), open(path, "wb") as file:
-        came = run([mcaudit, "audit", "--json", "--faults", folder], seconds=audits.AUDITING, most=audits.MOST_BYTES,
-                   into=file, keeps_words=False)
-    if came.is_late or came.is_long:
-        raise Failed(f"mcaudit audit took more than {audits.AUDITING} s, or printed more than {audits.MOST_BYTES} B")
-    if came.status not in (0, 1):
-        raise Failed(f"mcaudit audit ended with status {came.status}", came.status if came.status in (2, 4) else 3)
+class Reading:
+    """What an audit prints, read as it comes: of many flows it may be more than memory has."""
+
+    def __init__(self, is_whole, see):
+        """Takes whether all flows are told, and what sees each object too."""
+        self.lines, self.answer, self.see, self.rest = audits.Lines(is_whole, MOST_BYTES), Answer(), see, b""
+
+    def write(self, piece):
+        """Takes a piece of it."""
+        *lines, self.rest = (self.rest + piece).split(b"\n")
+        if len(self.rest) > audits.MOST_LINE:
+            raise Refused("a line of it is too long")
+        for line in lines:
+            value = self.lines.read(line + b"\n")
+            self.answer.take(value)
+            self.see(value)
+
+    def end(self):
+        """Returns what it says, once all came."""
+        if self.rest:
+            self.lines.read(self.rest)
+        self.lines.end()
+        return self.answer
+
+
+def judge(mcaudit, folder, see=None):
+    """Has the program judge a folder, and returns what it answers; all flows are told to what sees each object, where
+    there is such, and else only the faults."""
+    reading = Reading(see is not None, see or (lambda _: None))
+    words = [mcaudit, "audit", "--json", *([] if see else ["--faults"]), folder]
     try:
-        return read_answer(path)
-    except (Refused, *UNREADABLE) as fault:
-        raise Failed(f"what mcaudit audit answers can't be read: {fault}") from fault
-    finally:
-        os.unlink(path)
-
-
-def read_answer(path):
-    """Reads what an audit with --faults answered."""
-    answer = Answer()
-    with open(path, "rb") as file:
-        for line in audits.lines_of(file, is_whole=False):
-            answer.take(line)
-    return answer
+        came = run(words, seconds=audits.AUDITING, most=MOST_BYTES, into=reading, keeps_words=False)
+        if came.is_late or came.is_long:
+            raise Failed(f"mcaudit took more than {audits.AUDITING} s, or printed more than {MOST_BYTES} bytes")
+        if came.status == 2:
+            raise Refused("mcaudit refuses it")
+        if came.status not in (0, 1):
+            raise Failed(f"mcaudit ended with status {came.status}", 4 if came.status == 4 else 3)
+        return reading.end()
+    except (audits.NoAudit, *UNREADABLE) as fault:
+        raise Failed(f"what mcaudit answers can't be read: {fault}") from fault

@@ -6,7 +6,7 @@ import itertools
 from mcaudit_tools.plan.flight import GREATEST
 
 UNREACHED = 999  # a rank that no LAN has
-NO_ENTRY = (None, {})
+NO_ENTRY: "tuple[None, dict]" = (None, {})
 NO_LIMIT = 10 ** 6  # a time to live that passes each threshold
 ATTEMPTS = 8  # at a path that meets no router twice
 

@@ -122,9 +122,9 @@ def make_plans(words, copy, answer):
     return [maker.plan(it) for it in flows]
 
 
-def run(words, given, copy, stack):
-    """Plans on the copy. Returns the plans, what prints them, and what the program says in the end."""
-    mcaudit, site = find_tool("mcaudit"), os.path.realpath(words.site)
+def run(words, site, given, copy, stack):
+    """Plans on the copy of the set in the folder site. Returns the plans, what prints them, and what the program says in the end."""
+    mcaudit = find_tool("mcaudit")
     before = judge_whole(mcaudit, copy)
     back = None
     if any(it.verb == "down" for it in given):
@@ -149,11 +149,12 @@ def run(words, given, copy, stack):
 def main():
     """Plans. Returns the status."""
     words = read_arguments()
+    site = os.path.realpath(words.site)  # where a link that moves leads now
     given = read_changes(words.change, words.f) if words.change or words.f else []
     with contextlib.ExitStack() as stack:
         copy = stack.enter_context(Copy(words.site, words.keep))
         with audits.telling(copy.named):
-            plans, printer, after = run(words, given, copy, stack)
+            plans, printer, after = run(words, site, given, copy, stack)
         if words.keep is not None:
             copy.keep_folder()
         with printing():

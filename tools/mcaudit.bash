@@ -41,7 +41,7 @@ _mcaudit_tool() {
     shift 3
     COMPREPLY=()
     case $before in
-        -o | -f | --routers | --capture | --audit | --program | --prometheus) kind='file' ;;
+        -o | -f | --routers | --capture | --audit | --plan | --program | --prometheus) kind='file' ;;
         --all) kind=directory ;;
         --readings | --pause | --timeout | --at-once | --ssh | --wait | --slack \
         | --queries | --network | --querier | --interface) return ;;
@@ -79,7 +79,7 @@ _mcaudit_draft() {
 
 _mcaudit_page() {
     _mcaudit_tool "${COMP_WORDS[COMP_CWORD]}" "${COMP_WORDS[COMP_CWORD - 1]}" directory \
-        -o --audit --program --without --version --help
+        -o --audit --plan --program --without --version --help
 }
 
 _mcaudit_plan() {

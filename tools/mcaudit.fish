@@ -117,6 +117,7 @@ __mcaudit_options mcaudit-monitor true $routers $timeout $readings \
 __mcaudit_options mcaudit-page true \
     '-o:file:write the page into a file' \
     '--audit:file:take what an audit answered' \
+    '--plan:file:show the plans of a file too' \
     '--program:file:run this program for mcaudit' \
     '--without:value:audit without the tables of a router'
 __mcaudit_options mcaudit-plan true \

@@ -75,6 +75,7 @@ mcaudit-page)
     _arguments $about $site \
         '-o[write the page into a file]:file:_files' \
         '--audit[take what an audit answered]:file:_files' \
+        '--plan[show the plans of a file too]:file:_files' \
         '--program[run this program for mcaudit]:program:_files' \
         '*--without[audit without the tables of a router]:router: ' ;;
 mcaudit-plan)

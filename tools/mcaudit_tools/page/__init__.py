@@ -12,6 +12,7 @@ from mcaudit_tools.common import Parser, find_tool
 from mcaudit_tools.files import beside, failing, printing
 from mcaudit_tools.page.answer import read_audit, run_audit
 from mcaudit_tools.page.graph import Graph, roots_of
+from mcaudit_tools.page.plans import read_plans
 from mcaudit_tools.page.remarks import Folder
 from mcaudit_tools.page.render import page_of
 
@@ -32,6 +33,7 @@ Examples:
 OPTIONS = [("-o", "FILE", "write the page into FILE; without it to standard output"),
            ("--audit", "FILE", "run no audit: take what one answered with --json --travel --unlisted from FILE, or "
             "from - for standard input"),
+           ("--plan", "FILE", "show the plans too that `mcaudit-plan --json` printed of the same set into FILE"),
            ("--program", "PATH", "run PATH for mcaudit"),
            ("--without", "ROUTER", "audit without this router's tables, as mcaudit audit --without")]
 
@@ -73,6 +75,8 @@ def main():
     find_tool("dot", ": it comes with graphviz")
     folder = None if words.site is None else Folder(words.site)
     audit = read_audit(words.audit) if words.audit is not None else run_audit(words, folder)
+    if words.plan is not None:
+        audit.plans = read_plans(words.plan, audit)
     graph = Graph(audit.domain, roots_of(audit))
     page = page_of(audit, graph if graph.lay_out() else None, folder)
     if words.audit is None:

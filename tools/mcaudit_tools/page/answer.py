@@ -53,6 +53,7 @@ class Audit:
         self.trees, self.flows, self.unlisted, self.without = [], [], [], []
         self.reasons, self.travels = {}, {}  # their numbers by their JSON, each once
         self.unlisted_more = 0
+        self.plans = None  # of its flows, where they are shown beside it
 
     def take(self, line):
         """Takes a line's object."""

@@ -7,6 +7,7 @@ from mcaudit_tools.common import PROGRAM
 from mcaudit_tools.page.explain import FLOW, MEANS, MISSED_PERHAPS, SEEN, some
 from mcaudit_tools.page.graph import DRAWING
 from mcaudit_tools.page.markup import Markup, digest, json_markup, table_of, tag
+from mcaudit_tools.page.plans import plans_section
 from mcaudit_tools.page.remarks import collected_section, unjudged_section, unlisted_section
 from mcaudit_tools.page.travel import OUTCOMES
 
@@ -134,7 +135,8 @@ def page_of(audit, graph, folder):
               f"script-src {digest(WAIT)} {digest(script)}")
     site = folder.named if folder else None
     named = f" of {site}" if site else ""
-    sections = [("Flows that are not listed", unlisted_section(audit)),
+    planned = [] if audit.plans is None else [("What to do about it", plans_section(audit.plans))]
+    sections = [*planned, ("Flows that are not listed", unlisted_section(audit)),
                 ("What was collected, and when", collected_section(audit.domain, folder)),
                 ("What is not judged", unjudged_section(audit, folder))]
     head = [tag("meta", charset="utf-8"), tag("meta", http_equiv="Content-Security-Policy", content=policy),

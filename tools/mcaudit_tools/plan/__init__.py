@@ -123,7 +123,8 @@ def make_plans(words, copy, answer):
 
 
 def run(words, site, given, copy, stack):
-    """Plans on the copy of the set in the folder site. Returns the plans, what prints them, and what the program says in the end."""
+    """Plans on the copy of the set in the folder site. Returns the plans, what prints them, and what the program says
+    in the end."""
     mcaudit = find_tool("mcaudit")
     before = judge_whole(mcaudit, copy)
     back = None

@@ -117,7 +117,7 @@ def flow_of(line, domain):
     """Returns the flow of an object with a finding."""
     absent = [(str(it["lan"]), str(it["router"]), str(it["device"])) for it in line["why"] if it["kind"] in ABSENT]
     return Flow(int(line["flow"]), str(line["source"]), str(line["group"]), int(line["ttl"]),
-                domain.sources[line["source"]], tuple(sys.intern(it) for it in line["wanted"]), finding_of(line), absent)
+                domain.sources[line["source"]], tuple(map(sys.intern, line["wanted"])), finding_of(line), absent)
 
 
 class Reading:

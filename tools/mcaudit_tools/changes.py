@@ -10,8 +10,9 @@ from mcaudit_tools import igmp
 from mcaudit_tools.common import Failed, Wrong, is_name
 from mcaudit_tools.files import read_regular
 
-GRAMMAR = """A CHANGE is one argument, in quotes; -f FILE has one on each line, with comments behind #. DEVICE is
-what a router calls an interface, S a source, G a group, N a number:
+GRAMMAR = """A CHANGE is one argument, in quotes. -f FILE has one on each line, and comments: lines that begin with #,
+and what stands behind # and a blank. DEVICE is what a router calls an interface, S a source, G a group, N a
+number:
   ROUTER: add DEVICE S G DEVICE ... [ttl N]
       as smcroutectl: makes the entry that comes in by the first device, or adds outgoing devices to it; without
       `ttl N` with the threshold that other entries of the router have at the device, or else with 1
@@ -35,6 +36,7 @@ MOST_CHANGES = 1 << 16
 MOST_THRESHOLD, MOST_TTL = 254, 255  # a threshold of 255 forwards nothing, and the kernel doesn't print it
 KINDS = "router", "lan"
 STANDARD = "-"  # the name of standard input
+COMMENT = re.compile(r"^[ \t]*#.*|[ \t]#[ \t].*")  # on a line of a file: a device may begin with #, too
 OF_ROUTERS = "add", "remove", "delete", "threshold"
 OF_LANS = "join", "leave"
 OF_FLOWS = "ttl", "new"
@@ -174,7 +176,7 @@ def read_changes(words, files):
     found = [parse(it) for it in words]
     for path in files:
         for number, line in enumerate(lines_of(path), 1):
-            text = re.sub(r"(^|[ \t])#.*", "", line)
+            text = COMMENT.sub("", line)
             if words_of(text):
                 try:
                     found.append(parse(text))

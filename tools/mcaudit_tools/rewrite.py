@@ -152,8 +152,8 @@ class CacheTable:
                      if key[at:at + 1] != b"E" and not key.startswith(EVERY)), None)
 
     def put(self, source, group, entry):
-        """Writes an entry, or takes it out where it is None. With it the unresolved lines of them go, as the kernel
-        resolves them."""
+        """Writes an entry, or takes it out where it is None. With a new one the unresolved lines of them go, as the
+        kernel resolves them."""
         key = self.key(source, group)
         words = self.words(key)
         if entry is None:
@@ -268,7 +268,7 @@ def asks(record, source):
 def without(record, source):
     """Returns the record of a host that doesn't want its group any more, or this source of it; None where it wants
     nothing then."""
-    if record.kind not in igmp.CURRENT or not asks(record, source):
+    if not asks(record, source):
         return record
     if source is None:
         return None

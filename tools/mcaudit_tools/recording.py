@@ -10,7 +10,8 @@ DIGITS = re.compile(rb"[ \t]+0x([0-9a-f]+):  ?(.*)", re.DOTALL)
 SECONDS = re.compile(rb"[0-9]{1,12}(\.[0-9]{1,9})?")
 CLOCK = re.compile(rb"([0-9]{2}):([0-9]{2}):([0-9]{2})(?:\.([0-9]{1,9}))?")
 DATE = re.compile(rb"[0-9]{4}-[0-9]{2}-[0-9]{2}")
-LINK = re.compile(rb" (?:[0-9a-f:]{17}) (?:\([^)]*\) )?> ([0-9a-f:]{17}|Broadcast)(?: \([^)]*\))?, ")
+LINK = re.compile(rb" ([0-9a-f:]{17}) (?:\([^)]*\) )?> ([0-9a-f:]{17}|Broadcast)(?: \([^)]*\))?, ")
+MAC = re.compile(rb"[0-9a-f]{2}(:[0-9a-f]{2}){5}")
 TAG = re.compile(rb"\bvlan ([0-9]{1,4})\b")
 DAY, HALF_DAY = 86400 * SECOND, 43200 * SECOND
 
@@ -81,7 +82,8 @@ class Recording:
         """Takes what the line says of the link, with -e."""
         found = LINK.search(line[:256])
         if found:
-            self.frame.is_to_all = found[1] == b":".join(b"%02x" % it for it in ALL_HOSTS_MAC)
+            self.frame.is_to_all = found[2] == b":".join(b"%02x" % it for it in ALL_HOSTS_MAC)
+            self.frame.hardware = bytes.fromhex(found[1].decode().replace(":", "")) if MAC.fullmatch(found[1]) else None
             self.frame.vlans = [int(it) & 0xFFF for it in TAG.findall(line[:256])]
 
     def end(self):

@@ -6,7 +6,7 @@ so that the others stay silent doesn't. The list is spoilt where it may lack an 
 import dataclasses
 import ipaddress
 
-from mcaudit_tools import igmp
+from mcaudit_tools import igmp, ssm
 from mcaudit_tools.capture import SECOND
 from mcaudit_tools.igmp import dotted
 
@@ -16,7 +16,6 @@ MOST_MESSAGES, MOST_BYTES = 65_536, 16 << 20  # of a list, as mcaudit takes it
 MOST_IGNORED, MOST_IGNORED_SENDERS = 8, 2  # packets that receivers ignore, of a list that is given out
 MOST_TOLD = 20  # sentences of each kind on what hosts sent: they may send as much as they like
 NOBODY = bytes(4)
-VERSIONS = {igmp.REPORT_1: "1", igmp.REPORT_2: "2"}  # of IGMP, whose reports ask for every source of their group
 WRITTEN, NO_LIST, REFUSED, SPOILT = 0, 1, 2, 4  # SPOILT: there is no list, and a second try may have one
 
 
@@ -40,7 +39,7 @@ class Window:
         self.reports, self.bytes, self.aside = [], 0, 0
         self.is_spoilt, self.is_refused, self.wants = False, False, set()  # wants: who asks for which group
         self.ignored, self.whole = {}, set()  # by sender: packets that receivers ignore; who sent whole ones
-        self.unheeded = {}  # by kind of report and group: how many SSM routers ignore
+        self.unheeded = ssm.Unheeded()
         self.extend(begins)
 
     def extend(self, asked):
@@ -63,11 +62,8 @@ class Window:
         if len(self.reports) >= MOST_MESSAGES or self.bytes > MOST_BYTES:
             return f"more than {MOST_MESSAGES} messages, or {MOST_BYTES} bytes of them"
         self.reports.append(report)
-        for group, is_every in igmp.groups_of(report):
-            self.wants.add((sender, group))
-            if is_every and group[0] == igmp.SSM:
-                key = VERSIONS.get(report[0], "3 in EXCLUDE mode"), group
-                self.unheeded[key] = self.unheeded.get(key, 0) + 1
+        self.wants.update((sender, group) for group, _ in igmp.groups_of(report))
+        self.unheeded.take(report)
         return report_fault(report)
 
     def is_wanting(self):
@@ -327,9 +323,8 @@ def list_of(gathering, statics, is_empty_allowed, option):
             return List(NO_LIST)
     if window.is_refused:
         say("mcaudit will refuse this list: ask again")
-    for (kind, group), count in window.unheeded.items() if not window.is_refused else ():
-        remarks.tell("such groups", f"SSM group {dotted(group)}: reports of IGMP version {kind}, which ask for every "
-                     f"source, so that SSM routers ignore them: {count}")
+    for sentence in window.unheeded.sentences() if not window.is_refused else ():
+        remarks.tell("such groups", sentence)
     remarks.finish()
     unchecked = [f"sender {dotted(it)}" for it in window.silent()]
     return List(REFUSED if window.is_refused else WRITTEN, window.reports + statics, is_silent, unchecked)

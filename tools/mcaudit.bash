@@ -43,7 +43,7 @@ _mcaudit_tool() {
     case $before in
         -o | --routers | --capture | --audit | --program | --prometheus) kind='file' ;;
         --all) kind=directory ;;
-        --readings | --pause | --timeout | --at-once | --ssh | --wait | --slack \
+        --readings | --pause | --timeout | --at-once | --ssh | --wait | --listen | --slack \
         | --queries | --network | --querier | --interface) return ;;
         --tries | --static | --empty-lan | --by | --shell | --ttl | --measure | --count | --tenths \
         | --without) return ;;
@@ -59,7 +59,8 @@ _mcaudit_tool() {
 
 _mcaudit_collect() {
     _mcaudit_tool "${COMP_WORDS[COMP_CWORD]}" "${COMP_WORDS[COMP_CWORD - 1]}" directory \
-        --routers --adopt --readings --pause --timeout --at-once --ssh --facts --shell --version --help
+        --routers --adopt --readings --pause --timeout --at-once --ssh --facts --from-daemon --empty-lan --shell \
+        --version --help
 }
 
 _mcaudit_diff() {
@@ -68,7 +69,8 @@ _mcaudit_diff() {
 
 _mcaudit_monitor() {
     _mcaudit_tool "${COMP_WORDS[COMP_CWORD]}" "${COMP_WORDS[COMP_CWORD - 1]}" directory \
-        --routers --ssh --readings --pause --timeout --at-once --facts --adopt --no-collect --keep --plugin \
+        --routers --ssh --readings --pause --timeout --at-once --facts --from-daemon --empty-lan --adopt \
+        --no-collect --keep --plugin \
         --warn-age --warn-reports --prometheus --label --version --help
 }
 
@@ -98,7 +100,8 @@ _mcaudit_site() {
         mapfile -t COMPREPLY < <(compgen -W 'init lans --version --help' -- "$word")
     elif [ "${COMP_WORDS[1]}" = init ]; then
         _mcaudit_tool "$word" "${COMP_WORDS[COMP_CWORD - 1]}" directory \
-            --routers --ssh --ttl --wait --tries --static --empty-lan --ask --ask-routers --empty --help
+            --routers --ssh --ttl --wait --listen --tries --static --empty-lan --ask --ask-routers --from-daemon \
+            --empty --help
     else
         _mcaudit_tool "$word" "${COMP_WORDS[COMP_CWORD - 1]}" directory --help
     fi
@@ -106,8 +109,9 @@ _mcaudit_site() {
 
 _mcaudit_reports() {
     _mcaudit_tool "${COMP_WORDS[COMP_CWORD]}" "${COMP_WORDS[COMP_CWORD - 1]}" file \
-        -o --by --capture --text --static --all --empty --empty-lan --ask --ask-routers --tries --queries --wait \
-        --slack --network --querier --interface --routers --ssh --version --help
+        -o --by --capture --text --static --all --empty --empty-lan --ask --ask-routers --from-daemon \
+        --from-bridge --tries --queries --wait --listen --slack --network --querier --interface --routers --ssh \
+        --version --help
 }
 
 complete -F _mcaudit mcaudit

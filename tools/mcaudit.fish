@@ -58,6 +58,9 @@ set -l readings \
     '--at-once:value:read at most so many routers side by side' \
     '--facts::bring what decides beside the tables what a router forwards' \
     '--adopt::make a plain folder the first set'
+set -l believed \
+    '--from-daemon::take the lists of what the daemons of routers believe' \
+    '--empty-lan:value:the same for this LAN alone'
 set -l asking \
     '--static:value:put into the list what a host wants that can not be asked' \
     '--empty::write a list though no host answered' \
@@ -65,7 +68,9 @@ set -l asking \
     '--ask::ask where no query comes' \
     '--ask-routers::ask also where two routers lie on a LAN' \
     '--tries:value:gather again, so many times in all' \
-    '--wait:value:wait so long for a query'
+    '--wait:value:wait so long for a query' \
+    '--listen:value:capture for so long at least' \
+    '--from-daemon::take the lists of what the daemons of routers believe'
 
 # the word behind --without is a router, whatever it begins with
 set -l audit '__mcaudit_command_is audit; and not __fish_prev_arg_in --without'
@@ -100,13 +105,14 @@ for tool in mcaudit-collect mcaudit-diff mcaudit-draft mcaudit-monitor mcaudit-p
     mcaudit-reports
     __mcaudit_options $tool true $about
 end
-__mcaudit_options mcaudit-collect true $routers $timeout $readings '--shell:value:run a shell on a router by its way'
+__mcaudit_options mcaudit-collect true $routers $timeout $readings $believed \
+    '--shell:value:run a shell on a router by its way'
 __mcaudit_options mcaudit-diff true '--json::print an object a line'
 __mcaudit_options mcaudit-draft true $routers $timeout \
     '--ttl:value:the time to live of all flows' \
     '--measure:value:wait so long for packets of a flow' \
     '--update::print what differs from the topology that is there'
-__mcaudit_options mcaudit-monitor true $routers $timeout $readings \
+__mcaudit_options mcaudit-monitor true $routers $timeout $readings $believed \
     '--no-collect::judge what is there' \
     '--keep:value:keep so many sets' \
     '--plugin::print one line, as a plugin of Nagios or Icinga' \
@@ -133,6 +139,7 @@ __mcaudit_options mcaudit-reports true $routers $asking \
     '--by:value:the interface is that of a router' \
     '--capture:file:read a capture file' \
     '--text::read a recorded text on standard input' \
+    '--from-bridge::take the list of what a bridge of the router believes' \
     '--all:folder:gather the lists of all LANs' \
     '--slack:value:take answers that are so late' \
     '--queries:value:gather the answers to so many queries' \

@@ -18,6 +18,10 @@ local -a readings=(
     '--facts[bring what decides beside the tables what a router forwards]'
     '--adopt[make a plain folder the first set]'
 )
+local -a believed=(
+    '--from-daemon[take the lists of what the daemons of routers believe]'
+    '*--empty-lan[the same for this LAN alone]:LAN: '
+)
 local -a asking=(
     '--static[put into the list what a host wants that can not be asked]:group: '
     '--empty[write a list though no host answered]'
@@ -26,6 +30,8 @@ local -a asking=(
     '--ask-routers[ask also where two routers lie on a LAN]'
     '--tries[gather again, so many times in all]:number: '
     '--wait[wait so long for a query]:seconds: '
+    '--listen[capture for so long at least]:seconds: '
+    '--from-daemon[take the lists of what the daemons of routers believe]'
 )
 
 case $service in
@@ -55,7 +61,8 @@ mcaudit)
     *:replay) _arguments ': :' ':flow: ' ':ttl: ' '--order[which waiting copy is handled next]:order:(first last)' ;;
     esac ;;
 mcaudit-collect)
-    _arguments $routers $timeout $readings $about $site '--shell[run a shell on a router by its way]:router: ' ;;
+    _arguments $routers $timeout $readings $believed $about $site \
+        '--shell[run a shell on a router by its way]:router: ' ;;
 mcaudit-diff) _arguments $about '--json[print an object a line]' '*:audit:_files' ;;
 mcaudit-draft)
     _arguments $routers $timeout $about $site \
@@ -63,7 +70,7 @@ mcaudit-draft)
         '--measure[wait so long for packets of a flow]:seconds: ' \
         '--update[print what differs from the topology that is there]' ;;
 mcaudit-monitor)
-    _arguments $routers $timeout $readings $about $site \
+    _arguments $routers $timeout $readings $believed $about $site \
         '--no-collect[judge what is there]' \
         '--keep[keep so many sets]:number: ' \
         '--plugin[print one line, as a plugin of Nagios or Icinga]' \
@@ -94,6 +101,7 @@ mcaudit-reports)
         '--by[the interface is that of a router]:way: ' \
         '--capture[read a capture file]:file:_files' \
         '--text[read a recorded text on standard input]' \
+        '--from-bridge[take the list of what a bridge of the router believes]' \
         '--all[gather the lists of all LANs]:folder:_files -/' \
         '--slack[take answers that are so late]:seconds: ' \
         '--queries[gather the answers to so many queries]:number: ' \

@@ -132,7 +132,7 @@ start_routers
 start_members
 
 echo '- From nothing: the whole folder in one go, its verdict, and its page.'
-while_sending on_routers mcaudit-site init --ask-routers --empty --wait 5 > "$scratch/init" 2> "$scratch/said"
+while_sending on_routers mcaudit-site init --ask-routers --empty --wait 5 --listen 0 > "$scratch/init" 2> "$scratch/said"
 status=$?
 cat "$scratch/init"
 if [ "$status" -ne 1 ] || ! grep -q '^verdict yes$' "$scratch/init" || ! grep -q 'unsure: r9 alone0' "$scratch/said"; then

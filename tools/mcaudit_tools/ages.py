@@ -51,16 +51,29 @@ class Ages:
         """Returns the LANs whose lists an operator decided."""
         return sorted({name for name, it in self.files["igmp"] if it.by == origins.STATIC})
 
+    def believed(self):
+        """Returns the LANs whose lists a daemon or a bridge of a router believes."""
+        return sorted({name for name, it in self.files["igmp"]
+                       if it.by in (origins.DAEMON, origins.BRIDGE) and origins.NOT_ASKED not in it.unchecked})
+
+    def not_asked(self):
+        """Returns the LANs whose lists are empty since no router there asks hosts."""
+        return sorted({name for name, it in self.files["igmp"] if origins.NOT_ASKED in it.unchecked})
+
     def sentences(self):
-        """Returns how old the oldest of the tables, of the lists and of the facts are, and which lists were decided."""
+        """Returns how old the oldest of the tables, of the lists and of the facts are, and for which lists no host was
+        asked."""
         now, found = time.time(), []
         for what, times in (("tables", self.tables()), ("reports", self.reports()), ("facts", self.facts())):
             if LATER in times.values():
                 found.append(f"{what} of a later time than now")
             elif times:
                 found.append(f"{what} {age_of(min(times.values()), now)} s old")
-        decided = self.decided()
-        return found + ([f"decided, not gathered: {' '.join(decided)}"] if decided else [])
+        for what, names in (("decided, not gathered", self.decided()), ("as routers believe", self.believed()),
+                            ("empty since no router there asks hosts", self.not_asked())):
+            if names:
+                found.append(f"{what}: {' '.join(names)}")
+        return found
 
 
 def age_of(when, now):

@@ -47,6 +47,12 @@ def say(sentence):
     print(f"{PROGRAM.name}: {clean(sentence)}", file=sys.stderr, flush=True)
 
 
+def tell_lines(name, sentences, answers):
+    """Tells what is so of one name, and the sentences that are answers as such."""
+    for sentence in sentences:
+        print(clean(f"{name}: {sentence}"), file=sys.stdout if sentence in answers else sys.stderr, flush=True)
+
+
 def clean(text, without=""):
     """Returns the text in printable characters of ASCII, each other one and each of those to be without as `?`."""
     return "".join(it if " " <= it <= "~" and it not in without else "?" for it in text)

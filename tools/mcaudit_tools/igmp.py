@@ -11,7 +11,7 @@ IGMP = 2  # the protocol in IPv4
 ALL_HOSTS = bytes([224, 0, 0, 1])
 FIRST_FORWARDED = bytes([224, 0, 1, 0])  # groups below are never forwarded (RFC 5771, section 4)
 SSM = 232  # the first number of the source-specific groups (RFC 4607)
-EXCLUDE = 2  # the record type MODE_IS_EXCLUDE
+INCLUDE, EXCLUDE = 1, 2  # the record types MODE_IS_INCLUDE and MODE_IS_EXCLUDE
 CURRENT, CHANGES = (1, 2), (3, 4, 5, 6)  # record types (RFC 3376, section 4.2.12)
 LEAST_MESSAGE = 8
 
@@ -140,8 +140,17 @@ def is_of_current_state(report):
     return report[0] != REPORT_3 or any(it.kind in CURRENT for it in records_of(report)[0])
 
 
+def summed(kind, rest):
+    """Returns a message of this type, with the checksum of all of it."""
+    head = bytes([kind, 0])
+    return head + sum_of(head + bytes(2) + rest).to_bytes(2, "big") + rest
+
+
+def state_report(mode, group, sources=()):
+    """Returns the report of a host of version 3 whose current state of a group this is."""
+    return summed(REPORT_3, bytes([0, 0, 0, 1, mode, 0]) + len(sources).to_bytes(2, "big") + group + b"".join(sources))
+
+
 def report_of(group, source=None):
     """Returns the report of a host of version 3 that wants a group, of all sources or of one."""
-    record = bytes([EXCLUDE, 0, 0, 0]) + group if source is None else bytes([1, 0, 0, 1]) + group + source
-    head = bytes([REPORT_3, 0]), bytes([0, 0, 0, 1])
-    return head[0] + sum_of(head[0] + bytes(2) + head[1] + record).to_bytes(2, "big") + head[1] + record
+    return state_report(EXCLUDE, group) if source is None else state_report(INCLUDE, group, [source])

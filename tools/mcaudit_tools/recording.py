@@ -83,7 +83,7 @@ class Recording:
         found = LINK.search(line[:256])
         if found:
             self.frame.is_to_all = found[2] == b":".join(b"%02x" % it for it in ALL_HOSTS_MAC)
-            self.frame.hardware = bytes.fromhex(found[1].decode().replace(":", "")) if MAC.fullmatch(found[1]) else None
+            self.frame.hardware = decoded(found[1].replace(b":", b"")) if MAC.fullmatch(found[1]) else None
             self.frame.vlans = [int(it) & 0xFFF for it in TAG.findall(line[:256])]
 
     def end(self):
@@ -94,11 +94,16 @@ class Recording:
         return frame if frame is not None and (frame.data or frame.time is not None) else None
 
 
+def decoded(digits):
+    """Returns the bytes of hexadecimal digits; where they are none, that is a ValueError."""
+    return bytes.fromhex(digits.decode())
+
+
 def bytes_of(text):
     """Returns the bytes of a line's digits: eight words of four at most, before what -X prints."""
     digits = text[:39].replace(b" ", b"").strip()
     try:
-        return bytes.fromhex(digits[:len(digits) // 2 * 2].decode())
+        return decoded(digits[:len(digits) // 2 * 2])
     except ValueError as fault:
         raise Failed("the text has a line of digits that are none") from fault
 

@@ -26,6 +26,7 @@ Examples:
 OPTIONS = [*REACH,
            ("--ttl", "N", "the time to live of all flows; without it each is measured"),
            ("--wait", "SECONDS", "wait so long for a General Query on each LAN"),
+           ("--listen", "SECONDS", "capture on each LAN for so long at least, for who speaks as a router"),
            ("--tries", "N", "gather a LAN's reports so often, where they changed meanwhile"),
            ("--static", "LAN:GROUP[,SOURCE]", "what a host wants that can't be asked"),
            ("--empty-lan", "LAN", "where no host of this LAN answers, nobody on it wants anything")]
@@ -62,6 +63,8 @@ def read_arguments():
     init.add_options(OPTIONS, REPEATED)
     init.add_argument("--ask", action="store_true", help="ask the hosts where no querier does, as mcaudit-reports")
     init.add_argument("--ask-routers", action="store_true", help="on LANs that two routers lie on, too")
+    init.add_argument("--from-daemon", action="store_true",
+                      help="take the lists of what the routers' daemons believe, as mcaudit-reports")
     init.add_argument("--empty", action="store_true",
                       help="as --empty-lan of every LAN, also of one whose hosts just weren't heard")
     lans = commands.add_parser("lans", prog="mcaudit-site lans", help="print each LAN with each interface on it",
@@ -73,7 +76,8 @@ def read_arguments():
 def steps_of(words):
     """Returns each step: its name, what it does, and the words that do it."""
     reach = options_of(words, "--routers", "--ssh")
-    gather = options_of(words, "--ask", "--ask-routers", "--empty", "--wait", "--tries", *REPEATED)
+    gather = options_of(words, "--ask", "--ask-routers", "--from-daemon", "--empty", "--wait", "--listen",
+                        "--tries", *REPEATED)
     steps = [("draft", "draft the topology of what the routers say",
               [find_tool("mcaudit-draft"), *reach, *options_of(words, "--ttl"), words.site, *words.ways]),
              ("collect", "collect the routers' tables",

@@ -34,6 +34,8 @@ class Frame:
     time: "int | None"
     data: bytes = b""
     is_to_all: "bool | None" = None  # to the MAC of 224.0.0.1; None where nothing shows it
+    hardware: "bytes | None" = None  # the link's address of whoever sent it; None where nothing shows it
+    target: "bytes | None" = None  # and that to which it was sent
     vlans: list = dataclasses.field(default_factory=list)  # the numbers of its tags
     interface: "int | None" = None  # of those that the capture has
     line: "int | None" = None  # of a text
@@ -219,14 +221,23 @@ def frame_of(link, time, data):
     if link in RAW:
         return Frame(time, data if data[:1] and data[0] >> 4 == 4 else b"")
     if link == ETHERNET:
-        return untagged(Frame(time, is_to_all=data[:6] == ALL_HOSTS_MAC), data[12:])
+        to_all, ends = data[:6] == ALL_HOSTS_MAC, {"hardware": data[6:12], "target": data[:6]}
+        return untagged(Frame(time, is_to_all=to_all, **(ends if len(data) >= 12 else {})), data[12:])
     if link == COOKED:
         kind, hardware = struct.unpack_from("!HH", data.ljust(4, b"\xff"))
         if hardware in (HARDWARE_ETHERNET, HARDWARE_LOOPBACK):
             raise Broken(OF_ANY)
-        return untagged(Frame(time, is_to_all=kind in (TO_ALL, OWN)), data[14:])
+        sender = cooked_address(data[4:6], data[6:14])
+        return untagged(Frame(time, is_to_all=kind in (TO_ALL, OWN), hardware=sender), data[14:])
     index, kind = struct.unpack_from("!I2xB", data.ljust(11, b"\xff"), 4)
-    return untagged(Frame(time, is_to_all=kind in (TO_ALL, OWN), interface=index), data[:2] + data[20:])
+    sender = cooked_address(data[11:12], data[12:20])
+    found = Frame(time, is_to_all=kind in (TO_ALL, OWN), interface=index, hardware=sender)
+    return untagged(found, data[:2] + data[20:])
+
+
+def cooked_address(length, data):
+    """Returns the address that a cooked frame has of its sender, of a length that is told before it, or None."""
+    return data[:int.from_bytes(length, "big")] or None
 
 
 def untagged(frame, data):

@@ -11,8 +11,8 @@ IGMP = 2  # the protocol in IPv4
 ALL_HOSTS = bytes([224, 0, 0, 1])
 FIRST_FORWARDED = bytes([224, 0, 1, 0])  # groups below are never forwarded (RFC 5771, section 4)
 SSM = 232  # the first number of the source-specific groups (RFC 4607)
-EXCLUDE = 2  # the record type MODE_IS_EXCLUDE
-CURRENT, CHANGES = (1, 2), (3, 4, 5, 6)  # record types (RFC 3376, section 4.2.12)
+INCLUDE, EXCLUDE, TO_INCLUDE, TO_EXCLUDE, ALLOW, BLOCK = range(1, 7)  # record types (RFC 3376, section 4.2.12)
+CURRENT, CHANGES = (INCLUDE, EXCLUDE), (TO_INCLUDE, TO_EXCLUDE, ALLOW, BLOCK)
 LEAST_MESSAGE = 8
 
 
@@ -110,6 +110,11 @@ class Record(typing.NamedTuple):
 
     kind: int
     group: bytes
+    sources: bytes  # four of each
+
+    def addresses(self):
+        """Returns its sources."""
+        return [self.sources[at:at + 4] for at in range(0, len(self.sources), 4)]
 
 
 def records_of(report):
@@ -118,11 +123,11 @@ def records_of(report):
     for number in range(1, int.from_bytes(report[6:8], "big") + 1):
         if at + 8 > len(report):
             return found, number
-        end = at + 8 + 4 * int.from_bytes(report[at + 2:at + 4], "big") + 4 * report[at + 1]
-        if end > len(report):
+        end = at + 8 + 4 * int.from_bytes(report[at + 2:at + 4], "big")
+        if end + 4 * report[at + 1] > len(report):
             return found, number
-        found.append(Record(report[at], report[at + 4:at + 8]))
-        at = end
+        found.append(Record(report[at], report[at + 4:at + 8], report[at + 8:end]))
+        at = end + 4 * report[at + 1]
     return found, None
 
 
@@ -142,6 +147,26 @@ def is_of_current_state(report):
 
 def report_of(group, source=None):
     """Returns the report of a host of version 3 that wants a group, of all sources or of one."""
-    record = bytes([EXCLUDE, 0, 0, 0]) + group if source is None else bytes([1, 0, 0, 1]) + group + source
+    return state_of(EXCLUDE if source is None else INCLUDE, group, [] if source is None else [source])
+
+
+def state_of(kind, group, sources):
+    """Returns the report of a host of version 3 whose state of a group is of this kind, with these sources."""
+    record = bytes([kind, 0]) + len(sources).to_bytes(2, "big") + group + b"".join(sources)
     head = bytes([REPORT_3, 0]), bytes([0, 0, 0, 1])
     return head[0] + sum_of(head[0] + bytes(2) + head[1] + record).to_bytes(2, "big") + head[1] + record
+
+
+def mac_of(group):
+    """Returns the MAC to which a group's packets are sent (RFC 1112, section 6.4)."""
+    return bytes([1, 0, 0x5E, group[1] & 127]) + group[2:]
+
+
+def group_asked(query):
+    """Returns the group that a whole query asks for, with or without sources; None where that is none."""
+    return query[4:8] if query[0] == QUERY and 224 <= query[4] < 240 else None
+
+
+def is_without_sources(query):
+    """Whether a whole query asks for no sources."""
+    return len(query) < 12 or query[10:12] == bytes(2)

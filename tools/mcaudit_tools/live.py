@@ -38,7 +38,8 @@ class Task:
         """Returns what queries count."""
         given = self.words.networks
         known = [*(networks or ()), *given] if networks is not None or given else None
-        return Rules(known, self.words.queriers, self.words.slack * capture.SECOND, self.words.queries, is_live)
+        return Rules(known, self.words.queriers, self.words.slack * capture.SECOND, self.words.queries, is_live,
+                     self.words.fold)
 
     def list_of(self, gathering):
         """Makes the list of what was gathered."""

@@ -92,6 +92,9 @@ OPTIONS = [
      "Routers may take it for the querier for 255 seconds, and a switch that snoops may keep streams from the LAN's "
      "other routers meanwhile. With --all no LAN is asked that two routers of the topology lie on"),
     ("--ask-routers", None, "with --all, ask on those LANs too"),
+    ("--fold", None, "where hosts join and leave meanwhile, follow their changes to what each wants at the end, and put "
+     "that into the list. With --all this is so by itself"),
+    ("--no-fold", None, "with --all, follow no changes: a list with one is refused"),
     ("--tries", "N", "gather again where a host joined or left meanwhile, or a report was lost, 1 to 99 times in all "
      "(1)", 1, 99, 1),
     ("--queries", "N", "gather the answers to so many queries of the same querier, one after the other, 1 to 3 (1): "
@@ -149,6 +152,9 @@ def check_sources(parser, found):
         parser.error("--ask and --by want an interface")
     if found.all is not None and (found.o is not None or found.by is not None):
         parser.error("--all takes no -o and no --by")
+    if found.no_fold and (found.all is None or found.fold):
+        parser.error("--no-fold goes with --all, and without --fold")
+    found.fold = found.fold or found.all is not None and not found.no_fold
     if found.all is None and found.ask_routers:
         parser.error("--ask-routers goes with --all")
     if found.all is None and found.empty_lan:

@@ -2,7 +2,7 @@
 from the query on, as routers follow it (RFC 3376, section 6.4, and RFC 2236), but of each host apart.
 
 What raises what is wanted counts at once. What lowers it counts only from the host that wanted it, and once so much of
-the window has passed without an answer that restores it: where it was forged, the routers ask, and the host answers.
+the window has passed without an answer that restores it: where it was forged, the querier asks, and the host answers.
 """
 import dataclasses
 import typing
@@ -66,9 +66,9 @@ class Following:
 class Hosts:
     """What each host wants of each group, by its reports of version 3."""
 
-    def __init__(self, ends):
-        """Takes when the window ends."""
-        self.ends, self.wanted, self.late = ends, {}, {}
+    def __init__(self, ends, lowering):
+        """Takes when the window ends, and until when what lowers what is wanted counts."""
+        self.ends, self.lowering, self.wanted, self.late = ends, lowering, {}, {}
 
     def take(self, heard):
         """Takes a report."""
@@ -83,7 +83,7 @@ class Hosts:
         after = before.changed(record)
         if after.union(before) != after:
             check_sender(heard, record.group)
-            if heard.time + LASTING > self.ends:
+            if heard.time > self.lowering:
                 self.late[key] = self.late.get(key, NOTHING).union(before)
         if len(after.sources) > MOST_SOURCES:
             after = without_many(after, heard.sender, record.group)
@@ -192,13 +192,15 @@ def hardware_text(hardware):
     return "none" if hardware is None else ":".join(f"{it:02x}" for it in hardware)
 
 
-def follow(window):
-    """Follows what was heard in a window. Returns what it shows."""
+def follow(window, has_querier):
+    """Follows what was heard in a window: of a querier that asks again for what is left, or else nothing is left.
+    Returns what it shows."""
     changes = [it for it in window.heard if is_change(it)]
     if not changes:
         return Following()
     check_hosts([it for it in window.heard if it.message[0] != igmp.QUERY])
-    hosts, groups, last = Hosts(window.ends), Groups(), window.begins
+    lowering = window.ends - LASTING if has_querier else window.begins - SECOND
+    hosts, groups, last = Hosts(window.ends, lowering), Groups(), window.begins
     for it in window.heard:
         if it.time < last - SECOND:
             raise NotFollowed(f"the clock went back by {(last - it.time) / SECOND:.1f} s among the answers")
@@ -214,8 +216,8 @@ def follow(window):
 
 def kept_of(hosts, groups):
     """Returns sentences on what was left, and is in the list all the same."""
-    late = [f"{dotted(sender)} no longer wants {dotted(group)}, or less of it, in the last {LASTING // SECOND} s: the "
-            "list has what it wanted" for _, sender, group in sorted(hosts.late, key=place_of)]
+    late = [f"{dotted(sender)} no longer wants {dotted(group)}, or less of it, and no {LASTING // SECOND} s were left to "
+            "ask for it: the list has what it wanted" for _, sender, group in sorted(hosts.late, key=place_of)]
     left = [f"{dotted(it.heard.sender)} left {dotted(group)}, and no query for it was left unanswered: the list has it"
             for group, it in sorted(groups.found.items()) if it.left is not None]
     return late + left

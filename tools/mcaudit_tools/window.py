@@ -273,7 +273,7 @@ def followed(window, gathering):
         gathering.say("changes are followed only where link headers (tcpdump -e) show whose they are")
     if not gathering.rules.is_folding or window.is_refused:
         return window, ""
-    found = fold.follow(window)
+    found = fold.follow(window, gathering.asker is None)
     for sentence in found.kept:
         gathering.remarks.tell("such hosts and groups", sentence)
     gathering.remarks.finish()

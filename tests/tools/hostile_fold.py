@@ -178,7 +178,7 @@ def changes_at_the_windows_end(place):
     for at, is_kept in ((8.9, False), (9, False), (9.1, True), (10.5, True), (10.99, True)):
         frames = says(1, 5, rec(IS_EX)), says(at, 5, rec(TO_IN)), says(2, 6, rec(IS_EX, group=H))
         assert listed(place, *frames) == [state(IS_EX)] * is_kept + [state(IS_EX, group=H)], (at, place.said)
-        assert ("10.0.1.5 no longer wants 239.1.1.1, or less of it, and no 2 s" in place.said) is is_kept, place.said
+        assert ("10.0.1.5 no longer wants 239.1.1.1, or less of it, and no host was" in place.said) is is_kept, place.said
     for before, change, after in ((rec(IS_IN, S), rec(TO_IN, T), state(IS_IN, S, T)), (rec(IS_EX), rec(TO_IN, S), state(IS_EX)),
                                   (rec(IS_EX, S), rec(TO_EX, T), state(IS_EX)), (rec(IS_EX), rec(BLOCK, S), state(IS_EX)),
                                   (rec(IS_IN, S, T), rec(TO_EX, S), state(IS_EX)), (rec(IS_EX), rec(ALLOW, S), state(IS_EX))):

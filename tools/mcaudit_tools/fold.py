@@ -100,7 +100,7 @@ class Hosts:
             found = self.wanted.get(key, NOTHING).union(self.late.get(key, NOTHING))
             kind = igmp.EXCLUDE if found.is_exclude else igmp.INCLUDE
             hardware, sender, group = key
-            yield Heard(self.ends, hardware, sender, igmp.state_of(kind, group, sorted(found.sources)))
+            yield Heard(self.ends, hardware, sender, igmp.state_report(kind, group, sorted(found.sources)))
 
 
 def place_of(key):
@@ -216,8 +216,8 @@ def follow(window, has_querier):
 
 def kept_of(hosts, groups):
     """Returns sentences on what was left, and is in the list all the same."""
-    late = [f"{dotted(sender)} no longer wants {dotted(group)}, or less of it, and no {LASTING // SECOND} s were left to "
-            "ask for it: the list has what it wanted" for _, sender, group in sorted(hosts.late, key=place_of)]
+    late = [f"{dotted(sender)} no longer wants {dotted(group)}, or less of it, and no host was asked again for "
+            f"{LASTING // SECOND} s: the list has what it wanted" for _, sender, group in sorted(hosts.late, key=place_of)]
     left = [f"{dotted(it.heard.sender)} left {dotted(group)}, and no query for it was left unanswered: the list has it"
             for group, it in sorted(groups.found.items()) if it.left is not None]
     return late + left

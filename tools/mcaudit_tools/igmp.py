@@ -145,16 +145,20 @@ def is_of_current_state(report):
     return report[0] != REPORT_3 or any(it.kind in CURRENT for it in records_of(report)[0])
 
 
+def summed(kind, rest):
+    """Returns a message of this type, with the checksum of all of it."""
+    head = bytes([kind, 0])
+    return head + sum_of(head + bytes(2) + rest).to_bytes(2, "big") + rest
+
+
+def state_report(mode, group, sources=()):
+    """Returns the report of a host of version 3 whose current state of a group this is."""
+    return summed(REPORT_3, bytes([0, 0, 0, 1, mode, 0]) + len(sources).to_bytes(2, "big") + group + b"".join(sources))
+
+
 def report_of(group, source=None):
     """Returns the report of a host of version 3 that wants a group, of all sources or of one."""
-    return state_of(EXCLUDE if source is None else INCLUDE, group, [] if source is None else [source])
-
-
-def state_of(kind, group, sources):
-    """Returns the report of a host of version 3 whose state of a group is of this kind, with these sources."""
-    record = bytes([kind, 0]) + len(sources).to_bytes(2, "big") + group + b"".join(sources)
-    head = bytes([REPORT_3, 0]), bytes([0, 0, 0, 1])
-    return head[0] + sum_of(head[0] + bytes(2) + head[1] + record).to_bytes(2, "big") + head[1] + record
+    return state_report(EXCLUDE, group) if source is None else state_report(INCLUDE, group, [source])
 
 
 def mac_of(group):

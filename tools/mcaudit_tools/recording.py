@@ -11,7 +11,7 @@ SECONDS = re.compile(rb"[0-9]{1,12}(\.[0-9]{1,9})?")
 CLOCK = re.compile(rb"([0-9]{2}):([0-9]{2}):([0-9]{2})(?:\.([0-9]{1,9}))?")
 DATE = re.compile(rb"[0-9]{4}-[0-9]{2}-[0-9]{2}")
 LINK = re.compile(rb" ([0-9a-f:]{17}) (?:\([^)]*\) )?> ([0-9a-f:]{17}|Broadcast)(?: \([^)]*\))?, ")
-MAC = re.compile(rb"(?:[0-9a-f]{2}:){5}[0-9a-f]{2}")
+MAC = re.compile(rb"[0-9a-f]{2}(:[0-9a-f]{2}){5}")
 TAG = re.compile(rb"\bvlan ([0-9]{1,4})\b")
 DAY, HALF_DAY = 86400 * SECOND, 43200 * SECOND
 

@@ -1,5 +1,5 @@
-"""What the hosts of a LAN want at the end of a window in which some of them join and leave: what each reports is followed
-from the query on, as routers follow it (RFC 3376, section 6.4, and RFC 2236), but of each host apart.
+"""What the hosts of a LAN want at the end of a window in which some join and leave: what each reports is followed from
+the query on, as routers follow it (RFC 3376, section 6.4, and RFC 2236), but of each host apart.
 
 What raises what is wanted counts at once. What lowers it counts only from the host that wanted it, and once so much of
 the window has passed without an answer that restores it: where it was forged, the querier asks, and the host answers.
@@ -159,7 +159,8 @@ class Groups:
 
     def end(self, time):
         """Ends the groups for which nobody answered until now."""
-        for group in [it for it, older in self.found.items() if older.answer_by is not None and older.answer_by <= time]:
+        over = [it for it, older in self.found.items() if older.answer_by is not None and older.answer_by <= time]
+        for group in over:
             del self.found[group]
             self.ended += 1
 
@@ -180,7 +181,8 @@ def check_hosts(messages):
     """Fails where an address has two hardware addresses: one of them may be forged, or both be proxies."""
     known = {}
     for it in messages:
-        groups = [it.message[4:8]] if it.message[0] == igmp.LEAVE else [group for group, _ in igmp.groups_of(it.message)]
+        is_leave = it.message[0] == igmp.LEAVE
+        groups = [it.message[4:8]] if is_leave else [group for group, _ in igmp.groups_of(it.message)]
         if it.sender != NOBODY and any(group >= igmp.FIRST_FORWARDED for group in groups):
             if known.setdefault(it.sender, it.hardware) != it.hardware:
                 raise NotFollowed(f"{dotted(it.sender)} has two hardware addresses, {hardware_text(known[it.sender])} "
@@ -217,7 +219,8 @@ def follow(window, has_querier):
 def kept_of(hosts, groups):
     """Returns sentences on what was left, and is in the list all the same."""
     late = [f"{dotted(sender)} no longer wants {dotted(group)}, or less of it, and no host was asked again for "
-            f"{LASTING // SECOND} s: the list has what it wanted" for _, sender, group in sorted(hosts.late, key=place_of)]
+            f"{LASTING // SECOND} s: the list has what it wanted"
+            for _, sender, group in sorted(hosts.late, key=place_of)]
     left = [f"{dotted(it.heard.sender)} left {dotted(group)}, and no query for it was left unanswered: the list has it"
             for group, it in sorted(groups.found.items()) if it.left is not None]
     return late + left

@@ -1,6 +1,7 @@
 """IGMP messages (RFC 1112, 2236, 3376) and the IPv4 packets that carry them."""
 import dataclasses
 import ipaddress
+import re
 import struct
 import typing
 
@@ -10,15 +11,52 @@ REPORTS = REPORT_1, REPORT_2, REPORT_3
 IGMP = 2  # the protocol in IPv4
 ALL_HOSTS = bytes([224, 0, 0, 1])
 FIRST_FORWARDED = bytes([224, 0, 1, 0])  # groups below are never forwarded (RFC 5771, section 4)
+BEHIND_GROUPS = bytes([240, 0, 0, 0])  # the first address that is no group's any more
 SSM = 232  # the first number of the source-specific groups (RFC 4607)
 INCLUDE, EXCLUDE, TO_INCLUDE, TO_EXCLUDE, ALLOW, BLOCK = range(1, 7)  # record types (RFC 3376, section 4.2.12)
 CURRENT, CHANGES = (INCLUDE, EXCLUDE), (TO_INCLUDE, TO_EXCLUDE, ALLOW, BLOCK)
 LEAST_MESSAGE = 8
+DOTTED = re.compile(r"[0-9]{1,3}(\.[0-9]{1,3}){3}")
 
 
 def dotted(address):
     """Returns an address of four bytes as text."""
     return str(ipaddress.IPv4Address(address))
+
+
+def address_of(text):
+    """Returns the address of four bytes that a text is, or None."""
+    try:
+        return ipaddress.IPv4Address(text).packed if DOTTED.fullmatch(text) else None
+    except ValueError:
+        return None
+
+
+def is_host(address):
+    """Whether an address may be a host's."""
+    return 0 < address[0] < 224 and address[0] != 127
+
+
+def is_forwarded(group):
+    """Whether an address is a group's that routers forward."""
+    return FIRST_FORWARDED <= group < BEHIND_GROUPS
+
+
+def host_of(text):
+    """Returns the address of a host that a text is, or None."""
+    found = address_of(text)
+    return found if found and is_host(found) else None
+
+
+def group_of(text):
+    """Returns the address of a group that routers forward which a text is, or None."""
+    found = address_of(text)
+    return found if found and is_forwarded(found) else None
+
+
+def digits_of(text):
+    """Returns the bytes that hexadecimal digits are; a ValueError where they are none."""
+    return bytes.fromhex(text.decode("ascii"))
 
 
 def sum_of(data):

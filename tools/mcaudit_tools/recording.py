@@ -3,6 +3,7 @@ import re
 
 from mcaudit_tools.capture import ALL_HOSTS_MAC, MOST_BYTES, SECOND, Frame
 from mcaudit_tools.common import Failed
+from mcaudit_tools.igmp import digits_of
 
 MOST_LINE = 65536
 MOST_PACKET = 65535  # bytes of an IPv4 packet
@@ -106,11 +107,6 @@ def bytes_of(text):
         return digits_of(digits[:len(digits) // 2 * 2])
     except ValueError as fault:
         raise Failed("the text has a line of digits that are none") from fault
-
-
-def digits_of(text):
-    """Returns the bytes of hexadecimal digits; a ValueError where they are none."""
-    return bytes.fromhex(text.decode())
 
 
 def lines_of(file):

@@ -8,7 +8,6 @@ before all of it was written, and an empty one only where it was asked for.
 """
 import ipaddress
 import os
-import re
 import sys
 import time
 
@@ -92,8 +91,8 @@ OPTIONS = [
      "Routers may take it for the querier for 255 seconds, and a switch that snoops may keep streams from the LAN's "
      "other routers meanwhile. With --all no LAN is asked that two routers of the topology lie on"),
     ("--ask-routers", None, "with --all, ask on those LANs too"),
-    ("--fold", None, "where hosts join and leave meanwhile, follow their changes to what each wants at the end, and put "
-     "that into the list. With --all this is so by itself"),
+    ("--fold", None, "where hosts join or leave meanwhile, follow their changes, host by host, and put into the list "
+     "what each wants at the end. With --all this is so by itself"),
     ("--no-fold", None, "with --all, follow no changes: a list with one is refused"),
     ("--tries", "N", "gather again where a host joined or left meanwhile, or a report was lost, 1 to 99 times in all "
      "(1)", 1, 99, 1),
@@ -181,18 +180,9 @@ def take_statics(parser, found):
 
 def static_report(word):
     """Returns the report of a host of version 3 that wants GROUP[,SOURCE]; None where the word is none."""
-    parts = word.split(",")
-    if len(parts) > 2 or not all(re.fullmatch(r"[0-9]{1,3}(\.[0-9]{1,3}){3}", it) for it in parts):
-        return None
-    try:
-        group, *sources = (ipaddress.IPv4Address(it).packed for it in parts)
-    except ValueError:
-        return None
-    if not igmp.FIRST_FORWARDED <= group < bytes([240, 0, 0, 0]):
-        return None
-    if sources and (not 0 < sources[0][0] < 224 or sources[0][0] == 127):
-        return None
-    return igmp.report_of(group, *sources)
+    group, *sources = word.split(",")
+    addresses = [igmp.group_of(group), *map(igmp.host_of, sources)]
+    return igmp.report_of(*addresses) if len(sources) < 2 and None not in addresses else None
 
 
 # A list

@@ -164,8 +164,8 @@ class Gathering:
         if address == NOBODY:
             return f"a switch sends it in a querier's place; where it is the LAN's, say --querier {sender}"
         if self.rules.networks is None:
-            is_host = 0 < address[0] < 224 and address[0] != 127
-            return None if is_host else f"it is no host's address; where it is the LAN's, say --querier {sender}"
+            unlike = f"it is no host's address; where it is the LAN's, say --querier {sender}"
+            return None if igmp.is_host(address) else unlike
         if any(ipaddress.IPv4Address(address) in it for it in self.rules.networks):
             return None
         networks = " ".join(map(str, self.rules.networks)) or "which has no address here"

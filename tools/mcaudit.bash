@@ -74,7 +74,7 @@ _mcaudit_monitor() {
 
 _mcaudit_draft() {
     _mcaudit_tool "${COMP_WORDS[COMP_CWORD]}" "${COMP_WORDS[COMP_CWORD - 1]}" directory \
-        --routers --ssh --timeout --ttl --measure --update --version --help
+        --routers --ssh --timeout --ttl --flows --measure --update --version --help
 }
 
 _mcaudit_page() {
@@ -106,7 +106,8 @@ _mcaudit_site() {
 
 _mcaudit_reports() {
     _mcaudit_tool "${COMP_WORDS[COMP_CWORD]}" "${COMP_WORDS[COMP_CWORD - 1]}" file \
-        -o --by --capture --text --static --all --empty --empty-lan --ask --ask-routers --tries --queries --wait \
+        -o --by --capture --text --static --all --empty --empty-lan --ask --ask-routers --fold --no-fold --tries \
+        --queries --wait \
         --slack --network --querier --interface --routers --ssh --version --help
 }
 

@@ -104,6 +104,7 @@ __mcaudit_options mcaudit-collect true $routers $timeout $readings '--shell:valu
 __mcaudit_options mcaudit-diff true '--json::print an object a line'
 __mcaudit_options mcaudit-draft true $routers $timeout \
     '--ttl:value:the time to live of all flows' \
+    '--flows:file:list these flows too' \
     '--measure:value:wait so long for packets of a flow' \
     '--update::print what differs from the topology that is there'
 __mcaudit_options mcaudit-monitor true $routers $timeout $readings \
@@ -134,6 +135,8 @@ __mcaudit_options mcaudit-reports true $routers $asking \
     '--capture:file:read a capture file' \
     '--text::read a recorded text on standard input' \
     '--all:folder:gather the lists of all LANs' \
+    '--fold::follow hosts that join or leave meanwhile' \
+    '--no-fold::follow no changes' \
     '--slack:value:take answers that are so late' \
     '--queries:value:gather the answers to so many queries' \
     '--network:value:the network of the LAN' \

@@ -60,6 +60,7 @@ mcaudit-diff) _arguments $about '--json[print an object a line]' '*:audit:_files
 mcaudit-draft)
     _arguments $routers $timeout $about $site \
         '--ttl[the time to live of all flows]:ttl: ' \
+        '--flows[list these flows too]:file:_files' \
         '--measure[wait so long for packets of a flow]:seconds: ' \
         '--update[print what differs from the topology that is there]' ;;
 mcaudit-monitor)
@@ -95,6 +96,8 @@ mcaudit-reports)
         '--capture[read a capture file]:file:_files' \
         '--text[read a recorded text on standard input]' \
         '--all[gather the lists of all LANs]:folder:_files -/' \
+        '--fold[follow hosts that join or leave meanwhile]' \
+        '--no-fold[follow no changes]' \
         '--slack[take answers that are so late]:seconds: ' \
         '--queries[gather the answers to so many queries]:number: ' \
         '*--network[the network of the LAN]:prefix: ' \

@@ -128,7 +128,7 @@ def text(packets, frames=()):
         if frames:
             ends = ":".join(f"{it:02x}" for it in it[6:12]), ":".join(f"{it:02x}" for it in it[:6])
             it = it[14:]
-            lines.append(f"{START + at:.6f} {ends[0]} > {ends[1]}, ethertype IPv4 (0x0800), length {len(it)}: x > y: igmp")
+            lines.append(f"{START + at:.6f} {ends[0]} > {ends[1]}, ethertype IPv4 (0x0800), length 60: x > y: igmp")
         else:
             lines.append(f"{START + at:.6f} IP x > y: igmp")
         for first in range(0, len(it), 16):

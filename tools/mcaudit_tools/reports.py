@@ -26,7 +26,8 @@ answers' time.
 MORE = """Reports of IGMP versions 1, 2 and 3 are written whole and unchanged. Queries, leaves and packets
 that aren't IGMP are left aside, and so is what receivers ignore: too short, or a wrong checksum, at
 most 8 packets of at most 2 senders. A report of a change (a host joined or left while the list was
-made) is named on standard error, and `mcaudit` answers StateChange. Then ask again. A fragment, or a
+made) is followed with --fold; else it is named on standard error, and `mcaudit` answers StateChange:
+then ask again. A fragment, or a
 packet that the capture cut or dropped, is named, and then no list is written, since it would lack a
 report. Nor is one where a second General Query came before the answers to the first were over, where
 the clock was set among them, or where nothing shows that the recording went on to the end of the
@@ -41,6 +42,13 @@ A report of IGMP version 1 or 2, and one of version 3 in EXCLUDE mode, asks for 
 group. For a group of 232.0.0.0/8, which is source-specific (SSM), routers ignore it (RFC 4604): each
 such group is named on standard error, with how many such reports came. The list has them all the
 same, and mcaudit counts every listed flow of the group as wanted.
+
+With --fold each host, which is a hardware address with an address, is followed from the query on,
+and the list says what each wants at the end. What a host leaves counts only where the same one had
+asked for it, and where 2 seconds passed without an answer that says otherwise; else it stays in the
+list. A leave of version 2 counts once the querier asked for the group and nobody answered. There is
+no list where a host of 0.0.0.0 leaves anything, or where hosts change and one address has two
+hardware addresses. A text without link headers (tcpdump -e) is not followed.
 
 An empty list says that no host of the LAN wants anything, and so does one that has no group but
 those that routers never forward (224.0.0.x), as the routers and switches themselves report them.

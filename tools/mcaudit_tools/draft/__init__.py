@@ -33,7 +33,9 @@ The routers are told as for mcaudit-collect. LANs are the networks of their vifs
 with their rates. What isn't sure is a comment: an interface of an unnumbered link, of a tunnel or a register vif, of
 a network that the router has twice, of a link whose other end no router has. The time to live of a flow is measured
 on a router of the source's LAN, which needs tcpdump and root there. A flow that couldn't be measured is a comment with
-the command that measures it, and is named at the end as not judged. A topology that is there is never changed."""
+the command that measures it, and is named at the end as not judged. Comments are also what hosts send to groups of
+services, such as SSDP, and groups that are asked for without a flow, by lists of reports in SITE or by rows of every
+source. A topology that is there is never changed."""
 MORE = """Statuses: 0 drafted, and all is sure; 1 drafted, and something is missing or isn't sure. With --update 0
 nothing differs, 1 something does, a router is missing, or the time to live of a flow that isn't idle isn't known. 3 the
 topology is there already or can't be written, FILE can't be read, or nothing could be asked, 5 wrong words.

@@ -28,15 +28,16 @@ class Asked:
 def messages_of(path):
     """Returns the messages of a list."""
     lines = read_regular(path, MOST_BYTES).split(b"\n")
-    if lines.pop() or len(lines) > MOST_MESSAGES:
+    messages = [igmp.digits_of(it) for it in lines[:-1]]
+    if lines[-1] or len(messages) > MOST_MESSAGES or not all(map(igmp.is_whole, messages)):
         raise ValueError
-    return [igmp.digits_of(it) for it in lines]
+    return messages
 
 
 def wants_of(messages):
     """Returns what is wanted of each group that routers forward."""
     found = {}
-    for message in filter(igmp.is_whole, messages):
+    for message in messages:
         if message[0] == igmp.REPORT_3:
             for it in igmp.records_of(message)[0]:
                 if it.kind in igmp.CURRENT:
@@ -55,7 +56,7 @@ def read_lists(draft, folder):
         try:
             yield lan, wants_of(messages_of(os.path.join(folder, name)))
         except (Failed, ValueError):
-            draft.remarks.append(f"{name} can't be read: see what mcaudit says of it")
+            draft.doubts.append(f"{name} is no list of reports: see what mcaudit says of it")
 
 
 def unanswered(wanted, sources, networks):

@@ -104,7 +104,7 @@ __mcaudit_options mcaudit-collect true $routers $timeout $readings '--shell:valu
 __mcaudit_options mcaudit-diff true '--json::print an object a line'
 __mcaudit_options mcaudit-draft true $routers $timeout \
     '--ttl:value:the time to live of all flows' \
-    '--flows:file:list these flows too' \
+    '--flows:file:take the flows of this list too' \
     '--measure:value:wait so long for packets of a flow' \
     '--update::print what differs from the topology that is there'
 __mcaudit_options mcaudit-monitor true $routers $timeout $readings \

@@ -60,7 +60,7 @@ mcaudit-diff) _arguments $about '--json[print an object a line]' '*:audit:_files
 mcaudit-draft)
     _arguments $routers $timeout $about $site \
         '--ttl[the time to live of all flows]:ttl: ' \
-        '--flows[list these flows too]:file:_files' \
+        '--flows[take the flows of this list too]:file:_files' \
         '--measure[wait so long for packets of a flow]:seconds: ' \
         '--update[print what differs from the topology that is there]' ;;
 mcaudit-monitor)

@@ -69,7 +69,7 @@ def flows_of_csv(place):
                  f'x,"7","239.1.1.2","{T}"', ""]
         status, flows = anew(place, text=mark + end.join(lines))
         assert (status, pairs(place)) == (0, [(S, "239.1.1.1", 16), (T, "239.1.1.2", 7)]), place.said
-        assert flows[0].endswith("# rate not known; ttl as listed"), flows
+        assert flows[0].endswith("# rate not known; ttl as the list of flows has it"), flows
         assert place.topology["source"] == [{"address": it, "lan": "10.0.0.0-24"} for it in (S, T)]
 
 
@@ -81,19 +81,20 @@ def flows_of_m3u(place):
              "udp://@239.1.1.3:5000", "rtp://239.1.1.4/", "http://192.0.2.1/x.ts", "udp"]
     status, flows = drafted(place, "--ttl", "9", text="\r\n".join(lines))
     assert (status, pairs(place)) == (1, [(S, "239.1.1.1", 9), (T, "239.1.1.2", 9)]), place.said
-    assert flows[2:] == [f'# {{source = ?, group = "239.1.1.{it}"}}, # listed without a source' for it in (3, 4)], flows
+    assert flows[2:] == [f'# {{source = ?, group = "239.1.1.{it}"}}, # the list of flows has no source of it'
+                         for it in (3, 4)], flows
     assert "list: other lines 4" in place.said, place.said
-    assert "no flow: ? 239.1.1.3: listed without a source" in place.said, place.said
+    assert "no flow: ? 239.1.1.3: the list of flows has no source of it" in place.said, place.said
 
 
 @case
 def flows_without_a_time_to_live(place):
-    """They have that of --ttl, or are comments; one that is listed stands above --ttl."""
+    """They have that of --ttl, or are comments; that of the list stands above --ttl."""
     router(place)
     text = f"source,group,ttl\n{S},239.1.1.1,\n{S},239.1.1.2,5\n"
     status, flows = drafted(place, text=text)
     assert (status, pairs(place)) == (1, [(S, "239.1.1.2", 5)]), place.said
-    why = "it is listed without a time to live, and no router has a row of it"
+    why = "the list of flows has no time to live of it, and no router a row"
     assert flows[1].startswith(f'# {{source = "{S}", group = "239.1.1.1", ttl = ?}}, # not judged: {why}'), flows
     assert f"not judged: {S} 239.1.1.1: {why}" in place.said, place.said
     status, flows = anew(place, "--ttl", "16", text=text)
@@ -104,7 +105,7 @@ def flows_without_a_time_to_live(place):
 
 @case
 def flows_beside_the_rows(place):
-    """A listed one has its listed ttl and is there once; a listed group whose source is known is no comment."""
+    """One of both has the ttl of the list, and is there once; a group whose source is known is no comment."""
     router(place, (S, "239.1.1.1"), (T, "239.1.1.2"))
     text = f"source,group,ttl\n{S},239.1.1.1,5\n,239.1.1.2,\n{FAR},239.1.1.3,7\n"
     status, flows = drafted(place, "--ttl", "16", text=text)
@@ -126,8 +127,8 @@ def lines_that_are_wrong(place):
              (f"{S},239.1.1.2,-1,x", ttl), (f"{S},239.1.1.2,\u0665,x", ttl),
              (f"{S},239.1.1.2,5,hidden, title", "it has 5 fields, and the first line 4"),
              (f"{S},239.1.1.2,5", "it has 3 fields, and the first line 4"),
-             (f"{S},239.1.1.1,5,again", f"{S} 239.1.1.1 is listed already, on line 2"),
-             (f"{S},239.1.1.1,6,again", f"{S} 239.1.1.1 is listed already, on line 2, with another ttl")]
+             (f"{S},239.1.1.1,5,again", f"{S} 239.1.1.1 is there already, on line 2"),
+             (f"{S},239.1.1.1,6,again", f"{S} 239.1.1.1 is there already, on line 2, with another ttl")]
     lines = ["source,group,ttl,name", f"{S},239.1.1.1,5,title", *(line for line, _ in wrong), f"{T},239.1.1.1,6,title"]
     status, _ = drafted(place, text="\n".join(lines))
     assert (status, pairs(place)) == (1, [(S, "239.1.1.1", 5), (T, "239.1.1.1", 6)]), place.said
@@ -141,7 +142,7 @@ def urls_that_are_wrong(place):
     """So are those of M3U; no name is looked up."""
     router(place)
     group, place_of = "its group is none of 224.0.1.0 to 239.255.255.255", "it is no [SOURCE@]GROUP[:PORT]"
-    source, again = "its source is no host's address", "? 239.1.1.2 is listed already, on line 2"
+    source, again = "its source is no host's address", "? 239.1.1.2 is there already, on line 2"
     wrong = [("udp://239.1.1.1:65536", place_of), ("udp://239.1.1.1:1?pkt_size=1316", place_of), ("udp://", place_of),
              ("rtp://[ff3e::1]:5000", place_of), ("udp://@:5000", place_of), ("udp://hidden.example:1234", group),
              (f"udp://{S}@10.0.0.9:5000", group), ("udp://hidden@239.1.1.2", source), ("udp://a:b@239.1.1.2", source),
@@ -168,8 +169,8 @@ def titles_that_would_be_more(place):
     router(place)
     title = '\x1b[2J"]\nflow = [{source = \'10.0.0.9\', group = \'239.9.9.9\', ttl = 1}]\n#'
     quoted = title.replace('"', '""')
-    assert drafted(place, text=f'name,source,group,ttl\n"{quoted}",{S},239.1.1.1,5\n') == (
-        0, [f'{{source = "{S}", group = "239.1.1.1", ttl = 5}}, # rate not known; ttl as listed']), place.said
+    line = f'{{source = "{S}", group = "239.1.1.1", ttl = 5}}, # rate not known; ttl as the list of flows has it'
+    assert drafted(place, text=f'name,source,group,ttl\n"{quoted}",{S},239.1.1.1,5\n') == (0, [line]), place.said
     status, flows = anew(place, "--ttl", "5", text=f"#EXTM3U\n#EXTINF:-1,{title}\nudp://{S}@239.1.1.1\n")
     assert status == 0 and len(flows) == 1 and "\x1b" not in place.said and "239.9.9.9" not in place.said, place.said
 
@@ -244,7 +245,7 @@ def services_of_hosts(place):
 
 
 @case
-def services_that_are_listed(place):
+def services_that_are_given(place):
     """A list or a topology that has the group makes it one like others."""
     router(place, (S, "239.255.255.250"))
     text = f"source,group,ttl\n{T},239.255.255.250,3\n"

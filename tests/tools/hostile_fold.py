@@ -216,10 +216,14 @@ def leave_of_version_2(place):
     for frames, expected in (
             ([], kept), ([asks(3.1)], gone), ([asks(3.1, version=2)], gone), ([asks(3.1), old(3.5, 7, 0x16)], kept),
             ([asks(3.1), old(5.05, 7, 0x16)], kept), ([asks(3.1), asks(4.1), old(5.5, 7, 0x16)], kept),
-            ([old(2, 7, 0x16), asks(3.1)], kept), ([old(2, 7, 0x12), asks(3.1)], kept + first), ([asks(2.9)], kept),
+            ([old(2, 7, 0x16), asks(3.1)], kept), ([old(2, 7, 0x12), asks(3.1)], kept + first),
+            ([old(0.8, 7, 0x12), asks(3.1)], kept + first), ([asks(2.9)], kept),
             ([asks(3.1, S)], kept), ([asks(9.1)], kept), ([asks(8.9)], gone), ([asks(3.1, code=90)], kept)):
         lines = listed(place, report, leave, other, *frames)
         assert {*lines} == {state(IS_EX, group=H), *expected}, (frames, lines, place.said)
+    for at, expected in ((8.9, gone), (9.1, kept)):  # 2 s after it lie in the window, however short the answers' time is
+        frames = report, old(at, 5, 0x17), asks(at + 0.05, code=1), other
+        assert {*listed(place, *frames)} == {state(IS_EX, group=H), *expected}, (at, place.said)
 
 
 @case

@@ -12,8 +12,8 @@ import tempfile
 
 from mcaudit_tools.common import Failed, Parser, options_of, say
 from mcaudit_tools.draft.asked import find_asked
+from mcaudit_tools.draft.flow_list import FlowList
 from mcaudit_tools.draft.lans import HARMLESS, place_vifs
-from mcaudit_tools.draft.listed import FlowList
 from mcaudit_tools.draft.measure import IDLE, find_flows, measure_flows
 from mcaudit_tools.draft.text import (asked_words, measuring_words, print_changes, service_counts, take_interfaces,
                                       text_of)
@@ -47,9 +47,9 @@ Examples:
 
 OPTIONS = [*REACH, ("--timeout", "SECONDS", "give a router up when a reading takes longer (60)", 1, 999, 60),
            ("--ttl", "N", "the time to live of all flows: none is measured", 1, 255, None),
-           ("--flows", "FILE", "list these flows too: CSV with the columns source, group and ttl, or M3U with lines of "
-            "udp://[SOURCE@]GROUP[:PORT] or rtp://; one without a source is a comment, and so is one without a time to "
-            "live, unless --ttl says it or it is measured"),
+           ("--flows", "FILE", "take the flows of this list too: CSV with the columns source, group and ttl, or M3U "
+            "with lines of udp://[SOURCE@]GROUP[:PORT] or rtp://; one without a source is a comment, and so is one "
+            "without a time to live, unless --ttl says it or it is measured"),
            ("--measure", "SECONDS", "wait so long for packets of a flow (5)", 1, 600, 5),
            ("--update", None, "change nothing, and print what differs from the topology that is there, which gives the "
             "names and the times to live that weren't measured")]
@@ -91,7 +91,7 @@ def tell(draft, flow_list, is_update):
     flow are told alone."""
     others = [it for it in draft.flows if it.ttl is None]
     unsure = [it for it in draft.unsure if it[2] not in HARMLESS]
-    asked = [it for it in draft.asked if it.lans or it.is_listed]
+    asked = [it for it in draft.asked if it.lans or it.is_given]
     for sentence in [*flow_list.sentences(), *(f"missing: {it}" for it in draft.doubts),
                      *(f"unsure: {router} {device}: {why}" for router, device, why, _ in unsure),
                      *(f"left out: {group}, {SERVICES[str(group)]}, a service of hosts: sources {count}"
@@ -107,7 +107,7 @@ def tell(draft, flow_list, is_update):
 
 def draft_flows(words, draft, flow_list, known):
     """Gives the draft its flows, beside those that are known, each with its time to live, and the groups that are asked
-    for without one. A service that is known or listed is none."""
+    for without one. A service that is known or given is none."""
     services = SERVICES.keys() - {str(group) for _, group in (*flow_list.flows, *known)}
     find_flows(draft, flow_list.flows, services)
     measure_flows(words, draft, flow_list.flows)

@@ -22,7 +22,7 @@ class Asked:
     source: "ipaddress.IPv4Address | None"
     lans: list = dataclasses.field(default_factory=list)
     routers: list = dataclasses.field(default_factory=list)  # with a row of every source
-    is_listed: bool = False  # by the operator, without a source
+    is_given: bool = False  # by the list of flows, without a source
 
 
 def messages_of(path):
@@ -70,7 +70,7 @@ def unanswered(wanted, sources, networks):
 
 def find_asked(draft, folder, services, known):
     """Gives the draft the groups that are asked for, and that no flow of its own answers or one that is known, beside
-    those that are listed without a source."""
+    those that the list of flows has without a source."""
     sources, found = {}, {(it.group, it.source): it for it in draft.asked}
     for source, group in [*((it.source, it.group) for it in draft.flows), *known]:
         sources.setdefault(igmp.address_of(str(group)), set()).add(igmp.address_of(str(source)))

@@ -36,15 +36,15 @@ def flow_of(draft, key):
     return Flow(*key, lan, rate, points, said="" if lan else "its source is on no LAN of these routers")
 
 
-def find_flows(draft, listed, services):
-    """Gives the draft the flows that the routers have rows of and those that are listed, by source and group, but for
+def find_flows(draft, given, services):
+    """Gives the draft the flows that the routers have rows of and those that are given, by source and group, but for
     what is sent to groups of services; the busiest first where they are too many."""
-    pairs = {it for it in listed if it[0] is not None}
+    pairs = {it for it in given if it[0] is not None}
     found = sorted({*(key for router in draft.routers for key in router.rows), *pairs})
     draft.services = [flow_of(draft, it) for it in found if str(it[1]) in services]
     draft.flows = [flow_of(draft, it) for it in found if str(it[1]) not in services]
     groups = {flow.group for flow in draft.flows}
-    draft.asked = [Asked(group, None, is_listed=True) for source, group in listed if not source and group not in groups]
+    draft.asked = [Asked(group, None, is_given=True) for source, group in given if not source and group not in groups]
     if not draft.flows:
         draft.doubts.append("no router has a row of one source, so there is no flow")
     for router in draft.routers:
@@ -52,8 +52,8 @@ def find_flows(draft, listed, services):
             if str(group) not in services:
                 draft.doubts.append(f"{router.name}: a row of every source of {group}, whose flows can't be told")
     for flow in draft.flows:
-        flow.is_listed = (flow.source, flow.group) in pairs
-    busiest = sorted(draft.flows, key=lambda it: (not it.is_listed, it.rate is None, -(it.rate or (0, 0))[0]))
+        flow.is_given = (flow.source, flow.group) in pairs
+    busiest = sorted(draft.flows, key=lambda it: (not it.is_given, it.rate is None, -(it.rate or (0, 0))[0]))
     for flow in busiest[MOST_FLOWS:]:
         flow.lan, flow.said = None, f"there are more than {MOST_FLOWS} flows"
 
@@ -109,20 +109,20 @@ def measure_on(words, router, flows):
     return [f"{router}: {clean(last[-1])[:200]}"] if last and any(flow.ttl is None for flow, _ in flows) else []
 
 
-def measure_flows(words, draft, listed):
-    """Gives the draft's flows their times to live, as they are listed, as they were told by hand or as they are
+def measure_flows(words, draft, given):
+    """Gives the draft's flows their times to live, as they are given, as they were told by hand or as they are
     measured."""
     tasks = {}
     for flow in draft.flows:
         key = flow.source, flow.group
         if flow.lan is None:
             continue
-        if key in listed and listed[key].ttl is not None:
-            flow.ttl, flow.said = listed[key].ttl, "as listed"
+        if key in given and given[key].ttl is not None:
+            flow.ttl, flow.said = given[key].ttl, "as the list of flows has it"
         elif words.ttl is not None:
             flow.ttl, flow.said = words.ttl, "told by hand"
         elif not any(key in it.rows for it in draft.routers):
-            flow.said = "it is listed without a time to live, and no router has a row of it"
+            flow.said = "the list of flows has no time to live of it, and no router a row"
         elif flow.rate is not None and not any(key in it.counted for it in draft.routers):
             flow.said = IDLE
         elif flow.points:

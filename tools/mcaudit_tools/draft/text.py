@@ -72,7 +72,7 @@ def names(found):
 
 def asked_words(asked):
     """Returns what is known of a group of which no flow is."""
-    return "; ".join([*["listed without a source"] * asked.is_listed,
+    return "; ".join([*["the list of flows has no source of it"] * asked.is_given,
                       *[f"asked for on {names(asked.lans)}"] * bool(asked.lans),
                       *[f"a row of every source on {names(asked.routers)}"] * bool(asked.routers)])
 

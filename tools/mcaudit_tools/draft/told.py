@@ -73,7 +73,7 @@ class Flow:
     points: list  # routers and devices on the source's LAN
     ttl: "int | None" = None
     said: str = ""  # how the time to live is known, or why it isn't
-    is_listed: bool = False  # by the operator
+    is_given: bool = False  # by the list of flows
 
 
 @dataclasses.dataclass

@@ -19,8 +19,8 @@ PLACE = re.compile(r"(?:([^@/]*)@)?([^@/:]+)(?::([0-9]{1,5}))?/?")
 NEWLINE = re.compile(r"\r\n|\r|\n")
 
 
-class Listed(typing.NamedTuple):
-    """A flow as it is listed: on which line, and with which time to live, if it has any."""
+class Given(typing.NamedTuple):
+    """A flow as the list has it: on which line, and with which time to live, if it has any."""
 
     line: int
     ttl: "int | None"
@@ -108,19 +108,19 @@ class FlowList:
             self.faults.append((line, "its ttl is none of 1 to 255"))
         else:
             key = ipaddress.IPv4Address(host) if host else None, ipaddress.IPv4Address(joined)
-            self.add(key, Listed(line, int(ttl) if ttl else None))
+            self.add(key, Given(line, int(ttl) if ttl else None))
 
-    def add(self, key, listed):
+    def add(self, key, given):
         """Adds a flow, but for one that is there already."""
         if key in self.flows:
             first = self.flows[key]
-            other = ", with another ttl" if first.ttl != listed.ttl else ""
+            other = ", with another ttl" if first.ttl != given.ttl else ""
             pair = f"{key[0] or '?'} {key[1]}"
-            self.faults.append((listed.line, f"{pair} is listed already, on line {first.line}{other}"))
+            self.faults.append((given.line, f"{pair} is there already, on line {first.line}{other}"))
         elif len(self.flows) >= MOST_FLOWS:
             raise self.failed(f"it has more than {MOST_FLOWS} flows")
         else:
-            self.flows[key] = listed
+            self.flows[key] = given
 
     def sentences(self):
         """Yields what a person is to know of it."""

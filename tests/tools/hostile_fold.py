@@ -221,7 +221,7 @@ def leave_of_version_2(place):
             ([asks(3.1, S)], kept), ([asks(9.1)], kept), ([asks(8.9)], gone), ([asks(3.1, code=90)], kept)):
         lines = listed(place, report, leave, other, *frames)
         assert {*lines} == {state(IS_EX, group=H), *expected}, (frames, lines, place.said)
-    for at, expected in ((8.9, gone), (9.1, kept)):  # 2 s after it lie in the window, however short the answers' time is
+    for at, expected in ((8.9, gone), (9.1, kept)):  # 2 s of the window come after it
         frames = report, old(at, 5, 0x17), asks(at + 0.05, code=1), other
         assert {*listed(place, *frames)} == {state(IS_EX, group=H), *expected}, (at, place.said)
 

@@ -2,14 +2,13 @@
 import copy
 import typing
 
-from mcaudit_tools import igmp
+from mcaudit_tools import igmp, ssm
 from mcaudit_tools.capture import SECOND
 
 TENTH = SECOND // 10
 MOST_MESSAGES, MOST_BYTES = 65_536, 16 << 20  # of a list, as mcaudit takes it
 MOST_IGNORED, MOST_IGNORED_SENDERS = 8, 2  # packets that receivers ignore, of a list that is given out
 MOST_NOTED = 4096  # leaves, and queries of one group, that are followed: others lower nothing
-VERSIONS = {igmp.REPORT_1: "1", igmp.REPORT_2: "2"}  # of IGMP, whose reports ask for every source of their group
 
 
 class Heard(typing.NamedTuple):
@@ -45,7 +44,7 @@ class Window:
         """Begins a list without reports."""
         self.reports, self.bytes = [], 0
         self.wants = set()  # who asks for which group
-        self.unheeded = {}  # by kind of report and group: how many SSM routers ignore
+        self.unheeded = ssm.Unheeded()
 
     def extend(self, asked):
         """Lets the answers' time go on from this query."""
@@ -76,11 +75,8 @@ class Window:
             return f"more than {MOST_MESSAGES} messages, or {MOST_BYTES} bytes of them"
         self.reports.append(report)
         self.heard.append(heard)
-        for group, is_every in igmp.groups_of(report):
-            self.wants.add((heard.sender, group))
-            if is_every and group[0] == igmp.SSM:
-                key = VERSIONS.get(report[0], "3 in EXCLUDE mode"), group
-                self.unheeded[key] = self.unheeded.get(key, 0) + 1
+        self.wants.update((heard.sender, group) for group, _ in igmp.groups_of(report))
+        self.unheeded.take(report)
         return report_fault(report, is_followed)
 
     def with_reports(self, reports):

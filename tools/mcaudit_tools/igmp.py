@@ -13,9 +13,10 @@ ALL_HOSTS = bytes([224, 0, 0, 1])
 FIRST_FORWARDED = bytes([224, 0, 1, 0])  # groups below are never forwarded (RFC 5771, section 4)
 BEHIND_GROUPS = bytes([240, 0, 0, 0])  # the first address that is no group's any more
 SSM = 232  # the first number of the source-specific groups (RFC 4607)
-INCLUDE, EXCLUDE, TO_INCLUDE, TO_EXCLUDE, ALLOW, BLOCK = range(1, 7)  # record types (RFC 3376, section 4.2.12)
-CURRENT, CHANGES = (INCLUDE, EXCLUDE), (TO_INCLUDE, TO_EXCLUDE, ALLOW, BLOCK)
+INCLUDE, EXCLUDE = 1, 2  # the record types MODE_IS_INCLUDE and MODE_IS_EXCLUDE
+CURRENT, CHANGES = (1, 2), (3, 4, 5, 6)  # record types (RFC 3376, section 4.2.12)
 LEAST_MESSAGE = 8
+TO_INCLUDE, TO_EXCLUDE, ALLOW, BLOCK = CHANGES
 DOTTED = re.compile(r"[0-9]{1,3}(\.[0-9]{1,3}){3}")
 
 

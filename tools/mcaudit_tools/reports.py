@@ -159,15 +159,15 @@ def check_sources(parser, found):
         parser.error("--ask and --by want an interface")
     if found.all is not None and (found.o is not None or found.by is not None):
         parser.error("--all takes no -o and no --by")
-    if found.no_fold and (found.all is None or found.fold):
-        parser.error("--no-fold goes with --all, and without --fold")
-    found.fold = found.fold or found.all is not None and not found.no_fold
     if found.all is None and found.ask_routers:
         parser.error("--ask-routers goes with --all")
     if found.all is None and found.empty_lan:
         parser.error("--empty-lan goes with --all")
     if "" in (found.empty_lan or ()):
         parser.error("--empty-lan wants a LAN")
+    if found.no_fold and (found.all is None or found.fold):
+        parser.error("--no-fold goes with --all, and without --fold")
+    found.fold = found.fold or found.all is not None and not found.no_fold
 
 
 def take_statics(parser, found):

@@ -316,9 +316,8 @@ def list_of(gathering, statics, is_empty_allowed, option):
             return List(NO_LIST)
     if window.is_refused:
         say("mcaudit will refuse this list: ask again")
-    for (kind, group), count in window.unheeded.items() if not window.is_refused else ():
-        remarks.tell("such groups", f"SSM group {dotted(group)}: reports of IGMP version {kind}, which ask for every "
-                     f"source, so that SSM routers ignore them: {count}")
+    for sentence in window.unheeded.sentences() if not window.is_refused else ():
+        remarks.tell("such groups", sentence)
     remarks.finish()
     unchecked = [f"sender {dotted(it)}" for it in window.silent()]
     return List(REFUSED if window.is_refused else WRITTEN, window.reports + statics, is_silent, unchecked)

@@ -144,6 +144,21 @@ def tenths_to_answer(query):
     return code if code < 128 else (code & 15 | 16) << ((code >> 4 & 7) + 3)
 
 
+def mac_of(group):
+    """Returns the MAC to which a group's packets are sent (RFC 1112, section 6.4)."""
+    return bytes([1, 0, 0x5E, group[1] & 127]) + group[2:]
+
+
+def group_asked(query):
+    """Returns the group that a whole query asks for, with or without sources; None where that is none."""
+    return query[4:8] if query[0] == QUERY and 224 <= query[4] < 240 else None
+
+
+def is_without_sources(query):
+    """Whether a whole query asks for no sources."""
+    return len(query) < 12 or query[10:12] == bytes(2)
+
+
 class Record(typing.NamedTuple):
     """A group record of a report."""
 
@@ -198,18 +213,3 @@ def state_report(mode, group, sources=()):
 def report_of(group, source=None):
     """Returns the report of a host of version 3 that wants a group, of all sources or of one."""
     return state_report(EXCLUDE, group) if source is None else state_report(INCLUDE, group, [source])
-
-
-def mac_of(group):
-    """Returns the MAC to which a group's packets are sent (RFC 1112, section 6.4)."""
-    return bytes([1, 0, 0x5E, group[1] & 127]) + group[2:]
-
-
-def group_asked(query):
-    """Returns the group that a whole query asks for, with or without sources; None where that is none."""
-    return query[4:8] if query[0] == QUERY and 224 <= query[4] < 240 else None
-
-
-def is_without_sources(query):
-    """Whether a whole query asks for no sources."""
-    return len(query) < 12 or query[10:12] == bytes(2)

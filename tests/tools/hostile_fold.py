@@ -159,6 +159,19 @@ def change_of_another_host(place):
 
 
 @case
+def forged_change_that_the_querier_does_not_hear(place):
+    """It was sent to this machine alone, so nobody asks whether it is so: what was wanted is in the list."""
+    for mac in (p.hardware(66), bytes([1, 0, 0x5E, 0, 0, 1])):
+        hidden = 2, p.frame(p.packet("10.0.1.5", p.ROUTERS, p.report(rec(TO_IN))), mac, sender=5)
+        assert listed(place, says(1, 5, rec(IS_EX)), hidden) == [state(IS_EX)], place.said
+        assert "10.0.1.5 no longer wants 239.1.1.1, or less of it" in place.said, place.said
+        leave = p.packet("10.0.1.5", "224.0.0.2", p.summed(b"\x17\0\0\0" + p.address(G)))
+        kept = [p.summed(b"\x16\0\0\0" + p.address(G)).hex()]
+        for second in (asks(3.1), old(2, 5, 0x17)):
+            assert listed(place, old(1, 5, 0x16), (3, p.frame(leave, mac, sender=5)), second) == kept, place.said
+
+
+@case
 def hosts_without_an_address(place):
     """What 0.0.0.0 wants counts, of however many hosts; where it wants less there is no list."""
     none = {"sender": "0.0.0.0"}

@@ -1,8 +1,9 @@
 """What the hosts of a LAN want at the end of a window in which some join and leave: what each reports is followed from
 the query on, as routers follow it (RFC 3376, section 6.4, and RFC 2236), but of each host apart.
 
-What raises what is wanted counts at once. What lowers it counts only from the host that wanted it, and once so much of
-the window has passed without an answer that restores it: where it was forged, the querier asks, and the host answers.
+What raises what is wanted counts at once. What lowers it counts only from the host that wanted it, where the querier
+heard it too, and once so much of the window has passed without an answer that restores it: where it was forged, the
+querier asks, and the host answers.
 """
 import dataclasses
 import typing
@@ -83,7 +84,7 @@ class Hosts:
         after = before.changed(record)
         if after.union(before) != after:
             check_sender(heard, record.group)
-            if heard.time > self.lowering:
+            if heard.time > self.lowering or not heard.is_public:
                 self.late[key] = self.late.get(key, NOTHING).union(before)
         if len(after.sources) > MOST_SOURCES:
             after = without_many(after, heard.sender, record.group)
@@ -150,7 +151,7 @@ class Groups:
         elif older is None or older.is_lasting:
             return
         elif heard.message[0] == igmp.LEAVE:
-            if older.heard.host() == heard.host() and older.left is None:
+            if heard.is_public and older.heard.host() == heard.host() and older.left is None:
                 check_sender(heard, group)
                 older.left = heard.time
         elif older.left is not None and igmp.is_without_sources(heard.message):

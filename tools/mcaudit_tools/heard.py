@@ -12,12 +12,14 @@ MOST_NOTED = 4096  # leaves, and queries of one group, that are followed: others
 
 
 class Heard(typing.NamedTuple):
-    """A whole message: when it came, of which hardware address and address."""
+    """A whole message: when it came, of which hardware address and address, and whether it was sent so that all hear it
+    to whose address it is: the querier must hear what is left."""
 
     time: int
     hardware: "bytes | None"
     sender: bytes
     message: bytes
+    is_public: bool = True
 
     def host(self):
         """Returns whose it is: two hosts may have one address, and one of them may forge the other's."""

@@ -189,7 +189,7 @@ class Gathering:
             window.whole.add(packet.sender)
             window.aside += 1
             if message[0] == igmp.LEAVE and self.rules.is_folding and frame.hardware:
-                window.note(Heard(frame.time, frame.hardware, packet.sender, message))
+                window.note(heard_of(frame, packet))
             elif message[0] == igmp.LEAVE:
                 self.remarks.tell("leaves", f"{sender} left a group: its report may still be in the list")
             elif igmp.is_general_query(message):
@@ -200,13 +200,14 @@ class Gathering:
     def take_group_query(self, frame, packet):
         """Takes a query of one group, where the LAN's querier sent it so that all members of the group hear it."""
         window, group = self.window or (self.done[-1] if self.done else None), igmp.group_asked(packet.message)
-        is_heard = group == packet.target and packet.ttl == 1 and frame.target == igmp.mac_of(packet.target)
-        if not self.rules.is_folding or window is None or not is_heard or packet.sender != window.querier:
+        heard = heard_of(frame, packet)
+        is_counted = heard.is_public and group == packet.target and packet.ttl == 1 and frame.target is not None
+        if not self.rules.is_folding or window is None or not is_counted or packet.sender != window.querier:
             return
         if len(self.asked) < MOST_ASKED or group in self.asked:
             self.asked[group] = frame.time + fold.longest_answer(packet.message) + fold.LATE
         if self.window is not None:
-            window.note(Heard(frame.time, frame.hardware, packet.sender, packet.message))
+            window.note(heard)
 
     def is_asked_for(self, frame, report):
         """Whether a report may be the answer to a query for its groups."""
@@ -215,8 +216,7 @@ class Gathering:
     def take_report(self, frame, packet):
         """Takes a report, and names it where mcaudit would refuse it."""
         sender, is_followed = dotted(packet.sender), self.rules.is_folding and frame.hardware is not None
-        heard = Heard(frame.time, frame.hardware, packet.sender, packet.message)
-        fault = self.window.take_report(heard, is_followed)
+        fault = self.window.take_report(heard_of(frame, packet), is_followed)
         if fault and not (self.window.is_refused and fault.startswith("more than")):
             at = f"line {len(self.window.reports)} of {sender}"
             self.remarks.tell("reports that mcaudit would refuse", f"{at}: {fault}")
@@ -254,6 +254,12 @@ class Gathering:
             self.say("no list: it would lack a report")
             return SPOILT
         return None
+
+
+def heard_of(frame, packet):
+    """Returns what was heard of a whole message."""
+    is_public = frame.is_to_all if frame.target is None else frame.target == igmp.mac_of(packet.target)
+    return Heard(frame.time, frame.hardware, packet.sender, packet.message, bool(is_public))
 
 
 @dataclasses.dataclass

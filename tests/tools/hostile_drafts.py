@@ -202,12 +202,14 @@ def files_that_are_no_list(place):
 
 @case
 def flows_at_the_limit(place):
-    """4,096 are taken, and not one more."""
-    router(place)
+    """4,096 are taken, and not one more, before any that no list has."""
+    router(place, (T, "239.9.9.9"))
     lines = [f"{S},239.1.{it >> 8}.{it & 255},5\n" for it in range(4097)]
     assert drafted(place, text="source,group,ttl\n" + "".join(lines))[0] == 3 and "more than 4096 flows" in place.said
-    status, flows = drafted(place, text="source,group,ttl\n" + "".join(lines[:4096]))
-    assert status == 0 and len(flows) == len(pairs(place)) == 4096, place.said
+    status, flows = drafted(place, "--ttl", "9", text="source,group,ttl\n" + "".join(lines[:4096]))
+    assert status == 1 and len(pairs(place)) == 4096 and len(flows) == 4097, place.said
+    why = "there are more than 4096 flows"
+    assert flows[-1].startswith(f'# {{source = "{T}", group = "239.9.9.9", ttl = ?}}, # not judged: {why}'), flows[-1]
 
 
 @case
@@ -278,6 +280,9 @@ def loopback_of_a_rendezvous_point(place):
         assert ("unsure: r1 l1: unnumbered: 10.255.0.1 is a lone address" in place.said) is (status == 1), place.said
         comment = '# {router = "r1", device = "lo", lan = "?"}, # unsure: a loopback is on no LAN'
         assert (comment in place.read("site/topology")) is (status == 0), place.read("site/topology")
+    router(place, (S, "239.1.1.1"), addresses=ADDRESSES.replace("10.255.0.1/32", "10.255.0.1/24"), vifs=VIFS + LOOPBACK)
+    assert anew(place, "--ttl", "4")[0] == 0, place.said
+    assert {"router": "r1", "device": "lo", "lan": "10.255.0.0-24"} in place.topology["interface"], place.topology
 
 
 @case

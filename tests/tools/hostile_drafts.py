@@ -65,8 +65,8 @@ def flows_of_csv(place):
     """Its columns stand in any order beside others, its fields are quoted or not, and its lines end either way."""
     router(place)
     for end, mark in (("\n", ""), ("\r\n", "\ufeff")):
-        lines = ["name,ttl,group,source", f'"News, ""world""{end}and more",16,239.1.1.1,{S}',
-                 f'x,"7","239.1.1.2","{T}"', ""]
+        lines = ["group,name,ttl,source", f'239.1.1.1,"News, ""world""{end}and more",16,{S}',
+                 f'"239.1.1.2",x,"7","{T}"', ""]
         status, flows = anew(place, text=mark + end.join(lines))
         assert (status, pairs(place)) == (0, [(S, "239.1.1.1", 16), (T, "239.1.1.2", 7)]), place.said
         assert flows[0].endswith("# rate not known; ttl as the list of flows has it"), flows

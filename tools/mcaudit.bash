@@ -98,7 +98,7 @@ _mcaudit_site() {
         mapfile -t COMPREPLY < <(compgen -W 'init lans --version --help' -- "$word")
     elif [ "${COMP_WORDS[1]}" = init ]; then
         _mcaudit_tool "$word" "${COMP_WORDS[COMP_CWORD - 1]}" directory \
-            --routers --ssh --ttl --wait --tries --static --empty-lan --ask --ask-routers --empty --help
+            --routers --ssh --facts --ttl --wait --tries --static --empty-lan --ask --ask-routers --empty --help
     else
         _mcaudit_tool "$word" "${COMP_WORDS[COMP_CWORD - 1]}" directory --help
     fi

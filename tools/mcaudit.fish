@@ -144,5 +144,6 @@ __mcaudit_commands mcaudit-site 'init:draft, collect, gather and judge' 'lans:pr
 __mcaudit_options mcaudit-site __fish_use_subcommand $about
 __mcaudit_options mcaudit-site 'not __fish_use_subcommand' $help
 __mcaudit_options mcaudit-site '__fish_seen_subcommand_from init' $routers $asking \
-    '--ttl:value:the time to live of all flows'
+    '--ttl:value:the time to live of all flows' \
+    '--facts::bring what decides beside the tables what a router forwards'
 __mcaudit_folders mcaudit-site 'not __fish_use_subcommand'

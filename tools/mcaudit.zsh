@@ -105,7 +105,9 @@ mcaudit-site)
     2:*)
         local -a commands=('init:draft, collect, gather and judge' 'lans:print each LAN with each interface on it')
         _arguments $about '1: :{_describe command commands}' ;;
-    *:init) _arguments ': :' $routers $asking '--ttl[the time to live of all flows]:ttl: ' $help $site ;;
+    *:init)
+        _arguments ': :' $routers $asking '--ttl[the time to live of all flows]:ttl: ' \
+            '--facts[bring what decides beside the tables what a router forwards]' $help $site ;;
     *) _arguments ': :' $help $site ;;
     esac ;;
 esac

@@ -7,7 +7,7 @@ from mcaudit_tools.common import PROGRAM
 from mcaudit_tools.page.explain import FLOW, MEANS, MISSED_PERHAPS, SEEN, some
 from mcaudit_tools.page.graph import DRAWING
 from mcaudit_tools.page.markup import Markup, digest, json_markup, table_of, tag
-from mcaudit_tools.page.remarks import collected_section, unjudged_section, unlisted_section
+from mcaudit_tools.page.remarks import basis_section, collected_section, unjudged_section, unlisted_section
 from mcaudit_tools.page.travel import OUTCOMES
 
 # Where the page's script runs, the table is laid out once, when it is whole, and not again and again
@@ -41,8 +41,9 @@ def verdict_words(audit):
     return said
 
 
-def header(audit, site):
-    """Returns the verdict and what it is about."""
+def header(audit, folder):
+    """Returns the verdict, what it is about and what it rests on."""
+    site = folder.named if folder else None
     summary, domain = audit.summary, audit.domain
     facts = [("Flows", summary["flows"]), *((it.capitalize(), summary[it]) for it in ("right", "wrong", "unknown")),
              ("Wanted by nobody", summary["unwanted"]), ("LANs", len(domain.lans)),
@@ -51,6 +52,7 @@ def header(audit, site):
                tag("div", tag("h1", f"Verdict: {audit.verdict}"), tag("p", verdict_words(audit)), class_="said"),
                tag("dl", *(tag("div", tag("dt", name), tag("dd", value)) for name, value in facts)),
                tag("p", "Multicast audit of ", tag("strong", site), class_="site") if site else "",
+               *basis_section(audit, folder),
                class_=f"verdict {audit.verdict}")
 
 
@@ -132,15 +134,14 @@ def page_of(audit, graph, folder):
     style, script = (pathlib.Path(__file__).with_name(it).read_text("utf-8") for it in ("page.css", "page.js"))
     policy = (f"default-src 'none'; base-uri 'none'; form-action 'none'; style-src {digest(style)}; "
               f"script-src {digest(WAIT)} {digest(script)}")
-    site = folder.named if folder else None
-    named = f" of {site}" if site else ""
+    named = f" of {folder.named}" if folder else ""
     sections = [("Flows that are not listed", unlisted_section(audit)),
                 ("What was collected, and when", collected_section(audit.domain, folder)),
                 ("What is not judged", unjudged_section(audit, folder))]
     head = [tag("meta", charset="utf-8"), tag("meta", http_equiv="Content-Security-Policy", content=policy),
             tag("meta", name="viewport", content="width=device-width, initial-scale=1"),
             tag("title", f"Verdict {audit.verdict}: multicast audit{named}"), tag("style", Markup(style))]
-    body = [tag("script", Markup(WAIT)), header(audit, site), tag("main", flows_section(audit), flow_section(graph)),
+    body = [tag("script", Markup(WAIT)), header(audit, folder), tag("main", flows_section(audit), flow_section(graph)),
             *(tag("section", tag("h2", title), *inner) for title, inner in sections),
             tag("section", id="printed"),
             tag("footer", f"Made by mcaudit-page {PROGRAM.version} of what mcaudit audit answered."),

@@ -10,7 +10,7 @@ from mcaudit_tools.common import clean
 from mcaudit_tools.facts import EARLIER, PREFIX
 from mcaudit_tools.files import read_regular
 from mcaudit_tools.premises import links, netfilter, reverse, tables
-from mcaudit_tools.premises.findings import BESIDE, DROPS, MAY_DROP, NOT_KNOWN, Finding, some
+from mcaudit_tools.premises.findings import BESIDE, DROPS, MAY_DROP, NOT_KNOWN, Finding
 from mcaudit_tools.premises.reader import UNREADABLE, read_facts
 from mcaudit_tools.premises.rows import Wanted, vifs_of
 from mcaudit_tools.premises.rules import Packet
@@ -197,14 +197,3 @@ def looked_at(domain, findings):
     unknown = {(it.kind, it.router) for it in findings if it.word == NOT_KNOWN}
     return {kind: [it for it in domain.routers if (kind, it) not in unknown and (ROUTER, it) not in unknown]
             for kind in KINDS}
-
-
-def looked_at_sentence(domain, findings):
-    """Returns on how many routers each kind was looked at, as a sentence."""
-    parts = []
-    for kind, routers in looked_at(domain, findings).items():
-        there = set(routers)
-        missing = [it for it in domain.routers if it not in there]
-        parts.append(f"{kind} on {len(routers)} of {len(domain.routers)} routers"
-                     + (f" (not {some(missing)})" if missing else ""))
-    return f"looked at: {', '.join(parts)}"

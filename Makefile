@@ -65,6 +65,7 @@ lab: $(PROGRAM)
 	sh tests/lab/ten.sh $(PROGRAM) $(PAGES)
 	sh tests/lab/pim.sh $(PROGRAM)
 	python3 tests/lab/premises.py $(PROGRAM) --ssh
+	python3 tests/lab/hosts.py $(PROGRAM)
 
 page-test:
 	sh tests/packages.sh page

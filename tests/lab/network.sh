@@ -36,6 +36,9 @@ take_away() {
         kill "$process" 2> /dev/null
         wait "$process" 2> /dev/null
     done
+    for file in "$scratch"/*.pid; do
+        [ ! -s "$file" ] || kill "$(cat "$file")" 2> /dev/null
+    done
     for place in $(print_places); do
         ip netns del "$lab-$place" 2> /dev/null
     done

@@ -117,8 +117,9 @@ make_page() {
 watch_once() {
     on_routers mcaudit-monitor --keep 300 > "$scratch/watched" 2> "$scratch/said"
     watched=$?
-    sed -e 's/20[0-9]*T[0-9]*Z/TIME/' -e 's/ [0-9]* s old$/ N s old/' -e 's/^\(packets: not looked at:\) [0-9]/\1 N/' \
-        -e 's/\(by the last 4 sets\), .*/\1)/' "$scratch/watched"
+    sed -e 's/20[0-9]*T[0-9]*Z/TIME/' -e 's/[0-9]* [a-z]* to \([0-9]* [a-z]* old\)/\1/g' \
+        -e 's/[0-9][0-9]* [a-z]* old/N old/g' -e 's/([0-9] of 4 sets/(N of 4 sets/' \
+        -e 's/\(by the last 4 sets\), .*/\1/' "$scratch/watched"
     return "$watched"
 }
 
@@ -145,10 +146,7 @@ echo "lab: from nothing to the page of ten routers: $taken s"
 expect_right
 expect 0 watch_once <<'END'
 TIME: verdict yes, flows 2, right 2, wrong 0, unwanted 0, unlisted 0
-tables N s old
-reports N s old
-decided, not gathered: 10.77.0.0-24 10.77.1.0-24 10.77.2.0-24 10.77.3.0-24 10.77.4.0-24 10.77.6.0-24 10.77.8.0-24
-packets: not looked at: N of 4 sets, each read after the one before
+tables N old; lists of 3 LANs N old; decided, not gathered: 10.77.0.0-24 10.77.1.0-24 10.77.2.0-24 10.77.3.0-24 10.77.4.0-24 10.77.6.0-24 10.77.8.0-24; packets: not looked at (N of 4 sets, each read after the one before); rp_filter, links, MTU, netfilter, ip mrule: not looked at (r1 r2 r3 r4 r5 r6 r7 r8 ..: not asked)
 no audit before it is there to compare with
 END
 
@@ -176,10 +174,8 @@ change_rows r3 add eth0 "$sender" 239.1.2.3 eth1
 expect_counts 6 6 6
 expect 1 watch_once <<'END'
 TIME: verdict no, flows 2, right 1, wrong 1, unwanted 0, unlisted 0
-tables N s old
-reports N s old
-decided, not gathered: 10.77.0.0-24 10.77.1.0-24 10.77.2.0-24 10.77.3.0-24 10.77.4.0-24 10.77.6.0-24 10.77.8.0-24
-packets flow on 1 of 1 flows (by the last 4 sets)
+tables N old; lists of 3 LANs N old; decided, not gathered: 10.77.0.0-24 10.77.1.0-24 10.77.2.0-24 10.77.3.0-24 10.77.4.0-24 10.77.6.0-24 10.77.8.0-24; packets flow on 1 of 1 flows; rp_filter, links, MTU, netfilter, ip mrule: not looked at (r1 r2 r3 r4 r5 r6 r7 r8 ..: not asked)
+packets: by the last 4 sets
 wrong: 10.77.0.50 239.1.2.3 Duplicate 10.77.4.0-24
 changed since TIME:
 flow 10.77.0.50 239.1.2.3: new fault: Duplicate 10.77.4.0-24

@@ -10,14 +10,16 @@ from mcaudit_tools.common import Failed, Refused
 class Tree:
     """By which routers copies go, as an audit's entries have it."""
 
-    def __init__(self, entries):
-        """Takes the entries."""
-        self.feeding = {it["lan"]: (it["router"], it["vif"]) for it in entries}  # of the source's LAN no router
-        self.sending = {(it["router"], it["vif"]) for it in entries if it["router"] is not None}
+    def __init__(self, entries, kept):
+        """Takes the entries, and what is kept once of all trees: names, and pairs of a router and a vif."""
+        self.feeding = {}  # of the source's LAN no router
         self.ranks = {}  # of routers: how many are between them and the source, and one
         for it in entries:
-            if it["router"] is not None:
-                self.ranks[it["router"]] = min(it["rank"], self.ranks.get(it["router"], it["rank"]))
+            lan, router = (kept.setdefault(it[name], it[name]) for name in ("lan", "router"))
+            self.feeding[lan] = kept.setdefault((router, it["vif"]), (router, it["vif"]))
+            if router is not None:
+                self.ranks[router] = min(it["rank"], self.ranks.get(router, it["rank"]))
+        self.sending = {it for it in self.feeding.values() if it[0] is not None}
         self.routers = sorted(self.ranks, key=lambda it: self.ranks[it])  # those nearest to the source first
 
 
@@ -47,13 +49,14 @@ class Answer:
         """Begins before the first one."""
         self.first, self.verdict, self.excluded = None, None, []
         self.trees, self.flows, self.right = {}, [], {}  # by number; source and group of each; the tree of each of them
+        self.kept = {}
 
     def take(self, line):
         """Takes a line's object."""
         self.first, self.verdict = line.get("domain", self.first), line.get("verdict", self.verdict)
         self.excluded = [str(it) for it in line.get("without", self.excluded)]
         if "entries" in line:
-            self.trees[line["tree"]] = Tree(line["entries"])
+            self.trees[line["tree"]] = Tree(line["entries"], self.kept)
         elif "flow" in line:
             self.flows.append((line["source"], line["group"]))
             if line["right"] is True:

@@ -15,9 +15,9 @@ from mcaudit_tools.page.graph import Graph, roots_of
 from mcaudit_tools.page.remarks import Folder
 from mcaudit_tools.page.render import page_of
 
-ABOUT = """Makes one page, an HTML file, of what `mcaudit audit` answers of the folder SITE: the verdict and what it rests
-on, the domain as a graph, each flow's way in it or its fault with the travel that shows it, and what isn't listed or
-judged.
+ABOUT = """Makes one page, an HTML file, of what `mcaudit audit` answers of the folder SITE: the verdict and what it
+rests on, the domain as a graph, each flow's way in it or its fault with the travel that shows it, and what isn't listed
+or judged.
 
 The page needs nothing but a browser: it has no script, font or picture from elsewhere. It is written beside FILE and
 then renamed, so FILE is the whole page or as it was."""
